@@ -1,0 +1,88 @@
+//! Items in order, which contracts see as a list.
+
+ghost use Rattle.std.specs.Prelude.{◌≡◌, IfOk, OnOk, OnErr, [], ◌∷◌, ◌++◌, ◌==◌, length};
+
+use crate::copying::TryCopy;
+use std::alloc::{AllocError, Global};
+use std::marker::Model;
+
+/// Items in order. Contracts see the list of them.
+#[derive(Debug, Drop)]
+pub struct Items<T> {
+    inside: Vec<T>,
+}
+
+impl<T> Model for Items<T> {
+    ghost use Rattle.std.specs.Prelude.{List};
+
+    ghost Value = { List T };
+
+    ghost view = { λ a. a.inside.items };
+}
+
+impl<T> Items<T> {
+    /// No items, which takes no memory.
+    pub fn new(alloc: Global) -> Items<T>
+        ensures { result ≡ [] }
+    {
+        Items {
+            inside: Vec::new(alloc),
+        }
+    }
+
+    /// The items of a `Vec`, which takes no memory.
+    pub fn from_vec(inside: Vec<T>) -> Items<T>
+        ensures { result ≡ inside.items }
+    {
+        Items { inside }
+    }
+
+    /// The items themselves.
+    pub fn as_slice(&self) -> &[T]
+        ensures { result.now ≡ self.now }
+    {
+        self.inside.as_slice()
+    }
+
+    /// The `Vec` back, which takes no memory.
+    pub fn into_vec(self) -> Vec<T>
+        ensures { result.items ≡ self }
+    {
+        self.inside
+    }
+
+    /// How many items there are.
+    pub fn len(&self) -> usize
+        ensures { result ≡ length self.now }
+    {
+        self.inside.as_slice().len()
+    }
+
+    /// Whether there are none.
+    pub fn is_empty(&self) -> bool
+        ensures { result ≡ (length self.now == 0) }
+    {
+        self.inside.as_slice().is_empty()
+    }
+
+    /// Adds an item at the end. Where memory is refused, the items stay as they were.
+    pub fn push(&mut self, item: T) -> Result<(), AllocError>
+    where
+        T: Drop,
+        ensures ok { OnOk result (self.new ≡ self.old ++ item ∷ []) }
+        ensures err { OnErr result (self.new ≡ self.old) }
+    {
+        self.inside.push(item)?;
+        Ok(())
+    }
+}
+
+impl<T: TryCopy> TryCopy for Items<T> {
+    fn copy(&self, alloc: Global) -> Result<Items<T>, AllocError> {
+        let mut made = Items::new(alloc);
+        for item in self.as_slice() {
+            made.push(item.copy(alloc)?)?;
+        }
+        Ok(made)
+    }
+}

@@ -1,0 +1,13 @@
+//! The data that every crate of the builder is made of, as contracts see it: texts and bytes as
+//! lists of numbers, items as lists. And the words for an answer that memory may cut short.
+#![tactic(auto)]
+
+pub mod bytes;
+pub mod copying;
+pub mod items;
+pub mod text;
+
+pub use bytes::Bytes;
+pub use copying::TryCopy;
+pub use items::Items;
+pub use text::Text;
