@@ -1,0 +1,45 @@
+-- How the calls of a place are counted: each counter stays at the greatest number of 64 bits.
+use Rattle.std.specs.Prelude.{ℕ, ◌+◌, ◌==◌, min, if◌then◌else◌, Result, Ok, Err}
+use Rattle.pb_place.specs.declared.place.PlaceFault.{PlaceFault}
+use Rattle.pb_place.specs.declared.place.PlaceFault.TheVariants.{OutOfMemory}
+use Rattle.pb_place.specs.declared.place.StartFault.{StartFault}
+use Rattle.pb_place.specs.declared.place.StartFault.TheVariants as start
+
+-- calls that failed, calls of `start`, and calls since the last that failed
+pub record Counts : Type 0 where
+  pub failures : ℕ
+  pub starts : ℕ
+  pub late : ℕ
+
+-- one more, or the greatest number of 64 bits
+abbrev pub up : ℕ → ℕ
+up n = min (n + 1) 0xffff_ffff_ffff_ffff
+
+-- after a call that did not fail: one more since the last that failed, if one did
+abbrev pub past_call : Counts → Counts
+past_call c = record c { late = if c.failures == 0 then 0 else up c.late }
+
+-- after a call that failed
+abbrev pub past_fault : Counts → Counts
+past_fault c = record c { failures = up c.failures; late = 0 }
+
+-- want of memory is no failure of the outside
+abbrev pub past_place_fault : PlaceFault → Counts → Counts
+past_place_fault OutOfMemory c = past_call c
+past_place_fault _ c = past_fault c
+
+abbrev pub counted : {T : Type 0} → Result T PlaceFault → Counts → Counts
+counted (Ok x) c = past_call c
+counted (Err e) c = past_place_fault e c
+
+-- `start` was called
+abbrev pub one_start : Counts → Counts
+one_start c = record c { starts = up c.starts }
+
+abbrev pub past_start_fault : StartFault → Counts → Counts
+past_start_fault start.OutOfMemory c = past_call c
+past_start_fault _ c = past_fault c
+
+abbrev pub counted_start : {T : Type 0} → Result T StartFault → Counts → Counts
+counted_start (Ok x) c = past_call (one_start c)
+counted_start (Err e) c = past_start_fault e (one_start c)

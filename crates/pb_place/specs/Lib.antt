@@ -1,0 +1,5 @@
+pub use Rattle.pb_data.specs.Gives
+pub mod Counts
+pub mod Paths
+pub mod Sinks
+pub mod World

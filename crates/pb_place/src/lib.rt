@@ -1,0 +1,14 @@
+//! The outside world: paths, places of files, variables and children, and sinks.
+#![tactic(auto)]
+
+pub mod child;
+pub mod command;
+pub mod path;
+pub mod place;
+pub mod sink;
+
+pub use child::{Child, Reply, View, ViewFault};
+pub use command::{Command, Ended};
+pub use path::{PathFault, PathText, RelativePath};
+pub use place::{Place, PlaceFault, StartFault};
+pub use sink::{Out, Over};

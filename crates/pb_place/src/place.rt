@@ -1,0 +1,162 @@
+//! The outside world: files, variables and children, each call counted.
+
+ghost use Rattle.std.specs.Prelude.{◌≡◌, ◌≢◌, ◌⊎◌, Bool, IfOk, IfErr, OnOk, OnErr, IsTrue};
+ghost use Rattle.std.specs.FinMap as map;
+ghost use Rattle.pb_place.specs.World.{World, Answers, written, removed, listed, Torn, PartlyRemoved, ChangesOnlyInSome, Ends};
+ghost use Rattle.pb_place.specs.Counts.{Counts, counted, counted_start};
+ghost use Rattle.pb_place.specs.declared.place.PlaceFault.TheVariants as place_fault;
+ghost use Rattle.pb_place.specs.declared.place.StartFault.TheVariants as start_fault;
+
+use crate::command::{Command, Ended};
+use crate::path::PathText;
+use pb_data::{Bytes, Items, Text};
+use std::alloc::{AllocError, AllocFailed, Global};
+use thiserror::Error;
+
+/// Why a call on files or variables failed.
+#[derive(Clone, Copy, Debug, PartialEq, Eq, Error)]
+pub enum PlaceFault {
+    /// A file could not be read.
+    #[error("a file could not be read")]
+    Read,
+    /// A folder could not be listed.
+    #[error("a folder could not be listed")]
+    List,
+    /// A file could not be written.
+    #[error("a file could not be written")]
+    Write,
+    /// A file or folder could not be removed.
+    #[error("a file or folder could not be removed")]
+    Remove,
+    /// A variable could not be read.
+    #[error("a variable could not be read")]
+    Variable,
+    /// Memory was refused. The outside did not fail.
+    #[error("out of memory")]
+    OutOfMemory,
+}
+
+/// Why a child gave no answer.
+#[derive(Clone, Copy, Debug, PartialEq, Eq, Error)]
+pub enum StartFault {
+    /// The program could not be started.
+    #[error("the program cannot be started")]
+    CannotStart,
+    /// The child ended without a status.
+    #[error("the child died")]
+    Died,
+    /// What the child wrote could not be taken in.
+    #[error("the child's output could not be taken in")]
+    Capture,
+    /// Memory was refused. The outside did not fail.
+    #[error("out of memory")]
+    OutOfMemory,
+}
+
+impl From<AllocError> for PlaceFault {
+    ghost from_gives = { λ _ e. e ≡ place_fault.OutOfMemory };
+
+    fn from(_: AllocError) -> Self {
+        PlaceFault::OutOfMemory
+    }
+}
+
+impl<T: Drop> From<AllocFailed<T>> for PlaceFault {
+    ghost from_gives = { λ _ e. e ≡ place_fault.OutOfMemory };
+
+    fn from(_: AllocFailed<T>) -> Self {
+        PlaceFault::OutOfMemory
+    }
+}
+
+impl From<AllocError> for StartFault {
+    ghost from_gives = { λ _ e. e ≡ start_fault.OutOfMemory };
+
+    fn from(_: AllocError) -> Self {
+        StartFault::OutOfMemory
+    }
+}
+
+impl<T: Drop> From<AllocFailed<T>> for StartFault {
+    ghost from_gives = { λ _ e. e ≡ start_fault.OutOfMemory };
+
+    fn from(_: AllocFailed<T>) -> Self {
+        StartFault::OutOfMemory
+    }
+}
+
+/// The files, the variables and the children of the outside world.
+///
+/// What its clauses say of files and variables is asked of a place that tells its maps; what they say of
+/// the counters, of every place. Want of memory apart, each answer is determined by the maps and the child.
+/// Our own choice of calls.
+pub trait Place {
+    /// Whether the place tells its maps.
+    ghost tells: { Bool };
+
+    /// The maps, where it tells them.
+    ghost world: { Self → World };
+
+    /// The child: a member of the type, so no call can change it.
+    ghost child: { Answers };
+
+    /// The counters.
+    ghost counts: { Self → Counts };
+
+    /// The bytes of a file, or none where no file is there.
+    fn read(&mut self, alloc: Global, path: &PathText) -> Result<Option<Bytes>, PlaceFault>
+        ensures ok { IsTrue tells → IfOk result (λ found. found ≡ map.get (world self.old).files path.now) }
+        ensures same { IsTrue tells → world self.new ≡ world self.old }
+        ensures fault { IfErr result (λ e. e ≢ PlaceFault.OutOfMemory → e ≡ PlaceFault.Read) }
+        ensures counts { counts self.new ≡ counted result (counts self.old) };
+
+    /// The paths of all files below a folder, in byte order. The folder's own path is not among them.
+    fn list(&mut self, alloc: Global, folder: &PathText) -> Result<Items<PathText>, PlaceFault>
+        ensures ok { IsTrue tells → IfOk result (λ paths. paths ≡ listed folder.now (world self.old)) }
+        ensures same { IsTrue tells → world self.new ≡ world self.old }
+        ensures fault { IfErr result (λ e. e ≢ PlaceFault.OutOfMemory → e ≡ PlaceFault.List) }
+        ensures counts { counts self.new ≡ counted result (counts self.old) };
+
+    /// Writes a file and makes the folders above it. After an error the old file is there, or none, or the
+    /// first of the new bytes.
+    fn write(&mut self, alloc: Global, path: &PathText, bytes: &[u8]) -> Result<(), PlaceFault>
+        ensures ok { IsTrue tells → OnOk result (world self.new ≡ written path.now bytes.now (world self.old)) }
+        ensures err { IsTrue tells → OnErr result (Torn path.now bytes.now (world self.old) (world self.new)) }
+        ensures fault { IfErr result (λ e. e ≢ PlaceFault.OutOfMemory → e ≡ PlaceFault.Write) }
+        ensures counts { counts self.new ≡ counted result (counts self.old) };
+
+    /// Removes the file at a path and all files below it; where nothing is there, nothing is done. After an
+    /// error each of them is there or not.
+    fn remove_tree(&mut self, alloc: Global, path: &PathText) -> Result<(), PlaceFault>
+        ensures ok { IsTrue tells → OnOk result (world self.new ≡ removed path.now (world self.old)) }
+        ensures err { IsTrue tells → OnErr result (PartlyRemoved path.now (world self.old) (world self.new)) }
+        ensures fault { IfErr result (λ e. e ≢ PlaceFault.OutOfMemory → e ≡ PlaceFault.Remove) }
+        ensures counts { counts self.new ≡ counted result (counts self.old) };
+
+    /// The value of a variable, or none where it is not set.
+    fn variable(&mut self, alloc: Global, name: &str) -> Result<Option<Text>, PlaceFault>
+        ensures ok { IsTrue tells → IfOk result (λ found. found ≡ map.get (world self.old).variables name.now) }
+        ensures same { IsTrue tells → world self.new ≡ world self.old }
+        ensures fault { IfErr result (λ e. e ≢ PlaceFault.OutOfMemory → e ≡ PlaceFault.Variable) }
+        ensures counts { counts self.new ≡ counted result (counts self.old) };
+
+    /// Starts a child and waits for its end. It makes the folder `command.out` first (the maps know files
+    /// alone, so no clause shows that). After an error anything may stand inside `out`.
+    fn start(&mut self, alloc: Global, command: &Command) -> Result<Ended, StartFault>
+        ensures ok { IsTrue tells → IfOk result (λ ended. Ends (child command.now) command.now (world self.old) ended (world self.new)) }
+        ensures err { IsTrue tells → OnErr result (ChangesOnlyInSome command.now.out (world self.old) (world self.new)) }
+        ensures counts { counts self.new ≡ counted_start result (counts self.old) };
+
+    /// How many calls failed, at most `u64::MAX`. It takes no memory.
+    fn failures(&self) -> u64
+        ensures { result ≡ (counts self.now).failures };
+
+    /// How many times `start` was called, at most `u64::MAX`. It takes no memory.
+    fn starts(&self) -> u64
+        ensures { result ≡ (counts self.now).starts };
+
+    /// How many calls but this one, `failures` and `starts` came since the last that failed, at most
+    /// `u64::MAX`; 0 where none failed. It takes no memory.
+    fn late(&self) -> u64
+        ensures { result ≡ (counts self.now).late };
+}
