@@ -1,1 +1,3 @@
+pub mod MapLemmas
 pub mod PathLemmas
+pub mod Worlds

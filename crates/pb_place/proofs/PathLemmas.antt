@@ -3,7 +3,7 @@ use Rattle.std.proofs.Common.{◌≡◌, ℕ, ◌-◌, ◌==◌, Bool, true, fal
 use Rattle.std.proofs.lemmas.Bool.{cases_Bool, false≢true}
 use Rattle.std.proofs.lemmas.Bool.Decides.{nat_tests}
 use Rattle.std.specs.List.{fold, list_any, list_all, onto_first, AllByRecursion}
-use Rattle.pb_place.specs.Paths.{parts_of, stays, leads_up, walked, names_of, slashed, path_of, has_byte_0, is_name, is_relative, is_path, stem, below, leads_below}
+use Rattle.pb_place.specs.Paths.{parts_of, stays, leads_up, walked, names_of, slashed, path_of, has_byte_0, is_name, is_relative, is_path, stem, below, leads_below, is_below}
 use Rattle.std.specs.Str.{bytes_eq}
 use Rattle.std.specs.Cmp.Lexicographic.{pointwise}
 
@@ -28,11 +28,11 @@ or_right false b h = h
 or_false : (a b : Bool) → a ≡ false → b ≡ false → a || b ≡ false
 or_false a b p q = ap (λ x. x || b) p ∙ q
 
-and_left : (a b : Bool) → a && b ≡ true → a ≡ true
+pub and_left : (a b : Bool) → a && b ≡ true → a ≡ true
 and_left true b h = refl
 and_left false b h = h
 
-and_right : (a b : Bool) → a && b ≡ true → b ≡ true
+pub and_right : (a b : Bool) → a && b ≡ true → b ≡ true
 and_right true b h = h
 and_right false b h = absurd (false≢true h)
 
@@ -152,7 +152,24 @@ below_is_path folder relative path is named same = ap is_path same ∙ (elim (ca
   | inr deep ↦ ap (λ t. is_path (cond t [] folder ++ 47 ∷ relative)) deep ∙ longer_path folder relative is deep named
 ])
 
-pub ruleset path_laws = (parsed_is_path, below_is_path)
+equal_byte : (a : ℕ) → a == a ≡ true
+equal_byte a = grind (arith, nat_tests)
+
+leads_to_rest : (stem rest : List ℕ) (c : ℕ) → leads_below stem (stem ++ 47 ∷ c ∷ rest) ≡ true
+unfolding leads_below
+leads_to_rest [] rest c = refl
+leads_to_rest (a ∷ stem) rest c = ap (λ t. t && leads_below stem (stem ++ 47 ∷ c ∷ rest)) (equal_byte a) ∙ leads_to_rest stem rest c
+
+leads_to_relative : (stem relative : List ℕ) → is_relative relative ≡ true → leads_below stem (stem ++ 47 ∷ relative) ≡ true
+leads_to_relative stem [] named = absurd (false≢true named)
+leads_to_relative stem (c ∷ rest) named = leads_to_rest stem rest c
+
+-- and it lies below that folder
+pub below_is_below : (folder relative path : List ℕ) → is_relative relative ≡ true → path ≡ below folder relative → is_below folder path ≡ true
+unfolding is_below
+below_is_below folder relative path named same = ap (leads_below (stem folder)) same ∙ leads_to_relative (stem folder) relative named
+
+pub ruleset path_laws = (parsed_is_path, below_is_path, below_is_below)
 
 -- a slash, and something more
 abbrev pub begins_with_slash : List ℕ → Bool

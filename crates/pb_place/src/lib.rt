@@ -3,12 +3,15 @@
 
 pub mod child;
 pub mod command;
+mod files;
+pub mod memory;
 pub mod path;
 pub mod place;
 pub mod sink;
 
 pub use child::{Child, Reply, View, ViewFault};
 pub use command::{Command, Ended};
+pub use memory::Memory;
 pub use path::{PathFault, PathText, RelativePath};
 pub use place::{Place, PlaceFault, StartFault};
 pub use sink::{Out, Over};

@@ -143,7 +143,7 @@ fn path_of(alloc: Global, names: &[&str]) -> Result<String, AllocError>
 }
 
 /// What stands before the slash in each path below a folder.
-fn stem(folder: &str) -> &str
+pub(crate) fn stem(folder: &str) -> &str
     ensures { result.now ≡ stem folder.now }
 {
     if folder == "/" { "" } else { folder }
@@ -187,7 +187,8 @@ impl PathText {
     /// The path of a relative path inside this folder.
     #[tactic(auto, using(crate::proofs::PathLemmas::path_laws))]
     pub fn below(&self, alloc: Global, relative: &RelativePath) -> Result<PathText, AllocError>
-        ensures { IfOk result (λ path. path ≡ below self.now relative.now) }
+        ensures path { IfOk result (λ path. path ≡ below self.now relative.now) }
+        ensures inside { IfOk result (λ path. is_below self.now path ≡ true) }
     {
         let path = with_slash(alloc, stem(self.as_str()), relative.as_str())?;
         Ok(PathText {
@@ -216,6 +217,23 @@ impl PathText {
         ensures normal { is_path self.now ≡ true }
     {
         self.inside.as_str()
+    }
+}
+
+impl PathText {
+    /// The text inside.
+    pub(crate) fn as_text(&self) -> &Text
+        ensures { result.now ≡ self.now }
+    {
+        &self.inside
+    }
+
+    /// The path that a text is which is known to be one.
+    pub(crate) fn of_text(inside: Text) -> PathText
+        requires { is_path inside ≡ true }
+        ensures { result ≡ inside }
+    {
+        PathText { inside }
     }
 }
 

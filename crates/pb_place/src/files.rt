@@ -1,0 +1,217 @@
+//! Files and variables in sorted maps, which contracts see as finite maps.
+
+ghost use Rattle.std.specs.Prelude.{◌≡◌, ℕ, List, Bool, true, not, None, ◌++◌, ◌∷◌, if◌then◌else◌, IfOk, OnOk, OnErr, string_bytes};
+ghost use Rattle.std.specs.List.{list_all, list_any, filter};
+ghost use Rattle.std.specs.Ordering.{nat_cmp};
+ghost use Rattle.std.specs.Cmp.Lexicographic.{slice_cmp};
+ghost use Rattle.std.specs.declared.cmp.Ordering.TheVariants.{Less};
+ghost use Rattle.std.specs.declared.ops.Bound.TheVariants.{Excluded};
+ghost use Rattle.std.specs.Map.{keys_of};
+ghost use Rattle.std.specs.BTreeMap.{IsOrdered};
+ghost use Rattle.std.specs.BTreeMap.Range.{entries_between};
+ghost use Rattle.std.specs.FinMap as map;
+ghost use Rattle.std.specs.Option.{option_copied};
+ghost use Rattle.pb_place.specs.Paths.{is_path, stem, is_below, is_at_or_below};
+ghost use Rattle.pb_place.specs.World.{is_same_path};
+ghost use Rattle.pb_place.specs.Memory.{files_of};
+
+use crate::path::{PathText, stem};
+use pb_data::{Bytes, Items, Text, TryCopy};
+use std::alloc::{AllocError, Global};
+use std::collections::BTreeMap;
+use std::marker::Model;
+use std::ops::Bound;
+
+/// Files by their paths, in byte order. A look-up takes time logarithmic in their number, and a listing
+/// and a removal that for each file that is listed or removed.
+#[derive(Drop)]
+pub struct FileMap {
+    inside: BTreeMap<Text, Bytes>,
+}
+
+impl Model for FileMap {
+    ghost use Rattle.std.specs.Prelude.{◌≡◌, true};
+    ghost use Rattle.std.specs.List.{list_all};
+    ghost use Rattle.std.specs.FinMap as map;
+    ghost use Rattle.pb_place.specs.World.{Map};
+    ghost use Rattle.pb_place.specs.Memory.{map_code};
+    ghost use Rattle.pb_place.specs.Paths.{is_path};
+
+    ghost Value = { Map };
+
+    ghost coded = { map_code };
+
+    ghost view = { λ f. map.from_entries f.inside.entries };
+
+    ghost invariant = { λ f. list_all (λ e. is_path e.0) f.inside.entries ≡ true };
+}
+
+impl FileMap {
+    /// No files, which takes no memory.
+    pub fn new(alloc: Global) -> FileMap
+        ensures { result ≡ map.empty }
+    {
+        FileMap {
+            inside: BTreeMap::new(alloc),
+        }
+    }
+
+    /// The bytes of a file, if it is there.
+    #[tactic(auto, using(crate::proofs::MapLemmas::map_laws))]
+    pub fn get(&self, path: &PathText) -> Option<&Bytes>
+        ensures { option_copied result ≡ map.get self.now path.now }
+    {
+        self.inside.get(path.as_text())
+    }
+
+    /// Puts a file. Where memory is refused, nothing changes.
+    #[tactic(auto, using(crate::proofs::MapLemmas::insert_laws))]
+    pub fn insert(&mut self, alloc: Global, path: &PathText, bytes: &[u8]) -> Result<(), AllocError>
+        ensures ok { OnOk result (self.new ≡ map.insert self.old path.now bytes.now) }
+        ensures err { OnErr result (self.new ≡ self.old) }
+    {
+        let key = Text::from_str(alloc, path.as_str())?;
+        let value = Bytes::from_slice(alloc, bytes)?;
+        let _old = self.inside.insert(key, value)?;
+        Ok(())
+    }
+
+    /// The paths of the files below a folder, in byte order.
+    pub fn list(&self, alloc: Global, folder: &PathText) -> Result<Items<PathText>, AllocError>
+        ensures { IfOk result (λ paths. paths ≡ map.keys (map.retain_keys self.now (is_below folder.now))) }
+    {
+        let names = names_below(alloc, &self.inside, folder.as_str())?;
+        Ok(paths_of(alloc, names)?)
+    }
+
+    /// Removes the file at a path and the files below it. Where memory is refused, nothing changes.
+    pub fn remove(&mut self, alloc: Global, path: &PathText) -> Result<(), AllocError>
+        ensures ok { OnOk result (self.new ≡ map.retain_keys self.old (λ q. not (is_at_or_below path.now q))) }
+        ensures err { OnErr result (self.new ≡ self.old) }
+    {
+        let names = names_below(alloc, &self.inside, path.as_str())?;
+        remove_names(&mut self.inside, names.as_slice());
+        self.inside.remove(path.as_text());
+        Ok(())
+    }
+}
+
+/// A folder's stem and an end.
+fn bound(alloc: Global, folder: &str, end: &str) -> Result<Text, AllocError>
+    ensures { IfOk result (λ text. text ≡ stem folder.now ++ end.now) }
+{
+    let mut text = String::from_str(alloc, stem(folder))?;
+    text.push_str(end)?;
+    Ok(Text::new(text))
+}
+
+/// The keys between two texts, in byte order.
+fn names_between(alloc: Global, files: &BTreeMap<Text, Bytes>, low: &Text, high: &Text) -> Result<Vec<Text>, AllocError>
+    requires { slice_cmp nat_cmp low.now high.now ≡ Less }
+    ensures between { IfOk result (λ names. names.items ≡ keys_of (entries_between (slice_cmp nat_cmp) (Excluded low.now) (Excluded high.now) files.now.entries)) }
+    ensures ordered { OnOk result (IsOrdered (slice_cmp nat_cmp) files.now) }
+{
+    let mut names = Vec::new(alloc);
+    for (name, _) in files.range((Bound::Excluded(low), Bound::Excluded(high))) {
+        names.push(name.copy(alloc)?)?;
+    }
+    Ok(names)
+}
+
+/// The keys below a folder, in byte order: those between its stem with a slash and its stem with a `0`,
+/// the character after the slash.
+fn names_below(alloc: Global, files: &BTreeMap<Text, Bytes>, folder: &str) -> Result<Vec<Text>, AllocError>
+    ensures part { IfOk result (λ names. names.items ≡ keys_of (filter (λ e. is_below folder.now e.0) files.now.entries)) }
+    ensures keys { IfOk result (λ names. names.items ≡ map.keys (map.retain_keys (files_of files.now) (is_below folder.now))) }
+{
+    let low = bound(alloc, folder, "/")?;
+    let high = bound(alloc, folder, "0")?;
+    let names = names_between(alloc, files, &low, &high)?;
+    Ok(names)
+}
+
+/// Paths of texts that are paths.
+fn paths_of(alloc: Global, names: Vec<Text>) -> Result<Items<PathText>, AllocError>
+    requires { list_all is_path names.items ≡ true }
+    ensures { IfOk result (λ paths. paths ≡ names.items) }
+{
+    let mut paths = Items::new(alloc);
+    for name in names {
+        paths.push(PathText::of_text(name))?;
+    }
+    Ok(paths)
+}
+
+/// Takes the files at some keys away.
+fn remove_names(files: &mut BTreeMap<Text, Bytes>, names: &[Text])
+    ensures gone { (q : List ℕ) → map.get (files_of files.new) q ≡ (if list_any (is_same_path q) names.now then None else map.get (files_of files.old) q) }
+    ensures keys { (p : List ℕ → Bool) → list_all (λ e. p e.0) files.old.entries ≡ true → list_all (λ e. p e.0) files.new.entries ≡ true }
+{
+    for name in names {
+        files.remove(name);
+    }
+}
+
+/// Variables by their names, in byte order. A look-up takes time logarithmic in their number.
+#[derive(Drop)]
+pub struct VariableMap {
+    inside: BTreeMap<Text, Text>,
+}
+
+impl Model for VariableMap {
+    ghost use Rattle.std.specs.FinMap as map;
+    ghost use Rattle.pb_place.specs.World.{Map};
+    ghost use Rattle.pb_place.specs.Memory.{map_code};
+
+    ghost Value = { Map };
+
+    ghost coded = { map_code };
+
+    ghost view = { λ v. map.from_entries v.inside.entries };
+}
+
+impl VariableMap {
+    /// No variables, which takes no memory.
+    pub fn new(alloc: Global) -> VariableMap
+        ensures { result ≡ map.empty }
+    {
+        VariableMap {
+            inside: BTreeMap::new(alloc),
+        }
+    }
+
+    /// The value of a variable, if it is set.
+    #[tactic(auto, using(crate::proofs::MapLemmas::map_laws))]
+    pub fn get(&self, alloc: Global, name: &str) -> Result<Option<Text>, AllocError>
+        ensures { IfOk result (λ found. found ≡ map.get self.now name.now) }
+    {
+        let key = Text::from_str(alloc, name)?;
+        match self.inside.get(&key) {
+            Some(value) => Ok(Some(value.copy(alloc)?)),
+            None => Ok(None),
+        }
+    }
+
+    /// Sets a variable. Where memory is refused, nothing changes.
+    #[tactic(auto, using(crate::proofs::MapLemmas::insert_laws))]
+    pub fn insert(&mut self, alloc: Global, name: &str, value: &str) -> Result<(), AllocError>
+        ensures ok { OnOk result (self.new ≡ map.insert self.old name.now value.now) }
+        ensures err { OnErr result (self.new ≡ self.old) }
+    {
+        let key = Text::from_str(alloc, name)?;
+        let text = Text::from_str(alloc, value)?;
+        let _old = self.inside.insert(key, text)?;
+        Ok(())
+    }
+
+    /// Takes a variable away. Where memory is refused, nothing changes.
+    #[tactic(auto, using(crate::proofs::MapLemmas::unset_laws))]
+    pub fn remove(&mut self, alloc: Global, name: &str) -> Result<(), AllocError>
+        ensures ok { OnOk result (self.new ≡ map.remove self.old name.now) }
+        ensures err { OnErr result (self.new ≡ self.old) }
+    {
+        let key = Text::from_str(alloc, name)?;
+        let _old = self.inside.remove(&key);
+        Ok(())
+    }
+}
