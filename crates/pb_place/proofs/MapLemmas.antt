@@ -14,7 +14,7 @@ use Rattle.std.specs.declared.ops.Bound.TheVariants.{Excluded}
 use Rattle.std.proofs.lemmas.Bool.Decides.{nat_tests}
 use Rattle.pb_place.specs.Paths.{stem, leads_below, is_below, is_at_or_below}
 use Rattle.std.specs.Cmp.Lexicographic.{slice_cmp, nat_list_cmp_total, lists_ties}
-use Rattle.std.specs.FinMap.{FinMap, IsAntisymmetric, nat_cmp-IsAntisymmetric, slice_cmp-IsAntisymmetric, get, insert, retain_keys, remove, get-remove, from_entries, find, get-from_entries, get-insert, get-retain_keys, same_map, keys, from_sorted, get-from_sorted, entries-from_sorted, contains_key-keys}
+use Rattle.std.specs.FinMap.{FinMap, IsAntisymmetric, nat_cmp-IsAntisymmetric, slice_cmp-IsAntisymmetric, get, insert, retain_keys, remove, get-remove, from_entries, find, get-from_entries, get-insert, get-retain_keys, same_map, keys, entries, from_sorted, get-from_sorted, entries-from_sorted, contains_key-keys}
 use Rattle.std.specs.FinMap.Entries.{is_sorted, is_sorted-where_key, below_all, where_key, find-where_key}
 use Rattle.pb_place.specs.World.{Map, is_same_path}
 use Rattle.pb_place.proofs.PathLemmas.{and_left, and_right}
@@ -228,3 +228,12 @@ unset_one es fs name given = same_map nat_list_cmp_total exact _ _ (λ q.
     removed_one es fs name given q ∙ ap (λ t. cond t None (get (from_entries {R = slice_cmp nat_cmp} es) q)) (symm name q) ∙ sym (get-remove nat_list_cmp_total (from_entries {R = slice_cmp nat_cmp} es) name q))
 
 pub ruleset unset_laws = (unset_one)
+
+-- a map of ordered entries has just these
+pub entries-ordered : (es : Entries) → IsStrictlySortedBy (slice_cmp nat_cmp) (keys_of es) → entries (from_entries {R = slice_cmp nat_cmp} es) ≡ es
+entries-ordered es ordered =
+    let h : T (is_sorted (slice_cmp nat_cmp) es) = sorted_entries es ordered in
+    let same : from_sorted {R = slice_cmp nat_cmp} es ≡ from_entries es = same_map nat_list_cmp_total exact _ _ (λ q. get-from_sorted (slice_cmp nat_cmp) es q h ∙ sym (get-from_entries nat_list_cmp_total es q)) in
+    ap entries (sym same) ∙ entries-from_sorted (slice_cmp nat_cmp) es h
+
+pub ruleset ordered_laws = (entries-ordered)

@@ -3,7 +3,7 @@ use Rattle.std.proofs.Common.{◌≡◌, ℕ, ◌-◌, ◌==◌, Bool, true, fal
 use Rattle.std.proofs.lemmas.Bool.{cases_Bool, false≢true}
 use Rattle.std.proofs.lemmas.Bool.Decides.{nat_tests}
 use Rattle.std.specs.List.{fold, list_any, list_all, onto_first, AllByRecursion}
-use Rattle.pb_place.specs.Paths.{parts_of, stays, leads_up, walked, names_of, slashed, path_of, has_byte_0, is_name, is_relative, is_path, stem, below, leads_below, is_below}
+use Rattle.pb_place.specs.Paths.{parts_of, stays, leads_up, walked, names_of, slashed, path_of, has_byte_0, is_name, is_relative, is_path, stem, below, folder_of, leads_below, is_below}
 use Rattle.std.specs.Str.{bytes_eq}
 use Rattle.std.specs.Cmp.Lexicographic.{pointwise}
 
@@ -199,3 +199,45 @@ leads_below-apart (a ∷ stem) (b ∷ path) apart = elim (cases_Bool (a == b)) [
 ]
 
 pub ruleset leads_laws = (leads_below-rest, leads_below-apart)
+
+not_true : (b : Bool) → not b ≡ true → b ≡ false
+not_true true h = absurd (false≢true h)
+not_true false h = refl
+
+clean_first : (x : ℕ) (parts : List (List ℕ)) → list_all (λ p. not (has_byte_0 p)) (onto_first x parts) ≡ true → (x == 0 ≡ false) × (list_all (λ p. not (has_byte_0 p)) parts ≡ true)
+clean_first x [] all = (or_left _ _ (not_true _ (and_left _ _ all)), refl)
+clean_first x (part ∷ parts) all =
+    (or_left _ _ (not_true _ (and_left _ _ all)), ap (λ b. not b && list_all (λ p. not (has_byte_0 p)) parts) (or_right (x == 0) _ (not_true _ (and_left _ _ all))) ∙ and_right _ _ all)
+
+-- a text whose parts have no byte 0 has none
+clean_parts : (text : List ℕ) → list_all (λ p. not (has_byte_0 p)) (parts_of text) ≡ true → has_byte_0 text ≡ false
+clean_parts [] all = refl
+clean_parts (x ∷ text) all = elim (cases_Bool (x == 47)) [
+    | inl slash ↦
+        let is : x ≡ 47 = grind (arith, nat_tests) in
+        or_false _ _ (ap (λ n. n == 0) is) (clean_parts text (ap (list_all (λ p. not (has_byte_0 p))) (sym (ap (λ b. cond b ([] ∷ parts_of text) (onto_first x (parts_of text))) slash)) ∙ all))
+    | inr other ↦
+        let here = clean_first x (parts_of text) (ap (list_all (λ p. not (has_byte_0 p))) (sym (ap (λ b. cond b ([] ∷ parts_of text) (onto_first x (parts_of text))) other)) ∙ all) in
+        or_false _ _ here.0 (clean_parts text here.1)
+  ]
+
+names_clean : (parts : List (List ℕ)) → list_all is_name parts ≡ true → list_all (λ p. not (has_byte_0 p)) parts ≡ true
+names_clean [] all = refl
+names_clean (p ∷ parts) all = ap (λ b. not b && list_all (λ q. not (has_byte_0 q)) parts) (or_right _ _ (not_true _ (and_left _ _ all))) ∙ names_clean parts (and_right _ _ all)
+
+slash_of : (b : ℕ) → b == 47 ≡ true → b ≡ 47
+slash_of b h = grind (arith, nat_tests)
+
+-- a path has no byte 0
+pub path_clean : (path : List ℕ) → is_path path ≡ true → has_byte_0 path ≡ false
+path_clean [] is = absurd (false≢true is)
+path_clean (b ∷ []) is = let slash : b ≡ 47 = slash_of b is in ap (λ n. (n == 0) || false) slash
+path_clean (b ∷ c ∷ rest) is =
+    let slash : b ≡ 47 = slash_of b (and_left _ _ is) in
+    or_false _ _ (ap (λ n. n == 0) slash) (clean_parts (c ∷ rest) (names_clean (parts_of (c ∷ rest)) (and_right _ _ is)))
+
+-- the folder of a path is one
+pub folder_is_path : (path folder : List ℕ) → is_path path ≡ true → folder ≡ folder_of path → is_path folder ≡ true
+folder_is_path path folder is same = ap is_path same ∙ path_of_named (take (length (names_of path) - 1) (names_of path)) (take_all (length (names_of path) - 1) (names_of path) (all_walked [] (parts_of path) tt (parts_plain path (path_clean path is))))
+
+pub ruleset folder_laws = (folder_is_path)

@@ -50,6 +50,10 @@ parsed text = if is_absolute text then (if has_byte_0 text then Err BadByte else
 abbrev pub joined : List ℕ → List ℕ → Result (List ℕ) PathFault
 joined folder text = parsed (if is_absolute text then text else folder ++ 47 ∷ text)
 
+-- the path of the folder in which a path lies: one part up
+abbrev pub folder_of : List ℕ → List ℕ
+folder_of path = path_of (walked (names_of path) (codes ".."))
+
 -- a name of a file or folder
 abbrev pub is_name : List ℕ → Bool
 is_name part = not (stays part || leads_up part || has_byte_0 part)

@@ -152,13 +152,14 @@ fn remove_names(files: &mut BTreeMap<Text, Bytes>, names: &[Text])
     }
 }
 
-/// Variables by their names, in byte order. A look-up takes time logarithmic in their number.
+/// Texts by their names, in byte order, as variables are. A look-up takes time logarithmic in their
+/// number.
 #[derive(Drop)]
-pub struct VariableMap {
+pub struct TextMap {
     inside: BTreeMap<Text, Text>,
 }
 
-impl Model for VariableMap {
+impl Model for TextMap {
     ghost use Rattle.std.specs.FinMap as map;
     ghost use Rattle.pb_place.specs.World.{Map};
     ghost use Rattle.pb_place.specs.Memory.{map_code};
@@ -170,12 +171,12 @@ impl Model for VariableMap {
     ghost view = { λ v. map.from_entries v.inside.entries };
 }
 
-impl VariableMap {
+impl TextMap {
     /// No variables, which takes no memory.
-    pub fn new(alloc: Global) -> VariableMap
+    pub fn new(alloc: Global) -> TextMap
         ensures { result ≡ map.empty }
     {
-        VariableMap {
+        TextMap {
             inside: BTreeMap::new(alloc),
         }
     }
@@ -214,4 +215,24 @@ impl VariableMap {
         let _old = self.inside.remove(&key);
         Ok(())
     }
+
+    /// All names and values, in byte order of the names.
+    #[tactic(auto, using(crate::proofs::MapLemmas::ordered_laws))]
+    pub fn into_pairs(self, alloc: Global) -> Result<Items<(Text, Text)>, AllocError>
+        ensures { IfOk result (λ pairs. pairs ≡ map.entries self) }
+    {
+        pairs_of(alloc, self.inside)
+    }
+}
+
+/// The entries of a map, in order.
+fn pairs_of(alloc: Global, entries: BTreeMap<Text, Text>) -> Result<Items<(Text, Text)>, AllocError>
+    ensures entries { IfOk result (λ pairs. pairs ≡ entries.entries) }
+    ensures ordered { OnOk result (IsOrdered (slice_cmp nat_cmp) entries) }
+{
+    let mut pairs = Items::new(alloc);
+    for (name, value) in entries {
+        pairs.push((name, value))?;
+    }
+    Ok(pairs)
 }

@@ -3,7 +3,7 @@
 
 pub mod child;
 pub mod command;
-mod files;
+pub mod files;
 pub mod memory;
 pub mod path;
 pub mod place;
@@ -11,6 +11,7 @@ pub mod sink;
 
 pub use child::{Child, Reply, View, ViewFault};
 pub use command::{Command, Ended};
+pub use files::{FileMap, TextMap};
 pub use memory::Memory;
 pub use path::{PathFault, PathText, RelativePath};
 pub use place::{Place, PlaceFault, StartFault};

@@ -10,7 +10,7 @@ ghost use Rattle.pb_place.specs.Memory.{Held, counts_of, set, unset};
 
 use crate::child::{Child, View, ViewFault};
 use crate::command::{Command, Ended};
-use crate::files::{FileMap, VariableMap};
+use crate::files::{FileMap, TextMap};
 use crate::path::{PathText, RelativePath};
 use crate::place::{Place, PlaceFault, StartFault};
 use pb_data::{Bytes, Items, Text, TryCopy};
@@ -64,7 +64,7 @@ fn shows(command: &Command, path: &PathText) -> bool
 #[derive(Drop)]
 struct Sight<'a> {
     files: &'a FileMap,
-    variables: &'a VariableMap,
+    variables: &'a TextMap,
     command: &'a Command,
 }
 
@@ -120,7 +120,7 @@ fn put_all(alloc: Global, files: &mut FileMap, folder: &PathText, made: &[(Relat
 #[derive(Drop)]
 pub struct Memory<C> {
     files: FileMap,
-    variables: VariableMap,
+    variables: TextMap,
     child: C,
     tally: Tally,
 }
@@ -142,7 +142,7 @@ impl<C> Memory<C> {
     {
         Memory {
             files: FileMap::new(alloc),
-            variables: VariableMap::new(alloc),
+            variables: TextMap::new(alloc),
             child,
             tally: Tally {
                 failures: 0,

@@ -5,7 +5,7 @@ ghost use Rattle.std.specs.List.{list_any, list_all};
 ghost use Rattle.std.specs.Str.{bytes_eq};
 ghost use Rattle.pb_data.specs.Gives.{Gives};
 ghost use Rattle.pb_place.specs.declared.path.PathFault.TheVariants as path_fault;
-ghost use Rattle.pb_place.specs.Paths.{parts_of, stays, leads_up, walked, names_of, slashed, path_of, is_absolute, has_byte_0, parsed, joined, is_name, is_relative, is_path, stem, below, leads_below, is_below, is_at_or_below};
+ghost use Rattle.pb_place.specs.Paths.{parts_of, stays, leads_up, walked, names_of, slashed, path_of, is_absolute, has_byte_0, parsed, joined, folder_of, is_name, is_relative, is_path, stem, below, leads_below, is_below, is_at_or_below};
 
 use pb_data::{Text, TryCopy};
 use std::alloc::{AllocError, AllocFailed, Global};
@@ -191,6 +191,19 @@ impl PathText {
         ensures inside { IfOk result (λ path. is_below self.now path ≡ true) }
     {
         let path = with_slash(alloc, stem(self.as_str()), relative.as_str())?;
+        Ok(PathText {
+            inside: Text::new(path),
+        })
+    }
+
+    /// The folder in which this path lies; of the root it is the root.
+    #[tactic(auto, using(crate::proofs::PathLemmas::folder_laws))]
+    pub fn folder(&self, alloc: Global) -> Result<PathText, AllocError>
+        ensures { IfOk result (λ path. path ≡ folder_of self.now) }
+    {
+        let mut names = names_of(alloc, self.as_str())?;
+        walk(&mut names, "..")?;
+        let path = path_of(alloc, names.as_slice())?;
         Ok(PathText {
             inside: Text::new(path),
         })
