@@ -1,8 +1,12 @@
 //! What the output of a build script and the dep-info of a compiler say, line by line.
 #![tactic(auto)]
 
+pub mod directive;
 pub mod fault;
+mod keys;
 mod lines;
 mod texts;
+mod values;
 
+pub use directive::{Directive, Directives};
 pub use fault::LineFault;
