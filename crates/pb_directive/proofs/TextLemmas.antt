@@ -47,7 +47,7 @@ after_prefix-none (a ∷ prefix) (b ∷ bytes) lacks = by (eqb a b) refl (after_
     by false is later = ap (λ r. if r then after_prefix prefix bytes else None) is
 
 -- without a byte that passes, the bytes are the one part
-split_none : (p : ℕ → Bool) (bytes : List ℕ) → length bytes ≤ position_or_len p bytes → slice_split p bytes ≡ bytes ∷ []
+pub split_none : (p : ℕ → Bool) (bytes : List ℕ) → length bytes ≤ position_or_len p bytes → slice_split p bytes ≡ bytes ∷ []
 split_none p [] past = refl
 split_none p (b ∷ bytes) past = by (p b) refl (split_none p bytes)
   where

@@ -48,6 +48,10 @@ named_value value = halves value >>= (λ p. if is_empty p.0 then Err problem.Bad
 abbrev pub words_of : List ℕ → List (List ℕ)
 words_of text = filter (λ word. not (is_empty word)) (slice_split (λ b. b == 32) text)
 
+-- the words with one more in front, unless it is empty
+abbrev pub some_word : List ℕ → List (List ℕ) → List (List ℕ)
+some_word word words = if is_empty word then words else word ∷ words
+
 -- the name behind a flag's letter, which is not empty
 abbrev pub flag_name : Option (List ℕ) → Option (List ℕ)
 flag_name None = None

@@ -7,6 +7,7 @@ mod keys;
 mod lines;
 mod texts;
 mod values;
+mod words;
 
 pub use directive::{Directive, Directives};
 pub use fault::LineFault;
