@@ -1,2 +1,4 @@
 pub mod TextLemmas
 pub mod WordLemmas
+pub mod FlagLemmas
+pub mod ThenLemmas

@@ -78,6 +78,14 @@ flags_of (word ∷ next ∷ words) =
     else (if bytes_eq word (codes "-L") then flags_of words >>= (λ more. Ok (says.LinkSearch next ∷ more))
     else flag_of word >>= (λ flag. flags_of (next ∷ words) >>= (λ more. Ok (flag ∷ more))))
 
+-- the next word was taken as a name, unless memory ran out
+abbrev pub NextName : Result (List ℕ) Problem → List (List ℕ) → List (List ℕ) → Type 0
+NextName result old new = MatchResult result (λ name. old ≡ name ∷ new) (λ e. e ≢ problem.OutOfMemory → (e ≡ problem.BadFlag) × (old ≡ []))
+
+-- the flag that begins with a word was taken, and these words are left, unless memory ran out
+abbrev pub TakesFlag : Result Directive Problem → List ℕ → List (List ℕ) → List (List ℕ) → Type 0
+TakesFlag result word old new = MatchResult result (λ flag. flags_of (word ∷ old) ≡ flags_of new >>= (λ more. Ok (flag ∷ more))) (λ e. e ≢ problem.OutOfMemory → flags_of (word ∷ old) ≡ Err e)
+
 -- ---- the table of keys
 
 -- the keys after `cargo::` and after `cargo:`

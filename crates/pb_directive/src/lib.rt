@@ -3,6 +3,7 @@
 
 pub mod directive;
 pub mod fault;
+mod flags;
 mod keys;
 mod lines;
 mod texts;
