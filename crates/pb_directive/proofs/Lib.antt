@@ -2,3 +2,4 @@ pub mod TextLemmas
 pub mod WordLemmas
 pub mod FlagLemmas
 pub mod ThenLemmas
+pub mod ReadLemmas

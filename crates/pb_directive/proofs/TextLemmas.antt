@@ -5,7 +5,8 @@ use Rattle.std.proofs.lemmas.Bool.{false≢true}
 use Rattle.std.proofs.lemmas.Bool.Decides.{Decides-eqb, Decides-ltb}
 use Rattle.std.proofs.lemmas.Grind.{common_steps}
 use Rattle.std.proofs.lemmas.List.{take_rest}
-use Rattle.std.proofs.lemmas.List.Splits.{slice_split_first}
+use Rattle.std.proofs.lemmas.List.Sums.{count_by-le-length}
+use Rattle.std.proofs.lemmas.List.Splits.{slice_split_first, length-slice_split}
 use Rattle.std.proofs.lemmas.Str.{is_utf8-from_IsUtf8, IsUtf8-from_is_utf8}
 use Rattle.std.specs.List.{slice_split, onto_first, position, position_or_len}
 use Rattle.std.specs.Borrow.{Bor}
@@ -96,3 +97,9 @@ after_prefix-strips prefix bytes (Some x) strips =
     let (n, found, rest, _) = strips in
     let whole : bytes ≡ prefix ++ x.now = found.1 ∙ ap (λ r. prefix ++ r) (sym rest) in
     sym (ap (after_prefix prefix) whole ∙ after_prefix-append prefix x.now)
+
+-- there are at most as many line feeds as bytes
+pub length-lines_of : (bytes : List ℕ) → length (lines_of bytes) ≤ length bytes + 1
+length-lines_of bytes = omega (arith, length-slice_split (λ b. eqb b 10) bytes, count_by-le-length (λ b. eqb b 10) bytes)
+
+pub ruleset length_laws = (length-lines_of)

@@ -1,6 +1,6 @@
 -- Lemmas on lists that are added to, unless there was a fault.
 use Rattle.std.proofs.Common.{◌≡◌, List, [], ◌∷◌, ◌++◌, Ok, Err, Result, refl, sym, ◌∙◌, ap, append_assoc}
-use Rattle.pb_data.specs.Gives.{◌>>=◌}
+use Rattle.pb_data.specs.Gives.{◌>>=◌, lifted}
 
 -- one item put in front of the rest is one added behind what is done
 pub then_push : {A E : Type 0} (r : Result (List A) E) (done new : List A) (x : A) → new ≡ done ++ x ∷ []
@@ -20,3 +20,11 @@ then_err (Ok x) f e is = absurd (cc)
 then_err (Err d) f e is =
     let same : d ≡ e = cc in
     ap Err same
+
+-- what a line gave was added, and the later lines are still to come
+pub then_line : {A E F : Type 0} (wrap : E → F) (r : Result (List A) E) (later : Result (List A) F) (done new : List A) → (r >>= (λ more. Ok (done ++ more))) ≡ Ok new
+    → ((lifted wrap r >>= (λ here. later >>= (λ more. Ok (here ++ more)))) >>= (λ more. Ok (done ++ more))) ≡ (later >>= (λ more. Ok (new ++ more)))
+then_line wrap (Ok here) later done new added =
+    let is : new ≡ done ++ here = cc in
+    then_append later done new here is
+then_line wrap (Err e) later done new added = absurd (cc)

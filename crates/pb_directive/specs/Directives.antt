@@ -149,9 +149,12 @@ abbrev pub new_setting : Option (List ℕ × List ℕ) → Result (List Directiv
 new_setting None = Err problem.BadValue
 new_setting (Some p) = known (new_key_of p.0) p.1
 
+abbrev pub metadata : List ℕ → List ℕ → Result Directive Problem
+metadata name value = filled name >>= (λ k. plain value >>= (λ v. Ok (says.Metadata k v)))
+
 -- after `cargo:` a key that is not in the table is metadata
 abbrev pub or_metadata : Option Key → List ℕ → List ℕ → Result (List Directive) Problem
-or_metadata None name value = filled name >>= (λ k. plain value >>= (λ v. one (says.Metadata k v)))
+or_metadata None name value = metadata name value >>= one
 or_metadata (Some k) name value = directives_at k value
 
 abbrev pub old_setting : Option (List ℕ × List ℕ) → Result (List Directive) Problem

@@ -6,9 +6,11 @@ pub mod fault;
 mod flags;
 mod keys;
 mod lines;
+mod read;
 mod texts;
 mod values;
 mod words;
 
 pub use directive::{Directive, Directives};
 pub use fault::LineFault;
+pub use read::read_directives;

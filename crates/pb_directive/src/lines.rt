@@ -1,6 +1,6 @@
 //! The lines of a text, one after another.
 
-ghost use Rattle.std.specs.Prelude.{◌≡◌, ◌==◌, [], ◌∷◌, position};
+ghost use Rattle.std.specs.Prelude.{◌≡◌, ◌==◌, [], ◌∷◌, ◌≤◌, ◌^◌, length, position};
 ghost use Rattle.std.specs.Option.{option_map_or};
 ghost use Rattle.pb_directive.specs.Lines.{lines_of, is_blank, trimmed_front, trimmed_end, trimmed};
 
@@ -23,9 +23,12 @@ impl<'a> Model for Lines<'a> {
 }
 
 /// The lines of a text, without their line feeds. What follows the last line feed is a line.
+#[tactic(auto, using(crate::proofs::TextLemmas::length_laws))]
 pub fn lines_of(bytes: &[u8]) -> Lines<'_>
-    ensures { result ≡ lines_of bytes.now }
+    ensures lines { result ≡ lines_of bytes.now }
+    ensures few { length result ≤ 2 ^ 63 }
 {
+    let _length = bytes.len();
     Lines { rest: Some(bytes) }
 }
 
