@@ -3,3 +3,4 @@ pub mod WordLemmas
 pub mod FlagLemmas
 pub mod ThenLemmas
 pub mod ReadLemmas
+pub mod RuleLemmas

@@ -9,12 +9,12 @@ use Rattle.pb_directive.specs.Lines.{split_first}
 use Rattle.pb_directive.proofs.TextLemmas.{split_none}
 
 -- what a found byte says
-record Cut (byte : ℕ) (text part rest : List ℕ) : Type 0 where
-  inside : position_or_len (λ b. eqb b byte) text < length text
-  before : before_first (λ b. eqb b byte) text ≡ part
-  after : after_first (λ b. eqb b byte) text ≡ rest
+pub record Cut (byte : ℕ) (text part rest : List ℕ) : Type 0 where
+  pub inside : position_or_len (λ b. eqb b byte) text < length text
+  pub before : before_first (λ b. eqb b byte) text ≡ part
+  pub after : after_first (λ b. eqb b byte) text ≡ rest
 
-cut_of : (byte : ℕ) (text part rest : List ℕ) → split_first byte text ≡ Some (part, rest) → Cut byte text part rest
+pub cut_of : (byte : ℕ) (text part rest : List ℕ) → split_first byte text ≡ Some (part, rest) → Cut byte text part rest
 cut_of byte text part rest at = by (ltb (position_or_len (λ b. eqb b byte) text) (length text)) refl
   where
     by : (r : Bool) → ltb (position_or_len (λ b. eqb b byte) text) (length text) ≡ r → Cut byte text part rest

@@ -1,16 +1,19 @@
 //! What the output of a build script and the dep-info of a compiler say, line by line.
 #![tactic(auto)]
 
+pub mod dep_info;
 pub mod directive;
 pub mod fault;
 mod flags;
 mod keys;
 mod lines;
 mod read;
+mod rules;
 mod texts;
 mod values;
 mod words;
 
+pub use dep_info::DepInfo;
 pub use directive::{Directive, Directives};
 pub use fault::LineFault;
 pub use read::read_directives;

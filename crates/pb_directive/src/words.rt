@@ -46,7 +46,7 @@ impl<'a> Iterator for Words<'a> {
 }
 
 /// What stands before and after the first space, where there is one.
-fn split_at_space(text: &str) -> Option<(&str, &str)>
+pub fn split_at_space(text: &str) -> Option<(&str, &str)>
     ensures { option_map (λ p. (p.0.now, p.1.now)) result ≡ split_first 32 text.now }
 {
     text.split_once(' ')
