@@ -4,10 +4,15 @@
 
 pub mod bytes;
 pub mod copying;
+pub mod hashing;
 pub mod items;
+pub mod mentions;
+pub mod table;
 pub mod text;
 
 pub use bytes::Bytes;
 pub use copying::TryCopy;
 pub use items::Items;
+pub use mentions::Mentions;
+pub use table::Table;
 pub use text::Text;

@@ -1,0 +1,2 @@
+-- Lemmas on tables.
+use Rattle.std.proofs.Common.{◌≡◌}

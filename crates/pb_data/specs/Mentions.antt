@@ -1,0 +1,30 @@
+-- Texts each once, in order of first mention.
+use Rattle.std.specs.Prelude.{ℕ, not, Bool, List, [], ◌∷◌, ◌++◌, if◌then◌else◌, filter}
+use Rattle.std.specs.List.{list_any, IsDistinct}
+use Rattle.std.specs.Str.{bytes_eq}
+
+-- one of the texts is this one
+abbrev pub is_mentioned : List (List ℕ) → List ℕ → Bool
+is_mentioned texts text = list_any (bytes_eq text) texts
+
+-- with one more text: it goes last, unless it is there
+abbrev pub mentioned : List (List ℕ) → List ℕ → List (List ℕ)
+mentioned texts text = if is_mentioned texts text then texts else texts ++ text ∷ []
+
+-- with more texts, one after another
+abbrev pub mentioned_all : List (List ℕ) → List (List ℕ) → List (List ℕ)
+mentioned_all texts [] = texts
+mentioned_all texts (text ∷ more) = mentioned_all (mentioned texts text) more
+
+-- the texts but this one
+abbrev pub without : List ℕ → List (List ℕ) → List (List ℕ)
+without text texts = filter (λ other. not (bytes_eq text other)) texts
+
+-- each of the texts once, in order of first mention
+abbrev pub once : List (List ℕ) → List (List ℕ)
+once [] = []
+once (text ∷ texts) = text ∷ without text (once texts)
+
+-- no text stands twice
+abbrev pub EachOnce : List (List ℕ) → Type 0
+EachOnce texts = IsDistinct bytes_eq texts

@@ -1,0 +1,72 @@
+//! Texts each once, in order of first mention.
+
+ghost use Rattle.std.specs.Prelude.{◌≡◌, [], OnOk, OnErr, IfOk, length};
+ghost use Rattle.pb_data.specs.Mentions.{is_mentioned, mentioned, EachOnce};
+
+use crate::items::Items;
+use crate::text::Text;
+use indexmap::IndexSet;
+use std::alloc::{AllocError, Global};
+use std::marker::Model;
+
+/// Texts, each once, in order of first mention. Contracts see the list of them.
+#[derive(Debug, Drop)]
+pub struct Mentions {
+    inside: IndexSet<Text>,
+}
+
+impl Model for Mentions {
+    ghost use Rattle.std.specs.Prelude.{ℕ, List};
+    ghost use Rattle.std.specs.List.{IsDistinct};
+    ghost use Rattle.std.specs.Str.{bytes_eq};
+
+    ghost Value = { List (List ℕ) };
+
+    ghost view = { λ a. a.inside.keys };
+
+    ghost invariant = { λ a. IsDistinct bytes_eq a.inside.keys };
+}
+
+impl Mentions {
+    /// No texts, which takes no memory.
+    pub fn new(alloc: Global) -> Mentions
+        ensures { result ≡ [] }
+    {
+        Mentions {
+            inside: IndexSet::new(alloc),
+        }
+    }
+
+    /// Adds a text at the end, unless it is there. Where memory is refused, the texts stay as they
+    /// were.
+    pub fn insert(&mut self, text: Text) -> Result<(), AllocError>
+        ensures ok { OnOk result (self.new ≡ mentioned self.old text) }
+        ensures err { OnErr result (self.new ≡ self.old) }
+    {
+        self.inside.insert(text)?;
+        Ok(())
+    }
+
+    /// Whether a text is among them.
+    pub fn contains(&self, text: &Text) -> bool
+        ensures { result ≡ is_mentioned self.now text.now }
+    {
+        self.inside.contains(text)
+    }
+
+    /// The texts themselves, of which no two are equal.
+    pub fn as_slice(&self) -> &[Text]
+        ensures same { result.now ≡ self.now }
+        ensures once { EachOnce self.now }
+    {
+        self.inside.as_slice()
+    }
+
+    /// The texts as items. The one fault is want of memory.
+    pub fn into_items(self, alloc: Global) -> Result<Items<Text>, AllocError>
+        ensures { IfOk result (λ items. items ≡ self) }
+    {
+        let texts: Vec<Text> = self.inside.into_iter().collect(alloc)?;
+        Ok(Items::from_vec(texts))
+    }
+}

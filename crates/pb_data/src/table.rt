@@ -1,0 +1,84 @@
+//! Tables from texts to values, in order of first mention.
+
+ghost use Rattle.std.specs.Prelude.{◌≡◌, ℕ, List, [], OnOk, OnErr, IfOk, length};
+ghost use Rattle.std.specs.Option.{option_copied};
+ghost use Rattle.std.specs.Map.Iter.{ShowsInOrder, deref_pair};
+ghost use Rattle.pb_data.specs.Table.{value_at, with_entry};
+
+use crate::items::Items;
+use crate::text::Text;
+use indexmap::IndexMap;
+use indexmap::map::Iter;
+use std::alloc::{AllocError, Global};
+use std::marker::Model;
+
+/// Values by texts, each text once, in order of first mention. Contracts see the list of the
+/// entries.
+#[derive(Debug, Drop)]
+pub struct Table<V> {
+    inside: IndexMap<Text, V>,
+}
+
+impl<V> Model for Table<V> {
+    ghost use Rattle.std.specs.Prelude.{ℕ, List};
+    ghost use Rattle.std.specs.List.{IsDistinct};
+    ghost use Rattle.std.specs.Map.{keys_of};
+    ghost use Rattle.std.specs.Str.{bytes_eq};
+
+    ghost Value = { List (List ℕ × V) };
+
+    ghost view = { λ a. a.inside.entries };
+
+    ghost invariant = { λ a. IsDistinct bytes_eq (keys_of a.inside.entries) };
+}
+
+impl<V: Drop> Table<V> {
+    /// No entries, which takes no memory.
+    pub fn new(alloc: Global) -> Table<V>
+        ensures { result ≡ [] }
+    {
+        Table {
+            inside: IndexMap::new(alloc),
+        }
+    }
+
+    /// Adds an entry. A text that is there keeps its place and takes the value; a new one goes
+    /// last. Where memory is refused, the entries stay as they were.
+    pub fn insert(&mut self, name: Text, value: V) -> Result<(), AllocError>
+        ensures ok { OnOk result (self.new ≡ with_entry self.old name value) }
+        ensures err { OnErr result (self.new ≡ self.old) }
+    {
+        self.inside.insert(name, value)?;
+        Ok(())
+    }
+
+    /// The value that a text has.
+    pub fn get(&self, name: &Text) -> Option<&V>
+        ensures { option_copied result ≡ value_at name.now self.now }
+    {
+        self.inside.get(name)
+    }
+
+    /// How many entries there are.
+    pub fn len(&self) -> usize
+        ensures { result ≡ length self.now }
+    {
+        self.inside.len()
+    }
+
+    /// The entries in their order.
+    pub fn iter(&self) -> Iter<'_, Text, V>
+        ensures rest { result ≡ self.now }
+        ensures runs { ShowsInOrder (deref_pair {K = List ℕ} {X = V}) }
+    {
+        self.inside.iter()
+    }
+
+    /// The entries as items. The one fault is want of memory.
+    pub fn into_items(self, alloc: Global) -> Result<Items<(Text, V)>, AllocError>
+        ensures { IfOk result (λ items. items ≡ self) }
+    {
+        let entries: Vec<(Text, V)> = self.inside.into_iter().collect(alloc)?;
+        Ok(Items::from_vec(entries))
+    }
+}

@@ -1,0 +1,6 @@
+pub mod TextLemmas
+pub mod WordLemmas
+pub mod FlagLemmas
+pub mod ThenLemmas
+pub mod ReadLemmas
+pub mod RuleLemmas

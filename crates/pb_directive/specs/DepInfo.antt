@@ -1,0 +1,114 @@
+-- What the dep-info of a compiler says (The Cargo Book, "Build Cache", "Dep-Info Files").
+use Rattle.std.specs.Prelude.{◌≡◌, ◌≢◌, ℕ, ◌+◌, ◌==◌, ◌&&◌, not, Bool, true, List, [], ◌∷◌, ◌++◌, if◌then◌else◌, codes, filter, is_some, Option, Some, None, Result, Ok, Err, MatchResult}
+use Rattle.std.specs.List.{onto_first, before_first}
+use Rattle.std.specs.Str.Lines.{strip_carriage_return}
+use Rattle.pb_data.specs.Gives.{◌>>=◌, lifted}
+use Rattle.pb_data.specs.Mentions.{mentioned_all, once}
+use Rattle.pb_directive.specs.Directives.{is_empty}
+use Rattle.pb_directive.specs.Faults.{fault_at}
+use Rattle.pb_directive.specs.Lines.{lines_of, text_of, has_byte, after_prefix}
+use Rattle.pb_directive.specs.declared.dep_info.DepInfo.{DepInfo}
+use Rattle.pb_directive.specs.declared.fault.LineFault.{LineFault}
+use Rattle.pb_directive.specs.declared.fault.Problem.{Problem}
+use Rattle.pb_directive.specs.declared.fault.Problem.TheVariants as problem
+
+abbrev pub nothing : DepInfo
+nothing = record { words = []; variables = [] }
+
+abbrev pub one_variable : List ℕ → DepInfo
+one_variable name = record { words = []; variables = name ∷ [] }
+
+abbrev pub only_words : List (List ℕ) → DepInfo
+only_words words = record { words = words; variables = [] }
+
+abbrev pub joined : DepInfo → DepInfo → DepInfo
+joined a b = record { words = a.words ++ b.words; variables = a.variables ++ b.variables }
+
+-- ---- a rule
+
+-- a colon here ends the outputs of a rule: a space follows it, or nothing
+abbrev pub ends_outputs : List ℕ → Bool
+ends_outputs [] = true
+ends_outputs (b ∷ bytes) = b == 32
+
+-- what follows the outputs of a rule, where they end
+abbrev pub after_outputs : List ℕ → Option (List ℕ)
+after_outputs [] = None
+after_outputs (b ∷ bytes) = if (b == 58) && ends_outputs bytes then Some bytes else after_outputs bytes
+
+-- the parts between spaces, where `\ ` stands for a space inside a part and any other `\` for itself
+abbrev pub parts_of : List ℕ → List (List ℕ)
+parts_of [] = [] ∷ []
+parts_of (b ∷ []) = if b == 32 then [] ∷ [] ∷ [] else (b ∷ []) ∷ []
+parts_of (b ∷ c ∷ bytes) =
+    if b == 32 then [] ∷ parts_of (c ∷ bytes)
+    else (if (b == 92) && (c == 32) then onto_first 32 (parts_of bytes)
+    else onto_first b (parts_of (c ∷ bytes)))
+
+-- the words of a rule: the parts that are not empty
+abbrev pub rule_words : List ℕ → List (List ℕ)
+rule_words bytes = filter (λ part. not (is_empty part)) (parts_of bytes)
+
+-- a rule names its words; byte 0, which no part loses, is in none of them
+abbrev pub rule_info : Option (List ℕ) → Result DepInfo Problem
+rule_info None = Err problem.BadValue
+rule_info (Some rest) = if has_byte 0 rest then Err problem.BadValue else Ok (only_words (rule_words rest))
+
+-- ---- a line
+
+-- `NAME` or `NAME=VALUE`: the name, which is not empty and has no byte 0
+abbrev pub variable_info : List ℕ → Result DepInfo Problem
+variable_info text =
+    let name = before_first (λ b. b == 61) text in
+    if is_empty name then Err problem.BadValue
+    else (if has_byte 0 name then Err problem.BadValue
+    else Ok (one_variable name))
+
+-- a line that begins with `#`
+abbrev pub comment_info : Option (List ℕ) → Result DepInfo Problem
+comment_info None = Ok nothing
+comment_info (Some variable) = variable_info variable
+
+abbrev pub full_line : List ℕ → Result DepInfo Problem
+full_line text =
+    if is_some (after_prefix (codes "#") text) then comment_info (after_prefix (codes "# env-dep:") text)
+    else rule_info (after_outputs text)
+
+abbrev pub text_info : Option (List ℕ) → Result DepInfo Problem
+text_info None = Err problem.NotText
+text_info (Some text) = if is_empty text then Ok nothing else full_line text
+
+-- what a line names
+abbrev pub line_info : List ℕ → Result DepInfo Problem
+line_info line = text_info (text_of (strip_carriage_return line))
+
+-- ---- a text
+
+-- what lines name, one after another, or the fault of the first line that has one; the first line has this number
+abbrev pub info_from : ℕ → List (List ℕ) → Result DepInfo LineFault
+info_from number [] = Ok nothing
+info_from number (line ∷ lines) =
+    lifted (fault_at number) (line_info line) >>= (λ here.
+    info_from (number + 1) lines >>= (λ more.
+    Ok (joined here more)))
+
+-- each word and each variable once, in order of first mention
+abbrev pub each_once : DepInfo → DepInfo
+each_once info = record { words = once info.words; variables = once info.variables }
+
+-- what a text names
+abbrev pub dep_info_of : List ℕ → Result DepInfo LineFault
+dep_info_of bytes = info_from 1 (lines_of bytes) >>= (λ info. Ok (each_once info))
+
+-- with what is named after it
+abbrev pub with_info : DepInfo → DepInfo → DepInfo
+with_info old more = record { words = mentioned_all old.words more.words; variables = mentioned_all old.variables more.variables }
+
+-- what was named has been added, unless memory ran out
+abbrev pub AddsInfo : {U : Type 0} → Result U Problem → DepInfo → DepInfo → Result DepInfo Problem → Type 0
+AddsInfo result old new answer = MatchResult result (λ _. (answer >>= (λ more. Ok (with_info old more))) ≡ Ok new) (λ e. e ≢ problem.OutOfMemory → answer ≡ Err e)
+
+-- the parts, with this in front of the first
+abbrev pub onto_part : List ℕ → List (List ℕ) → List (List ℕ)
+onto_part front [] = front ∷ []
+onto_part front (part ∷ parts) = (front ++ part) ∷ parts

@@ -1,0 +1,66 @@
+//! What a line of a build script's output gives.
+
+use pb_data::{Items, Text};
+
+/// What one line of a build script's output gives (The Cargo Book, "Build Scripts"). A line
+/// `rustc-flags` gives a directive for each of its flags.
+#[derive(Debug, Drop)]
+pub enum Directive {
+    /// `rerun-if-changed`: a path whose change makes the script run again.
+    RerunIfChanged(Text),
+    /// `rerun-if-env-changed`: a variable whose change makes the script run again.
+    RerunIfEnvChanged(Text),
+    /// `rustc-link-arg`: a flag for the linker, for binaries.
+    LinkArg(Text),
+    /// `rustc-link-arg-bins`: a flag for the linker, for binaries.
+    LinkArgBins(Text),
+    /// `rustc-link-arg-cdylib`: a flag that has no effect here.
+    LinkArgCdylib(Text),
+    /// `rustc-link-arg-tests`: a flag that has no effect here.
+    LinkArgTests(Text),
+    /// `rustc-link-arg-examples`: a flag that has no effect here.
+    LinkArgExamples(Text),
+    /// `rustc-link-arg-benches`: a flag that has no effect here.
+    LinkArgBenches(Text),
+    /// `rustc-link-arg-bin`: a binary's name, and a flag for its linker.
+    LinkArgBin(Text, Text),
+    /// `rustc-link-lib`: a library to link.
+    LinkLib(Text),
+    /// `rustc-link-search`: a folder in which libraries are looked for.
+    LinkSearch(Text),
+    /// `rustc-cfg`: a condition that is on.
+    Cfg(Text),
+    /// `rustc-check-cfg`: conditions that are expected.
+    CheckCfg(Text),
+    /// `rustc-env`: a variable's name and value.
+    Env(Text, Text),
+    /// Metadata for the scripts of direct dependents: its key and value.
+    Metadata(Text, Text),
+    /// `warning`: a text for the user.
+    Warning(Text),
+}
+
+/// What the lines of a build script's output give, in printed order.
+pub type Directives = Items<Directive>;
+
+/// A key that a line may have.
+#[derive(Clone, Copy, Debug, PartialEq, Eq)]
+pub enum Key {
+    RerunIfChanged,
+    RerunIfEnvChanged,
+    LinkArg,
+    LinkArgBins,
+    LinkArgCdylib,
+    LinkArgTests,
+    LinkArgExamples,
+    LinkArgBenches,
+    LinkArgBin,
+    LinkLib,
+    LinkSearch,
+    Cfg,
+    CheckCfg,
+    Flags,
+    Env,
+    Metadata,
+    Warning,
+}

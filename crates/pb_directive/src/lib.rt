@@ -1,0 +1,19 @@
+//! What the output of a build script and the dep-info of a compiler say, line by line.
+#![tactic(auto)]
+
+pub mod dep_info;
+pub mod directive;
+pub mod fault;
+mod flags;
+mod keys;
+pub mod lines;
+mod read;
+mod rules;
+pub mod texts;
+mod values;
+pub mod words;
+
+pub use dep_info::DepInfo;
+pub use directive::{Directive, Directives};
+pub use fault::LineFault;
+pub use read::read_directives;

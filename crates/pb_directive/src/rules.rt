@@ -1,0 +1,73 @@
+//! The rules of dep-info.
+
+ghost use Rattle.std.specs.Prelude.{◌≡◌, ◌≢◌, ℕ, List, ◌∷◌, ◌++◌, [], ◌<◌, IfOk, length, string_bytes, MatchOption};
+ghost use Rattle.std.specs.Option.{option_copied, option_map, option_map_or};
+ghost use Rattle.pb_directive.specs.Lines.{split_first};
+ghost use Rattle.pb_directive.specs.DepInfo.{ends_outputs, after_outputs, parts_of, rule_words};
+ghost use Rattle.pb_data.specs.Mentions.{mentioned_all};
+
+use crate::words::split_at_space;
+use pb_data::{Mentions, Text};
+use std::alloc::{AllocError, Global};
+
+/// Whether a colon before this text ends the outputs of a rule.
+fn ends_outputs(text: &str) -> bool
+    ensures { result ≡ ends_outputs text.now }
+{
+    match text.as_bytes() {
+        [] => true,
+        [first, ..] => *first == b' ',
+    }
+}
+
+/// What stands before and after the first colon, where there is one.
+fn split_at_colon(text: &str) -> Option<(&str, &str)>
+    ensures { option_map (λ p. (p.0.now, p.1.now)) result ≡ split_first 58 text.now }
+{
+    text.split_once(':')
+}
+
+/// What follows the first colon that ends the outputs of a rule, where there is one.
+#[tactic(auto, using(crate::proofs::RuleLemmas::output_laws))]
+pub fn after_outputs(text: &str) -> Option<&str>
+    ensures { option_copied result ≡ after_outputs text.now }
+{
+    let mut left = text;
+    while let Some((_, rest)) = split_at_colon(left) {
+        if ends_outputs(rest) {
+            return Some(rest);
+        }
+        left = rest;
+    }
+    None
+}
+
+/// A part without the `\` at its end, where there is one.
+fn before_backslash(part: &str) -> Option<&str>
+    ensures { MatchOption result ((front : List ℕ) → part.now ≢ front ++ 92 ∷ []) (λ front. part.now ≡ front.now ++ 92 ∷ []) }
+{
+    part.strip_suffix('\\')
+}
+
+/// The first part of a text, and what follows the space that ends it, if there is one.
+fn first_part(alloc: Global, text: &str) -> Result<(String, Option<&str>), AllocError>
+    ensures { IfOk result (λ p. parts_of text.now ≡ string_bytes p.0 ∷ option_map_or (λ rest. parts_of rest.now) p.1 []) }
+{
+    let mut piece = String::new(alloc);
+    let mut left = text;
+    while let Some((part, rest)) = split_at_space(left) {
+        match before_backslash(part) {
+            Some(front) => {
+                piece.push_str(front)?;
+                piece.push_str(" ")?;
+                left = rest;
+            }
+            None => {
+                piece.push_str(part)?;
+                return Ok((piece, Some(rest)));
+            }
+        }
+    }
+    piece.push_str(left)?;
+    Ok((piece, None))
+}

@@ -1,0 +1,69 @@
+//! The forms of a key's value.
+
+ghost use Rattle.pb_directive.specs.Faults.{LineGives};
+ghost use Rattle.pb_directive.specs.Directives.{plain, filled, variable, halves, named_value};
+
+use crate::fault::Problem;
+use crate::texts::{has_nul, split_at_equals};
+use pb_data::Text;
+use std::alloc::Global;
+
+/// A value without byte 0.
+pub fn plain(alloc: Global, value: &str) -> Result<Text, Problem>
+    ensures { LineGives result (plain value.now) }
+{
+    if has_nul(value) {
+        return Err(Problem::BadValue);
+    }
+    Ok(Text::from_str(alloc, value)?)
+}
+
+/// A value without byte 0 that is not empty.
+pub fn filled(alloc: Global, value: &str) -> Result<Text, Problem>
+    ensures { LineGives result (filled value.now) }
+{
+    if value.is_empty() {
+        return Err(Problem::BadValue);
+    }
+    let text = plain(alloc, value)?;
+    Ok(text)
+}
+
+/// The name of a variable: not empty, without `=` and byte 0.
+pub fn variable(alloc: Global, value: &str) -> Result<Text, Problem>
+    ensures { LineGives result (variable value.now) }
+{
+    if value.as_bytes().contains(&b'=') {
+        return Err(Problem::BadValue);
+    }
+    let name = filled(alloc, value)?;
+    Ok(name)
+}
+
+/// What stands before and after the first `=` of a value without byte 0.
+pub fn halves(alloc: Global, value: &str) -> Result<(Text, Text), Problem>
+    ensures { LineGives result (halves value.now) }
+{
+    if has_nul(value) {
+        return Err(Problem::BadValue);
+    }
+    match split_at_equals(value) {
+        None => Err(Problem::BadValue),
+        Some((name, rest)) => {
+            let name = Text::from_str(alloc, name)?;
+            let rest = Text::from_str(alloc, rest)?;
+            Ok((name, rest))
+        }
+    }
+}
+
+/// `NAME=VALUE`, with a name that is not empty.
+pub fn named_value(alloc: Global, value: &str) -> Result<(Text, Text), Problem>
+    ensures { LineGives result (named_value value.now) }
+{
+    let (name, rest) = halves(alloc, value)?;
+    if name.as_str().is_empty() {
+        return Err(Problem::BadValue);
+    }
+    Ok((name, rest))
+}
