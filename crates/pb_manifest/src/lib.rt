@@ -9,10 +9,12 @@ pub mod fault;
 pub mod feature;
 pub mod inherited;
 pub mod key;
+pub mod letters;
 pub mod manifest;
 pub mod package;
 pub mod profile;
 pub mod target;
+mod values;
 pub mod version;
 
 pub use dependency::{Dependency, Source};
