@@ -90,15 +90,18 @@ path_at k ms = optional (path_of k) (value_at k ms)
 abbrev pub texts_at : Key → Members → Read (Option (List Text))
 texts_at k ms = optional (texts_of k) (value_at k ms)
 
+-- the list, empty where none is written
+abbrev pub listed : {A : Type 0} → Option (List A) → List A
+listed found = unwrap_or found []
+
+abbrev pub listed_texts_at : Key → Members → Read (List Text)
+listed_texts_at k ms = texts_at k ms >>= (λ found. Ok (listed found))
+
 abbrev pub paths_at : Key → Members → Read (Option (List Text))
 paths_at k ms = optional (paths_of k) (value_at k ms)
 
 abbrev pub table_at : Key → Members → Read (Option Members)
 table_at k ms = optional (table_of k) (value_at k ms)
-
--- the list, empty where none is written
-abbrev pub listed : {A : Type 0} → Option (List A) → List A
-listed found = unwrap_or found []
 
 -- the table at a key, read by entries; empty where there is none
 abbrev pub entries_of : {A : Type 0} → (Text → Data → Read A) → Option Members → Read (List A)

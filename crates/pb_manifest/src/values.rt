@@ -3,7 +3,7 @@
 ghost use Rattle.std.specs.Prelude.{◌≡◌, option_map, Ok, Err, IfOk, IfErr, is_some};
 ghost use Rattle.toml.specs.Data.{get_member, as_table};
 ghost use Rattle.toml.specs.View.{view, table_view, array_view, items_view};
-ghost use Rattle.pb_manifest.specs.Values.{Gives, value_at, has, each, text_of, truth_of, path_of, texts_of, paths_of, text_at, truth_at, path_at, texts_at, paths_at, table_of, array_of, table_at, takes_workspace, is_taken, inheritable, inherited_text_at, inherited_texts_at};
+ghost use Rattle.pb_manifest.specs.Values.{Gives, value_at, has, each, text_of, truth_of, path_of, texts_of, paths_of, text_at, truth_at, path_at, texts_at, listed_texts_at, paths_at, table_of, array_of, table_at, takes_workspace, is_taken, inheritable, inherited_text_at, inherited_texts_at};
 
 use crate::fault::ManifestFault;
 use crate::inherited::Inherited;
@@ -185,6 +185,20 @@ pub(crate) fn texts_at(
             let texts = texts_of(alloc, value, key)?;
             Ok(Some(texts))
         }
+    }
+}
+
+/// The list of texts at a key, none where the key is not there.
+pub(crate) fn listed_texts_at(
+    alloc: Global,
+    table: &Table,
+    key: Key,
+) -> Result<Items<Text>, ManifestFault>
+    ensures { Gives result (listed_texts_at key (table_view table.now)) }
+{
+    match texts_at(alloc, table, key)? {
+        Some(texts) => Ok(texts),
+        None => Ok(Items::new(alloc)),
     }
 }
 
