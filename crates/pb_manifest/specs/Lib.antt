@@ -1,4 +1,6 @@
 pub mod Binaries
+pub mod Dependencies
+pub mod Features
 pub mod Keys
 pub mod Letters
 pub mod Library
