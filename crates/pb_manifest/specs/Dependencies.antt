@@ -80,9 +80,14 @@ dependency_keys which name ms =
     first_keys which ms >>= (λ a.
     last_keys which ms >>= (λ b.
     Ok record {
-        key = name; source = b.source; «package» = a.package; version = b.version;
-        optional = a.optional; default_features = a.default_features; features = a.features;
-      }))
+      key = name;
+      source = b.source;
+      «package» = a.package;
+      version = b.version;
+      optional = a.optional;
+      default_features = a.default_features;
+      features = a.features;
+    }))
 
 -- an entry that is a version, and so has no path
 abbrev pub version_alone : DependencyTable → Text → Text → Read Dependency
@@ -90,9 +95,14 @@ version_alone which name version =
     refused_where (not (keeps which)) >>= (λ lacking.
     requirement_in version >>= (λ requirement.
     Ok record {
-        key = name; source = Unsupported; «package» = None; version = Some requirement;
-        optional = false; default_features = None; features = [];
-      }))
+      key = name;
+      source = Unsupported;
+      «package» = None;
+      version = Some requirement;
+      optional = false;
+      default_features = None;
+      features = [];
+    }))
 
 abbrev pub dependency_from : DependencyTable → Text → Option Text → Option Members → Read Dependency
 dependency_from which name (Some version) found = version_alone which name version
@@ -100,7 +110,7 @@ dependency_from which name None (Some ms) = dependency_keys which name ms
 dependency_from which name None None = Err (BadKind (key_of which))
 
 -- an entry: first its key, then what it says
-abbrev pub dependency_of : DependencyTable → Text → Data → Read Dependency
+unfoldable pub dependency_of : DependencyTable → Text → Data → Read Dependency
 dependency_of which name d = if is_name name then dependency_from which name (as_str d) (as_table d) else Err BadName
 
 -- the entries of a table, in byte order of their keys

@@ -59,7 +59,7 @@ abbrev pub feature_items_of : Data → Read (List FeatureItem)
 feature_items_of d = array_of key.Features d >>= each feature_item_of
 
 -- a feature: first its name, then what it lists
-abbrev pub feature_of : Text → Data → Read Feature
+unfoldable pub feature_of : Text → Data → Read Feature
 feature_of name d = if is_feature_name name then (feature_items_of d >>= (λ items. Ok record { name = name; items = items })) else Err BadFeature
 
 -- the features, in byte order of their names

@@ -9,7 +9,9 @@ ghost use Rattle.pb_manifest.specs.Dependencies.{keeps, key_of, refused_where, w
 use crate::fault::ManifestFault;
 use crate::key::Key;
 use crate::letters::is_name;
-use crate::values::{has, listed_texts_at, path_at, table_at, takes_workspace, text_at, truth_at, value_at};
+use crate::values::{
+    has, listed_texts_at, path_at, table_at, takes_workspace, text_at, truth_at, value_at,
+};
 use crate::version::{Requirement, requirement_at};
 use pb_data::{Items, Text};
 use std::alloc::Global;
@@ -119,7 +121,11 @@ fn workspace_at(table: &Table) -> Result<bool, ManifestFault>
 }
 
 /// The keys of an entry from `default-features` to `package`.
-fn first_keys(alloc: Global, which: DependencyTable, table: &Table) -> Result<FirstKeys, ManifestFault>
+fn first_keys(
+    alloc: Global,
+    which: DependencyTable,
+    table: &Table,
+) -> Result<FirstKeys, ManifestFault>
     ensures { Gives result (first_keys which (table_view table.now)) }
 {
     let default_features = truth_at(table, Key::DefaultFeatures)?;
@@ -160,7 +166,11 @@ fn source_of(which: DependencyTable, path: Option<Text>, table: &Table) -> Sourc
 }
 
 /// The keys of an entry from `path` to `workspace`.
-fn last_keys(alloc: Global, which: DependencyTable, table: &Table) -> Result<LastKeys, ManifestFault>
+fn last_keys(
+    alloc: Global,
+    which: DependencyTable,
+    table: &Table,
+) -> Result<LastKeys, ManifestFault>
     ensures { Gives result (last_keys which (table_view table.now)) }
 {
     let path = path_at(alloc, table, Key::Path)?;
@@ -175,7 +185,12 @@ fn last_keys(alloc: Global, which: DependencyTable, table: &Table) -> Result<Las
 }
 
 /// An entry that is a table.
-fn dependency_keys(alloc: Global, which: DependencyTable, name: &str, table: &Table) -> Result<Dependency, ManifestFault>
+fn dependency_keys(
+    alloc: Global,
+    which: DependencyTable,
+    name: &str,
+    table: &Table,
+) -> Result<Dependency, ManifestFault>
     ensures { Gives result (dependency_keys which name.now (table_view table.now)) }
 {
     let first = first_keys(alloc, which, table)?;
@@ -193,7 +208,12 @@ fn dependency_keys(alloc: Global, which: DependencyTable, name: &str, table: &Ta
 }
 
 /// An entry that is a version, and so has no path.
-fn version_alone(alloc: Global, which: DependencyTable, name: &str, version: &str) -> Result<Dependency, ManifestFault>
+fn version_alone(
+    alloc: Global,
+    which: DependencyTable,
+    name: &str,
+    version: &str,
+) -> Result<Dependency, ManifestFault>
     ensures { Gives result (version_alone which name.now version.now) }
 {
     let _lacking = refused_where(!which.keeps())?;
@@ -211,7 +231,13 @@ fn version_alone(alloc: Global, which: DependencyTable, name: &str, version: &st
 }
 
 /// An entry.
-fn dependency_of(alloc: Global, which: DependencyTable, name: &str, value: &Value) -> Result<Dependency, ManifestFault>
+#[tactic(auto, unfolding(crate::specs::Dependencies::dependency_of))]
+fn dependency_of(
+    alloc: Global,
+    which: DependencyTable,
+    name: &str,
+    value: &Value,
+) -> Result<Dependency, ManifestFault>
     ensures { Gives result (dependency_of which name.now (view value.now)) }
 {
     if !is_name(name) {
@@ -231,7 +257,11 @@ fn dependency_of(alloc: Global, which: DependencyTable, name: &str, value: &Valu
 }
 
 /// The entries of a table, in byte order of their keys.
-fn each_dependency(alloc: Global, which: DependencyTable, table: &Table) -> Result<Items<Dependency>, ManifestFault>
+fn each_dependency(
+    alloc: Global,
+    which: DependencyTable,
+    table: &Table,
+) -> Result<Items<Dependency>, ManifestFault>
     ensures { Gives result (each_entry (dependency_of which) (table_view table.now)) }
 {
     let mut dependencies = Items::new(alloc);
@@ -242,7 +272,11 @@ fn each_dependency(alloc: Global, which: DependencyTable, table: &Table) -> Resu
 }
 
 /// The entries of one of the tables of dependencies; none where the table is not there.
-pub(crate) fn dependencies_at(alloc: Global, which: DependencyTable, table: &Table) -> Result<Items<Dependency>, ManifestFault>
+pub(crate) fn dependencies_at(
+    alloc: Global,
+    which: DependencyTable,
+    table: &Table,
+) -> Result<Items<Dependency>, ManifestFault>
     ensures { Gives result (dependencies_at which (table_view table.now)) }
 {
     match table_at(table, which.key())? {

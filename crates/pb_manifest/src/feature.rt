@@ -112,7 +112,12 @@ fn item_of(alloc: Global, name: &str, feature: &str) -> Result<FeatureItem, Mani
 }
 
 /// The item `N?/F`, where nothing stands between `?` and `/`.
-fn item_of_enabled(alloc: Global, name: &str, between: &str, feature: &str) -> Result<FeatureItem, ManifestFault>
+fn item_of_enabled(
+    alloc: Global,
+    name: &str,
+    between: &str,
+    feature: &str,
+) -> Result<FeatureItem, ManifestFault>
     ensures { Gives result (item_of_enabled name.now between.now feature.now) }
 {
     if !between.is_empty() || !is_name(name) || !is_feature_name(feature) {
@@ -179,6 +184,7 @@ fn each_feature_item(alloc: Global, values: &[Value]) -> Result<Items<FeatureIte
 }
 
 /// A feature.
+#[tactic(auto, unfolding(crate::specs::Features::feature_of))]
 fn feature_of(alloc: Global, name: &str, value: &Value) -> Result<Feature, ManifestFault>
     ensures { Gives result (feature_of name.now (view value.now)) }
 {
