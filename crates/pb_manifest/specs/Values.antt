@@ -27,6 +27,10 @@ Read A = Result A ManifestFault
 abbrev pub Gives : {A : Type 0} → Read A → Read A → Type 0
 Gives result answer = answers.Gives OutOfMemory (λ x. x) result answer
 
+-- the result shows this answer, unless memory ran out
+abbrev pub GivesAs : {T A : Type 0} → (T → A) → Read T → Read A → Type 0
+GivesAs shows result answer = answers.Gives OutOfMemory shows result answer
+
 -- the value at a key
 abbrev pub value_at : Key → Members → Option Data
 value_at k ms = get_member (spelled k) ms

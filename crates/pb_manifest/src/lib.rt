@@ -5,6 +5,7 @@
 #![tactic(auto)]
 
 pub mod dependency;
+pub mod document;
 pub mod fault;
 pub mod feature;
 pub mod inherited;
@@ -16,8 +17,10 @@ pub mod profile;
 pub mod target;
 mod values;
 pub mod version;
+mod workspace;
 
 pub use dependency::{Dependency, Source};
+pub use document::{GREATEST_LENGTH, read_manifest};
 pub use fault::ManifestFault;
 pub use feature::{Feature, FeatureItem};
 pub use inherited::Inherited;
