@@ -14,6 +14,7 @@ pub mod letters;
 pub mod manifest;
 pub mod package;
 pub mod profile;
+mod profile_values;
 pub mod target;
 mod values;
 pub mod version;
