@@ -3,6 +3,7 @@ pub mod Dependencies
 pub mod Document
 pub mod Features
 pub mod Keys
+pub mod Laws
 pub mod Letters
 pub mod Library
 pub mod Package

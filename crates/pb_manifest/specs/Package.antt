@@ -120,25 +120,29 @@ last_keys ms =
     inherited_version_at ms >>= (λ version.
     Ok record { readme = readme; repository = repository; rust_version = rust_version; version = version })))))
 
+-- all of them
+abbrev pub package_from : FirstKeys → MiddleKeys → LastKeys → Package
+package_from a b c = record {
+  authors = a.authors;
+  autobins = a.autobins;
+  build = a.build;
+  description = a.description;
+  edition = a.edition;
+  homepage = b.homepage;
+  license = b.license;
+  license_file = b.license_file;
+  links = b.links;
+  name = b.name;
+  readme = c.readme;
+  repository = c.repository;
+  rust_version = c.rust_version;
+  version = c.version;
+}
+
 -- the keys of `[package]`, in byte order
 abbrev pub package_of : Members → Read Package
 package_of ms =
-    first_keys ms >>= (λ a.
-    middle_keys ms >>= (λ b.
-    last_keys ms >>= (λ c.
-    Ok record {
-      authors = a.authors;
-      autobins = a.autobins;
-      build = a.build;
-      description = a.description;
-      edition = a.edition;
-      homepage = b.homepage;
-      license = b.license;
-      license_file = b.license_file;
-      links = b.links;
-      name = b.name;
-      readme = c.readme;
-      repository = c.repository;
-      rust_version = c.rust_version;
-      version = c.version;
-    })))
+    first_keys ms >>= (λ first.
+    middle_keys ms >>= (λ middle.
+    last_keys ms >>= (λ last.
+    Ok (package_from first middle last))))

@@ -10,6 +10,7 @@ pub mod fault;
 pub mod feature;
 pub mod inherited;
 pub mod key;
+pub mod laws;
 pub mod letters;
 pub mod manifest;
 pub mod package;

@@ -10,7 +10,9 @@ ghost use Rattle.pb_manifest.specs.declared.key.Key.TheVariants as key;
 use crate::fault::ManifestFault;
 use crate::key::Key;
 use crate::letters::is_name;
-use crate::profile_values::{codegen_units_at, debug_at, lto_at, opt_level_at, panic_at, strip_at, truth_at};
+use crate::profile_values::{
+    codegen_units_at, debug_at, lto_at, opt_level_at, panic_at, strip_at, truth_at,
+};
 use crate::values::value_at;
 use pb_data::{Items, Text};
 use std::alloc::Global;

@@ -218,4 +218,3 @@ pub(crate) fn truth_at(table: &Table, key: Key) -> Result<Option<bool>, Manifest
         },
     }
 }
-
