@@ -3,9 +3,10 @@
 mod cases;
 mod show;
 
-use crate::{GREATEST_LENGTH, ManifestFault, read_manifest};
+use crate::{ManifestFault, read_manifest};
 use cases::CASES;
 use show::shown;
+use std::alloc::Global;
 use std::test::Fail;
 
 #[test]
@@ -23,20 +24,28 @@ fn manifests(rt: HostRuntime) -> Result<(), Fail> {
     Ok(())
 }
 
-#[test]
-fn sizes(rt: HostRuntime) -> Result<(), Fail> {
-    let mut bytes = Vec::new(rt.alloc());
-    for _ in 0..GREATEST_LENGTH {
+/// The answer to as many line feeds.
+fn answer_to_blank(alloc: Global, length: usize) -> Result<String, Fail> {
+    let mut bytes = Vec::new(alloc);
+    for _ in 0..length {
         bytes.push(b'\n')?;
     }
-    let answer = shown(rt.alloc(), &read_manifest(rt.alloc(), bytes.as_slice()))?;
-    assert_eq!(rt; answer.as_str(), "BadKind(Package)");
-    bytes.push(b'\n')?;
-    let answer = shown(rt.alloc(), &read_manifest(rt.alloc(), bytes.as_slice()))?;
-    assert_eq!(rt; answer.as_str(), "TooLarge");
-    for wrong in [b"name = \"\xff\"".as_slice(), b"\x00", b"\xef\xbb"] {
-        let answer = read_manifest(rt.alloc(), wrong);
-        assert!(rt; answer.is_err_and(|fault| fault == ManifestFault::NotToml));
+    shown(alloc, &read_manifest(alloc, bytes.as_slice()))
+}
+
+#[test]
+fn sizes(rt: HostRuntime) -> Result<(), Fail> {
+    for (length, want) in [(1_048_576, "BadKind(Package)"), (1_048_577, "TooLarge")] {
+        let answer = answer_to_blank(rt.alloc(), length)?;
+        assert_eq!(rt; answer.as_str(), want);
     }
     Ok(())
+}
+
+#[test]
+fn bytes_that_are_no_text(rt: HostRuntime) {
+    for bytes in [b"name = \"\xff\"".as_slice(), b"\x00", b"\xef\xbb"] {
+        let answer = read_manifest(rt.alloc(), bytes);
+        assert!(rt; answer.is_err_and(|fault| fault == ManifestFault::NotToml));
+    }
 }
