@@ -1,0 +1,5 @@
+pub mod Came
+pub mod Loops
+pub mod Named
+pub mod Tables
+pub mod Zero

@@ -1,0 +1,50 @@
+-- Laws of the reader, each about a definition, in the words of the rules.
+use Rattle.std.specs.Prelude.{◌≡◌, ◌≢◌, ◌<◌, ℕ, List, [], ◌∷◌, if◌then◌else◌, length, codes, Option, Some, None, Result, Ok, Err}
+use Rattle.toml.specs.Data.{Data, Items, no_items, item, Members, no_members, member, same_key}
+use Rattle.pb_manifest.specs.Keys.{spelled}
+use Rattle.pb_manifest.specs.Values.{Text, Read, value_at, each}
+use Rattle.pb_manifest.specs.Binaries.{binary_of, binaries_at}
+use Rattle.pb_manifest.specs.Document.{manifest_of, greatest_length}
+use Rattle.pb_manifest.specs.Package.{package_of}
+use Rattle.pb_manifest.specs.declared.key.Key.{Key}
+use Rattle.pb_manifest.specs.declared.key.Key.TheVariants as key
+use Rattle.pb_manifest.specs.declared.fault.ManifestFault.TheVariants.{TooLarge}
+use Rattle.pb_manifest.specs.declared.inherited.Inherited.TheVariants.{Written}
+use Rattle.pb_manifest.specs.declared.package.Edition.TheVariants.{E2015}
+use Rattle.pb_manifest.specs.declared.package.Package.{Package}
+use Rattle.pb_manifest.specs.declared.target.Binary.{Binary}
+
+-- no rule names the key
+abbrev pub IsUnnamed : Text → Type 0
+IsUnnamed name = (k : Key) → spelled k ≢ name
+
+-- a table with one key left out
+unfoldable pub without : Text → Members → Members
+without name no_members = no_members
+without name (member l d ms) = if same_key name l then without name ms else member l d (without name ms)
+
+-- a key that no rule names never changes the answer
+abbrev pub PassesOver : {A : Type 0} → (Members → Read A) → Type 0
+PassesOver read = (name : Text) (ms : Members) → IsUnnamed name → read (without name ms) ≡ read ms
+
+-- a manifest over the size is refused, whatever it says
+abbrev pub RefusesLarge : Type 0
+RefusesLarge = (bytes : List ℕ) → greatest_length < length bytes → manifest_of bytes ≡ Err TooLarge
+
+-- the edition and the version of a package that writes none
+abbrev pub DefaultEdition : Type 0
+DefaultEdition = (ms : Members) (p : Package) → value_at key.Edition ms ≡ None → package_of ms ≡ Ok p → p.edition ≡ Written E2015
+
+abbrev pub DefaultVersion : Type 0
+DefaultVersion = (ms : Members) (p : Package) → value_at key.Version ms ≡ None → package_of ms ≡ Ok p → p.version ≡ Written (codes "0.0.0")
+
+-- what is read of the values of a list, one for one and in its order
+abbrev pub AreReadInOrder : {A : Type 0} → (Data → Read A) → Items → List A → Type 0
+AreReadInOrder read no_items [] = Unit {0}
+AreReadInOrder read no_items (x ∷ xs) = ⊥
+AreReadInOrder read (item d ds) [] = ⊥
+AreReadInOrder read (item d ds) (x ∷ xs) = (read d ≡ Ok x) × AreReadInOrder read ds xs
+
+-- the binaries are those of the list, in its order
+abbrev pub KeepsOrder : Type 0
+KeepsOrder = (ds : Items) (binaries : List Binary) → each binary_of ds ≡ Ok binaries → AreReadInOrder binary_of ds binaries

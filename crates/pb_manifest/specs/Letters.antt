@@ -1,0 +1,44 @@
+-- The letters of names (The Cargo Book, Manifest Format and Features).
+use Rattle.std.specs.Prelude.{ℕ, List, [], ◌∷◌, Bool, true, false, not, ◌&&◌, ◌||◌, ◌==◌, nat_le, length, map, if◌then◌else◌}
+use Rattle.std.specs.List.{list_all, list_any}
+
+-- an ASCII letter or digit
+abbrev pub is_alphanumeric : ℕ → Bool
+is_alphanumeric b = (nat_le 97 b && nat_le b 122) || (nat_le 65 b && nat_le b 90) || (nat_le 48 b && nat_le b 57)
+
+-- a byte of a package's name: a letter, a digit, `-` or `_`
+unfoldable pub is_name_byte : ℕ → Bool
+is_name_byte b = is_alphanumeric b || b == 45 || b == 95
+
+-- a name of the letters of package names, not empty
+unfoldable pub is_name : List ℕ → Bool
+is_name text = not (length text == 0) && list_all is_name_byte text
+
+-- a byte of a crate's name: a letter, a digit or `_`
+unfoldable pub is_crate_name_byte : ℕ → Bool
+is_crate_name_byte b = is_alphanumeric b || b == 95
+
+-- the name of a crate
+unfoldable pub is_crate_name : List ℕ → Bool
+is_crate_name text = not (length text == 0) && list_all is_crate_name_byte text
+
+-- a byte of a feature's name after the first: a letter, a digit, `_`, `-`, `+` or `.`
+unfoldable pub is_feature_byte : ℕ → Bool
+is_feature_byte b = is_alphanumeric b || b == 95 || b == 45 || b == 43 || b == 46
+
+-- the name of a feature
+unfoldable pub is_feature_name : List ℕ → Bool
+is_feature_name [] = false
+is_feature_name (b ∷ bs) = is_crate_name_byte b && list_all is_feature_byte bs
+
+-- the text holds byte 0
+unfoldable pub has_zero : List ℕ → Bool
+has_zero text = list_any (λ b. b == 0) text
+
+-- `_` for `-`
+abbrev pub underscored_byte : ℕ → ℕ
+underscored_byte b = if b == 45 then 95 else b
+
+-- a package's name as the name of its library: `_` for each `-`
+unfoldable pub underscored : List ℕ → List ℕ
+underscored name = map underscored_byte name

@@ -1,0 +1,13 @@
+pub mod Binaries
+pub mod Dependencies
+pub mod Document
+pub mod Features
+pub mod Keys
+pub mod Laws
+pub mod Letters
+pub mod Library
+pub mod Package
+pub mod Profiles
+pub mod Values
+pub mod Versions
+pub mod Workspace

@@ -1,0 +1,42 @@
+-- Versions and requirements of Semantic Versioning 2.0.0: the texts that `semver` reads.
+use Rattle.std.specs.Prelude.{ℕ, List, Bool, if◌then◌else◌, Option, Some, None, Ok, Err, is_ok, codes}
+use Rattle.semver.specs.Parse.{version_parts, req_of}
+use Rattle.toml.specs.Data.{Data, Members}
+use Rattle.pb_data.specs.Gives.{◌>>=◌}
+use Rattle.pb_manifest.specs.Values.{Text, Read, text_of, optional, value_at, inheritable}
+use Rattle.pb_manifest.specs.declared.key.Key.TheVariants as key
+use Rattle.pb_manifest.specs.declared.fault.ManifestFault.TheVariants.{BadVersion}
+use Rattle.pb_manifest.specs.declared.inherited.Inherited.{Inherited}
+use Rattle.pb_manifest.specs.declared.inherited.Inherited.TheVariants.{Written}
+
+unfoldable pub is_version : List ℕ → Bool
+is_version text = is_ok (version_parts text)
+
+unfoldable pub is_requirement : List ℕ → Bool
+is_requirement text = is_ok (req_of text)
+
+abbrev pub version_in : Text → Read Text
+version_in text = if is_version text then Ok text else Err BadVersion
+
+abbrev pub requirement_in : Text → Read Text
+requirement_in text = if is_requirement text then Ok text else Err BadVersion
+
+abbrev pub version_of : Data → Read Text
+version_of d = text_of key.Version d >>= version_in
+
+abbrev pub requirement_of : Data → Read Text
+requirement_of d = text_of key.Version d >>= requirement_in
+
+abbrev pub version_at : Members → Read (Option Text)
+version_at ms = optional version_of (value_at key.Version ms)
+
+abbrev pub requirement_at : Members → Read (Option Text)
+requirement_at ms = optional requirement_of (value_at key.Version ms)
+
+-- the version that a package has where none is written
+abbrev pub version_or_zero : Option (Inherited Text) → Inherited Text
+version_or_zero None = Written (codes "0.0.0")
+version_or_zero (Some version) = version
+
+abbrev pub inherited_version_at : Members → Read (Inherited Text)
+inherited_version_at ms = optional (inheritable key.Version version_of) (value_at key.Version ms) >>= (λ found. Ok (version_or_zero found))

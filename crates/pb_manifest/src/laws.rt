@@ -1,0 +1,48 @@
+//! Laws of the reader's definitions, in the words of the rules. None of these functions does
+//! anything: each states what its contract says.
+
+ghost use Rattle.std.specs.Prelude.{◌≡◌, ◌<◌, ℕ, List};
+ghost use Rattle.pb_manifest.specs.Binaries.{binary_keys};
+ghost use Rattle.pb_manifest.specs.Dependencies.{dependency_keys};
+ghost use Rattle.pb_manifest.specs.Document.{document_of};
+ghost use Rattle.pb_manifest.specs.Laws.{PassesOver, RefusesLarge, DefaultEdition, DefaultVersion, KeepsOrder};
+ghost use Rattle.pb_manifest.specs.Library.{library_of};
+ghost use Rattle.pb_manifest.specs.Package.{package_of};
+ghost use Rattle.pb_manifest.specs.Profiles.{profile_keys, profile_of_table};
+ghost use Rattle.pb_manifest.specs.Values.{Text};
+ghost use Rattle.pb_manifest.specs.Workspace.{workspace_of, workspace_package_of};
+ghost use Rattle.pb_manifest.specs.declared.dependency.DependencyTable.{DependencyTable};
+
+/// In each table with fixed keys, a key that no rule names never changes the answer (The Cargo
+/// Book, Manifest Format: unused keys are warned of, and no more).
+pub fn unnamed_keys_change_nothing()
+    ensures package { PassesOver package_of }
+    ensures library { PassesOver library_of }
+    ensures binary { PassesOver binary_keys }
+    ensures dependency { (which : DependencyTable) (name : Text) → PassesOver (dependency_keys which name) }
+    ensures profile { (name : Text) → PassesOver (profile_of_table name) }
+    ensures settings { PassesOver profile_keys }
+    ensures workspace { PassesOver workspace_of }
+    ensures inherited { PassesOver workspace_package_of }
+    ensures document { PassesOver document_of }
+{}
+
+/// A manifest over the size is refused, whatever it says.
+pub fn large_manifests_are_refused()
+    ensures { RefusesLarge }
+{}
+
+/// A package that writes no edition has 2015.
+pub fn default_edition()
+    ensures { DefaultEdition }
+{}
+
+/// A package that writes no version has 0.0.0.
+pub fn default_version()
+    ensures { DefaultVersion }
+{}
+
+/// The binaries of `[[bin]]` are those of the list, one for one and in its order.
+pub fn binaries_keep_their_order()
+    ensures { KeepsOrder }
+{}
