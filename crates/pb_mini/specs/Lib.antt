@@ -4,3 +4,4 @@ pub mod Compile
 pub mod DepInfo
 pub mod Diagnostics
 pub mod Effects
+pub mod Honesty

@@ -7,6 +7,7 @@ pub mod compile;
 pub mod dep_info;
 pub mod diagnostic;
 pub mod effects;
+pub mod laws;
 pub mod mini;
 
 pub use mini::{Mini, answer};
