@@ -11,3 +11,8 @@ pub mod laws;
 pub mod mini;
 
 pub use mini::{Mini, answer};
+
+#[cfg(test)]
+mod tests;
+#[cfg(test)]
+mod tests_view;
