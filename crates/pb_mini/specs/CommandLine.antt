@@ -1,0 +1,112 @@
+-- What the words of a compile say.
+use Rattle.std.specs.Prelude.{ℕ, nat_eq, Bool, ◌||◌, if◌then◌else◌, codes, List, [], ◌∷◌, ◌++◌, Option, Some, None, Result, Ok, Err}
+use Rattle.std.specs.List.{list_any, starts_with}
+use Rattle.std.specs.Str.{bytes_eq}
+use Rattle.pb_data.specs.Gives.{◌>>=◌, some_or}
+use Rattle.pb_place.specs.Paths.{is_relative, parsed}
+use Rattle.pb_mini.specs.declared.command_line.Role.{Role}
+use Rattle.pb_mini.specs.declared.command_line.Role.TheVariants.{CrateName, CrateType, OutDir, Source, Unused}
+use Rattle.pb_mini.specs.declared.command_line.CrateType as kind
+use Rattle.pb_mini.specs.declared.command_line.CrateType.TheVariants.{Bin, Lib}
+use Rattle.pb_mini.specs.declared.command_line.Arguments.{Arguments}
+use Rattle.pb_mini.specs.declared.command_line.CommandLine.{CommandLine}
+use Rattle.pb_mini.specs.declared.command_line.CommandLineFault.{CommandLineFault}
+use Rattle.pb_mini.specs.declared.command_line.CommandLineFault.TheVariants.{Bad}
+use Rattle.pb_place.specs.declared.path.PathFault.{PathFault}
+
+-- the options whose value is the next word
+abbrev pub takes_value : List ℕ → Bool
+takes_value word =
+    bytes_eq word (codes "--crate-name") || bytes_eq word (codes "--crate-type") || bytes_eq word (codes "--out-dir")
+    || bytes_eq word (codes "-C") || bytes_eq word (codes "--cfg") || bytes_eq word (codes "--check-cfg")
+    || bytes_eq word (codes "--extern") || bytes_eq word (codes "-L") || bytes_eq word (codes "-l")
+
+-- what the value of an option is for
+abbrev pub role_of : List ℕ → Role
+role_of option =
+    if bytes_eq option (codes "--crate-name") then CrateName
+    else if bytes_eq option (codes "--crate-type") then CrateType
+    else if bytes_eq option (codes "--out-dir") then OutDir
+    else Unused
+
+-- a word that says all by itself, and is passed over
+abbrev pub is_setting : List ℕ → Bool
+is_setting word = starts_with nat_eq word (codes "--edition=") || starts_with nat_eq word (codes "--error-format=") || starts_with nat_eq word (codes "--emit=")
+
+-- what a word is for that neither takes a value nor is one
+abbrev pub role_alone : List ℕ → Role
+role_alone word = if is_setting word then Unused else Source
+
+abbrev pub no_arguments : Arguments
+no_arguments = record { crate_names = []; crate_types = []; out_dirs = []; sources = [] }
+
+-- one value more, before the others
+abbrev pub with_value : Role → List ℕ → Arguments → Arguments
+with_value CrateName value said = record said { crate_names = value ∷ said.crate_names }
+with_value CrateType value said = record said { crate_types = value ∷ said.crate_types }
+with_value OutDir value said = record said { out_dirs = value ∷ said.out_dirs }
+with_value Source value said = record said { sources = value ∷ said.sources }
+with_value Unused value said = said
+
+-- those of some words, and then those of the words after them
+abbrev pub joined : Arguments → Arguments → Arguments
+joined a b = record { crate_names = a.crate_names ++ b.crate_names; crate_types = a.crate_types ++ b.crate_types; out_dirs = a.out_dirs ++ b.out_dirs; sources = a.sources ++ b.sources }
+
+abbrev pub after : Arguments → Result Arguments CommandLineFault → Result Arguments CommandLineFault
+after said more = more >>= (λ rest. Ok (joined said rest))
+
+-- the values of some words; the first is the value of an option where one waits for its value
+abbrev pub arguments_after : Option Role → List (List ℕ) → Result Arguments CommandLineFault
+arguments_after None [] = Ok no_arguments
+arguments_after (Some role) [] = Err Bad
+arguments_after (Some role) (value ∷ words) = arguments_after None words >>= (λ rest. Ok (with_value role value rest))
+arguments_after None (word ∷ words) =
+    if takes_value word then arguments_after (Some (role_of word)) words
+    else (arguments_after None words >>= (λ rest. Ok (with_value (role_alone word) word rest)))
+
+-- what stands once
+abbrev pub only : List (List ℕ) → Result (List ℕ) CommandLineFault
+only [] = Err Bad
+only (value ∷ []) = Ok value
+only (value ∷ other ∷ more) = Err Bad
+
+-- the first of what stands at least once
+abbrev pub first : List (List ℕ) → Result (List ℕ) CommandLineFault
+first [] = Err Bad
+first (value ∷ more) = Ok value
+
+abbrev pub crate_type_of : List ℕ → kind.CrateType
+crate_type_of text = if bytes_eq text (codes "bin") then Bin else Lib
+
+-- the names of the two files in the out folder
+abbrev pub image_name : kind.CrateType → List ℕ → List ℕ
+image_name Bin name = name
+image_name Lib name = codes "lib" ++ name ++ codes ".rlib"
+
+abbrev pub dep_info_name : List ℕ → List ℕ
+dep_info_name name = name ++ codes ".d"
+
+-- a file inside the out folder
+abbrev pub file_named : List ℕ → Result (List ℕ) CommandLineFault
+file_named name = if is_relative name then Ok name else Err Bad
+
+-- a folder, which is absolute
+abbrev pub folder_in : Result (List ℕ) PathFault → Result (List ℕ) CommandLineFault
+folder_in (Ok path) = Ok path
+folder_in (Err e) = Err Bad
+
+abbrev pub folder_of : List ℕ → Result (List ℕ) CommandLineFault
+folder_of text = folder_in (parsed text)
+
+-- crate name and out folder stand once, a crate type at least once, and there is one source
+abbrev pub command_line_of : List (List ℕ) → Result CommandLine CommandLineFault
+command_line_of words =
+    arguments_after None words >>= (λ said.
+    only said.crate_names >>= (λ name.
+    first said.crate_types >>= (λ type.
+    only said.out_dirs >>= (λ folder.
+    only said.sources >>= (λ source.
+    file_named (image_name (crate_type_of type) name) >>= (λ image.
+    file_named (dep_info_name name) >>= (λ dep_info.
+    folder_of folder >>= (λ out_dir.
+    Ok record { crate_type = crate_type_of type; crate_name = name; image = image; dep_info = dep_info; out_dir = out_dir; source = source }))))))))

@@ -1,0 +1,31 @@
+-- The dep-info file: what a compile read, spelled.
+use Rattle.std.specs.Prelude.{ℕ, ◌==◌, if◌then◌else◌, codes, List, [], ◌∷◌, ◌++◌, Option, Some, None}
+use Rattle.pb_mini.specs.declared.dep_info.Variable.{Variable}
+use Rattle.pb_mini.specs.declared.dep_info.Names.{Names}
+
+-- a path, with `\ ` for each space
+abbrev pub spelled : List ℕ → List ℕ
+spelled [] = []
+spelled (b ∷ bs) = if b == 32 then 92 ∷ 32 ∷ spelled bs else b ∷ spelled bs
+
+-- each path after a space
+abbrev pub paths_text : List (List ℕ) → List ℕ
+paths_text [] = []
+paths_text (path ∷ paths) = 32 ∷ spelled path ++ paths_text paths
+
+-- a value after an equals sign, and nothing for a variable that is not set
+abbrev pub value_text : Option (List ℕ) → List ℕ
+value_text None = []
+value_text (Some value) = 61 ∷ value
+
+-- `# env-dep:NAME` or `# env-dep:NAME=VALUE`, and a line feed
+abbrev pub variable_text : Variable → List ℕ
+variable_text v = codes "# env-dep:" ++ v.name ++ value_text v.value ++ 10 ∷ []
+
+abbrev pub variables_text : List Variable → List ℕ
+variables_text [] = []
+variables_text (v ∷ vs) = variable_text v ++ variables_text vs
+
+-- `OUTPUT: PATHS` and a line feed, then the variables
+abbrev pub dep_info_text : List ℕ → Names → List ℕ
+dep_info_text output names = spelled output ++ 58 ∷ paths_text names.paths ++ 10 ∷ variables_text names.variables

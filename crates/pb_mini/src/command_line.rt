@@ -1,0 +1,293 @@
+//! The words of a compile.
+
+ghost use Rattle.std.specs.Prelude.{◌≡◌, Ok, None, IfOk, OnOk, List, ◌∷◌, ℕ};
+ghost use Rattle.pb_data.specs.Gives.{Gives};
+ghost use Rattle.pb_mini.specs.CommandLine.{takes_value, role_of, role_alone, with_value, joined, arguments_after, after, no_arguments, only, first, crate_type_of, image_name, dep_info_name, file_named, folder_of, command_line_of};
+ghost use Rattle.pb_mini.specs.declared.command_line.CommandLineFault.TheVariants as fault;
+ghost use Rattle.pb_mini.specs.declared.command_line.Arguments.{Arguments};
+
+use pb_data::{Items, Text, TryCopy};
+use pb_place::{PathFault, PathText, RelativePath};
+use std::alloc::{AllocError, AllocFailed, Global};
+use thiserror::Error;
+
+/// Why words are no compile.
+#[derive(Clone, Copy, Debug, PartialEq, Eq, Error)]
+pub enum CommandLineFault {
+    /// The words are none that the small compiler knows.
+    #[error("bad command line")]
+    Bad,
+    /// Memory was refused.
+    #[error("out of memory")]
+    OutOfMemory,
+}
+
+impl From<AllocError> for CommandLineFault {
+    ghost from_gives = { λ _ e. e ≡ fault.OutOfMemory };
+
+    fn from(_: AllocError) -> Self {
+        CommandLineFault::OutOfMemory
+    }
+}
+
+impl<T: Drop> From<AllocFailed<T>> for CommandLineFault {
+    ghost from_gives = { λ _ e. e ≡ fault.OutOfMemory };
+
+    fn from(_: AllocFailed<T>) -> Self {
+        CommandLineFault::OutOfMemory
+    }
+}
+
+/// What a word of the command line is for.
+#[derive(Clone, Copy, Debug)]
+pub enum Role {
+    /// The name of the crate.
+    CrateName,
+    /// A type of the crate.
+    CrateType,
+    /// The folder into which files are written.
+    OutDir,
+    /// The file that is compiled.
+    Source,
+    /// Nothing: the small compiler passes it over.
+    Unused,
+}
+
+/// What a compile makes.
+#[derive(Clone, Copy, Debug)]
+pub enum CrateType {
+    /// A program.
+    Bin,
+    /// A library, of whatever type.
+    Lib,
+}
+
+/// The values of a command line by what they are for, each list in the order of the words.
+#[derive(Debug, Drop)]
+pub struct Arguments {
+    /// Those after `--crate-name`.
+    pub crate_names: Items<Text>,
+    /// Those after `--crate-type`.
+    pub crate_types: Items<Text>,
+    /// Those after `--out-dir`.
+    pub out_dirs: Items<Text>,
+    /// The words that are no option and no value of one.
+    pub sources: Items<Text>,
+}
+
+/// A compile, as its words say it.
+#[derive(Debug, Drop)]
+pub struct CommandLine {
+    /// What is made, as the first crate type says.
+    pub crate_type: CrateType,
+    /// The name of the crate.
+    pub crate_name: Text,
+    /// The file of the image inside `out_dir`: the crate name for a program, else `libNAME.rlib`. Our own choice,
+    /// after the names of a real compiler.
+    pub image: RelativePath,
+    /// The file of the dep-info inside `out_dir`: `NAME.d`.
+    pub dep_info: RelativePath,
+    /// The folder into which files are written.
+    pub out_dir: PathText,
+    /// The source, as written.
+    pub source: Text,
+}
+
+/// Whether the next word is the value of this one.
+pub fn takes_value(word: &str) -> bool
+    ensures { result ≡ takes_value word.now }
+{
+    word == "--crate-name"
+        || word == "--crate-type"
+        || word == "--out-dir"
+        || word == "-C"
+        || word == "--cfg"
+        || word == "--check-cfg"
+        || word == "--extern"
+        || word == "-L"
+        || word == "-l"
+}
+
+/// What the value of an option is for.
+pub fn role_of(option: &str) -> Role
+    ensures { result ≡ role_of option.now }
+{
+    if option == "--crate-name" {
+        return Role::CrateName;
+    }
+    if option == "--crate-type" {
+        return Role::CrateType;
+    }
+    if option == "--out-dir" {
+        return Role::OutDir;
+    }
+    Role::Unused
+}
+
+/// What a word is for that neither takes a value nor is one.
+pub fn role_alone(word: &str) -> Role
+    ensures { result ≡ role_alone word.now }
+{
+    if word.as_bytes().starts_with(b"--edition=")
+        || word.as_bytes().starts_with(b"--error-format=")
+        || word.as_bytes().starts_with(b"--emit=")
+    {
+        return Role::Unused;
+    }
+    Role::Source
+}
+
+/// Files one value more by what it is for.
+fn add_value(said: &mut Arguments, role: Role, value: Text) -> Result<(), AllocError>
+    ensures { OnOk result ((rest : Arguments) → joined said.new rest ≡ joined said.old (with_value role value rest)) }
+{
+    match role {
+        Role::CrateName => said.crate_names.push(value)?,
+        Role::CrateType => said.crate_types.push(value)?,
+        Role::OutDir => said.out_dirs.push(value)?,
+        Role::Source => said.sources.push(value)?,
+        Role::Unused => {}
+    }
+    Ok(())
+}
+
+/// Takes one word: the value of an option that waits for one, an option, or a word alone. What comes back is
+/// what the next word's value is for, where this one waits for it.
+fn take_word(
+    alloc: Global,
+    said: &mut Arguments,
+    waiting: Option<Role>,
+    word: &Text,
+) -> Result<Option<Role>, AllocError>
+    ensures { IfOk result (λ next. (words : List (List ℕ)) → after said.new (arguments_after next words) ≡ after said.old (arguments_after waiting (word.now ∷ words))) }
+{
+    if let Some(role) = waiting {
+        add_value(said, role, word.copy(alloc)?)?;
+        return Ok(None);
+    }
+    if takes_value(word.as_str()) {
+        return Ok(Some(role_of(word.as_str())));
+    }
+    add_value(said, role_alone(word.as_str()), word.copy(alloc)?)?;
+    Ok(None)
+}
+
+/// The values of the words. Bad where an option stands last, without its value.
+#[tactic(auto, using(crate::proofs::Words::after_nothing))]
+fn arguments_of(alloc: Global, words: &[Text]) -> Result<Arguments, CommandLineFault>
+    ensures { Gives fault.OutOfMemory (λ said. said) result (arguments_after None words.now) }
+{
+    let mut said = Arguments {
+        crate_names: Items::new(alloc),
+        crate_types: Items::new(alloc),
+        out_dirs: Items::new(alloc),
+        sources: Items::new(alloc),
+    };
+    let mut waiting = None;
+    for word in words {
+        waiting = take_word(alloc, &mut said, waiting, word)?;
+    }
+    if waiting.is_some() {
+        return Err(CommandLineFault::Bad);
+    }
+    Ok(said)
+}
+
+/// What stands once. Bad where it stands not at all, or again.
+fn only(alloc: Global, values: &[Text]) -> Result<Text, CommandLineFault>
+    ensures { Gives fault.OutOfMemory (λ value. value) result (only values.now) }
+{
+    match values {
+        [value] => {
+            let value = value.copy(alloc)?;
+            Ok(value)
+        }
+        _ => Err(CommandLineFault::Bad),
+    }
+}
+
+/// The first of what stands at least once. Bad where it does not stand.
+fn first(values: &[Text]) -> Result<&Text, CommandLineFault>
+    ensures { Gives fault.OutOfMemory (λ value. value.now) result (first values.now) }
+{
+    match values {
+        [value, ..] => Ok(value),
+        [] => Err(CommandLineFault::Bad),
+    }
+}
+
+/// What is made, as a crate type says.
+fn crate_type_of(text: &str) -> CrateType
+    ensures { result ≡ crate_type_of text.now }
+{
+    if text == "bin" {
+        CrateType::Bin
+    } else {
+        CrateType::Lib
+    }
+}
+
+/// The name of the image's file.
+fn image_name(alloc: Global, crate_type: CrateType, name: &str) -> Result<Text, AllocError>
+    ensures { IfOk result (λ file. file ≡ image_name crate_type name.now) }
+{
+    let text = match crate_type {
+        CrateType::Bin => String::from_str(alloc, name)?,
+        CrateType::Lib => format!(in alloc; "lib{name}.rlib")?,
+    };
+    Ok(Text::new(text))
+}
+
+/// The name of the dep-info's file.
+fn dep_info_name(alloc: Global, name: &str) -> Result<Text, AllocError>
+    ensures { IfOk result (λ file. file ≡ dep_info_name name.now) }
+{
+    let text = format!(in alloc; "{name}.d")?;
+    Ok(Text::new(text))
+}
+
+/// A file inside the out folder. Bad where the text names none there.
+fn file_named(alloc: Global, name: Text) -> Result<RelativePath, CommandLineFault>
+    ensures { Gives fault.OutOfMemory (λ file. file) result (file_named name) }
+{
+    match RelativePath::new(alloc, name)? {
+        Some(file) => Ok(file),
+        None => Err(CommandLineFault::Bad),
+    }
+}
+
+/// The out folder. Bad where the text is no absolute path.
+fn folder_of(alloc: Global, text: &str) -> Result<PathText, CommandLineFault>
+    ensures { Gives fault.OutOfMemory (λ folder. folder) result (folder_of text.now) }
+{
+    match PathText::parse(alloc, text) {
+        Ok(folder) => Ok(folder),
+        Err(PathFault::OutOfMemory) => Err(CommandLineFault::OutOfMemory),
+        Err(_) => Err(CommandLineFault::Bad),
+    }
+}
+
+/// The compile that words say: `--crate-name` and `--out-dir` once, `--crate-type` at least once, any of the
+/// other options with their values, settings in one word, and one word more, the source. Bad for anything else,
+/// and, by our own choice, for an out folder that is no absolute path and for a crate name that names no files
+/// inside it.
+pub fn command_line_of(alloc: Global, words: &[Text]) -> Result<CommandLine, CommandLineFault>
+    ensures { Gives fault.OutOfMemory (λ line. line) result (command_line_of words.now) }
+{
+    let said = arguments_of(alloc, words)?;
+    let crate_name = only(alloc, said.crate_names.as_slice())?;
+    let crate_type = crate_type_of(first(said.crate_types.as_slice())?.as_str());
+    let folder = only(alloc, said.out_dirs.as_slice())?;
+    let source = only(alloc, said.sources.as_slice())?;
+    let image = file_named(alloc, image_name(alloc, crate_type, crate_name.as_str())?)?;
+    let dep_info = file_named(alloc, dep_info_name(alloc, crate_name.as_str())?)?;
+    let out_dir = folder_of(alloc, folder.as_str())?;
+    Ok(CommandLine {
+        crate_type,
+        crate_name,
+        image,
+        dep_info,
+        out_dir,
+        source,
+    })
+}

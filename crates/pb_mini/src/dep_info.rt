@@ -1,0 +1,90 @@
+//! The dep-info file: what a compile read.
+
+ghost use Rattle.std.specs.Prelude.{◌≡◌, ◌++◌, IfOk, OnOk, ℕ, List};
+ghost use Rattle.pb_mini.specs.DepInfo.{spelled, paths_text, value_text, variable_text, variables_text, dep_info_text};
+
+use pb_data::{Items, Text};
+use pb_place::PathText;
+use std::alloc::{AllocError, Global};
+
+/// A variable that a compile declared.
+#[derive(Debug, Drop)]
+pub struct Variable {
+    /// The variable's name.
+    pub name: Text,
+    /// The value that the compile saw, or none where it was not set.
+    pub value: Option<Text>,
+}
+
+/// The names of all that a compile read, in order of first mention. The small compiler's reply rests on nothing
+/// else that may change, but for the files of other units.
+#[derive(Debug, Drop)]
+pub struct Names {
+    /// Files, also those that were not there.
+    pub paths: Items<PathText>,
+    /// Variables.
+    pub variables: Items<Variable>,
+}
+
+/// Adds a path at the end, with `\ ` for each space.
+fn push_spelled(text: &mut Vec<u8>, path: &str) -> Result<(), AllocError>
+    ensures { OnOk result (text.new.items ≡ text.old.items ++ spelled path.now) }
+{
+    for byte in path.as_bytes() {
+        if *byte == b' ' {
+            text.push(b'\\')?;
+        }
+        text.push(*byte)?;
+    }
+    Ok(())
+}
+
+/// Adds each path at the end, after a space.
+fn push_paths(text: &mut Vec<u8>, paths: &[PathText]) -> Result<(), AllocError>
+    ensures { OnOk result (text.new.items ≡ text.old.items ++ paths_text paths.now) }
+{
+    for path in paths {
+        text.push(b' ')?;
+        push_spelled(text, path.as_str())?;
+    }
+    Ok(())
+}
+
+/// Adds the line of a variable at the end.
+fn push_variable(text: &mut Vec<u8>, variable: &Variable) -> Result<(), AllocError>
+    ensures { OnOk result (text.new.items ≡ text.old.items ++ variable_text variable.now) }
+{
+    text.extend_from_slice(b"# env-dep:")?;
+    text.extend_from_slice(variable.name.as_bytes())?;
+    if let Some(value) = &variable.value {
+        text.push(b'=')?;
+        text.extend_from_slice(value.as_bytes())?;
+    }
+    text.push(b'\n')?;
+    Ok(())
+}
+
+/// Adds the lines of variables at the end.
+fn push_variables(text: &mut Vec<u8>, variables: &[Variable]) -> Result<(), AllocError>
+    ensures { OnOk result (text.new.items ≡ text.old.items ++ variables_text variables.now) }
+{
+    for variable in variables {
+        push_variable(text, variable)?;
+    }
+    Ok(())
+}
+
+/// The dep-info of a compile, in the form that The Cargo Book gives for it in "Build cache": the output, a colon, the
+/// paths with `\ ` for each space, and then a line `# env-dep:NAME=VALUE` for each variable, without `=VALUE`
+/// where it is not set.
+pub fn dep_info_text(alloc: Global, output: &PathText, names: &Names) -> Result<Vec<u8>, AllocError>
+    ensures { IfOk result (λ text. text.items ≡ dep_info_text output.now names.now) }
+{
+    let mut text = Vec::new(alloc);
+    push_spelled(&mut text, output.as_str())?;
+    text.push(b':')?;
+    push_paths(&mut text, names.paths.as_slice())?;
+    text.push(b'\n')?;
+    push_variables(&mut text, names.variables.as_slice())?;
+    Ok(text)
+}

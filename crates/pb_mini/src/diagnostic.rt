@@ -1,0 +1,90 @@
+//! Diagnostics, and how they are written.
+
+ghost use Rattle.std.specs.Prelude.{◌≡◌, ◌++◌, IfOk, OnOk, string_bytes, ℕ, List};
+ghost use Rattle.pb_mini.specs.Diagnostics.{json_string, level_name, diagnostic_text, diagnostics_text, has_error, is_error};
+
+use pb_data::{Items, Text};
+use serde_json::Value;
+use std::alloc::{AllocError, Global};
+
+/// How bad a diagnostic is.
+#[derive(Clone, Copy, Debug)]
+pub enum Level {
+    /// The compile goes on, and is good if nothing else is wrong.
+    Warning,
+    /// The compile fails.
+    Error,
+}
+
+/// What the compiler says of a line.
+#[derive(Debug, Drop)]
+pub struct Diagnostic {
+    /// How bad it is.
+    pub level: Level,
+    /// What is said.
+    pub message: Text,
+    /// The line of the source, from 1; 0 where it is of the whole source.
+    pub line: u64,
+}
+
+/// A text as a JSON string, as `serde_json` writes it.
+fn json_string(alloc: Global, text: &str) -> Result<String, AllocError>
+    ensures { IfOk result (λ json. string_bytes json ≡ json_string text.now) }
+{
+    let value = Value::String(String::from_str(alloc, text)?);
+    value.to_string(alloc)
+}
+
+/// The name of a level.
+fn level_name(level: Level) -> &'static str
+    ensures { result.now ≡ level_name level }
+{
+    match level {
+        Level::Warning => "warning",
+        Level::Error => "error",
+    }
+}
+
+/// Whether this level fails a compile.
+fn is_error(level: Level) -> bool
+    ensures { result ≡ is_error level }
+{
+    match level {
+        Level::Warning => false,
+        Level::Error => true,
+    }
+}
+
+/// A diagnostic as a line of JSON: an object with the keys `level`, `message` and `line`, in this order and
+/// without spaces, and a line feed.
+pub fn diagnostic_text(alloc: Global, diagnostic: &Diagnostic) -> Result<String, AllocError>
+    ensures { IfOk result (λ text. string_bytes text ≡ diagnostic_text diagnostic.now) }
+{
+    let level = level_name(diagnostic.level);
+    let message = json_string(alloc, diagnostic.message.as_str())?;
+    let line = diagnostic.line;
+    let text = format!(in alloc;
+        "{{\"level\":\"{level}\",\"message\":{message},\"line\":{line}}}\n"
+    )?;
+    Ok(text)
+}
+
+/// Diagnostics in turn, a line each.
+pub fn diagnostics_text(alloc: Global, diagnostics: &[Diagnostic]) -> Result<String, AllocError>
+    ensures { IfOk result (λ text. string_bytes text ≡ diagnostics_text diagnostics.now) }
+{
+    let mut text = String::new(alloc);
+    for diagnostic in diagnostics {
+        text.push_str(diagnostic_text(alloc, diagnostic)?.as_str())?;
+    }
+    Ok(text)
+}
+
+/// Whether there is an error among the diagnostics.
+pub fn has_error(diagnostics: &[Diagnostic]) -> bool
+    ensures { result ≡ has_error diagnostics.now }
+{
+    diagnostics
+        .iter()
+        .any(|diagnostic| is_error(diagnostic.level))
+}

@@ -1,0 +1,18 @@
+//! The small compiler: a compiler of one file that stands in for a real one in every session and test. It is a
+//! child like any other, so what it answers says that a child can be honest. Its language is our own.
+#![tactic(auto)]
+
+pub mod command_line;
+pub mod compile;
+pub mod dep_info;
+pub mod diagnostic;
+pub mod effects;
+pub mod laws;
+pub mod mini;
+
+pub use mini::{Mini, answer};
+
+#[cfg(test)]
+mod tests;
+#[cfg(test)]
+mod tests_view;

@@ -1,0 +1,105 @@
+//! The small compiler's answer to any words.
+
+ghost use Rattle.std.specs.Prelude.{◌≡◌, [], IfOk, IfErr};
+ghost use Rattle.pb_mini.specs.Answer.{asks_version, version, bad_command_line, answered};
+
+use crate::command_line::{CommandLineFault, command_line_of};
+use crate::compile::compile;
+use pb_data::{Bytes, Items, Text};
+use pb_place::{Child, Command, Reply, View, ViewFault};
+use std::alloc::{AllocError, Global};
+
+/// Whether the words are `-vV` alone.
+fn asks_version(words: &[Text]) -> bool
+    ensures { result ≡ asks_version words.now }
+{
+    match words {
+        [word] => word.as_str() == "-vV",
+        _ => false,
+    }
+}
+
+/// A reply without files.
+fn said(alloc: Global, status: i32, stdout: &[u8], stderr: &[u8]) -> Result<Reply, AllocError>
+    ensures { IfOk result (λ reply. reply ≡ record { status = status; stdout = stdout.now; stderr = stderr.now; files = [] }) }
+{
+    Ok(Reply {
+        status,
+        stdout: Bytes::from_slice(alloc, stdout)?,
+        stderr: Bytes::from_slice(alloc, stderr)?,
+        files: Items::new(alloc),
+    })
+}
+
+/// The reply to `-vV`.
+fn version(alloc: Global) -> Result<Reply, AllocError>
+    ensures { IfOk result (λ reply. reply ≡ version) }
+{
+    said(alloc, 0, b"mini 0.1.0\nhost: mini-unknown-none\n", b"")
+}
+
+/// The reply to words that say nothing that the small compiler does.
+fn bad_command_line(alloc: Global) -> Result<Reply, AllocError>
+    ensures { IfOk result (λ reply. reply ≡ bad_command_line) }
+{
+    said(alloc, 2, b"", b"mini: bad command line\n")
+}
+
+/// What the small compiler answers to words, where `pairs` go over the variables that the view shows.
+///
+/// `-vV` alone gives its version. Else the words say a compile: an image and dep-info in the out folder, diagnostics
+/// as lines of JSON on standard error, and the status 1 where one of them is an error. Words that say none are
+/// answered with status 2. OutOfMemory where memory is refused, and Failed where the view fails.
+///
+/// The names of the options are those of a real compiler as The Cargo Book's "Build scripts" and "Build cache" name
+/// them; all else of the language is our own choice.
+pub fn answer<V: View>(
+    alloc: Global,
+    words: &[Text],
+    pairs: &[(Text, Text)],
+    view: &V,
+) -> Result<Reply, ViewFault>
+    ensures reply { IfOk result (λ reply. reply ≡ answered words.now pairs.now (V.shown view.now)) }
+    ensures failed { IfErr result (λ e. e ≡ ViewFault.Failed → V.fails view.now) }
+{
+    let _ = pairs;
+    if asks_version(words) {
+        let reply = version(alloc)?;
+        return Ok(reply);
+    }
+    match command_line_of(alloc, words) {
+        Ok(line) => {
+            let reply = compile(alloc, &line, view)?;
+            Ok(reply)
+        }
+        Err(CommandLineFault::Bad) => {
+            let reply = bad_command_line(alloc)?;
+            Ok(reply)
+        }
+        Err(CommandLineFault::OutOfMemory) => Err(ViewFault::OutOfMemory),
+    }
+}
+
+/// The small compiler as a child. Only the words, the pairs and what the view shows count.
+#[derive(Clone, Copy, Debug)]
+pub struct Mini;
+
+impl Child for Mini {
+    ghost use Rattle.pb_mini.specs.Answer.{answered};
+
+    ghost answers = { λ c w. answered c.words c.pairs w };
+
+    fn reply<V: View>(
+        &self,
+        alloc: Global,
+        command: &Command,
+        view: &V,
+    ) -> Result<Reply, ViewFault> {
+        answer(
+            alloc,
+            command.words.as_slice(),
+            command.pairs.as_slice(),
+            view,
+        )
+    }
+}

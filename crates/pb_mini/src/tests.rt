@@ -1,0 +1,671 @@
+//! Worked compiles with their bytes.
+
+use crate::dep_info::{Names, Variable, dep_info_text};
+use crate::tests_view::{Broken, Files};
+use crate::{Mini, answer};
+use pb_data::{Bytes, Items, Text};
+use pb_place::{Child, Command, PathText, Reply, View, ViewFault};
+use std::alloc::{AllocError, Global};
+use std::process::Abort;
+use std::test::Fail;
+
+/// Words of a compile of `/w/src/lib.rs` in the order of a whole build. The first ten say all that is needed.
+const WORDS: [&str; 24] = [
+    "--crate-name",
+    "a",
+    "--edition=2021",
+    "/w/src/lib.rs",
+    "--error-format=json",
+    "--crate-type",
+    "lib",
+    "--emit=dep-info,link",
+    "--out-dir",
+    "/w/target/debug/a.target.lib",
+    "-C",
+    "opt-level=0",
+    "-C",
+    "debuginfo=2",
+    "-C",
+    "debug-assertions=on",
+    "-C",
+    "overflow-checks=on",
+    "-C",
+    "codegen-units=256",
+    "-C",
+    "panic=unwind",
+    "--check-cfg",
+    "cfg(feature, values())",
+];
+
+/// The dep-info of `WORDS`.
+const DEP_INFO: &str = "/w/target/debug/a.target.lib/liba.rlib: /w/src/lib.rs\n";
+
+/// The texts of words.
+fn texts(alloc: Global, words: &[&str]) -> Result<Items<Text>, AllocError> {
+    let mut made = Items::new(alloc);
+    for word in words {
+        made.push(Text::from_str(alloc, *word)?)?;
+    }
+    Ok(made)
+}
+
+/// A view of one file.
+fn one_file(alloc: Global, path: &str, bytes: &[u8]) -> Result<Files, AllocError> {
+    let mut inside = Items::new(alloc);
+    inside.push((
+        Text::from_str(alloc, path)?,
+        Bytes::from_slice(alloc, bytes)?,
+    ))?;
+    Ok(Files { inside })
+}
+
+/// The answer to words where one file is shown.
+fn answer_to(alloc: Global, words: &[&str], path: &str, source: &[u8]) -> Result<Reply, ViewFault> {
+    let words = texts(alloc, words)?;
+    let view = one_file(alloc, path, source)?;
+    answer(alloc, words.as_slice(), &[], &view)
+}
+
+/// Asserts what a reply has.
+fn assert_reply(
+    rt: &impl Abort,
+    reply: &Reply,
+    status: i32,
+    stdout: &str,
+    stderr: &str,
+    files: &[(&str, &str)],
+) {
+    assert_eq!(rt; reply.status, status, "{stderr}");
+    assert_eq!(rt; reply.stdout.as_slice(), stdout.as_bytes(), "{stderr}");
+    assert_eq!(rt; reply.stderr.as_slice(), stderr.as_bytes(), "{stderr}");
+    assert_eq!(rt; reply.files.len(), files.len(), "{stderr}");
+    for (file, wanted) in reply.files.as_slice().iter().zip(files) {
+        assert_eq!(rt; file.0.as_str(), wanted.0);
+        assert_eq!(rt; file.1.as_slice(), wanted.1.as_bytes(), "{stderr}");
+    }
+}
+
+#[test]
+fn sources(rt: HostRuntime) -> Result<(), Fail> {
+    let cases: [(&[u8], i32, &str, &str); 16] = [
+        (b"", 0, "", "mini lib a\n"),
+        (b"print x", 0, "", "mini lib a\nprint x\n"),
+        (b"print y\n", 0, "", "mini lib a\nprint y\n"),
+        (
+            b"warn old",
+            0,
+            "{\"level\":\"warning\",\"message\":\"old\",\"line\":1}\n",
+            "mini lib a\n",
+        ),
+        (
+            b"fail no",
+            1,
+            "{\"level\":\"error\",\"message\":\"no\",\"line\":1}\n",
+            "",
+        ),
+        (b"# warn x\n\n#\n", 0, "", "mini lib a\n"),
+        (
+            b"show A\nread b c\nput d  e\nexit 3\nprint\n",
+            0,
+            "",
+            "mini lib a\nshow A\nread b c\nput d  e\nexit 3\nprint\n",
+        ),
+        (
+            b"\n#\nwarn\n\nprint x\r\nwarn  y ",
+            0,
+            "{\"level\":\"warning\",\"message\":\"\",\"line\":3}\n{\"level\":\"warning\",\"message\":\" y \",\"line\":6}\n",
+            "mini lib a\nprint x\r\n",
+        ),
+        (
+            b"warn a\nfail b\nwarn c",
+            1,
+            "{\"level\":\"warning\",\"message\":\"a\",\"line\":1}\n{\"level\":\"error\",\"message\":\"b\",\"line\":2}\n{\"level\":\"warning\",\"message\":\"c\",\"line\":3}\n",
+            "",
+        ),
+        (
+            b" warn x",
+            1,
+            "{\"level\":\"error\",\"message\":\"unknown line\",\"line\":1}\n",
+            "",
+        ),
+        (
+            b"print x\nWarn x",
+            1,
+            "{\"level\":\"error\",\"message\":\"unknown line\",\"line\":2}\n",
+            "",
+        ),
+        (
+            b"printx",
+            1,
+            "{\"level\":\"error\",\"message\":\"unknown line\",\"line\":1}\n",
+            "",
+        ),
+        (
+            b"\r\n",
+            1,
+            "{\"level\":\"error\",\"message\":\"unknown line\",\"line\":1}\n",
+            "",
+        ),
+        (
+            b"warn a\"b\\c\td\x01",
+            0,
+            "{\"level\":\"warning\",\"message\":\"a\\\"b\\\\c\\td\\u0001\",\"line\":1}\n",
+            "mini lib a\n",
+        ),
+        (
+            b"warn \xc3\xa9",
+            0,
+            "{\"level\":\"warning\",\"message\":\"\u{e9}\",\"line\":1}\n",
+            "mini lib a\n",
+        ),
+        (
+            b"warn \xc3",
+            1,
+            "{\"level\":\"error\",\"message\":\"no source\",\"line\":0}\n",
+            "",
+        ),
+    ];
+    for (source, status, stderr, image) in cases {
+        let reply = answer_to(rt.alloc(), &WORDS, "/w/src/lib.rs", source)?;
+        if status == 0 {
+            assert_reply(
+                &rt,
+                &reply,
+                0,
+                "",
+                stderr,
+                &[("liba.rlib", image), ("a.d", DEP_INFO)],
+            );
+        } else {
+            assert_reply(&rt, &reply, 1, "", stderr, &[("a.d", DEP_INFO)]);
+        }
+    }
+    Ok(())
+}
+
+#[test]
+fn command_lines(rt: HostRuntime) -> Result<(), Fail> {
+    let version = "mini 0.1.0\nhost: mini-unknown-none\n";
+    let bad = "mini: bad command line\n";
+    let good: [(&[&str], &str, &str, &[(&str, &str)]); 7] = [
+        (&["-vV"], "", version, &[]),
+        (
+            &[
+                "--crate-name",
+                "a",
+                "--crate-type",
+                "lib",
+                "--out-dir",
+                "/o",
+                "/s",
+            ],
+            "/s",
+            "",
+            &[
+                ("liba.rlib", "mini lib a\nprint x\n"),
+                ("a.d", "/o/liba.rlib: /s\n"),
+            ],
+        ),
+        (
+            &[
+                "/s",
+                "--out-dir",
+                "/o/./p/..",
+                "--crate-type",
+                "bin",
+                "--crate-type",
+                "lib",
+                "--crate-name",
+                "a",
+            ],
+            "/s",
+            "",
+            &[("a", "mini bin a\nprint x\n"), ("a.d", "/o/a: /s\n")],
+        ),
+        (
+            &[
+                "--crate-name",
+                "a_b",
+                "--crate-type",
+                "rlib",
+                "--crate-type",
+                "bin",
+                "--out-dir",
+                "/o p",
+                "/q/../s  t",
+            ],
+            "/s  t",
+            "",
+            &[
+                ("liba_b.rlib", "mini lib a_b\nprint x\n"),
+                ("a_b.d", "/o\\ p/liba_b.rlib: /s\\ \\ t\n"),
+            ],
+        ),
+        (
+            &[
+                "--crate-name",
+                "--edition=",
+                "--crate-type",
+                "-C",
+                "--out-dir",
+                "/",
+                "/s",
+            ],
+            "/s",
+            "",
+            &[
+                ("lib--edition=.rlib", "mini lib --edition=\nprint x\n"),
+                ("--edition=.d", "/lib--edition=.rlib: /s\n"),
+            ],
+        ),
+        (
+            &[
+                "--crate-name",
+                "a",
+                "--crate-type",
+                "lib",
+                "--out-dir",
+                "/o",
+                "/s",
+                "--cfg",
+                "x",
+                "--check-cfg",
+                "y",
+                "--extern",
+                "z",
+                "-L",
+                "l",
+                "-l",
+                "m",
+                "-C",
+                "n",
+                "--emit=",
+                "--error-format=",
+            ],
+            "/s",
+            "",
+            &[
+                ("liba.rlib", "mini lib a\nprint x\n"),
+                ("a.d", "/o/liba.rlib: /s\n"),
+            ],
+        ),
+        (
+            &[
+                "--crate-name",
+                "d/a",
+                "--crate-type",
+                "bin",
+                "--out-dir",
+                "/o",
+                "/s",
+            ],
+            "/s",
+            "",
+            &[
+                ("d/a", "mini bin d/a\nprint x\n"),
+                ("d/a.d", "/o/d/a: /s\n"),
+            ],
+        ),
+    ];
+    for (words, path, stdout, files) in good {
+        let reply = answer_to(rt.alloc(), words, path, b"print x")?;
+        assert_reply(&rt, &reply, 0, stdout, "", files);
+    }
+    let none = "{\"level\":\"error\",\"message\":\"no source\",\"line\":0}\n";
+    let missing: [(&[&str], &str); 3] = [
+        (
+            &[
+                "--crate-name",
+                "a",
+                "--crate-type",
+                "lib",
+                "--out-dir",
+                "/o",
+                "/t",
+            ],
+            "/o/liba.rlib: /t\n",
+        ),
+        (
+            &[
+                "--crate-name",
+                "a",
+                "--crate-type",
+                "lib",
+                "--out-dir",
+                "/o",
+                "s",
+            ],
+            "/o/liba.rlib:\n",
+        ),
+        (
+            &[
+                "--crate-name",
+                "a",
+                "--crate-type",
+                "lib",
+                "--out-dir",
+                "/o",
+                "/s\0",
+            ],
+            "/o/liba.rlib:\n",
+        ),
+    ];
+    for (words, dep_info) in missing {
+        let reply = answer_to(rt.alloc(), words, "/s", b"print x")?;
+        assert_reply(&rt, &reply, 1, "", none, &[("a.d", dep_info)]);
+    }
+    let refused: [&[&str]; 27] = [
+        &[],
+        &["-vV", "-vV"],
+        &["--version"],
+        &[
+            "-vV",
+            "--crate-name",
+            "a",
+            "--crate-type",
+            "lib",
+            "--out-dir",
+            "/o",
+            "/s",
+        ],
+        &["--crate-type", "lib", "--out-dir", "/o", "/s"],
+        &["--crate-name", "a", "--out-dir", "/o", "/s"],
+        &["--crate-name", "a", "--crate-type", "lib", "/s"],
+        &[
+            "--crate-name",
+            "a",
+            "--crate-type",
+            "lib",
+            "--out-dir",
+            "/o",
+        ],
+        &[
+            "--crate-name",
+            "a",
+            "--crate-name",
+            "a",
+            "--crate-type",
+            "lib",
+            "--out-dir",
+            "/o",
+            "/s",
+        ],
+        &[
+            "--crate-name",
+            "a",
+            "--crate-type",
+            "lib",
+            "--out-dir",
+            "/o",
+            "--out-dir",
+            "/o",
+            "/s",
+        ],
+        &[
+            "--crate-name",
+            "a",
+            "--crate-type",
+            "lib",
+            "--out-dir",
+            "/o",
+            "/s",
+            "/s",
+        ],
+        &[
+            "--crate-name",
+            "a",
+            "--crate-type",
+            "lib",
+            "--out-dir",
+            "/o",
+            "/s",
+            "-O",
+        ],
+        &[
+            "--crate-name",
+            "a",
+            "--crate-type",
+            "lib",
+            "--out-dir",
+            "/o",
+            "/s",
+            "--edition",
+            "2021",
+        ],
+        &[
+            "--crate-name",
+            "a",
+            "--crate-type",
+            "lib",
+            "--out-dir",
+            "/o",
+            "/s",
+            "--crate-name",
+        ],
+        &[
+            "--crate-name",
+            "a",
+            "--crate-type",
+            "lib",
+            "--out-dir",
+            "/o",
+            "/s",
+            "--crate-type",
+        ],
+        &[
+            "--crate-name",
+            "a",
+            "--crate-type",
+            "lib",
+            "--out-dir",
+            "/o",
+            "/s",
+            "--out-dir",
+        ],
+        &[
+            "--crate-name",
+            "a",
+            "--crate-type",
+            "lib",
+            "--out-dir",
+            "/o",
+            "/s",
+            "-C",
+        ],
+        &[
+            "--crate-name",
+            "a",
+            "--crate-type",
+            "lib",
+            "--out-dir",
+            "/o",
+            "/s",
+            "--cfg",
+        ],
+        &[
+            "--crate-name",
+            "a",
+            "--crate-type",
+            "lib",
+            "--out-dir",
+            "/o",
+            "/s",
+            "--check-cfg",
+        ],
+        &[
+            "--crate-name",
+            "a",
+            "--crate-type",
+            "lib",
+            "--out-dir",
+            "/o",
+            "/s",
+            "--extern",
+        ],
+        &[
+            "--crate-name",
+            "a",
+            "--crate-type",
+            "lib",
+            "--out-dir",
+            "/o",
+            "/s",
+            "-L",
+        ],
+        &[
+            "--crate-name",
+            "a",
+            "--crate-type",
+            "lib",
+            "--out-dir",
+            "/o",
+            "/s",
+            "-l",
+        ],
+        &[
+            "--crate-name",
+            "a",
+            "--crate-type",
+            "lib",
+            "--out-dir",
+            "o",
+            "/s",
+        ],
+        &[
+            "--crate-name",
+            "a",
+            "--crate-type",
+            "lib",
+            "--out-dir",
+            "/o\0",
+            "/s",
+        ],
+        &[
+            "--crate-name",
+            "",
+            "--crate-type",
+            "bin",
+            "--out-dir",
+            "/o",
+            "/s",
+        ],
+        &[
+            "--crate-name",
+            "../a",
+            "--crate-type",
+            "bin",
+            "--out-dir",
+            "/o",
+            "/s",
+        ],
+        &[
+            "--crate-name",
+            "a\0",
+            "--crate-type",
+            "lib",
+            "--out-dir",
+            "/o",
+            "/s",
+        ],
+    ];
+    for words in refused {
+        let reply = answer_to(rt.alloc(), words, "/s", b"print x")?;
+        assert_reply(&rt, &reply, 2, "", bad, &[]);
+    }
+    Ok(())
+}
+
+#[test]
+fn prefixes(rt: HostRuntime) -> Result<(), Fail> {
+    for count in 0..WORDS.len() {
+        let reply = answer_to(rt.alloc(), &WORDS[..count], "/w/src/lib.rs", b"")?;
+        let whole = 10 <= count && count % 2 == 0;
+        assert_eq!(rt; reply.status, if whole { 0 } else { 2 }, "{count} words");
+    }
+    let source = b"warn \xc3\xa9\n\nput a b\n# c\nfail d\n";
+    for count in 0..source.len() {
+        let reply = answer_to(rt.alloc(), &WORDS, "/w/src/lib.rs", &source[..count])?;
+        let Some(last) = reply.files.as_slice().last() else {
+            return Err("no file")?;
+        };
+        assert_eq!(rt; last.0.as_str(), "a.d", "{count} bytes");
+        assert!(rt; reply.status == 0 || reply.status == 1, "{count} bytes");
+    }
+    Ok(())
+}
+
+/// The reply of any child to a compile of `/s` into `/o`.
+fn reply_of<C: Child, V: View>(alloc: Global, child: &C, view: &V) -> Result<Reply, ViewFault> {
+    let command = Command {
+        program: Text::from_str(alloc, "mini")?,
+        words: texts(
+            alloc,
+            &[
+                "--crate-name",
+                "a",
+                "--crate-type",
+                "lib",
+                "--out-dir",
+                "/o",
+                "/s",
+            ],
+        )?,
+        folder: root(alloc)?,
+        pairs: Items::new(alloc),
+        out: None,
+        target: root(alloc)?,
+        toolchain: Bytes::new(Vec::new(alloc)),
+        reads: Items::new(alloc),
+    };
+    child.reply(alloc, &command, view)
+}
+
+/// The root as a path.
+fn root(alloc: Global) -> Result<PathText, ViewFault> {
+    match PathText::parse(alloc, "/") {
+        Ok(path) => Ok(path),
+        Err(_) => Err(ViewFault::OutOfMemory),
+    }
+}
+
+#[test]
+fn child(rt: HostRuntime) -> Result<(), Fail> {
+    let view = one_file(rt.alloc(), "/s", b"warn w")?;
+    let reply = reply_of(rt.alloc(), &Mini, &view)?;
+    let stderr = "{\"level\":\"warning\",\"message\":\"w\",\"line\":1}\n";
+    assert_reply(
+        &rt,
+        &reply,
+        0,
+        "",
+        stderr,
+        &[("liba.rlib", "mini lib a\n"), ("a.d", "/o/liba.rlib: /s\n")],
+    );
+    let Err(fault) = reply_of(rt.alloc(), &Mini, &Broken) else {
+        return Err("a view that fails has an answer")?;
+    };
+    assert_eq!(rt; fault, ViewFault::Failed);
+    Ok(())
+}
+
+#[test]
+fn dep_info(rt: HostRuntime) -> Result<(), Fail> {
+    let alloc = rt.alloc();
+    let mut paths = Items::new(alloc);
+    paths.push(PathText::parse(alloc, "/w/a b.rs")?)?;
+    paths.push(PathText::parse(alloc, "/w/c.rs")?)?;
+    let mut variables = Items::new(alloc);
+    for (name, value) in [("V", None), ("W", Some("")), ("X", Some("a b"))] {
+        let name = Text::from_str(alloc, name)?;
+        let value = match value {
+            Some(value) => Some(Text::from_str(alloc, value)?),
+            None => None,
+        };
+        variables.push(Variable { name, value })?;
+    }
+    let output = PathText::parse(alloc, "/o p/c: d")?;
+    let text = dep_info_text(alloc, &output, &Names { paths, variables })?;
+    let wanted = "/o\\ p/c:\\ d: /w/a\\ b.rs /w/c.rs\n# env-dep:V\n# env-dep:W=\n# env-dep:X=a b\n";
+    assert_eq!(rt; text.as_slice(), wanted.as_bytes());
+    Ok(())
+}

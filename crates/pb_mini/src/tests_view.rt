@@ -1,0 +1,68 @@
+//! Views for tests.
+
+ghost use Rattle.std.specs.Prelude.{◌≡◌, IfOk};
+ghost use Rattle.std.specs.Ordering.{nat_cmp};
+ghost use Rattle.std.specs.Cmp.Lexicographic.{slice_cmp};
+ghost use Rattle.std.specs.FinMap as finite;
+
+use pb_data::{Bytes, Items, Text, TryCopy};
+use pb_place::{PathText, View, ViewFault};
+use std::alloc::{AllocError, Global};
+
+/// Files by their paths, of two at one path the first, and no variables.
+#[derive(Drop)]
+pub struct Files {
+    /// The paths and the bytes.
+    pub inside: Items<(Text, Bytes)>,
+}
+
+/// The bytes of the first file at a path.
+fn file_at(alloc: Global, files: &[(Text, Bytes)], path: &str) -> Result<Option<Bytes>, AllocError>
+    ensures { IfOk result (λ found. found ≡ finite.find (slice_cmp nat_cmp) path.now files.now) }
+{
+    for file in files {
+        if path == file.0.as_str() {
+            let bytes = file.1.copy(alloc)?;
+            return Ok(Some(bytes));
+        }
+    }
+    Ok(None)
+}
+
+#[tactic(auto, using(crate::proofs::Shown::finds))]
+impl View for Files {
+    ghost use Rattle.std.specs.FinMap as finite;
+
+    ghost shown = { λ v. record { files = finite.from_entries v.inside; variables = finite.empty } };
+
+    ghost fails = { λ _. ⊥ };
+
+    fn file(&self, alloc: Global, path: &PathText) -> Result<Option<Bytes>, ViewFault> {
+        let found = file_at(alloc, self.inside.as_slice(), path.as_str())?;
+        Ok(found)
+    }
+
+    fn variable(&self, _: Global, _: &str) -> Result<Option<Text>, ViewFault> {
+        Ok(None)
+    }
+}
+
+/// A view that always fails.
+#[derive(Clone, Copy)]
+pub struct Broken;
+
+impl View for Broken {
+    ghost use Rattle.std.specs.FinMap as finite;
+
+    ghost shown = { λ _. record { files = finite.empty; variables = finite.empty } };
+
+    ghost fails = { λ _. Unit {0} };
+
+    fn file(&self, _: Global, _: &PathText) -> Result<Option<Bytes>, ViewFault> {
+        Err(ViewFault::Failed)
+    }
+
+    fn variable(&self, _: Global, _: &str) -> Result<Option<Text>, ViewFault> {
+        Err(ViewFault::Failed)
+    }
+}
