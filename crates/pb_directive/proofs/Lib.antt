@@ -4,3 +4,5 @@ pub mod FlagLemmas
 pub mod ThenLemmas
 pub mod ReadLemmas
 pub mod RuleLemmas
+pub mod NameLemmas
+pub mod InfoLemmas
