@@ -6,3 +6,4 @@ pub mod ReadLemmas
 pub mod RuleLemmas
 pub mod NameLemmas
 pub mod InfoLemmas
+pub mod MetadataLemmas

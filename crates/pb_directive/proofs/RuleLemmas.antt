@@ -69,11 +69,11 @@ absent_of byte text at = by (ltb (position_or_len (λ b. eqb b byte) text) (leng
         absent_past byte text past
 
 -- neither of two
-record Neither (x y : Bool) : Type 0 where
-  one : x ≡ false
-  other : y ≡ false
+pub record Neither (x y : Bool) : Type 0 where
+  pub one : x ≡ false
+  pub other : y ≡ false
 
-neither : (x y : Bool) → (x || y) ≡ false → Neither x y
+pub neither : (x y : Bool) → (x || y) ≡ false → Neither x y
 neither true y is = absurd (cc)
 neither false y is = record { one = refl; other = is }
 
