@@ -7,3 +7,4 @@ pub mod RuleLemmas
 pub mod NameLemmas
 pub mod InfoLemmas
 pub mod MetadataLemmas
+pub mod JoinLemmas

@@ -3,3 +3,4 @@ pub mod Lines
 pub mod Directives
 pub mod DepInfo
 pub mod Metadata
+pub mod Laws

@@ -6,6 +6,7 @@ pub mod directive;
 pub mod fault;
 mod flags;
 mod keys;
+pub mod laws;
 mod lines;
 mod metadata;
 mod names;
