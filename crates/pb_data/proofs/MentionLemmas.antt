@@ -1,9 +1,9 @@
 -- Lemmas on texts each once, in order of first mention.
-use Rattle.std.proofs.Common.{◌≡◌, ◌≢◌, ℕ, Bool, true, false, not, ◌&&◌, ◌||◌, cond, List, [], ◌∷◌, ◌++◌, filter, refl, sym, ◌∙◌, ap, append_assoc, if◌then◌else◌}
+use Rattle.std.proofs.Common.{◌≡◌, ℕ, Bool, true, false, not, ◌&&◌, ◌||◌, cond, List, [], ◌∷◌, ◌++◌, filter, refl, sym, ◌∙◌, ap, append_assoc, if◌then◌else◌}
 use Rattle.std.proofs.lemmas.List.{append-nil}
 use Rattle.std.proofs.lemmas.List.Folds.{list_any-append}
 use Rattle.std.proofs.lemmas.Slice.Eq.{bytes_eq-Decides}
-use Rattle.std.specs.List.{list_any, IsDistinct, AllByRecursion}
+use Rattle.std.specs.List.{IsDistinct, AllByRecursion}
 use Rattle.std.specs.Str.{bytes_eq}
 use Rattle.pb_data.specs.Mentions.{is_mentioned, mentioned, mentioned_all, without, once, EachOnce}
 
@@ -61,6 +61,7 @@ fresh_new seen x xs = filter_filter _ _ xs ∙ filter_same _ _ same xs
     table true false = refl
     table false true = refl
     table false false = refl
+
     same : (y : List ℕ) → (not (bytes_eq x y) && not (is_mentioned seen y)) ≡ not (is_mentioned (seen ++ x ∷ []) y)
     same y = table (bytes_eq x y) (is_mentioned seen y) ∙ ap (λ r. not (is_mentioned seen y || (r || false))) (bytes_eq_comm x y) ∙ sym (ap not (list_any-append (bytes_eq y) seen (x ∷ [])))
 

@@ -1,10 +1,10 @@
 -- Lemmas on tables.
-use Rattle.std.proofs.Common.{◌≡◌, ◌≢◌, ℕ, ◌||◌, Bool, true, false, List, [], ◌∷◌, ◌++◌, Option, Some, None, unwrap_or, refl, sym, ◌∙◌, ap, map, if◌then◌else◌, cond}
+use Rattle.std.proofs.Common.{◌≡◌, ℕ, ◌||◌, Bool, true, false, List, [], ◌∷◌, ◌++◌, Option, Some, None, unwrap_or, refl, sym, ◌∙◌, ap, if◌then◌else◌, cond}
 use Rattle.std.proofs.lemmas.Slice.Eq.{bytes_eq-Decides}
 use Rattle.std.specs.Str.{bytes_eq}
 use Rattle.pb_data.specs.Mentions.{is_mentioned, mentioned, mentioned_all, once}
 use Rattle.pb_data.specs.Table.{value_at, with_entry, with_entries, table_of, names_of, last_value}
-use Rattle.pb_data.proofs.MentionLemmas.{mentioned_all-once, bytes_eq_same, bytes_eq_comm}
+use Rattle.pb_data.proofs.MentionLemmas.{mentioned_all-once, bytes_eq_comm}
 
 -- a value, or else another
 abbrev pub or_else : {V : Type 0} → Option V → Option V → Option V
@@ -19,6 +19,7 @@ module _ {V : Type 0} where
       onto : (r : Bool) → e.0 ∷ (if r then names_of entries else names_of entries ++ name ∷ []) ≡ (if r then e.0 ∷ names_of entries else e.0 ∷ names_of entries ++ name ∷ [])
       onto true = refl
       onto false = refl
+
       by : (r : Bool) → bytes_eq name e.0 ≡ r → names_of (with_entry entries name value) ≡ mentioned (names_of entries) name → names_of (with_entry (e ∷ entries) name value) ≡ mentioned (names_of (e ∷ entries)) name
       by true is later =
           ap (λ r. names_of (if r then (e.0, value) ∷ entries else e ∷ with_entry entries name value)) is
@@ -42,6 +43,7 @@ module _ {V : Type 0} where
       same : (r : Bool) → cond r (Some value) (value_at other entries) ≡ (if r then Some value else cond r (Some e.1) (value_at other entries))
       same true = refl
       same false = refl
+
       apart : (b : Bool) → bytes_eq other e.0 ≡ b → bytes_eq name e.0 ≡ false
           → cond b (Some e.1) (if bytes_eq other name then Some value else value_at other entries) ≡ (if bytes_eq other name then Some value else cond b (Some e.1) (value_at other entries))
       apart true at is =
@@ -49,6 +51,7 @@ module _ {V : Type 0} where
           let none : bytes_eq other name ≡ false = ap (λ o. bytes_eq o name) here ∙ bytes_eq_comm e.0 name ∙ is in
           sym (ap (λ r. if r then Some value else Some e.1) none)
       apart false at is = refl
+
       by : (r : Bool) → bytes_eq name e.0 ≡ r → value_at other (with_entry entries name value) ≡ (if bytes_eq other name then Some value else value_at other entries)
           → value_at other (with_entry (e ∷ entries) name value) ≡ (if bytes_eq other name then Some value else value_at other (e ∷ entries))
       by true is later =

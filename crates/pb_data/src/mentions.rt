@@ -75,17 +75,14 @@ impl Mentions {
 /// mention.
 pub fn mentions_are_once()
     ensures { (texts : List (List ℕ)) → mentioned_all [] texts ≡ once texts }
-{
-}
+{}
 
 /// A law: no text stands there twice.
 pub fn once_is_distinct()
     ensures { (texts : List (List ℕ)) → EachOnce (once texts) }
-{
-}
+{}
 
 /// A law: each text stands there, and no other.
 pub fn once_keeps_texts()
     ensures { (texts : List (List ℕ)) (text : List ℕ) → is_mentioned (once texts) text ≡ is_mentioned texts text }
-{
-}
+{}

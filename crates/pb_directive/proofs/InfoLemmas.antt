@@ -1,15 +1,12 @@
 -- Lemmas on what dep-info names.
-use Rattle.std.proofs.Common.{◌≡◌, ◌≢◌, ℕ, ◌+◌, List, [], ◌∷◌, ◌++◌, Ok, Err, Result, refl, sym, ◌∙◌, ap, append_assoc}
+use Rattle.std.proofs.Common.{◌≡◌, ℕ, ◌+◌, List, ◌∷◌, Ok, Err, Result, refl, sym, ◌∙◌, ap}
 use Rattle.pb_data.specs.Gives.{◌>>=◌, lifted}
-use Rattle.pb_data.specs.Mentions.{mentioned_all, once}
 use Rattle.pb_data.proofs.MentionLemmas.{mentioned_all-append, mentioned_all-once}
 use Rattle.pb_directive.specs.Faults.{fault_at}
-use Rattle.pb_directive.specs.Lines.{lines_of}
-use Rattle.pb_directive.specs.DepInfo.{nothing, joined, line_info, info_from, each_once, dep_info_of, with_info}
+use Rattle.pb_directive.specs.DepInfo.{nothing, joined, line_info, info_from, each_once, with_info}
 use Rattle.pb_directive.specs.declared.dep_info.DepInfo.{DepInfo}
 use Rattle.pb_directive.specs.declared.fault.Problem.{Problem}
 use Rattle.pb_directive.specs.declared.fault.LineFault.{LineFault}
-use Rattle.pb_directive.proofs.ThenLemmas.{then_err}
 
 with_joined : (old here more : DepInfo) → with_info old (joined here more) ≡ with_info (with_info old here) more
 with_joined old here more = λ i. record {

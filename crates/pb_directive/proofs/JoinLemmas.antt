@@ -1,19 +1,18 @@
 -- Lemmas on texts that follow one another.
-use Rattle.std.proofs.Common.{◌≡◌, ℕ, ◌+◌, Bool, true, false, cond, List, [], ◌∷◌, ◌++◌, Ok, Err, Result, Option, None, Some, refl, sym, ◌∙◌, ap, subst, append_assoc, arith, length, eqb, if◌then◌else◌, codes}
-use Rattle.std.specs.List.{slice_split, onto_first}
+use Rattle.std.proofs.Common.{◌≡◌, ℕ, ◌+◌, Bool, true, false, cond, List, [], ◌∷◌, ◌++◌, Ok, Err, Result, None, Some, refl, sym, ◌∙◌, ap, subst, append_assoc, arith, length, eqb, if◌then◌else◌, codes}
+use Rattle.std.specs.List.{onto_first}
 use Rattle.std.specs.Str.{is_utf8}
 use Rattle.pb_data.specs.Gives.{◌>>=◌, lifted}
-use Rattle.pb_data.specs.Mentions.{once, EachOnce}
+use Rattle.pb_data.specs.Mentions.{EachOnce}
 use Rattle.pb_data.proofs.MentionLemmas.{once-IsDistinct}
 use Rattle.pb_directive.specs.DepInfo.{nothing, joined, line_info, info_from, each_once, dep_info_of, all_names_of}
 use Rattle.pb_directive.specs.Directives.{line_directives, directives_from, directives_of, text_directives, new_line, old_line}
 use Rattle.pb_directive.specs.Faults.{fault_at}
 use Rattle.pb_directive.specs.Laws.{later_by, followed_by, then_said, then_named, line_count}
-use Rattle.pb_directive.specs.Lines.{lines_of, trimmed, text_of, after_prefix}
+use Rattle.pb_directive.specs.Lines.{lines_of, trimmed, after_prefix}
 use Rattle.pb_directive.specs.declared.dep_info.DepInfo.{DepInfo}
 use Rattle.pb_directive.specs.declared.directive.Directive.{Directive}
 use Rattle.pb_directive.specs.declared.fault.LineFault.{LineFault}
-use Rattle.pb_directive.specs.declared.fault.LineFault.TheVariants as fault
 use Rattle.pb_directive.specs.declared.fault.Problem.{Problem}
 use Rattle.pb_directive.specs.declared.fault.Problem.TheVariants as problem
 
@@ -71,6 +70,7 @@ said_later k n (line ∷ lines) = by (line_directives line) (said_later k (n + 1
   where
     after : Result (List Directive) LineFault → Result (List Directive) Problem → ℕ → Result (List Directive) LineFault
     after later r m = lifted (fault_at m) r >>= (λ here. later >>= (λ more. Ok (here ++ more)))
+
     by : (r : Result (List Directive) Problem) → directives_from (k + (n + 1)) lines ≡ lifted (later_by k) (directives_from (n + 1) lines)
         → after (directives_from (k + n + 1) lines) r (k + n) ≡ lifted (later_by k) (after (directives_from (n + 1) lines) r n)
     by (Ok here) later =
@@ -119,6 +119,7 @@ named_later k n (line ∷ lines) = by (line_info line) (named_later k (n + 1) li
   where
     after : Result DepInfo LineFault → Result DepInfo Problem → ℕ → Result DepInfo LineFault
     after later r m = lifted (fault_at m) r >>= (λ here. later >>= (λ more. Ok (joined here more)))
+
     by : (r : Result DepInfo Problem) → info_from (k + (n + 1)) lines ≡ lifted (later_by k) (info_from (n + 1) lines)
         → after (info_from (k + n + 1) lines) r (k + n) ≡ lifted (later_by k) (after (info_from (n + 1) lines) r n)
     by (Ok here) later =

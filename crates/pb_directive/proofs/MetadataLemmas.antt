@@ -1,10 +1,10 @@
 -- Lemmas on metadata.
-use Rattle.std.proofs.Common.{◌≡◌, ℕ, ◌||◌, Bool, true, false, List, [], ◌∷◌, ◌++◌, Option, None, Some, refl, sym, ◌∙◌, ap, eqb, if◌then◌else◌, append_assoc}
+use Rattle.std.proofs.Common.{◌≡◌, ℕ, false, List, [], ◌∷◌, ◌++◌, None, Some, refl, sym, ◌∙◌, ap, eqb, if◌then◌else◌, append_assoc}
 use Rattle.std.proofs.lemmas.List.{map-append}
 use Rattle.std.specs.List.{list_any}
 use Rattle.pb_directive.specs.Lines.{split_first}
 use Rattle.pb_directive.specs.Metadata.{underscored}
-use Rattle.pb_directive.proofs.RuleLemmas.{Around, around_of, absent_of, Neither, neither}
+use Rattle.pb_directive.proofs.RuleLemmas.{around_of, absent_of, neither}
 
 underscored_absent : (text : List ℕ) → list_any (λ b. eqb b 45) text ≡ false → underscored text ≡ text
 underscored_absent [] none = refl

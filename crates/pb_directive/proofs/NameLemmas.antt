@@ -1,6 +1,6 @@
 -- Lemmas on the names in dep-info.
 use borrow.Author.Tests.{ltb-false}
-use Rattle.std.proofs.Common.{◌≡◌, ℕ, Bool, true, false, cond, List, length, Option, None, Some, refl, sym, ◌∙◌, ap, arith, eqb, ltb}
+use Rattle.std.proofs.Common.{◌≡◌, ℕ, Bool, true, false, cond, List, length, None, Some, refl, sym, ◌∙◌, ap, arith, eqb, ltb}
 use Rattle.std.proofs.lemmas.List.{take_all}
 use Rattle.std.specs.List.{before_first, after_first, position_or_len}
 use Rattle.pb_directive.specs.Lines.{split_first}

@@ -1,8 +1,8 @@
 -- How the metadata of a build script reaches the scripts of the packages that need it (The Cargo Book, "Build Scripts", "The links Manifest Key").
-use Rattle.std.specs.Prelude.{ℕ, ◌==◌, List, [], ◌∷◌, ◌++◌, if◌then◌else◌, codes, map, Option, Some, None}
+use Rattle.std.specs.Prelude.{ℕ, ◌==◌, List, ◌++◌, if◌then◌else◌, codes, map, Option, Some, None}
 use Rattle.std.specs.List.{filter_map}
 use Rattle.std.specs.StrCase.Upper.{str_to_uppercase}
-use Rattle.pb_data.specs.Table.{with_entries, table_of}
+use Rattle.pb_data.specs.Table.{table_of}
 use Rattle.pb_directive.specs.declared.directive.Directive.{Directive}
 use Rattle.pb_directive.specs.declared.directive.Directive.TheVariants.{Metadata}
 

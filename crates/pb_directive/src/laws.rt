@@ -16,43 +16,36 @@ ghost use Rattle.pb_directive.specs.declared.dep_info.DepInfo.{DepInfo};
 /// the first.
 pub fn directives_concatenate()
     ensures { (text more : List ℕ) → directives_of (followed_by text more) ≡ then_said (line_count text) (directives_of text) (directives_of more) }
-{
-}
+{}
 
 /// The same of all that dep-info names, before each name is kept once.
 pub fn names_concatenate()
     ensures { (text more : List ℕ) → all_names_of (followed_by text more) ≡ then_named (line_count text) (all_names_of text) (all_names_of more) }
-{
-}
+{}
 
 /// A line that begins with neither prefix says what an empty line in its place says.
 pub fn other_lines_say_nothing()
     ensures { (number : ℕ) (before after : List (List ℕ)) (line : List ℕ)
         → after_prefix (codes "cargo::") (trimmed line) ≡ None → after_prefix (codes "cargo:") (trimmed line) ≡ None
         → directives_from number (before ++ line ∷ after) ≡ directives_from number (before ++ [] ∷ after) }
-{
-}
+{}
 
 /// Dep-info names no path twice.
 pub fn words_stand_once()
     ensures { (bytes : List ℕ) (info : DepInfo) → dep_info_of bytes ≡ Ok info → EachOnce info.words }
-{
-}
+{}
 
 /// Dep-info names no variable twice.
 pub fn variables_stand_once()
     ensures { (bytes : List ℕ) (info : DepInfo) → dep_info_of bytes ≡ Ok info → EachOnce info.variables }
-{
-}
+{}
 
 /// Of the values that metadata gives a variable, the last one counts.
 pub fn last_metadata_counts()
     ensures { (links name : List ℕ) (directives : List Directive) → value_at name (dep_pairs links directives) ≡ last_value name (passed links directives) }
-{
-}
+{}
 
 /// Each variable that metadata names stands once, in order of first mention.
 pub fn passed_names_stand_once()
     ensures { (links : List ℕ) (directives : List Directive) → names_of (dep_pairs links directives) ≡ once (names_of (passed links directives)) }
-{
-}
+{}

@@ -1,6 +1,7 @@
 //! What the output of a build script and the dep-info of a compiler say, line by line.
 #![tactic(auto)]
 
+mod copying;
 pub mod dep_info;
 pub mod directive;
 pub mod fault;

@@ -56,7 +56,12 @@ fn dep_name(alloc: Global, links: &str, key: &str) -> Result<Text, AllocError>
 
 /// Adds the variables that a build script's metadata gives, in printed order, to those that are
 /// there: a later value takes the place of an earlier one.
-pub fn add_dep_pairs(alloc: Global, links: &str, directives: &Directives, pairs: &mut Table<Text>) -> Result<(), AllocError>
+pub fn add_dep_pairs(
+    alloc: Global,
+    links: &str,
+    directives: &Directives,
+    pairs: &mut Table<Text>,
+) -> Result<(), AllocError>
     ensures { OnOk result (pairs.new ≡ with_entries pairs.old (passed links.now directives.now)) }
 {
     for directive in directives.as_slice() {
@@ -75,7 +80,11 @@ pub fn add_dep_pairs(alloc: Global, links: &str, directives: &Directives, pairs:
 /// `links` is the value of `links` in the package's manifest. A variable's name is `DEP_LINKS_KEY`,
 /// where `links` and the metadata's key are in upper case, with `_` for each `-`. Each name stands
 /// once, in order of first mention, with its last value. The one fault is want of memory.
-pub fn dep_pairs(alloc: Global, links: &str, directives: &Directives) -> Result<Table<Text>, AllocError>
+pub fn dep_pairs(
+    alloc: Global,
+    links: &str,
+    directives: &Directives,
+) -> Result<Table<Text>, AllocError>
     ensures { IfOk result (λ pairs. pairs ≡ dep_pairs links.now directives.now) }
 {
     let mut pairs = Table::new(alloc);

@@ -1,4 +1,3 @@
-use Rattle.std.proofs.Common.{sym}
 use Rattle.pb_data.proofs.MentionLemmas.{mentioned_all-once}
 use Rattle.pb_data.proofs.mentions.mentions_are_once.Goals as goal
 

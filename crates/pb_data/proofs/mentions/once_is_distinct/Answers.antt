@@ -1,4 +1,3 @@
-use Rattle.std.proofs.Common.{sym}
 use Rattle.pb_data.proofs.MentionLemmas.{once-IsDistinct}
 use Rattle.pb_data.proofs.mentions.once_is_distinct.Goals as goal
 

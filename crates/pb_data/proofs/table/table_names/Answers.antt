@@ -1,4 +1,3 @@
-use Rattle.std.proofs.Common.{sym}
 use Rattle.pb_data.proofs.TableLemmas.{names-table_of}
 use Rattle.pb_data.proofs.table.table_names.Goals as goal
 

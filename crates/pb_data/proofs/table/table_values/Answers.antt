@@ -1,4 +1,3 @@
-use Rattle.std.proofs.Common.{sym}
 use Rattle.pb_data.proofs.TableLemmas.{value-table_of}
 use Rattle.pb_data.proofs.table.table_values.Goals as goal
 
