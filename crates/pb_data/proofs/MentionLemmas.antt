@@ -1,9 +1,9 @@
 -- Lemmas on texts each once, in order of first mention.
-use Rattle.std.proofs.Common.{◌≡◌, ◌≢◌, ℕ, Bool, true, false, not, ◌&&◌, ◌||◌, cond, List, [], ◌∷◌, ◌++◌, filter, refl, sym, ◌∙◌, ap, append_assoc, if◌then◌else◌}
+use Rattle.std.proofs.Common.{◌≡◌, ℕ, Bool, true, false, not, ◌&&◌, ◌||◌, cond, List, [], ◌∷◌, ◌++◌, filter, refl, sym, ◌∙◌, ap, append_assoc, if◌then◌else◌}
 use Rattle.std.proofs.lemmas.List.{append-nil}
 use Rattle.std.proofs.lemmas.List.Folds.{list_any-append}
 use Rattle.std.proofs.lemmas.Slice.Eq.{bytes_eq-Decides}
-use Rattle.std.specs.List.{list_any, IsDistinct, AllByRecursion}
+use Rattle.std.specs.List.{IsDistinct, AllByRecursion}
 use Rattle.std.specs.Str.{bytes_eq}
 use Rattle.pb_data.specs.Mentions.{is_mentioned, mentioned, mentioned_all, without, once, EachOnce}
 
@@ -61,6 +61,7 @@ fresh_new seen x xs = filter_filter _ _ xs ∙ filter_same _ _ same xs
     table true false = refl
     table false true = refl
     table false false = refl
+
     same : (y : List ℕ) → (not (bytes_eq x y) && not (is_mentioned seen y)) ≡ not (is_mentioned (seen ++ x ∷ []) y)
     same y = table (bytes_eq x y) (is_mentioned seen y) ∙ ap (λ r. not (is_mentioned seen y || (r || false))) (bytes_eq_comm x y) ∙ sym (ap not (list_any-append (bytes_eq y) seen (x ∷ [])))
 
@@ -84,3 +85,53 @@ fresh_none (x ∷ xs) = ap (λ ys. x ∷ ys) (fresh_none xs)
 -- texts that are added one after another to none stand each once, in order of first mention
 pub mentioned_all-once : (xs : List (List ℕ)) → mentioned_all [] xs ≡ once xs
 mentioned_all-once xs = mentioned_all_fresh [] xs ∙ fresh_none (once xs)
+
+apart-without : (x y : List ℕ) (xs : List (List ℕ)) → AllByRecursion (λ z. bytes_eq y z ≡ false) xs → AllByRecursion (λ z. bytes_eq y z ≡ false) (without x xs)
+apart-without x y [] apart = tt
+apart-without x y (z ∷ xs) apart = by (bytes_eq x z) (apart-without x y xs apart.1)
+  where
+    by : (r : Bool) → AllByRecursion (λ z. bytes_eq y z ≡ false) (without x xs) → AllByRecursion (λ z. bytes_eq y z ≡ false) (cond (not r) (z ∷ without x xs) (without x xs))
+    by true rest = rest
+    by false rest = (apart.0, rest)
+
+apart_self : (x : List ℕ) (xs : List (List ℕ)) → AllByRecursion (λ z. bytes_eq x z ≡ false) (without x xs)
+apart_self x [] = tt
+apart_self x (z ∷ xs) = by (bytes_eq x z) refl (apart_self x xs)
+  where
+    by : (r : Bool) → bytes_eq x z ≡ r → AllByRecursion (λ z. bytes_eq x z ≡ false) (without x xs) → AllByRecursion (λ z. bytes_eq x z ≡ false) (cond (not r) (z ∷ without x xs) (without x xs))
+    by true is rest = rest
+    by false is rest = (is, rest)
+
+distinct-without : (x : List ℕ) (xs : List (List ℕ)) → IsDistinct bytes_eq xs → IsDistinct bytes_eq (without x xs)
+unfolding IsDistinct
+distinct-without x [] apart = tt
+distinct-without x (z ∷ xs) apart = by (bytes_eq x z) (distinct-without x xs apart.1)
+  where
+    by : (r : Bool) → IsDistinct bytes_eq (without x xs) → IsDistinct bytes_eq (cond (not r) (z ∷ without x xs) (without x xs))
+    by true rest = rest
+    by false rest = (apart-without x z xs apart.0, rest)
+
+-- no text stands there twice
+pub once-IsDistinct : (xs : List (List ℕ)) → EachOnce (once xs)
+unfolding IsDistinct
+once-IsDistinct [] = tt
+once-IsDistinct (x ∷ xs) = (apart_self x (once xs), distinct-without x (once xs) (once-IsDistinct xs))
+
+is_mentioned-without : (x y : List ℕ) (xs : List (List ℕ)) → bytes_eq x y ≡ false → is_mentioned (without y xs) x ≡ is_mentioned xs x
+is_mentioned-without x y [] other = refl
+is_mentioned-without x y (z ∷ xs) other = by (bytes_eq y z) refl (is_mentioned-without x y xs other)
+  where
+    by : (r : Bool) → bytes_eq y z ≡ r → is_mentioned (without y xs) x ≡ is_mentioned xs x → is_mentioned (cond (not r) (z ∷ without y xs) (without y xs)) x ≡ is_mentioned (z ∷ xs) x
+    by true is rest =
+        let one : y ≡ z = (bytes_eq-Decides y z).0 is in
+        rest ∙ ap (λ r. r || is_mentioned xs x) (sym (sym (ap (bytes_eq x) one) ∙ other))
+    by false is rest = ap (λ r. bytes_eq x z || r) rest
+
+-- each text stands there, and no other
+pub is_mentioned-once : (xs : List (List ℕ)) (x : List ℕ) → is_mentioned (once xs) x ≡ is_mentioned xs x
+is_mentioned-once [] x = refl
+is_mentioned-once (y ∷ xs) x = by (bytes_eq x y) refl (is_mentioned-once xs x)
+  where
+    by : (r : Bool) → bytes_eq x y ≡ r → is_mentioned (once xs) x ≡ is_mentioned xs x → (bytes_eq x y || is_mentioned (without y (once xs)) x) ≡ (bytes_eq x y || is_mentioned xs x)
+    by true is rest = ap (λ r. r || is_mentioned (without y (once xs)) x) is ∙ ap (λ r. r || is_mentioned xs x) (sym is)
+    by false is rest = ap (λ r. bytes_eq x y || r) (is_mentioned-without x y (once xs) is ∙ rest)

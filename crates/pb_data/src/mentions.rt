@@ -1,7 +1,7 @@
 //! Texts each once, in order of first mention.
 
-ghost use Rattle.std.specs.Prelude.{◌≡◌, [], OnOk, OnErr, IfOk, length};
-ghost use Rattle.pb_data.specs.Mentions.{is_mentioned, mentioned, EachOnce};
+ghost use Rattle.std.specs.Prelude.{◌≡◌, ℕ, List, [], OnOk, OnErr, IfOk};
+ghost use Rattle.pb_data.specs.Mentions.{is_mentioned, mentioned, mentioned_all, once, EachOnce};
 
 use crate::items::Items;
 use crate::text::Text;
@@ -70,3 +70,19 @@ impl Mentions {
         Ok(Items::from_vec(texts))
     }
 }
+
+/// A law: texts that are added one after another to none stand each once, in order of first
+/// mention.
+pub fn mentions_are_once()
+    ensures { (texts : List (List ℕ)) → mentioned_all [] texts ≡ once texts }
+{}
+
+/// A law: no text stands there twice.
+pub fn once_is_distinct()
+    ensures { (texts : List (List ℕ)) → EachOnce (once texts) }
+{}
+
+/// A law: each text stands there, and no other.
+pub fn once_keeps_texts()
+    ensures { (texts : List (List ℕ)) (text : List ℕ) → is_mentioned (once texts) text ≡ is_mentioned texts text }
+{}

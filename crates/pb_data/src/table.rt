@@ -1,9 +1,10 @@
 //! Tables from texts to values, in order of first mention.
 
-ghost use Rattle.std.specs.Prelude.{◌≡◌, ℕ, List, [], OnOk, OnErr, IfOk, length};
-ghost use Rattle.std.specs.Option.{option_copied};
+ghost use Rattle.std.specs.Prelude.{◌≡◌, ℕ, List, [], ◌++◌, OnOk, OnErr, IfOk, length};
+ghost use Rattle.std.specs.Option.{option_copied, is_some};
 ghost use Rattle.std.specs.Map.Iter.{ShowsInOrder, deref_pair};
-ghost use Rattle.pb_data.specs.Table.{value_at, with_entry};
+ghost use Rattle.pb_data.specs.Mentions.{once};
+ghost use Rattle.pb_data.specs.Table.{value_at, with_entry, with_entries, table_of, names_of, last_value};
 
 use crate::items::Items;
 use crate::text::Text;
@@ -59,6 +60,13 @@ impl<V: Drop> Table<V> {
         self.inside.get(name)
     }
 
+    /// Whether a text has a value.
+    pub fn contains(&self, name: &Text) -> bool
+        ensures { result ≡ is_some (value_at name.now self.now) }
+    {
+        self.inside.contains_key(name)
+    }
+
     /// How many entries there are.
     pub fn len(&self) -> usize
         ensures { result ≡ length self.now }
@@ -82,3 +90,18 @@ impl<V: Drop> Table<V> {
         Ok(Items::from_vec(entries))
     }
 }
+
+/// A law: a table of entries has each text once, in order of first mention.
+pub fn table_names<V>()
+    ensures { (entries : List (List ℕ × V)) → names_of (table_of entries) ≡ once (names_of entries) }
+{}
+
+/// A law: a table of entries gives each text the last value that the entries give it.
+pub fn table_values<V>()
+    ensures { (entries : List (List ℕ × V)) (name : List ℕ) → value_at name (table_of entries) ≡ last_value name entries }
+{}
+
+/// A law: a table of entries, and more after them, is the table of them all.
+pub fn table_joins<V>()
+    ensures { (entries more : List (List ℕ × V)) → with_entries (table_of entries) more ≡ table_of (entries ++ more) }
+{}

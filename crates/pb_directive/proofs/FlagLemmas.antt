@@ -7,7 +7,6 @@ use Rattle.pb_directive.specs.Directives.{flag_of, flags_of}
 use Rattle.pb_directive.specs.declared.directive.Directive.{Directive}
 use Rattle.pb_directive.specs.declared.directive.Directive.TheVariants as says
 use Rattle.pb_directive.specs.declared.fault.Problem.{Problem}
-use Rattle.pb_directive.specs.declared.fault.Problem.TheVariants as problem
 
 -- a word that is no letter alone is a flag of its own
 pub flags_of-word : (word : List ℕ) (words : List (List ℕ)) → bytes_eq word (codes "-l") ≡ false → bytes_eq word (codes "-L") ≡ false

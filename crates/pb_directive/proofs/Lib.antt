@@ -4,3 +4,7 @@ pub mod FlagLemmas
 pub mod ThenLemmas
 pub mod ReadLemmas
 pub mod RuleLemmas
+pub mod NameLemmas
+pub mod InfoLemmas
+pub mod MetadataLemmas
+pub mod JoinLemmas

@@ -1,7 +1,7 @@
 -- Lemmas on the rules of dep-info.
 use borrow.Author.Tests.{ltb-false}
-use Rattle.std.proofs.Common.{◌≡◌, ◌≢◌, ℕ, ◌+◌, ◌<◌, ◌≤◌, suc, not, ◌&&◌, ◌||◌, Bool, true, false, cond, List, [], ◌∷◌, ◌++◌, length, take, drop, Option, None, Some, refl, sym, ◌∙◌, ap, subst, arith, rules, eqb, ltb, if◌then◌else◌, append_assoc}
-use Rattle.std.proofs.lemmas.Bool.Decides.{Decides-ltb, Decides-eqb}
+use Rattle.std.proofs.Common.{◌≡◌, ◌≢◌, ℕ, ◌+◌, ◌<◌, ◌≤◌, suc, not, ◌&&◌, ◌||◌, Bool, true, false, cond, List, [], ◌∷◌, ◌++◌, length, take, drop, Option, None, Some, refl, sym, ◌∙◌, ap, subst, arith, eqb, ltb, if◌then◌else◌, append_assoc, filter}
+use Rattle.std.proofs.lemmas.Bool.Decides.{Decides-eqb}
 use Rattle.std.proofs.Common.{lit<}
 use Rattle.std.proofs.lemmas.Str.Pattern.{strip_suffix_char}
 use Rattle.std.specs.Borrow.{Bor}
@@ -9,8 +9,10 @@ use Rattle.std.specs.Option.{MatchOption}
 use Rattle.std.specs.Str.Pattern.{FindsCharSuffix, StripsSuffix}
 use Rattle.std.specs.List.{position_or_len, before_first, after_first, list_any, onto_first}
 use Rattle.pb_directive.specs.Lines.{split_first}
-use Rattle.pb_directive.specs.DepInfo.{ends_outputs, after_outputs, parts_of, onto_part}
-use Rattle.pb_directive.proofs.WordLemmas.{Cut, cut_of, split_first-shorter}
+use Rattle.pb_data.specs.Mentions.{mentioned_all}
+use Rattle.pb_directive.specs.Directives.{is_empty, some_word}
+use Rattle.pb_directive.specs.DepInfo.{ends_outputs, after_outputs, parts_of, rule_words, onto_part}
+use Rattle.pb_directive.proofs.WordLemmas.{Cut, cut_of, split_first-shorter, words_cons}
 
 -- the text is cut at the first such byte
 pub record Around (byte : ℕ) (text part rest : List ℕ) : Type 0 where
@@ -67,11 +69,11 @@ absent_of byte text at = by (ltb (position_or_len (λ b. eqb b byte) text) (leng
         absent_past byte text past
 
 -- neither of two
-record Neither (x y : Bool) : Type 0 where
-  one : x ≡ false
-  other : y ≡ false
+pub record Neither (x y : Bool) : Type 0 where
+  pub one : x ≡ false
+  pub other : y ≡ false
 
-neither : (x y : Bool) → (x || y) ≡ false → Neither x y
+pub neither : (x y : Bool) → (x || y) ≡ false → Neither x y
 neither true y is = absurd (cc)
 neither false y is = record { one = refl; other = is }
 
@@ -229,3 +231,17 @@ parts_end whole text part rest piece new so_far at lacks pushed = sym so_far ∙
 -- and over the last part
 pub parts_last : (whole : List (List ℕ)) (text piece new : List ℕ) → onto_part piece (parts_of text) ≡ whole → split_first 32 text ≡ None → new ≡ piece ++ text → whole ≡ new ∷ []
 parts_last whole text piece new so_far at pushed = sym so_far ∙ ap (onto_part piece) (parts_none text at) ∙ ap (λ p. p ∷ []) (sym pushed)
+
+some_more : (words : List (List ℕ)) (part : List ℕ) (more : List (List ℕ)) → mentioned_all words (some_word part more) ≡ mentioned_all (mentioned_all words (some_word part [])) more
+some_more words part more = by (is_empty part)
+  where
+    by : (r : Bool) → mentioned_all words (if r then more else part ∷ more) ≡ mentioned_all (mentioned_all words (if r then [] else part ∷ [])) more
+    by true = refl
+    by false = refl
+
+-- a step over a part
+pub rule_step : (whole words new : List (List ℕ)) (text part : List ℕ) (parts : List (List ℕ)) → mentioned_all words (rule_words text) ≡ whole → parts_of text ≡ part ∷ parts
+    → new ≡ mentioned_all words (some_word part []) → mentioned_all new (filter (λ part. not (is_empty part)) parts) ≡ whole
+rule_step whole words new text part parts so_far at added =
+    ap (λ w. mentioned_all w (filter (λ part. not (is_empty part)) parts)) added ∙ sym (some_more words part (filter (λ part. not (is_empty part)) parts))
+    ∙ ap (mentioned_all words) (sym (ap (filter (λ part. not (is_empty part))) at ∙ words_cons part parts)) ∙ so_far

@@ -1,6 +1,6 @@
 -- Lemmas on the words of a text.
 use borrow.Author.Tests.{ltb-false}
-use Rattle.std.proofs.Common.{◌≡◌, ℕ, ◌+◌, ◌<◌, ◌≤◌, not, Bool, true, false, cond, List, [], ◌∷◌, length, take, drop, Option, None, Some, refl, sym, ◌∙◌, ap, arith, rules, eqb, ltb, if◌then◌else◌, filter, length-drop}
+use Rattle.std.proofs.Common.{◌≡◌, ℕ, ◌+◌, ◌<◌, ◌≤◌, not, Bool, true, false, cond, List, [], ◌∷◌, length, None, Some, refl, sym, ◌∙◌, ap, arith, eqb, ltb, if◌then◌else◌, filter, length-drop}
 use Rattle.std.proofs.lemmas.Bool.Decides.{Decides-ltb}
 use Rattle.std.proofs.lemmas.List.Splits.{slice_split_first}
 use Rattle.std.specs.List.{slice_split, position_or_len, before_first, after_first}
@@ -55,7 +55,7 @@ split_first-none byte text at = by (ltb (position_or_len (λ b. eqb b byte) text
         let past : length text ≤ position_or_len (λ b. eqb b byte) text = omega (arith, ltb-false) in
         split_none (λ b. eqb b byte) text past
 
-words_cons : (part : List ℕ) (parts : List (List ℕ)) → filter (λ word. not (is_empty word)) (part ∷ parts) ≡ some_word part (filter (λ word. not (is_empty word)) parts)
+pub words_cons : (part : List ℕ) (parts : List (List ℕ)) → filter (λ word. not (is_empty word)) (part ∷ parts) ≡ some_word part (filter (λ word. not (is_empty word)) parts)
 words_cons part parts = by (is_empty part) refl
   where
     by : (r : Bool) → is_empty part ≡ r → filter (λ word. not (is_empty word)) (part ∷ parts) ≡ some_word part (filter (λ word. not (is_empty word)) parts)

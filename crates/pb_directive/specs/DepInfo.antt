@@ -96,9 +96,13 @@ info_from number (line ∷ lines) =
 abbrev pub each_once : DepInfo → DepInfo
 each_once info = record { words = once info.words; variables = once info.variables }
 
+-- all names of a text, line by line
+abbrev pub all_names_of : List ℕ → Result DepInfo LineFault
+all_names_of bytes = info_from 1 (lines_of bytes)
+
 -- what a text names
 abbrev pub dep_info_of : List ℕ → Result DepInfo LineFault
-dep_info_of bytes = info_from 1 (lines_of bytes) >>= (λ info. Ok (each_once info))
+dep_info_of bytes = all_names_of bytes >>= (λ info. Ok (each_once info))
 
 -- with what is named after it
 abbrev pub with_info : DepInfo → DepInfo → DepInfo

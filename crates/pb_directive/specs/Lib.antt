@@ -2,3 +2,5 @@ pub mod Faults
 pub mod Lines
 pub mod Directives
 pub mod DepInfo
+pub mod Metadata
+pub mod Laws

@@ -1,6 +1,6 @@
 -- The lines of a text, and the parts of a line.
-use Rattle.std.specs.Prelude.{ℕ, ◌==◌, ◌||◌, ◌&&◌, nat_lt, Bool, List, [], ◌∷◌, if◌then◌else◌, length, drop, reverse, Option, Some, None}
-use Rattle.std.specs.List.{slice_split, list_any, position_or_len, before_first, after_first, starts_with}
+use Rattle.std.specs.Prelude.{ℕ, ◌==◌, ◌||◌, nat_lt, Bool, List, [], ◌∷◌, if◌then◌else◌, length, reverse, Option, Some, None}
+use Rattle.std.specs.List.{slice_split, list_any, position_or_len, before_first, after_first}
 use Rattle.std.specs.Str.{is_utf8}
 
 -- a text is split at line feeds; what follows the last one is a line

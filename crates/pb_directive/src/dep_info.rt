@@ -1,6 +1,10 @@
 //! What the dep-info of a compiler names.
 
+ghost use Rattle.std.specs.Prelude.{◌≡◌};
+ghost use Rattle.pb_directive.specs.DepInfo.{nothing};
+
 use pb_data::Mentions;
+use std::alloc::Global;
 
 /// What the dep-info of a compiler names (The Cargo Book, "Build Cache"), each name once, in order
 /// of first mention.
@@ -10,4 +14,16 @@ pub struct DepInfo {
     pub words: Mentions,
     /// The names of the variables that were read.
     pub variables: Mentions,
+}
+
+impl DepInfo {
+    /// No names, which takes no memory.
+    pub fn new(alloc: Global) -> DepInfo
+        ensures { result ≡ nothing }
+    {
+        DepInfo {
+            words: Mentions::new(alloc),
+            variables: Mentions::new(alloc),
+        }
+    }
 }

@@ -1,7 +1,8 @@
 //! The rules of dep-info.
 
-ghost use Rattle.std.specs.Prelude.{◌≡◌, ◌≢◌, ℕ, List, ◌∷◌, ◌++◌, [], ◌<◌, IfOk, length, string_bytes, MatchOption};
+ghost use Rattle.std.specs.Prelude.{◌≡◌, ◌≢◌, ℕ, List, ◌∷◌, ◌++◌, [], ◌<◌, IfOk, length, string_bytes, MatchOption, OnOk, IfSome};
 ghost use Rattle.std.specs.Option.{option_copied, option_map, option_map_or};
+ghost use Rattle.pb_directive.specs.Directives.{some_word};
 ghost use Rattle.pb_directive.specs.Lines.{split_first};
 ghost use Rattle.pb_directive.specs.DepInfo.{ends_outputs, after_outputs, parts_of, rule_words};
 ghost use Rattle.pb_data.specs.Mentions.{mentioned_all};
@@ -51,7 +52,8 @@ fn before_backslash(part: &str) -> Option<&str>
 
 /// The first part of a text, and what follows the space that ends it, if there is one.
 fn first_part(alloc: Global, text: &str) -> Result<(String, Option<&str>), AllocError>
-    ensures { IfOk result (λ p. parts_of text.now ≡ string_bytes p.0 ∷ option_map_or (λ rest. parts_of rest.now) p.1 []) }
+    ensures parts { IfOk result (λ p. parts_of text.now ≡ string_bytes p.0 ∷ option_map_or (λ rest. parts_of rest.now) p.1 []) }
+    ensures shorter { IfOk result (λ p. IfSome p.1 (λ rest. length rest.now < length text.now)) }
 {
     let mut piece = String::new(alloc);
     let mut left = text;
@@ -70,4 +72,30 @@ fn first_part(alloc: Global, text: &str) -> Result<(String, Option<&str>), Alloc
     }
     piece.push_str(left)?;
     Ok((piece, None))
+}
+
+/// Mentions a part, unless it is empty.
+fn add_part(part: String, words: &mut Mentions) -> Result<(), AllocError>
+    ensures { OnOk result (words.new ≡ mentioned_all words.old (some_word (string_bytes part) [])) }
+{
+    if part.is_empty() {
+        return Ok(());
+    }
+    words.insert(Text::new(part))?;
+    Ok(())
+}
+
+/// Mentions the words of a rule, which stand behind its outputs.
+pub fn add_words(alloc: Global, text: &str, words: &mut Mentions) -> Result<(), AllocError>
+    ensures { OnOk result (words.new ≡ mentioned_all words.old (rule_words text.now)) }
+{
+    let mut left = text;
+    loop {
+        let (part, more) = first_part(alloc, left)?;
+        add_part(part, words)?;
+        match more {
+            Some(rest) => left = rest,
+            None => return Ok(()),
+        }
+    }
 }

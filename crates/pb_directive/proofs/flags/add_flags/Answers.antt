@@ -1,4 +1,3 @@
-use Rattle.std.proofs.Common.{◌≡◌, ◌∷◌, sym, ◌∙◌, ap, rules}
 use Rattle.std.proofs.lemmas.Result.{err_from_is_err_and}
 use Rattle.pb_directive.proofs.FlagLemmas.{flags_step, flags_fault}
 use Rattle.pb_directive.proofs.flags.add_flags.Goals as goal

@@ -1,4 +1,4 @@
-use Rattle.std.proofs.Common.{◌≡◌, ◌∙◌, sym, rules}
+use Rattle.std.proofs.Common.{◌∙◌, sym, rules}
 use Rattle.pb_directive.proofs.RuleLemmas.{outputs_found, outputs_next}
 use Rattle.pb_directive.proofs.rules.after_outputs.Goals as goal
 

@@ -1,5 +1,4 @@
-use Rattle.std.proofs.Common.{◌≡◌, ◌∙◌, sym, false, rules, arith}
-use Rattle.std.proofs.lemmas.Grind.{common_steps}
+use Rattle.std.proofs.Common.{◌≡◌, ◌∙◌, sym, false, rules}
 use Rattle.pb_directive.specs.Directives.{is_empty}
 use Rattle.pb_directive.proofs.WordLemmas.{words_of-word}
 use Rattle.pb_directive.proofs.words.first_word.Goals as goal

@@ -1,0 +1,33 @@
+-- Words for the laws of texts that follow one another.
+use Rattle.std.specs.Prelude.{ℕ, ◌+◌, List, ◌∷◌, ◌++◌, length, Result, Ok}
+use Rattle.pb_data.specs.Gives.{◌>>=◌, lifted}
+use Rattle.pb_directive.specs.DepInfo.{joined}
+use Rattle.pb_directive.specs.Lines.{lines_of}
+use Rattle.pb_directive.specs.declared.dep_info.DepInfo.{DepInfo}
+use Rattle.pb_directive.specs.declared.directive.Directive.{Directive}
+use Rattle.pb_directive.specs.declared.fault.LineFault.{LineFault}
+use Rattle.pb_directive.specs.declared.fault.LineFault.TheVariants as fault
+
+-- the fault, so many lines further down
+abbrev pub later_by : ℕ → LineFault → LineFault
+later_by lines (fault.NotText number) = fault.NotText (lines + number)
+later_by lines (fault.UnknownKey number) = fault.UnknownKey (lines + number)
+later_by lines (fault.BadValue number) = fault.BadValue (lines + number)
+later_by lines (fault.BadFlag number) = fault.BadFlag (lines + number)
+later_by lines fault.OutOfMemory = fault.OutOfMemory
+
+-- a text, a line feed and another text
+abbrev pub followed_by : List ℕ → List ℕ → List ℕ
+followed_by text more = text ++ 10 ∷ more
+
+-- what the first text says and then what the second says, or the first fault, that of the second text further down
+abbrev pub then_said : ℕ → Result (List Directive) LineFault → Result (List Directive) LineFault → Result (List Directive) LineFault
+then_said lines first second = first >>= (λ said. lifted (later_by lines) second >>= (λ more. Ok (said ++ more)))
+
+-- the same of names
+abbrev pub then_named : ℕ → Result DepInfo LineFault → Result DepInfo LineFault → Result DepInfo LineFault
+then_named lines first second = first >>= (λ named. lifted (later_by lines) second >>= (λ more. Ok (joined named more)))
+
+-- how many lines a text has
+abbrev pub line_count : List ℕ → ℕ
+line_count text = length (lines_of text)

@@ -1,0 +1,51 @@
+//! Laws of what is read, above the definitions. Nothing runs here.
+
+ghost use Rattle.std.specs.Prelude.{◌≡◌, ℕ, List, ◌∷◌, ◌++◌, [], codes, None, Ok};
+ghost use Rattle.pb_data.specs.Mentions.{once, EachOnce};
+ghost use Rattle.pb_data.specs.Table.{value_at, names_of, last_value};
+ghost use Rattle.pb_directive.specs.DepInfo.{dep_info_of, all_names_of};
+ghost use Rattle.pb_directive.specs.Directives.{directives_of, directives_from};
+ghost use Rattle.pb_directive.specs.Laws.{followed_by, then_said, then_named, line_count};
+ghost use Rattle.pb_directive.specs.Lines.{after_prefix, trimmed};
+ghost use Rattle.pb_directive.specs.Metadata.{passed, dep_pairs};
+ghost use Rattle.pb_directive.specs.declared.directive.Directive.{Directive};
+ghost use Rattle.pb_directive.specs.declared.dep_info.DepInfo.{DepInfo};
+
+/// A text, a line feed and another text say what the one says and then what the other says. A fault
+/// is the first: where the first text has none, that of the second, further down by the lines of
+/// the first.
+pub fn directives_concatenate()
+    ensures { (text more : List ℕ) → directives_of (followed_by text more) ≡ then_said (line_count text) (directives_of text) (directives_of more) }
+{}
+
+/// The same of all that dep-info names, before each name is kept once.
+pub fn names_concatenate()
+    ensures { (text more : List ℕ) → all_names_of (followed_by text more) ≡ then_named (line_count text) (all_names_of text) (all_names_of more) }
+{}
+
+/// A line that begins with neither prefix says what an empty line in its place says.
+pub fn other_lines_say_nothing()
+    ensures { (number : ℕ) (before after : List (List ℕ)) (line : List ℕ)
+        → after_prefix (codes "cargo::") (trimmed line) ≡ None → after_prefix (codes "cargo:") (trimmed line) ≡ None
+        → directives_from number (before ++ line ∷ after) ≡ directives_from number (before ++ [] ∷ after) }
+{}
+
+/// Dep-info names no path twice.
+pub fn words_stand_once()
+    ensures { (bytes : List ℕ) (info : DepInfo) → dep_info_of bytes ≡ Ok info → EachOnce info.words }
+{}
+
+/// Dep-info names no variable twice.
+pub fn variables_stand_once()
+    ensures { (bytes : List ℕ) (info : DepInfo) → dep_info_of bytes ≡ Ok info → EachOnce info.variables }
+{}
+
+/// Of the values that metadata gives a variable, the last one counts.
+pub fn last_metadata_counts()
+    ensures { (links name : List ℕ) (directives : List Directive) → value_at name (dep_pairs links directives) ≡ last_value name (passed links directives) }
+{}
+
+/// Each variable that metadata names stands once, in order of first mention.
+pub fn passed_names_stand_once()
+    ensures { (links : List ℕ) (directives : List Directive) → names_of (dep_pairs links directives) ≡ once (names_of (passed links directives)) }
+{}

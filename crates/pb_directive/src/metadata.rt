@@ -1,0 +1,93 @@
+//! The metadata that a build script passes on.
+
+ghost use Rattle.std.specs.Prelude.{◌≡◌, IfOk, OnOk, string_bytes};
+ghost use Rattle.std.specs.Option.{option_map};
+ghost use Rattle.pb_data.specs.Table.{with_entries};
+ghost use Rattle.pb_directive.specs.Lines.{split_first};
+ghost use Rattle.pb_directive.specs.Metadata.{underscored, in_capitals, dep_name, passed, dep_pairs};
+
+use crate::directive::{Directive, Directives};
+use pb_data::{Table, Text, TryCopy};
+use std::alloc::{AllocError, Global};
+
+/// What stands before and after the first `-`, where there is one.
+fn split_at_dash(text: &str) -> Option<(&str, &str)>
+    ensures { option_map (λ p. (p.0.now, p.1.now)) result ≡ split_first 45 text.now }
+{
+    text.split_once('-')
+}
+
+/// A text with `_` for each `-`.
+fn underscored(alloc: Global, text: &str) -> Result<String, AllocError>
+    ensures { IfOk result (λ made. string_bytes made ≡ underscored text.now) }
+{
+    let mut made = String::new(alloc);
+    let mut left = text;
+    while let Some((part, rest)) = split_at_dash(left) {
+        made.push_str(part)?;
+        made.push_str("_")?;
+        left = rest;
+    }
+    made.push_str(left)?;
+    Ok(made)
+}
+
+/// A text in upper case, with `_` for each `-`.
+fn in_capitals(alloc: Global, text: &str) -> Result<String, AllocError>
+    ensures { IfOk result (λ made. string_bytes made ≡ in_capitals text.now) }
+{
+    let upper = text.to_uppercase(alloc)?;
+    let made = underscored(alloc, upper.as_str())?;
+    Ok(made)
+}
+
+/// The name of the variable by which a key of a package's metadata is passed on.
+fn dep_name(alloc: Global, links: &str, key: &str) -> Result<Text, AllocError>
+    ensures { IfOk result (λ name. name ≡ dep_name links.now key.now) }
+{
+    let links = in_capitals(alloc, links)?;
+    let key = in_capitals(alloc, key)?;
+    let mut name = String::from_str(alloc, "DEP_")?;
+    name.push_str(links.as_str())?;
+    name.push_str("_")?;
+    name.push_str(key.as_str())?;
+    Ok(Text::new(name))
+}
+
+/// Adds the variables that a build script's metadata gives, in printed order, to those that are
+/// there: a later value takes the place of an earlier one.
+pub fn add_dep_pairs(
+    alloc: Global,
+    links: &str,
+    directives: &Directives,
+    pairs: &mut Table<Text>,
+) -> Result<(), AllocError>
+    ensures { OnOk result (pairs.new ≡ with_entries pairs.old (passed links.now directives.now)) }
+{
+    for directive in directives.as_slice() {
+        if let Directive::Metadata(key, value) = directive {
+            let name = dep_name(alloc, links, key.as_str())?;
+            pairs.insert(name, value.copy(alloc)?)?;
+        }
+    }
+    Ok(())
+}
+
+/// The variables by which the metadata of one build script reaches the build scripts of the
+/// packages that need its package directly, with their values (The Cargo Book, "Build Scripts",
+/// "The `links` Manifest Key").
+///
+/// `links` is the value of `links` in the package's manifest. A variable's name is `DEP_LINKS_KEY`,
+/// where `links` and the metadata's key are in upper case, with `_` for each `-`. Each name stands
+/// once, in order of first mention, with its last value. The one fault is want of memory.
+pub fn dep_pairs(
+    alloc: Global,
+    links: &str,
+    directives: &Directives,
+) -> Result<Table<Text>, AllocError>
+    ensures { IfOk result (λ pairs. pairs ≡ dep_pairs links.now directives.now) }
+{
+    let mut pairs = Table::new(alloc);
+    add_dep_pairs(alloc, links, directives, &mut pairs)?;
+    Ok(pairs)
+}

@@ -1,0 +1,115 @@
+//! Reads the dep-info of a compiler.
+
+ghost use Rattle.std.specs.Prelude.{◌≡◌, ◌==◌};
+ghost use Rattle.std.specs.List.{before_first};
+ghost use Rattle.std.specs.Str.Lines.{strip_carriage_return};
+ghost use Rattle.pb_directive.specs.Faults.{TextGives};
+ghost use Rattle.pb_directive.specs.DepInfo.{variable_info, full_line, rule_info, line_info, dep_info_of, AddsInfo, after_outputs};
+
+use crate::dep_info::DepInfo;
+use crate::fault::{LineFault, Problem};
+use crate::lines::lines_of;
+use crate::rules::{add_words, after_outputs};
+use crate::texts::{after_prefix, has_nul, split_at_equals, text_of};
+use pb_data::Text;
+use std::alloc::Global;
+
+/// A line without a carriage return at its end.
+fn without_return(line: &[u8]) -> &[u8]
+    ensures { result.now ≡ strip_carriage_return line.now }
+{
+    match line {
+        [front @ .., b'\r'] => front,
+        _ => line,
+    }
+}
+
+/// The name of a variable, from `NAME` or `NAME=VALUE`.
+#[tactic(auto, using(crate::proofs::NameLemmas::name_laws))]
+fn name_of(text: &str) -> &str
+    ensures { result.now ≡ before_first (λ b. b == 61) text.now }
+{
+    match split_at_equals(text) {
+        Some((name, _)) => name,
+        None => text,
+    }
+}
+
+/// Mentions a variable.
+fn add_variable(alloc: Global, text: &str, info: &mut DepInfo) -> Result<(), Problem>
+    ensures { AddsInfo result info.old info.new (variable_info text.now) }
+{
+    let name = name_of(text);
+    if name.is_empty() || has_nul(name) {
+        return Err(Problem::BadValue);
+    }
+    let name = Text::from_str(alloc, name)?;
+    info.variables.insert(name)?;
+    Ok(())
+}
+
+/// Mentions the words of a rule.
+fn add_rule(alloc: Global, text: &str, info: &mut DepInfo) -> Result<(), Problem>
+    ensures { AddsInfo result info.old info.new (rule_info (after_outputs text.now)) }
+{
+    let Some(rest) = after_outputs(text) else {
+        return Err(Problem::BadValue);
+    };
+    if has_nul(rest) {
+        return Err(Problem::BadValue);
+    }
+    add_words(alloc, rest, &mut info.words)?;
+    Ok(())
+}
+
+/// Mentions what a line names that is not empty.
+fn add_full_line(alloc: Global, text: &str, info: &mut DepInfo) -> Result<(), Problem>
+    ensures { AddsInfo result info.old info.new (full_line text.now) }
+{
+    if after_prefix("#", text).is_none() {
+        return add_rule(alloc, text, info);
+    }
+    if let Some(variable) = after_prefix("# env-dep:", text) {
+        return add_variable(alloc, variable, info);
+    }
+    Ok(())
+}
+
+/// Mentions what a line names.
+fn add_line(alloc: Global, line: &[u8], info: &mut DepInfo) -> Result<(), Problem>
+    ensures { AddsInfo result info.old info.new (line_info line.now) }
+{
+    let Some(text) = text_of(without_return(line)) else {
+        return Err(Problem::NotText);
+    };
+    if text.is_empty() {
+        return Ok(());
+    }
+    add_full_line(alloc, text, info)
+}
+
+/// Reads the dep-info of a compiler (The Cargo Book, "Build Cache").
+///
+/// The text is read line by line: what follows the last line feed is a line, and a carriage return
+/// at the end of a line is not looked at. An empty line names nothing. A line `# env-dep:NAME` or
+/// `# env-dep:NAME=VALUE` names a variable, whatever the value; other lines that begin with `#`
+/// name nothing. Any other line is a rule: the first `:` that a space follows or that ends the line
+/// ends its outputs, and behind it stand its words, separated by spaces, where `\ ` is a space of a
+/// word and any other `\` stands for itself.
+///
+/// The first line with a fault is told by its number, from 1: `NotText` for a line that is not
+/// UTF-8; `BadValue` for a rule without such a `:`, a word or a variable's name with byte 0, and an
+/// empty name. `OutOfMemory` where memory is refused.
+pub fn read_dep_info(alloc: Global, bytes: &[u8]) -> Result<DepInfo, LineFault>
+    ensures { TextGives result (dep_info_of bytes.now) }
+{
+    let mut info = DepInfo::new(alloc);
+    let mut number: u64 = 1;
+    for line in lines_of(bytes) {
+        match add_line(alloc, line, &mut info) {
+            Ok(()) => number += 1,
+            Err(problem) => return Err(problem.at(number)),
+        }
+    }
+    Ok(info)
+}
