@@ -8,14 +8,14 @@ pub mod fault;
 mod flags;
 mod keys;
 pub mod laws;
-mod lines;
+pub mod lines;
 mod metadata;
 mod names;
 mod read;
 mod rules;
-mod texts;
+pub mod texts;
 mod values;
-mod words;
+pub mod words;
 
 pub use dep_info::DepInfo;
 pub use directive::{Directive, Directives};

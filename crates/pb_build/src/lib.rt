@@ -1,0 +1,14 @@
+//! Builds a workspace: from the bytes of its manifest to the bytes of its message lines.
+//!
+//! At present one package with one library. What belongs to later crates (commands, message lines, the
+//! run of a unit) lies in private modules of their names.
+#![tactic(auto)]
+
+mod command;
+mod message;
+pub mod setup;
+mod texts;
+pub mod unit;
+
+pub use setup::{Options, Setup};
+pub use unit::{About, LibraryUnit};
