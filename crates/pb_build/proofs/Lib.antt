@@ -1,1 +1,3 @@
+pub mod Setups
+pub mod Sources
 pub mod Versions

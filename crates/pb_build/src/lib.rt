@@ -5,10 +5,16 @@
 #![tactic(auto)]
 
 mod command;
+mod device;
+mod library;
 mod message;
+mod package;
+mod run;
 pub mod setup;
 mod texts;
 pub mod unit;
 
-pub use setup::{Options, Setup};
+pub use pb_report::{BuildFault, LoadFault, PlanFault, Refusal, Summary, UnitFault};
+pub use pb_session::Options;
+pub use setup::Setup;
 pub use unit::{About, LibraryUnit};

@@ -364,6 +364,16 @@ fn is_relative(alloc: Global, text: &str) -> Result<bool, AllocError>
 }
 
 impl RelativePath {
+    /// The relative path of a name that is known to be one.
+    pub fn name(alloc: Global, name: &str) -> Result<RelativePath, AllocError>
+        requires { is_relative name.now ≡ true }
+        ensures { IfOk result (λ relative. relative ≡ name.now) }
+    {
+        Ok(RelativePath {
+            inside: Text::from_str(alloc, name)?,
+        })
+    }
+
     /// The relative path that a text is, or none where it is no such path.
     pub fn new(alloc: Global, text: Text) -> Result<Option<RelativePath>, AllocError>
         ensures { IfOk result (λ found. found ≡ (if is_relative text then Some text else None)) }

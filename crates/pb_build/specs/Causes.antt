@@ -1,0 +1,24 @@
+-- How the counters of a place move where a step of a build ends, and how its faults come about.
+use Rattle.std.specs.Prelude.{◌≡◌, Bool, true, false, Result, MatchResult}
+use Rattle.pb_place.specs.Counts.{Counts, up}
+use Rattle.pb_report.specs.declared.fault.BuildFault.{BuildFault}
+use Rattle.pb_report.specs.declared.fault.BuildFault.TheVariants.{Plan, Toolchain, Child, Device, Sink, OutOfMemory}
+
+-- a call of the place failed
+abbrev pub is_failure : BuildFault → Bool
+is_failure (Plan r) = false
+is_failure Toolchain = false
+is_failure (Child unit fault) = true
+is_failure (Device unit fault) = true
+is_failure Sink = false
+is_failure OutOfMemory = false
+
+-- a step that starts no child: a call failed just where the fault says so, and then no further call was made
+abbrev pub Reads : {T : Type 0} → Result T BuildFault → Counts → Counts → Type 0
+Reads result old new = MatchResult result (λ _. (new.failures ≡ old.failures) × (new.starts ≡ old.starts))
+    (λ e. (new.starts ≡ old.starts) × (is_failure e ≡ true → new.failures ≡ up old.failures) × (is_failure e ≡ true → new.late ≡ 0))
+
+-- a step that starts one child
+abbrev pub Starts : {T : Type 0} → Result T BuildFault → Counts → Counts → Type 0
+Starts result old new = MatchResult result (λ _. (new.failures ≡ old.failures) × (new.starts ≡ up old.starts))
+    (λ e. (is_failure e ≡ true → new.failures ≡ up old.failures) × (is_failure e ≡ true → new.late ≡ 0))

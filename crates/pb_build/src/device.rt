@@ -1,0 +1,40 @@
+//! Faults of the outside, with the name of what was called.
+
+ghost use Rattle.std.specs.Prelude.{◌≡◌, ◌≢◌, true};
+ghost use Rattle.pb_report.specs.Faults.{is_outside};
+ghost use Rattle.pb_build.specs.Causes.{is_failure};
+
+use pb_data::Text;
+use pb_place::{PlaceFault, StartFault};
+use pb_report::BuildFault;
+use std::alloc::Global;
+
+/// The fault of a call on files or variables: it names the path or the variable, or the unit. Want of
+/// memory stays so, also where there is none for the name.
+pub fn device(alloc: Global, name: &str, fault: PlaceFault) -> BuildFault
+    ensures outside { is_outside result ≡ true }
+    ensures failed { is_failure result ≡ true → fault ≢ PlaceFault.OutOfMemory }
+{
+    match fault {
+        PlaceFault::OutOfMemory => BuildFault::OutOfMemory,
+        fault => match Text::from_str(alloc, name) {
+            Ok(unit) => BuildFault::Device { unit, fault },
+            Err(_) => BuildFault::OutOfMemory,
+        },
+    }
+}
+
+/// The fault of a child that gave no answer: it names the unit, or `-vV`. Want of memory stays so, also
+/// where there is none for the name.
+pub fn childless(alloc: Global, name: &str, fault: StartFault) -> BuildFault
+    ensures outside { is_outside result ≡ true }
+    ensures failed { is_failure result ≡ true → fault ≢ StartFault.OutOfMemory }
+{
+    match fault {
+        StartFault::OutOfMemory => BuildFault::OutOfMemory,
+        fault => match Text::from_str(alloc, name) {
+            Ok(unit) => BuildFault::Child { unit, fault },
+            Err(_) => BuildFault::OutOfMemory,
+        },
+    }
+}
