@@ -73,13 +73,23 @@ fn names_in(alloc: Global, bytes: &[u8]) -> Result<String, AllocError> {
     }
 }
 
-fn expect_directives(rt: &impl Abort, alloc: Global, bytes: &[u8], want: &str) -> Result<(), AllocError> {
+fn expect_directives(
+    rt: &impl Abort,
+    alloc: Global,
+    bytes: &[u8],
+    want: &str,
+) -> Result<(), AllocError> {
     let found = directives_in(alloc, bytes)?;
     assert_eq!(rt; found.as_str(), want);
     Ok(())
 }
 
-fn expect_names(rt: &impl Abort, alloc: Global, bytes: &[u8], want: &str) -> Result<(), AllocError> {
+fn expect_names(
+    rt: &impl Abort,
+    alloc: Global,
+    bytes: &[u8],
+    want: &str,
+) -> Result<(), AllocError> {
     let found = names_in(alloc, bytes)?;
     assert_eq!(rt; found.as_str(), want);
     Ok(())
@@ -93,7 +103,10 @@ fn lines_and_prefixes(rt: HostRuntime) -> Result<(), Fail> {
         (b"", ""),
         (b"hello\n\n", ""),
         (b"xcargo::a=b\n cargo :a=b", ""),
-        (b"cargo::rustc-cfg=a\ncargo:rustc-cfg=b\n", "cfg<a><>;cfg<b><>;"),
+        (
+            b"cargo::rustc-cfg=a\ncargo:rustc-cfg=b\n",
+            "cfg<a><>;cfg<b><>;",
+        ),
         (b" \t cargo::warning= w \t\r\r\n", "warning< w><>;"),
         (b"\xffcargo::x=y\ncargo::rustc-cfg=a", "cfg<a><>;"),
         (b"\xc3\ncargo::rustc-cfg=\xc3\xa9\n", "cfg<\u{e9}><>;"),
@@ -102,9 +115,15 @@ fn lines_and_prefixes(rt: HostRuntime) -> Result<(), Fail> {
         (b"cargo::", "BadValue 1"),
         (b"cargo::=x", "UnknownKey 1"),
         (b"cargo:=x", "BadValue 1"),
-        (b"\ncargo::rustc-cfg=\ncargo::x=y\ncargo::rustc-flags=x\n", "BadValue 2"),
+        (
+            b"\ncargo::rustc-cfg=\ncargo::x=y\ncargo::rustc-flags=x\n",
+            "BadValue 2",
+        ),
         (b"cargo::error=e", "UnknownKey 1"),
-        (b"cargo:error=e\ncargo:metadata=a=b", "metadata<error><e>;metadata<metadata><a=b>;"),
+        (
+            b"cargo:error=e\ncargo:metadata=a=b",
+            "metadata<error><e>;metadata<metadata><a=b>;",
+        ),
     ];
     for (bytes, want) in cases {
         expect_directives(&rt, rt.alloc(), bytes, want)?;
@@ -133,9 +152,15 @@ fn keys_and_values(rt: HostRuntime) -> Result<(), Fail> {
         (b"cargo::rustc-link-arg-bin=x", "BadValue 1"),
         (b"cargo::rustc-link-lib=static=a", "lib<static=a><>;"),
         (b"cargo::rustc-link-search=", "BadValue 1"),
-        (b"cargo::rustc-link-search=native=/l", "search<native=/l><>;"),
+        (
+            b"cargo::rustc-link-search=native=/l",
+            "search<native=/l><>;",
+        ),
         (b"cargo::rustc-check-cfg=cfg(a)", "check-cfg<cfg(a)><>;"),
-        (b"cargo::rustc-flags=-l a  -Lb -lc -L d ", "lib<a><>;search<b><>;lib<c><>;search<d><>;"),
+        (
+            b"cargo::rustc-flags=-l a  -Lb -lc -L d ",
+            "lib<a><>;search<b><>;lib<c><>;search<d><>;",
+        ),
         (b"cargo::rustc-flags=-l -L", "lib<-L><>;"),
         (b"cargo::rustc-flags=", ""),
         (b"cargo::rustc-flags=-l a -l", "BadFlag 1"),
@@ -175,7 +200,10 @@ fn prefixes_of_a_line(rt: HostRuntime) -> Result<(), Fail> {
 #[test]
 fn rules_and_variables(rt: HostRuntime) -> Result<(), Fail> {
     let cases: [(&[u8], &str); 29] = [
-        (b"o: /w/a\\ b.rs /w/c.rs\n# env-dep:V\n", "/w/a b.rs;/w/c.rs; V;"),
+        (
+            b"o: /w/a\\ b.rs /w/c.rs\n# env-dep:V\n",
+            "/w/a b.rs;/w/c.rs; V;",
+        ),
         (b"", " "),
         (b"\n\r\n", " "),
         (b"o p: a\r\n", "a; "),
