@@ -1,6 +1,6 @@
 //! Tables from texts to values, in order of first mention.
 
-ghost use Rattle.std.specs.Prelude.{◌≡◌, ℕ, List, [], ◌++◌, OnOk, OnErr, IfOk, length};
+ghost use Rattle.std.specs.Prelude.{◌≡◌, ℕ, List, [], ◌++◌, ◌<◌, ◌^◌, OnOk, OnErr, IfOk, length};
 ghost use Rattle.std.specs.Option.{option_copied, is_some};
 ghost use Rattle.std.specs.Map.Iter.{ShowsInOrder, deref_pair};
 ghost use Rattle.pb_data.specs.Mentions.{once};
@@ -78,6 +78,7 @@ impl<V: Drop> Table<V> {
     pub fn iter(&self) -> Iter<'_, Text, V>
         ensures rest { result ≡ self.now }
         ensures runs { ShowsInOrder (deref_pair {K = List ℕ} {X = V}) }
+        ensures fits { length self.now < 2 ^ 63 }
     {
         self.inside.iter()
     }

@@ -43,24 +43,41 @@ pub enum Directive {
 /// What the lines of a build script's output give, in printed order.
 pub type Directives = Items<Directive>;
 
-/// A key that a line may have.
+/// A key that a line may have (The Cargo Book, "Build Scripts").
 #[derive(Clone, Copy, Debug, PartialEq, Eq)]
 pub enum Key {
+    /// `rerun-if-changed`
     RerunIfChanged,
+    /// `rerun-if-env-changed`
     RerunIfEnvChanged,
+    /// `rustc-link-arg`
     LinkArg,
+    /// `rustc-link-arg-bins`
     LinkArgBins,
+    /// `rustc-link-arg-cdylib`
     LinkArgCdylib,
+    /// `rustc-link-arg-tests`
     LinkArgTests,
+    /// `rustc-link-arg-examples`
     LinkArgExamples,
+    /// `rustc-link-arg-benches`
     LinkArgBenches,
+    /// `rustc-link-arg-bin`
     LinkArgBin,
+    /// `rustc-link-lib`
     LinkLib,
+    /// `rustc-link-search`
     LinkSearch,
+    /// `rustc-cfg`
     Cfg,
+    /// `rustc-check-cfg`
     CheckCfg,
+    /// `rustc-flags`
     Flags,
+    /// `rustc-env`
     Env,
+    /// `metadata`, a key after `cargo::` alone
     Metadata,
+    /// `warning`
     Warning,
 }

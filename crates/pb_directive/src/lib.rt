@@ -23,3 +23,6 @@ pub use fault::LineFault;
 pub use metadata::{add_dep_pairs, dep_pairs};
 pub use names::read_dep_info;
 pub use read::read_directives;
+
+#[cfg(test)]
+mod tests;

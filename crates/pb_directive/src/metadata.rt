@@ -54,8 +54,9 @@ fn dep_name(alloc: Global, links: &str, key: &str) -> Result<Text, AllocError>
     Ok(Text::new(name))
 }
 
-/// Adds the variables that a build script's metadata gives, in printed order, to those that are
-/// there: a later value takes the place of an earlier one.
+/// Adds the variables that the metadata of one more build script gives, in printed order, to those
+/// that are there: a later value takes the place of an earlier one, and a new name goes last. Their
+/// names are those of `dep_pairs`. The one fault is want of memory.
 pub fn add_dep_pairs(
     alloc: Global,
     links: &str,
