@@ -9,6 +9,7 @@ mod device;
 mod library;
 mod message;
 mod package;
+mod plan;
 mod run;
 pub mod setup;
 mod texts;
