@@ -1,9 +1,9 @@
 -- Laws of the reader, each about a definition, in the words of the rules.
-use Rattle.std.specs.Prelude.{◌≡◌, ◌≢◌, ◌<◌, ℕ, List, [], ◌∷◌, if◌then◌else◌, length, codes, map, Option, Some, None, Result, Ok, Err}
+use Rattle.std.specs.Prelude.{◌≡◌, ◌≢◌, ◌<◌, ℕ, List, [], ◌∷◌, if◌then◌else◌, length, codes, map, Some, None, Ok, Err}
 use Rattle.toml.specs.Data.{Data, Items, no_items, item, Members, no_members, member, same_key}
 use Rattle.pb_manifest.specs.Keys.{spelled}
 use Rattle.pb_manifest.specs.Values.{Text, Read, value_at, each}
-use Rattle.pb_manifest.specs.Binaries.{binary_of, binaries_at}
+use Rattle.pb_manifest.specs.Binaries.{binary_of}
 use Rattle.pb_manifest.specs.Document.{manifest_of, greatest_length}
 use Rattle.pb_manifest.specs.Letters.{underscored_byte}
 use Rattle.pb_manifest.specs.Library.{library_name}

@@ -46,8 +46,7 @@ pub fn default_version()
 #[tactic(auto, unfolding(crate::specs::Letters::underscored))]
 pub fn default_library_name()
     ensures { DefaultLibraryName }
-{
-}
+{}
 
 /// The binaries of `[[bin]]` are those of the list, one for one and in its order.
 pub fn binaries_keep_their_order()
