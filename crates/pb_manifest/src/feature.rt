@@ -31,6 +31,7 @@ pub enum FeatureItem {
 pub struct Feature {
     /// ASCII letters, digits and `_`, and after the first also `-`, `+` and `.`; not empty.
     pub name: Text,
+    /// What it turns on, in the manifest's order.
     pub items: Items<FeatureItem>,
 }
 
