@@ -57,7 +57,11 @@ fn bad_command_line(alloc: Global) -> Result<Reply, AllocError>
 /// A compile with an error has status 1 and no image, else status 0 and the image; it has dep-info, `NAME.d`, in both
 /// cases, and its diagnostics are lines of JSON on standard error. A line of the source that is empty or begins with
 /// `#` does nothing; `warn TEXT` and `fail TEXT` are diagnostics; a line whose verb is `print`, `show`, `read`,
-/// `put` or `exit` stands in the image; any other is the error `unknown line`.
+/// `put` or `exit` stands in the image; any other is the error `unknown line`. A source that is missing or not UTF-8
+/// is the error `no source` of line 0.
+///
+/// Our own choice: a source that is no absolute path is the error `no source`, too, and an out folder that is none, or
+/// a crate name that names no file inside it, is a bad command line.
 ///
 /// `pairs` are names and values that go over the variables of the view. Of neither does a compile read any yet.
 ///
