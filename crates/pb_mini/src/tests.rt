@@ -1,6 +1,7 @@
 //! Worked compiles with their bytes.
 
 use crate::dep_info::{Names, Variable, dep_info_text};
+use crate::laws::{is_honest, tells_names};
 use crate::tests_view::{Broken, Files};
 use crate::{Mini, answer};
 use pb_data::{Bytes, Items, Text};
@@ -354,6 +355,8 @@ fn child(rt: HostRuntime) -> Result<(), Fail> {
         return Err("a view that fails has an answer")?;
     };
     assert_eq!(rt; fault, ViewFault::Failed);
+    is_honest();
+    tells_names();
     Ok(())
 }
 
