@@ -13,6 +13,7 @@ mod plan;
 mod run;
 pub mod setup;
 mod texts;
+mod toolchain;
 pub mod unit;
 
 pub use pb_report::{BuildFault, LoadFault, PlanFault, Refusal, Summary, UnitFault};

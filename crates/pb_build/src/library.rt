@@ -17,7 +17,8 @@ use std::alloc::{AllocError, Global};
 
 /// A value that is written here. One that is taken from the workspace is NoInherited, since there is none.
 fn written<T: Drop>(value: Inherited<T>) -> Result<T, BuildFault>
-    ensures { result ≡ written value }
+    ensures value { result ≡ written value }
+    ensures here { IfErr result (λ e. is_failure e ≡ false) }
 {
     match value {
         Inherited::Written(value) => Ok(value),
@@ -316,10 +317,27 @@ pub fn library_of<P: Place>(
         repository,
         rust_version,
     };
-    let about = about_of(place, alloc, setup, manifest, said)?;
-    let made = crate_of(place, alloc, setup, manifest, name.as_str(), library)?;
+    let (about, made) = parts_of(place, alloc, setup, manifest, said, name.as_str(), library)?;
     let unit = unit_of(alloc, setup, manifest, name, version, edition, about, made)?;
     Ok(unit)
+}
+
+/// What a package says of itself, and its library's crate.
+fn parts_of<P: Place>(
+    place: &mut P,
+    alloc: Global,
+    setup: &Setup,
+    manifest: &PathText,
+    said: SaidOfItself,
+    package_name: &str,
+    library: Option<Library>,
+) -> Result<(About, Crate), BuildFault>
+    ensures same { IsTrue P.tells → P.world place.new ≡ P.world place.old }
+    ensures reads { Reads result (P.counts place.old) (P.counts place.new) }
+{
+    let about = about_of(place, alloc, setup, manifest, said)?;
+    let made = crate_of(place, alloc, setup, manifest, package_name, library)?;
+    Ok((about, made))
 }
 
 /// The unit of a library, put together.

@@ -1,6 +1,8 @@
 //! What a build is going to do: read from the sources, before a child is started.
 
-ghost use Rattle.std.specs.Prelude.{◌≡◌, Bool, IfOk, IfErr, IsTrue, true, false};
+ghost use Rattle.std.specs.Prelude.{◌≡◌, Bool, IfOk, IfErr, IsTrue, true, false, codes};
+ghost use Rattle.pb_place.specs.Paths.{below};
+ghost use Rattle.pb_build.specs.Unit.{out_of};
 ghost use Rattle.pb_report.specs.Faults.{is_outside};
 ghost use Rattle.pb_build.specs.Causes.{Reads, is_failure};
 ghost use Rattle.pb_build.specs.Setup.{setup_of};
@@ -10,9 +12,10 @@ use crate::package::{
     has_source_below, has_unserved_table, is_source, manifest_in, package_is_unserved, refused,
 };
 use crate::setup::{Setup, setup_of};
-use crate::unit::LibraryUnit;
+use crate::unit::{LibraryUnit, key_of};
 use pb_manifest::{Library, Manifest, ManifestFault, Package};
-use pb_place::{PathText, Place};
+use pb_data::{Text, TryCopy};
+use pb_place::{PathText, Place, RelativePath};
 use pb_report::BuildFault;
 use pb_session::Options;
 use std::alloc::Global;
@@ -24,6 +27,40 @@ pub struct Plan {
     pub setup: Setup,
     /// The one unit.
     pub unit: LibraryUnit,
+    /// The unit's key.
+    pub key: Text,
+    /// The unit's output folder.
+    pub out: PathText,
+}
+
+/// A unit's output folder. Its key is a name, since the reader refuses other letters in a package's.
+fn out_of(alloc: Global, setup: &Setup, unit: &LibraryUnit, key: &Text) -> Result<PathText, BuildFault>
+    ensures here { IfErr result (λ e. is_failure e ≡ false) }
+    ensures folder { IfOk result (λ out. out ≡ below (below setup.now.target (codes "debug")) key.now) }
+{
+    let name = match RelativePath::new(alloc, key.copy(alloc)?)? {
+        Some(name) => name,
+        None => return Err(refused(alloc, &unit.manifest, ManifestFault::BadName)),
+    };
+    let debug = RelativePath::name(alloc, "debug")?;
+    let folder = setup.target.below(alloc, &debug)?;
+    Ok(folder.below(alloc, &name)?)
+}
+
+/// The plan of a unit.
+fn plan_of(alloc: Global, setup: Setup, unit: LibraryUnit) -> Result<Plan, BuildFault>
+    ensures here { IfErr result (λ e. is_failure e ≡ false) }
+    ensures setup { IfOk result (λ plan. plan.setup ≡ setup) }
+    ensures out { IfOk result (λ plan. plan.out ≡ out_of plan.setup.target plan.unit) }
+{
+    let key = key_of(alloc, &unit)?;
+    let out = out_of(alloc, &setup, &unit, &key)?;
+    Ok(Plan {
+        setup,
+        unit,
+        key,
+        out,
+    })
 }
 
 /// The package of a manifest and its `[lib]`, where it says nothing that a build does not serve yet: a
@@ -89,11 +126,13 @@ fn unit_in<P: Place>(place: &mut P, alloc: Global, setup: &Setup, manifest: &Pat
 /// Reads what a build is going to do. It starts no child and changes no file.
 pub fn plan_in<P: Place>(place: &mut P, alloc: Global, options: &Options) -> Result<Plan, BuildFault>
     ensures setup { IsTrue P.tells → IfOk result (λ plan. plan.setup ≡ setup_of options.now (P.world place.old).variables) }
+    ensures out { IfOk result (λ plan. plan.out ≡ out_of plan.setup.target plan.unit) }
     ensures same { IsTrue P.tells → P.world place.new ≡ P.world place.old }
     ensures reads { Reads result (P.counts place.old) (P.counts place.new) }
 {
     let setup = setup_of(place, alloc, options)?;
     let found = manifest_in(place, alloc, &setup.target, &options.manifest)?;
     let unit = unit_in(place, alloc, &setup, &options.manifest, found)?;
-    Ok(Plan { setup, unit })
+    let plan = plan_of(alloc, setup, unit)?;
+    Ok(plan)
 }
