@@ -1,3 +1,4 @@
 pub mod Setups
+pub mod Sinks
 pub mod Sources
 pub mod Versions

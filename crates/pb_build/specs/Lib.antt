@@ -4,5 +4,6 @@ pub mod Library
 pub mod Messages
 pub mod Outcome
 pub mod Package
+pub mod Report
 pub mod Setup
 pub mod Unit

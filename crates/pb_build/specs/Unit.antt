@@ -15,10 +15,6 @@ key_of u = u.name ++ codes ".target.lib"
 abbrev pub out_of : List ℕ → LibraryUnit → List ℕ
 out_of target u = below (below target (codes "debug")) (key_of u)
 
--- the file's name in it: libCRATE.rlib
-abbrev pub file_of : LibraryUnit → List ℕ
-file_of u = codes "lib" ++ u.crate_name ++ codes ".rlib"
-
 abbrev pub edition_text : Edition → List ℕ
 edition_text E2015 = codes "2015"
 edition_text E2018 = codes "2018"

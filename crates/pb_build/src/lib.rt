@@ -4,18 +4,22 @@
 //! run of a unit) lies in private modules of their names.
 #![tactic(auto)]
 
+mod builder;
 mod command;
 mod device;
 mod library;
 mod message;
 mod package;
 mod plan;
+mod report;
 mod run;
 pub mod setup;
+mod sink;
 mod texts;
 mod toolchain;
 pub mod unit;
 
+pub use builder::build;
 pub use pb_report::{BuildFault, LoadFault, PlanFault, Refusal, Summary, UnitFault};
 pub use pb_session::Options;
 pub use setup::Setup;

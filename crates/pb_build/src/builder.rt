@@ -1,0 +1,87 @@
+//! A whole build.
+
+ghost use Rattle.std.specs.Prelude.{◌≡◌, Bool, IfOk, IfErr, OnOk, OnErr, IsTrue, true, false, MatchResult};
+ghost use Rattle.pb_place.specs.Counts.{up};
+ghost use Rattle.pb_report.specs.Faults.{is_outside};
+ghost use Rattle.pb_build.specs.Causes.{is_failure};
+ghost use Rattle.pb_build.specs.Unit.{out_of};
+
+use crate::command::command_of;
+use crate::message::build_finished;
+use crate::plan::{Plan, plan_in};
+use crate::report::{Report, report_of};
+use crate::run::run_unit;
+use crate::sink::write_all;
+use crate::toolchain::toolchain;
+use pb_place::{Ended, Out, Place};
+use pb_report::{BuildFault, Summary};
+use pb_session::Options;
+use std::alloc::Global;
+
+/// Runs the unit of a plan.
+fn run_plan<P: Place>(place: &mut P, alloc: Global, plan: &Plan) -> Result<Ended, BuildFault>
+    requires { plan.now.out ≡ out_of plan.now.setup.target plan.now.unit }
+    ensures failed { IfErr result (λ e. is_failure e ≡ true → (P.counts place.new).late ≡ 0) }
+{
+    let toolchain = toolchain(place, alloc, &plan.setup)?;
+    let command = command_of(alloc, &plan.setup, toolchain, &plan.unit, &plan.out)?;
+    let ended = run_unit(place, alloc, plan.key.as_str(), &plan.out, &command)?;
+    Ok(ended)
+}
+
+/// Runs the unit of a plan, and says what came of it.
+fn report_plan<P: Place>(place: &mut P, alloc: Global, plan: &Plan) -> Result<Report, BuildFault>
+    requires { plan.now.out ≡ out_of plan.now.setup.target plan.now.unit }
+    ensures failed { IfErr result (λ e. is_failure e ≡ true → (P.counts place.new).late ≡ 0) }
+{
+    let ended = run_plan(place, alloc, plan)?;
+    let report = report_of(alloc, plan, ended)?;
+    Ok(report)
+}
+
+/// Reads what is to be done, does it, and says what came of it.
+fn carry_out<P: Place>(place: &mut P, alloc: Global, options: &Options) -> Result<Report, BuildFault>
+    ensures failed { IfErr result (λ e. is_failure e ≡ true → (P.counts place.new).late ≡ 0) }
+{
+    let plan = plan_in(place, alloc, options)?;
+    report_plan(place, alloc, &plan)
+}
+
+/// Ends a build with a fault: all but a refusal write the failing finish line, and where the sink fails
+/// there the fault is Sink.
+fn close<O: Out>(out: &mut O, fault: BuildFault) -> BuildFault
+    ensures failed { is_failure result ≡ true → result ≡ fault }
+{
+    match fault {
+        BuildFault::Plan(refusal) => BuildFault::Plan(refusal),
+        fault => {
+            if write_all(out, build_finished(false).as_bytes()) {
+                fault
+            } else {
+                BuildFault::Sink
+            }
+        }
+    }
+}
+
+/// Builds the package of a root manifest: one library, in every build.
+///
+/// In this order: the variables `RUSTC`, `RUSTFLAGS` and `CARGO_TARGET_DIR`; the manifest; the query `-vV`;
+/// the unit, whose output folder is emptied and whose child is started; the lines. Faults: Plan, before
+/// anything is started, written or changed; Toolchain; Child and Device, after which no further call of the
+/// place is made; Sink; OutOfMemory. All but Plan and Sink write the failing finish line. A unit that is bad
+/// is no fault: the summary names it.
+pub fn build<P: Place, O: Out>(place: &mut P, out: &mut O, alloc: Global, options: &Options) -> Result<Summary, BuildFault>
+    ensures failed { IfErr result (λ e. is_failure e ≡ true → (P.counts place.new).late ≡ 0) }
+{
+    match carry_out(place, alloc, options) {
+        Ok(report) => {
+            if write_all(out, report.lines.as_bytes()) {
+                Ok(report.summary)
+            } else {
+                Err(BuildFault::Sink)
+            }
+        }
+        Err(fault) => Err(close(out, fault)),
+    }
+}
