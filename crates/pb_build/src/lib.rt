@@ -9,9 +9,11 @@ mod device;
 mod library;
 mod message;
 mod package;
+mod plan;
 mod run;
 pub mod setup;
 mod texts;
+mod toolchain;
 pub mod unit;
 
 pub use pb_report::{BuildFault, LoadFault, PlanFault, Refusal, Summary, UnitFault};

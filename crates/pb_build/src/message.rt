@@ -147,13 +147,13 @@ fn artifact_line(alloc: Global, subject: &str, file: &str, fresh: &str) -> Resul
     )
 }
 
-/// The line of a library that was made: `file` is its path, `fresh` says whether nothing was started for
+/// The line of a library that was made: `file` is its file's path, `fresh` says whether nothing was started for
 /// it.
-pub fn compiler_artifact(alloc: Global, unit: &LibraryUnit, file: &PathText, fresh: bool) -> Result<String, AllocError>
+pub fn compiler_artifact(alloc: Global, unit: &LibraryUnit, file: &str, fresh: bool) -> Result<String, AllocError>
     ensures { IfOk result (λ line. string_bytes line ≡ compiler_artifact unit.now file.now fresh) }
 {
     let subject = subject_text(alloc, unit)?;
-    let file = json_string(alloc, file.as_str())?;
+    let file = json_string(alloc, file)?;
     artifact_line(alloc, subject.as_str(), file.as_str(), truth_text(fresh))
 }
 

@@ -135,14 +135,14 @@ fn asks_script(build: &Build) -> bool
 }
 
 /// Whether a package says what a build does not serve yet.
-fn package_is_unserved(found: &Package) -> bool
+pub fn package_is_unserved(found: &Package) -> bool
     ensures { result ≡ package_is_unserved found.now }
 {
     found.links.is_some() || asks_script(&found.build)
 }
 
 /// Whether a table that a build does not serve yet has an entry, or there is a workspace.
-fn has_unserved_table(manifest: &Manifest) -> bool
+pub fn has_unserved_table(manifest: &Manifest) -> bool
     ensures { result ≡ has_unserved_table manifest.now }
 {
     manifest.workspace.is_some()

@@ -16,7 +16,7 @@ use std::alloc::Global;
 const GREATEST_STREAM: usize = 4_194_304;
 
 /// Whether a stream is too long.
-fn is_too_long(stream: &Bytes) -> bool
+pub fn is_too_long(stream: &Bytes) -> bool
     ensures { result ≡ is_too_long stream.now }
 {
     stream.as_slice().len() > GREATEST_STREAM

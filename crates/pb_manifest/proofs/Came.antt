@@ -1,8 +1,8 @@
 -- What follows from an answer of a definition.
-use Rattle.std.proofs.Common.{◌≡◌, ℕ, List, [], ◌∷◌, ap, sym, ◌∙◌, refl, subst, Ok, Err, Result, Option, Some, None}
+use Rattle.std.proofs.Common.{◌≡◌, List, [], ◌∷◌, ap, sym, ◌∙◌, refl, subst, Ok, Err, None}
 use Rattle.toml.specs.Data.{Data, Items, no_items, item, Members}
 use Rattle.pb_data.specs.Gives.{◌>>=◌}
-use Rattle.pb_manifest.specs.Values.{Text, Read, value_at, each}
+use Rattle.pb_manifest.specs.Values.{Read, value_at, each}
 use Rattle.pb_manifest.specs.Laws.{AreReadInOrder}
 use Rattle.std.proofs.Common.{true, unwrap_or, codes}
 use Rattle.pb_manifest.specs.Package.{package_of, package_from, first_keys, middle_keys, last_keys, inherited_edition_at, build_at, inherited_readme_at, resolver_at}

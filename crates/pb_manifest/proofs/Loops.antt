@@ -1,5 +1,5 @@
 -- A loop over the entries of a table: one entry more is read.
-use Rattle.std.proofs.Common.{◌≡◌, ℕ, List, [], ◌∷◌, ◌++◌, ap, sym, ◌∙◌, refl, subst, Ok, Err, Result, String, string_bytes, append_assoc}
+use Rattle.std.proofs.Common.{◌≡◌, List, [], ◌∷◌, ◌++◌, ap, sym, ◌∙◌, refl, Ok, Err, String, string_bytes, append_assoc}
 use Rattle.std.specs.declared.alloc.Global.{Global}
 use Rattle.toml.specs.Data.{Data, Members, member}
 use Rattle.toml.specs.View.{view, members_view}

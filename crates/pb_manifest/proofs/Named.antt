@@ -1,20 +1,18 @@
 -- A key that no rule names never changes an answer.
-use Rattle.std.proofs.Common.{◌≡◌, ◌≢◌, ℕ, List, true, false, Bool, ap, sym, ◌∙◌, refl, if◌then◌else◌, Ok, Err, Result, Option, Some, None}
+use Rattle.std.proofs.Common.{◌≡◌, ◌≢◌, true, false, Bool, ap, sym, ◌∙◌, refl, if◌then◌else◌, Option, Some}
 use Rattle.std.specs.declared.cmp.Ordering.{Ordering}
 use Rattle.std.specs.declared.cmp.Ordering.TheVariants.{Less, Equal, Greater}
 use Rattle.std.specs.Ordering.{nat_cmp, is_eq, match_ordering}
 use Rattle.std.specs.Cmp.Lexicographic.{slice_cmp}
 use Rattle.std.specs.FinMap.{slice_cmp-IsAntisymmetric, nat_cmp-IsAntisymmetric}
-use Rattle.std.proofs.lemmas.Bool.{cases_Bool}
 use Rattle.toml.specs.Data.{Data, Members, no_members, member, get_member, same_key}
 use Rattle.pb_manifest.specs.Keys.{spelled}
 use Rattle.pb_manifest.specs.Values.{Text, Read, value_at}
-use Rattle.pb_manifest.specs.Laws.{IsUnnamed, without, PassesOver}
+use Rattle.pb_manifest.specs.Laws.{IsUnnamed, without}
 use Rattle.pb_manifest.specs.Binaries.{binary_keys}
 use Rattle.pb_manifest.specs.Dependencies as dependency
 use Rattle.pb_manifest.specs.Document.{document_of, targets_of, tables_of}
 use Rattle.pb_manifest.specs.Library.{library_of}
-use Rattle.pb_manifest.specs.Package as package_keys
 use Rattle.pb_manifest.specs.Package.{package_of}
 use Rattle.pb_manifest.specs.Profiles.{profile_keys, profile_of_table}
 use Rattle.pb_manifest.specs.Workspace as workspace

@@ -1,6 +1,6 @@
 -- The tables `[[bin]]` (The Cargo Book, Cargo Targets).
-use Rattle.std.specs.Prelude.{ℕ, List, [], Option, Some, None, Result, Ok, Err}
-use Rattle.toml.specs.Data.{Data, Items, Members}
+use Rattle.std.specs.Prelude.{List, [], Option, Some, None, Ok}
+use Rattle.toml.specs.Data.{Data, Members}
 use Rattle.pb_data.specs.Gives.{◌>>=◌}
 use Rattle.pb_manifest.specs.Package.{name_at}
 use Rattle.pb_manifest.specs.Values.{Read, array_of, table_of, each, value_at, path_at, listed_texts_at}

@@ -1,9 +1,9 @@
 -- The tables of dependencies (The Cargo Book, Specifying Dependencies and Workspaces).
-use Rattle.std.specs.Prelude.{ℕ, List, [], Bool, true, false, not, ◌&&◌, ◌||◌, if◌then◌else◌, Option, Some, None, Result, Ok, Err, is_none, is_some}
+use Rattle.std.specs.Prelude.{List, [], Bool, true, false, not, ◌&&◌, ◌||◌, if◌then◌else◌, Option, Some, None, Ok, Err, is_none}
 use Rattle.toml.specs.Data.{Data, Members, as_str, as_table}
 use Rattle.pb_data.specs.Gives.{◌>>=◌}
 use Rattle.pb_manifest.specs.Letters.{is_name}
-use Rattle.pb_manifest.specs.Values.{Text, Read, has, value_at, text_at, truth_at, path_at, listed_texts_at, is_true, truth_in, takes_workspace, entries_at}
+use Rattle.pb_manifest.specs.Values.{Text, Read, has, value_at, text_at, truth_at, path_at, listed_texts_at, is_true, takes_workspace, entries_at}
 use Rattle.pb_manifest.specs.Versions.{requirement_at, requirement_in}
 use Rattle.pb_manifest.specs.declared.key.Key.{Key}
 use Rattle.pb_manifest.specs.declared.key.Key.TheVariants as key

@@ -1,5 +1,5 @@
 -- What the bytes of a manifest say, or why they are refused.
-use Rattle.std.specs.Prelude.{ℕ, List, [], Bool, true, false, not, ◌&&◌, ◌||◌, if◌then◌else◌, nat_lt, length, Option, Some, None, Result, Ok, Err, codes}
+use Rattle.std.specs.Prelude.{ℕ, List, Bool, true, false, ◌||◌, if◌then◌else◌, nat_lt, length, Option, Some, None, Ok, Err, codes}
 use Rattle.std.specs.Str.{bytes_eq, is_utf8}
 use Rattle.toml.specs.Data.{Data, Members, as_str, as_table}
 use Rattle.toml.specs.Parse.{parse_document}

@@ -1,10 +1,12 @@
 -- Laws of the reader, each about a definition, in the words of the rules.
-use Rattle.std.specs.Prelude.{◌≡◌, ◌≢◌, ◌<◌, ℕ, List, [], ◌∷◌, if◌then◌else◌, length, codes, Option, Some, None, Result, Ok, Err}
+use Rattle.std.specs.Prelude.{◌≡◌, ◌≢◌, ◌<◌, ℕ, List, [], ◌∷◌, if◌then◌else◌, length, codes, map, Some, None, Ok, Err}
 use Rattle.toml.specs.Data.{Data, Items, no_items, item, Members, no_members, member, same_key}
 use Rattle.pb_manifest.specs.Keys.{spelled}
 use Rattle.pb_manifest.specs.Values.{Text, Read, value_at, each}
-use Rattle.pb_manifest.specs.Binaries.{binary_of, binaries_at}
+use Rattle.pb_manifest.specs.Binaries.{binary_of}
 use Rattle.pb_manifest.specs.Document.{manifest_of, greatest_length}
+use Rattle.pb_manifest.specs.Letters.{underscored_byte}
+use Rattle.pb_manifest.specs.Library.{library_name}
 use Rattle.pb_manifest.specs.Package.{package_of}
 use Rattle.pb_manifest.specs.declared.key.Key.{Key}
 use Rattle.pb_manifest.specs.declared.key.Key.TheVariants as key
@@ -13,6 +15,7 @@ use Rattle.pb_manifest.specs.declared.inherited.Inherited.TheVariants.{Written}
 use Rattle.pb_manifest.specs.declared.package.Edition.TheVariants.{E2015}
 use Rattle.pb_manifest.specs.declared.package.Package.{Package}
 use Rattle.pb_manifest.specs.declared.target.Binary.{Binary}
+use Rattle.pb_manifest.specs.declared.target.Library.{Library}
 
 -- no rule names the key
 abbrev pub IsUnnamed : Text → Type 0
@@ -37,6 +40,10 @@ DefaultEdition = (ms : Members) (p : Package) → value_at key.Edition ms ≡ No
 
 abbrev pub DefaultVersion : Type 0
 DefaultVersion = (ms : Members) (p : Package) → value_at key.Version ms ≡ None → package_of ms ≡ Ok p → p.version ≡ Written (codes "0.0.0")
+
+-- the name of the library of a package that writes none: `_` for each `-` of the package's
+abbrev pub DefaultLibraryName : Type 0
+DefaultLibraryName = (name : Text) (library : Library) → library.name ≡ None → (library_name name None ≡ map underscored_byte name) × (library_name name (Some library) ≡ map underscored_byte name)
 
 -- what is read of the values of a list, one for one and in its order
 abbrev pub AreReadInOrder : {A : Type 0} → (Data → Read A) → Items → List A → Type 0

@@ -1,5 +1,5 @@
 -- The letters of names (The Cargo Book, Manifest Format and Features).
-use Rattle.std.specs.Prelude.{ℕ, List, [], ◌∷◌, Bool, true, false, not, ◌&&◌, ◌||◌, ◌==◌, nat_le, length, map, if◌then◌else◌}
+use Rattle.std.specs.Prelude.{ℕ, List, [], ◌∷◌, Bool, false, not, ◌&&◌, ◌||◌, ◌==◌, nat_le, length, map, if◌then◌else◌}
 use Rattle.std.specs.List.{list_all, list_any}
 
 -- an ASCII letter or digit

@@ -1,11 +1,11 @@
 -- The table `[profile]` (The Cargo Book, Profiles). Whatever a rule does not allow here is `BadProfile`.
-use Rattle.std.specs.Prelude.{ℕ, ℤ, pos, negsuc, List, [], Bool, true, false, not, ◌&&◌, ◌||◌, if◌then◌else◌, nat_le, Option, Some, None, Result, Ok, Err, codes, is_some, option_map}
+use Rattle.std.specs.Prelude.{ℕ, ℤ, pos, negsuc, List, Bool, not, ◌&&◌, ◌||◌, if◌then◌else◌, nat_le, Option, Some, None, Ok, Err, codes, is_some}
 use Rattle.std.specs.Str.{bytes_eq}
 use Rattle.std.specs.Ordering.{int_eq}
 use Rattle.toml.specs.Data.{Data, Members, as_str, as_bool, as_integer, as_table}
 use Rattle.pb_data.specs.Gives.{◌>>=◌, some_or}
 use Rattle.pb_manifest.specs.Letters.{is_name}
-use Rattle.pb_manifest.specs.Values.{Text, Read, optional, value_at, each_entry, entries_of}
+use Rattle.pb_manifest.specs.Values.{Text, Read, optional, value_at, entries_of}
 use Rattle.pb_manifest.specs.declared.key.Key.{Key}
 use Rattle.pb_manifest.specs.declared.key.Key.TheVariants as key
 use Rattle.pb_manifest.specs.declared.fault.ManifestFault.TheVariants.{BadProfile}

@@ -1,6 +1,6 @@
 -- The table `[workspace]` (The Cargo Book, Workspaces).
-use Rattle.std.specs.Prelude.{ℕ, List, [], Bool, Option, Some, None, Result, Ok, Err}
-use Rattle.toml.specs.Data.{Data, Members}
+use Rattle.std.specs.Prelude.{List, Option, Some, None, Ok}
+use Rattle.toml.specs.Data.{Members}
 use Rattle.pb_data.specs.Gives.{◌>>=◌}
 use Rattle.pb_manifest.specs.Dependencies.{dependencies_at}
 use Rattle.pb_manifest.specs.Package.{edition_at, readme_at, resolver_at}

@@ -34,6 +34,7 @@ pub enum Source {
 pub struct Dependency {
     /// The name by which the manifest knows it: the letters of a package's name.
     pub key: Text,
+    /// Where it comes from.
     pub source: Source,
     /// The package's name where it is not the key. Not used beside `workspace = true`.
     pub package: Option<Text>,

@@ -8,7 +8,7 @@ ghost use Rattle.pb_manifest.specs.Features.{parted, own_item, dependency_item, 
 use crate::fault::ManifestFault;
 use crate::key::Key;
 use crate::letters::{is_feature_name, is_name};
-use crate::values::{array_of, table_at, text_of};
+use crate::values::{array_of, table_at};
 use pb_data::{Items, Text};
 use std::alloc::Global;
 use toml::{Table, Value};
@@ -31,6 +31,7 @@ pub enum FeatureItem {
 pub struct Feature {
     /// ASCII letters, digits and `_`, and after the first also `-`, `+` and `.`; not empty.
     pub name: Text,
+    /// What it turns on, in the manifest's order.
     pub items: Items<FeatureItem>,
 }
 
@@ -167,9 +168,13 @@ fn item_in(alloc: Global, text: &str) -> Result<FeatureItem, ManifestFault>
 fn feature_item_of(alloc: Global, value: &Value) -> Result<FeatureItem, ManifestFault>
     ensures { Gives result (feature_item_of (view value.now)) }
 {
-    let text = text_of(alloc, value, Key::Features)?;
-    let item = item_in(alloc, text.as_str())?;
-    Ok(item)
+    match value.as_str() {
+        Some(text) => {
+            let item = item_in(alloc, text)?;
+            Ok(item)
+        }
+        None => Err(ManifestFault::BadKind(Key::Features)),
+    }
 }
 
 /// The items of a list.

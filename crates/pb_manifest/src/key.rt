@@ -6,53 +6,101 @@ ghost use Rattle.pb_manifest.specs.Keys.{spelled};
 /// A key that a rule of the reader names. A key that is not here is read by no rule.
 #[derive(Clone, Copy, Debug, PartialEq, Eq)]
 pub enum Key {
+    /// `authors`.
     Authors,
+    /// `autobins`.
     Autobins,
+    /// `bin`.
     Bin,
+    /// `build`.
     Build,
+    /// `build-dependencies`.
     BuildDependencies,
+    /// `build-override`.
     BuildOverride,
+    /// `codegen-units`.
     CodegenUnits,
+    /// `crate-type`.
     CrateType,
+    /// `debug`.
     Debug,
+    /// `debug-assertions`.
     DebugAssertions,
+    /// `default-features`.
     DefaultFeatures,
+    /// `default-members`.
     DefaultMembers,
+    /// `dependencies`.
     Dependencies,
+    /// `description`.
     Description,
+    /// `edition`.
     Edition,
+    /// `exclude`.
     Exclude,
+    /// `features`.
     Features,
+    /// `git`.
     Git,
+    /// `homepage`.
     Homepage,
+    /// `inherits`.
     Inherits,
+    /// `lib`.
     Lib,
+    /// `license`.
     License,
+    /// `license-file`.
     LicenseFile,
+    /// `links`.
     Links,
+    /// `lto`.
     Lto,
+    /// `members`.
     Members,
+    /// `name`.
     Name,
+    /// `opt-level`.
     OptLevel,
+    /// `optional`.
     Optional,
+    /// `overflow-checks`.
     OverflowChecks,
+    /// `package`.
     Package,
+    /// `panic`.
     Panic,
+    /// `patch`.
     Patch,
+    /// `path`.
     Path,
+    /// `proc-macro`.
     ProcMacro,
+    /// `profile`.
     Profile,
+    /// `readme`.
     Readme,
+    /// `registry`.
     Registry,
+    /// `replace`.
     Replace,
+    /// `repository`.
     Repository,
+    /// `required-features`.
     RequiredFeatures,
+    /// `resolver`.
     Resolver,
+    /// `rpath`.
     Rpath,
+    /// `rust-version`.
     RustVersion,
+    /// `strip`.
     Strip,
+    /// `target`.
     Target,
+    /// `version`.
     Version,
+    /// `workspace`.
     Workspace,
 }
 

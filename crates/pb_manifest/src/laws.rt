@@ -5,7 +5,7 @@ ghost use Rattle.std.specs.Prelude.{◌≡◌, ◌<◌, ℕ, List};
 ghost use Rattle.pb_manifest.specs.Binaries.{binary_keys};
 ghost use Rattle.pb_manifest.specs.Dependencies.{dependency_keys};
 ghost use Rattle.pb_manifest.specs.Document.{document_of};
-ghost use Rattle.pb_manifest.specs.Laws.{PassesOver, RefusesLarge, DefaultEdition, DefaultVersion, KeepsOrder};
+ghost use Rattle.pb_manifest.specs.Laws.{PassesOver, RefusesLarge, DefaultEdition, DefaultVersion, DefaultLibraryName, KeepsOrder};
 ghost use Rattle.pb_manifest.specs.Library.{library_of};
 ghost use Rattle.pb_manifest.specs.Package.{package_of};
 ghost use Rattle.pb_manifest.specs.Profiles.{profile_keys, profile_of_table};
@@ -40,6 +40,12 @@ pub fn default_edition()
 /// A package that writes no version has 0.0.0.
 pub fn default_version()
     ensures { DefaultVersion }
+{}
+
+/// A library without a name of its own has its package's, with `_` for each `-`.
+#[tactic(auto, unfolding(crate::specs::Letters::underscored))]
+pub fn default_library_name()
+    ensures { DefaultLibraryName }
 {}
 
 /// The binaries of `[[bin]]` are those of the list, one for one and in its order.

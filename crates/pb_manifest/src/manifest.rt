@@ -12,15 +12,25 @@ use pb_data::{Items, Text};
 /// relative to the workspace's root.
 #[derive(Debug, Drop)]
 pub struct WorkspacePackage {
+    /// `authors`. None where it is not written.
     pub authors: Option<Items<Text>>,
+    /// `description`. None where it is not written.
     pub description: Option<Text>,
+    /// `edition`. None where it is not written.
     pub edition: Option<Edition>,
+    /// `homepage`. None where it is not written.
     pub homepage: Option<Text>,
+    /// `license`. None where it is not written.
     pub license: Option<Text>,
+    /// `license-file`. None where it is not written.
     pub license_file: Option<Text>,
+    /// `readme`. None where it is not written.
     pub readme: Option<Readme>,
+    /// `repository`. None where it is not written.
     pub repository: Option<Text>,
+    /// `rust-version`. None where it is not written.
     pub rust_version: Option<Text>,
+    /// `version`. None where it is not written.
     pub version: Option<Version>,
 }
 
@@ -31,6 +41,7 @@ pub struct WorkspaceTable {
     pub members: Items<Text>,
     /// None where it is not written.
     pub default_members: Option<Items<Text>>,
+    /// Paths, in the manifest's order.
     pub exclude: Items<Text>,
     /// None where it is not written.
     pub package: Option<WorkspacePackage>,
@@ -55,5 +66,6 @@ pub struct Manifest {
     pub features: Items<Feature>,
     /// In byte order of their names.
     pub profiles: Items<Profile>,
+    /// `[workspace]`, where it is written.
     pub workspace: Option<WorkspaceTable>,
 }

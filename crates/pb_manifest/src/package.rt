@@ -21,9 +21,13 @@ use toml::{Table, Value};
 /// A Rust edition.
 #[derive(Clone, Copy, Debug, PartialEq, Eq)]
 pub enum Edition {
+    /// `"2015"`.
     E2015,
+    /// `"2018"`.
     E2018,
+    /// `"2021"`.
     E2021,
+    /// `"2024"`.
     E2024,
 }
 
@@ -54,23 +58,32 @@ pub enum Readme {
 /// The table `[package]`: the keys of The Cargo Book's chapter Manifest Format that a build uses.
 #[derive(Debug, Drop)]
 pub struct Package {
+    /// In the manifest's order. None where it is not written.
     pub authors: Option<Inherited<Items<Text>>>,
     /// Whether binaries are discovered. True where it is not written: our own choice, in every
     /// edition.
     pub autobins: bool,
+    /// What `build` says.
     pub build: Build,
+    /// None where it is not written.
     pub description: Option<Inherited<Text>>,
     /// 2015 where it is not written.
     pub edition: Inherited<Edition>,
+    /// None where it is not written.
     pub homepage: Option<Inherited<Text>>,
+    /// None where it is not written.
     pub license: Option<Inherited<Text>>,
+    /// Any text. None where it is not written.
     pub license_file: Option<Inherited<Text>>,
+    /// Any text, also an empty one. None where it is not written.
     pub links: Option<Text>,
     /// ASCII letters, digits, `-` and `_`, not empty.
     pub name: Text,
     /// None where it is not written: then it is discovered.
     pub readme: Option<Inherited<Readme>>,
+    /// None where it is not written.
     pub repository: Option<Inherited<Text>>,
+    /// Any text. None where it is not written.
     pub rust_version: Option<Inherited<Text>>,
     /// 0.0.0 where it is not written.
     pub version: Inherited<Version>,

@@ -20,8 +20,11 @@ use toml::{Table, Value};
 /// A crate type that is served.
 #[derive(Clone, Copy, Debug, PartialEq, Eq)]
 pub enum CrateType {
+    /// `"lib"`.
     Lib,
+    /// `"rlib"`.
     Rlib,
+    /// `"bin"`.
     Bin,
 }
 

@@ -1,20 +1,17 @@
 -- Nothing but the names that were read counts, and the dep-info spells them.
-use Rattle.std.proofs.Common.{◌≡◌, ◌≢◌, ℕ, pos, Bool, true, false, cond, List, [], ◌∷◌, ◌++◌, Option, Some, None, Result, Ok, Err, refl, sym, ap, ◌∙◌, option_and_then, inl, inr, subst, codes}
+use Rattle.std.proofs.Common.{◌≡◌, ℕ, Bool, true, false, cond, List, [], ◌∷◌, ◌++◌, Option, Some, None, Result, Ok, Err, refl, sym, ap, option_and_then, inl, inr, subst, codes}
 use Rattle.std.proofs.lemmas.Bool.{cases_Bool, false≢true}
 use Rattle.std.proofs.lemmas.Slice.Eq.{bytes_eq-Decides}
-use Rattle.std.specs.FinMap as finite
 use Rattle.std.specs.Str.{bytes_eq}
-use Rattle.pb_data.specs.Gives.{◌>>=◌}
 use Rattle.pb_place.specs.Paths.{below}
 use Rattle.pb_place.specs.World.{World}
 use Rattle.pb_place.specs.declared.command.Command.{Command}
-use Rattle.pb_mini.specs.Answer.{asks_version, version, answered_line, answered}
-use Rattle.pb_mini.specs.CommandLine.{command_line_of, takes_value, role_of, role_alone, is_setting}
+use Rattle.pb_mini.specs.Answer.{asks_version, version, answered_line}
+use Rattle.pb_mini.specs.CommandLine.{command_line_of}
 use Rattle.pb_mini.specs.Compile.{text_of, source_path, source_text, reads_of, effects_of, replied, image_file}
 use Rattle.pb_mini.specs.DepInfo.{dep_info_text}
-use Rattle.pb_mini.specs.Diagnostics.{has_error}
 use Rattle.pb_mini.specs.Effects.{no_names, joined, reads, effects_in}
-use Rattle.pb_mini.specs.Honesty.{names_of_line, names_read, SameAt, AnswersHonestly, later_of, file_at, TellsNames}
+use Rattle.pb_mini.specs.Honesty.{names_of_line, SameAt, AnswersHonestly, later_of, file_at, TellsNames}
 use Rattle.pb_mini.specs.declared.command_line.CommandLine.{CommandLine}
 use Rattle.pb_mini.specs.declared.command_line.CommandLineFault.{CommandLineFault}
 use Rattle.pb_mini.specs.declared.command_line.CommandLineFault.TheVariants.{Bad}

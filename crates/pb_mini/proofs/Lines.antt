@@ -1,9 +1,8 @@
 -- The effects of lines.
-use Rattle.std.proofs.Common.{◌≡◌, ℕ, List, Bool, true, false, cond, codes, sym, ap, ◌∙◌}
+use Rattle.std.proofs.Common.{◌≡◌, ℕ, List, false, cond, codes, sym, ap, ◌∙◌}
 use Rattle.std.proofs.lemmas.List.{append-nil}
 use Rattle.pb_mini.specs.Effects.{joined, no_effects, diagnosed, effect_of, effect_by, is_passed_over, verb_in}
 use Rattle.pb_mini.specs.declared.effects.Effects.{Effects}
-use Rattle.pb_mini.specs.declared.effects.Verb.{Verb}
 use Rattle.pb_mini.specs.declared.effects.Verb.TheVariants.{Unknown}
 use Rattle.pb_mini.specs.declared.diagnostic.Level.TheVariants.{Error}
 

@@ -1,5 +1,5 @@
 -- Bytes that are a text.
-use Rattle.std.proofs.Common.{◌≡◌, ℕ, List, Bool, false, inl, inr}
+use Rattle.std.proofs.Common.{◌≡◌, ℕ, List, false, inl, inr}
 use Rattle.std.specs.Str.{is_utf8, IsUtf8}
 use Rattle.std.proofs.lemmas.Str.{IsUtf8-from_is_utf8, is_utf8-from_IsUtf8}
 use Rattle.std.proofs.lemmas.Bool.{cases_Bool}

@@ -3,7 +3,6 @@ use Rattle.std.specs.Prelude.{ℕ, ◌==◌, ◌+◌, Bool, true, ◌||◌, if�
 use Rattle.std.specs.List.{before_first, after_first, slice_split}
 use Rattle.std.specs.Str.{bytes_eq}
 use Rattle.pb_mini.specs.declared.dep_info.Names.{Names}
-use Rattle.pb_mini.specs.declared.diagnostic.Diagnostic.{Diagnostic}
 use Rattle.pb_mini.specs.declared.diagnostic.Level.{Level}
 use Rattle.pb_mini.specs.declared.diagnostic.Level.TheVariants.{Warning, Error}
 use Rattle.pb_mini.specs.declared.effects.Effects.{Effects}

@@ -94,7 +94,7 @@ pub struct CommandLine {
 }
 
 /// Whether the next word is the value of this one.
-pub fn takes_value(word: &str) -> bool
+fn takes_value(word: &str) -> bool
     ensures { result ≡ takes_value word.now }
 {
     word == "--crate-name"
@@ -109,7 +109,7 @@ pub fn takes_value(word: &str) -> bool
 }
 
 /// What the value of an option is for.
-pub fn role_of(option: &str) -> Role
+fn role_of(option: &str) -> Role
     ensures { result ≡ role_of option.now }
 {
     if option == "--crate-name" {
@@ -125,7 +125,7 @@ pub fn role_of(option: &str) -> Role
 }
 
 /// What a word is for that neither takes a value nor is one.
-pub fn role_alone(word: &str) -> Role
+fn role_alone(word: &str) -> Role
     ensures { result ≡ role_alone word.now }
 {
     if word.as_bytes().starts_with(b"--edition=")
@@ -271,7 +271,10 @@ fn folder_of(alloc: Global, text: &str) -> Result<PathText, CommandLineFault>
 /// other options with their values, settings in one word, and one word more, the source. Bad for anything else,
 /// and, by our own choice, for an out folder that is no absolute path and for a crate name that names no files
 /// inside it.
-pub fn command_line_of(alloc: Global, words: &[Text]) -> Result<CommandLine, CommandLineFault>
+pub(crate) fn command_line_of(
+    alloc: Global,
+    words: &[Text],
+) -> Result<CommandLine, CommandLineFault>
     ensures { Gives fault.OutOfMemory (λ line. line) result (command_line_of words.now) }
 {
     let said = arguments_of(alloc, words)?;

@@ -167,7 +167,11 @@ fn replied(alloc: Global, line: &CommandLine, effects: &Effects) -> Result<Reply
 /// Compiles. With an error the status is 1 and there is no image; else it is 0. The diagnostics stand on
 /// standard error, and the dep-info is written in both cases. A source that is missing, that is not UTF-8 or, by
 /// our own choice, that is no absolute path is the error `no source` of line 0.
-pub fn compile<V: View>(alloc: Global, line: &CommandLine, view: &V) -> Result<Reply, ViewFault>
+pub(crate) fn compile<V: View>(
+    alloc: Global,
+    line: &CommandLine,
+    view: &V,
+) -> Result<Reply, ViewFault>
     ensures reply { IfOk result (λ reply. reply ≡ compiled line.now (V.shown view.now)) }
     ensures failed { IfErr result (λ e. e ≡ ViewFault.Failed → V.fails view.now) }
 {

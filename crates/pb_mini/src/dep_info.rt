@@ -74,10 +74,14 @@ fn push_variables(text: &mut Vec<u8>, variables: &[Variable]) -> Result<(), Allo
     Ok(())
 }
 
-/// The dep-info of a compile, in the form that The Cargo Book gives for it in "Build cache": the output, a colon, the
-/// paths with `\ ` for each space, and then a line `# env-dep:NAME=VALUE` for each variable, without `=VALUE`
-/// where it is not set.
-pub fn dep_info_text(alloc: Global, output: &PathText, names: &Names) -> Result<Vec<u8>, AllocError>
+/// The dep-info of a compile, in the form that The Cargo Book, in "Build Cache", says is like a makefile's: the output,
+/// a colon, and the paths, with `\ ` for each space. Then a line `# env-dep:NAME=VALUE` for each variable, without
+/// `=VALUE` where it is not set, as real compilers add them.
+pub(crate) fn dep_info_text(
+    alloc: Global,
+    output: &PathText,
+    names: &Names,
+) -> Result<Vec<u8>, AllocError>
     ensures { IfOk result (λ text. text.items ≡ dep_info_text output.now names.now) }
 {
     let mut text = Vec::new(alloc);

@@ -57,7 +57,7 @@ fn is_error(level: Level) -> bool
 
 /// A diagnostic as a line of JSON: an object with the keys `level`, `message` and `line`, in this order and
 /// without spaces, and a line feed.
-pub fn diagnostic_text(alloc: Global, diagnostic: &Diagnostic) -> Result<String, AllocError>
+pub(crate) fn diagnostic_text(alloc: Global, diagnostic: &Diagnostic) -> Result<String, AllocError>
     ensures { IfOk result (λ text. string_bytes text ≡ diagnostic_text diagnostic.now) }
 {
     let level = level_name(diagnostic.level);
@@ -70,7 +70,10 @@ pub fn diagnostic_text(alloc: Global, diagnostic: &Diagnostic) -> Result<String,
 }
 
 /// Diagnostics in turn, a line each.
-pub fn diagnostics_text(alloc: Global, diagnostics: &[Diagnostic]) -> Result<String, AllocError>
+pub(crate) fn diagnostics_text(
+    alloc: Global,
+    diagnostics: &[Diagnostic],
+) -> Result<String, AllocError>
     ensures { IfOk result (λ text. string_bytes text ≡ diagnostics_text diagnostics.now) }
 {
     let mut text = String::new(alloc);
@@ -81,7 +84,7 @@ pub fn diagnostics_text(alloc: Global, diagnostics: &[Diagnostic]) -> Result<Str
 }
 
 /// Whether there is an error among the diagnostics.
-pub fn has_error(diagnostics: &[Diagnostic]) -> bool
+pub(crate) fn has_error(diagnostics: &[Diagnostic]) -> bool
     ensures { result ≡ has_error diagnostics.now }
 {
     diagnostics

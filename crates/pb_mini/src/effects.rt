@@ -73,7 +73,7 @@ fn verb_and_rest(line: &str) -> (&str, &str)
 
 impl Effects {
     /// No effects, which takes no memory.
-    pub fn new(alloc: Global) -> Effects
+    pub(crate) fn new(alloc: Global) -> Effects
         ensures { result ≡ no_effects }
     {
         Effects {
@@ -88,7 +88,7 @@ impl Effects {
 }
 
 /// Adds a diagnostic.
-pub fn add_diagnostic(
+pub(crate) fn add_diagnostic(
     alloc: Global,
     effects: &mut Effects,
     level: Level,
@@ -139,7 +139,7 @@ fn lines_of(alloc: Global, text: &str) -> Result<Vec<&str>, AllocError>
 
 /// Does the lines of a source in turn.
 #[tactic(auto, using(crate::proofs::Lines::joined_nothing))]
-pub fn add_lines(alloc: Global, effects: &mut Effects, text: &str) -> Result<(), AllocError>
+pub(crate) fn add_lines(alloc: Global, effects: &mut Effects, text: &str) -> Result<(), AllocError>
     ensures { OnOk result (effects.new ≡ joined effects.old (effects_from 0 (lines_of text.now))) }
 {
     let lines = lines_of(alloc, text)?;

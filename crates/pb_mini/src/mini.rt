@@ -45,14 +45,29 @@ fn bad_command_line(alloc: Global) -> Result<Reply, AllocError>
     said(alloc, 2, b"", b"mini: bad command line\n")
 }
 
-/// What the small compiler answers to words, where `pairs` go over the variables that the view shows.
+/// What the small compiler answers to the words of a command line.
 ///
-/// `-vV` alone gives its version. Else the words say a compile: an image and dep-info in the out folder, diagnostics
-/// as lines of JSON on standard error, and the status 1 where one of them is an error. Words that say none are
-/// answered with status 2. OutOfMemory where memory is refused, and Failed where the view fails.
+/// `-vV` alone gives its version: status 0, and on standard output a line with its name and number and a line
+/// `host:` with the platform. Else the words say a compile: `--crate-name NAME` and `--out-dir FOLDER` once each,
+/// `--crate-type TYPE` at least once, of which the first counts, one source, and any of `-C`, `--cfg`, `--check-cfg`,
+/// `--extern`, `-L` and `-l` with a word after it, and of the words that begin with `--edition=`,
+/// `--error-format=` or `--emit=`. Anything else is answered with status 2 and `mini: bad command line` on standard
+/// error.
 ///
-/// The names of the options are those of a real compiler as The Cargo Book's "Build scripts" and "Build cache" name
-/// them; all else of the language is our own choice.
+/// A compile with an error has status 1 and no image, else status 0 and the image; it has dep-info, `NAME.d`, in both
+/// cases, and its diagnostics are lines of JSON on standard error. A line of the source that is empty or begins with
+/// `#` does nothing; `warn TEXT` and `fail TEXT` are diagnostics; a line whose verb is `print`, `show`, `read`,
+/// `put` or `exit` stands in the image; any other is the error `unknown line`. A source that is missing or not UTF-8
+/// is the error `no source` of line 0.
+///
+/// Our own choice: a source that is no absolute path is the error `no source`, too, and an out folder that is none, or
+/// a crate name that names no file inside it, is a bad command line.
+///
+/// `pairs` are names and values that go over the variables of the view. Of neither does a compile read any yet.
+///
+/// OutOfMemory where memory is refused, and Failed where the view fails: a failure is only passed on.
+///
+/// The words are those that Cargo passes to a compiler; the language of the source is our own choice.
 pub fn answer<V: View>(
     alloc: Global,
     words: &[Text],

@@ -1,6 +1,7 @@
 //! Worked compiles with their bytes.
 
 use crate::dep_info::{Names, Variable, dep_info_text};
+use crate::laws::{is_honest, tells_names};
 use crate::tests_view::{Broken, Files};
 use crate::{Mini, answer};
 use pb_data::{Bytes, Items, Text};
@@ -9,44 +10,24 @@ use std::alloc::{AllocError, Global};
 use std::process::Abort;
 use std::test::Fail;
 
-/// Words of a compile of `/w/src/lib.rs` in the order of a whole build. The first ten say all that is needed.
-const WORDS: [&str; 24] = [
-    "--crate-name",
-    "a",
-    "--edition=2021",
-    "/w/src/lib.rs",
-    "--error-format=json",
-    "--crate-type",
-    "lib",
-    "--emit=dep-info,link",
-    "--out-dir",
-    "/w/target/debug/a.target.lib",
-    "-C",
-    "opt-level=0",
-    "-C",
-    "debuginfo=2",
-    "-C",
-    "debug-assertions=on",
-    "-C",
-    "overflow-checks=on",
-    "-C",
-    "codegen-units=256",
-    "-C",
-    "panic=unwind",
-    "--check-cfg",
-    "cfg(feature, values())",
-];
+/// Words of a compile of `/w/src/lib.rs` in the order of a whole build, with a bar between them. The first ten say
+/// all that is needed.
+const WORDS: &str =
+    "--crate-name|a|--edition=2021|/w/src/lib.rs|--error-format=json|--crate-type|lib|--emit=dep-info,link|--out-dir|/w/target/debug/a.target.lib|-C|opt-level=0|-C|debuginfo=2|-C|debug-assertions=on|-C|overflow-checks=on|-C|codegen-units=256|-C|panic=unwind|--check-cfg|cfg(feature, values())";
 
 /// The dep-info of `WORDS`.
 const DEP_INFO: &str = "/w/target/debug/a.target.lib/liba.rlib: /w/src/lib.rs\n";
 
-/// The texts of words.
-fn texts(alloc: Global, words: &[&str]) -> Result<Items<Text>, AllocError> {
-    let mut made = Items::new(alloc);
-    for word in words {
-        made.push(Text::from_str(alloc, *word)?)?;
+/// The words between the bars of a text; the empty text has none.
+fn words_of(alloc: Global, text: &str) -> Result<Items<Text>, AllocError> {
+    let mut words = Items::new(alloc);
+    if text.is_empty() {
+        return Ok(words);
     }
-    Ok(made)
+    for word in text.split('|') {
+        words.push(Text::from_str(alloc, word)?)?;
+    }
+    Ok(words)
 }
 
 /// A view of one file.
@@ -60,8 +41,8 @@ fn one_file(alloc: Global, path: &str, bytes: &[u8]) -> Result<Files, AllocError
 }
 
 /// The answer to words where one file is shown.
-fn answer_to(alloc: Global, words: &[&str], path: &str, source: &[u8]) -> Result<Reply, ViewFault> {
-    let words = texts(alloc, words)?;
+fn answer_to(alloc: Global, words: &str, path: &str, source: &[u8]) -> Result<Reply, ViewFault> {
+    let words = words_of(alloc, words)?;
     let view = one_file(alloc, path, source)?;
     answer(alloc, words.as_slice(), &[], &view)
 }
@@ -166,7 +147,7 @@ fn sources(rt: HostRuntime) -> Result<(), Fail> {
         ),
     ];
     for (source, status, stderr, image) in cases {
-        let reply = answer_to(rt.alloc(), &WORDS, "/w/src/lib.rs", source)?;
+        let reply = answer_to(rt.alloc(), WORDS, "/w/src/lib.rs", source)?;
         if status == 0 {
             assert_reply(
                 &rt,
@@ -186,167 +167,82 @@ fn sources(rt: HostRuntime) -> Result<(), Fail> {
 #[test]
 fn command_lines(rt: HostRuntime) -> Result<(), Fail> {
     let version = "mini 0.1.0\nhost: mini-unknown-none\n";
-    let bad = "mini: bad command line\n";
-    let good: [(&[&str], &str, &str, &[(&str, &str)]); 7] = [
-        (&["-vV"], "", version, &[]),
+    let reply = answer_to(rt.alloc(), "-vV", "/s", b"fail")?;
+    assert_reply(&rt, &reply, 0, version, "", &[]);
+    // the words, the source, the image and its name and bytes, and the dep-info and its name and bytes
+    let good = [
         (
-            &[
-                "--crate-name",
-                "a",
-                "--crate-type",
-                "lib",
-                "--out-dir",
-                "/o",
-                "/s",
-            ],
+            "--crate-name|a|--crate-type|lib|--out-dir|/o|/s",
             "/s",
-            "",
-            &[
-                ("liba.rlib", "mini lib a\nprint x\n"),
-                ("a.d", "/o/liba.rlib: /s\n"),
-            ],
+            "liba.rlib",
+            "mini lib a\nprint x\n",
+            "a.d",
+            "/o/liba.rlib: /s\n",
         ),
         (
-            &[
-                "/s",
-                "--out-dir",
-                "/o/./p/..",
-                "--crate-type",
-                "bin",
-                "--crate-type",
-                "lib",
-                "--crate-name",
-                "a",
-            ],
+            "/s|--out-dir|/o/./p/..|--crate-type|bin|--crate-type|lib|--crate-name|a",
             "/s",
-            "",
-            &[("a", "mini bin a\nprint x\n"), ("a.d", "/o/a: /s\n")],
+            "a",
+            "mini bin a\nprint x\n",
+            "a.d",
+            "/o/a: /s\n",
         ),
         (
-            &[
-                "--crate-name",
-                "a_b",
-                "--crate-type",
-                "rlib",
-                "--crate-type",
-                "bin",
-                "--out-dir",
-                "/o p",
-                "/q/../s  t",
-            ],
+            "--crate-name|a_b|--crate-type|rlib|--crate-type|bin|--out-dir|/o p|/q/../s  t",
             "/s  t",
-            "",
-            &[
-                ("liba_b.rlib", "mini lib a_b\nprint x\n"),
-                ("a_b.d", "/o\\ p/liba_b.rlib: /s\\ \\ t\n"),
-            ],
+            "liba_b.rlib",
+            "mini lib a_b\nprint x\n",
+            "a_b.d",
+            "/o\\ p/liba_b.rlib: /s\\ \\ t\n",
         ),
         (
-            &[
-                "--crate-name",
-                "--edition=",
-                "--crate-type",
-                "-C",
-                "--out-dir",
-                "/",
-                "/s",
-            ],
+            "--crate-name|--emit=|--crate-type|-C|--out-dir|/|/s",
             "/s",
-            "",
-            &[
-                ("lib--edition=.rlib", "mini lib --edition=\nprint x\n"),
-                ("--edition=.d", "/lib--edition=.rlib: /s\n"),
-            ],
+            "lib--emit=.rlib",
+            "mini lib --emit=\nprint x\n",
+            "--emit=.d",
+            "/lib--emit=.rlib: /s\n",
         ),
         (
-            &[
-                "--crate-name",
-                "a",
-                "--crate-type",
-                "lib",
-                "--out-dir",
-                "/o",
-                "/s",
-                "--cfg",
-                "x",
-                "--check-cfg",
-                "y",
-                "--extern",
-                "z",
-                "-L",
-                "l",
-                "-l",
-                "m",
-                "-C",
-                "n",
-                "--emit=",
-                "--error-format=",
-            ],
+            "-C|n|--cfg|x|--check-cfg|y|--extern|z|-L|l|-l|m|--emit=|--error-format=|--crate-name|a|--crate-type|lib|--out-dir|/o|/s",
             "/s",
-            "",
-            &[
-                ("liba.rlib", "mini lib a\nprint x\n"),
-                ("a.d", "/o/liba.rlib: /s\n"),
-            ],
+            "liba.rlib",
+            "mini lib a\nprint x\n",
+            "a.d",
+            "/o/liba.rlib: /s\n",
         ),
         (
-            &[
-                "--crate-name",
-                "d/a",
-                "--crate-type",
-                "bin",
-                "--out-dir",
-                "/o",
-                "/s",
-            ],
+            "--crate-name|d/a|--crate-type|bin|--out-dir|/o|/s",
             "/s",
-            "",
-            &[
-                ("d/a", "mini bin d/a\nprint x\n"),
-                ("d/a.d", "/o/d/a: /s\n"),
-            ],
+            "d/a",
+            "mini bin d/a\nprint x\n",
+            "d/a.d",
+            "/o/d/a: /s\n",
         ),
     ];
-    for (words, path, stdout, files) in good {
+    for (words, path, image_name, image, dep_info_name, dep_info) in good {
         let reply = answer_to(rt.alloc(), words, path, b"print x")?;
-        assert_reply(&rt, &reply, 0, stdout, "", files);
+        assert_reply(
+            &rt,
+            &reply,
+            0,
+            "",
+            "",
+            &[(image_name, image), (dep_info_name, dep_info)],
+        );
     }
     let none = "{\"level\":\"error\",\"message\":\"no source\",\"line\":0}\n";
-    let missing: [(&[&str], &str); 3] = [
+    let missing = [
         (
-            &[
-                "--crate-name",
-                "a",
-                "--crate-type",
-                "lib",
-                "--out-dir",
-                "/o",
-                "/t",
-            ],
+            "--crate-name|a|--crate-type|lib|--out-dir|/o|/t",
             "/o/liba.rlib: /t\n",
         ),
         (
-            &[
-                "--crate-name",
-                "a",
-                "--crate-type",
-                "lib",
-                "--out-dir",
-                "/o",
-                "s",
-            ],
+            "--crate-name|a|--crate-type|lib|--out-dir|/o|s",
             "/o/liba.rlib:\n",
         ),
         (
-            &[
-                "--crate-name",
-                "a",
-                "--crate-type",
-                "lib",
-                "--out-dir",
-                "/o",
-                "/s\0",
-            ],
+            "--crate-name|a|--crate-type|lib|--out-dir|/o|/s\0",
             "/o/liba.rlib:\n",
         ),
     ];
@@ -354,237 +250,62 @@ fn command_lines(rt: HostRuntime) -> Result<(), Fail> {
         let reply = answer_to(rt.alloc(), words, "/s", b"print x")?;
         assert_reply(&rt, &reply, 1, "", none, &[("a.d", dep_info)]);
     }
-    let refused: [&[&str]; 27] = [
-        &[],
-        &["-vV", "-vV"],
-        &["--version"],
-        &[
-            "-vV",
-            "--crate-name",
-            "a",
-            "--crate-type",
-            "lib",
-            "--out-dir",
-            "/o",
-            "/s",
-        ],
-        &["--crate-type", "lib", "--out-dir", "/o", "/s"],
-        &["--crate-name", "a", "--out-dir", "/o", "/s"],
-        &["--crate-name", "a", "--crate-type", "lib", "/s"],
-        &[
-            "--crate-name",
-            "a",
-            "--crate-type",
-            "lib",
-            "--out-dir",
-            "/o",
-        ],
-        &[
-            "--crate-name",
-            "a",
-            "--crate-name",
-            "a",
-            "--crate-type",
-            "lib",
-            "--out-dir",
-            "/o",
-            "/s",
-        ],
-        &[
-            "--crate-name",
-            "a",
-            "--crate-type",
-            "lib",
-            "--out-dir",
-            "/o",
-            "--out-dir",
-            "/o",
-            "/s",
-        ],
-        &[
-            "--crate-name",
-            "a",
-            "--crate-type",
-            "lib",
-            "--out-dir",
-            "/o",
-            "/s",
-            "/s",
-        ],
-        &[
-            "--crate-name",
-            "a",
-            "--crate-type",
-            "lib",
-            "--out-dir",
-            "/o",
-            "/s",
-            "-O",
-        ],
-        &[
-            "--crate-name",
-            "a",
-            "--crate-type",
-            "lib",
-            "--out-dir",
-            "/o",
-            "/s",
-            "--edition",
-            "2021",
-        ],
-        &[
-            "--crate-name",
-            "a",
-            "--crate-type",
-            "lib",
-            "--out-dir",
-            "/o",
-            "/s",
-            "--crate-name",
-        ],
-        &[
-            "--crate-name",
-            "a",
-            "--crate-type",
-            "lib",
-            "--out-dir",
-            "/o",
-            "/s",
-            "--crate-type",
-        ],
-        &[
-            "--crate-name",
-            "a",
-            "--crate-type",
-            "lib",
-            "--out-dir",
-            "/o",
-            "/s",
-            "--out-dir",
-        ],
-        &[
-            "--crate-name",
-            "a",
-            "--crate-type",
-            "lib",
-            "--out-dir",
-            "/o",
-            "/s",
-            "-C",
-        ],
-        &[
-            "--crate-name",
-            "a",
-            "--crate-type",
-            "lib",
-            "--out-dir",
-            "/o",
-            "/s",
-            "--cfg",
-        ],
-        &[
-            "--crate-name",
-            "a",
-            "--crate-type",
-            "lib",
-            "--out-dir",
-            "/o",
-            "/s",
-            "--check-cfg",
-        ],
-        &[
-            "--crate-name",
-            "a",
-            "--crate-type",
-            "lib",
-            "--out-dir",
-            "/o",
-            "/s",
-            "--extern",
-        ],
-        &[
-            "--crate-name",
-            "a",
-            "--crate-type",
-            "lib",
-            "--out-dir",
-            "/o",
-            "/s",
-            "-L",
-        ],
-        &[
-            "--crate-name",
-            "a",
-            "--crate-type",
-            "lib",
-            "--out-dir",
-            "/o",
-            "/s",
-            "-l",
-        ],
-        &[
-            "--crate-name",
-            "a",
-            "--crate-type",
-            "lib",
-            "--out-dir",
-            "o",
-            "/s",
-        ],
-        &[
-            "--crate-name",
-            "a",
-            "--crate-type",
-            "lib",
-            "--out-dir",
-            "/o\0",
-            "/s",
-        ],
-        &[
-            "--crate-name",
-            "",
-            "--crate-type",
-            "bin",
-            "--out-dir",
-            "/o",
-            "/s",
-        ],
-        &[
-            "--crate-name",
-            "../a",
-            "--crate-type",
-            "bin",
-            "--out-dir",
-            "/o",
-            "/s",
-        ],
-        &[
-            "--crate-name",
-            "a\0",
-            "--crate-type",
-            "lib",
-            "--out-dir",
-            "/o",
-            "/s",
-        ],
+    Ok(())
+}
+
+#[test]
+fn bad_command_lines(rt: HostRuntime) -> Result<(), Fail> {
+    let refused = [
+        "",
+        "-vV|-vV",
+        "--version",
+        "-vV|--crate-name|a|--crate-type|lib|--out-dir|/o|/s",
+        "--crate-type|lib|--out-dir|/o|/s",
+        "--crate-name|a|--out-dir|/o|/s",
+        "--crate-name|a|--crate-type|lib|/s",
+        "--crate-name|a|--crate-type|lib|--out-dir|/o",
+        "--crate-name|a|--crate-name|a|--crate-type|lib|--out-dir|/o|/s",
+        "--crate-name|a|--crate-type|lib|--out-dir|/o|--out-dir|/o|/s",
+        "--crate-name|a|--crate-type|lib|--out-dir|/o|/s|/s",
+        "--crate-name|a|--crate-type|lib|--out-dir|/o|/s|-O",
+        "--crate-name|a|--crate-type|lib|--out-dir|/o|/s|--edition|2021",
+        "--crate-name|a|--crate-type|lib|--out-dir|/o|/s|--crate-name",
+        "--crate-name|a|--crate-type|lib|--out-dir|/o|/s|--crate-type",
+        "--crate-name|a|--crate-type|lib|--out-dir|/o|/s|--out-dir",
+        "--crate-name|a|--crate-type|lib|--out-dir|/o|/s|-C",
+        "--crate-name|a|--crate-type|lib|--out-dir|/o|/s|--cfg",
+        "--crate-name|a|--crate-type|lib|--out-dir|/o|/s|--check-cfg",
+        "--crate-name|a|--crate-type|lib|--out-dir|/o|/s|--extern",
+        "--crate-name|a|--crate-type|lib|--out-dir|/o|/s|-L",
+        "--crate-name|a|--crate-type|lib|--out-dir|/o|/s|-l",
+        "--crate-name|a|--crate-type|lib|--out-dir|o|/s",
+        "--crate-name|a|--crate-type|lib|--out-dir|/o\0|/s",
+        "--crate-name||--crate-type|bin|--out-dir|/o|/s",
+        "--crate-name|../a|--crate-type|bin|--out-dir|/o|/s",
+        "--crate-name|a\0|--crate-type|lib|--out-dir|/o|/s",
     ];
     for words in refused {
         let reply = answer_to(rt.alloc(), words, "/s", b"print x")?;
-        assert_reply(&rt, &reply, 2, "", bad, &[]);
+        assert_reply(&rt, &reply, 2, "", "mini: bad command line\n", &[]);
     }
     Ok(())
 }
 
 #[test]
 fn prefixes(rt: HostRuntime) -> Result<(), Fail> {
-    for count in 0..WORDS.len() {
-        let reply = answer_to(rt.alloc(), &WORDS[..count], "/w/src/lib.rs", b"")?;
+    let alloc = rt.alloc();
+    let words = words_of(alloc, WORDS)?;
+    let words = words.as_slice();
+    let view = one_file(alloc, "/w/src/lib.rs", b"")?;
+    assert_eq!(rt; words.len(), 24);
+    for count in 0..words.len() {
+        let reply = answer(alloc, &words[..count], &[], &view)?;
         let whole = 10 <= count && count % 2 == 0;
         assert_eq!(rt; reply.status, if whole { 0 } else { 2 }, "{count} words");
     }
     let source = b"warn \xc3\xa9\n\nput a b\n# c\nfail d\n";
     for count in 0..source.len() {
-        let reply = answer_to(rt.alloc(), &WORDS, "/w/src/lib.rs", &source[..count])?;
+        let reply = answer_to(alloc, WORDS, "/w/src/lib.rs", &source[..count])?;
         let Some(last) = reply.files.as_slice().last() else {
             return Err("no file")?;
         };
@@ -598,18 +319,7 @@ fn prefixes(rt: HostRuntime) -> Result<(), Fail> {
 fn reply_of<C: Child, V: View>(alloc: Global, child: &C, view: &V) -> Result<Reply, ViewFault> {
     let command = Command {
         program: Text::from_str(alloc, "mini")?,
-        words: texts(
-            alloc,
-            &[
-                "--crate-name",
-                "a",
-                "--crate-type",
-                "lib",
-                "--out-dir",
-                "/o",
-                "/s",
-            ],
-        )?,
+        words: words_of(alloc, "--crate-name|a|--crate-type|lib|--out-dir|/o|/s")?,
         folder: root(alloc)?,
         pairs: Items::new(alloc),
         out: None,
@@ -645,6 +355,8 @@ fn child(rt: HostRuntime) -> Result<(), Fail> {
         return Err("a view that fails has an answer")?;
     };
     assert_eq!(rt; fault, ViewFault::Failed);
+    is_honest();
+    tells_names();
     Ok(())
 }
 
