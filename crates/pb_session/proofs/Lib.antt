@@ -1,0 +1,3 @@
+pub mod Joins
+pub mod Pairs
+pub mod Utf8

@@ -1,0 +1,20 @@
+-- Laws of session files, in their own words.
+use Rattle.std.specs.Prelude.{◌≡◌, codes, List, ◌++◌, Ok}
+use Rattle.serde_json.specs.Data.{Data, object, no_members}
+use Rattle.serde_json.specs.View.{items_of}
+use Rattle.pb_data.specs.Gives.{◌>>=◌}
+use Rattle.pb_session.specs.Faults.{Read}
+use Rattle.pb_session.specs.Sessions.{steps_of, options_of}
+use Rattle.pb_session.specs.declared.step.SessionStep.{SessionStep}
+
+-- what the one gives, and then what the other gives
+abbrev pub both : Read (List SessionStep) → Read (List SessionStep) → Read (List SessionStep)
+both first second = first >>= (λ a. second >>= (λ b. Ok (a ++ b)))
+
+-- some values and then others give the steps of the ones and then of the others
+abbrev pub StepsJoin : Type 0
+StepsJoin = (ds es : List Data) → steps_of (items_of (ds ++ es)) ≡ both (steps_of (items_of ds)) (steps_of (items_of es))
+
+-- where no manifest is named, it is `/w/Cargo.toml`
+abbrev pub ManifestHasDefault : Type 0
+ManifestHasDefault = options_of (object no_members) ≡ Ok record { manifest = codes "/w/Cargo.toml"; tool = codes "cargo" }

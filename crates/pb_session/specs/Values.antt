@@ -1,0 +1,37 @@
+-- What JSON values of a session say.
+use Rattle.std.specs.Prelude.{ℕ, List, Option, Some, None, Ok, Err}
+use Rattle.serde_json.specs.Data.{Data, Items, no_items, item, Members, no_members, member}
+use Rattle.serde_json.specs.Find.{as_str, as_array}
+use Rattle.pb_data.specs.Gives.{◌>>=◌, lifted, some_or}
+use Rattle.pb_place.specs.Paths.{parsed}
+use Rattle.pb_session.specs.Faults.{Read, of_path_fault}
+use Rattle.pb_session.specs.declared.fault.BadSession.TheVariants.{BadForm}
+
+abbrev pub text_of : Data → Read (List ℕ)
+text_of d = some_or BadForm (as_str d)
+
+-- the path that a text says
+abbrev pub path_in : List ℕ → Read (List ℕ)
+path_in text = lifted of_path_fault (parsed text)
+
+abbrev pub path_of : Data → Read (List ℕ)
+path_of d = text_of d >>= path_in
+
+abbrev pub array_of : Data → Read Items
+array_of d = some_or BadForm (as_array d)
+
+-- two texts and no more
+abbrev pub pair_in : Items → Read (List ℕ × List ℕ)
+pair_in no_items = Err BadForm
+pair_in (item a no_items) = Err BadForm
+pair_in (item a (item b no_items)) = text_of a >>= (λ x. text_of b >>= (λ y. Ok (x, y)))
+pair_in (item a (item b (item c ds))) = Err BadForm
+
+abbrev pub pair_of : Data → Read (List ℕ × List ℕ)
+pair_of d = array_of d >>= pair_in
+
+-- the member of an object that has one alone
+abbrev pub only_member : Members → Option (List ℕ × Data)
+only_member no_members = None
+only_member (member name d no_members) = Some (name, d)
+only_member (member name d (member other e ms)) = None

@@ -1,0 +1,170 @@
+//! A session file.
+
+ghost use Rattle.std.specs.Prelude.{◌≡◌, ℕ, List};
+ghost use Rattle.serde_json.specs.View.{view, items_view, members_view};
+ghost use Rattle.pb_session.specs.Faults.{Gives, GivesAs};
+ghost use Rattle.pb_session.specs.Sessions.{are_known, is_known, manifest_of, options_of, write_of, set_of, step_named, step_of, steps_of, document_in, session_of};
+
+use crate::fault::BadSession;
+use crate::options::Options;
+use crate::step::SessionStep;
+use crate::value::{array_of, only_member, pair_of, path_in, path_of, text_of};
+use pb_data::{Items, Text};
+use pb_place::PathText;
+use serde_json::{Map, Value};
+use std::alloc::Global;
+
+/// Whether a key of the options of a build is one that they may have.
+fn is_known(name: &str) -> bool
+    ensures { result ≡ is_known name.now }
+{
+    name == "manifest"
+}
+
+/// Whether the options of a build have no key but those that they may have.
+fn are_known(map: &Map<String, Value>) -> bool
+    ensures { result ≡ are_known (members_view map.now.entries) }
+{
+    for (name, _) in map {
+        if !is_known(name.as_str()) {
+            return false;
+        }
+    }
+    true
+}
+
+/// The path of the root manifest, by the value of the key `manifest`.
+fn manifest_of(alloc: Global, value: &Value) -> Result<PathText, BadSession>
+    ensures { Gives result (manifest_of (view value.now)) }
+{
+    match value.get("manifest") {
+        None => {
+            let path = path_in(alloc, "/w/Cargo.toml")?;
+            Ok(path)
+        }
+        Some(found) => {
+            let path = path_of(alloc, found)?;
+            Ok(path)
+        }
+    }
+}
+
+/// The options of a build.
+fn options_of(alloc: Global, value: &Value) -> Result<Options, BadSession>
+    ensures { Gives result (options_of (view value.now)) }
+{
+    let known = match value.as_object() {
+        Some(map) => are_known(map),
+        None => return Err(BadSession::BadForm),
+    };
+    if !known {
+        return Err(BadSession::BadForm);
+    }
+    let manifest = manifest_of(alloc, value)?;
+    let tool = Text::from_str(alloc, "cargo")?;
+    Ok(Options { manifest, tool })
+}
+
+/// The step that writes a file.
+fn write_of(alloc: Global, value: &Value) -> Result<SessionStep, BadSession>
+    ensures { Gives result (write_of (view value.now)) }
+{
+    let (path, text) = pair_of(alloc, value)?;
+    let path = path_in(alloc, path.as_str())?;
+    Ok(SessionStep::Write(path, text))
+}
+
+/// The step that sets a variable.
+fn set_of(alloc: Global, value: &Value) -> Result<SessionStep, BadSession>
+    ensures { Gives result (set_of (view value.now)) }
+{
+    let (name, text) = pair_of(alloc, value)?;
+    Ok(SessionStep::Set(name, text))
+}
+
+/// The step of this name.
+fn step_named(alloc: Global, name: &str, value: &Value) -> Result<SessionStep, BadSession>
+    ensures { Gives result (step_named name.now (view value.now)) }
+{
+    match name {
+        "write" => write_of(alloc, value),
+        "remove" => {
+            let path = path_of(alloc, value)?;
+            Ok(SessionStep::Remove(path))
+        }
+        "set" => set_of(alloc, value),
+        "unset" => {
+            let name = text_of(alloc, value)?;
+            Ok(SessionStep::Unset(name))
+        }
+        "build" => {
+            let options = options_of(alloc, value)?;
+            Ok(SessionStep::Build(options))
+        }
+        _ => Err(BadSession::BadForm),
+    }
+}
+
+/// A step: an object with one key, the step's name.
+fn step_of(alloc: Global, value: &Value) -> Result<SessionStep, BadSession>
+    ensures { Gives result (step_of (view value.now)) }
+{
+    let map = match value.as_object() {
+        Some(map) => map,
+        None => return Err(BadSession::BadForm),
+    };
+    match only_member(map) {
+        Some((name, value)) => step_named(alloc, name, value),
+        None => Err(BadSession::BadForm),
+    }
+}
+
+/// The steps of a list, in its order.
+fn steps_of(alloc: Global, values: &[Value]) -> Result<Items<SessionStep>, BadSession>
+    ensures { Gives result (steps_of (items_view values.now)) }
+{
+    let mut steps = Items::new(alloc);
+    for value in values {
+        steps.push(step_of(alloc, value)?)?;
+    }
+    Ok(steps)
+}
+
+/// The JSON value that some bytes are.
+#[tactic(auto, using(crate::proofs::Utf8::utf8_laws))]
+fn document_in(alloc: Global, bytes: &[u8]) -> Result<Value, BadSession>
+    ensures { GivesAs (λ v. view v) result (document_in bytes.now) }
+{
+    let text = match str::from_utf8(bytes) {
+        Ok(text) => text,
+        Err(_) => return Err(BadSession::BadForm),
+    };
+    match Value::from_str(alloc, text) {
+        Ok(value) => Ok(value),
+        Err(fault) => {
+            if fault.is_memory() {
+                Err(BadSession::OutOfMemory)
+            } else {
+                Err(BadSession::BadForm)
+            }
+        }
+    }
+}
+
+/// Reads a session file, which is of our own making: a JSON list of steps, each an object with one key.
+///
+/// - `{"write":[PATH,TEXT]}` writes a file, `{"remove":PATH}` takes away a file and all below it;
+/// - `{"set":[NAME,VALUE]}` sets a variable, `{"unset":NAME}` takes it away;
+/// - `{"build":OPTIONS}` builds. OPTIONS is an object with the key `manifest`, the path of the root manifest,
+///   or with no key: then it is `/w/Cargo.toml`. The builder is called `cargo`.
+///
+/// A path is an absolute text without byte 0. Of a key that an object has twice the last value counts, as
+/// `serde_json` reads it. BadForm where the bytes are of any other form, and OutOfMemory where memory is
+/// refused.
+pub fn read_session(alloc: Global, bytes: &[u8]) -> Result<Items<SessionStep>, BadSession>
+    ensures { Gives result (session_of bytes.now) }
+{
+    let value = document_in(alloc, bytes)?;
+    let steps = steps_of(alloc, array_of(&value)?)?;
+    Ok(steps)
+}
