@@ -71,7 +71,7 @@ fn close<O: Out>(out: &mut O, fault: BuildFault) -> BuildFault
 /// anything is started, written or changed; Toolchain; Child and Device, after which no further call of the
 /// place is made; Sink; OutOfMemory. All but Plan and Sink write the failing finish line. A unit that is bad
 /// is no fault: the summary names it.
-pub fn build<P: Place, O: Out>(place: &mut P, out: &mut O, alloc: Global, options: &Options) -> Result<Summary, BuildFault>
+pub fn build<P: Place, O: Out>(alloc: Global, place: &mut P, out: &mut O, options: &Options) -> Result<Summary, BuildFault>
     ensures failed { IfErr result (λ e. is_failure e ≡ true → (P.counts place.new).late ≡ 0) }
 {
     match carry_out(place, alloc, options) {

@@ -13,6 +13,7 @@ mod package;
 mod plan;
 mod report;
 mod run;
+mod sessions;
 pub mod setup;
 mod sink;
 mod texts;
@@ -20,7 +21,8 @@ mod toolchain;
 pub mod unit;
 
 pub use builder::build;
-pub use pb_report::{BuildFault, LoadFault, PlanFault, Refusal, Summary, UnitFault};
-pub use pb_session::Options;
+pub use pb_report::{BuildFault, LoadFault, PlanFault, Refusal, Summary, UnitFault, result_line};
+pub use pb_session::{BadSession, Options, SessionStep, read_session};
+pub use sessions::{Answer, session};
 pub use setup::Setup;
 pub use unit::{About, LibraryUnit};
