@@ -1,3 +1,4 @@
+pub mod Refusals
 pub mod Setups
 pub mod Sinks
 pub mod Sources
