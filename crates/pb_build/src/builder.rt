@@ -42,7 +42,11 @@ fn report_plan<P: Place>(place: &mut P, alloc: Global, plan: &Plan) -> Result<Re
 }
 
 /// Reads what is to be done, does it, and says what came of it.
-fn carry_out<P: Place>(place: &mut P, alloc: Global, options: &Options) -> Result<Report, BuildFault>
+fn carry_out<P: Place>(
+    place: &mut P,
+    alloc: Global,
+    options: &Options,
+) -> Result<Report, BuildFault>
     ensures same { IsTrue P.tells → IfErr result (λ e. is_refusal e ≡ true → P.world place.new ≡ P.world place.old) }
     ensures unstarted { IfErr result (λ e. is_refusal e ≡ true → (P.counts place.new).starts ≡ (P.counts place.old).starts) }
     ensures failed { IfErr result (λ e. is_failure e ≡ true → (P.counts place.new).late ≡ 0) }
@@ -77,7 +81,12 @@ fn close<O: Out>(out: &mut O, fault: BuildFault) -> BuildFault
 /// anything is started, written or changed; Toolchain; Child and Device, after which no further call of the
 /// place is made; Sink; OutOfMemory. All but Plan and Sink write the failing finish line. A unit that is bad
 /// is no fault: the summary names it.
-pub fn build<P: Place, O: Out>(alloc: Global, place: &mut P, out: &mut O, options: &Options) -> Result<Summary, BuildFault>
+pub fn build<P: Place, O: Out>(
+    alloc: Global,
+    place: &mut P,
+    out: &mut O,
+    options: &Options,
+) -> Result<Summary, BuildFault>
     ensures same { IsTrue P.tells → IfErr result (λ e. is_refusal e ≡ true → P.world place.new ≡ P.world place.old) }
     ensures unstarted { IfErr result (λ e. is_refusal e ≡ true → (P.counts place.new).starts ≡ (P.counts place.old).starts) }
     ensures silent { IfErr result (λ e. is_refusal e ≡ true → O.taken out.new ≡ O.taken out.old) }
