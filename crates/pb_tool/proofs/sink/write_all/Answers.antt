@@ -1,0 +1,12 @@
+use Rattle.std.proofs.Common.{refl, ◌∙◌}
+use Rattle.pb_tool.proofs.Sinks.{told_none, told_rest, told_all}
+use Rattle.pb_tool.proofs.sink.write_all.Goals as goal
+
+pub loop-rest-init : goal.loop-rest-init
+loop-rest-init g c = record { told = told_none _ _; faults = refl }
+
+pub loop-rest-preserved : goal.loop-rest-preserved
+loop-rest-preserved g c = record {
+  told = told_rest _ _ _ _ _ _ c.loop-rest.invariant.told c.in-Some.ensures.took.2;
+  faults = c.in-Some.ensures.faults ∙ c.loop-rest.invariant.faults;
+}

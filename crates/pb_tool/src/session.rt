@@ -1,0 +1,69 @@
+//! The session program.
+
+ghost use Rattle.std.specs.Prelude.{◌≡◌, ◌⊎◌, ◌++◌, Err, IfOk, OnOk, string_bytes};
+ghost use Rattle.pb_session.specs.Sessions.{session_of};
+ghost use Rattle.pb_session.specs.declared.fault.BadSession.TheVariants.{BadForm};
+ghost use Rattle.pb_tool.specs.Session.{IsSession, Refused, lines_of};
+
+use crate::sink::write_all;
+use pb_build::{Answer, session};
+use pb_mini::Mini;
+use pb_place::{Memory, Out};
+use pb_report::result_line;
+use pb_session::{BadSession, read_session};
+use std::alloc::{AllocError, Global};
+
+/// Says that a session is bad, and gives the status for it.
+pub fn refuse<E: Out>(err: &mut E) -> u8
+    ensures status { result ≡ 1 }
+    ensures told { Refused (E.taken err.old) (E.taken err.new) (E.faults err.old) (E.faults err.new) }
+{
+    let _ = write_all(err, b"error: bad session\n");
+    1
+}
+
+/// The result lines of builds, each with a line feed.
+fn result_lines(alloc: Global, answers: &[Answer]) -> Result<String, AllocError>
+    ensures { IfOk result (λ lines. string_bytes lines ≡ lines_of answers.now) }
+{
+    let mut lines = String::new(alloc);
+    for answer in answers {
+        let line = result_line(alloc, &answer.result)?;
+        lines.push_str(line.as_str())?;
+        lines.push_str("\n")?;
+    }
+    Ok(lines)
+}
+
+/// Runs a session and writes its lines. Whether it was read and all result lines were written.
+fn carry_out<O: Out>(alloc: Global, bytes: &[u8], out: &mut O) -> Result<bool, BadSession>
+    ensures read { OnOk result (IsSession bytes.now) }
+    ensures untouched { session_of bytes.now ≡ Err BadForm → out.new ≡ out.old }
+{
+    let steps = read_session(alloc, bytes)?;
+    let mut memory = Memory::new(alloc, Mini);
+    let answers = session(alloc, &mut memory, out, steps.as_slice())?;
+    let lines = result_lines(alloc, answers.as_slice())?;
+    Ok(write_all(out, lines.as_bytes()))
+}
+
+/// The session program: reads a session from bytes, runs it in memory with the small compiler as its child,
+/// and writes to `out` all message lines of its builds and then one result line a build, each with a line
+/// feed.
+///
+/// The status is 0, or 1 with `error: bad session` and a line feed on `err`: where the bytes are no session,
+/// of which nothing is run and nothing is written to `out`; where memory is refused outside a build; and
+/// where a result line cannot be written. A build that is refused or fails is no bad session: its result
+/// line says so.
+pub fn run_session<O: Out, E: Out>(alloc: Global, bytes: &[u8], out: &mut O, err: &mut E) -> u8
+    ensures status { (result ≡ 0) ⊎ (result ≡ 1) }
+    ensures read { result ≡ 0 → IsSession bytes.now }
+    ensures untouched { session_of bytes.now ≡ Err BadForm → out.new ≡ out.old }
+    ensures quiet { result ≡ 0 → err.new ≡ err.old }
+    ensures told { result ≡ 1 → Refused (E.taken err.old) (E.taken err.new) (E.faults err.old) (E.faults err.new) }
+{
+    match carry_out(alloc, bytes, out) {
+        Ok(true) => 0,
+        _ => refuse(err),
+    }
+}
