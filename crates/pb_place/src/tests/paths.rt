@@ -91,7 +91,6 @@ fn beginnings(rt: HostRuntime) -> Result<(), Fail> {
         let other = PathText::parse(rt.alloc(), folder)?;
         assert_eq!(rt; one.is_below(&other), is_below, "{path} below {folder}");
         assert_eq!(rt; one.starts_with(&other), starts, "{path} in {folder}");
-        assert_eq!(rt; one == other, path == folder);
     }
     Ok(())
 }
