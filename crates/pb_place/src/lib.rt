@@ -11,6 +11,7 @@ pub mod place;
 pub mod sink;
 #[cfg(test)]
 mod tests;
+pub mod whole;
 
 pub use calls::{FileCall, last_call_stands, perform};
 pub use child::{Child, Reply, View, ViewFault};
@@ -20,3 +21,4 @@ pub use memory::Memory;
 pub use path::{PathFault, PathText, RelativePath};
 pub use place::{Place, PlaceFault, StartFault};
 pub use sink::{Out, Over};
+pub use whole::write_all;
