@@ -9,7 +9,12 @@ use std::process::Abort;
 use std::test::Fail;
 
 /// Whether a line is the one that is wanted.
-fn says(rt: &impl Abort, alloc: Global, answer: Result<Summary, BuildFault>, want: &str) -> Result<(), Fail> {
+fn says(
+    rt: &impl Abort,
+    alloc: Global,
+    answer: Result<Summary, BuildFault>,
+    want: &str,
+) -> Result<(), Fail> {
     let line = result_line(alloc, &answer)?;
     assert_eq!(rt; line.as_str(), want);
     Ok(())
@@ -30,13 +35,21 @@ fn ends(rt: HostRuntime) -> Result<(), Fail> {
     for (bad, started, want) in [
         (None, "", "ok started=-"),
         (None, "a.target.lib", "ok started=a.target.lib"),
-        (None, "b.host.run a.target.lib", "ok started=b.host.run,a.target.lib"),
+        (
+            None,
+            "b.host.run a.target.lib",
+            "ok started=b.host.run,a.target.lib",
+        ),
         (
             Some(("a.target.lib", UnitFault::Status(1))),
             "a.target.lib",
             "bad a.target.lib Status(1) started=a.target.lib",
         ),
-        (Some(("a.target.lib", UnitFault::Status(-9))), "", "bad a.target.lib Status(-9) started=-"),
+        (
+            Some(("a.target.lib", UnitFault::Status(-9))),
+            "",
+            "bad a.target.lib Status(-9) started=-",
+        ),
         (
             Some(("a.target.lib", UnitFault::Status(-2_147_483_648))),
             "b",
@@ -77,8 +90,14 @@ fn refusals(rt: HostRuntime) -> Result<(), Fail> {
         (ManifestFault::BadName, "refused BadName"),
         (ManifestFault::BadVersion, "refused BadVersion"),
         (ManifestFault::UnsupportedTable, "refused UnsupportedTable"),
-        (ManifestFault::UnsupportedSource, "refused UnsupportedSource"),
-        (ManifestFault::UnsupportedCrateType, "refused UnsupportedCrateType"),
+        (
+            ManifestFault::UnsupportedSource,
+            "refused UnsupportedSource",
+        ),
+        (
+            ManifestFault::UnsupportedCrateType,
+            "refused UnsupportedCrateType",
+        ),
         (ManifestFault::BadProfile, "refused BadProfile"),
         (ManifestFault::BadFeature, "refused BadFeature"),
         (ManifestFault::TooLarge, "refused TooLarge"),
@@ -87,7 +106,12 @@ fn refusals(rt: HostRuntime) -> Result<(), Fail> {
         says(&rt, alloc, Err(refused(alloc, fault)?), want)?;
     }
     let none = LoadFault::NoManifest(PathText::parse(alloc, "/w/Cargo.toml")?);
-    says(&rt, alloc, Err(BuildFault::Plan(Refusal::Load(none))), "refused NoManifest")?;
+    says(
+        &rt,
+        alloc,
+        Err(BuildFault::Plan(Refusal::Load(none))),
+        "refused NoManifest",
+    )?;
     let inherited = BuildFault::Plan(Refusal::Load(LoadFault::NoInherited));
     says(&rt, alloc, Err(inherited), "refused NoInherited")?;
     let nothing = BuildFault::Plan(Refusal::Plan(PlanFault::NothingToBuild));
@@ -100,7 +124,11 @@ fn faults(rt: HostRuntime) -> Result<(), Fail> {
     for (at, fault, want) in [
         ("-vV", StartFault::CannotStart, "fault -vV CannotStart"),
         ("a.target.lib", StartFault::Died, "fault a.target.lib Died"),
-        ("a.target.lib", StartFault::Capture, "fault a.target.lib Capture"),
+        (
+            "a.target.lib",
+            StartFault::Capture,
+            "fault a.target.lib Capture",
+        ),
     ] {
         let unit = Text::from_str(alloc, at)?;
         says(&rt, alloc, Err(BuildFault::Child { unit, fault }), want)?;
@@ -111,7 +139,17 @@ fn faults(rt: HostRuntime) -> Result<(), Fail> {
         fault: PlaceFault::Read,
     };
     says(&rt, alloc, Err(device), "fault /w/Cargo.toml Device")?;
-    says(&rt, alloc, Err(BuildFault::Toolchain), "fault -vV Toolchain")?;
+    says(
+        &rt,
+        alloc,
+        Err(BuildFault::Toolchain),
+        "fault -vV Toolchain",
+    )?;
     says(&rt, alloc, Err(BuildFault::Sink), "fault sink Sink")?;
-    says(&rt, alloc, Err(BuildFault::OutOfMemory), "fault memory OutOfMemory")
+    says(
+        &rt,
+        alloc,
+        Err(BuildFault::OutOfMemory),
+        "fault memory OutOfMemory",
+    )
 }

@@ -43,13 +43,19 @@ fn sessions(rt: HostRuntime) -> Result<(), Fail> {
         (r#"[{"set":["A=B",""]}]"#, "set<A=B><>;"),
         (r#"[{"unset":""}]"#, "unset<><>;"),
         (r#"[{"build":{}}]"#, "build</w/Cargo.toml><cargo>;"),
-        (r#"[{"build":{"manifest":"/v/x.toml"}}]"#, "build</v/x.toml><cargo>;"),
+        (
+            r#"[{"build":{"manifest":"/v/x.toml"}}]"#,
+            "build</v/x.toml><cargo>;",
+        ),
         (
             r#"[{"build":{}},{"remove":"/a"},{"set":["b","c"]}]"#,
             "build</w/Cargo.toml><cargo>;remove</a><>;set<b><c>;",
         ),
         // Of a key that stands twice the last value counts.
-        (r#"[{"build":{},"build":{"manifest":"/b"}}]"#, "build</b><cargo>;"),
+        (
+            r#"[{"build":{},"build":{"manifest":"/b"}}]"#,
+            "build</b><cargo>;",
+        ),
         (r#"[{"unset":"a","unset":"b"}]"#, "unset<b><>;"),
     ] {
         let answer = shown(rt.alloc(), session.as_bytes())?;

@@ -1,6 +1,8 @@
 //! The session program.
 
-ghost use Rattle.std.specs.Prelude.{◌≡◌, ◌⊎◌, ◌++◌, Err, IfOk, OnOk, string_bytes};
+ghost use Rattle.std.specs.Prelude.{◌≡◌, ◌⊎◌, ◌++◌, Err, IfOk, OnOk, OnErr, IsTrue, false, string_bytes};
+ghost use Rattle.std.specs.Io.KnownBytes.{Appends};
+ghost use Rattle.pb_place.specs.Counts.{up};
 ghost use Rattle.pb_session.specs.Sessions.{session_of};
 ghost use Rattle.pb_session.specs.declared.fault.BadSession.TheVariants.{BadForm};
 ghost use Rattle.pb_tool.specs.Session.{IsSession, Refused, lines_of};
@@ -34,7 +36,17 @@ fn result_lines(alloc: Global, answers: &[Answer]) -> Result<String, AllocError>
     Ok(lines)
 }
 
-/// Runs a session and writes its lines. Whether it was read and all result lines were written.
+/// Writes the result lines of builds, and says whether the sink took them.
+fn write_results<O: Out>(alloc: Global, answers: &[Answer], out: &mut O) -> Result<bool, AllocError>
+    ensures all { IfOk result (λ taken. IsTrue taken → Appends (O.taken out.old) (O.taken out.new) (lines_of answers.now)) }
+    ensures fault { IfOk result (λ taken. taken ≡ false → O.faults out.new ≡ up (O.faults out.old)) }
+    ensures memory { OnErr result (out.new ≡ out.old) }
+{
+    let lines = result_lines(alloc, answers)?;
+    Ok(write_all(out, lines.as_bytes()))
+}
+
+/// Runs a session and writes its lines. Whether all result lines were written.
 fn carry_out<O: Out>(alloc: Global, bytes: &[u8], out: &mut O) -> Result<bool, BadSession>
     ensures read { OnOk result (IsSession bytes.now) }
     ensures untouched { session_of bytes.now ≡ Err BadForm → out.new ≡ out.old }
@@ -42,8 +54,8 @@ fn carry_out<O: Out>(alloc: Global, bytes: &[u8], out: &mut O) -> Result<bool, B
     let steps = read_session(alloc, bytes)?;
     let mut memory = Memory::new(alloc, Mini);
     let answers = session(alloc, &mut memory, out, steps.as_slice())?;
-    let lines = result_lines(alloc, answers.as_slice())?;
-    Ok(write_all(out, lines.as_bytes()))
+    let written = write_results(alloc, answers.as_slice(), out)?;
+    Ok(written)
 }
 
 /// The session program: reads a session from bytes, runs it in memory with the small compiler as its child,
