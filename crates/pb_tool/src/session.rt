@@ -37,7 +37,11 @@ fn result_lines(alloc: Global, answers: &[Answer]) -> Result<String, AllocError>
 }
 
 /// Writes the result lines of builds, and says whether the sink took them.
-fn write_results<O: Out>(alloc: Global, answers: &[Answer], out: &mut O) -> Result<bool, AllocError>
+pub fn write_results<O: Out>(
+    alloc: Global,
+    answers: &[Answer],
+    out: &mut O,
+) -> Result<bool, AllocError>
     ensures all { IfOk result (λ taken. IsTrue taken → Appends (O.taken out.old) (O.taken out.new) (lines_of answers.now)) }
     ensures fault { IfOk result (λ taken. taken ≡ false → O.faults out.new ≡ up (O.faults out.old)) }
     ensures memory { OnErr result (out.new ≡ out.old) }

@@ -1,5 +1,8 @@
 //! The session program and its command line, against worked examples.
 
+mod builds;
+mod refusals;
+
 use crate::command_line::session_file;
 use crate::session::run_session;
 use pb_place::Over;
@@ -14,6 +17,20 @@ const FINISHED: &str = "{\"reason\":\"build-finished\",\"success\":true}\n";
 
 const ONE_LIBRARY: &str =
     r#"[{"write":["/w/Cargo.toml","[package]\nname = \"a\"\nversion = \"0.1.0\"\nedition = \"2021\"\n"]},{"write":["/w/src/lib.rs",""]},{"build":{}}]"#;
+
+const WARNS: &str =
+    r#"[{"write":["/w/Cargo.toml","[package]\nname = \"a\"\nversion = \"0.1.0\"\nedition = \"2021\"\n"]},{"write":["/w/src/lib.rs","warn old\n"]},{"build":{}}]"#;
+
+const WARNING: &str =
+    "{\"reason\":\"compiler-message\",\"package_id\":\"path+file:///w#a@0.1.0\",\"manifest_path\":\"/w/Cargo.toml\",\"target\":{\"kind\":[\"lib\"],\"crate_types\":[\"lib\"],\"name\":\"a\",\"src_path\":\"/w/src/lib.rs\",\"edition\":\"2021\"},\"message\":{\"level\":\"warning\",\"message\":\"old\",\"line\":1}}\n";
+
+const FAILS: &str =
+    r#"[{"write":["/w/Cargo.toml","[package]\nname = \"a\"\nversion = \"0.1.0\"\nedition = \"2021\"\n"]},{"write":["/w/src/lib.rs","fail no\n"]},{"build":{}}]"#;
+
+const ERROR: &str =
+    "{\"reason\":\"compiler-message\",\"package_id\":\"path+file:///w#a@0.1.0\",\"manifest_path\":\"/w/Cargo.toml\",\"target\":{\"kind\":[\"lib\"],\"crate_types\":[\"lib\"],\"name\":\"a\",\"src_path\":\"/w/src/lib.rs\",\"edition\":\"2021\"},\"message\":{\"level\":\"error\",\"message\":\"no\",\"line\":1}}\n";
+
+const NOT_FINISHED: &str = "{\"reason\":\"build-finished\",\"success\":false}\n";
 
 /// Runs a session into sinks that take all, and compares the status and what was written.
 fn gives(
@@ -63,6 +80,26 @@ fn sessions(rt: HostRuntime) -> Result<(), Fail> {
         ONE_LIBRARY,
         0,
         &[ARTIFACT, FINISHED, "ok started=a.target.lib\n"],
+        "",
+    )?;
+    gives(
+        &rt,
+        alloc,
+        WARNS,
+        0,
+        &[WARNING, ARTIFACT, FINISHED, "ok started=a.target.lib\n"],
+        "",
+    )?;
+    gives(
+        &rt,
+        alloc,
+        FAILS,
+        0,
+        &[
+            ERROR,
+            NOT_FINISHED,
+            "bad a.target.lib Status(1) started=a.target.lib\n",
+        ],
         "",
     )
 }

@@ -1,0 +1,160 @@
+//! What a build of one library refuses, each once.
+
+use super::gives;
+use std::alloc::Global;
+use std::process::Abort;
+use std::test::Fail;
+
+const MANIFEST: &str = r#"{"write":["/w/Cargo.toml","[package]\nname = \"a\"\n"]}"#;
+
+const LIBRARY: &str = r#"{"write":["/w/src/lib.rs",""]}"#;
+
+/// The texts one after another.
+fn joined(alloc: Global, texts: &[&str]) -> Result<String, Fail> {
+    let mut all = String::new(alloc);
+    for text in texts {
+        all.push_str(*text)?;
+    }
+    Ok(all)
+}
+
+/// Steps in JSON that write the root manifest, whose text is given as JSON spells it, and a library.
+fn with_library(alloc: Global, manifest: &str) -> Result<String, Fail> {
+    let start = "{\"write\":[\"/w/Cargo.toml\",\"";
+    joined(alloc, &[start, manifest, "\"]},", LIBRARY])
+}
+
+/// Steps in JSON that write a package which is served, and one more empty file.
+fn with_file(alloc: Global, path: &str) -> Result<String, Fail> {
+    let start = ",{\"write\":[\"";
+    joined(alloc, &[MANIFEST, ",", LIBRARY, start, path, "\",\"\"]}"])
+}
+
+/// Takes steps in JSON and a build, and compares the name of its refusal: no other line is written.
+fn refuses(
+    rt: &impl Abort,
+    alloc: Global,
+    steps: &str,
+    options: &str,
+    name: &str,
+) -> Result<(), Fail> {
+    let session = joined(alloc, &["[", steps, ",{\"build\":", options, "}]"])?;
+    gives(
+        rt,
+        alloc,
+        session.as_str(),
+        0,
+        &["refused ", name, "\n"],
+        "",
+    )
+}
+
+/// Manifests of a package that has a library at `src/lib.rs`, as JSON spells them.
+#[test]
+fn refused_manifests(rt: HostRuntime) -> Result<(), Fail> {
+    for (manifest, name) in [
+        ("[package\\n", "NotToml"),
+        ("[package]\\nversion = '0.1.0'\\n", "BadName"),
+        ("[package]\\nname = 'a'\\nversion = '1'\\n", "BadVersion"),
+        ("[package]\\nname = 'a'\\nedition = '2020'\\n", "BadKind"),
+        (
+            "[package]\\nname = 'a'\\n[lib]\\ncrate-type = ['dylib']\\n",
+            "UnsupportedCrateType",
+        ),
+        (
+            "[package]\\nname = 'a'\\n[lib]\\nname = 'a-b'\\n",
+            "BadName",
+        ),
+        (
+            "[package]\\nname = 'a'\\nversion.workspace = true\\n",
+            "NoInherited",
+        ),
+        (
+            "[package]\\nname = 'a'\\nreadme.workspace = true\\n",
+            "NoInherited",
+        ),
+        (
+            "[package]\\nname = 'a'\\n[workspace]\\n",
+            "UnsupportedTable",
+        ),
+        (
+            "[package]\\nname = 'a'\\n[[bin]]\\nname = 'b'\\n",
+            "UnsupportedTable",
+        ),
+        (
+            "[package]\\nname = 'a'\\n[dependencies]\\np = { path = 'p' }\\n",
+            "UnsupportedTable",
+        ),
+        (
+            "[package]\\nname = 'a'\\n[build-dependencies]\\np = { path = 'p' }\\n",
+            "UnsupportedTable",
+        ),
+        (
+            "[package]\\nname = 'a'\\n[features]\\nf = []\\n",
+            "UnsupportedTable",
+        ),
+        (
+            "[package]\\nname = 'a'\\n[profile.dev]\\nopt-level = 1\\n",
+            "UnsupportedTable",
+        ),
+        (
+            "[package]\\nname = 'a'\\nlinks = 'z'\\n",
+            "UnsupportedTable",
+        ),
+        (
+            "[package]\\nname = 'a'\\nbuild = true\\n",
+            "UnsupportedTable",
+        ),
+        (
+            "[package]\\nname = 'a'\\nbuild = 'b.rs'\\n",
+            "UnsupportedTable",
+        ),
+        ("[package]\\nname = 'a'\\n[patch.q]\\n", "UnsupportedTable"),
+    ] {
+        let steps = with_library(rt.alloc(), manifest)?;
+        refuses(&rt, rt.alloc(), steps.as_str(), "{}", name)?;
+    }
+    Ok(())
+}
+
+/// Files that a build does not serve yet, beside a package that is served.
+#[test]
+fn refused_files(rt: HostRuntime) -> Result<(), Fail> {
+    for path in [
+        "/w/src/main.rs",
+        "/w/build.rs",
+        "/w/src/bin/b.rs",
+        "/w/src/bin/b/main.rs",
+    ] {
+        let steps = with_file(rt.alloc(), path)?;
+        refuses(&rt, rt.alloc(), steps.as_str(), "{}", "UnsupportedTable")?;
+    }
+    Ok(())
+}
+
+/// No manifest that may be read, and a manifest without a library.
+#[test]
+fn nothing_to_read_or_build(rt: HostRuntime) -> Result<(), Fail> {
+    let alloc = rt.alloc();
+    refuses(&rt, alloc, LIBRARY, "{}", "NoManifest")?;
+    refuses(&rt, alloc, MANIFEST, "{}", "NothingToBuild")?;
+    let other =
+        r#"{"write":["/w/a.toml","[package]\nname = \"a\"\n"]},{"write":["/w/src/lib.rs",""]}"#;
+    refuses(
+        &rt,
+        alloc,
+        other,
+        r#"{"manifest":"/w/a.toml"}"#,
+        "NoManifest",
+    )?;
+    let below = joined(
+        alloc,
+        &[
+            MANIFEST,
+            ",",
+            LIBRARY,
+            ",{\"set\":[\"CARGO_TARGET_DIR\",\"/w\"]}",
+        ],
+    )?;
+    refuses(&rt, alloc, below.as_str(), "{}", "NoManifest")
+}
