@@ -13,4 +13,4 @@ setup_told o s rustc flags target w v u is is_rustc first is_flags second is_tar
     is ∙ ap (λ (x : Option (List ℕ)). setup_with o x flags target) is_rustc
     ∙ ap (λ (x : Option (List ℕ)). setup_with o (set_text (get w.variables (codes "RUSTC"))) x target) (is_flags ∙ ap (λ (x : World). set_text (get x.variables (codes "RUSTFLAGS"))) first)
     ∙ ap (λ (x : Option (List ℕ)). setup_with o (set_text (get w.variables (codes "RUSTC"))) (set_text (get w.variables (codes "RUSTFLAGS"))) x)
-        (is_target ∙ ap (λ (x : World). set_text (get x.variables (codes "CARGO_TARGET_DIR"))) (second ∙ first))
+    (is_target ∙ ap (λ (x : World). set_text (get x.variables (codes "CARGO_TARGET_DIR"))) (second ∙ first))

@@ -22,3 +22,12 @@ Reads result old new = MatchResult result (λ _. (new.failures ≡ old.failures)
 abbrev pub Starts : {T : Type 0} → Result T BuildFault → Counts → Counts → Type 0
 Starts result old new = MatchResult result (λ _. (new.failures ≡ old.failures) × (new.starts ≡ up old.starts))
     (λ e. (is_failure e ≡ true → new.failures ≡ up old.failures) × (is_failure e ≡ true → new.late ≡ 0))
+
+-- the build was refused
+abbrev pub is_refusal : BuildFault → Bool
+is_refusal (Plan r) = true
+is_refusal Toolchain = false
+is_refusal (Child unit fault) = false
+is_refusal (Device unit fault) = false
+is_refusal Sink = false
+is_refusal OutOfMemory = false

@@ -3,7 +3,7 @@
 ghost use Rattle.std.specs.Prelude.{◌≡◌, Bool, IfOk, IfErr, OnOk, OnErr, IsTrue, true, false, MatchResult};
 ghost use Rattle.pb_place.specs.Counts.{up};
 ghost use Rattle.pb_report.specs.Faults.{is_outside};
-ghost use Rattle.pb_build.specs.Causes.{is_failure};
+ghost use Rattle.pb_build.specs.Causes.{is_failure, is_refusal};
 ghost use Rattle.pb_build.specs.Unit.{out_of};
 
 use crate::command::command_of;
@@ -11,9 +11,8 @@ use crate::message::build_finished;
 use crate::plan::{Plan, plan_in};
 use crate::report::{Report, report_of};
 use crate::run::run_unit;
-use crate::sink::write_all;
 use crate::toolchain::toolchain;
-use pb_place::{Ended, Out, Place};
+use pb_place::{Ended, Out, Place, write_all};
 use pb_report::{BuildFault, Summary};
 use pb_session::Options;
 use std::alloc::Global;
@@ -21,6 +20,7 @@ use std::alloc::Global;
 /// Runs the unit of a plan.
 fn run_plan<P: Place>(place: &mut P, alloc: Global, plan: &Plan) -> Result<Ended, BuildFault>
     requires { plan.now.out ≡ out_of plan.now.setup.target plan.now.unit }
+    ensures begun { IfErr result (λ e. is_refusal e ≡ false) }
     ensures failed { IfErr result (λ e. is_failure e ≡ true → (P.counts place.new).late ≡ 0) }
 {
     let toolchain = toolchain(place, alloc, &plan.setup)?;
@@ -32,6 +32,7 @@ fn run_plan<P: Place>(place: &mut P, alloc: Global, plan: &Plan) -> Result<Ended
 /// Runs the unit of a plan, and says what came of it.
 fn report_plan<P: Place>(place: &mut P, alloc: Global, plan: &Plan) -> Result<Report, BuildFault>
     requires { plan.now.out ≡ out_of plan.now.setup.target plan.now.unit }
+    ensures begun { IfErr result (λ e. is_refusal e ≡ false) }
     ensures failed { IfErr result (λ e. is_failure e ≡ true → (P.counts place.new).late ≡ 0) }
 {
     let ended = run_plan(place, alloc, plan)?;
@@ -40,7 +41,13 @@ fn report_plan<P: Place>(place: &mut P, alloc: Global, plan: &Plan) -> Result<Re
 }
 
 /// Reads what is to be done, does it, and says what came of it.
-fn carry_out<P: Place>(place: &mut P, alloc: Global, options: &Options) -> Result<Report, BuildFault>
+fn carry_out<P: Place>(
+    place: &mut P,
+    alloc: Global,
+    options: &Options,
+) -> Result<Report, BuildFault>
+    ensures same { IsTrue P.tells → IfErr result (λ e. is_refusal e ≡ true → P.world place.new ≡ P.world place.old) }
+    ensures unstarted { IfErr result (λ e. is_refusal e ≡ true → (P.counts place.new).starts ≡ (P.counts place.old).starts) }
     ensures failed { IfErr result (λ e. is_failure e ≡ true → (P.counts place.new).late ≡ 0) }
 {
     let plan = plan_in(place, alloc, options)?;
@@ -51,6 +58,8 @@ fn carry_out<P: Place>(place: &mut P, alloc: Global, options: &Options) -> Resul
 /// there the fault is Sink.
 fn close<O: Out>(out: &mut O, fault: BuildFault) -> BuildFault
     ensures failed { is_failure result ≡ true → result ≡ fault }
+    ensures refused { is_refusal result ≡ true → result ≡ fault }
+    ensures silent { is_refusal result ≡ true → O.taken out.new ≡ O.taken out.old }
 {
     match fault {
         BuildFault::Plan(refusal) => BuildFault::Plan(refusal),
@@ -71,7 +80,15 @@ fn close<O: Out>(out: &mut O, fault: BuildFault) -> BuildFault
 /// anything is started, written or changed; Toolchain; Child and Device, after which no further call of the
 /// place is made; Sink; OutOfMemory. All but Plan and Sink write the failing finish line. A unit that is bad
 /// is no fault: the summary names it.
-pub fn build<P: Place, O: Out>(alloc: Global, place: &mut P, out: &mut O, options: &Options) -> Result<Summary, BuildFault>
+pub fn build<P: Place, O: Out>(
+    alloc: Global,
+    place: &mut P,
+    out: &mut O,
+    options: &Options,
+) -> Result<Summary, BuildFault>
+    ensures same { IsTrue P.tells → IfErr result (λ e. is_refusal e ≡ true → P.world place.new ≡ P.world place.old) }
+    ensures unstarted { IfErr result (λ e. is_refusal e ≡ true → (P.counts place.new).starts ≡ (P.counts place.old).starts) }
+    ensures silent { IfErr result (λ e. is_refusal e ≡ true → O.taken out.new ≡ O.taken out.old) }
     ensures failed { IfErr result (λ e. is_failure e ≡ true → (P.counts place.new).late ≡ 0) }
 {
     match carry_out(place, alloc, options) {

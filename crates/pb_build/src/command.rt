@@ -60,7 +60,13 @@ fn edition_word(alloc: Global, edition: Edition) -> Result<String, AllocError>
 }
 
 /// Adds the words of the crate's source, and of how diagnostics are told.
-fn push_source(alloc: Global, words: &mut Items<Text>, name: &str, edition: &str, source: &str) -> Result<(), AllocError>
+fn push_source(
+    alloc: Global,
+    words: &mut Items<Text>,
+    name: &str,
+    edition: &str,
+    source: &str,
+) -> Result<(), AllocError>
     ensures { OnOk result (words.new ≡ words.old ++ source_words name.now edition.now source.now) }
 {
     push_words(
@@ -109,7 +115,12 @@ fn push_checks(alloc: Global, words: &mut Items<Text>) -> Result<(), AllocError>
 }
 
 /// The words of a compile, group by group.
-fn words_of(alloc: Global, setup: &Setup, unit: &LibraryUnit, out: &PathText) -> Result<Items<Text>, AllocError>
+fn words_of(
+    alloc: Global,
+    setup: &Setup,
+    unit: &LibraryUnit,
+    out: &PathText,
+) -> Result<Items<Text>, AllocError>
     requires { out.now ≡ out_of setup.now.target unit.now }
     ensures { IfOk result (λ words. words ≡ words_of setup.now unit.now) }
 {
@@ -161,7 +172,12 @@ fn version_texts(alloc: Global, version: &Version) -> Result<VersionTexts, Alloc
 }
 
 /// Sets the variables of the compile and of its package.
-fn set_unit(alloc: Global, all: &mut TextMap, setup: &Setup, unit: &LibraryUnit) -> Result<(), AllocError>
+fn set_unit(
+    alloc: Global,
+    all: &mut TextMap,
+    setup: &Setup,
+    unit: &LibraryUnit,
+) -> Result<(), AllocError>
     ensures { OnOk result (all.new ≡ all_set all.old (unit_variables setup.now unit.now)) }
 {
     all.insert(alloc, "CARGO", setup.tool.as_str())?;
@@ -188,7 +204,12 @@ fn set_about(alloc: Global, all: &mut TextMap, about: &About) -> Result<(), Allo
 }
 
 /// Sets a version and its parts.
-fn set_parts(alloc: Global, all: &mut TextMap, version: &str, parts: &VersionTexts) -> Result<(), AllocError>
+fn set_parts(
+    alloc: Global,
+    all: &mut TextMap,
+    version: &str,
+    parts: &VersionTexts,
+) -> Result<(), AllocError>
     ensures { OnOk result (all.new ≡ all_set all.old (version_variables version.now (string_bytes parts.now.major) (string_bytes parts.now.minor) (string_bytes parts.now.patch) (string_bytes parts.now.pre))) }
 {
     all.insert(alloc, "CARGO_PKG_VERSION", version)?;
@@ -209,7 +230,11 @@ fn set_version(alloc: Global, all: &mut TextMap, version: &Version) -> Result<()
 }
 
 /// The variables of a compile: each name once, in byte order.
-fn pairs_of(alloc: Global, setup: &Setup, unit: &LibraryUnit) -> Result<Items<(Text, Text)>, AllocError>
+fn pairs_of(
+    alloc: Global,
+    setup: &Setup,
+    unit: &LibraryUnit,
+) -> Result<Items<(Text, Text)>, AllocError>
     ensures { IfOk result (λ pairs. pairs ≡ pairs_of setup.now unit.now) }
 {
     let mut all = TextMap::new(alloc);
@@ -220,7 +245,13 @@ fn pairs_of(alloc: Global, setup: &Setup, unit: &LibraryUnit) -> Result<Items<(T
 }
 
 /// The compile of a library.
-pub fn command_of(alloc: Global, setup: &Setup, toolchain: Bytes, unit: &LibraryUnit, out: &PathText) -> Result<Command, AllocError>
+pub fn command_of(
+    alloc: Global,
+    setup: &Setup,
+    toolchain: Bytes,
+    unit: &LibraryUnit,
+    out: &PathText,
+) -> Result<Command, AllocError>
     requires { out.now ≡ out_of setup.now.target unit.now }
     ensures { IfOk result (λ command. command ≡ command_of setup.now toolchain unit.now) }
 {

@@ -15,7 +15,6 @@ mod report;
 mod run;
 mod sessions;
 pub mod setup;
-mod sink;
 mod texts;
 mod toolchain;
 pub mod unit;

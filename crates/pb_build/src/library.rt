@@ -10,7 +10,9 @@ use crate::package::{is_source, refused};
 use crate::setup::Setup;
 use crate::unit::{About, LibraryUnit};
 use pb_data::{Items, Text, TryCopy};
-use pb_manifest::{CrateType, Edition, Inherited, Key, Library, ManifestFault, Package, Readme, Version};
+use pb_manifest::{
+    CrateType, Edition, Inherited, Key, Library, ManifestFault, Package, Readme, Version,
+};
 use pb_place::{PathFault, PathText, Place};
 use pb_report::{BuildFault, LoadFault, PlanFault, Refusal};
 use std::alloc::{AllocError, Global};
@@ -79,7 +81,12 @@ fn readme_text(alloc: Global, readme: Readme) -> Result<Text, AllocError>
 }
 
 /// A path of a package. One that no path says is BadKind, as a path with byte 0 is.
-pub fn path_in(alloc: Global, manifest: &PathText, folder: &PathText, text: &str) -> Result<PathText, BuildFault>
+pub fn path_in(
+    alloc: Global,
+    manifest: &PathText,
+    folder: &PathText,
+    text: &str,
+) -> Result<PathText, BuildFault>
     ensures here { IfErr result (λ e. is_failure e ≡ false) }
 {
     match folder.join(alloc, text) {
@@ -90,7 +97,13 @@ pub fn path_in(alloc: Global, manifest: &PathText, folder: &PathText, text: &str
 }
 
 /// Whether a file of a package's folder is among the sources.
-fn has_file<P: Place>(place: &mut P, alloc: Global, setup: &Setup, manifest: &PathText, name: &str) -> Result<bool, BuildFault>
+fn has_file<P: Place>(
+    place: &mut P,
+    alloc: Global,
+    setup: &Setup,
+    manifest: &PathText,
+    name: &str,
+) -> Result<bool, BuildFault>
     ensures same { IsTrue P.tells → P.world place.new ≡ P.world place.old }
     ensures reads { Reads result (P.counts place.old) (P.counts place.new) }
 {
@@ -101,7 +114,12 @@ fn has_file<P: Place>(place: &mut P, alloc: Global, setup: &Setup, manifest: &Pa
 
 /// The README of a package that names none: the first of `README.md`, `README.txt` and `README` that is a
 /// file of its folder (The Cargo Book, Manifest Format).
-fn found_readme<P: Place>(place: &mut P, alloc: Global, setup: &Setup, manifest: &PathText) -> Result<Text, BuildFault>
+fn found_readme<P: Place>(
+    place: &mut P,
+    alloc: Global,
+    setup: &Setup,
+    manifest: &PathText,
+) -> Result<Text, BuildFault>
     ensures same { IsTrue P.tells → P.world place.new ≡ P.world place.old }
     ensures reads { Reads result (P.counts place.old) (P.counts place.new) }
 {
@@ -150,7 +168,13 @@ fn crate_name_of(alloc: Global, name: &str) -> Result<Text, AllocError> {
 }
 
 /// What a package says of itself.
-fn about_of<P: Place>(place: &mut P, alloc: Global, setup: &Setup, manifest: &PathText, found: SaidOfItself) -> Result<About, BuildFault>
+fn about_of<P: Place>(
+    place: &mut P,
+    alloc: Global,
+    setup: &Setup,
+    manifest: &PathText,
+    found: SaidOfItself,
+) -> Result<About, BuildFault>
     ensures same { IsTrue P.tells → P.world place.new ≡ P.world place.old }
     ensures reads { Reads result (P.counts place.old) (P.counts place.new) }
 {
@@ -206,7 +230,13 @@ struct Crate {
 }
 
 /// The crate of a `[lib]` table.
-fn written_crate(alloc: Global, setup: &Setup, manifest: &PathText, package_name: &str, library: Library) -> Result<Crate, BuildFault>
+fn written_crate(
+    alloc: Global,
+    setup: &Setup,
+    manifest: &PathText,
+    package_name: &str,
+    library: Library,
+) -> Result<Crate, BuildFault>
     ensures here { IfErr result (λ e. is_failure e ≡ false) }
 {
     let Library {

@@ -116,7 +116,13 @@ fn compiler_message(alloc: Global, subject: &str, message: &str) -> Result<Strin
 {
     joined(
         alloc,
-        &["{\"reason\":\"compiler-message\",", subject, ",\"message\":", message, "}\n"],
+        &[
+            "{\"reason\":\"compiler-message\",",
+            subject,
+            ",\"message\":",
+            message,
+            "}\n",
+        ],
     )
 }
 
@@ -129,7 +135,12 @@ fn truth_text(truth: bool) -> &'static str
 
 /// The line of a library, from what its unit's lines begin with, its file as a JSON string, and the truth
 /// value `fresh`. The profile is dev.
-fn artifact_line(alloc: Global, subject: &str, file: &str, fresh: &str) -> Result<String, AllocError>
+fn artifact_line(
+    alloc: Global,
+    subject: &str,
+    file: &str,
+    fresh: &str,
+) -> Result<String, AllocError>
     ensures { IfOk result (λ line. string_bytes line ≡ artifact_line subject.now file.now fresh.now) }
 {
     joined(
@@ -149,7 +160,12 @@ fn artifact_line(alloc: Global, subject: &str, file: &str, fresh: &str) -> Resul
 
 /// The line of a library that was made: `file` is its file's path, `fresh` says whether nothing was started for
 /// it.
-pub fn compiler_artifact(alloc: Global, unit: &LibraryUnit, file: &str, fresh: bool) -> Result<String, AllocError>
+pub fn compiler_artifact(
+    alloc: Global,
+    unit: &LibraryUnit,
+    file: &str,
+    fresh: bool,
+) -> Result<String, AllocError>
     ensures { IfOk result (λ line. string_bytes line ≡ compiler_artifact unit.now file.now fresh) }
 {
     let subject = subject_text(alloc, unit)?;
@@ -201,7 +217,11 @@ fn diagnostic(alloc: Global, line: &[u8]) -> Result<Option<&str>, AllocError>
 }
 
 /// The lines of the diagnostics in a compiler's standard error.
-pub fn compiler_messages(alloc: Global, unit: &LibraryUnit, stderr: &[u8]) -> Result<String, AllocError>
+pub fn compiler_messages(
+    alloc: Global,
+    unit: &LibraryUnit,
+    stderr: &[u8],
+) -> Result<String, AllocError>
     ensures { IfOk result (λ lines. string_bytes lines ≡ compiler_messages unit.now stderr.now) }
 {
     let subject = subject_text(alloc, unit)?;
@@ -213,7 +233,12 @@ pub fn compiler_messages(alloc: Global, unit: &LibraryUnit, stderr: &[u8]) -> Re
 }
 
 /// Adds the line of a diagnostic, if this is one.
-fn push_message(alloc: Global, lines: &mut String, subject: &str, line: &[u8]) -> Result<(), AllocError>
+fn push_message(
+    alloc: Global,
+    lines: &mut String,
+    subject: &str,
+    line: &[u8],
+) -> Result<(), AllocError>
     ensures { OnOk result (string_bytes lines.new ≡ string_bytes lines.old ++ message_of subject.now (diagnostic_in line.now)) }
 {
     if let Some(message) = diagnostic(alloc, line)? {

@@ -18,7 +18,12 @@ use std::alloc::{AllocError, Global};
 
 /// The file at a path of the sources: what lies at or below the target folder is left out.
 #[tactic(auto, using(crate::proofs::Sources::source_laws))]
-fn source<P: Place>(place: &mut P, alloc: Global, target: &PathText, path: &PathText) -> Result<Option<Bytes>, BuildFault>
+fn source<P: Place>(
+    place: &mut P,
+    alloc: Global,
+    target: &PathText,
+    path: &PathText,
+) -> Result<Option<Bytes>, BuildFault>
     ensures ok { IsTrue P.tells → IfOk result (λ found. found ≡ finite.get (from_nothing target.now (P.world place.old)).files path.now) }
     ensures same { IsTrue P.tells → P.world place.new ≡ P.world place.old }
     ensures outside { IfErr result (λ e. is_outside e ≡ true) }
@@ -80,7 +85,12 @@ fn read_found(alloc: Global, path: &PathText, found: Option<Bytes>) -> Result<Ma
 
 /// Reads the root manifest. A path that is not named `Cargo.toml`, or lies at or below the target folder,
 /// is no manifest's (our own choice).
-pub fn manifest_in<P: Place>(place: &mut P, alloc: Global, target: &PathText, path: &PathText) -> Result<Manifest, BuildFault>
+pub fn manifest_in<P: Place>(
+    place: &mut P,
+    alloc: Global,
+    target: &PathText,
+    path: &PathText,
+) -> Result<Manifest, BuildFault>
     ensures ok { IsTrue P.tells → Told result (manifest_in path.now (from_nothing target.now (P.world place.old))) }
     ensures same { IsTrue P.tells → P.world place.new ≡ P.world place.old }
     ensures reads { Reads result (P.counts place.old) (P.counts place.new) }
@@ -94,7 +104,12 @@ pub fn manifest_in<P: Place>(place: &mut P, alloc: Global, target: &PathText, pa
 }
 
 /// Whether a file is among the sources.
-pub fn is_source<P: Place>(place: &mut P, alloc: Global, target: &PathText, path: &PathText) -> Result<bool, BuildFault>
+pub fn is_source<P: Place>(
+    place: &mut P,
+    alloc: Global,
+    target: &PathText,
+    path: &PathText,
+) -> Result<bool, BuildFault>
     ensures ok { IsTrue P.tells → IfOk result (λ answer. answer ≡ is_some (finite.get (from_nothing target.now (P.world place.old)).files path.now)) }
     ensures same { IsTrue P.tells → P.world place.new ≡ P.world place.old }
     ensures outside { IfErr result (λ e. is_outside e ≡ true) }
@@ -112,7 +127,12 @@ fn has_source(target: &PathText, paths: &[PathText]) -> bool
 }
 
 /// Whether a file below a folder is among the sources.
-pub fn has_source_below<P: Place>(place: &mut P, alloc: Global, target: &PathText, folder: &PathText) -> Result<bool, BuildFault>
+pub fn has_source_below<P: Place>(
+    place: &mut P,
+    alloc: Global,
+    target: &PathText,
+    folder: &PathText,
+) -> Result<bool, BuildFault>
     ensures ok { IsTrue P.tells → IfOk result (λ answer. answer ≡ list_any (λ path. not (is_at_or_below target.now path)) (listed folder.now (P.world place.old))) }
     ensures same { IsTrue P.tells → P.world place.new ≡ P.world place.old }
     ensures outside { IfErr result (λ e. is_outside e ≡ true) }

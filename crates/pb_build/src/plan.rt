@@ -13,8 +13,8 @@ use crate::package::{
 };
 use crate::setup::{Setup, setup_of};
 use crate::unit::{LibraryUnit, key_of};
-use pb_manifest::{Library, Manifest, ManifestFault, Package};
 use pb_data::{Text, TryCopy};
+use pb_manifest::{Library, Manifest, ManifestFault, Package};
 use pb_place::{PathText, Place, RelativePath};
 use pb_report::BuildFault;
 use pb_session::Options;
@@ -34,7 +34,12 @@ pub struct Plan {
 }
 
 /// A unit's output folder. Its key is a name, since the reader refuses other letters in a package's.
-fn out_of(alloc: Global, setup: &Setup, unit: &LibraryUnit, key: &Text) -> Result<PathText, BuildFault>
+fn out_of(
+    alloc: Global,
+    setup: &Setup,
+    unit: &LibraryUnit,
+    key: &Text,
+) -> Result<PathText, BuildFault>
     ensures here { IfErr result (λ e. is_failure e ≡ false) }
     ensures folder { IfOk result (λ out. out ≡ below (below setup.now.target (codes "debug")) key.now) }
 {
@@ -65,7 +70,11 @@ fn plan_of(alloc: Global, setup: Setup, unit: LibraryUnit) -> Result<Plan, Build
 
 /// The package of a manifest and its `[lib]`, where it says nothing that a build does not serve yet: a
 /// workspace, binaries, dependencies, features, profiles, `links` or a script.
-fn served(alloc: Global, manifest: &PathText, found: Manifest) -> Result<(Package, Option<Library>), BuildFault>
+fn served(
+    alloc: Global,
+    manifest: &PathText,
+    found: Manifest,
+) -> Result<(Package, Option<Library>), BuildFault>
     ensures here { IfErr result (λ e. is_failure e ≡ false) }
 {
     if has_unserved_table(&found) {
@@ -93,7 +102,12 @@ fn served(alloc: Global, manifest: &PathText, found: Manifest) -> Result<(Packag
 
 /// Whether a file of the package says what a build does not serve yet: `src/main.rs`, `build.rs`, or one
 /// below `src/bin`.
-fn has_unserved_file<P: Place>(place: &mut P, alloc: Global, setup: &Setup, manifest: &PathText) -> Result<bool, BuildFault>
+fn has_unserved_file<P: Place>(
+    place: &mut P,
+    alloc: Global,
+    setup: &Setup,
+    manifest: &PathText,
+) -> Result<bool, BuildFault>
     ensures same { IsTrue P.tells → P.world place.new ≡ P.world place.old }
     ensures reads { Reads result (P.counts place.old) (P.counts place.new) }
 {
@@ -111,7 +125,13 @@ fn has_unserved_file<P: Place>(place: &mut P, alloc: Global, setup: &Setup, mani
 }
 
 /// The unit of a manifest.
-fn unit_in<P: Place>(place: &mut P, alloc: Global, setup: &Setup, manifest: &PathText, found: Manifest) -> Result<LibraryUnit, BuildFault>
+fn unit_in<P: Place>(
+    place: &mut P,
+    alloc: Global,
+    setup: &Setup,
+    manifest: &PathText,
+    found: Manifest,
+) -> Result<LibraryUnit, BuildFault>
     ensures same { IsTrue P.tells → P.world place.new ≡ P.world place.old }
     ensures reads { Reads result (P.counts place.old) (P.counts place.new) }
 {
@@ -124,7 +144,11 @@ fn unit_in<P: Place>(place: &mut P, alloc: Global, setup: &Setup, manifest: &Pat
 }
 
 /// Reads what a build is going to do. It starts no child and changes no file.
-pub fn plan_in<P: Place>(place: &mut P, alloc: Global, options: &Options) -> Result<Plan, BuildFault>
+pub fn plan_in<P: Place>(
+    place: &mut P,
+    alloc: Global,
+    options: &Options,
+) -> Result<Plan, BuildFault>
     ensures setup { IsTrue P.tells → IfOk result (λ plan. plan.setup ≡ setup_of options.now (P.world place.old).variables) }
     ensures out { IfOk result (λ plan. plan.out ≡ out_of plan.setup.target plan.unit) }
     ensures same { IsTrue P.tells → P.world place.new ≡ P.world place.old }

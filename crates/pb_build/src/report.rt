@@ -48,7 +48,12 @@ fn followed(mut text: String, more: &str) -> Result<String, AllocError>
 }
 
 /// The lines of a good unit: its diagnostics, then its artifact.
-fn good_lines(alloc: Global, out: &str, unit: &LibraryUnit, ended: &Ended) -> Result<String, AllocError>
+fn good_lines(
+    alloc: Global,
+    out: &str,
+    unit: &LibraryUnit,
+    ended: &Ended,
+) -> Result<String, AllocError>
     ensures { IfOk result (λ lines. string_bytes lines ≡ compiler_messages unit.now ended.now.stderr ++ compiler_artifact unit.now (file_of out.now unit.now) false) }
 {
     let messages = compiler_messages(alloc, unit, ended.stderr.as_slice())?;
@@ -57,7 +62,13 @@ fn good_lines(alloc: Global, out: &str, unit: &LibraryUnit, ended: &Ended) -> Re
 }
 
 /// The lines of a unit, by its fault.
-fn unit_lines(alloc: Global, out: &str, unit: &LibraryUnit, ended: &Ended, fault: Option<UnitFault>) -> Result<String, AllocError>
+fn unit_lines(
+    alloc: Global,
+    out: &str,
+    unit: &LibraryUnit,
+    ended: &Ended,
+    fault: Option<UnitFault>,
+) -> Result<String, AllocError>
     ensures { IfOk result (λ lines. string_bytes lines ≡ unit_lines out.now unit.now ended.now fault) }
 {
     match fault {
@@ -68,7 +79,12 @@ fn unit_lines(alloc: Global, out: &str, unit: &LibraryUnit, ended: &Ended, fault
 }
 
 /// All lines of a build, the finish line last.
-fn build_lines(alloc: Global, out: &str, unit: &LibraryUnit, ended: &Ended) -> Result<String, AllocError>
+fn build_lines(
+    alloc: Global,
+    out: &str,
+    unit: &LibraryUnit,
+    ended: &Ended,
+) -> Result<String, AllocError>
     ensures { IfOk result (λ lines. string_bytes lines ≡ build_lines out.now unit.now ended.now) }
 {
     let fault = fault_of(ended);
@@ -77,7 +93,11 @@ fn build_lines(alloc: Global, out: &str, unit: &LibraryUnit, ended: &Ended) -> R
 }
 
 /// The first bad unit, if there is one.
-fn bad_of(alloc: Global, key: &Text, fault: Option<UnitFault>) -> Result<Option<(Text, UnitFault)>, AllocError>
+fn bad_of(
+    alloc: Global,
+    key: &Text,
+    fault: Option<UnitFault>,
+) -> Result<Option<(Text, UnitFault)>, AllocError>
     ensures { IfOk result (λ bad. bad ≡ bad_of key.now fault) }
 {
     match fault {

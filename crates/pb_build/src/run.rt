@@ -36,7 +36,12 @@ pub fn fault_of(ended: &Ended) -> Option<UnitFault>
 }
 
 /// Starts a child. A fault names the unit, or `-vV`.
-pub fn start<P: Place>(place: &mut P, alloc: Global, name: &str, command: &Command) -> Result<Ended, BuildFault>
+pub fn start<P: Place>(
+    place: &mut P,
+    alloc: Global,
+    name: &str,
+    command: &Command,
+) -> Result<Ended, BuildFault>
     ensures ok { IsTrue P.tells → IfOk result (λ ended. Ends (P.child command.now) command.now (P.world place.old) ended (P.world place.new)) }
     ensures outside { IfErr result (λ e. is_outside e ≡ true) }
     ensures starts { Starts result (P.counts place.old) (P.counts place.new) }
@@ -48,7 +53,12 @@ pub fn start<P: Place>(place: &mut P, alloc: Global, name: &str, command: &Comma
 }
 
 /// Empties a folder. A fault names the unit.
-fn empty<P: Place>(place: &mut P, alloc: Global, name: &str, folder: &PathText) -> Result<(), BuildFault>
+fn empty<P: Place>(
+    place: &mut P,
+    alloc: Global,
+    name: &str,
+    folder: &PathText,
+) -> Result<(), BuildFault>
     ensures ok { IsTrue P.tells → OnOk result (P.world place.new ≡ removed folder.now (P.world place.old)) }
     ensures outside { IfErr result (λ e. is_outside e ≡ true) }
     ensures reads { Reads result (P.counts place.old) (P.counts place.new) }
@@ -60,7 +70,13 @@ fn empty<P: Place>(place: &mut P, alloc: Global, name: &str, folder: &PathText) 
 }
 
 /// Runs a unit: its output folder is emptied, then its child is started.
-pub fn run_unit<P: Place>(place: &mut P, alloc: Global, key: &str, out: &PathText, command: &Command) -> Result<Ended, BuildFault>
+pub fn run_unit<P: Place>(
+    place: &mut P,
+    alloc: Global,
+    key: &str,
+    out: &PathText,
+    command: &Command,
+) -> Result<Ended, BuildFault>
     ensures ok { IsTrue P.tells → IfOk result (λ ended. Ends (P.child command.now) command.now (removed out.now (P.world place.old)) ended (P.world place.new)) }
     ensures outside { IfErr result (λ e. is_outside e ≡ true) }
     ensures starts { Starts result (P.counts place.old) (P.counts place.new) }

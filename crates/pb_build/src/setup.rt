@@ -121,7 +121,11 @@ fn target_of(alloc: Global, root: &PathText, found: Option<Text>) -> Result<Path
 
 /// What the variables and the options say. `RUSTC` is read first, then `RUSTFLAGS`, then
 /// `CARGO_TARGET_DIR`.
-pub fn setup_of<P: Place>(place: &mut P, alloc: Global, options: &Options) -> Result<Setup, BuildFault>
+pub fn setup_of<P: Place>(
+    place: &mut P,
+    alloc: Global,
+    options: &Options,
+) -> Result<Setup, BuildFault>
     ensures ok { IsTrue P.tells → IfOk result (λ setup. setup ≡ setup_of options.now (P.world place.old).variables) }
     ensures same { IsTrue P.tells → P.world place.new ≡ P.world place.old }
     ensures outside { IfErr result (λ e. is_outside e ≡ true) }

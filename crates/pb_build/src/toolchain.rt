@@ -5,7 +5,7 @@ ghost use Rattle.std.specs.List.{list_any};
 ghost use Rattle.pb_directive.specs.Lines.{lines_of};
 ghost use Rattle.pb_place.specs.World.{World};
 ghost use Rattle.pb_report.specs.Faults.{is_outside};
-ghost use Rattle.pb_build.specs.Causes.{Starts, is_failure};
+ghost use Rattle.pb_build.specs.Causes.{Starts, is_failure, is_refusal};
 ghost use Rattle.pb_build.specs.Outcome.{is_too_long, is_host, says_host, toolchain_in};
 
 use crate::command::query_of;
@@ -48,6 +48,7 @@ fn says_host(stdout: &[u8]) -> bool
 fn toolchain_in(ended: Ended) -> Result<Bytes, BuildFault>
     ensures answer { result ≡ toolchain_in ended }
     ensures here { IfErr result (λ e. is_failure e ≡ false) }
+    ensures begun { IfErr result (λ e. is_refusal e ≡ false) }
 {
     let Ended {
         status,
@@ -64,6 +65,7 @@ fn toolchain_in(ended: Ended) -> Result<Bytes, BuildFault>
 
 /// Asks the compiler for its version. Toolchain where it does not say its host.
 pub fn toolchain<P: Place>(place: &mut P, alloc: Global, setup: &Setup) -> Result<Bytes, BuildFault>
+    ensures begun { IfErr result (λ e. is_refusal e ≡ false) }
     ensures starts { Starts result (P.counts place.old) (P.counts place.new) }
 {
     let command = query_of(alloc, setup)?;

@@ -94,7 +94,10 @@ pub fn crate_types_of(alloc: Global, unit: &LibraryUnit) -> Result<Vec<&'static 
 }
 
 /// Crate types as `--crate-type` takes them.
-fn crate_type_texts(alloc: Global, crate_types: &[CrateType]) -> Result<Vec<&'static str>, AllocError>
+fn crate_type_texts(
+    alloc: Global,
+    crate_types: &[CrateType],
+) -> Result<Vec<&'static str>, AllocError>
     ensures { IfOk result (λ types. map (λ t. t.now) types.items ≡ map crate_type_text crate_types.now) }
 {
     let mut types = Vec::new(alloc);

@@ -2,15 +2,10 @@
 use Rattle.std.specs.Prelude.{ℕ, Bool, true, false, codes, List, [], ◌∷◌, ◌++◌}
 use Rattle.std.specs.List.{list_any}
 use Rattle.std.specs.Fmt.{decimal}
-use Rattle.serde_json.specs.Data as json
-use Rattle.serde_json.specs.Written.{compact_text}
+use Rattle.pb_json.specs.Json.{json_string}
 use Rattle.pb_mini.specs.declared.diagnostic.Level.{Level}
 use Rattle.pb_mini.specs.declared.diagnostic.Level.TheVariants.{Warning, Error}
 use Rattle.pb_mini.specs.declared.diagnostic.Diagnostic.{Diagnostic}
-
--- a text as a JSON string
-abbrev pub json_string : List ℕ → List ℕ
-json_string text = compact_text (json.string text)
 
 abbrev pub level_name : Level → List ℕ
 level_name Warning = codes "warning"

@@ -1,10 +1,10 @@
 //! Diagnostics, and how they are written.
 
 ghost use Rattle.std.specs.Prelude.{◌≡◌, ◌++◌, IfOk, OnOk, string_bytes, ℕ, List};
-ghost use Rattle.pb_mini.specs.Diagnostics.{json_string, level_name, diagnostic_text, diagnostics_text, has_error, is_error};
+ghost use Rattle.pb_mini.specs.Diagnostics.{level_name, diagnostic_text, diagnostics_text, has_error, is_error};
 
 use pb_data::{Items, Text};
-use serde_json::Value;
+use pb_json::json_string;
 use std::alloc::{AllocError, Global};
 
 /// How bad a diagnostic is.
@@ -25,14 +25,6 @@ pub struct Diagnostic {
     pub message: Text,
     /// The line of the source, from 1; 0 where it is of the whole source.
     pub line: u64,
-}
-
-/// A text as a JSON string, as `serde_json` writes it.
-fn json_string(alloc: Global, text: &str) -> Result<String, AllocError>
-    ensures { IfOk result (λ json. string_bytes json ≡ json_string text.now) }
-{
-    let value = Value::String(String::from_str(alloc, text)?);
-    value.to_string(alloc)
 }
 
 /// The name of a level.

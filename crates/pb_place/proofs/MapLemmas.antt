@@ -164,8 +164,8 @@ keys-filter p es ordered =
     let kept = where_key (slice_cmp nat_cmp) p es in
     let h : T (is_sorted (slice_cmp nat_cmp) kept) = is_sorted-where_key (slice_cmp nat_cmp) p es (sorted_entries es ordered) in
     let same : from_sorted {R = slice_cmp nat_cmp} kept ≡ retain_keys (from_entries es) p =
-        same_map nat_list_cmp_total exact _ _ (λ q. get-from_sorted (slice_cmp nat_cmp) kept q h ∙ find-where_key (slice_cmp nat_cmp) p q (alike p q) es
-            ∙ sym (get-kept _ p q ∙ ap (λ o. cond (p q) o None) (get-from_entries nat_list_cmp_total es q))) in
+    same_map nat_list_cmp_total exact _ _ (λ q. get-from_sorted (slice_cmp nat_cmp) kept q h ∙ find-where_key (slice_cmp nat_cmp) p q (alike p q) es
+    ∙ sym (get-kept _ p q ∙ ap (λ o. cond (p q) o None) (get-from_entries nat_list_cmp_total es q))) in
     ap keys_of (sym (where_key-filter p es)) ∙ ap (map_list (λ e. e.0)) (sym (entries-from_sorted (slice_cmp nat_cmp) kept h)) ∙ ap keys same
 
 -- keys that pass a test that all keys pass
@@ -213,7 +213,7 @@ unfolding is_at_or_below
 removed_tree es ms fs path at names here are gone last = same_map nat_list_cmp_total exact _ _ (λ q.
     let old : Option (List ℕ) = get (from_entries {R = slice_cmp nat_cmp} es) q in
     let inside : list_any (is_same_path q) names ≡ is_some (cond (is_below path q) old None) =
-        ap (list_any (is_same_path q)) are ∙ among_keys _ q ∙ ap is_some (get-kept (from_entries es) (is_below path) q) in
+    ap (list_any (is_same_path q)) are ∙ among_keys _ q ∙ ap is_some (get-kept (from_entries es) (is_below path) q) in
     removed_one ms fs at last q ∙ ap (λ p. cond (is_same_path q p) None (get (from_entries {R = slice_cmp nat_cmp} ms) q)) here ∙ ap (cond (is_same_path q path) None) (gone q ∙ ap (λ b. cond b None old) inside)
     ∙ left_out (is_same_path q path) (is_below path q) old
     ∙ ap (λ b. cond (not (b || is_below path q)) old None) (sym (same_bytes path q))

@@ -213,13 +213,13 @@ clean_first x (part ∷ parts) all =
 clean_parts : (text : List ℕ) → list_all (λ p. not (has_byte_0 p)) (parts_of text) ≡ true → has_byte_0 text ≡ false
 clean_parts [] all = refl
 clean_parts (x ∷ text) all = elim (cases_Bool (x == 47)) [
-    | inl slash ↦
-        let is : x ≡ 47 = grind (arith, nat_tests) in
-        or_false _ _ (ap (λ n. n == 0) is) (clean_parts text (ap (list_all (λ p. not (has_byte_0 p))) (sym (ap (λ b. cond b ([] ∷ parts_of text) (onto_first x (parts_of text))) slash)) ∙ all))
-    | inr other ↦
-        let here = clean_first x (parts_of text) (ap (list_all (λ p. not (has_byte_0 p))) (sym (ap (λ b. cond b ([] ∷ parts_of text) (onto_first x (parts_of text))) other)) ∙ all) in
-        or_false _ _ here.0 (clean_parts text here.1)
-  ]
+  | inl slash ↦
+      let is : x ≡ 47 = grind (arith, nat_tests) in
+      or_false _ _ (ap (λ n. n == 0) is) (clean_parts text (ap (list_all (λ p. not (has_byte_0 p))) (sym (ap (λ b. cond b ([] ∷ parts_of text) (onto_first x (parts_of text))) slash)) ∙ all))
+  | inr other ↦
+      let here = clean_first x (parts_of text) (ap (list_all (λ p. not (has_byte_0 p))) (sym (ap (λ b. cond b ([] ∷ parts_of text) (onto_first x (parts_of text))) other)) ∙ all) in
+      or_false _ _ here.0 (clean_parts text here.1)
+]
 
 names_clean : (parts : List (List ℕ)) → list_all is_name parts ≡ true → list_all (λ p. not (has_byte_0 p)) parts ≡ true
 names_clean [] all = refl

@@ -1,5 +1,5 @@
 -- What writing one file changes, and what putting the files of a reply changes.
-use Rattle.std.proofs.Common.{◌≡◌, ℕ, Bool, true, false, cond, List, [], ◌∷◌, Some, refl, sym, ap, ◌∙◌, inl, inr}
+use Rattle.std.proofs.Common.{◌≡◌, ℕ, Bool, true, false, not, ◌||◌, cond, List, [], ◌∷◌, Option, Some, None, refl, sym, ap, ◌∙◌, inl, inr}
 use Rattle.std.proofs.lemmas.Bool.{cases_Bool, false≢true}
 use Rattle.std.specs.Ordering.{nat_cmp, eq_by_cmp, is_eq}
 use Rattle.std.specs.declared.cmp.Ordering.{Ordering}
@@ -7,9 +7,11 @@ use Rattle.std.specs.declared.cmp.Ordering.TheVariants.{Less, Equal, Greater}
 use Rattle.std.specs.Cmp.{eq_by_cmp_equiv}
 use Rattle.std.specs.Cmp.Lexicographic.{slice_cmp, nat_list_cmp_total}
 use Rattle.std.specs.FinMap.{get, insert, get-insert}
-use Rattle.pb_place.specs.Paths.{is_below}
-use Rattle.pb_place.specs.World.{Map, AgreeBut, is_same_path}
-use Rattle.pb_place.proofs.MapLemmas.{exact}
+use Rattle.std.specs.Option.{option_map_or}
+use Rattle.std.specs.Str.{bytes_eq}
+use Rattle.pb_place.specs.Paths.{is_below, is_at_or_below}
+use Rattle.pb_place.specs.World.{World, Map, written, removed, AgreeBut, is_same_path, ChangesOnlyInSome}
+use Rattle.pb_place.proofs.MapLemmas.{exact, get-kept}
 
 -- what stands at a path after an insertion there
 pub get-same : (m : Map) (p b : List ℕ) → get (insert m p b) p ≡ Some b
@@ -42,3 +44,40 @@ AgreeBut-insert may path b m n new only inside is q outside = ap (λ x. get x q)
 
 pub AgreeBut-refl : (may : List ℕ → Bool) (m new : Map) → new ≡ m → AgreeBut may m new
 AgreeBut-refl may m new is q outside = ap (λ x. get x q) is
+
+or_left : (a b : Bool) → a || b ≡ false → a ≡ false
+or_left true b h = h
+or_left false b h = refl
+
+or_right : (a b : Bool) → a || b ≡ false → b ≡ false
+or_right true b h = absurd (false≢true (sym h))
+or_right false b h = h
+
+-- no change, and one change after another
+pub AgreeBut-same : (may : List ℕ → Bool) (m : Map) → AgreeBut may m m
+AgreeBut-same may m q outside = refl
+
+pub AgreeBut-then : (may : List ℕ → Bool) (m n o : Map) → AgreeBut may m n → AgreeBut may n o → AgreeBut may m o
+AgreeBut-then may m n o one two q outside = two q outside ∙ one q outside
+
+-- changes that one of two tests lets through
+pub AgreeBut-left : (may more : List ℕ → Bool) (m n : Map) → AgreeBut may m n → AgreeBut (λ q. may q || more q) m n
+AgreeBut-left may more m n agree q outside = agree q (or_left (may q) (more q) outside)
+
+pub AgreeBut-right : (may more : List ℕ → Bool) (m n : Map) → AgreeBut more m n → AgreeBut (λ q. may q || more q) m n
+AgreeBut-right may more m n agree q outside = agree q (or_right (may q) (more q) outside)
+
+-- a write, and a removal
+pub AgreeBut-written : (path bytes : List ℕ) (old new : World) → new ≡ written path bytes old → AgreeBut (is_same_path path) old.files new.files
+AgreeBut-written path bytes old new is q apart = ap (λ w. get w.files q) is ∙ get-other old.files path bytes q apart
+
+pub AgreeBut-removed : (path : List ℕ) (old new : World) → new ≡ removed path old → AgreeBut (is_at_or_below path) old.files new.files
+AgreeBut-removed path old new is q outside = ap (λ w. get w.files q) is ∙ get-kept old.files (λ x. not (is_at_or_below path x)) q ∙ ap (λ b. cond (not b) (get old.files q) None) outside
+
+-- a start
+pub AgreeBut-started : (out : Option (List ℕ)) (old new : World) → ChangesOnlyInSome out old new → AgreeBut (λ q. option_map_or (λ folder. is_at_or_below folder q) out false) old.files new.files
+unfolding is_at_or_below
+AgreeBut-started None old new same q outside = ap (λ w. get w.files q) same
+AgreeBut-started (Some folder) old new only q outside = only.files q (or_right (bytes_eq folder q) (is_below folder q) outside)
+
+pub ruleset alone_laws = (AgreeBut-same, AgreeBut-then, AgreeBut-left, AgreeBut-right, AgreeBut-written, AgreeBut-removed, AgreeBut-started)

@@ -1,4 +1,5 @@
 pub use Rattle.pb_data.specs.Gives
+pub mod Calls
 pub mod Counts
 pub mod Memory
 pub mod Paths

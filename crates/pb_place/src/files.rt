@@ -106,7 +106,12 @@ fn bound(alloc: Global, folder: &str, end: &str) -> Result<Text, AllocError>
 }
 
 /// The keys between two texts, in byte order.
-fn names_between(alloc: Global, files: &BTreeMap<Text, Bytes>, low: &Text, high: &Text) -> Result<Vec<Text>, AllocError>
+fn names_between(
+    alloc: Global,
+    files: &BTreeMap<Text, Bytes>,
+    low: &Text,
+    high: &Text,
+) -> Result<Vec<Text>, AllocError>
     requires { slice_cmp nat_cmp low.now high.now ≡ Less }
     ensures between { IfOk result (λ names. names.items ≡ keys_of (entries_between (slice_cmp nat_cmp) (Excluded low.now) (Excluded high.now) files.now.entries)) }
     ensures ordered { OnOk result (IsOrdered (slice_cmp nat_cmp) files.now) }
@@ -120,7 +125,11 @@ fn names_between(alloc: Global, files: &BTreeMap<Text, Bytes>, low: &Text, high:
 
 /// The keys below a folder, in byte order: those between its stem with a slash and its stem with a `0`,
 /// the character after the slash.
-fn names_below(alloc: Global, files: &BTreeMap<Text, Bytes>, folder: &str) -> Result<Vec<Text>, AllocError>
+fn names_below(
+    alloc: Global,
+    files: &BTreeMap<Text, Bytes>,
+    folder: &str,
+) -> Result<Vec<Text>, AllocError>
     ensures part { IfOk result (λ names. names.items ≡ keys_of (filter (λ e. is_below folder.now e.0) files.now.entries)) }
     ensures keys { IfOk result (λ names. names.items ≡ map.keys (map.retain_keys (files_of files.now) (is_below folder.now))) }
 {

@@ -1,6 +1,7 @@
 //! The outside world: paths, places of files, variables and children, and sinks.
 #![tactic(auto)]
 
+pub mod calls;
 pub mod child;
 pub mod command;
 pub mod files;
@@ -8,7 +9,11 @@ pub mod memory;
 pub mod path;
 pub mod place;
 pub mod sink;
+#[cfg(test)]
+mod tests;
+pub mod whole;
 
+pub use calls::{FileCall, last_call_stands, perform};
 pub use child::{Child, Reply, View, ViewFault};
 pub use command::{Command, Ended};
 pub use files::{FileMap, TextMap};
@@ -16,3 +21,4 @@ pub use memory::Memory;
 pub use path::{PathFault, PathText, RelativePath};
 pub use place::{Place, PlaceFault, StartFault};
 pub use sink::{Out, Over};
+pub use whole::write_all;

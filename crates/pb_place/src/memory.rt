@@ -100,11 +100,15 @@ fn file_in(alloc: Global, files: &FileMap, path: &PathText) -> Result<Option<Byt
     }
 }
 
-/// Puts the files of a reply in a folder. Where memory is refused, only files below that folder have
-/// changed.
-fn put_all(alloc: Global, files: &mut FileMap, folder: &PathText, made: &[(RelativePath, Bytes)]) -> Result<(), AllocError>
+/// Puts the files of a reply in a folder. Only files below that folder change, also where memory is refused.
+fn put_all(
+    alloc: Global,
+    files: &mut FileMap,
+    folder: &PathText,
+    made: &[(RelativePath, Bytes)],
+) -> Result<(), AllocError>
     ensures ok { OnOk result (files.new ≡ put_files folder.now made.now files.old) }
-    ensures err { OnErr result (AgreeBut (is_below folder.now) files.old files.new) }
+    ensures only { AgreeBut (is_below folder.now) files.old files.new }
 {
     for (name, bytes) in made {
         let path = folder.below(alloc, name)?;

@@ -141,10 +141,11 @@ pub trait Place {
         ensures counts { counts self.new ≡ counted result (counts self.old) };
 
     /// Starts a child and waits for its end. It makes the folder `command.out` first (the maps know files
-    /// alone, so no clause shows that). After an error anything may stand inside `out`.
+    /// alone, so no clause shows that). It changes files inside `out` alone, and after an error anything may
+    /// stand there.
     fn start(&mut self, alloc: Global, command: &Command) -> Result<Ended, StartFault>
         ensures ok { IsTrue tells → IfOk result (λ ended. Ends (child command.now) command.now (world self.old) ended (world self.new)) }
-        ensures err { IsTrue tells → OnErr result (ChangesOnlyInSome command.now.out (world self.old) (world self.new)) }
+        ensures only { IsTrue tells → ChangesOnlyInSome command.now.out (world self.old) (world self.new) }
         ensures counts { counts self.new ≡ counted_start result (counts self.old) };
 
     /// How many calls failed, at most `u64::MAX`. It takes no memory.

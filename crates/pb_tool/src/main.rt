@@ -7,7 +7,6 @@
 
 mod command_line;
 mod session;
-mod sink;
 #[cfg(test)]
 mod tests;
 

@@ -7,10 +7,9 @@ ghost use Rattle.pb_session.specs.Sessions.{session_of};
 ghost use Rattle.pb_session.specs.declared.fault.BadSession.TheVariants.{BadForm};
 ghost use Rattle.pb_tool.specs.Session.{IsSession, Refused, lines_of};
 
-use crate::sink::write_all;
 use pb_build::{Answer, session};
 use pb_mini::Mini;
-use pb_place::{Memory, Out};
+use pb_place::{Memory, Out, write_all};
 use pb_report::result_line;
 use pb_session::{BadSession, read_session};
 use std::alloc::{AllocError, Global};

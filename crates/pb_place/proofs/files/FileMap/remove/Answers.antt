@@ -16,6 +16,6 @@ invariant_of-self c =
 pub returns-clause-ok : goal.returns-clause-ok
 returns-clause-ok c =
     removed_tree c.self.inside.inside.entries c.remove_names.new.files.entries c.remove.new.self.entries c.as_str.result.now c.as_text.result.now c.as_slice.result.now
-        (c.as_text.ensures ∙ sym c.as_str.ensures.text) (c.as_slice.ensures.value ∙ c.in_ok-names.ensures.keys) c.remove_names.ensures.gone c.remove.ensures.updates.0
+    (c.as_text.ensures ∙ sym c.as_str.ensures.text) (c.as_slice.ensures.value ∙ c.in_ok-names.ensures.keys) c.remove_names.ensures.gone c.remove.ensures.updates.0
     ∙ ap (λ p. retain_keys (from_entries {R = slice_cmp nat_cmp} c.self.inside.inside.entries) (λ q. not (is_at_or_below p q))) c.as_str.ensures.text
     ∙ ap (λ m. retain_keys m (λ q. not (is_at_or_below c.args.path.now q))) c.self.view_is

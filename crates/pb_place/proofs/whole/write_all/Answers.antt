@@ -1,6 +1,6 @@
 use Rattle.std.proofs.Common.{refl, ◌∙◌}
-use Rattle.pb_tool.proofs.Sinks.{told_none, told_rest, told_all}
-use Rattle.pb_tool.proofs.sink.write_all.Goals as goal
+use Rattle.pb_place.proofs.Wholes.{told_none, told_rest, told_all}
+use Rattle.pb_place.proofs.whole.write_all.Goals as goal
 
 pub loop-rest-init : goal.loop-rest-init
 loop-rest-init g c = record { told = told_none _ _; faults = refl }

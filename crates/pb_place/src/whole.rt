@@ -1,10 +1,10 @@
-//! Lines into a sink, whole or as far as it takes them.
+//! Bytes into a sink, whole or as far as it takes them.
 
 ghost use Rattle.std.specs.Prelude.{◌≡◌, ℕ, List, Bool, ◌<◌, ◌≤◌, IsTrue, MatchOption, true, false, take, length};
 ghost use Rattle.std.specs.Io.KnownBytes.{Appends};
 ghost use Rattle.pb_place.specs.Counts.{up};
 
-use pb_place::Out;
+use crate::sink::Out;
 
 /// Writes some of the first of some bytes, and says how many, or none where the sink failed.
 fn write_some<O: Out>(out: &mut O, bytes: &[u8]) -> Option<usize>
