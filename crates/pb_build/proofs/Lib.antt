@@ -1,3 +1,4 @@
+pub mod Courses
 pub mod Refusals
 pub mod Setups
 pub mod Sources

@@ -31,3 +31,12 @@ is_refusal (Child unit fault) = false
 is_refusal (Device unit fault) = false
 is_refusal Sink = false
 is_refusal OutOfMemory = false
+
+-- the faults with which no finish line is written whole: a refusal, and a sink that failed
+abbrev pub is_unwritten : BuildFault → Bool
+is_unwritten (Plan r) = true
+is_unwritten Toolchain = false
+is_unwritten (Child unit fault) = false
+is_unwritten (Device unit fault) = false
+is_unwritten Sink = true
+is_unwritten OutOfMemory = false

@@ -1,6 +1,7 @@
 -- What a build says of its one unit: its lines and its summary.
-use Rattle.std.specs.Prelude.{ℕ, Bool, true, false, codes, List, [], ◌∷◌, ◌++◌, Option, Some, None, is_none}
+use Rattle.std.specs.Prelude.{◌≡◌, ℕ, Bool, true, false, codes, List, [], ◌∷◌, ◌++◌, Option, Some, None, is_none}
 use Rattle.std.specs.List.{concat}
+use Rattle.std.specs.Io.KnownBytes.{Appends}
 use Rattle.pb_place.specs.declared.command.Ended.{Ended}
 use Rattle.pb_report.specs.declared.summary.UnitFault.{UnitFault}
 use Rattle.pb_report.specs.declared.summary.UnitFault.TheVariants.{Status, OutputTooLong}
@@ -33,3 +34,11 @@ bad_of key (Some fault) = Some (key, fault)
 
 abbrev pub summary_of : List ℕ → Option UnitFault → Summary
 summary_of key fault = record { success = is_good fault; bad = bad_of key fault; started = key ∷ [] }
+
+-- lines and a summary that go together: both are those of one unit and one answer of its child
+abbrev pub IsReport : List ℕ → Summary → Type 0
+IsReport lines s = (out : List ℕ) × (u : LibraryUnit) × (key : List ℕ) × (e : Ended) × (lines ≡ build_lines out u e) × (s ≡ summary_of key (fault_of e))
+
+-- a sink took the lines of a build with this summary, whole, and nothing else
+abbrev pub Says : Option (List ℕ) → Option (List ℕ) → Summary → Type 0
+Says old new s = (lines : List ℕ) × Appends old new lines × IsReport lines s

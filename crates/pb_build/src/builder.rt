@@ -1,10 +1,16 @@
 //! A whole build.
 
-ghost use Rattle.std.specs.Prelude.{◌≡◌, Bool, IfOk, IfErr, OnOk, OnErr, IsTrue, true, false, MatchResult};
+ghost use Rattle.std.specs.Prelude.{◌≡◌, Bool, IfOk, IfErr, OnOk, OnErr, IsTrue, true, false, MatchResult, string_bytes};
 ghost use Rattle.pb_place.specs.Counts.{up};
 ghost use Rattle.pb_report.specs.Faults.{is_outside};
-ghost use Rattle.pb_build.specs.Causes.{is_failure, is_refusal};
-ghost use Rattle.pb_build.specs.Unit.{out_of};
+ghost use Rattle.pb_build.specs.Causes.{is_failure, is_refusal, is_unwritten};
+ghost use Rattle.std.specs.Io.KnownBytes.{Appends};
+ghost use Rattle.pb_build.specs.Messages.{build_finished};
+ghost use Rattle.pb_build.specs.Course.{Ran, Reported, Built};
+ghost use Rattle.pb_build.specs.Report.{IsReport, Says};
+ghost use Rattle.pb_build.specs.Setup.{setup_of};
+ghost use Rattle.pb_build.specs.Unit.{key_of, out_of};
+ghost use Rattle.pb_build.specs.declared.unit.LibraryUnit.{LibraryUnit};
 
 use crate::command::command_of;
 use crate::message::build_finished;
@@ -20,6 +26,7 @@ use std::alloc::Global;
 /// Runs the unit of a plan.
 fn run_plan<P: Place>(place: &mut P, alloc: Global, plan: &Plan) -> Result<Ended, BuildFault>
     requires { plan.now.out ≡ out_of plan.now.setup.target plan.now.unit }
+    ensures ok { IsTrue P.tells → IfOk result (λ ended. Ran P.child plan.now.setup plan.now.unit (P.world place.old) ended (P.world place.new)) }
     ensures begun { IfErr result (λ e. is_refusal e ≡ false) }
     ensures failed { IfErr result (λ e. is_failure e ≡ true → (P.counts place.new).late ≡ 0) }
 {
@@ -31,9 +38,12 @@ fn run_plan<P: Place>(place: &mut P, alloc: Global, plan: &Plan) -> Result<Ended
 
 /// Runs the unit of a plan, and says what came of it.
 fn report_plan<P: Place>(place: &mut P, alloc: Global, plan: &Plan) -> Result<Report, BuildFault>
-    requires { plan.now.out ≡ out_of plan.now.setup.target plan.now.unit }
+    requires key { plan.now.key ≡ key_of plan.now.unit }
+    requires out { plan.now.out ≡ out_of plan.now.setup.target plan.now.unit }
+    ensures ok { IsTrue P.tells → IfOk result (λ report. Reported P.child plan.now.setup plan.now.unit (P.world place.old) (string_bytes report.lines) report.summary (P.world place.new)) }
     ensures begun { IfErr result (λ e. is_refusal e ≡ false) }
     ensures failed { IfErr result (λ e. is_failure e ≡ true → (P.counts place.new).late ≡ 0) }
+    ensures told { IfOk result (λ report. IsReport (string_bytes report.lines) report.summary) }
 {
     let ended = run_plan(place, alloc, plan)?;
     let report = report_of(alloc, plan, ended)?;
@@ -46,9 +56,11 @@ fn carry_out<P: Place>(
     alloc: Global,
     options: &Options,
 ) -> Result<Report, BuildFault>
+    ensures ok { IsTrue P.tells → IfOk result (λ report. (u : LibraryUnit) × Reported P.child (setup_of options.now (P.world place.old).variables) u (P.world place.old) (string_bytes report.lines) report.summary (P.world place.new)) }
     ensures same { IsTrue P.tells → IfErr result (λ e. is_refusal e ≡ true → P.world place.new ≡ P.world place.old) }
     ensures unstarted { IfErr result (λ e. is_refusal e ≡ true → (P.counts place.new).starts ≡ (P.counts place.old).starts) }
     ensures failed { IfErr result (λ e. is_failure e ≡ true → (P.counts place.new).late ≡ 0) }
+    ensures told { IfOk result (λ report. IsReport (string_bytes report.lines) report.summary) }
 {
     let plan = plan_in(place, alloc, options)?;
     report_plan(place, alloc, &plan)
@@ -60,6 +72,7 @@ fn close<O: Out>(out: &mut O, fault: BuildFault) -> BuildFault
     ensures failed { is_failure result ≡ true → result ≡ fault }
     ensures refused { is_refusal result ≡ true → result ≡ fault }
     ensures silent { is_refusal result ≡ true → O.taken out.new ≡ O.taken out.old }
+    ensures closed { is_unwritten result ≡ false → Appends (O.taken out.old) (O.taken out.new) (build_finished false) }
 {
     match fault {
         BuildFault::Plan(refusal) => BuildFault::Plan(refusal),
@@ -86,10 +99,13 @@ pub fn build<P: Place, O: Out>(
     out: &mut O,
     options: &Options,
 ) -> Result<Summary, BuildFault>
+    ensures ok { IsTrue P.tells → IfOk result (λ summary. Built P.child options.now (P.world place.old) (O.taken out.old) summary (P.world place.new) (O.taken out.new)) }
     ensures same { IsTrue P.tells → IfErr result (λ e. is_refusal e ≡ true → P.world place.new ≡ P.world place.old) }
     ensures unstarted { IfErr result (λ e. is_refusal e ≡ true → (P.counts place.new).starts ≡ (P.counts place.old).starts) }
     ensures silent { IfErr result (λ e. is_refusal e ≡ true → O.taken out.new ≡ O.taken out.old) }
     ensures failed { IfErr result (λ e. is_failure e ≡ true → (P.counts place.new).late ≡ 0) }
+    ensures closed { IfErr result (λ e. is_unwritten e ≡ false → Appends (O.taken out.old) (O.taken out.new) (build_finished false)) }
+    ensures said { IfOk result (λ summary. Says (O.taken out.old) (O.taken out.new) summary) }
 {
     match carry_out(place, alloc, options) {
         Ok(report) => {

@@ -2,7 +2,7 @@
 
 ghost use Rattle.std.specs.Prelude.{◌≡◌, Bool, IfOk, IfErr, IsTrue, true, false, codes};
 ghost use Rattle.pb_place.specs.Paths.{below};
-ghost use Rattle.pb_build.specs.Unit.{out_of};
+ghost use Rattle.pb_build.specs.Unit.{key_of, out_of};
 ghost use Rattle.pb_report.specs.Faults.{is_outside};
 ghost use Rattle.pb_build.specs.Causes.{Reads, is_failure};
 ghost use Rattle.pb_build.specs.Setup.{setup_of};
@@ -56,6 +56,7 @@ fn out_of(
 fn plan_of(alloc: Global, setup: Setup, unit: LibraryUnit) -> Result<Plan, BuildFault>
     ensures here { IfErr result (λ e. is_failure e ≡ false) }
     ensures setup { IfOk result (λ plan. plan.setup ≡ setup) }
+    ensures key { IfOk result (λ plan. plan.key ≡ key_of plan.unit) }
     ensures out { IfOk result (λ plan. plan.out ≡ out_of plan.setup.target plan.unit) }
 {
     let key = key_of(alloc, &unit)?;
@@ -150,6 +151,7 @@ pub fn plan_in<P: Place>(
     options: &Options,
 ) -> Result<Plan, BuildFault>
     ensures setup { IsTrue P.tells → IfOk result (λ plan. plan.setup ≡ setup_of options.now (P.world place.old).variables) }
+    ensures key { IfOk result (λ plan. plan.key ≡ key_of plan.unit) }
     ensures out { IfOk result (λ plan. plan.out ≡ out_of plan.setup.target plan.unit) }
     ensures same { IsTrue P.tells → P.world place.new ≡ P.world place.old }
     ensures reads { Reads result (P.counts place.old) (P.counts place.new) }

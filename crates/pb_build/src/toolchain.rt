@@ -6,6 +6,7 @@ ghost use Rattle.pb_directive.specs.Lines.{lines_of};
 ghost use Rattle.pb_place.specs.World.{World};
 ghost use Rattle.pb_report.specs.Faults.{is_outside};
 ghost use Rattle.pb_build.specs.Causes.{Starts, is_failure, is_refusal};
+ghost use Rattle.pb_build.specs.Course.{Asked};
 ghost use Rattle.pb_build.specs.Outcome.{is_too_long, is_host, says_host, toolchain_in};
 
 use crate::command::query_of;
@@ -65,6 +66,7 @@ fn toolchain_in(ended: Ended) -> Result<Bytes, BuildFault>
 
 /// Asks the compiler for its version. Toolchain where it does not say its host.
 pub fn toolchain<P: Place>(place: &mut P, alloc: Global, setup: &Setup) -> Result<Bytes, BuildFault>
+    ensures ok { IsTrue P.tells → IfOk result (λ version. Asked P.child setup.now (P.world place.old) version (P.world place.new)) }
     ensures begun { IfErr result (λ e. is_refusal e ≡ false) }
     ensures starts { Starts result (P.counts place.old) (P.counts place.new) }
 {

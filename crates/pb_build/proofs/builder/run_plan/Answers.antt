@@ -1,0 +1,6 @@
+use Rattle.pb_build.proofs.Courses.{ran}
+use Rattle.pb_build.proofs.builder.run_plan.Goals as goal
+
+pub returns-clause-ok : goal.returns-clause-ok
+returns-clause-ok g c told =
+    ran g.P.Place.child _ _ _ _ _ _ _ _ _ (c.in_ok-toolchain.ensures.ok told) c.in_ok-command.ensures c.requires (c.in_ok-ended.ensures.ok told)
