@@ -1,4 +1,6 @@
 pub mod Courses
+pub mod Keys
+pub mod Names
 pub mod Refusals
 pub mod Setups
 pub mod Sources

@@ -5,6 +5,7 @@ pub mod Library
 pub mod Messages
 pub mod Outcome
 pub mod Package
+pub mod Plan
 pub mod Report
 pub mod Setup
 pub mod Unit

@@ -1,21 +1,31 @@
 //! The library of a package: where its source is, and what its package says of itself.
 
-ghost use Rattle.std.specs.Prelude.{◌≡◌, ◌++◌, Bool, IfOk, IfErr, OnOk, IsTrue, Some, None, true, false, codes, string_bytes, map};
+ghost use Rattle.std.specs.Prelude.{◌≡◌, ◌++◌, Bool, IfOk, IfErr, OnOk, IsTrue, Some, None, true, false, codes, string_bytes, unwrap_or, map};
+ghost use Rattle.pb_directive.specs.Metadata.{underscored};
+ghost use Rattle.pb_place.specs.Paths.{below, joined, is_relative};
 ghost use Rattle.pb_place.specs.World.{from_nothing};
-ghost use Rattle.pb_report.specs.Faults.{Told as GivesUnless, is_outside};
+ghost use Rattle.pb_report.specs.Faults.{Told, is_outside};
 ghost use Rattle.pb_build.specs.Causes.{Reads, is_failure};
-ghost use Rattle.pb_build.specs.Library.{not_inherited, written, text_of, further_authors, joined_authors, readme_text};
+ghost use Rattle.pb_build.specs.Library.{not_inherited, written, text_of, further_authors, joined_authors, readme_text, authors_of, has_own_file, found_readme, readme_of, said_in, about_of, path_in, standard_source, source_of, written_crate, discovered_crate, crate_of, named_of, named_in, unit_with, about_in, library_with, library_of};
 
 use crate::package::{is_source, refused};
 use crate::setup::Setup;
 use crate::unit::{About, LibraryUnit};
 use pb_data::{Items, Text, TryCopy};
+use pb_directive::underscored;
 use pb_manifest::{
     CrateType, Edition, Inherited, Key, Library, ManifestFault, Package, Readme, Version,
 };
-use pb_place::{PathFault, PathText, Place};
+use pb_place::{PathFault, PathText, Place, RelativePath};
 use pb_report::{BuildFault, LoadFault, PlanFault, Refusal};
 use std::alloc::{AllocError, Global};
+
+/// The refusal of a value that is taken from the workspace, since there is none.
+fn not_inherited() -> BuildFault
+    ensures { result ≡ not_inherited }
+{
+    BuildFault::Plan(Refusal::Load(LoadFault::NoInherited))
+}
 
 /// A value that is written here. One that is taken from the workspace is NoInherited, since there is none.
 fn written<T: Drop>(value: Inherited<T>) -> Result<T, BuildFault>
@@ -24,13 +34,13 @@ fn written<T: Drop>(value: Inherited<T>) -> Result<T, BuildFault>
 {
     match value {
         Inherited::Written(value) => Ok(value),
-        Inherited::Workspace => Err(BuildFault::Plan(Refusal::Load(LoadFault::NoInherited))),
+        Inherited::Workspace => Err(not_inherited()),
     }
 }
 
 /// A text of a package, empty where it is absent.
 fn text_of(alloc: Global, value: Option<Inherited<Text>>) -> Result<Text, BuildFault>
-    ensures told { GivesUnless result (text_of value) }
+    ensures told { Told result (text_of value) }
     ensures here { IfErr result (λ e. is_failure e ≡ false) }
 {
     match value {
@@ -58,6 +68,7 @@ fn joined_authors(alloc: Global, authors: &[Text]) -> Result<Text, AllocError>
 
 /// The authors of a package, joined by `:`.
 fn authors_of(alloc: Global, value: Option<Inherited<Items<Text>>>) -> Result<Text, BuildFault>
+    ensures told { Told result (authors_of value) }
     ensures here { IfErr result (λ e. is_failure e ≡ false) }
 {
     match value {
@@ -70,66 +81,58 @@ fn authors_of(alloc: Global, value: Option<Inherited<Items<Text>>>) -> Result<Te
 }
 
 /// What a written `readme` says.
-fn readme_text(alloc: Global, readme: Readme) -> Result<Text, AllocError>
-    ensures { IfOk result (λ text. text ≡ readme_text readme) }
+fn readme_text(alloc: Global, readme: &Readme) -> Result<Text, AllocError>
+    ensures { IfOk result (λ text. text ≡ readme_text readme.now) }
 {
     match readme {
         Readme::Standard => Text::from_str(alloc, "README.md"),
         Readme::Never => Text::from_str(alloc, ""),
-        Readme::At(path) => Ok(path),
+        Readme::At(path) => path.copy(alloc),
     }
 }
 
-/// A path of a package. One that no path says is BadKind, as a path with byte 0 is.
-pub fn path_in(
-    alloc: Global,
-    manifest: &PathText,
-    folder: &PathText,
-    text: &str,
-) -> Result<PathText, BuildFault>
-    ensures here { IfErr result (λ e. is_failure e ≡ false) }
+/// A path in the root folder.
+pub fn own_path(alloc: Global, setup: &Setup, name: &str) -> Result<PathText, AllocError>
+    requires { is_relative name.now ≡ true }
+    ensures { IfOk result (λ path. path ≡ below setup.now.root name.now) }
 {
-    match folder.join(alloc, text) {
-        Ok(path) => Ok(path),
-        Err(PathFault::OutOfMemory) => Err(BuildFault::OutOfMemory),
-        Err(_) => Err(refused(alloc, manifest, ManifestFault::BadKind(Key::Path))),
-    }
+    let name = RelativePath::name(alloc, name)?;
+    setup.root.below(alloc, &name)
 }
 
-/// Whether a file of a package's folder is among the sources.
-fn has_file<P: Place>(
+/// Whether a file of the root folder is among the sources.
+pub fn has_own_file<P: Place>(
     place: &mut P,
     alloc: Global,
     setup: &Setup,
-    manifest: &PathText,
     name: &str,
 ) -> Result<bool, BuildFault>
+    requires { is_relative name.now ≡ true }
+    ensures ok { IsTrue P.tells → IfOk result (λ answer. answer ≡ has_own_file setup.now.root (from_nothing setup.now.target (P.world place.old)) name.now) }
     ensures same { IsTrue P.tells → P.world place.new ≡ P.world place.old }
+    ensures outside { IfErr result (λ e. is_outside e ≡ true) }
     ensures reads { Reads result (P.counts place.old) (P.counts place.new) }
 {
-    let path = path_in(alloc, manifest, &setup.root, name)?;
+    let path = own_path(alloc, setup, name)?;
     let found = is_source(place, alloc, &setup.target, &path)?;
     Ok(found)
 }
 
 /// The README of a package that names none: the first of `README.md`, `README.txt` and `README` that is a
 /// file of its folder (The Cargo Book, Manifest Format).
-fn found_readme<P: Place>(
-    place: &mut P,
-    alloc: Global,
-    setup: &Setup,
-    manifest: &PathText,
-) -> Result<Text, BuildFault>
+fn found_readme<P: Place>(place: &mut P, alloc: Global, setup: &Setup) -> Result<Text, BuildFault>
+    ensures ok { IsTrue P.tells → IfOk result (λ text. text ≡ found_readme setup.now.root (from_nothing setup.now.target (P.world place.old))) }
     ensures same { IsTrue P.tells → P.world place.new ≡ P.world place.old }
+    ensures outside { IfErr result (λ e. is_outside e ≡ true) }
     ensures reads { Reads result (P.counts place.old) (P.counts place.new) }
 {
-    if has_file(place, alloc, setup, manifest, "README.md")? {
+    if has_own_file(place, alloc, setup, "README.md")? {
         return Ok(Text::from_str(alloc, "README.md")?);
     }
-    if has_file(place, alloc, setup, manifest, "README.txt")? {
+    if has_own_file(place, alloc, setup, "README.txt")? {
         return Ok(Text::from_str(alloc, "README.txt")?);
     }
-    if has_file(place, alloc, setup, manifest, "README")? {
+    if has_own_file(place, alloc, setup, "README")? {
         return Ok(Text::from_str(alloc, "README")?);
     }
     Ok(Text::from_str(alloc, "")?)
@@ -140,54 +143,50 @@ fn readme_of<P: Place>(
     place: &mut P,
     alloc: Global,
     setup: &Setup,
-    manifest: &PathText,
-    value: Option<Inherited<Readme>>,
+    value: &Option<Inherited<Readme>>,
 ) -> Result<Text, BuildFault>
+    ensures ok { IsTrue P.tells → Told result (readme_of setup.now.root (from_nothing setup.now.target (P.world place.old)) value.now) }
     ensures same { IsTrue P.tells → P.world place.new ≡ P.world place.old }
     ensures reads { Reads result (P.counts place.old) (P.counts place.new) }
 {
     match value {
-        Some(value) => {
-            let readme = written(value)?;
-            Ok(readme_text(alloc, readme)?)
-        }
+        Some(Inherited::Written(readme)) => Ok(readme_text(alloc, readme)?),
+        Some(Inherited::Workspace) => Err(not_inherited()),
         None => {
-            let readme = found_readme(place, alloc, setup, manifest)?;
+            let readme = found_readme(place, alloc, setup)?;
             Ok(readme)
         }
     }
 }
 
-/// The crate name of a package: its name with `-` as `_` (The Cargo Book, Manifest Format).
-fn crate_name_of(alloc: Global, name: &str) -> Result<Text, AllocError> {
-    let mut made = String::new(alloc);
-    for letter in name.chars() {
-        made.push(if letter == '-' { '_' } else { letter })?;
-    }
-    Ok(Text::new(made))
+/// What a manifest says for people, not yet taken from anywhere else.
+#[derive(Drop)]
+pub struct Said {
+    pub authors: Option<Inherited<Items<Text>>>,
+    pub description: Option<Inherited<Text>>,
+    pub homepage: Option<Inherited<Text>>,
+    pub license: Option<Inherited<Text>>,
+    pub license_file: Option<Inherited<Text>>,
+    pub readme: Option<Inherited<Readme>>,
+    pub repository: Option<Inherited<Text>>,
+    pub rust_version: Option<Inherited<Text>>,
 }
 
-/// What a package says of itself.
-fn about_of<P: Place>(
-    place: &mut P,
-    alloc: Global,
-    setup: &Setup,
-    manifest: &PathText,
-    found: SaidOfItself,
-) -> Result<About, BuildFault>
-    ensures same { IsTrue P.tells → P.world place.new ≡ P.world place.old }
-    ensures reads { Reads result (P.counts place.old) (P.counts place.new) }
+/// What a package says of itself, and its README.
+fn about_of(alloc: Global, said: Said, readme: Text) -> Result<About, BuildFault>
+    ensures told { Told result (about_of said readme) }
+    ensures here { IfErr result (λ e. is_failure e ≡ false) }
 {
-    let SaidOfItself {
+    let Said {
         authors,
         description,
         homepage,
         license,
         license_file,
-        readme,
+        readme: _,
         repository,
         rust_version,
-    } = found;
+    } = said;
     let authors = authors_of(alloc, authors)?;
     let description = text_of(alloc, description)?;
     let homepage = text_of(alloc, homepage)?;
@@ -195,7 +194,6 @@ fn about_of<P: Place>(
     let license_file = text_of(alloc, license_file)?;
     let repository = text_of(alloc, repository)?;
     let rust_version = text_of(alloc, rust_version)?;
-    let readme = readme_of(place, alloc, setup, manifest, readme)?;
     Ok(About {
         authors,
         description,
@@ -208,25 +206,81 @@ fn about_of<P: Place>(
     })
 }
 
-/// What a manifest tells for people, not yet taken from anywhere else.
-#[derive(Drop)]
-struct SaidOfItself {
-    authors: Option<Inherited<Items<Text>>>,
-    description: Option<Inherited<Text>>,
-    homepage: Option<Inherited<Text>>,
-    license: Option<Inherited<Text>>,
-    license_file: Option<Inherited<Text>>,
-    readme: Option<Inherited<Readme>>,
-    repository: Option<Inherited<Text>>,
-    rust_version: Option<Inherited<Text>>,
+/// What a package says of itself.
+fn about_in<P: Place>(
+    place: &mut P,
+    alloc: Global,
+    setup: &Setup,
+    said: Said,
+) -> Result<About, BuildFault>
+    ensures ok { IsTrue P.tells → Told result (about_in setup.now.root (from_nothing setup.now.target (P.world place.old)) said) }
+    ensures same { IsTrue P.tells → P.world place.new ≡ P.world place.old }
+    ensures reads { Reads result (P.counts place.old) (P.counts place.new) }
+{
+    let readme = readme_of(place, alloc, setup, &said.readme)?;
+    about_of(alloc, said, readme)
 }
 
 /// Where a library's source is, and what its crate is called.
 #[derive(Drop)]
-struct Crate {
-    name: Text,
-    types: Items<CrateType>,
-    source: PathText,
+pub struct Crate {
+    /// The crate's name.
+    pub name: Text,
+    /// The crate types in the manifest's order; none stands for `lib`.
+    pub types: Items<CrateType>,
+    /// The path of the source.
+    pub source: PathText,
+}
+
+/// A path of a package. One that no path says is BadKind, as a path with byte 0 is.
+fn path_in(
+    alloc: Global,
+    manifest: &PathText,
+    folder: &PathText,
+    text: &str,
+) -> Result<PathText, BuildFault>
+    ensures told { Told result (path_in manifest.now (joined folder.now text.now)) }
+    ensures here { IfErr result (λ e. is_failure e ≡ false) }
+{
+    match folder.join(alloc, text) {
+        Ok(path) => Ok(path),
+        Err(PathFault::OutOfMemory) => Err(BuildFault::OutOfMemory),
+        Err(_) => Err(refused(alloc, manifest, ManifestFault::BadKind(Key::Path))),
+    }
+}
+
+/// The source of a library: the path that `[lib]` writes, else `src/lib.rs`.
+fn source_of(
+    alloc: Global,
+    setup: &Setup,
+    manifest: &PathText,
+    path: Option<Text>,
+) -> Result<PathText, BuildFault>
+    ensures told { Told result (source_of manifest.now setup.now.root path) }
+    ensures here { IfErr result (λ e. is_failure e ≡ false) }
+{
+    match path {
+        Some(path) => path_in(alloc, manifest, &setup.root, path.as_str()),
+        None => Ok(own_path(alloc, setup, "src/lib.rs")?),
+    }
+}
+
+/// A package's name as its library's: `_` for each `-` (The Cargo Book, Cargo Targets).
+fn crate_name_of(alloc: Global, package_name: &str) -> Result<Text, AllocError>
+    ensures { IfOk result (λ name. name ≡ underscored package_name.now) }
+{
+    let name = underscored(alloc, package_name)?;
+    Ok(Text::new(name))
+}
+
+/// The name of a library: the one that `[lib]` writes, else the package's.
+fn name_or(alloc: Global, name: Option<Text>, package_name: &str) -> Result<Text, AllocError>
+    ensures { IfOk result (λ text. text ≡ unwrap_or name (underscored package_name.now)) }
+{
+    match name {
+        Some(name) => Ok(name),
+        None => crate_name_of(alloc, package_name),
+    }
 }
 
 /// The crate of a `[lib]` table.
@@ -237,6 +291,7 @@ fn written_crate(
     package_name: &str,
     library: Library,
 ) -> Result<Crate, BuildFault>
+    ensures told { Told result (written_crate manifest.now setup.now.root package_name.now library) }
     ensures here { IfErr result (λ e. is_failure e ≡ false) }
 {
     let Library {
@@ -244,14 +299,8 @@ fn written_crate(
         name,
         path,
     } = library;
-    let name = match name {
-        Some(name) => name,
-        None => crate_name_of(alloc, package_name)?,
-    };
-    let source = match path {
-        Some(path) => path_in(alloc, manifest, &setup.root, path.as_str())?,
-        None => path_in(alloc, manifest, &setup.root, "src/lib.rs")?,
-    };
+    let source = source_of(alloc, setup, manifest, path)?;
+    let name = name_or(alloc, name, package_name)?;
     Ok(Crate {
         name,
         types: crate_types,
@@ -265,16 +314,16 @@ fn discovered_crate<P: Place>(
     place: &mut P,
     alloc: Global,
     setup: &Setup,
-    manifest: &PathText,
     package_name: &str,
 ) -> Result<Crate, BuildFault>
+    ensures ok { IsTrue P.tells → Told result (discovered_crate setup.now.root (from_nothing setup.now.target (P.world place.old)) package_name.now) }
     ensures same { IsTrue P.tells → P.world place.new ≡ P.world place.old }
     ensures reads { Reads result (P.counts place.old) (P.counts place.new) }
 {
-    let source = path_in(alloc, manifest, &setup.root, "src/lib.rs")?;
-    if !is_source(place, alloc, &setup.target, &source)? {
+    if !has_own_file(place, alloc, setup, "src/lib.rs")? {
         return Err(BuildFault::Plan(Refusal::Plan(PlanFault::NothingToBuild)));
     }
+    let source = own_path(alloc, setup, "src/lib.rs")?;
     let name = crate_name_of(alloc, package_name)?;
     Ok(Crate {
         name,
@@ -292,6 +341,7 @@ fn crate_of<P: Place>(
     package_name: &str,
     library: Option<Library>,
 ) -> Result<Crate, BuildFault>
+    ensures ok { IsTrue P.tells → Told result (crate_of manifest.now setup.now.root (from_nothing setup.now.target (P.world place.old)) package_name.now library) }
     ensures same { IsTrue P.tells → P.world place.new ≡ P.world place.old }
     ensures reads { Reads result (P.counts place.old) (P.counts place.new) }
 {
@@ -301,23 +351,73 @@ fn crate_of<P: Place>(
             Ok(made)
         }
         None => {
-            let made = discovered_crate(place, alloc, setup, manifest, package_name)?;
+            let made = discovered_crate(place, alloc, setup, package_name)?;
             Ok(made)
         }
     }
 }
 
-/// The library of a package that says nothing that a build does not serve yet.
-pub fn library_of<P: Place>(
+/// A package's name, its version and its edition.
+#[derive(Drop)]
+pub struct Named {
+    pub name: Text,
+    pub version: Version,
+    pub edition: Edition,
+}
+
+/// The unit of a library, put together.
+fn unit_with(
+    alloc: Global,
+    setup: &Setup,
+    manifest: &PathText,
+    named: Named,
+    about: About,
+    made: Crate,
+) -> Result<LibraryUnit, AllocError>
+    ensures { IfOk result (λ unit. unit ≡ unit_with manifest.now setup.now.root named about made) }
+{
+    let manifest = manifest.copy(alloc)?;
+    let folder = setup.root.copy(alloc)?;
+    Ok(LibraryUnit {
+        name: named.name,
+        version: named.version,
+        edition: named.edition,
+        manifest,
+        folder,
+        about,
+        crate_name: made.name,
+        crate_types: made.types,
+        source: made.source,
+    })
+}
+
+/// The library of a package of this name, version and edition.
+fn library_with<P: Place>(
     place: &mut P,
     alloc: Global,
     setup: &Setup,
     manifest: &PathText,
-    found: Package,
+    said: Said,
     library: Option<Library>,
+    named: Named,
 ) -> Result<LibraryUnit, BuildFault>
+    ensures ok { IsTrue P.tells → Told result (library_with manifest.now setup.now.root (from_nothing setup.now.target (P.world place.old)) said library named) }
+    ensures name { IfOk result (λ unit. unit.name ≡ named.name) }
     ensures same { IsTrue P.tells → P.world place.new ≡ P.world place.old }
     ensures reads { Reads result (P.counts place.old) (P.counts place.new) }
+{
+    let about = about_in(place, alloc, setup, said)?;
+    let made = crate_of(place, alloc, setup, manifest, named.name.as_str(), library)?;
+    let unit = unit_with(alloc, setup, manifest, named, about, made)?;
+    Ok(unit)
+}
+
+/// The name, the version and the edition of a package, and what it says of itself.
+fn parts_of(found: Package) -> (Result<Named, BuildFault>, Said)
+    ensures named { result.0 ≡ named_in found }
+    ensures name { IfOk result.0 (λ named. named.name ≡ found.name) }
+    ensures said { result.1 ≡ said_in found }
+    ensures here { IfErr result.0 (λ e. is_failure e ≡ false) }
 {
     let Package {
         authors,
@@ -335,9 +435,7 @@ pub fn library_of<P: Place>(
         rust_version,
         version,
     } = found;
-    let edition = written(edition)?;
-    let version = written(version)?;
-    let said = SaidOfItself {
+    let said = Said {
         authors,
         description,
         homepage,
@@ -347,54 +445,45 @@ pub fn library_of<P: Place>(
         repository,
         rust_version,
     };
-    let (about, made) = parts_of(place, alloc, setup, manifest, said, name.as_str(), library)?;
-    let unit = unit_of(alloc, setup, manifest, name, version, edition, about, made)?;
-    Ok(unit)
+    (named_of(name, version, edition), said)
 }
 
-/// What a package says of itself, and its library's crate.
-fn parts_of<P: Place>(
+/// A name, a version and an edition, where both are written here.
+fn named_of(
+    name: Text,
+    version: Inherited<Version>,
+    edition: Inherited<Edition>,
+) -> Result<Named, BuildFault>
+    ensures named { result ≡ named_of name version edition }
+    ensures name { IfOk result (λ named. named.name ≡ name) }
+    ensures here { IfErr result (λ e. is_failure e ≡ false) }
+{
+    let edition = written(edition)?;
+    let version = written(version)?;
+    Ok(Named {
+        name,
+        version,
+        edition,
+    })
+}
+
+/// The library of a package.
+pub fn library_of<P: Place>(
     place: &mut P,
     alloc: Global,
     setup: &Setup,
     manifest: &PathText,
-    said: SaidOfItself,
-    package_name: &str,
+    found: Package,
     library: Option<Library>,
-) -> Result<(About, Crate), BuildFault>
+) -> Result<LibraryUnit, BuildFault>
+    ensures ok { IsTrue P.tells → Told result (library_of manifest.now setup.now.root (from_nothing setup.now.target (P.world place.old)) found library) }
+    ensures name { IfOk result (λ unit. unit.name ≡ found.name) }
     ensures same { IsTrue P.tells → P.world place.new ≡ P.world place.old }
     ensures reads { Reads result (P.counts place.old) (P.counts place.new) }
 {
-    let about = about_of(place, alloc, setup, manifest, said)?;
-    let made = crate_of(place, alloc, setup, manifest, package_name, library)?;
-    Ok((about, made))
-}
-
-/// The unit of a library, put together.
-fn unit_of(
-    alloc: Global,
-    setup: &Setup,
-    manifest: &PathText,
-    name: Text,
-    version: Version,
-    edition: Edition,
-    about: About,
-    made: Crate,
-) -> Result<LibraryUnit, AllocError> {
-    let Crate {
-        name: crate_name,
-        types: crate_types,
-        source,
-    } = made;
-    Ok(LibraryUnit {
-        name,
-        version,
-        edition,
-        manifest: manifest.copy(alloc)?,
-        folder: setup.root.copy(alloc)?,
-        about,
-        crate_name,
-        crate_types,
-        source,
-    })
+    let (named, said) = parts_of(found);
+    match named {
+        Ok(named) => library_with(place, alloc, setup, manifest, said, library, named),
+        Err(fault) => Err(fault),
+    }
 }

@@ -7,7 +7,7 @@ ghost use Rattle.pb_place.specs.Paths.{is_at_or_below};
 ghost use Rattle.pb_place.specs.World.{World, from_nothing, listed};
 ghost use Rattle.pb_report.specs.Faults.{Told, is_outside};
 ghost use Rattle.pb_build.specs.Causes.{Reads, is_failure};
-ghost use Rattle.pb_build.specs.Package.{is_manifest_name, no_manifest, refused, read_found, manifest_in, asks_script, package_is_unserved, has_unserved_table};
+ghost use Rattle.pb_build.specs.Package.{is_manifest_name, no_manifest, refused, read_found, manifest_in, asks_script, package_is_unserved, has_unserved_table, has_file, has_file_below, HasName};
 
 use crate::device::device;
 use pb_data::{Bytes, Items, Text, TryCopy};
@@ -68,8 +68,10 @@ pub fn refused(alloc: Global, path: &PathText, fault: ManifestFault) -> BuildFau
 }
 
 /// What the bytes of a manifest say.
+#[tactic(auto, using(crate::proofs::Names::name_laws))]
 fn read_found(alloc: Global, path: &PathText, found: Option<Bytes>) -> Result<Manifest, BuildFault>
     ensures told { Told result (read_found path.now found) }
+    ensures named { IfOk result (λ m. HasName m.package) }
     ensures here { IfErr result (λ e. is_failure e ≡ false) }
 {
     let bytes = match found {
@@ -92,6 +94,7 @@ pub fn manifest_in<P: Place>(
     path: &PathText,
 ) -> Result<Manifest, BuildFault>
     ensures ok { IsTrue P.tells → Told result (manifest_in path.now (from_nothing target.now (P.world place.old))) }
+    ensures named { IfOk result (λ m. HasName m.package) }
     ensures same { IsTrue P.tells → P.world place.new ≡ P.world place.old }
     ensures reads { Reads result (P.counts place.old) (P.counts place.new) }
 {
@@ -110,7 +113,7 @@ pub fn is_source<P: Place>(
     target: &PathText,
     path: &PathText,
 ) -> Result<bool, BuildFault>
-    ensures ok { IsTrue P.tells → IfOk result (λ answer. answer ≡ is_some (finite.get (from_nothing target.now (P.world place.old)).files path.now)) }
+    ensures ok { IsTrue P.tells → IfOk result (λ answer. answer ≡ has_file path.now (from_nothing target.now (P.world place.old))) }
     ensures same { IsTrue P.tells → P.world place.new ≡ P.world place.old }
     ensures outside { IfErr result (λ e. is_outside e ≡ true) }
     ensures reads { Reads result (P.counts place.old) (P.counts place.new) }
@@ -133,7 +136,7 @@ pub fn has_source_below<P: Place>(
     target: &PathText,
     folder: &PathText,
 ) -> Result<bool, BuildFault>
-    ensures ok { IsTrue P.tells → IfOk result (λ answer. answer ≡ list_any (λ path. not (is_at_or_below target.now path)) (listed folder.now (P.world place.old))) }
+    ensures ok { IsTrue P.tells → IfOk result (λ answer. answer ≡ has_file_below folder.now (from_nothing target.now (P.world place.old))) }
     ensures same { IsTrue P.tells → P.world place.new ≡ P.world place.old }
     ensures outside { IfErr result (λ e. is_outside e ≡ true) }
     ensures reads { Reads result (P.counts place.old) (P.counts place.new) }

@@ -1,24 +1,28 @@
 //! What a build is going to do: read from the sources, before a child is started.
 
-ghost use Rattle.std.specs.Prelude.{◌≡◌, Bool, IfOk, IfErr, IsTrue, true, false, codes};
-ghost use Rattle.pb_place.specs.Paths.{below};
+ghost use Rattle.std.specs.Prelude.{◌≡◌, Bool, IfOk, IfErr, IsTrue, MatchResult, Ok, Err, true, false, codes};
+ghost use Rattle.pb_place.specs.Paths.{below, is_relative};
+ghost use Rattle.pb_place.specs.World.{from_nothing};
+ghost use Rattle.pb_manifest.specs.Letters.{is_name};
+ghost use Rattle.pb_build.specs.Package.{served, has_unserved_file, HasName};
+ghost use Rattle.pb_build.specs.Plan.{library_in, unit_in, unit_of, planned};
 ghost use Rattle.pb_build.specs.Unit.{key_of, out_of};
-ghost use Rattle.pb_report.specs.Faults.{is_outside};
+ghost use Rattle.pb_report.specs.Faults.{Told, is_outside};
 ghost use Rattle.pb_build.specs.Causes.{Reads, is_failure};
 ghost use Rattle.pb_build.specs.Setup.{setup_of};
 
-use crate::library::{library_of, path_in};
+use crate::library::{has_own_file, library_of, own_path};
 use crate::package::{
-    has_source_below, has_unserved_table, is_source, manifest_in, package_is_unserved, refused,
+    has_source_below, has_unserved_table, manifest_in, package_is_unserved, refused,
 };
 use crate::setup::{Setup, setup_of};
 use crate::unit::{LibraryUnit, key_of};
-use pb_data::{Text, TryCopy};
+use pb_data::Text;
 use pb_manifest::{Library, Manifest, ManifestFault, Package};
 use pb_place::{PathText, Place, RelativePath};
 use pb_report::BuildFault;
 use pb_session::Options;
-use std::alloc::Global;
+use std::alloc::{AllocError, Global};
 
 /// What a build is going to do.
 #[derive(Debug, Drop)]
@@ -33,34 +37,28 @@ pub struct Plan {
     pub out: PathText,
 }
 
-/// A unit's output folder. Its key is a name, since the reader refuses other letters in a package's.
-fn out_of(
-    alloc: Global,
-    setup: &Setup,
-    unit: &LibraryUnit,
-    key: &Text,
-) -> Result<PathText, BuildFault>
-    ensures here { IfErr result (λ e. is_failure e ≡ false) }
-    ensures folder { IfOk result (λ out. out ≡ below (below setup.now.target (codes "debug")) key.now) }
+/// A unit's output folder.
+fn out_of(alloc: Global, setup: &Setup, key: &str) -> Result<PathText, AllocError>
+    requires { is_relative key.now ≡ true }
+    ensures { IfOk result (λ out. out ≡ below (below setup.now.target (codes "debug")) key.now) }
 {
-    let name = match RelativePath::new(alloc, key.copy(alloc)?)? {
-        Some(name) => name,
-        None => return Err(refused(alloc, &unit.manifest, ManifestFault::BadName)),
-    };
+    let name = RelativePath::name(alloc, key)?;
     let debug = RelativePath::name(alloc, "debug")?;
     let folder = setup.target.below(alloc, &debug)?;
-    Ok(folder.below(alloc, &name)?)
+    folder.below(alloc, &name)
 }
 
 /// The plan of a unit.
-fn plan_of(alloc: Global, setup: Setup, unit: LibraryUnit) -> Result<Plan, BuildFault>
-    ensures here { IfErr result (λ e. is_failure e ≡ false) }
+#[tactic(auto, using(crate::proofs::Keys::key_laws))]
+fn plan_of(alloc: Global, setup: Setup, unit: LibraryUnit) -> Result<Plan, AllocError>
+    requires { is_name unit.name ≡ true }
     ensures setup { IfOk result (λ plan. plan.setup ≡ setup) }
+    ensures unit { IfOk result (λ plan. plan.unit ≡ unit) }
     ensures key { IfOk result (λ plan. plan.key ≡ key_of plan.unit) }
     ensures out { IfOk result (λ plan. plan.out ≡ out_of plan.setup.target plan.unit) }
 {
     let key = key_of(alloc, &unit)?;
-    let out = out_of(alloc, &setup, &unit, &key)?;
+    let out = out_of(alloc, &setup, key.as_str())?;
     Ok(Plan {
         setup,
         unit,
@@ -71,11 +69,15 @@ fn plan_of(alloc: Global, setup: Setup, unit: LibraryUnit) -> Result<Plan, Build
 
 /// The package of a manifest and its `[lib]`, where it says nothing that a build does not serve yet: a
 /// workspace, binaries, dependencies, features, profiles, `links` or a script.
+#[tactic(auto, using(crate::proofs::Names::named_laws))]
 fn served(
     alloc: Global,
     manifest: &PathText,
     found: Manifest,
 ) -> Result<(Package, Option<Library>), BuildFault>
+    requires { HasName found.package }
+    ensures told { Told result (served manifest.now found) }
+    ensures named { IfOk result (λ parts. is_name parts.0.name ≡ true) }
     ensures here { IfErr result (λ e. is_failure e ≡ false) }
 {
     if has_unserved_table(&found) {
@@ -107,22 +109,43 @@ fn has_unserved_file<P: Place>(
     place: &mut P,
     alloc: Global,
     setup: &Setup,
-    manifest: &PathText,
 ) -> Result<bool, BuildFault>
+    ensures ok { IsTrue P.tells → IfOk result (λ answer. answer ≡ has_unserved_file setup.now.root (from_nothing setup.now.target (P.world place.old))) }
+    ensures same { IsTrue P.tells → P.world place.new ≡ P.world place.old }
+    ensures outside { IfErr result (λ e. is_outside e ≡ true) }
+    ensures reads { Reads result (P.counts place.old) (P.counts place.new) }
+{
+    if has_own_file(place, alloc, setup, "src/main.rs")? {
+        return Ok(true);
+    }
+    if has_own_file(place, alloc, setup, "build.rs")? {
+        return Ok(true);
+    }
+    let folder = own_path(alloc, setup, "src/bin")?;
+    let found = has_source_below(place, alloc, &setup.target, &folder)?;
+    Ok(found)
+}
+
+/// The unit of a package in whose folder nothing stands that a build does not serve yet.
+fn library_in<P: Place>(
+    place: &mut P,
+    alloc: Global,
+    setup: &Setup,
+    manifest: &PathText,
+    named: Package,
+    library: Option<Library>,
+) -> Result<LibraryUnit, BuildFault>
+    requires { is_name named.name ≡ true }
+    ensures ok { IsTrue P.tells → Told result (library_in manifest.now setup.now.root (from_nothing setup.now.target (P.world place.old)) named library) }
+    ensures named { IfOk result (λ unit. is_name unit.name ≡ true) }
     ensures same { IsTrue P.tells → P.world place.new ≡ P.world place.old }
     ensures reads { Reads result (P.counts place.old) (P.counts place.new) }
 {
-    let main = path_in(alloc, manifest, &setup.root, "src/main.rs")?;
-    if is_source(place, alloc, &setup.target, &main)? {
-        return Ok(true);
+    if has_unserved_file(place, alloc, setup)? {
+        return Err(refused(alloc, manifest, ManifestFault::UnsupportedTable));
     }
-    let script = path_in(alloc, manifest, &setup.root, "build.rs")?;
-    if is_source(place, alloc, &setup.target, &script)? {
-        return Ok(true);
-    }
-    let folder = path_in(alloc, manifest, &setup.root, "src/bin")?;
-    let found = has_source_below(place, alloc, &setup.target, &folder)?;
-    Ok(found)
+    let unit = library_of(place, alloc, setup, manifest, named, library)?;
+    Ok(unit)
 }
 
 /// The unit of a manifest.
@@ -133,14 +156,31 @@ fn unit_in<P: Place>(
     manifest: &PathText,
     found: Manifest,
 ) -> Result<LibraryUnit, BuildFault>
+    requires { HasName found.package }
+    ensures ok { IsTrue P.tells → Told result (unit_in manifest.now setup.now.root (from_nothing setup.now.target (P.world place.old)) found) }
+    ensures named { IfOk result (λ unit. is_name unit.name ≡ true) }
     ensures same { IsTrue P.tells → P.world place.new ≡ P.world place.old }
     ensures reads { Reads result (P.counts place.old) (P.counts place.new) }
 {
     let (named, library) = served(alloc, manifest, found)?;
-    if has_unserved_file(place, alloc, setup, manifest)? {
-        return Err(refused(alloc, manifest, ManifestFault::UnsupportedTable));
-    }
-    let unit = library_of(place, alloc, setup, manifest, named, library)?;
+    let unit = library_in(place, alloc, setup, manifest, named, library)?;
+    Ok(unit)
+}
+
+/// The unit of the package whose manifest is named.
+fn unit_of<P: Place>(
+    place: &mut P,
+    alloc: Global,
+    setup: &Setup,
+    manifest: &PathText,
+) -> Result<LibraryUnit, BuildFault>
+    ensures ok { IsTrue P.tells → Told result (unit_of manifest.now setup.now.root (from_nothing setup.now.target (P.world place.old))) }
+    ensures named { IfOk result (λ unit. is_name unit.name ≡ true) }
+    ensures same { IsTrue P.tells → P.world place.new ≡ P.world place.old }
+    ensures reads { Reads result (P.counts place.old) (P.counts place.new) }
+{
+    let found = manifest_in(place, alloc, &setup.target, manifest)?;
+    let unit = unit_in(place, alloc, setup, manifest, found)?;
     Ok(unit)
 }
 
@@ -151,14 +191,14 @@ pub fn plan_in<P: Place>(
     options: &Options,
 ) -> Result<Plan, BuildFault>
     ensures setup { IsTrue P.tells → IfOk result (λ plan. plan.setup ≡ setup_of options.now (P.world place.old).variables) }
+    ensures unit { IsTrue P.tells → MatchResult result (λ plan. planned options.now (P.world place.old) ≡ Ok plan.unit) (λ e. is_outside e ≡ false → planned options.now (P.world place.old) ≡ Err e) }
     ensures key { IfOk result (λ plan. plan.key ≡ key_of plan.unit) }
     ensures out { IfOk result (λ plan. plan.out ≡ out_of plan.setup.target plan.unit) }
     ensures same { IsTrue P.tells → P.world place.new ≡ P.world place.old }
     ensures reads { Reads result (P.counts place.old) (P.counts place.new) }
 {
     let setup = setup_of(place, alloc, options)?;
-    let found = manifest_in(place, alloc, &setup.target, &options.manifest)?;
-    let unit = unit_in(place, alloc, &setup, &options.manifest, found)?;
+    let unit = unit_of(place, alloc, &setup, &options.manifest)?;
     let plan = plan_of(alloc, setup, unit)?;
     Ok(plan)
 }

@@ -18,7 +18,7 @@ fn split_at_dash(text: &str) -> Option<(&str, &str)>
 }
 
 /// A text with `_` for each `-`.
-fn underscored(alloc: Global, text: &str) -> Result<String, AllocError>
+pub fn underscored(alloc: Global, text: &str) -> Result<String, AllocError>
     ensures { IfOk result (λ made. string_bytes made ≡ underscored text.now) }
 {
     let mut made = String::new(alloc);
