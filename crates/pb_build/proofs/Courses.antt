@@ -1,42 +1,226 @@
--- A unit that was run and reported, over what each call ensures.
-use Rattle.std.proofs.Common.{◌≡◌, List, ℕ, Option, Result, Ok, Err, IfOk, subst, string_bytes}
-use Rattle.std.specs.Io.KnownBytes.{Appends}
-use Rattle.pb_session.specs.declared.options.Options.{Options}
-use Rattle.pb_report.specs.declared.summary.Summary.{Summary}
-use Rattle.pb_place.specs.World.{World, Answers, Ends, removed}
+-- What a child sees, and what the steps of a build give, over what each call ensures.
+use Rattle.std.proofs.Common.{◌≡◌, ◌==◌, ◌∙◌, ◌++◌, ◌&&◌, ◌||◌, Bool, true, false, not, if◌then◌else◌, List, [], ◌∷◌, ℕ, cond, codes, Option, Some, None, Result, Ok, Err, IfOk, IfErr, MatchResult, string_bytes, refl, sym, ap, subst, arith, inl, inr}
+use Rattle.std.proofs.lemmas.Bool.{cases_Bool, false≢true}
+use Rattle.std.proofs.lemmas.Bool.Decides.{nat_tests}
+use Rattle.std.specs.FinMap.{get, retain_keys, same_map}
+use Rattle.std.specs.Cmp.Lexicographic.{nat_list_cmp_total}
+use Rattle.std.specs.Str.{bytes_eq}
+use Rattle.pb_data.specs.Gives.{◌>>=◌}
+use Rattle.pb_place.specs.Paths.{stem, below, leads_below, is_below, is_at_or_below}
+use Rattle.pb_place.specs.World.{World, Answers, Ends, Map, is_shown, is_same_path, seen_by, from_nothing, removed, put_reply}
+use Rattle.pb_place.specs.declared.child.Reply.{Reply}
 use Rattle.pb_place.specs.declared.command.Command.{Command}
 use Rattle.pb_place.specs.declared.command.Ended.{Ended}
+use Rattle.pb_place.proofs.MapLemmas.{exact, get-kept, same_bytes}
+use Rattle.pb_place.proofs.PathLemmas.{and_left, and_right}
+use Rattle.pb_place.proofs.Worlds.{same_path}
 use Rattle.pb_report.specs.declared.fault.BuildFault.{BuildFault}
-use Rattle.pb_build.specs.declared.report.Report.{Report}
 use Rattle.pb_build.specs.declared.setup.Setup.{Setup}
 use Rattle.pb_build.specs.declared.unit.LibraryUnit.{LibraryUnit}
-use Rattle.pb_build.specs.Command.{command_of}
-use Rattle.pb_build.specs.Course.{Asked, Ran, Reported, Built}
+use Rattle.pb_session.specs.declared.options.Options.{Options}
+use Rattle.pb_report.specs.declared.summary.Summary.{Summary}
+use Rattle.pb_build.specs.BuildResult.{BuildResult, ended_by, version_of, reply_of, outcome_of, finished_with, fault_lines, ended_with, replied, result_from, result_of, left_by, Inside, Ran, Reported}
+use Rattle.pb_place.specs.Counts.{Counts, up}
+use Rattle.pb_report.specs.Faults.{is_outside}
+use Rattle.pb_build.specs.Causes.{StartsTwice}
+use Rattle.pb_build.specs.declared.report.Report.{Report}
+use Rattle.pb_build.specs.Command.{query_of, command_of}
+use Rattle.pb_build.specs.Outcome.{fault_of, toolchain_in}
+use Rattle.pb_build.specs.Plan.{planned}
+use Rattle.pb_build.specs.Report.{build_lines, summary_of}
 use Rattle.pb_build.specs.Setup.{setup_of}
-use Rattle.pb_build.specs.Unit.{out_of}
+use Rattle.pb_build.specs.Unit.{key_of, out_of}
 
-pub ran : (child : Answers) (s : Setup) (u : LibraryUnit) (old w : World) (version : List ℕ) (command : Command) (out : List ℕ) (e : Ended) (new : World)
-    → Asked child s old version w → command ≡ command_of s version u → out ≡ out_of s.target u → Ends (child command) command (removed out w) e new
+-- what is kept by two tests that agree
+kept_alike : (m : Map) (p q : List ℕ → Bool) → ((x : List ℕ) → p x ≡ q x) → retain_keys m p ≡ retain_keys m q
+kept_alike m p q same = same_map nat_list_cmp_total exact _ _ (λ x. get-kept m p x ∙ ap (λ b. cond b (get m x) None) (same x) ∙ sym (get-kept m q x))
+
+or_none : (b : Bool) → b || false ≡ b
+or_none true = refl
+or_none false = refl
+
+query_shows : (s : Setup) (path : List ℕ) → is_shown (query_of s) path ≡ not (is_at_or_below s.target path)
+unfolding is_shown
+query_shows s path = or_none _
+
+compile_shows : (s : Setup) (version : List ℕ) (u : LibraryUnit) (path : List ℕ) → is_shown (command_of s version u) path ≡ not (is_at_or_below s.target path)
+unfolding is_shown
+compile_shows s version u path = or_none _
+
+-- the query and the compile of a library see the sources
+query_sees : (s : Setup) (w : World) → seen_by (query_of s) w ≡ from_nothing s.target w
+query_sees s w = ap (λ (m : Map). record { files = m; variables = w.variables }) (kept_alike w.files (is_shown (query_of s)) (λ q. not (is_at_or_below s.target q)) (query_shows s))
+
+compile_sees : (s : Setup) (version : List ℕ) (u : LibraryUnit) (w : World) → seen_by (command_of s version u) w ≡ from_nothing s.target w
+compile_sees s version u w =
+    ap (λ (m : Map). record { files = m; variables = w.variables }) (kept_alike w.files (is_shown (command_of s version u)) (λ q. not (is_at_or_below s.target q)) (compile_shows s version u))
+
+tied : (a b e : ℕ) → a == b ≡ true → b == e ≡ true → a == e ≡ true
+tied a b e p q = grind (arith, nat_tests)
+
+both : (a b : Bool) → a ≡ true → b ≡ true → a && b ≡ true
+both a b p q = ap (λ x. x && b) p ∙ q
+
+-- below a folder that is below a folder
+below_both : (s d p : List ℕ) → leads_below s d ≡ true → leads_below d p ≡ true → leads_below s p ≡ true
+unfolding leads_below
+below_both [] [] p h k = absurd (false≢true h)
+below_both [] (b ∷ []) p h k = absurd (false≢true h)
+below_both [] (b ∷ c ∷ d) [] h k = absurd (false≢true k)
+below_both [] (b ∷ c ∷ d) (e ∷ []) h k = absurd (false≢true (and_right (b == e) _ k))
+below_both [] (b ∷ c ∷ d) (e ∷ f ∷ p) h k = let one : b == e ≡ true = and_left _ _ k in grind (arith, nat_tests)
+below_both (a ∷ s) [] p h k = absurd (false≢true h)
+below_both (a ∷ s) (b ∷ d) [] h k = absurd (false≢true k)
+below_both (a ∷ s) (b ∷ d) (e ∷ p) h k = both _ _ (tied a b e (and_left _ _ h) (and_left _ _ k)) (below_both s d p (and_right _ _ h) (and_right _ _ k))
+
+alike : (a : ℕ) → a == a ≡ true
+alike a = grind (arith, nat_tests)
+
+-- the folder of a profile, and what stands in it
+leads_in : (s rest : List ℕ) → leads_below s ((s ++ codes "/debug") ++ rest) ≡ true
+unfolding leads_below
+leads_in [] rest = refl
+leads_in (a ∷ s) rest = both _ _ (alike a) (leads_in s rest)
+
+neither : (a b : Bool) → b ≡ false → a && b ≡ false
+neither true b h = h
+neither false b h = refl
+
+is_long : (s rest : List ℕ) → bytes_eq ((s ++ codes "/debug") ++ rest) (codes "/") ≡ false
+is_long [] rest = refl
+is_long (a ∷ []) rest = neither (a == 47) _ refl
+is_long (a ∷ b ∷ s) rest = neither (a == 47) _ refl
+
+profile_long : (s : List ℕ) → bytes_eq (s ++ codes "/debug") (codes "/") ≡ false
+profile_long [] = refl
+profile_long (a ∷ []) = neither (a == 47) _ refl
+profile_long (a ∷ b ∷ s) = neither (a == 47) _ refl
+
+-- an output folder, letter by letter
+out_spelled : (target : List ℕ) (u : LibraryUnit) → out_of target u ≡ (stem target ++ codes "/debug") ++ 47 ∷ key_of u
+out_spelled target u = ap (λ b. (if b then [] else stem target ++ codes "/debug") ++ 47 ∷ key_of u) (profile_long (stem target))
+
+-- what is at or below an output folder is at or below the target folder
+inside : (target : List ℕ) (u : LibraryUnit) (q : List ℕ) → is_at_or_below (out_of target u) q ≡ true → is_at_or_below target q ≡ true
+unfolding is_at_or_below is_below
+inside target u q h =
+    let out : List ℕ = (stem target ++ codes "/debug") ++ 47 ∷ key_of u in
+    let spelled : out_of target u ≡ out = out_spelled target u in
+    let here : bytes_eq out q || leads_below (stem out) q ≡ true = subst (λ (o : List ℕ). bytes_eq o q || leads_below (stem o) q ≡ true) spelled h in
+    let stays : stem out ≡ out = ap (λ b. if b then [] else out) (is_long (stem target) (47 ∷ key_of u)) in
+    elim (cases_Bool (bytes_eq out q)) [
+      | inl same ↦ let at : out ≡ q = same_path q out (sym (same_bytes out q) ∙ same) in
+      ap (λ b. bytes_eq target q || b) (subst (λ (p : List ℕ). leads_below (stem target) p ≡ true) at (leads_in (stem target) (47 ∷ key_of u))) ∙ or_true (bytes_eq target q)
+      | inr apart ↦ ap (λ b. bytes_eq target q || b) (below_both (stem target) out q (leads_in (stem target) (47 ∷ key_of u))
+      (ap (λ (s : List ℕ). leads_below s q) (sym stays) ∙ sym (ap (λ b. b || leads_below (stem out) q) apart) ∙ here)) ∙ or_true (bytes_eq target q)
+    ]
+  where
+    or_true : (b : Bool) → b || true ≡ true
+    or_true true = refl
+    or_true false = refl
+
+-- to empty an output folder takes nothing away from the sources
+sources_stay : (target : List ℕ) (u : LibraryUnit) (w : World) → from_nothing target (removed (out_of target u) w) ≡ from_nothing target w
+sources_stay target u w = ap (λ (m : Map). record { files = m; variables = w.variables }) (same_map nat_list_cmp_total exact _ _ (λ q.
+    get-kept _ _ q ∙ ap (λ o. cond (not (is_at_or_below target q)) o None) (get-kept w.files (λ p. not (is_at_or_below (out_of target u) p)) q)
+    ∙ once (is_at_or_below target q) (is_at_or_below (out_of target u) q) (get w.files q) (inside target u q) ∙ sym (get-kept w.files (λ p. not (is_at_or_below target p)) q)))
+  where
+    once : (t o : Bool) (x : Option (List ℕ)) → (o ≡ true → t ≡ true) → cond (not t) (cond (not o) x None) None ≡ cond (not t) x None
+    once true o x h = refl
+    once false true x h = absurd (false≢true (h refl))
+    once false false x h = refl
+
+-- how a child ended
+ended_is : (reply : World → Reply) (c : Command) (old new : World) (e : Ended) → Ends reply c old e new → e ≡ ended_by (reply (seen_by c old))
+ended_is reply c old new e h = λ i. record { status = h.status i; stdout = h.stdout i; stderr = h.stderr i }
+
+-- the query was asked
+pub queried : (child : Answers) (s : Setup) (w new : World) (c : Command) (e : Ended) → c ≡ query_of s → Ends (child c) c w e new → version_of child s (from_nothing s.target w) ≡ toolchain_in e
+queried child s w new c e is ends =
+    let asked : Ends (child (query_of s)) (query_of s) w e new = subst (λ (d : Command). Ends (child d) d w e new) is ends in
+    ap (λ (v : World). toolchain_in (ended_by (child (query_of s) v))) (sym (query_sees s w)) ∙ ap toolchain_in (sym (ended_is _ _ _ _ _ asked))
+
+-- and left the world as it was
+pub query_changes_nothing : (child : Answers) (s : Setup) (w new : World) (c : Command) (e : Ended) → c ≡ query_of s → Ends (child c) c w e new → new ≡ w
+query_changes_nothing child s w new c e is ends = (subst (λ (d : Command). Ends (child d) d w e new) is ends).world
+
+-- the unit's child was run
+pub ran : (child : Answers) (s : Setup) (u : LibraryUnit) (old mid new : World) (version : List ℕ) (c : Command) (out : List ℕ) (e : Ended)
+    → version_of child s (from_nothing s.target old) ≡ Ok version → mid ≡ old → c ≡ command_of s version u → out ≡ out_of s.target u → Ends (child c) c (removed out mid) e new
     → Ran child s u old e new
-ran child s u old w version command out e new asked is_command is_out ends = (
-  version,
-  w,
-  asked,
-  subst (λ (o : List ℕ). Ends (child (command_of s version u)) (command_of s version u) (removed o w) e new) is_out
-      (subst (λ (c : Command). Ends (child c) c (removed out w) e new) is_command ends),
-)
+ran child s u old mid new version c out e asked still is_command is_out ends =
+    let f : World → Reply = child (command_of s version u) in
+    let begun : Ends f (command_of s version u) (removed (out_of s.target u) old) e new =
+    subst (λ (w : World). Ends f (command_of s version u) (removed (out_of s.target u) w) e new) still
+        (subst (λ (o : List ℕ). Ends f (command_of s version u) (removed o mid) e new) is_out (subst (λ (d : Command). Ends (child d) d (removed out mid) e new) is_command ends)) in
+    let sees : seen_by (command_of s version u) (removed (out_of s.target u) old) ≡ from_nothing s.target old = compile_sees s version u _ ∙ sources_stay s.target u old in (
+      f (from_nothing s.target old),
+      ap (λ (r : Result (List ℕ) BuildFault). r >>= (λ v. Ok (child (command_of s v u) (from_nothing s.target old)))) asked,
+      ended_is _ _ _ _ _ begun ∙ ap (λ (v : World). ended_by (f v)) sees,
+      begun.world ∙ ap (λ (v : World). put_reply (Some (out_of s.target u)) (f v).files (removed (out_of s.target u) old)) sees,
+    )
 
-pub reported : (child : Answers) (s t : Setup) (u : LibraryUnit) (old mid new : World) (r : Result Report BuildFault) → s ≡ t → mid ≡ old
-    → IfOk r (λ x. Reported child s u mid (string_bytes x.lines) x.summary new)
-    → IfOk r (λ x. (v : LibraryUnit) × Reported child t v old (string_bytes x.lines) x.summary new)
-reported child s t u old mid new (Ok x) is_setup is_world h = (
-  u,
-  subst (λ (z : Setup). Reported child z u old (string_bytes x.lines) x.summary new) is_setup
-      (subst (λ (w : World). Reported child s u w (string_bytes x.lines) x.summary new) is_world h),
-)
-reported child s t u old mid new (Err e) is_setup is_world h = tt
+-- the lines and the summary of a unit that was run are those of the build
+pub reported_gives : (child : Answers) (o : Options) (w mid new : World) (s : Setup) (u : LibraryUnit) (lines : List ℕ) (summary : Summary)
+    → s ≡ setup_of o w.variables → planned o w ≡ Ok u → mid ≡ w → Reported child s u mid lines summary new
+    → ((result_of child o w).answer ≡ Ok summary) × ((result_of child o w).lines ≡ lines) × (new ≡ left_by (result_of child o w).files w)
+reported_gives child o w mid new s u lines summary is_setup is_unit still reported =
+    gives u lines summary is_unit (subst (λ (t : Setup). Reported child t u w lines summary new) is_setup (subst (λ (v : World). Reported child s u v lines summary new) still reported))
+  where
+    sources : World
+    sources = from_nothing (setup_of o w.variables).target w
+    gives : (u : LibraryUnit) (lines : List ℕ) (summary : Summary) → planned o w ≡ Ok u → Reported child (setup_of o w.variables) u w lines summary new
+        → ((result_of child o w).answer ≡ Ok summary) × ((result_of child o w).lines ≡ lines) × (new ≡ left_by (result_of child o w).files w)
+    gives u lines summary is_unit (e, (r, reply, is_end, is_new), is_lines, is_summary) =
+        let out : List ℕ = out_of (setup_of o w.variables).target u in
+        let is : result_of child o w ≡ finished_with (key_of u) out (outcome_of out u r) =
+        ap (result_from child (setup_of o w.variables) sources) is_unit ∙ ap (replied out u) reply in (
+          ap (λ (b : BuildResult). b.answer) is ∙ ap (λ (x : Ended). Ok (summary_of (key_of u) (fault_of x))) (sym is_end) ∙ ap (λ (x : Summary). Ok x) (sym is_summary),
+          ap (λ (b : BuildResult). b.lines) is ∙ ap (λ (x : Ended). build_lines out u x) (sym is_end) ∙ sym is_lines,
+          is_new ∙ ap (λ (b : BuildResult). left_by b.files w) (sym is),
+        )
 
-pub built : (child : Answers) (o : Options) (old : World) (taken : Option (List ℕ)) (s : Summary) (new : World) (now : Option (List ℕ)) (lines bytes : List ℕ)
-    → (u : LibraryUnit) × Reported child (setup_of o old.variables) u old lines s new → bytes ≡ lines → Appends taken now bytes
-    → Built child o old taken s new now
-built child o old taken s new now lines bytes (u, reported) same appends = (u, lines, reported, subst (λ (b : List ℕ). Appends taken now b) same appends)
+-- so are a fault of the query, and a refusal
+pub query_fault_gives : (child : Answers) (o : Options) (w mid new : World) (s : Setup) (u : LibraryUnit) (fault : BuildFault)
+    → s ≡ setup_of o w.variables → planned o w ≡ Ok u → mid ≡ w → version_of child s (from_nothing s.target mid) ≡ Err fault → new ≡ mid
+    → ((result_of child o w).answer ≡ Err fault) × ((result_of child o w).lines ≡ fault_lines fault) × (new ≡ left_by (result_of child o w).files w)
+query_fault_gives child o w mid new s u fault is_setup is_unit still no_version same =
+    let t : Setup = setup_of o w.variables in
+    let none : version_of child t (from_nothing t.target w) ≡ Err fault =
+    subst (λ (x : Setup). version_of child x (from_nothing x.target w) ≡ Err fault) is_setup (subst (λ (v : World). version_of child s (from_nothing s.target v) ≡ Err fault) still no_version) in
+    let is : result_of child o w ≡ ended_with fault =
+    ap (result_from child t (from_nothing t.target w)) is_unit
+    ∙ ap (λ (r : Result (List ℕ) BuildFault). replied (out_of t.target u) u (r >>= (λ v. Ok (child (command_of t v u) (from_nothing t.target w))))) none in
+    (ap (λ (b : BuildResult). b.answer) is, ap (λ (b : BuildResult). b.lines) is, same ∙ still ∙ ap (λ (b : BuildResult). left_by b.files w) (sym is))
+
+pub refusal_gives : (child : Answers) (o : Options) (w new : World) (fault : BuildFault) → planned o w ≡ Err fault → new ≡ w
+    → ((result_of child o w).answer ≡ Err fault) × ((result_of child o w).lines ≡ fault_lines fault) × (new ≡ left_by (result_of child o w).files w)
+refusal_gives child o w new fault refused same =
+    let t : Setup = setup_of o w.variables in
+    let is : result_of child o w ≡ ended_with fault = ap (result_from child t (from_nothing t.target w)) refused in
+    (ap (λ (b : BuildResult). b.answer) is, ap (λ (b : BuildResult). b.lines) is, same ∙ ap (λ (b : BuildResult). left_by b.files w) (sym is))
+
+-- what a planned build answers, says and leaves, over what its report ensures
+module _ (child : Answers) (o : Options) (w mid new : World) (s : Setup) (u : LibraryUnit) (is_setup : s ≡ setup_of o w.variables) (is_unit : planned o w ≡ Ok u) (still : mid ≡ w) where
+  pub answer_given : (r : Result Report BuildFault) → IfOk r (λ report. Reported child s u mid (string_bytes report.lines) report.summary new)
+      → IfErr r (λ e. is_outside e ≡ false → version_of child s (from_nothing s.target mid) ≡ Err e) → IfErr r (λ e. is_outside e ≡ false → new ≡ mid)
+      → MatchResult r (λ report. (result_of child o w).answer ≡ Ok report.summary) (λ e. is_outside e ≡ false → (result_of child o w).answer ≡ Err e)
+  answer_given (Ok report) ok err same = (reported_gives child o w mid new s u _ _ is_setup is_unit still ok).0
+  answer_given (Err e) ok err same = λ inside. (query_fault_gives child o w mid new s u e is_setup is_unit still (err inside) (same inside)).0
+
+  pub lines_given : (r : Result Report BuildFault) → IfOk r (λ report. Reported child s u mid (string_bytes report.lines) report.summary new)
+      → IfErr r (λ e. is_outside e ≡ false → version_of child s (from_nothing s.target mid) ≡ Err e) → IfErr r (λ e. is_outside e ≡ false → new ≡ mid)
+      → MatchResult r (λ report. (result_of child o w).lines ≡ string_bytes report.lines) (λ e. is_outside e ≡ false → (result_of child o w).lines ≡ fault_lines e)
+  lines_given (Ok report) ok err same = (reported_gives child o w mid new s u _ _ is_setup is_unit still ok).1
+  lines_given (Err e) ok err same = λ inside. (query_fault_gives child o w mid new s u e is_setup is_unit still (err inside) (same inside)).1
+
+  pub files_given : (r : Result Report BuildFault) → IfOk r (λ report. Reported child s u mid (string_bytes report.lines) report.summary new)
+      → IfErr r (λ e. is_outside e ≡ false → version_of child s (from_nothing s.target mid) ≡ Err e) → IfErr r (λ e. is_outside e ≡ false → new ≡ mid)
+      → Inside r (new ≡ left_by (result_of child o w).files w)
+  files_given (Ok report) ok err same = (reported_gives child o w mid new s u _ _ is_setup is_unit still ok).2
+  files_given (Err e) ok err same = λ inside. (query_fault_gives child o w mid new s u e is_setup is_unit still (err inside) (same inside)).2
+
+-- the counters over a step that starts no child and one that starts two
+pub starts_after : {A : Type 0} (r : Result A BuildFault) (old mid new : Counts) → mid.failures ≡ old.failures → mid.starts ≡ old.starts → StartsTwice r mid new → StartsTwice r old new
+starts_after (Ok x) old mid new failed started h = (h.0 ∙ failed, h.1 ∙ ap (λ n. up (up n)) started)
+starts_after (Err e) old mid new failed started h = ((λ is. h.0 is ∙ ap up failed), h.1)

@@ -4,4 +4,5 @@ pub mod Names
 pub mod Refusals
 pub mod Setups
 pub mod Sources
+pub mod Told
 pub mod Versions

@@ -23,6 +23,11 @@ abbrev pub Starts : {T : Type 0} → Result T BuildFault → Counts → Counts �
 Starts result old new = MatchResult result (λ _. (new.failures ≡ old.failures) × (new.starts ≡ up old.starts))
     (λ e. (is_failure e ≡ true → new.failures ≡ up old.failures) × (is_failure e ≡ true → new.late ≡ 0))
 
+-- a step that starts the query and then the unit's child
+abbrev pub StartsTwice : {T : Type 0} → Result T BuildFault → Counts → Counts → Type 0
+StartsTwice result old new = MatchResult result (λ _. (new.failures ≡ old.failures) × (new.starts ≡ up (up old.starts)))
+    (λ e. (is_failure e ≡ true → new.failures ≡ up old.failures) × (is_failure e ≡ true → new.late ≡ 0))
+
 -- the build was refused
 abbrev pub is_refusal : BuildFault → Bool
 is_refusal (Plan r) = true

@@ -1,6 +1,6 @@
 pub mod Causes
 pub mod Command
-pub mod Course
+pub mod BuildResult
 pub mod Library
 pub mod Messages
 pub mod Outcome

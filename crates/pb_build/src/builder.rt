@@ -1,16 +1,15 @@
 //! A whole build.
 
-ghost use Rattle.std.specs.Prelude.{◌≡◌, Bool, IfOk, IfErr, OnOk, OnErr, IsTrue, true, false, MatchResult, string_bytes};
+ghost use Rattle.std.specs.Prelude.{◌≡◌, Bool, IfOk, IfErr, OnOk, OnErr, IsTrue, true, false, MatchResult, Ok, Err, string_bytes};
 ghost use Rattle.pb_place.specs.Counts.{up};
 ghost use Rattle.pb_report.specs.Faults.{is_outside};
-ghost use Rattle.pb_build.specs.Causes.{is_failure, is_refusal, is_unwritten};
+ghost use Rattle.pb_build.specs.Causes.{StartsTwice, is_failure, is_refusal, is_unwritten};
 ghost use Rattle.std.specs.Io.KnownBytes.{Appends};
 ghost use Rattle.pb_build.specs.Messages.{build_finished};
-ghost use Rattle.pb_build.specs.Course.{Ran, Reported, Built};
+ghost use Rattle.pb_place.specs.World.{from_nothing};
+ghost use Rattle.pb_build.specs.BuildResult.{version_of, result_of, fault_lines, left_by, Inside, Ran, Reported};
 ghost use Rattle.pb_build.specs.Report.{IsReport, Says};
-ghost use Rattle.pb_build.specs.Setup.{setup_of};
 ghost use Rattle.pb_build.specs.Unit.{key_of, out_of};
-ghost use Rattle.pb_build.specs.declared.unit.LibraryUnit.{LibraryUnit};
 
 use crate::command::command_of;
 use crate::message::build_finished;
@@ -27,8 +26,10 @@ use std::alloc::Global;
 fn run_plan<P: Place>(place: &mut P, alloc: Global, plan: &Plan) -> Result<Ended, BuildFault>
     requires { plan.now.out ≡ out_of plan.now.setup.target plan.now.unit }
     ensures ok { IsTrue P.tells → IfOk result (λ ended. Ran P.child plan.now.setup plan.now.unit (P.world place.old) ended (P.world place.new)) }
+    ensures err { IsTrue P.tells → IfErr result (λ e. is_outside e ≡ false → version_of P.child plan.now.setup (from_nothing plan.now.setup.target (P.world place.old)) ≡ Err e) }
+    ensures same { IsTrue P.tells → IfErr result (λ e. is_outside e ≡ false → P.world place.new ≡ P.world place.old) }
     ensures begun { IfErr result (λ e. is_refusal e ≡ false) }
-    ensures failed { IfErr result (λ e. is_failure e ≡ true → (P.counts place.new).late ≡ 0) }
+    ensures starts { StartsTwice result (P.counts place.old) (P.counts place.new) }
 {
     let toolchain = toolchain(place, alloc, &plan.setup)?;
     let command = command_of(alloc, &plan.setup, toolchain, &plan.unit, &plan.out)?;
@@ -41,8 +42,10 @@ fn report_plan<P: Place>(place: &mut P, alloc: Global, plan: &Plan) -> Result<Re
     requires key { plan.now.key ≡ key_of plan.now.unit }
     requires out { plan.now.out ≡ out_of plan.now.setup.target plan.now.unit }
     ensures ok { IsTrue P.tells → IfOk result (λ report. Reported P.child plan.now.setup plan.now.unit (P.world place.old) (string_bytes report.lines) report.summary (P.world place.new)) }
+    ensures err { IsTrue P.tells → IfErr result (λ e. is_outside e ≡ false → version_of P.child plan.now.setup (from_nothing plan.now.setup.target (P.world place.old)) ≡ Err e) }
+    ensures same { IsTrue P.tells → IfErr result (λ e. is_outside e ≡ false → P.world place.new ≡ P.world place.old) }
     ensures begun { IfErr result (λ e. is_refusal e ≡ false) }
-    ensures failed { IfErr result (λ e. is_failure e ≡ true → (P.counts place.new).late ≡ 0) }
+    ensures starts { StartsTwice result (P.counts place.old) (P.counts place.new) }
     ensures told { IfOk result (λ report. IsReport (string_bytes report.lines) report.summary) }
 {
     let ended = run_plan(place, alloc, plan)?;
@@ -56,14 +59,18 @@ fn carry_out<P: Place>(
     alloc: Global,
     options: &Options,
 ) -> Result<Report, BuildFault>
-    ensures ok { IsTrue P.tells → IfOk result (λ report. (u : LibraryUnit) × Reported P.child (setup_of options.now (P.world place.old).variables) u (P.world place.old) (string_bytes report.lines) report.summary (P.world place.new)) }
+    ensures answer { IsTrue P.tells → MatchResult result (λ report. (result_of P.child options.now (P.world place.old)).answer ≡ Ok report.summary) (λ e. is_outside e ≡ false → (result_of P.child options.now (P.world place.old)).answer ≡ Err e) }
+    ensures lines { IsTrue P.tells → MatchResult result (λ report. (result_of P.child options.now (P.world place.old)).lines ≡ string_bytes report.lines) (λ e. is_outside e ≡ false → (result_of P.child options.now (P.world place.old)).lines ≡ fault_lines e) }
+    ensures files { IsTrue P.tells → Inside result (P.world place.new ≡ left_by (result_of P.child options.now (P.world place.old)).files (P.world place.old)) }
     ensures same { IsTrue P.tells → IfErr result (λ e. is_refusal e ≡ true → P.world place.new ≡ P.world place.old) }
     ensures unstarted { IfErr result (λ e. is_refusal e ≡ true → (P.counts place.new).starts ≡ (P.counts place.old).starts) }
-    ensures failed { IfErr result (λ e. is_failure e ≡ true → (P.counts place.new).late ≡ 0) }
+    ensures starts { StartsTwice result (P.counts place.old) (P.counts place.new) }
     ensures told { IfOk result (λ report. IsReport (string_bytes report.lines) report.summary) }
 {
-    let plan = plan_in(place, alloc, options)?;
-    report_plan(place, alloc, &plan)
+    match plan_in(place, alloc, options) {
+        Ok(plan) => report_plan(place, alloc, &plan),
+        Err(fault) => Err(fault),
+    }
 }
 
 /// Ends a build with a fault: all but a refusal write the failing finish line, and where the sink fails

@@ -3,10 +3,11 @@
 ghost use Rattle.std.specs.Prelude.{◌≡◌, Bool, IfOk, IfErr, IsTrue, Some, None, true, false, nat_eq};
 ghost use Rattle.std.specs.List.{list_any};
 ghost use Rattle.pb_directive.specs.Lines.{lines_of};
-ghost use Rattle.pb_place.specs.World.{World};
-ghost use Rattle.pb_report.specs.Faults.{is_outside};
+ghost use Rattle.pb_place.specs.World.{World, from_nothing};
+ghost use Rattle.pb_place.specs.Counts.{up};
+ghost use Rattle.pb_report.specs.Faults.{Told, is_outside};
 ghost use Rattle.pb_build.specs.Causes.{Starts, is_failure, is_refusal};
-ghost use Rattle.pb_build.specs.Course.{Asked};
+ghost use Rattle.pb_build.specs.BuildResult.{version_of, Inside};
 ghost use Rattle.pb_build.specs.Outcome.{is_too_long, is_host, says_host, toolchain_in};
 
 use crate::command::query_of;
@@ -66,12 +67,13 @@ fn toolchain_in(ended: Ended) -> Result<Bytes, BuildFault>
 
 /// Asks the compiler for its version. Toolchain where it does not say its host.
 pub fn toolchain<P: Place>(place: &mut P, alloc: Global, setup: &Setup) -> Result<Bytes, BuildFault>
-    ensures ok { IsTrue P.tells → IfOk result (λ version. Asked P.child setup.now (P.world place.old) version (P.world place.new)) }
+    ensures told { IsTrue P.tells → Told result (version_of P.child setup.now (from_nothing setup.now.target (P.world place.old))) }
+    ensures same { IsTrue P.tells → Inside result (P.world place.new ≡ P.world place.old) }
     ensures begun { IfErr result (λ e. is_refusal e ≡ false) }
     ensures starts { Starts result (P.counts place.old) (P.counts place.new) }
+    ensures once { Inside result ((P.counts place.new).starts ≡ up (P.counts place.old).starts) }
 {
     let command = query_of(alloc, setup)?;
     let ended = start(place, alloc, "-vV", &command)?;
-    let toolchain = toolchain_in(ended)?;
-    Ok(toolchain)
+    toolchain_in(ended)
 }
