@@ -110,9 +110,9 @@ inside target u q h =
     let stays : stem out ≡ out = ap (λ b. if b then [] else out) (is_long (stem target) (47 ∷ key_of u)) in
     elim (cases_Bool (bytes_eq out q)) [
       | inl same ↦ let at : out ≡ q = same_path q out (sym (same_bytes out q) ∙ same) in
-      ap (λ b. bytes_eq target q || b) (subst (λ (p : List ℕ). leads_below (stem target) p ≡ true) at (leads_in (stem target) (47 ∷ key_of u))) ∙ or_true (bytes_eq target q)
+          ap (λ b. bytes_eq target q || b) (subst (λ (p : List ℕ). leads_below (stem target) p ≡ true) at (leads_in (stem target) (47 ∷ key_of u))) ∙ or_true (bytes_eq target q)
       | inr apart ↦ ap (λ b. bytes_eq target q || b) (below_both (stem target) out q (leads_in (stem target) (47 ∷ key_of u))
-      (ap (λ (s : List ℕ). leads_below s q) (sym stays) ∙ sym (ap (λ b. b || leads_below (stem out) q) apart) ∙ here)) ∙ or_true (bytes_eq target q)
+          (ap (λ (s : List ℕ). leads_below s q) (sym stays) ∙ sym (ap (λ b. b || leads_below (stem out) q) apart) ∙ here)) ∙ or_true (bytes_eq target q)
     ]
   where
     or_true : (b : Bool) → b || true ≡ true
@@ -152,7 +152,7 @@ ran child s u old mid new version c out e asked still is_command is_out ends =
     let f : World → Reply = child (command_of s version u) in
     let begun : Ends f (command_of s version u) (removed (out_of s.target u) old) e new =
     subst (λ (w : World). Ends f (command_of s version u) (removed (out_of s.target u) w) e new) still
-        (subst (λ (o : List ℕ). Ends f (command_of s version u) (removed o mid) e new) is_out (subst (λ (d : Command). Ends (child d) d (removed out mid) e new) is_command ends)) in
+    (subst (λ (o : List ℕ). Ends f (command_of s version u) (removed o mid) e new) is_out (subst (λ (d : Command). Ends (child d) d (removed out mid) e new) is_command ends)) in
     let sees : seen_by (command_of s version u) (removed (out_of s.target u) old) ≡ from_nothing s.target old = compile_sees s version u _ ∙ sources_stay s.target u old in (
       f (from_nothing s.target old),
       ap (λ (r : Result (List ℕ) BuildFault). r >>= (λ v. Ok (child (command_of s v u) (from_nothing s.target old)))) asked,
@@ -169,6 +169,7 @@ reported_gives child o w mid new s u lines summary is_setup is_unit still report
   where
     sources : World
     sources = from_nothing (setup_of o w.variables).target w
+
     gives : (u : LibraryUnit) (lines : List ℕ) (summary : Summary) → planned o w ≡ Ok u → Reported child (setup_of o w.variables) u w lines summary new
         → ((result_of child o w).answer ≡ Ok summary) × ((result_of child o w).lines ≡ lines) × (new ≡ left_by (result_of child o w).files w)
     gives u lines summary is_unit (e, (r, reply, is_end, is_new), is_lines, is_summary) =
@@ -223,4 +224,4 @@ module _ (child : Answers) (o : Options) (w mid new : World) (s : Setup) (u : Li
 -- the counters over a step that starts no child and one that starts two
 pub starts_after : {A : Type 0} (r : Result A BuildFault) (old mid new : Counts) → mid.failures ≡ old.failures → mid.starts ≡ old.starts → StartsTwice r mid new → StartsTwice r old new
 starts_after (Ok x) old mid new failed started h = (h.0 ∙ failed, h.1 ∙ ap (λ n. up (up n)) started)
-starts_after (Err e) old mid new failed started h = ((λ is. h.0 is ∙ ap up failed), h.1)
+starts_after (Err e) old mid new failed started h = ((λ is. h.0 is ∙ ap up failed), h.1, h.2)

@@ -13,20 +13,38 @@ is_failure (Device unit fault) = true
 is_failure Sink = false
 is_failure OutOfMemory = false
 
--- a step that starts no child: a call failed just where the fault says so, and then no further call was made
+-- a sink failed
+abbrev pub is_sink : BuildFault → Bool
+is_sink (Plan r) = false
+is_sink Toolchain = false
+is_sink (Child unit fault) = false
+is_sink (Device unit fault) = false
+is_sink Sink = true
+is_sink OutOfMemory = false
+
+-- neither a call of the place nor a sink failed
+abbrev pub is_inner : BuildFault → Bool
+is_inner (Plan r) = true
+is_inner Toolchain = true
+is_inner (Child unit fault) = false
+is_inner (Device unit fault) = false
+is_inner Sink = false
+is_inner OutOfMemory = true
+
+-- a step that starts no child: a call failed just where the fault says so, and then no further call was made; no sink is written
 abbrev pub Reads : {T : Type 0} → Result T BuildFault → Counts → Counts → Type 0
 Reads result old new = MatchResult result (λ _. (new.failures ≡ old.failures) × (new.starts ≡ old.starts))
-    (λ e. (new.starts ≡ old.starts) × (is_failure e ≡ true → new.failures ≡ up old.failures) × (is_failure e ≡ true → new.late ≡ 0))
+    (λ e. (new.starts ≡ old.starts) × (is_failure e ≡ true → new.failures ≡ up old.failures) × (is_failure e ≡ true → new.late ≡ 0) × (is_sink e ≡ false))
 
 -- a step that starts one child
 abbrev pub Starts : {T : Type 0} → Result T BuildFault → Counts → Counts → Type 0
 Starts result old new = MatchResult result (λ _. (new.failures ≡ old.failures) × (new.starts ≡ up old.starts))
-    (λ e. (is_failure e ≡ true → new.failures ≡ up old.failures) × (is_failure e ≡ true → new.late ≡ 0))
+    (λ e. (is_failure e ≡ true → new.failures ≡ up old.failures) × (is_failure e ≡ true → new.late ≡ 0) × (is_sink e ≡ false))
 
 -- a step that starts the query and then the unit's child
 abbrev pub StartsTwice : {T : Type 0} → Result T BuildFault → Counts → Counts → Type 0
 StartsTwice result old new = MatchResult result (λ _. (new.failures ≡ old.failures) × (new.starts ≡ up (up old.starts)))
-    (λ e. (is_failure e ≡ true → new.failures ≡ up old.failures) × (is_failure e ≡ true → new.late ≡ 0))
+    (λ e. (is_failure e ≡ true → new.failures ≡ up old.failures) × (is_failure e ≡ true → new.late ≡ 0) × (is_sink e ≡ false))
 
 -- the build was refused
 abbrev pub is_refusal : BuildFault → Bool
@@ -37,11 +55,7 @@ is_refusal (Device unit fault) = false
 is_refusal Sink = false
 is_refusal OutOfMemory = false
 
--- the faults with which no finish line is written whole: a refusal, and a sink that failed
-abbrev pub is_unwritten : BuildFault → Bool
-is_unwritten (Plan r) = true
-is_unwritten Toolchain = false
-is_unwritten (Child unit fault) = false
-is_unwritten (Device unit fault) = false
-is_unwritten Sink = true
-is_unwritten OutOfMemory = false
+-- a build: where it ends in a summary, the query and the unit's child were started; where its fault says that a call of the place failed, one did, and no further call was made
+abbrev pub Built : {T : Type 0} → Result T BuildFault → Counts → Counts → Type 0
+Built result old new = MatchResult result (λ _. (new.failures ≡ old.failures) × (new.starts ≡ up (up old.starts)))
+    (λ e. (is_failure e ≡ true → new.failures ≡ up old.failures) × (is_failure e ≡ true → new.late ≡ 0))

@@ -2,8 +2,8 @@
 
 ghost use Rattle.std.specs.Prelude.{◌≡◌, Bool, IfOk, IfErr, OnOk, OnErr, IsTrue, true, false, MatchResult, Ok, Err, string_bytes};
 ghost use Rattle.pb_place.specs.Counts.{up};
-ghost use Rattle.pb_report.specs.Faults.{is_outside};
-ghost use Rattle.pb_build.specs.Causes.{StartsTwice, is_failure, is_refusal, is_unwritten};
+ghost use Rattle.pb_report.specs.Faults.{Told, is_outside};
+ghost use Rattle.pb_build.specs.Causes.{StartsTwice, Built, is_failure, is_sink, is_refusal};
 ghost use Rattle.std.specs.Io.KnownBytes.{Appends};
 ghost use Rattle.pb_build.specs.Messages.{build_finished};
 ghost use Rattle.pb_place.specs.World.{from_nothing};
@@ -76,10 +76,10 @@ fn carry_out<P: Place>(
 /// Ends a build with a fault: all but a refusal write the failing finish line, and where the sink fails
 /// there the fault is Sink.
 fn close<O: Out>(out: &mut O, fault: BuildFault) -> BuildFault
-    ensures failed { is_failure result ≡ true → result ≡ fault }
-    ensures refused { is_refusal result ≡ true → result ≡ fault }
-    ensures silent { is_refusal result ≡ true → O.taken out.new ≡ O.taken out.old }
-    ensures closed { is_unwritten result ≡ false → Appends (O.taken out.old) (O.taken out.new) (build_finished false) }
+    ensures kept { is_sink result ≡ false → result ≡ fault }
+    ensures lines { is_sink result ≡ false → Appends (O.taken out.old) (O.taken out.new) (fault_lines fault) }
+    ensures sink { is_sink fault ≡ false → is_sink result ≡ true → O.faults out.new ≡ up (O.faults out.old) }
+    ensures silent { is_refusal fault ≡ true → O.taken out.new ≡ O.taken out.old }
 {
     match fault {
         BuildFault::Plan(refusal) => BuildFault::Plan(refusal),
@@ -100,18 +100,24 @@ fn close<O: Out>(out: &mut O, fault: BuildFault) -> BuildFault
 /// anything is started, written or changed; Toolchain; Child and Device, after which no further call of the
 /// place is made; Sink; OutOfMemory. All but Plan and Sink write the failing finish line. A unit that is bad
 /// is no fault: the summary names it.
+///
+/// Where no fault comes from outside, the answer, the lines and the files are those of the definition
+/// `result_of`, which looks at the sources alone: what stood in the target folder before is not seen.
 pub fn build<P: Place, O: Out>(
     alloc: Global,
     place: &mut P,
     out: &mut O,
     options: &Options,
 ) -> Result<Summary, BuildFault>
-    ensures ok { IsTrue P.tells → IfOk result (λ summary. Built P.child options.now (P.world place.old) (O.taken out.old) summary (P.world place.new) (O.taken out.new)) }
+    ensures answer { IsTrue P.tells → Told result (result_of P.child options.now (P.world place.old)).answer }
+    ensures lines { IsTrue P.tells → Inside result (Appends (O.taken out.old) (O.taken out.new) (result_of P.child options.now (P.world place.old)).lines) }
+    ensures files { IsTrue P.tells → Inside result (P.world place.new ≡ left_by (result_of P.child options.now (P.world place.old)).files (P.world place.old)) }
+    ensures starts { Built result (P.counts place.old) (P.counts place.new) }
+    ensures sink { IfErr result (λ e. is_sink e ≡ true → O.faults out.new ≡ up (O.faults out.old)) }
     ensures same { IsTrue P.tells → IfErr result (λ e. is_refusal e ≡ true → P.world place.new ≡ P.world place.old) }
     ensures unstarted { IfErr result (λ e. is_refusal e ≡ true → (P.counts place.new).starts ≡ (P.counts place.old).starts) }
+    ensures closed { IfErr result (λ e. is_sink e ≡ false → Appends (O.taken out.old) (O.taken out.new) (fault_lines e)) }
     ensures silent { IfErr result (λ e. is_refusal e ≡ true → O.taken out.new ≡ O.taken out.old) }
-    ensures failed { IfErr result (λ e. is_failure e ≡ true → (P.counts place.new).late ≡ 0) }
-    ensures closed { IfErr result (λ e. is_unwritten e ≡ false → Appends (O.taken out.old) (O.taken out.new) (build_finished false)) }
     ensures said { IfOk result (λ summary. Says (O.taken out.old) (O.taken out.new) summary) }
 {
     match carry_out(place, alloc, options) {

@@ -1,8 +1,8 @@
 //! Faults of the outside, with the name of what was called.
 
-ghost use Rattle.std.specs.Prelude.{◌≡◌, ◌≢◌, true};
+ghost use Rattle.std.specs.Prelude.{◌≡◌, ◌≢◌, true, false};
 ghost use Rattle.pb_report.specs.Faults.{is_outside};
-ghost use Rattle.pb_build.specs.Causes.{is_failure};
+ghost use Rattle.pb_build.specs.Causes.{is_failure, is_sink};
 
 use pb_data::Text;
 use pb_place::{PlaceFault, StartFault};
@@ -13,6 +13,7 @@ use std::alloc::Global;
 /// memory stays so, also where there is none for the name.
 pub fn device(alloc: Global, name: &str, fault: PlaceFault) -> BuildFault
     ensures outside { is_outside result ≡ true }
+    ensures unsunk { is_sink result ≡ false }
     ensures failed { is_failure result ≡ true → fault ≢ PlaceFault.OutOfMemory }
 {
     match fault {
@@ -28,6 +29,7 @@ pub fn device(alloc: Global, name: &str, fault: PlaceFault) -> BuildFault
 /// where there is none for the name.
 pub fn childless(alloc: Global, name: &str, fault: StartFault) -> BuildFault
     ensures outside { is_outside result ≡ true }
+    ensures unsunk { is_sink result ≡ false }
     ensures failed { is_failure result ≡ true → fault ≢ StartFault.OutOfMemory }
 {
     match fault {

@@ -5,7 +5,7 @@ ghost use Rattle.pb_directive.specs.Metadata.{underscored};
 ghost use Rattle.pb_place.specs.Paths.{below, joined, is_relative};
 ghost use Rattle.pb_place.specs.World.{from_nothing};
 ghost use Rattle.pb_report.specs.Faults.{Told, is_outside};
-ghost use Rattle.pb_build.specs.Causes.{Reads, is_failure};
+ghost use Rattle.pb_build.specs.Causes.{Reads, is_inner};
 ghost use Rattle.pb_build.specs.Library.{not_inherited, written, text_of, further_authors, joined_authors, readme_text, authors_of, has_own_file, found_readme, readme_of, said_in, about_of, path_in, standard_source, source_of, written_crate, discovered_crate, crate_of, named_of, named_in, unit_with, about_in, library_with, library_of};
 
 use crate::package::{is_source, refused};
@@ -30,7 +30,7 @@ fn not_inherited() -> BuildFault
 /// A value that is written here. One that is taken from the workspace is NoInherited, since there is none.
 fn written<T: Drop>(value: Inherited<T>) -> Result<T, BuildFault>
     ensures value { result ≡ written value }
-    ensures here { IfErr result (λ e. is_failure e ≡ false) }
+    ensures here { IfErr result (λ e. is_inner e ≡ true) }
 {
     match value {
         Inherited::Written(value) => Ok(value),
@@ -41,7 +41,7 @@ fn written<T: Drop>(value: Inherited<T>) -> Result<T, BuildFault>
 /// A text of a package, empty where it is absent.
 fn text_of(alloc: Global, value: Option<Inherited<Text>>) -> Result<Text, BuildFault>
     ensures told { Told result (text_of value) }
-    ensures here { IfErr result (λ e. is_failure e ≡ false) }
+    ensures here { IfErr result (λ e. is_inner e ≡ true) }
 {
     match value {
         Some(value) => written(value),
@@ -69,7 +69,7 @@ fn joined_authors(alloc: Global, authors: &[Text]) -> Result<Text, AllocError>
 /// The authors of a package, joined by `:`.
 fn authors_of(alloc: Global, value: Option<Inherited<Items<Text>>>) -> Result<Text, BuildFault>
     ensures told { Told result (authors_of value) }
-    ensures here { IfErr result (λ e. is_failure e ≡ false) }
+    ensures here { IfErr result (λ e. is_inner e ≡ true) }
 {
     match value {
         Some(value) => {
@@ -175,7 +175,7 @@ pub struct Said {
 /// What a package says of itself, and its README.
 fn about_of(alloc: Global, said: Said, readme: Text) -> Result<About, BuildFault>
     ensures told { Told result (about_of said readme) }
-    ensures here { IfErr result (λ e. is_failure e ≡ false) }
+    ensures here { IfErr result (λ e. is_inner e ≡ true) }
 {
     let Said {
         authors,
@@ -240,7 +240,7 @@ fn path_in(
     text: &str,
 ) -> Result<PathText, BuildFault>
     ensures told { Told result (path_in manifest.now (joined folder.now text.now)) }
-    ensures here { IfErr result (λ e. is_failure e ≡ false) }
+    ensures here { IfErr result (λ e. is_inner e ≡ true) }
 {
     match folder.join(alloc, text) {
         Ok(path) => Ok(path),
@@ -257,7 +257,7 @@ fn source_of(
     path: Option<Text>,
 ) -> Result<PathText, BuildFault>
     ensures told { Told result (source_of manifest.now setup.now.root path) }
-    ensures here { IfErr result (λ e. is_failure e ≡ false) }
+    ensures here { IfErr result (λ e. is_inner e ≡ true) }
 {
     match path {
         Some(path) => path_in(alloc, manifest, &setup.root, path.as_str()),
@@ -292,7 +292,7 @@ fn written_crate(
     library: Library,
 ) -> Result<Crate, BuildFault>
     ensures told { Told result (written_crate manifest.now setup.now.root package_name.now library) }
-    ensures here { IfErr result (λ e. is_failure e ≡ false) }
+    ensures here { IfErr result (λ e. is_inner e ≡ true) }
 {
     let Library {
         crate_types,
@@ -417,7 +417,7 @@ fn parts_of(found: Package) -> (Result<Named, BuildFault>, Said)
     ensures named { result.0 ≡ named_in found }
     ensures name { IfOk result.0 (λ named. named.name ≡ found.name) }
     ensures said { result.1 ≡ said_in found }
-    ensures here { IfErr result.0 (λ e. is_failure e ≡ false) }
+    ensures here { IfErr result.0 (λ e. is_inner e ≡ true) }
 {
     let Package {
         authors,
@@ -456,7 +456,7 @@ fn named_of(
 ) -> Result<Named, BuildFault>
     ensures named { result ≡ named_of name version edition }
     ensures name { IfOk result (λ named. named.name ≡ name) }
-    ensures here { IfErr result (λ e. is_failure e ≡ false) }
+    ensures here { IfErr result (λ e. is_inner e ≡ true) }
 {
     let edition = written(edition)?;
     let version = written(version)?;
@@ -468,6 +468,7 @@ fn named_of(
 }
 
 /// The library of a package.
+#[tactic(auto, using(crate::proofs::Refusals::inner_laws))]
 pub fn library_of<P: Place>(
     place: &mut P,
     alloc: Global,

@@ -6,7 +6,7 @@ ghost use Rattle.std.specs.List.{ends_with, list_any};
 ghost use Rattle.pb_place.specs.Paths.{is_at_or_below};
 ghost use Rattle.pb_place.specs.World.{World, from_nothing, listed};
 ghost use Rattle.pb_report.specs.Faults.{Told, is_outside};
-ghost use Rattle.pb_build.specs.Causes.{Reads, is_failure};
+ghost use Rattle.pb_build.specs.Causes.{Reads, is_inner};
 ghost use Rattle.pb_build.specs.Package.{is_manifest_name, no_manifest, refused, read_found, manifest_in, asks_script, package_is_unserved, has_unserved_table, has_file, has_file_below, HasName};
 
 use crate::device::device;
@@ -48,7 +48,7 @@ fn is_manifest_name(path: &PathText) -> bool
 /// The refusal of a path at which no manifest may be read.
 fn no_manifest(alloc: Global, path: &PathText) -> BuildFault
     ensures refusal { is_outside result ≡ false → result ≡ no_manifest path.now }
-    ensures here { is_failure result ≡ false }
+    ensures here { is_inner result ≡ true }
 {
     match path.copy(alloc) {
         Ok(path) => BuildFault::Plan(Refusal::Load(LoadFault::NoManifest(path))),
@@ -59,7 +59,7 @@ fn no_manifest(alloc: Global, path: &PathText) -> BuildFault
 /// The refusal of a manifest.
 pub fn refused(alloc: Global, path: &PathText, fault: ManifestFault) -> BuildFault
     ensures refusal { is_outside result ≡ false → result ≡ refused path.now fault }
-    ensures here { is_failure result ≡ false }
+    ensures here { is_inner result ≡ true }
 {
     match path.copy(alloc) {
         Ok(path) => BuildFault::Plan(Refusal::Load(LoadFault::Manifest(path, fault))),
@@ -72,7 +72,7 @@ pub fn refused(alloc: Global, path: &PathText, fault: ManifestFault) -> BuildFau
 fn read_found(alloc: Global, path: &PathText, found: Option<Bytes>) -> Result<Manifest, BuildFault>
     ensures told { Told result (read_found path.now found) }
     ensures named { IfOk result (λ m. HasName m.package) }
-    ensures here { IfErr result (λ e. is_failure e ≡ false) }
+    ensures here { IfErr result (λ e. is_inner e ≡ true) }
 {
     let bytes = match found {
         Some(bytes) => bytes,

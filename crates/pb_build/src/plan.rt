@@ -8,7 +8,7 @@ ghost use Rattle.pb_build.specs.Package.{served, has_unserved_file, HasName};
 ghost use Rattle.pb_build.specs.Plan.{library_in, unit_in, unit_of, planned};
 ghost use Rattle.pb_build.specs.Unit.{key_of, out_of};
 ghost use Rattle.pb_report.specs.Faults.{Told, is_outside};
-ghost use Rattle.pb_build.specs.Causes.{Reads, is_failure};
+ghost use Rattle.pb_build.specs.Causes.{Reads, is_inner};
 ghost use Rattle.pb_build.specs.Setup.{setup_of};
 
 use crate::library::{has_own_file, library_of, own_path};
@@ -78,7 +78,7 @@ fn served(
     requires { HasName found.package }
     ensures told { Told result (served manifest.now found) }
     ensures named { IfOk result (λ parts. is_name parts.0.name ≡ true) }
-    ensures here { IfErr result (λ e. is_failure e ≡ false) }
+    ensures here { IfErr result (λ e. is_inner e ≡ true) }
 {
     if has_unserved_table(&found) {
         return Err(refused(alloc, manifest, ManifestFault::UnsupportedTable));
@@ -127,6 +127,7 @@ fn has_unserved_file<P: Place>(
 }
 
 /// The unit of a package in whose folder nothing stands that a build does not serve yet.
+#[tactic(auto, using(crate::proofs::Refusals::inner_laws))]
 fn library_in<P: Place>(
     place: &mut P,
     alloc: Global,

@@ -6,7 +6,7 @@ ghost use Rattle.pb_directive.specs.Lines.{lines_of};
 ghost use Rattle.pb_place.specs.World.{World, from_nothing};
 ghost use Rattle.pb_place.specs.Counts.{up};
 ghost use Rattle.pb_report.specs.Faults.{Told, is_outside};
-ghost use Rattle.pb_build.specs.Causes.{Starts, is_failure, is_refusal};
+ghost use Rattle.pb_build.specs.Causes.{Starts, is_inner, is_refusal};
 ghost use Rattle.pb_build.specs.BuildResult.{version_of, Inside};
 ghost use Rattle.pb_build.specs.Outcome.{is_too_long, is_host, says_host, toolchain_in};
 
@@ -49,7 +49,7 @@ fn says_host(stdout: &[u8]) -> bool
 /// What the compiler says of its version, from its answer.
 fn toolchain_in(ended: Ended) -> Result<Bytes, BuildFault>
     ensures answer { result ≡ toolchain_in ended }
-    ensures here { IfErr result (λ e. is_failure e ≡ false) }
+    ensures here { IfErr result (λ e. is_inner e ≡ true) }
     ensures begun { IfErr result (λ e. is_refusal e ≡ false) }
 {
     let Ended {
