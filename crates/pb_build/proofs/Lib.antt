@@ -2,6 +2,7 @@ pub mod Courses
 pub mod Keys
 pub mod Names
 pub mod Refusals
+pub mod StepsTaken
 pub mod Setups
 pub mod Sources
 pub mod Told

@@ -7,5 +7,6 @@ pub mod Outcome
 pub mod Package
 pub mod Plan
 pub mod Report
+pub mod Session
 pub mod Setup
 pub mod Unit

@@ -1,12 +1,14 @@
 //! Sessions in memory: edits and builds, one after another.
 
-ghost use Rattle.std.specs.Prelude.{◌≡◌, ◌≤◌, length, IfOk, IfErr};
+ghost use Rattle.std.specs.Prelude.{◌≡◌, [], IfOk, OnOk};
+ghost use Rattle.pb_build.specs.Session.{Builds, Step, Course, moment};
+ghost use Rattle.pb_build.specs.declared.sessions.Answer.{Answer};
 
 use crate::builder::build;
 use pb_data::Items;
 use pb_place::{Child, Memory, Out};
 use pb_report::{BuildFault, Summary};
-use pb_session::SessionStep;
+use pb_session::{Options, SessionStep};
 use std::alloc::{AllocError, Global};
 
 /// What one build of a session answered.
@@ -16,53 +18,57 @@ pub struct Answer {
     pub result: Result<Summary, BuildFault>,
 }
 
-/// Takes a step. An edit has no answer.
+/// Builds, and adds the answer to those of the builds before it.
+fn add_build<C: Child, O: Out>(
+    alloc: Global,
+    memory: &mut Memory<C>,
+    out: &mut O,
+    options: &Options,
+    answers: &mut Items<Answer>,
+) -> Result<(), AllocError>
+    ensures { OnOk result ((answer : Answer) × Builds C.answers options.now answer (moment memory.old (O.taken out.old) answers.old) (moment memory.new (O.taken out.new) answers.new)) }
+{
+    let result = build(alloc, memory, out, options);
+    answers.push(Answer { result })?;
+    Ok(())
+}
+
+/// Takes a step. A build adds its answer to those of the builds before it; an edit has none.
 fn take_step<C: Child, O: Out>(
     alloc: Global,
     memory: &mut Memory<C>,
     out: &mut O,
     step: &SessionStep,
-) -> Result<Option<Answer>, AllocError> {
+    answers: &mut Items<Answer>,
+) -> Result<(), AllocError>
+    ensures { OnOk result (Step C.answers step.now (moment memory.old (O.taken out.old) answers.old) (moment memory.new (O.taken out.new) answers.new)) }
+{
     match step {
-        SessionStep::Write(path, text) => {
-            memory.put(alloc, path, text.as_bytes())?;
-            Ok(None)
-        }
-        SessionStep::Remove(path) => {
-            memory.remove(alloc, path)?;
-            Ok(None)
-        }
-        SessionStep::Set(name, value) => {
-            memory.set(alloc, name.as_str(), value.as_str())?;
-            Ok(None)
-        }
-        SessionStep::Unset(name) => {
-            memory.unset(alloc, name.as_str())?;
-            Ok(None)
-        }
-        SessionStep::Build(options) => {
-            let result = build(alloc, memory, out, options);
-            Ok(Some(Answer { result }))
-        }
+        SessionStep::Write(path, text) => memory.put(alloc, path, text.as_bytes()),
+        SessionStep::Remove(path) => memory.remove(alloc, path),
+        SessionStep::Set(name, value) => memory.set(alloc, name.as_str(), value.as_str()),
+        SessionStep::Unset(name) => memory.unset(alloc, name.as_str()),
+        SessionStep::Build(options) => add_build(alloc, memory, out, options, answers),
     }
 }
 
 /// Takes steps in turn over a place in memory, and gives an answer for each build. The message lines of
 /// all builds go to one sink. The one fault is want of memory outside a build; within one it is that
 /// build's answer.
+///
+/// Each build gives what its own world gives from nothing: its answer, its lines and its files are those of
+/// `result_of` in the world that the steps before it have left, wherever the edits lie.
 pub fn session<C: Child, O: Out>(
     alloc: Global,
     memory: &mut Memory<C>,
     out: &mut O,
     steps: &[SessionStep],
 ) -> Result<Items<Answer>, AllocError>
-    ensures { IfOk result (λ answers. length answers ≤ length steps.now) }
+    ensures { IfOk result (λ answers. Course C.answers steps.now (moment memory.old (O.taken out.old) []) (moment memory.new (O.taken out.new) answers)) }
 {
     let mut answers = Items::new(alloc);
     for step in steps {
-        if let Some(answer) = take_step(alloc, memory, out, step)? {
-            answers.push(answer)?;
-        }
+        take_step(alloc, memory, out, step, &mut answers)?;
     }
     Ok(answers)
 }

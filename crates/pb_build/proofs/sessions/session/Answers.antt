@@ -1,0 +1,19 @@
+use Rattle.std.proofs.Common.{[], ap}
+use Rattle.pb_build.specs.Session.{moment}
+use Rattle.pb_build.proofs.StepsTaken.{none_taken, step_taken, steps_taken}
+use Rattle.pb_build.proofs.sessions.session.Goals as goal
+
+pub loop-step-init : goal.loop-step-init
+loop-step-init g c =
+    none_taken g.C.Child.answers c.args.steps.now (moment c.args.memory.now (g.O.Out.taken c.args.out.now) []) _ (ap (moment c.args.memory.now (g.O.Out.taken c.args.out.now)) c.new-answers.ensures)
+
+pub loop-step-preserved : goal.loop-step-preserved
+loop-step-preserved g c =
+    step_taken g.C.Child.answers c.args.steps.now c.loop-step.step-index c.step-item.result (moment c.args.memory.now (g.O.Out.taken c.args.out.now) [])
+    (moment c.loop-step.memory (g.O.Out.taken c.loop-step.out) c.loop-step.answers) (moment c.take_step.new.memory (g.O.Out.taken c.take_step.new.out) c.take_step.new.answers) c.loop-step-test.true
+    c.step-item.is c.loop-step.invariant c.in_ok-take_step.ensures
+
+pub returns : goal.returns
+returns g c =
+    steps_taken g.C.Child.answers c.args.steps.now c.loop-step.step-index (moment c.args.memory.now (g.O.Out.taken c.args.out.now) [])
+    (moment c.loop-step.memory (g.O.Out.taken c.loop-step.out) c.loop-step.answers) c.loop-step-test.false c.loop-step.invariant
