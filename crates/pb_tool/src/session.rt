@@ -5,7 +5,7 @@ ghost use Rattle.std.specs.Io.KnownBytes.{Appends};
 ghost use Rattle.pb_place.specs.Counts.{up};
 ghost use Rattle.pb_session.specs.Sessions.{session_of};
 ghost use Rattle.pb_session.specs.declared.fault.BadSession.TheVariants.{BadForm};
-ghost use Rattle.pb_tool.specs.Session.{IsSession, Refused, lines_of};
+ghost use Rattle.pb_tool.specs.Session.{Refused, SessionWritten, lines_of};
 
 use pb_build::{Answer, session};
 use pb_mini::Mini;
@@ -52,7 +52,7 @@ pub fn write_results<O: Out>(
 
 /// Runs a session and writes its lines. Whether all result lines were written.
 fn carry_out<O: Out>(alloc: Global, bytes: &[u8], out: &mut O) -> Result<bool, BadSession>
-    ensures read { OnOk result (IsSession bytes.now) }
+    ensures written { IfOk result (λ whole. IsTrue whole → SessionWritten bytes.now (O.taken out.old) (O.taken out.new)) }
     ensures untouched { session_of bytes.now ≡ Err BadForm → out.new ≡ out.old }
 {
     let steps = read_session(alloc, bytes)?;
@@ -72,7 +72,7 @@ fn carry_out<O: Out>(alloc: Global, bytes: &[u8], out: &mut O) -> Result<bool, B
 /// line says so.
 pub fn run_session<O: Out, E: Out>(alloc: Global, bytes: &[u8], out: &mut O, err: &mut E) -> u8
     ensures status { (result ≡ 0) ⊎ (result ≡ 1) }
-    ensures read { result ≡ 0 → IsSession bytes.now }
+    ensures written { result ≡ 0 → SessionWritten bytes.now (O.taken out.old) (O.taken out.new) }
     ensures untouched { session_of bytes.now ≡ Err BadForm → out.new ≡ out.old }
     ensures quiet { result ≡ 0 → err.new ≡ err.old }
     ensures told { result ≡ 1 → Refused (E.taken err.old) (E.taken err.new) (E.faults err.old) (E.faults err.new) }
