@@ -1,17 +1,18 @@
 -- Laws of the reader, each about a definition, in the words of the rules.
-use Rattle.std.specs.Prelude.{◌≡◌, ◌≢◌, ◌<◌, ℕ, List, [], ◌∷◌, if◌then◌else◌, length, codes, map, Some, None, Ok, Err}
+use Rattle.std.specs.Prelude.{◌≡◌, ◌≢◌, ◌<◌, ℕ, true, List, [], ◌∷◌, if◌then◌else◌, length, codes, map, Some, None, Ok, Err}
 use Rattle.toml.specs.Data.{Data, Items, no_items, item, Members, no_members, member, same_key}
 use Rattle.pb_manifest.specs.Keys.{spelled}
 use Rattle.pb_manifest.specs.Values.{Text, Read, value_at, each}
 use Rattle.pb_manifest.specs.Binaries.{binary_of}
 use Rattle.pb_manifest.specs.Document.{manifest_of, greatest_length}
-use Rattle.pb_manifest.specs.Letters.{underscored_byte}
+use Rattle.pb_manifest.specs.Letters.{is_name, underscored_byte}
 use Rattle.pb_manifest.specs.Library.{library_name}
 use Rattle.pb_manifest.specs.Package.{package_of}
 use Rattle.pb_manifest.specs.declared.key.Key.{Key}
 use Rattle.pb_manifest.specs.declared.key.Key.TheVariants as key
 use Rattle.pb_manifest.specs.declared.fault.ManifestFault.TheVariants.{TooLarge}
 use Rattle.pb_manifest.specs.declared.inherited.Inherited.TheVariants.{Written}
+use Rattle.pb_manifest.specs.declared.manifest.Manifest.{Manifest}
 use Rattle.pb_manifest.specs.declared.package.Edition.TheVariants.{E2015}
 use Rattle.pb_manifest.specs.declared.package.Package.{Package}
 use Rattle.pb_manifest.specs.declared.target.Binary.{Binary}
@@ -33,6 +34,10 @@ PassesOver read = (name : Text) (ms : Members) → IsUnnamed name → read (with
 -- a manifest over the size is refused, whatever it says
 abbrev pub RefusesLarge : Type 0
 RefusesLarge = (bytes : List ℕ) → greatest_length < length bytes → manifest_of bytes ≡ Err TooLarge
+
+-- a package that was read has a name of the letters of package names, which is not empty
+abbrev pub NamesPackages : Type 0
+NamesPackages = (bytes : List ℕ) (m : Manifest) (p : Package) → manifest_of bytes ≡ Ok m → m.package ≡ Some p → is_name p.name ≡ true
 
 -- the edition and the version of a package that writes none
 abbrev pub DefaultEdition : Type 0

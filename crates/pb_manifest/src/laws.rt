@@ -5,7 +5,7 @@ ghost use Rattle.std.specs.Prelude.{◌≡◌, ◌<◌, ℕ, List};
 ghost use Rattle.pb_manifest.specs.Binaries.{binary_keys};
 ghost use Rattle.pb_manifest.specs.Dependencies.{dependency_keys};
 ghost use Rattle.pb_manifest.specs.Document.{document_of};
-ghost use Rattle.pb_manifest.specs.Laws.{PassesOver, RefusesLarge, DefaultEdition, DefaultVersion, DefaultLibraryName, KeepsOrder};
+ghost use Rattle.pb_manifest.specs.Laws.{PassesOver, RefusesLarge, NamesPackages, DefaultEdition, DefaultVersion, DefaultLibraryName, KeepsOrder};
 ghost use Rattle.pb_manifest.specs.Library.{library_of};
 ghost use Rattle.pb_manifest.specs.Package.{package_of};
 ghost use Rattle.pb_manifest.specs.Profiles.{profile_keys, profile_of_table};
@@ -30,6 +30,12 @@ pub fn unnamed_keys_change_nothing()
 /// A manifest over the size is refused, whatever it says.
 pub fn large_manifests_are_refused()
     ensures { RefusesLarge }
+{}
+
+/// The package of a manifest that was read has a name of ASCII letters, digits, `-` and `_`, and
+/// it is not empty (The Cargo Book, Manifest Format).
+pub fn packages_have_names()
+    ensures { NamesPackages }
 {}
 
 /// A package that writes no edition has 2015.
