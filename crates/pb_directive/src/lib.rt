@@ -26,3 +26,5 @@ pub use read::read_directives;
 
 #[cfg(test)]
 mod tests;
+#[cfg(test)]
+mod tests_metadata;

@@ -27,16 +27,16 @@ key_of table.Build = key.BuildDependencies
 key_of _ = key.Dependencies
 
 -- a source that is not supported is refused here
-abbrev pub refused_where : Bool → Read Bool
+abbrev pub refused_where : Bool → Read (Unit {0})
 refused_where true = Err UnsupportedSource
-refused_where false = Ok false
+refused_where false = Ok tt
 
 -- `workspace = true`, and nothing else where the key is there
-abbrev pub workspace_in : Option Data → Bool → Read Bool
-workspace_in None taken = Ok false
-workspace_in (Some d) taken = if taken then Ok true else Err (BadKind key.Workspace)
+abbrev pub workspace_in : Option Data → Bool → Read (Unit {0})
+workspace_in None taken = Ok tt
+workspace_in (Some d) taken = if taken then Ok tt else Err (BadKind key.Workspace)
 
-abbrev pub workspace_at : Members → Read Bool
+abbrev pub workspace_at : Members → Read (Unit {0})
 workspace_at ms = workspace_in (value_at key.Workspace ms) (takes_workspace ms)
 
 -- `default-features`, `features`, `git`, `optional`, `package`

@@ -1,5 +1,5 @@
 -- What the bytes of a manifest say, or why they are refused.
-use Rattle.std.specs.Prelude.{ℕ, List, Bool, true, false, ◌||◌, if◌then◌else◌, nat_lt, length, Option, Some, None, Ok, Err, codes}
+use Rattle.std.specs.Prelude.{ℕ, List, Bool, false, ◌||◌, if◌then◌else◌, nat_lt, length, Option, Some, None, Ok, Err, codes}
 use Rattle.std.specs.Str.{bytes_eq, is_utf8}
 use Rattle.toml.specs.Data.{Data, Members, as_str, as_table}
 use Rattle.toml.specs.Parse.{parse_document}
@@ -24,8 +24,8 @@ use Rattle.pb_manifest.specs.declared.package.Package.{Package}
 use Rattle.pb_manifest.specs.declared.target.Library.{Library}
 
 -- no table is there that is not supported
-abbrev pub supported : Members → Read Bool
-supported ms = if has key.Patch ms || has key.Replace ms || has key.Target ms then Err UnsupportedTable else Ok true
+abbrev pub supported : Members → Read (Unit {0})
+supported ms = if has key.Patch ms || has key.Replace ms || has key.Target ms then Err UnsupportedTable else Ok tt
 
 abbrev pub text_in : Option Data → Option Text
 text_in None = None
@@ -48,8 +48,8 @@ abbrev pub asks_old_resolver : Key → Members → Bool
 asks_old_resolver k ms = says_one (table_in (value_at k ms))
 
 -- resolver 1 is asked for nowhere
-abbrev pub not_old : Members → Read Bool
-not_old ms = if asks_old_resolver key.Package ms || asks_old_resolver key.Workspace ms then Err OldResolver else Ok true
+abbrev pub not_old : Members → Read (Unit {0})
+not_old ms = if asks_old_resolver key.Package ms || asks_old_resolver key.Workspace ms then Err OldResolver else Ok tt
 
 -- a manifest without `[workspace]` has `[package]`
 abbrev pub package_in : Bool → Option Members → Read (Option Package)

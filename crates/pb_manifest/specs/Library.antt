@@ -1,5 +1,5 @@
 -- The table `[lib]` (The Cargo Book, Manifest Format and Cargo Targets).
-use Rattle.std.specs.Prelude.{List, Bool, false, if◌then◌else◌, Option, Some, None, Ok, Err, codes}
+use Rattle.std.specs.Prelude.{List, Bool, if◌then◌else◌, Option, Some, None, Ok, Err, codes}
 use Rattle.std.specs.Str.{bytes_eq}
 use Rattle.toml.specs.Data.{Data, Members}
 use Rattle.pb_data.specs.Gives.{◌>>=◌}
@@ -38,10 +38,10 @@ abbrev pub crate_name_at : Members → Read (Option Text)
 crate_name_at ms = text_at key.Name ms >>= crate_name_in
 
 -- `proc-macro = true` asks for a crate type that is not served
-abbrev pub proc_macro_in : Option Bool → Read Bool
-proc_macro_in found = if is_true found then Err UnsupportedCrateType else Ok false
+abbrev pub proc_macro_in : Option Bool → Read (Unit {0})
+proc_macro_in found = if is_true found then Err UnsupportedCrateType else Ok tt
 
-abbrev pub proc_macro_at : Members → Read Bool
+abbrev pub proc_macro_at : Members → Read (Unit {0})
 proc_macro_at ms = truth_at key.ProcMacro ms >>= proc_macro_in
 
 -- the keys of `[lib]`, in byte order

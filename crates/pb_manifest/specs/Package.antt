@@ -82,12 +82,12 @@ abbrev pub inherited_readme_at : Members → Read (Option (Inherited Readme))
 inherited_readme_at ms = optional (inheritable key.Readme readme_of) (value_at key.Readme ms)
 
 -- a resolver other than the first: `"2"`, or `"3"`, which is read as `"2"`
-abbrev pub resolver_in : Option Text → Read Bool
-resolver_in None = Ok false
-resolver_in (Some text) = if bytes_eq text (codes "2") || bytes_eq text (codes "3") then Ok true else Err (BadKind key.Resolver)
+abbrev pub resolver_in : Option Text → Read (Unit {0})
+resolver_in None = Ok tt
+resolver_in (Some text) = if bytes_eq text (codes "2") || bytes_eq text (codes "3") then Ok tt else Err (BadKind key.Resolver)
 
--- whether a resolver is written
-abbrev pub resolver_at : Members → Read Bool
+-- the resolver, where one is written, is none of another kind
+abbrev pub resolver_at : Members → Read (Unit {0})
 resolver_at ms = text_at key.Resolver ms >>= resolver_in
 
 -- the keys in byte order, `authors` to `edition`

@@ -95,25 +95,25 @@ struct LastKeys {
 }
 
 /// Refuses a source that is not supported, where it is to be refused.
-fn refused_where(refused: bool) -> Result<bool, ManifestFault>
+fn refused_where(refused: bool) -> Result<(), ManifestFault>
     ensures { result ≡ refused_where refused }
 {
     if refused {
         Err(ManifestFault::UnsupportedSource)
     } else {
-        Ok(false)
+        Ok(())
     }
 }
 
-/// Whether the entry is taken from the workspace: `workspace` says true where it is there.
-fn workspace_at(table: &Table) -> Result<bool, ManifestFault>
+/// Refuses a `workspace` that does not say true.
+fn workspace_at(table: &Table) -> Result<(), ManifestFault>
     ensures { result ≡ workspace_at (table_view table.now) }
 {
     match value_at(table, Key::Workspace) {
-        None => Ok(false),
+        None => Ok(()),
         Some(_) => {
             if takes_workspace(table) {
-                Ok(true)
+                Ok(())
             } else {
                 Err(ManifestFault::BadKind(Key::Workspace))
             }
@@ -131,7 +131,7 @@ fn first_keys(
 {
     let default_features = truth_at(table, Key::DefaultFeatures)?;
     let features = listed_texts_at(alloc, table, Key::Features)?;
-    let _git = refused_where(has(table, Key::Git) && !which.keeps())?;
+    refused_where(has(table, Key::Git) && !which.keeps())?;
     let optional = truth_at(table, Key::Optional)?.unwrap_or(false);
     let package = text_at(alloc, table, Key::Package)?;
     Ok(FirstKeys {
@@ -175,10 +175,10 @@ fn last_keys(
     ensures { Gives result (last_keys which (table_view table.now)) }
 {
     let path = path_at(alloc, table, Key::Path)?;
-    let _lacking = refused_where(lacks_path(which, &path, table))?;
-    let _registry = refused_where(has(table, Key::Registry) && !which.keeps())?;
+    refused_where(lacks_path(which, &path, table))?;
+    refused_where(has(table, Key::Registry) && !which.keeps())?;
     let version = requirement_at(alloc, table)?;
-    let _workspace = workspace_at(table)?;
+    workspace_at(table)?;
     Ok(LastKeys {
         source: source_of(which, path, table),
         version,
@@ -217,7 +217,7 @@ fn version_alone(
 ) -> Result<Dependency, ManifestFault>
     ensures { Gives result (version_alone which name.now version.now) }
 {
-    let _lacking = refused_where(!which.keeps())?;
+    refused_where(!which.keeps())?;
     let requirement = Requirement::read(alloc, Text::from_str(alloc, version)?)?;
     let key = Text::from_str(alloc, name)?;
     Ok(Dependency {

@@ -41,13 +41,13 @@ struct Tables {
 }
 
 /// Refuses the tables that are not supported.
-fn supported(table: &Table) -> Result<bool, ManifestFault>
+fn supported(table: &Table) -> Result<(), ManifestFault>
     ensures { result ≡ supported (table_view table.now) }
 {
     if has(table, Key::Patch) || has(table, Key::Replace) || has(table, Key::Target) {
         Err(ManifestFault::UnsupportedTable)
     } else {
-        Ok(true)
+        Ok(())
     }
 }
 
@@ -72,13 +72,13 @@ fn asks_old_resolver(table: &Table, key: Key) -> bool
 }
 
 /// Refuses resolver 1.
-fn not_old(table: &Table) -> Result<bool, ManifestFault>
+fn not_old(table: &Table) -> Result<(), ManifestFault>
     ensures { result ≡ not_old (table_view table.now) }
 {
     if asks_old_resolver(table, Key::Package) || asks_old_resolver(table, Key::Workspace) {
         Err(ManifestFault::OldResolver)
     } else {
-        Ok(true)
+        Ok(())
     }
 }
 
@@ -166,8 +166,8 @@ fn tables_of(alloc: Global, table: &Table) -> Result<Tables, ManifestFault>
 fn document_of(alloc: Global, table: &Table) -> Result<Manifest, ManifestFault>
     ensures { Gives result (document_of (table_view table.now)) }
 {
-    let _supported = supported(table)?;
-    let _new = not_old(table)?;
+    supported(table)?;
+    not_old(table)?;
     let targets = targets_of(alloc, table)?;
     let tables = tables_of(alloc, table)?;
     Ok(Manifest {

@@ -278,14 +278,14 @@ fn inherited_readme_at(
     }
 }
 
-/// Whether a resolver is written; it has to be `"2"` or `"3"`.
-pub(crate) fn resolver_at(alloc: Global, table: &Table) -> Result<bool, ManifestFault>
+/// Refuses a resolver that is neither `"2"` nor `"3"`.
+pub(crate) fn resolver_at(alloc: Global, table: &Table) -> Result<(), ManifestFault>
     ensures { Gives result (resolver_at (table_view table.now)) }
 {
     match text_at(alloc, table, Key::Resolver)? {
-        None => Ok(false),
+        None => Ok(()),
         Some(text) => match text.as_str() {
-            "2" | "3" => Ok(true),
+            "2" | "3" => Ok(()),
             _ => Err(ManifestFault::BadKind(Key::Resolver)),
         },
     }
@@ -333,7 +333,7 @@ fn last_keys(alloc: Global, table: &Table) -> Result<LastKeys, ManifestFault>
 {
     let readme = inherited_readme_at(alloc, table)?;
     let repository = inherited_text_at(alloc, table, Key::Repository)?;
-    let _resolver = resolver_at(alloc, table)?;
+    resolver_at(alloc, table)?;
     let rust_version = inherited_text_at(alloc, table, Key::RustVersion)?;
     let version = inherited_version_at(alloc, table)?;
     Ok(LastKeys {

@@ -113,12 +113,12 @@ fn crate_name_at(alloc: Global, table: &Table) -> Result<Option<Text>, ManifestF
 }
 
 /// Refuses `proc-macro = true`.
-fn proc_macro_at(table: &Table) -> Result<bool, ManifestFault>
+fn proc_macro_at(table: &Table) -> Result<(), ManifestFault>
     ensures { result ≡ proc_macro_at (table_view table.now) }
 {
     match truth_at(table, Key::ProcMacro)? {
         Some(true) => Err(ManifestFault::UnsupportedCrateType),
-        _ => Ok(false),
+        _ => Ok(()),
     }
 }
 
@@ -129,7 +129,7 @@ pub(crate) fn library_of(alloc: Global, table: &Table) -> Result<Library, Manife
     let crate_types = crate_types_at(alloc, table)?;
     let name = crate_name_at(alloc, table)?;
     let path = path_at(alloc, table, Key::Path)?;
-    let _proc_macro = proc_macro_at(table)?;
+    proc_macro_at(table)?;
     Ok(Library {
         crate_types,
         name,

@@ -127,7 +127,7 @@ pub(crate) fn workspace_of(alloc: Global, table: &Table) -> Result<WorkspaceTabl
     let exclude = listed_paths_at(alloc, table, Key::Exclude)?;
     let members = listed_paths_at(alloc, table, Key::Members)?;
     let package = workspace_package_at(alloc, table)?;
-    let _resolver = resolver_at(alloc, table)?;
+    resolver_at(alloc, table)?;
     Ok(WorkspaceTable {
         members,
         default_members,

@@ -15,4 +15,6 @@ pub use mini::{Mini, answer};
 #[cfg(test)]
 mod tests;
 #[cfg(test)]
+mod tests_command_line;
+#[cfg(test)]
 mod tests_view;

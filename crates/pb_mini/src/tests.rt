@@ -41,14 +41,19 @@ fn one_file(alloc: Global, path: &str, bytes: &[u8]) -> Result<Files, AllocError
 }
 
 /// The answer to words where one file is shown.
-fn answer_to(alloc: Global, words: &str, path: &str, source: &[u8]) -> Result<Reply, ViewFault> {
+pub fn answer_to(
+    alloc: Global,
+    words: &str,
+    path: &str,
+    source: &[u8],
+) -> Result<Reply, ViewFault> {
     let words = words_of(alloc, words)?;
     let view = one_file(alloc, path, source)?;
     answer(alloc, words.as_slice(), &[], &view)
 }
 
 /// Asserts what a reply has.
-fn assert_reply(
+pub fn assert_reply(
     rt: &impl Abort,
     reply: &Reply,
     status: i32,
@@ -66,87 +71,101 @@ fn assert_reply(
     }
 }
 
+/// Sources of `WORDS`: the bytes, the status, the standard error, and the image of a good one.
+const SOURCES: [(&[u8], i32, &str, &str); 18] = [
+    (b"", 0, "", "mini lib a\n"),
+    (b"print x", 0, "", "mini lib a\nprint x\n"),
+    (b"print y\n", 0, "", "mini lib a\nprint y\n"),
+    (
+        b"warn old",
+        0,
+        "{\"level\":\"warning\",\"message\":\"old\",\"line\":1}\n",
+        "mini lib a\n",
+    ),
+    (
+        b"fail no",
+        1,
+        "{\"level\":\"error\",\"message\":\"no\",\"line\":1}\n",
+        "",
+    ),
+    (b"# warn x\n\n#\n", 0, "", "mini lib a\n"),
+    (
+        b"show A\nread b c\nput d  e\nexit 3\nprint\n",
+        0,
+        "",
+        "mini lib a\nshow A\nread b c\nput d  e\nexit 3\nprint\n",
+    ),
+    (
+        b"\n#\nwarn\n\nprint x\r\nwarn  y ",
+        0,
+        "{\"level\":\"warning\",\"message\":\"\",\"line\":3}\n{\"level\":\"warning\",\"message\":\" y \",\"line\":6}\n",
+        "mini lib a\nprint x\r\n",
+    ),
+    (
+        b"warn a\nfail b\nwarn c",
+        1,
+        "{\"level\":\"warning\",\"message\":\"a\",\"line\":1}\n{\"level\":\"error\",\"message\":\"b\",\"line\":2}\n{\"level\":\"warning\",\"message\":\"c\",\"line\":3}\n",
+        "",
+    ),
+    (
+        b" warn x",
+        1,
+        "{\"level\":\"error\",\"message\":\"unknown line\",\"line\":1}\n",
+        "",
+    ),
+    (
+        b"print x\nWarn x",
+        1,
+        "{\"level\":\"error\",\"message\":\"unknown line\",\"line\":2}\n",
+        "",
+    ),
+    (
+        b"printx",
+        1,
+        "{\"level\":\"error\",\"message\":\"unknown line\",\"line\":1}\n",
+        "",
+    ),
+    (
+        b"print\tx",
+        1,
+        "{\"level\":\"error\",\"message\":\"unknown line\",\"line\":1}\n",
+        "",
+    ),
+    (
+        b"#\n#\n#\n#\n#\n#\n#\n#\n#\n#\n#\nwarn #x",
+        0,
+        "{\"level\":\"warning\",\"message\":\"#x\",\"line\":12}\n",
+        "mini lib a\n",
+    ),
+    (
+        b"\r\n",
+        1,
+        "{\"level\":\"error\",\"message\":\"unknown line\",\"line\":1}\n",
+        "",
+    ),
+    (
+        b"warn a\"b\\c\td\x01",
+        0,
+        "{\"level\":\"warning\",\"message\":\"a\\\"b\\\\c\\td\\u0001\",\"line\":1}\n",
+        "mini lib a\n",
+    ),
+    (
+        b"warn \xc3\xa9",
+        0,
+        "{\"level\":\"warning\",\"message\":\"\u{e9}\",\"line\":1}\n",
+        "mini lib a\n",
+    ),
+    (
+        b"warn \xc3",
+        1,
+        "{\"level\":\"error\",\"message\":\"no source\",\"line\":0}\n",
+        "",
+    ),
+];
+
 #[test]
 fn sources(rt: HostRuntime) -> Result<(), Fail> {
-    let cases: [(&[u8], i32, &str, &str); 16] = [
-        (b"", 0, "", "mini lib a\n"),
-        (b"print x", 0, "", "mini lib a\nprint x\n"),
-        (b"print y\n", 0, "", "mini lib a\nprint y\n"),
-        (
-            b"warn old",
-            0,
-            "{\"level\":\"warning\",\"message\":\"old\",\"line\":1}\n",
-            "mini lib a\n",
-        ),
-        (
-            b"fail no",
-            1,
-            "{\"level\":\"error\",\"message\":\"no\",\"line\":1}\n",
-            "",
-        ),
-        (b"# warn x\n\n#\n", 0, "", "mini lib a\n"),
-        (
-            b"show A\nread b c\nput d  e\nexit 3\nprint\n",
-            0,
-            "",
-            "mini lib a\nshow A\nread b c\nput d  e\nexit 3\nprint\n",
-        ),
-        (
-            b"\n#\nwarn\n\nprint x\r\nwarn  y ",
-            0,
-            "{\"level\":\"warning\",\"message\":\"\",\"line\":3}\n{\"level\":\"warning\",\"message\":\" y \",\"line\":6}\n",
-            "mini lib a\nprint x\r\n",
-        ),
-        (
-            b"warn a\nfail b\nwarn c",
-            1,
-            "{\"level\":\"warning\",\"message\":\"a\",\"line\":1}\n{\"level\":\"error\",\"message\":\"b\",\"line\":2}\n{\"level\":\"warning\",\"message\":\"c\",\"line\":3}\n",
-            "",
-        ),
-        (
-            b" warn x",
-            1,
-            "{\"level\":\"error\",\"message\":\"unknown line\",\"line\":1}\n",
-            "",
-        ),
-        (
-            b"print x\nWarn x",
-            1,
-            "{\"level\":\"error\",\"message\":\"unknown line\",\"line\":2}\n",
-            "",
-        ),
-        (
-            b"printx",
-            1,
-            "{\"level\":\"error\",\"message\":\"unknown line\",\"line\":1}\n",
-            "",
-        ),
-        (
-            b"\r\n",
-            1,
-            "{\"level\":\"error\",\"message\":\"unknown line\",\"line\":1}\n",
-            "",
-        ),
-        (
-            b"warn a\"b\\c\td\x01",
-            0,
-            "{\"level\":\"warning\",\"message\":\"a\\\"b\\\\c\\td\\u0001\",\"line\":1}\n",
-            "mini lib a\n",
-        ),
-        (
-            b"warn \xc3\xa9",
-            0,
-            "{\"level\":\"warning\",\"message\":\"\u{e9}\",\"line\":1}\n",
-            "mini lib a\n",
-        ),
-        (
-            b"warn \xc3",
-            1,
-            "{\"level\":\"error\",\"message\":\"no source\",\"line\":0}\n",
-            "",
-        ),
-    ];
-    for (source, status, stderr, image) in cases {
+    for (source, status, stderr, image) in SOURCES {
         let reply = answer_to(rt.alloc(), WORDS, "/w/src/lib.rs", source)?;
         if status == 0 {
             assert_reply(
@@ -160,133 +179,6 @@ fn sources(rt: HostRuntime) -> Result<(), Fail> {
         } else {
             assert_reply(&rt, &reply, 1, "", stderr, &[("a.d", DEP_INFO)]);
         }
-    }
-    Ok(())
-}
-
-#[test]
-fn command_lines(rt: HostRuntime) -> Result<(), Fail> {
-    let version = "mini 0.1.0\nhost: mini-unknown-none\n";
-    let reply = answer_to(rt.alloc(), "-vV", "/s", b"fail")?;
-    assert_reply(&rt, &reply, 0, version, "", &[]);
-    // the words, the source, the image and its name and bytes, and the dep-info and its name and bytes
-    let good = [
-        (
-            "--crate-name|a|--crate-type|lib|--out-dir|/o|/s",
-            "/s",
-            "liba.rlib",
-            "mini lib a\nprint x\n",
-            "a.d",
-            "/o/liba.rlib: /s\n",
-        ),
-        (
-            "/s|--out-dir|/o/./p/..|--crate-type|bin|--crate-type|lib|--crate-name|a",
-            "/s",
-            "a",
-            "mini bin a\nprint x\n",
-            "a.d",
-            "/o/a: /s\n",
-        ),
-        (
-            "--crate-name|a_b|--crate-type|rlib|--crate-type|bin|--out-dir|/o p|/q/../s  t",
-            "/s  t",
-            "liba_b.rlib",
-            "mini lib a_b\nprint x\n",
-            "a_b.d",
-            "/o\\ p/liba_b.rlib: /s\\ \\ t\n",
-        ),
-        (
-            "--crate-name|--emit=|--crate-type|-C|--out-dir|/|/s",
-            "/s",
-            "lib--emit=.rlib",
-            "mini lib --emit=\nprint x\n",
-            "--emit=.d",
-            "/lib--emit=.rlib: /s\n",
-        ),
-        (
-            "-C|n|--cfg|x|--check-cfg|y|--extern|z|-L|l|-l|m|--emit=|--error-format=|--crate-name|a|--crate-type|lib|--out-dir|/o|/s",
-            "/s",
-            "liba.rlib",
-            "mini lib a\nprint x\n",
-            "a.d",
-            "/o/liba.rlib: /s\n",
-        ),
-        (
-            "--crate-name|d/a|--crate-type|bin|--out-dir|/o|/s",
-            "/s",
-            "d/a",
-            "mini bin d/a\nprint x\n",
-            "d/a.d",
-            "/o/d/a: /s\n",
-        ),
-    ];
-    for (words, path, image_name, image, dep_info_name, dep_info) in good {
-        let reply = answer_to(rt.alloc(), words, path, b"print x")?;
-        assert_reply(
-            &rt,
-            &reply,
-            0,
-            "",
-            "",
-            &[(image_name, image), (dep_info_name, dep_info)],
-        );
-    }
-    let none = "{\"level\":\"error\",\"message\":\"no source\",\"line\":0}\n";
-    let missing = [
-        (
-            "--crate-name|a|--crate-type|lib|--out-dir|/o|/t",
-            "/o/liba.rlib: /t\n",
-        ),
-        (
-            "--crate-name|a|--crate-type|lib|--out-dir|/o|s",
-            "/o/liba.rlib:\n",
-        ),
-        (
-            "--crate-name|a|--crate-type|lib|--out-dir|/o|/s\0",
-            "/o/liba.rlib:\n",
-        ),
-    ];
-    for (words, dep_info) in missing {
-        let reply = answer_to(rt.alloc(), words, "/s", b"print x")?;
-        assert_reply(&rt, &reply, 1, "", none, &[("a.d", dep_info)]);
-    }
-    Ok(())
-}
-
-#[test]
-fn bad_command_lines(rt: HostRuntime) -> Result<(), Fail> {
-    let refused = [
-        "",
-        "-vV|-vV",
-        "--version",
-        "-vV|--crate-name|a|--crate-type|lib|--out-dir|/o|/s",
-        "--crate-type|lib|--out-dir|/o|/s",
-        "--crate-name|a|--out-dir|/o|/s",
-        "--crate-name|a|--crate-type|lib|/s",
-        "--crate-name|a|--crate-type|lib|--out-dir|/o",
-        "--crate-name|a|--crate-name|a|--crate-type|lib|--out-dir|/o|/s",
-        "--crate-name|a|--crate-type|lib|--out-dir|/o|--out-dir|/o|/s",
-        "--crate-name|a|--crate-type|lib|--out-dir|/o|/s|/s",
-        "--crate-name|a|--crate-type|lib|--out-dir|/o|/s|-O",
-        "--crate-name|a|--crate-type|lib|--out-dir|/o|/s|--edition|2021",
-        "--crate-name|a|--crate-type|lib|--out-dir|/o|/s|--crate-name",
-        "--crate-name|a|--crate-type|lib|--out-dir|/o|/s|--crate-type",
-        "--crate-name|a|--crate-type|lib|--out-dir|/o|/s|--out-dir",
-        "--crate-name|a|--crate-type|lib|--out-dir|/o|/s|-C",
-        "--crate-name|a|--crate-type|lib|--out-dir|/o|/s|--cfg",
-        "--crate-name|a|--crate-type|lib|--out-dir|/o|/s|--check-cfg",
-        "--crate-name|a|--crate-type|lib|--out-dir|/o|/s|--extern",
-        "--crate-name|a|--crate-type|lib|--out-dir|/o|/s|-L",
-        "--crate-name|a|--crate-type|lib|--out-dir|/o|/s|-l",
-        "--crate-name|a|--crate-type|lib|--out-dir|o|/s",
-        "--crate-name|a|--crate-type|lib|--out-dir|/o\0|/s",
-        "--crate-name||--crate-type|bin|--out-dir|/o|/s",
-        "--crate-name|../a|--crate-type|bin|--out-dir|/o|/s",
-        "--crate-name|a\0|--crate-type|lib|--out-dir|/o|/s",
-    ];
-    for words in refused {
-        let reply = answer_to(rt.alloc(), words, "/s", b"print x")?;
-        assert_reply(&rt, &reply, 2, "", "mini: bad command line\n", &[]);
     }
     Ok(())
 }
@@ -365,7 +257,7 @@ fn dep_info(rt: HostRuntime) -> Result<(), Fail> {
     let alloc = rt.alloc();
     let mut paths = Items::new(alloc);
     paths.push(PathText::parse(alloc, "/w/a b.rs")?)?;
-    paths.push(PathText::parse(alloc, "/w/c.rs")?)?;
+    paths.push(PathText::parse(alloc, "/w/c\\d.rs")?)?;
     let mut variables = Items::new(alloc);
     for (name, value) in [("V", None), ("W", Some("")), ("X", Some("a b"))] {
         let name = Text::from_str(alloc, name)?;
@@ -377,7 +269,8 @@ fn dep_info(rt: HostRuntime) -> Result<(), Fail> {
     }
     let output = PathText::parse(alloc, "/o p/c: d")?;
     let text = dep_info_text(alloc, &output, &Names { paths, variables })?;
-    let wanted = "/o\\ p/c:\\ d: /w/a\\ b.rs /w/c.rs\n# env-dep:V\n# env-dep:W=\n# env-dep:X=a b\n";
+    let wanted =
+        "/o\\ p/c:\\ d: /w/a\\ b.rs /w/c\\d.rs\n# env-dep:V\n# env-dep:W=\n# env-dep:X=a b\n";
     assert_eq!(rt; text.as_slice(), wanted.as_bytes());
     Ok(())
 }

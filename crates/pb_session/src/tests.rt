@@ -31,79 +31,108 @@ fn shown(alloc: Global, bytes: &[u8]) -> Result<String, AllocError> {
     Ok(text)
 }
 
+/// Session files and their steps.
+const GOOD: [(&str, &str); 17] = [
+    ("[]", ""),
+    (" [ ] ", ""),
+    (r#"[{"write":["/w/a.rs","x\n"]}]"#, "write</w/a.rs><x\n>;"),
+    (r#"[{"write":["/","x"]}]"#, "write</><x>;"),
+    (r#"[{"write":["/w/../x//./y/",""]}]"#, "write</x/y><>;"),
+    (r#"[{"remove":"/w"}]"#, "remove</w><>;"),
+    (r#"[{"remove":"/w/../x/"}]"#, "remove</x><>;"),
+    (r#"[{"remove":"/.."}]"#, "remove</><>;"),
+    (r#"[{"set":["A=B",""]}]"#, "set<A=B><>;"),
+    (r#"[{"unset":""}]"#, "unset<><>;"),
+    (r#"[{"build":{}}]"#, "build</w/Cargo.toml><cargo>;"),
+    (
+        r#"[{"build":{"manifest":"/v/x.toml"}}]"#,
+        "build</v/x.toml><cargo>;",
+    ),
+    (
+        r#"[{"build":{"manifest":"//v/./x"}}]"#,
+        "build</v/x><cargo>;",
+    ),
+    (r#"[{"set":["","\u0000"]}]"#, "set<><\0>;"),
+    (
+        r#"[{"build":{}},{"remove":"/a"},{"set":["b","c"]}]"#,
+        "build</w/Cargo.toml><cargo>;remove</a><>;set<b><c>;",
+    ),
+    // Of a key that stands twice the last value counts.
+    (
+        r#"[{"build":{},"build":{"manifest":"/b"}}]"#,
+        "build</b><cargo>;",
+    ),
+    (r#"[{"unset":"a","unset":"b"}]"#, "unset<b><>;"),
+];
+
 #[test]
 fn sessions(rt: HostRuntime) -> Result<(), Fail> {
-    for (session, want) in [
-        ("[]", ""),
-        (" [ ] ", ""),
-        (r#"[{"write":["/w/a.rs","x\n"]}]"#, "write</w/a.rs><x\n>;"),
-        (r#"[{"write":["/","x"]}]"#, "write</><x>;"),
-        (r#"[{"write":["/w/../x//./y/",""]}]"#, "write</x/y><>;"),
-        (r#"[{"remove":"/w"}]"#, "remove</w><>;"),
-        (r#"[{"set":["A=B",""]}]"#, "set<A=B><>;"),
-        (r#"[{"unset":""}]"#, "unset<><>;"),
-        (r#"[{"build":{}}]"#, "build</w/Cargo.toml><cargo>;"),
-        (
-            r#"[{"build":{"manifest":"/v/x.toml"}}]"#,
-            "build</v/x.toml><cargo>;",
-        ),
-        (
-            r#"[{"build":{}},{"remove":"/a"},{"set":["b","c"]}]"#,
-            "build</w/Cargo.toml><cargo>;remove</a><>;set<b><c>;",
-        ),
-        // Of a key that stands twice the last value counts.
-        (
-            r#"[{"build":{},"build":{"manifest":"/b"}}]"#,
-            "build</b><cargo>;",
-        ),
-        (r#"[{"unset":"a","unset":"b"}]"#, "unset<b><>;"),
-    ] {
+    for (session, want) in GOOD {
         let answer = shown(rt.alloc(), session.as_bytes())?;
         assert_eq!(rt; answer.as_str(), want, "{session}");
     }
     Ok(())
 }
 
+/// Files that are no session.
+const BAD: [&str; 46] = [
+    "",
+    "[",
+    "{}",
+    "null",
+    r#"{"build":{}}"#,
+    "[[]]",
+    "[{}]",
+    "[1]",
+    r#"[{"build":{}}] x"#,
+    r#"[{"build":{},"unset":"a"}]"#,
+    r#"[{"Build":{}}]"#,
+    r#"[{"fly":{}}]"#,
+    r#"[{"build":null}]"#,
+    r#"[{"build":[]}]"#,
+    r#"[{"build":{"manifest":null}}]"#,
+    r#"[{"build":{"manifest":"Cargo.toml"}}]"#,
+    r#"[{"build":{"manifest":"/w/\u0000"}}]"#,
+    r#"[{"build":{"lib":true}}]"#,
+    r#"[{"build":{"manifest":"/a","packages":[]}}]"#,
+    r#"[{"write":"/a"}]"#,
+    r#"[{"write":["/a"]}]"#,
+    r#"[{"write":["/a","b","c"]}]"#,
+    r#"[{"write":["a","b"]}]"#,
+    r#"[{"write":["/a",1]}]"#,
+    r#"[{"remove":""}]"#,
+    r#"[{"remove":["/a"]}]"#,
+    r#"[{"set":["a"]}]"#,
+    r#"[{"set":["a",true]}]"#,
+    r#"[{"unset":["a"]}]"#,
+    r#"[{"unset":1}]"#,
+    r#"[{"set":"a"}]"#,
+    r#"[{"set":["a","b","c"]}]"#,
+    r#"[{"set":{"a":"b"}}]"#,
+    r#"[{"remove":1}]"#,
+    r#"[{"remove":"/\u0000"}]"#,
+    r#"[{"write":["/a\u0000","b"]}]"#,
+    r#"[{"write":[1,"b"]}]"#,
+    r#"[{"write":[]}]"#,
+    r#"[{"":{}}]"#,
+    r#"[{"build":"/w/Cargo.toml"}]"#,
+    r#"[{"build":{"Manifest":"/a"}}]"#,
+    r#"[{"build":{"":"/a"}}]"#,
+    r#"[null]"#,
+    r#"[{"die":["a.target.lib","Died"]}]"#,
+    r#"[{"fuse":1}]"#,
+    r#"[{"build":{}},{"write":["a","b"]}]"#,
+];
+
 #[test]
 fn bad_sessions(rt: HostRuntime) -> Result<(), Fail> {
-    for session in [
-        "",
-        "[",
-        "{}",
-        "null",
-        r#"{"build":{}}"#,
-        "[[]]",
-        "[{}]",
-        "[1]",
-        r#"[{"build":{}}] x"#,
-        r#"[{"build":{},"unset":"a"}]"#,
-        r#"[{"Build":{}}]"#,
-        r#"[{"fly":{}}]"#,
-        r#"[{"build":null}]"#,
-        r#"[{"build":[]}]"#,
-        r#"[{"build":{"manifest":null}}]"#,
-        r#"[{"build":{"manifest":"Cargo.toml"}}]"#,
-        r#"[{"build":{"manifest":"/w/\u0000"}}]"#,
-        r#"[{"build":{"lib":true}}]"#,
-        r#"[{"build":{"manifest":"/a","packages":[]}}]"#,
-        r#"[{"write":"/a"}]"#,
-        r#"[{"write":["/a"]}]"#,
-        r#"[{"write":["/a","b","c"]}]"#,
-        r#"[{"write":["a","b"]}]"#,
-        r#"[{"write":["/a",1]}]"#,
-        r#"[{"remove":""}]"#,
-        r#"[{"remove":["/a"]}]"#,
-        r#"[{"set":["a"]}]"#,
-        r#"[{"set":["a",true]}]"#,
-        r#"[{"unset":["a"]}]"#,
-        r#"[{"die":["a.target.lib","Died"]}]"#,
-        r#"[{"fuse":1}]"#,
-        r#"[{"build":{}},{"write":["a","b"]}]"#,
-    ] {
+    for session in BAD {
         let answer = shown(rt.alloc(), session.as_bytes())?;
         assert_eq!(rt; answer.as_str(), "bad", "{session}");
     }
     let answer = shown(rt.alloc(), b"[{\"unset\":\"\xff\"}]")?;
     assert_eq!(rt; answer.as_str(), "bad");
+    let words = format!(in rt.alloc(); "{}", BadSession::BadForm)?;
+    assert_eq!(rt; words.as_str(), "bad session");
     Ok(())
 }
