@@ -1,0 +1,160 @@
+#!/usr/bin/env bash
+# Runs each example session again and again, each allocation of the program failing in turn, and compares what
+# comes with what may come. It makes the program in a folder of its own, which it takes away at the end, and runs
+# it over a malloc that fails when it is told to. EVERY=N tries each Nth allocation alone. The status is 1 where
+# anything else came than may come.
+#
+# What may come, where one allocation fails:
+# - the right output, where the program could do without that memory;
+# - status 0, and one build that says `fault memory OutOfMemory`: of its message lines the first so many whole
+#   ones, then the failing finish line; all other builds as they are;
+# - status 1, `error: bad session`, and the message lines of the first so many builds, whole: the memory was
+#   refused outside a build.
+#
+# Each example is also run once with its output into a full device: status 1 and `error: bad session`.
+set -euo pipefail
+top="$(cd "$(dirname "$0")/.." && pwd)"
+folder="$(mktemp -d)"
+trap 'rm -rf "$folder"' EXIT
+. "$top/bench/program.sh"
+program="${PROGRAM:-$(make_program "$top" "$folder")}"
+cat > "$folder/failing.c" <<'C'
+#include <errno.h>
+#include <fcntl.h>
+#include <stdio.h>
+#include <stdlib.h>
+#include <string.h>
+#include <unistd.h>
+
+void *__libc_malloc(size_t size);
+void *__libc_calloc(size_t count, size_t size);
+void *__libc_realloc(void *old, size_t size);
+void *__libc_memalign(size_t align, size_t size);
+
+static long made, failing;
+static int is_on;
+
+__attribute__((constructor)) static void begin(void) {
+    const char *which = getenv("FAILING_ALLOCATION");
+    failing = which ? atol(which) : 0;
+    is_on = 1;
+}
+
+__attribute__((destructor)) static void end(void) {
+    const char *path = getenv("ALLOCATIONS_FILE");
+    is_on = 0;
+    if (path) {
+        int file = open(path, O_WRONLY | O_CREAT | O_TRUNC, 0600);
+        dprintf(file, "%ld\n", made);
+        close(file);
+    }
+}
+
+static int fails(void) {
+    if (!is_on || ++made != failing)
+        return 0;
+    errno = ENOMEM;
+    return 1;
+}
+
+void *malloc(size_t size) { return fails() ? NULL : __libc_malloc(size); }
+void *calloc(size_t count, size_t size) { return fails() ? NULL : __libc_calloc(count, size); }
+void *realloc(void *old, size_t size) { return fails() ? NULL : __libc_realloc(old, size); }
+void *memalign(size_t align, size_t size) { return fails() ? NULL : __libc_memalign(align, size); }
+void *aligned_alloc(size_t align, size_t size) { return fails() ? NULL : __libc_memalign(align, size); }
+
+int posix_memalign(void **to, size_t align, size_t size) {
+    void *made_now = fails() ? NULL : __libc_memalign(align, size);
+    if (!made_now)
+        return ENOMEM;
+    *to = made_now;
+    return 0;
+}
+C
+cc -O2 -shared -fPIC -o "$folder/failing.so" "$folder/failing.c"
+python3 - "$program" "$folder" "$top/examples" "${EVERY:-1}" <<'PYTHON'
+import os, subprocess, sys
+from concurrent.futures import ThreadPoolExecutor
+
+program, folder, examples, every = sys.argv[1:]
+FINISH, FAILED = b'{"reason":"build-finished"', b'{"reason":"build-finished","success":false}\n'
+MEMORY, BAD = b"fault memory OutOfMemory\n", b"error: bad session\n"
+
+
+def run(session, number=0, count_file=None):
+    said = {"PATH": os.environ["PATH"], "LD_PRELOAD": f"{folder}/failing.so", "FAILING_ALLOCATION": str(number)}
+    if count_file:
+        said["ALLOCATIONS_FILE"] = count_file
+    ran = subprocess.run([program, "session", session], env=said, capture_output=True, timeout=60)
+    return ran.returncode, ran.stdout, ran.stderr
+
+
+def builds_of(printed):
+    """The message lines of each build, and its result line."""
+    lines = printed.splitlines(keepends=True)
+    messages = [line for line in lines if line.startswith(b"{")]
+    results = lines[len(messages) :]
+    groups, group = [], []
+    for line in messages:
+        group.append(line)
+        if line.startswith(FINISH):
+            groups.append(group)
+            group = []
+    left = iter(groups)
+    return [([] if result.startswith(b"refused ") else next(left), result) for result in results]
+
+
+def told(builds):
+    return b"".join(line for lines, _ in builds for line in lines) + b"".join(result for _, result in builds)
+
+
+def outcomes_of(printed):
+    """What may come, by its name."""
+    builds = builds_of(printed)
+    assert told(builds) == printed
+    may = {(0, printed, b""): "right"}
+    for at in range(len(builds) + 1):
+        may[(1, b"".join(line for lines, _ in builds[:at] for line in lines), BAD)] = "bad session"
+    for at, (lines, _) in enumerate(builds):
+        for kept in range(max(len(lines), 1)):
+            faulty = (lines[:kept] + [FAILED], MEMORY)
+            may[(0, told(builds[:at] + [faulty] + builds[at + 1 :]), b"")] = "memory"
+    return may
+
+
+def try_example(name):
+    session = f"{examples}/{name}.json"
+    with open(f"{examples}/{name}.out", "rb") as it:
+        printed = it.read()
+    may = outcomes_of(printed)
+    with open("/dev/full", "wb") as full:
+        ran = subprocess.run([program, "session", session], stdout=full, stderr=subprocess.PIPE, timeout=60)
+    if (ran.returncode, ran.stderr) != (1, BAD):
+        sys.exit(f"{name}: wrong over a full device: status {ran.returncode}, says {ran.stderr!r}")
+    count_file = f"{folder}/{name}.count"
+    if run(session, 0, count_file) != (0, printed, b""):
+        sys.exit(f"{name}: wrong with all the memory that it asks for")
+    with open(count_file) as it:
+        count = int(it.read())
+    numbers = range(1, count + 1, int(every))
+    with ThreadPoolExecutor(2) as pool:
+        came = list(zip(numbers, pool.map(lambda number: run(session, number), numbers)))
+    seen = {"right": 0, "memory": 0, "bad session": 0}
+    wrong = []
+    for number, outcome in came:
+        if outcome in may:
+            seen[may[outcome]] += 1
+        else:
+            wrong.append((number, outcome))
+    print(f"{name:32} {count:8} {len(numbers):8} {seen['memory']:8} {seen['bad session']:12} {seen['right']:8} {len(wrong):8}", flush=True)
+    for number, (status, written, said) in wrong[:3]:
+        print(f"  allocation {number}: status {status}, says {said[:200]!r}, writes {written[:300]!r}", flush=True)
+    return len(numbers), len(wrong)
+
+
+print(f"{'example':32} {'asked':>8} {'failed':>8} {'memory':>8} {'bad session':>12} {'right':>8} {'wrong':>8}")
+names = sorted(it.removesuffix(".json") for it in os.listdir(examples) if it.endswith(".json"))
+totals = [try_example(name) for name in names]
+print(f"{sum(it[0] for it in totals)} allocations failed, {sum(it[1] for it in totals)} outcomes were wrong")
+sys.exit(1 if any(it[1] for it in totals) else 0)
+PYTHON
