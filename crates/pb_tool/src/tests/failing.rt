@@ -7,8 +7,6 @@ use std::alloc::Global;
 use std::io::{self, Write};
 use std::test::Fail;
 
-const BAD_SESSION: &[u8] = b"error: bad session\n";
-
 /// A writer that takes at most `most` bytes of each write. The write that follows the first `fails_at` bytes
 /// fails; those after it are taken again.
 #[derive(Drop)]
@@ -46,14 +44,14 @@ impl Write for Faulty {
 }
 
 /// What a session program did: its status, what it wrote and what it said.
-#[derive(Drop)]
+#[derive(PartialEq, Drop)]
 struct Outcome {
     status: u8,
     written: Vec<u8>,
     said: Vec<u8>,
 }
 
-/// Runs a session over a writer.
+/// Runs a session over a writer that takes at most `most` bytes of each write and fails once at `fails_at`.
 fn outcome_over(alloc: Global, session: &str, most: usize, fails_at: Option<usize>) -> Outcome {
     let mut writer = Faulty {
         taken: Vec::new(alloc),
@@ -72,6 +70,42 @@ fn outcome_over(alloc: Global, session: &str, most: usize, fails_at: Option<usiz
         written: writer.taken,
         said,
     }
+}
+
+/// Runs a session over a writer that takes so many bytes and then none.
+fn outcome_with_room(alloc: Global, session: &str, room: usize) -> Result<Outcome, Fail> {
+    let mut written = vec![in alloc; 0u8; room]?;
+    let mut said = Vec::new(alloc);
+    let status = run_session(
+        alloc,
+        session.as_bytes(),
+        &mut Over::new(written.as_mut_slice()),
+        &mut Over::new(&mut said),
+    );
+    Ok(Outcome {
+        status,
+        written,
+        said,
+    })
+}
+
+/// A session that went well.
+fn good(alloc: Global, written: &[u8]) -> Result<Outcome, Fail> {
+    Ok(Outcome {
+        status: 0,
+        written: Vec::from_slice(alloc, written)?,
+        said: Vec::new(alloc),
+    })
+}
+
+/// A session of whose right output the first `room` bytes were written, so that a result line is lost.
+fn cut(alloc: Global, printed: &str, room: usize) -> Result<Outcome, Fail> {
+    let bytes = printed.as_bytes();
+    Ok(Outcome {
+        status: 1,
+        written: Vec::from_slice(alloc, &bytes[..room.min(bytes.len())])?,
+        said: Vec::from_slice(alloc, b"error: bad session\n")?,
+    })
 }
 
 /// Whether a line of the output is a message line, and no result line.
@@ -153,70 +187,52 @@ fn written_around(alloc: Global, printed: &str, room: usize) -> Result<Vec<u8>, 
     Ok(wanted.taken)
 }
 
+/// What is wanted of a session whose sink fails once, after `room` bytes: among the message lines it is told by
+/// the build that it fails in alone, among the result lines it makes the session bad.
+fn around(alloc: Global, printed: &str, room: usize) -> Result<Outcome, Fail> {
+    if room < length_of_messages(printed) {
+        let written = written_around(alloc, printed, room)?;
+        good(alloc, written.as_slice())
+    } else {
+        cut(alloc, printed, room)
+    }
+}
+
 /// Each example gives what its file says, however few bytes the sink takes of each write.
 #[test]
 fn examples(rt: HostRuntime) -> Result<(), Fail> {
     for (name, session, printed) in EXAMPLES {
         for most in [usize::MAX, 1, 7] {
             let outcome = outcome_over(rt.alloc(), session, most, None);
-            assert_eq!(rt; outcome.status, 0, "{name} by {most}");
-            assert!(rt;
-                outcome.written.as_slice() == printed.as_bytes(),
-                "{name} by {most}"
-            );
-            assert!(rt; outcome.said.is_empty(), "{name} by {most}");
+            let wanted = good(rt.alloc(), printed.as_bytes())?;
+            assert!(rt; outcome == wanted, "{name} by {most}");
         }
     }
     Ok(())
 }
 
 /// A sink that takes so many bytes and then none gets the first of the right output, and the session is told
-/// to be bad, since a result line is lost.
+/// to be bad.
 #[test]
 fn sinks_cut_short(rt: HostRuntime) -> Result<(), Fail> {
-    let alloc = rt.alloc();
     for (name, session, printed) in EXAMPLES {
         for room in 0..printed.len() {
-            let mut space = vec![in alloc; 0u8; room]?;
-            let mut said = Vec::new(alloc);
-            let status = run_session(
-                alloc,
-                session.as_bytes(),
-                &mut Over::new(space.as_mut_slice()),
-                &mut Over::new(&mut said),
-            );
-            assert_eq!(rt; status, 1, "{name} at {room}");
-            assert!(rt;
-                printed.as_bytes().starts_with(space.as_slice()),
-                "{name} at {room}"
-            );
-            assert!(rt; said.as_slice() == BAD_SESSION, "{name} at {room}");
+            let outcome = outcome_with_room(rt.alloc(), session, room)?;
+            let wanted = cut(rt.alloc(), printed, room)?;
+            assert!(rt; outcome == wanted, "{name} at {room}");
         }
     }
     Ok(())
 }
 
-/// A sink that fails once among the message lines is told by the build that it fails in alone; one that fails
-/// among the result lines makes the session bad.
+/// A sink that fails once, at each byte of the right output.
 #[test]
 fn sinks_that_fail_once(rt: HostRuntime) -> Result<(), Fail> {
-    let alloc = rt.alloc();
     for (name, session, printed) in EXAMPLES {
-        let length = length_of_messages(printed);
         for room in 0..printed.len() {
-            let outcome = outcome_over(alloc, session, usize::MAX, Some(room));
-            let written = outcome.written.as_slice();
-            if room < length {
-                let wanted = written_around(alloc, printed, room)?;
-                assert_eq!(rt; outcome.status, 0, "{name} at {room}");
-                assert!(rt; written == wanted.as_slice(), "{name} at {room}");
-                assert!(rt; outcome.said.is_empty(), "{name} at {room}");
-            } else {
-                assert_eq!(rt; outcome.status, 1, "{name} at {room}");
-                assert!(rt; printed.as_bytes().starts_with(written), "{name} at {room}");
-                assert_eq!(rt; written.len(), room, "{name}");
-                assert!(rt; outcome.said.as_slice() == BAD_SESSION, "{name} at {room}");
-            }
+            let outcome = outcome_over(rt.alloc(), session, usize::MAX, Some(room));
+            let wanted = around(rt.alloc(), printed, room)?;
+            assert!(rt; outcome == wanted, "{name} at {room}");
         }
     }
     Ok(())
