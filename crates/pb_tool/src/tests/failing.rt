@@ -5,6 +5,7 @@ use crate::session::run_session;
 use pb_place::Over;
 use std::alloc::Global;
 use std::io::{self, Write};
+use std::process::Abort;
 use std::test::Fail;
 
 /// A writer that takes at most `most` bytes of each write. The write that follows the first `fails_at` bytes
@@ -198,42 +199,62 @@ fn around(alloc: Global, printed: &str, room: usize) -> Result<Outcome, Fail> {
     }
 }
 
-/// Each example gives what its file says, however few bytes the sink takes of each write.
-#[test]
-fn examples(rt: HostRuntime) -> Result<(), Fail> {
-    for (name, session, printed) in EXAMPLES {
-        for most in [usize::MAX, 1, 7] {
-            let outcome = outcome_over(rt.alloc(), session, most, None);
-            let wanted = good(rt.alloc(), printed.as_bytes())?;
-            assert!(rt; outcome == wanted, "{name} by {most}");
-        }
+/// A sink that takes few bytes of each write gets the right output.
+fn takes_little(
+    rt: &impl Abort,
+    alloc: Global,
+    name: &str,
+    session: &str,
+    printed: &str,
+) -> Result<(), Fail> {
+    for most in [usize::MAX, 1, 7] {
+        let outcome = outcome_over(alloc, session, most, None);
+        let wanted = good(alloc, printed.as_bytes())?;
+        assert!(rt; outcome == wanted, "{name} by {most}");
     }
     Ok(())
 }
 
 /// A sink that takes so many bytes and then none gets the first of the right output, and the session is told
 /// to be bad.
-#[test]
-fn sinks_cut_short(rt: HostRuntime) -> Result<(), Fail> {
-    for (name, session, printed) in EXAMPLES {
-        for room in 0..printed.len() {
-            let outcome = outcome_with_room(rt.alloc(), session, room)?;
-            let wanted = cut(rt.alloc(), printed, room)?;
-            assert!(rt; outcome == wanted, "{name} at {room}");
-        }
+fn is_cut_short(
+    rt: &impl Abort,
+    alloc: Global,
+    name: &str,
+    session: &str,
+    printed: &str,
+) -> Result<(), Fail> {
+    for room in 0..printed.len() {
+        let outcome = outcome_with_room(alloc, session, room)?;
+        let wanted = cut(alloc, printed, room)?;
+        assert!(rt; outcome == wanted, "{name} cut at {room}");
     }
     Ok(())
 }
 
-/// A sink that fails once, at each byte of the right output.
+/// A sink that fails once gets what it should, at whichever byte it fails.
+fn fails_once(
+    rt: &impl Abort,
+    alloc: Global,
+    name: &str,
+    session: &str,
+    printed: &str,
+) -> Result<(), Fail> {
+    for room in 0..printed.len() {
+        let outcome = outcome_over(alloc, session, usize::MAX, Some(room));
+        let wanted = around(alloc, printed, room)?;
+        assert!(rt; outcome == wanted, "{name} fails at {room}");
+    }
+    Ok(())
+}
+
 #[test]
-fn sinks_that_fail_once(rt: HostRuntime) -> Result<(), Fail> {
+fn examples(rt: HostRuntime) -> Result<(), Fail> {
+    let alloc = rt.alloc();
     for (name, session, printed) in EXAMPLES {
-        for room in 0..printed.len() {
-            let outcome = outcome_over(rt.alloc(), session, usize::MAX, Some(room));
-            let wanted = around(rt.alloc(), printed, room)?;
-            assert!(rt; outcome == wanted, "{name} at {room}");
-        }
+        takes_little(&rt, alloc, name, session, printed)?;
+        is_cut_short(&rt, alloc, name, session, printed)?;
+        fails_once(&rt, alloc, name, session, printed)?;
     }
     Ok(())
 }
