@@ -1,8 +1,8 @@
 #!/usr/bin/env bash
-# Runs each example session again and again, each allocation of the program failing in turn, and compares what
-# comes with what may come. It makes the program in a folder of its own, which it takes away at the end, and runs
-# it over a malloc that fails when it is told to. EVERY=N tries each Nth allocation alone. The status is 1 where
-# anything else came than may come.
+# Runs each example session again and again, each allocation of the program failing in turn, alone and with all
+# that follow it, and compares what comes with what may come. It makes the program in a folder of its own, which it
+# takes away at the end, and runs it over a malloc that fails when it is told to. PROGRAM=FILE takes a program that
+# is made already; EVERY=N tries each Nth allocation alone. The status is 1 where anything else came than may come.
 #
 # What may come, where one allocation fails:
 # - the right output, where the program could do without that memory;
@@ -10,6 +10,10 @@
 #   ones, then the failing finish line; all other builds as they are;
 # - status 1, `error: bad session`, and the message lines of the first so many builds, whole: the memory was
 #   refused outside a build.
+#
+# What may come, where all allocations from one on fail: the right output, where there was none of them; else status
+# 1 and `error: bad session`, since the result lines take memory: the message lines of the first so many builds, and
+# of some builds behind them the failing finish line (of the first of these after so many of its whole lines).
 #
 # Each example is also run once with its output into a full device: status 1 and `error: bad session`.
 set -euo pipefail
@@ -32,11 +36,12 @@ void *__libc_realloc(void *old, size_t size);
 void *__libc_memalign(size_t align, size_t size);
 
 static long made, failing;
-static int is_on;
+static int is_on, from_then_on;
 
 __attribute__((constructor)) static void begin(void) {
     const char *which = getenv("FAILING_ALLOCATION");
     failing = which ? atol(which) : 0;
+    from_then_on = getenv("FROM_THEN_ON") != NULL;
     is_on = 1;
 }
 
@@ -51,7 +56,7 @@ __attribute__((destructor)) static void end(void) {
 }
 
 static int fails(void) {
-    if (!is_on || ++made != failing)
+    if (!is_on || (++made != failing && !(from_then_on && failing && made > failing)))
         return 0;
     errno = ENOMEM;
     return 1;
@@ -81,8 +86,10 @@ FINISH, FAILED = b'{"reason":"build-finished"', b'{"reason":"build-finished","su
 MEMORY, BAD = b"fault memory OutOfMemory\n", b"error: bad session\n"
 
 
-def run(session, number=0, count_file=None):
+def run(session, number=0, from_then_on=False, count_file=None):
     said = {"PATH": os.environ["PATH"], "LD_PRELOAD": f"{folder}/failing.so", "FAILING_ALLOCATION": str(number)}
+    if from_then_on:
+        said["FROM_THEN_ON"] = "1"
     if count_file:
         said["ALLOCATIONS_FILE"] = count_file
     ran = subprocess.run([program, "session", session], env=said, capture_output=True, timeout=60)
@@ -108,13 +115,17 @@ def told(builds):
     return b"".join(line for lines, _ in builds for line in lines) + b"".join(result for _, result in builds)
 
 
-def outcomes_of(printed):
-    """What may come, by its name."""
+def lines_of(builds):
+    return b"".join(line for lines, _ in builds for line in lines)
+
+
+def one_refused(printed):
+    """What may come where one allocation is refused, by its name."""
     builds = builds_of(printed)
     assert told(builds) == printed
     may = {(0, printed, b""): "right"}
     for at in range(len(builds) + 1):
-        may[(1, b"".join(line for lines, _ in builds[:at] for line in lines), BAD)] = "bad session"
+        may[(1, lines_of(builds[:at]), BAD)] = "bad session"
     for at, (lines, _) in enumerate(builds):
         for kept in range(max(len(lines), 1)):
             faulty = (lines[:kept] + [FAILED], MEMORY)
@@ -122,23 +133,24 @@ def outcomes_of(printed):
     return may
 
 
-def try_example(name):
-    session = f"{examples}/{name}.json"
-    with open(f"{examples}/{name}.out", "rb") as it:
-        printed = it.read()
-    may = outcomes_of(printed)
-    with open("/dev/full", "wb") as full:
-        ran = subprocess.run([program, "session", session], stdout=full, stderr=subprocess.PIPE, timeout=60)
-    if (ran.returncode, ran.stderr) != (1, BAD):
-        sys.exit(f"{name}: wrong over a full device: status {ran.returncode}, says {ran.stderr!r}")
-    count_file = f"{folder}/{name}.count"
-    if run(session, 0, count_file) != (0, printed, b""):
-        sys.exit(f"{name}: wrong with all the memory that it asks for")
-    with open(count_file) as it:
-        count = int(it.read())
+def all_refused(printed):
+    """What may come where all allocations from one on are refused, by its name."""
+    builds = builds_of(printed)
+    may = {(0, printed, b""): "right"}
+    for at in range(len(builds) + 1):
+        may[(1, lines_of(builds[:at]), BAD)] = "bad session"
+        lines = builds[at][0] if at < len(builds) else []
+        for failed in range(1, len(builds) - at + 1):
+            for kept in range(max(len(lines), 1)):
+                may[(1, lines_of(builds[:at]) + b"".join(lines[:kept]) + FAILED * failed, BAD)] = "memory"
+    return may
+
+
+def try_all(name, session, count, from_then_on, may):
+    """Tries the allocations of an example, prints what came how often, and gives how many came and were wrong."""
     numbers = range(1, count + 1, int(every))
     with ThreadPoolExecutor(2) as pool:
-        came = list(zip(numbers, pool.map(lambda number: run(session, number), numbers)))
+        came = list(zip(numbers, pool.map(lambda number: run(session, number, from_then_on), numbers)))
     seen = {"right": 0, "memory": 0, "bad session": 0}
     wrong = []
     for number, outcome in came:
@@ -146,15 +158,40 @@ def try_example(name):
             seen[may[outcome]] += 1
         else:
             wrong.append((number, outcome))
-    print(f"{name:32} {count:8} {len(numbers):8} {seen['memory']:8} {seen['bad session']:12} {seen['right']:8} {len(wrong):8}", flush=True)
-    for number, (status, written, said) in wrong[:3]:
+    what = "from it on" if from_then_on else "alone"
+    print(
+        f"{name:30} {what:10} {count:6} {len(numbers):6} {seen['memory']:7} "
+        f"{seen['bad session']:11} {seen['right']:6} {len(wrong):6}",
+        flush=True,
+    )
+    for number, (status, written, said) in wrong[:1]:
         print(f"  allocation {number}: status {status}, says {said[:200]!r}, writes {written[:300]!r}", flush=True)
     return len(numbers), len(wrong)
 
 
-print(f"{'example':32} {'asked':>8} {'failed':>8} {'memory':>8} {'bad session':>12} {'right':>8} {'wrong':>8}")
+def try_example(name):
+    session = f"{examples}/{name}.json"
+    with open(f"{examples}/{name}.out", "rb") as it:
+        printed = it.read()
+    with open("/dev/full", "wb") as full:
+        ran = subprocess.run([program, "session", session], stdout=full, stderr=subprocess.PIPE, timeout=60)
+    if (ran.returncode, ran.stderr) != (1, BAD):
+        sys.exit(f"{name}: wrong over a full device: status {ran.returncode}, says {ran.stderr!r}")
+    count_file = f"{folder}/{name}.count"
+    if run(session, count_file=count_file) != (0, printed, b""):
+        sys.exit(f"{name}: wrong with all the memory that it asks for")
+    with open(count_file) as it:
+        count = int(it.read())
+    return [
+        try_all(name, session, count, False, one_refused(printed)),
+        try_all(name, session, count, True, all_refused(printed)),
+    ]
+
+
+print(f"{'example':30} {'refused':10} {'asked':>6} {'tried':>6} {'memory':>7} {'bad session':>11} {'right':>6} {'wrong':>6}")
 names = sorted(it.removesuffix(".json") for it in os.listdir(examples) if it.endswith(".json"))
-totals = [try_example(name) for name in names]
-print(f"{sum(it[0] for it in totals)} allocations failed, {sum(it[1] for it in totals)} outcomes were wrong")
-sys.exit(1 if any(it[1] for it in totals) else 0)
+alone, on = zip(*(try_example(name) for name in names))
+for what, found in (("alone", alone), ("with all that follow", on)):
+    print(f"{sum(it[0] for it in found)} allocations refused {what}, {sum(it[1] for it in found)} outcomes were wrong")
+sys.exit(1 if any(it[1] for it in alone + on) else 0)
 PYTHON
