@@ -2,7 +2,7 @@
 # Runs each example session again and again, each allocation of the program failing in turn, alone and with all
 # that follow it, and compares what comes with what may come. It makes the program in a folder of its own, which it
 # takes away at the end, and runs it over a malloc that fails when it is told to. PROGRAM=FILE takes a program that
-# is made already; EVERY=N tries each Nth allocation alone. The status is 1 where anything else came than may come.
+# is made already; EVERY=N tries only each Nth allocation. The status is 1 where anything else came than may come.
 #
 # What may come, where one allocation fails:
 # - the right output, where the program could do without that memory;
