@@ -1,6 +1,8 @@
 //! The session program and its command line, against worked examples.
 
 mod builds;
+mod examples;
+mod failing;
 mod refusals;
 
 use crate::command_line::session_file;

@@ -1,0 +1,197 @@
+#!/usr/bin/env bash
+# Runs each example session again and again, each allocation of the program failing in turn, alone and with all
+# that follow it, and compares what comes with what may come. It makes the program in a folder of its own, which it
+# takes away at the end, and runs it over a malloc that fails when it is told to. PROGRAM=FILE takes a program that
+# is made already; EVERY=N tries only each Nth allocation. The status is 1 where anything else came than may come.
+#
+# What may come, where one allocation fails:
+# - the right output, where the program could do without that memory;
+# - status 0, and one build that says `fault memory OutOfMemory`: of its message lines the first so many whole
+#   ones, then the failing finish line; all other builds as they are;
+# - status 1, `error: bad session`, and the message lines of the first so many builds, whole: the memory was
+#   refused outside a build.
+#
+# What may come, where all allocations from one on fail: the right output, where there was none of them; else status
+# 1 and `error: bad session`, since the result lines take memory: the message lines of the first so many builds, and
+# of some builds behind them the failing finish line (of the first of these after so many of its whole lines).
+#
+# Each example is also run once with its output into a full device: status 1 and `error: bad session`.
+set -euo pipefail
+top="$(cd "$(dirname "$0")/.." && pwd)"
+folder="$(mktemp -d)"
+trap 'rm -rf "$folder"' EXIT
+. "$top/bench/program.sh"
+program="${PROGRAM:-$(make_program "$top" "$folder")}"
+cat > "$folder/failing.c" <<'C'
+#include <errno.h>
+#include <fcntl.h>
+#include <stdio.h>
+#include <stdlib.h>
+#include <string.h>
+#include <unistd.h>
+
+void *__libc_malloc(size_t size);
+void *__libc_calloc(size_t count, size_t size);
+void *__libc_realloc(void *old, size_t size);
+void *__libc_memalign(size_t align, size_t size);
+
+static long made, failing;
+static int is_on, from_then_on;
+
+__attribute__((constructor)) static void begin(void) {
+    const char *which = getenv("FAILING_ALLOCATION");
+    failing = which ? atol(which) : 0;
+    from_then_on = getenv("FROM_THEN_ON") != NULL;
+    is_on = 1;
+}
+
+__attribute__((destructor)) static void end(void) {
+    const char *path = getenv("ALLOCATIONS_FILE");
+    is_on = 0;
+    if (path) {
+        int file = open(path, O_WRONLY | O_CREAT | O_TRUNC, 0600);
+        dprintf(file, "%ld\n", made);
+        close(file);
+    }
+}
+
+static int fails(void) {
+    if (!is_on || (++made != failing && !(from_then_on && failing && made > failing)))
+        return 0;
+    errno = ENOMEM;
+    return 1;
+}
+
+void *malloc(size_t size) { return fails() ? NULL : __libc_malloc(size); }
+void *calloc(size_t count, size_t size) { return fails() ? NULL : __libc_calloc(count, size); }
+void *realloc(void *old, size_t size) { return fails() ? NULL : __libc_realloc(old, size); }
+void *memalign(size_t align, size_t size) { return fails() ? NULL : __libc_memalign(align, size); }
+void *aligned_alloc(size_t align, size_t size) { return fails() ? NULL : __libc_memalign(align, size); }
+
+int posix_memalign(void **to, size_t align, size_t size) {
+    void *made_now = fails() ? NULL : __libc_memalign(align, size);
+    if (!made_now)
+        return ENOMEM;
+    *to = made_now;
+    return 0;
+}
+C
+cc -O2 -shared -fPIC -o "$folder/failing.so" "$folder/failing.c"
+python3 - "$program" "$folder" "$top/examples" "${EVERY:-1}" <<'PYTHON'
+import os, subprocess, sys
+from concurrent.futures import ThreadPoolExecutor
+
+program, folder, examples, every = sys.argv[1:]
+FINISH, FAILED = b'{"reason":"build-finished"', b'{"reason":"build-finished","success":false}\n'
+MEMORY, BAD = b"fault memory OutOfMemory\n", b"error: bad session\n"
+
+
+def run(session, number=0, from_then_on=False, count_file=None):
+    said = {"PATH": os.environ["PATH"], "LD_PRELOAD": f"{folder}/failing.so", "FAILING_ALLOCATION": str(number)}
+    if from_then_on:
+        said["FROM_THEN_ON"] = "1"
+    if count_file:
+        said["ALLOCATIONS_FILE"] = count_file
+    ran = subprocess.run([program, "session", session], env=said, capture_output=True, timeout=60)
+    return ran.returncode, ran.stdout, ran.stderr
+
+
+def builds_of(printed):
+    """The message lines of each build, and its result line."""
+    lines = printed.splitlines(keepends=True)
+    messages = [line for line in lines if line.startswith(b"{")]
+    results = lines[len(messages) :]
+    groups, group = [], []
+    for line in messages:
+        group.append(line)
+        if line.startswith(FINISH):
+            groups.append(group)
+            group = []
+    left = iter(groups)
+    return [([] if result.startswith(b"refused ") else next(left), result) for result in results]
+
+
+def told(builds):
+    return b"".join(line for lines, _ in builds for line in lines) + b"".join(result for _, result in builds)
+
+
+def lines_of(builds):
+    return b"".join(line for lines, _ in builds for line in lines)
+
+
+def one_refused(printed):
+    """What may come where one allocation is refused, by its name."""
+    builds = builds_of(printed)
+    assert told(builds) == printed
+    may = {(0, printed, b""): "right"}
+    for at in range(len(builds) + 1):
+        may[(1, lines_of(builds[:at]), BAD)] = "bad session"
+    for at, (lines, _) in enumerate(builds):
+        for kept in range(max(len(lines), 1)):
+            faulty = (lines[:kept] + [FAILED], MEMORY)
+            may[(0, told(builds[:at] + [faulty] + builds[at + 1 :]), b"")] = "memory"
+    return may
+
+
+def all_refused(printed):
+    """What may come where all allocations from one on are refused, by its name."""
+    builds = builds_of(printed)
+    may = {(0, printed, b""): "right"}
+    for at in range(len(builds) + 1):
+        may[(1, lines_of(builds[:at]), BAD)] = "bad session"
+        lines = builds[at][0] if at < len(builds) else []
+        for failed in range(1, len(builds) - at + 1):
+            for kept in range(max(len(lines), 1)):
+                may[(1, lines_of(builds[:at]) + b"".join(lines[:kept]) + FAILED * failed, BAD)] = "memory"
+    return may
+
+
+def try_all(name, session, count, from_then_on, may):
+    """Tries the allocations of an example, prints what came how often, and gives how many came and were wrong."""
+    numbers = range(1, count + 1, int(every))
+    with ThreadPoolExecutor(2) as pool:
+        came = list(zip(numbers, pool.map(lambda number: run(session, number, from_then_on), numbers)))
+    seen = {"right": 0, "memory": 0, "bad session": 0}
+    wrong = []
+    for number, outcome in came:
+        if outcome in may:
+            seen[may[outcome]] += 1
+        else:
+            wrong.append((number, outcome))
+    what = "from it on" if from_then_on else "alone"
+    print(
+        f"{name:30} {what:10} {count:6} {len(numbers):6} {seen['memory']:7} "
+        f"{seen['bad session']:11} {seen['right']:6} {len(wrong):6}",
+        flush=True,
+    )
+    for number, (status, written, said) in wrong[:1]:
+        print(f"  allocation {number}: status {status}, says {said[:200]!r}, writes {written[:300]!r}", flush=True)
+    return len(numbers), len(wrong)
+
+
+def try_example(name):
+    session = f"{examples}/{name}.json"
+    with open(f"{examples}/{name}.out", "rb") as it:
+        printed = it.read()
+    with open("/dev/full", "wb") as full:
+        ran = subprocess.run([program, "session", session], stdout=full, stderr=subprocess.PIPE, timeout=60)
+    if (ran.returncode, ran.stderr) != (1, BAD):
+        sys.exit(f"{name}: wrong over a full device: status {ran.returncode}, says {ran.stderr!r}")
+    count_file = f"{folder}/{name}.count"
+    if run(session, count_file=count_file) != (0, printed, b""):
+        sys.exit(f"{name}: wrong with all the memory that it asks for")
+    with open(count_file) as it:
+        count = int(it.read())
+    return [
+        try_all(name, session, count, False, one_refused(printed)),
+        try_all(name, session, count, True, all_refused(printed)),
+    ]
+
+
+print(f"{'example':30} {'refused':10} {'asked':>6} {'tried':>6} {'memory':>7} {'bad session':>11} {'right':>6} {'wrong':>6}")
+names = sorted(it.removesuffix(".json") for it in os.listdir(examples) if it.endswith(".json"))
+alone, on = zip(*(try_example(name) for name in names))
+for what, found in (("alone", alone), ("with all that follow", on)):
+    print(f"{sum(it[0] for it in found)} allocations refused {what}, {sum(it[1] for it in found)} outcomes were wrong")
+sys.exit(1 if any(it[1] for it in alone + on) else 0)
+PYTHON
