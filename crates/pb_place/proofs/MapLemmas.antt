@@ -195,7 +195,8 @@ any_alike : (p q : List ℕ → Bool) → ((x : List ℕ) → p x ≡ q x) → (
 any_alike p q same [] = refl
 any_alike p q same (x ∷ xs) = ap (λ b. b || list_any p xs) (same x) ∙ ap (λ b. q x || b) (any_alike p q same xs)
 
-among_keys : (m : Map) (q : List ℕ) → list_any (is_same_path q) (keys m) ≡ is_some (get m q)
+-- whether a path is among the keys
+pub among_keys : (m : Map) (q : List ℕ) → list_any (is_same_path q) (keys m) ≡ is_some (get m q)
 among_keys m q = any_alike _ _ (λ x. symm x q) (keys m) ∙ sym (contains_key-keys m q)
 
 left_out : {A : Type 0} (here inside : Bool) (o : Option A) → cond here None (cond (is_some (cond inside o None)) None o) ≡ cond (not (here || inside)) o None

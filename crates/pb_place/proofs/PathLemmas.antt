@@ -1,9 +1,11 @@
 -- What parsing makes is a path.
-use Rattle.std.proofs.Common.{◌≡◌, ℕ, ◌-◌, ◌==◌, Bool, true, false, not, cond, ◌&&◌, ◌||◌, List, [], ◌∷◌, ◌++◌, length, take, refl, sym, ap, subst, codes, ◌<◌, drop, nat_eq, ◌∙◌, arith, zero, suc, inl, inr}
+use Rattle.std.proofs.Common.{◌≡◌, ℕ, ◌-◌, ◌==◌, Bool, true, false, not, cond, ◌&&◌, ◌||◌, List, [], ◌∷◌, ◌++◌, length, take, refl, sym, ap, subst, codes, ◌<◌, drop, nat_eq, ◌∙◌, arith, zero, suc, inl, inr, Ok, Err, append_assoc}
 use Rattle.std.proofs.lemmas.Bool.{cases_Bool, false≢true}
 use Rattle.std.proofs.lemmas.Bool.Decides.{nat_tests}
 use Rattle.std.specs.List.{fold, list_any, list_all, onto_first, AllByRecursion}
-use Rattle.pb_place.specs.Paths.{parts_of, stays, leads_up, walked, names_of, slashed, path_of, has_byte_0, is_name, is_relative, is_path, stem, below, folder_of, leads_below, is_below}
+use Rattle.std.proofs.lemmas.List.{append-nil}
+use Rattle.pb_place.specs.declared.path.PathFault.TheVariants.{BadByte}
+use Rattle.pb_place.specs.Paths.{parsed, parts_of, stays, leads_up, walked, names_of, slashed, path_of, has_byte_0, is_name, is_relative, is_path, stem, below, folder_of, leads_below, is_below}
 use Rattle.std.specs.Str.{bytes_eq}
 use Rattle.std.specs.Cmp.Lexicographic.{pointwise}
 
@@ -241,3 +243,43 @@ pub folder_is_path : (path folder : List ℕ) → is_path path ≡ true → fold
 folder_is_path path folder is same = ap is_path same ∙ path_of_named (take (length (names_of path) - 1) (names_of path)) (take_all (length (names_of path) - 1) (names_of path) (all_walked [] (parts_of path) tt (parts_plain path (path_clean path is))))
 
 pub ruleset folder_laws = (folder_is_path)
+
+-- a name is one name more
+walked_name : (names : List (List ℕ)) (part : List ℕ) → is_name part ≡ true → walked names part ≡ names ++ part ∷ []
+walked_name names part named =
+    let free : (stays part || leads_up part) || has_byte_0 part ≡ false = not_true _ named in
+    ap (λ b. cond b names (cond (leads_up part) (take (length names - 1) names) (names ++ part ∷ []))) (or_left _ _ (or_left _ _ free))
+    ∙ ap (λ b. cond b (take (length names - 1) names) (names ++ part ∷ [])) (or_right _ _ (or_left _ _ free))
+
+walk_names : (names parts : List (List ℕ)) → list_all is_name parts ≡ true → fold walked names parts ≡ names ++ parts
+walk_names names [] all = sym (append-nil names)
+walk_names names (part ∷ parts) all = ap (λ n. fold walked n parts) (walked_name names part (and_left _ _ all)) ∙ walk_names (names ++ part ∷ []) parts (and_right _ _ all) ∙ simp append_assoc
+
+slashed_longer : (x : ℕ) (parts : List (List ℕ)) (text : List ℕ) → 0 < length parts → slashed parts ≡ 47 ∷ text → slashed (onto_first x parts) ≡ 47 ∷ x ∷ text
+slashed_longer x [] text some is = absurd (omega arith)
+slashed_longer x (part ∷ parts) text some is = let rest : part ++ slashed parts ≡ text = cc in ap (λ t. 47 ∷ x ∷ t) rest
+
+-- the parts of a text, each after a slash, are a slash and the text
+slashed_parts : (text : List ℕ) → slashed (parts_of text) ≡ 47 ∷ text
+slashed_parts [] = refl
+slashed_parts (x ∷ text) = elim (cases_Bool (x == 47)) [
+  | inl slash ↦
+      ap (λ b. slashed (cond b ([] ∷ parts_of text) (onto_first x (parts_of text)))) slash ∙ ap (λ t. 47 ∷ t) (slashed_parts text) ∙ ap (λ n. 47 ∷ n ∷ text) (sym (slash_of x slash))
+  | inr other ↦ ap (λ b. slashed (cond b ([] ∷ parts_of text) (onto_first x (parts_of text)))) other ∙ slashed_longer x (parts_of text) text (parts_some text) (slashed_parts text)
+]
+
+path_of_some : (parts : List (List ℕ)) → 0 < length parts → path_of parts ≡ slashed parts
+path_of_some [] some = absurd (omega arith)
+path_of_some (part ∷ parts) some = refl
+
+deep_path : (c : ℕ) (rest : List ℕ) → is_relative (c ∷ rest) ≡ true → parsed (47 ∷ c ∷ rest) ≡ Ok (47 ∷ c ∷ rest)
+deep_path c rest named =
+    ap (λ b. cond b (Err BadByte) (Ok (path_of (names_of (47 ∷ c ∷ rest))))) (clean_parts (c ∷ rest) (names_clean (parts_of (c ∷ rest)) named))
+    ∙ ap (λ names. Ok (path_of names)) (walk_names [] (parts_of (c ∷ rest)) named)
+    ∙ ap (λ text. Ok text) (path_of_some (parts_of (c ∷ rest)) (parts_some (c ∷ rest)) ∙ slashed_parts (c ∷ rest))
+
+-- a path says itself
+pub parsed_path : (path : List ℕ) → is_path path ≡ true → parsed path ≡ Ok path
+parsed_path [] is = absurd (false≢true is)
+parsed_path (b ∷ []) is = subst (λ n. parsed (n ∷ []) ≡ Ok (n ∷ [])) (sym (slash_of b is)) refl
+parsed_path (b ∷ c ∷ rest) is = subst (λ n. parsed (n ∷ c ∷ rest) ≡ Ok (n ∷ c ∷ rest)) (sym (slash_of b (and_left _ _ is))) (deep_path c rest (and_right _ _ is))

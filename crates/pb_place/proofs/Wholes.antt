@@ -1,7 +1,8 @@
 -- Bytes that a sink takes part by part.
-use Rattle.std.proofs.Common.{◌≡◌, ◌∙◌, ◌++◌, ℕ, List, [], Option, ap, sym, subst, refl, take, drop, length, append_assoc, append-nil, take-append-drop, zero, rules, arith, ◌∷◌, ◌-◌}
+use Rattle.std.proofs.Common.{◌≡◌, ◌∙◌, ◌++◌, ℕ, List, [], Option, ap, sym, subst, refl, take, drop, length, append_assoc, append-nil, take-append-drop, zero, rules, arith, ◌∷◌, ◌-◌, Some, None}
 use Rattle.std.proofs.lemmas.Grind.{common_steps}
-use Rattle.std.specs.Io.KnownBytes.{Appends}
+use Rattle.std.specs.Io.KnownBytes.{Appends, Keeps}
+use Rattle.std.proofs.Math.Seq.{take-append_seam}
 use Rattle.std.proofs.KnownBytes.{Appends-trans, Appends-nil}
 
 -- the sink has taken what stands before the rest
@@ -32,3 +33,17 @@ pub told_rest : (old mid new : Option (List ℕ)) (bytes rest : List ℕ) (n : �
 told_rest old mid new bytes rest n told more =
     let whole : take (length rest - n) (drop n rest) ≡ drop n rest = grind (arith, common_steps) in
     subst (Told old new bytes) (sym whole) (told_more old mid new bytes rest n told more)
+
+-- a sink that took nothing
+pub took_none : (old new : Option (List ℕ)) → Keeps old new → Appends old new []
+took_none None new kept = tt
+took_none (Some xs) None kept = kept
+took_none (Some xs) (Some ys) kept = kept ∙ sym (append-nil xs)
+
+pub ruleset took_laws = (took_none)
+
+-- a sink that failed at the rest took the first of the bytes
+pub told_some : (old mid new : Option (List ℕ)) (bytes rest : List ℕ) → Told old mid bytes rest → Appends mid new [] → (n : ℕ) × Appends old new (take n bytes)
+told_some old mid new bytes rest told none =
+    let first : take (length told.done) bytes ≡ told.done = ap (take (length told.done)) told.parts ∙ take-append_seam told.done rest in
+    (length told.done, subst (Appends old new) (append-nil told.done ∙ sym first) (Appends-trans old mid new told.done [] told.taken none))

@@ -1,17 +1,18 @@
 -- What writing one file changes, and what putting the files of a reply changes.
-use Rattle.std.proofs.Common.{◌≡◌, ℕ, Bool, true, false, not, ◌||◌, cond, List, [], ◌∷◌, Option, Some, None, refl, sym, ap, ◌∙◌, inl, inr}
+use Rattle.std.proofs.Common.{◌≡◌, ℕ, Bool, true, false, not, ◌||◌, ◌⊎◌, take, cond, List, [], ◌∷◌, Option, Some, None, refl, sym, ap, ◌∙◌, inl, inr, is_some}
 use Rattle.std.proofs.lemmas.Bool.{cases_Bool, false≢true}
 use Rattle.std.specs.Ordering.{nat_cmp, eq_by_cmp, is_eq}
 use Rattle.std.specs.declared.cmp.Ordering.{Ordering}
 use Rattle.std.specs.declared.cmp.Ordering.TheVariants.{Less, Equal, Greater}
 use Rattle.std.specs.Cmp.{eq_by_cmp_equiv}
 use Rattle.std.specs.Cmp.Lexicographic.{slice_cmp, nat_list_cmp_total}
-use Rattle.std.specs.FinMap.{get, insert, get-insert}
+use Rattle.std.specs.FinMap.{get, insert, remove, get-insert, get-remove, retain_keys}
+use Rattle.std.specs.List.{list_any}
 use Rattle.std.specs.Option.{option_map_or}
 use Rattle.std.specs.Str.{bytes_eq}
 use Rattle.pb_place.specs.Paths.{is_below, is_at_or_below}
-use Rattle.pb_place.specs.World.{World, Map, written, removed, AgreeBut, is_same_path, ChangesOnlyInSome}
-use Rattle.pb_place.proofs.MapLemmas.{exact, get-kept}
+use Rattle.pb_place.specs.World.{World, Map, written, removed, listed, AgreeBut, is_same_path, ChangesOnlyInSome, Torn, PartlyRemoved}
+use Rattle.pb_place.proofs.MapLemmas.{exact, get-kept, among_keys}
 
 -- what stands at a path after an insertion there
 pub get-same : (m : Map) (p b : List ℕ) → get (insert m p b) p ≡ Some b
@@ -25,6 +26,18 @@ tied : (o : Ordering) → is_eq o ≡ true → o ≡ Equal
 tied Less h = cc
 tied Equal h = refl
 tied Greater h = cc
+
+kept_is : {A : Type 0} (b : Bool) (x : A) → is_some (cond b (Some x) None) ≡ b
+kept_is true x = refl
+kept_is false x = refl
+
+-- what is read where a file was written, and whether its path is listed
+pub written-read : (path bytes : List ℕ) (old new : World) → new ≡ written path bytes old → get new.files path ≡ Some bytes
+written-read path bytes old new is = ap (λ w. get w.files path) is ∙ get-same old.files path bytes
+
+pub written-listed : (path bytes folder : List ℕ) (old new : World) → new ≡ written path bytes old → list_any (is_same_path path) (listed folder new) ≡ is_below folder path
+written-listed path bytes folder old new is =
+    among_keys (retain_keys new.files (is_below folder)) path ∙ ap is_some (get-kept new.files (is_below folder) path ∙ ap (λ o. cond (is_below folder path) o None) (written-read path bytes old new is)) ∙ kept_is (is_below folder path) bytes
 
 -- paths that compare as one are one
 pub same_path : (p q : List ℕ) → is_same_path p q ≡ true → q ≡ p
@@ -81,3 +94,39 @@ AgreeBut-started None old new same q outside = ap (λ w. get w.files q) same
 AgreeBut-started (Some folder) old new only q outside = only.files q (or_right (bytes_eq folder q) (is_below folder q) outside)
 
 pub ruleset alone_laws = (AgreeBut-same, AgreeBut-then, AgreeBut-left, AgreeBut-right, AgreeBut-written, AgreeBut-removed, AgreeBut-started)
+
+-- what a write that failed may leave
+pub torn-old : (path bytes : List ℕ) (w : World) → Torn path bytes w w
+torn-old path bytes w = record { variables = refl; files = record { only = λ q apart. refl; there = inl refl } }
+
+pub torn-first : (path bytes : List ℕ) (n : ℕ) (w : World) → Torn path bytes w (written path (take n bytes) w)
+torn-first path bytes n w = record {
+  variables = refl;
+  files = record { only = λ q apart. get-other w.files path (take n bytes) q apart; there = inr (inr (n, get-same w.files path (take n bytes))) };
+}
+
+pub torn-none : (path bytes : List ℕ) (w : World) → Torn path bytes w record w { files = remove w.files path }
+torn-none path bytes w = record {
+  variables = refl;
+  files = record {
+    only = λ q apart. get-remove nat_list_cmp_total w.files path q ∙ ap (λ b. cond b None (get w.files q)) apart;
+    there = inr (inl (get-remove nat_list_cmp_total w.files path path ∙ ap (λ b. cond b None (get w.files path)) ((eq_by_cmp_equiv nat_list_cmp_total).refl path)));
+  };
+}
+
+-- and a removal that failed
+kept-or-none : {A : Type 0} (b : Bool) (old new : Option A) → new ≡ cond b old None → (new ≡ old) ⊎ (new ≡ None)
+kept-or-none true old new is = inl is
+kept-or-none false old new is = inr is
+
+pub partly-all : (path : List ℕ) (w : World) → PartlyRemoved path w w
+partly-all path w = record { variables = refl; files = record { only = λ q outside. refl; there = λ q. inl refl } }
+
+pub partly-none : (path : List ℕ) (w : World) → PartlyRemoved path w (removed path w)
+partly-none path w = record {
+  variables = refl;
+  files = record {
+    only = λ q outside. get-kept w.files (λ x. not (is_at_or_below path x)) q ∙ ap (λ b. cond (not b) (get w.files q) None) outside;
+    there = λ q. kept-or-none (not (is_at_or_below path q)) (get w.files q) _ (get-kept w.files (λ x. not (is_at_or_below path x)) q);
+  };
+}

@@ -6,7 +6,8 @@ ghost use Rattle.pb_place.specs.World.{World, Answers};
 ghost use Rattle.pb_place.specs.declared.child.ViewFault.TheVariants as view_fault;
 
 use crate::command::Command;
-use crate::path::{PathText, RelativePath};
+use crate::path::PathText;
+use crate::relative::RelativePath;
 use pb_data::{Bytes, Items, Text};
 use std::alloc::{AllocError, AllocFailed, Global};
 use thiserror::Error;

@@ -8,6 +8,7 @@ pub mod files;
 pub mod memory;
 pub mod path;
 pub mod place;
+pub mod relative;
 pub mod sink;
 #[cfg(test)]
 mod tests;
@@ -18,7 +19,8 @@ pub use child::{Child, Reply, View, ViewFault};
 pub use command::{Command, Ended};
 pub use files::{FileMap, TextMap};
 pub use memory::Memory;
-pub use path::{PathFault, PathText, RelativePath};
+pub use path::{PathFault, PathText, parsing_keeps_paths};
 pub use place::{Place, PlaceFault, StartFault};
+pub use relative::RelativePath;
 pub use sink::{Out, Over};
 pub use whole::write_all;

@@ -11,8 +11,9 @@ ghost use Rattle.pb_place.specs.Memory.{Held, counts_of, set, unset};
 use crate::child::{Child, View, ViewFault};
 use crate::command::{Command, Ended};
 use crate::files::{FileMap, TextMap};
-use crate::path::{PathText, RelativePath};
+use crate::path::PathText;
 use crate::place::{Place, PlaceFault, StartFault};
+use crate::relative::RelativePath;
 use pb_data::{Bytes, Items, Text, TryCopy};
 use std::alloc::{AllocError, Global};
 use std::marker::Model;
@@ -119,8 +120,8 @@ fn put_all(
 
 /// A place of maps over a child. Contracts see what it holds: its world and its counters.
 ///
-/// Its own edits are no calls of a place and are not counted. A read or a write takes time logarithmic in
-/// the number of files.
+/// A call fails here for want of memory alone. Its own edits are no calls of a place and are not counted. A
+/// read or a write takes time logarithmic in the number of files.
 #[derive(Drop)]
 pub struct Memory<C> {
     files: FileMap,
@@ -204,6 +205,8 @@ impl<C: Child> Place for Memory<C> {
     ghost child = { C.answers };
 
     ghost counts = { λ m. m.counts };
+
+    ghost fails = { λ _. ⊥ };
 
     fn read(&mut self, alloc: Global, path: &PathText) -> Result<Option<Bytes>, PlaceFault> {
         self.tally.pass();

@@ -1,12 +1,13 @@
 //! Paths: absolute and normalised, and relative ones inside a folder.
 
-ghost use Rattle.std.specs.Prelude.{◌≡◌, ℕ, List, Bool, true, ◌==◌, ◌∷◌, ◌++◌, map, length, IfOk, OnOk, OnErr, IsSome, IfSome, IsTrue, ◌↔◌, string_bytes, codes, if◌then◌else◌, Some, None};
+ghost use Rattle.std.specs.Prelude.{◌≡◌, ℕ, List, Bool, true, ◌==◌, ◌∷◌, ◌++◌, map, length, IfOk, OnOk, OnErr, IsSome, IfSome, IsTrue, ◌↔◌, string_bytes, codes, if◌then◌else◌, Ok};
 ghost use Rattle.std.specs.List.{list_any, list_all};
 ghost use Rattle.std.specs.Str.{bytes_eq};
 ghost use Rattle.pb_data.specs.Gives.{Gives};
 ghost use Rattle.pb_place.specs.declared.path.PathFault.TheVariants as path_fault;
-ghost use Rattle.pb_place.specs.Paths.{parts_of, stays, leads_up, walked, names_of, slashed, path_of, is_absolute, has_byte_0, parsed, joined, folder_of, is_name, is_relative, is_path, stem, below, leads_below, is_below, is_at_or_below};
+ghost use Rattle.pb_place.specs.Paths.{parts_of, stays, leads_up, walked, names_of, slashed, path_of, is_absolute, has_byte_0, parsed, joined, folder_of, is_path, stem, below, leads_below, is_below, is_at_or_below};
 
+use crate::relative::RelativePath;
 use pb_data::{Text, TryCopy};
 use std::alloc::{AllocError, AllocFailed, Global};
 use std::cmp::Ordering;
@@ -73,21 +74,21 @@ fn is_absolute(text: &str) -> bool
 }
 
 /// Whether a text has byte 0.
-fn has_byte_0(text: &str) -> bool
+pub(crate) fn has_byte_0(text: &str) -> bool
     ensures { result ≡ has_byte_0 text.now }
 {
     text.as_bytes().iter().any(|byte| *byte == 0)
 }
 
 /// The parts of a text, between its slashes.
-fn parts_of(alloc: Global, text: &str) -> Result<Vec<&str>, AllocError>
+pub(crate) fn parts_of(alloc: Global, text: &str) -> Result<Vec<&str>, AllocError>
     ensures { IfOk result (λ parts. map (λ part. part.now) parts.items ≡ parts_of text.now) }
 {
     text.split('/').collect(alloc)
 }
 
 /// Whether a part is empty or `.`.
-fn stays(part: &str) -> bool
+pub(crate) fn stays(part: &str) -> bool
     ensures { result ≡ stays part.now }
 {
     part == "" || part == "."
@@ -317,86 +318,7 @@ impl Eq for PathText {
     ghost laws = { Prim.search (comparing, rules) };
 }
 
-/// A path inside some folder: names with a slash between them, none empty, `.` or `..`, none with byte
-/// 0. So it can name nothing outside that folder. Contracts see its UTF-8 bytes.
-#[derive(Debug, Drop)]
-pub struct RelativePath {
-    inside: Text,
-}
-
-impl Model for RelativePath {
-    ghost use Rattle.std.specs.Prelude.{ℕ, List, ◌≡◌, true};
-
-    ghost Value = { List ℕ };
-
-    ghost use Rattle.pb_place.specs.Paths.{is_relative};
-
-    ghost view = { λ a. a.inside };
-
-    ghost invariant = { λ a. is_relative a.inside ≡ true };
-}
-
-/// Whether a part is the name of a file or folder.
-fn is_name(part: &str) -> bool
-    ensures { result ≡ is_name part.now }
-{
-    !(stays(part) || part == ".." || has_byte_0(part))
-}
-
-/// Whether the parts are all names.
-fn are_names(parts: &[&str]) -> bool
-    ensures { result ≡ list_all is_name (map (λ part. part.now) parts.now) }
-{
-    for part in parts {
-        if !is_name(*part) {
-            return false;
-        }
-    }
-    true
-}
-
-/// Whether the parts of a text are all names.
-fn is_relative(alloc: Global, text: &str) -> Result<bool, AllocError>
-    ensures { IfOk result (λ answer. answer ≡ is_relative text.now) }
-{
-    let parts = parts_of(alloc, text)?;
-    Ok(are_names(parts.as_slice()))
-}
-
-impl RelativePath {
-    /// The relative path of a name that is known to be one.
-    pub fn name(alloc: Global, name: &str) -> Result<RelativePath, AllocError>
-        requires { is_relative name.now ≡ true }
-        ensures { IfOk result (λ relative. relative ≡ name.now) }
-    {
-        Ok(RelativePath {
-            inside: Text::from_str(alloc, name)?,
-        })
-    }
-
-    /// The relative path that a text is, or none where it is no such path.
-    pub fn new(alloc: Global, text: Text) -> Result<Option<RelativePath>, AllocError>
-        ensures { IfOk result (λ found. found ≡ (if is_relative text then Some text else None)) }
-    {
-        if !is_relative(alloc, text.as_str())? {
-            return Ok(None);
-        }
-        Ok(Some(RelativePath { inside: text }))
-    }
-
-    /// The path as a text.
-    pub fn as_str(&self) -> &str
-        ensures path { result.now ≡ self.now }
-        ensures relative { is_relative self.now ≡ true }
-    {
-        self.inside.as_str()
-    }
-}
-
-impl TryCopy for RelativePath {
-    fn copy(&self, alloc: Global) -> Result<RelativePath, AllocError> {
-        Ok(RelativePath {
-            inside: self.inside.copy(alloc)?,
-        })
-    }
-}
+/// Parsing leaves a normalised path as it is: so a path says itself, and what was parsed once is parsed no further.
+pub fn parsing_keeps_paths()
+    ensures { (path : List ℕ) → is_path path ≡ true → parsed path ≡ Ok path }
+{}

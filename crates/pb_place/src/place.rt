@@ -103,11 +103,15 @@ pub trait Place {
     /// The counters.
     ghost counts: { Self → Counts };
 
+    /// Whether a call may fail for another reason than want of memory.
+    ghost fails: { Self → Type 0 };
+
     /// The bytes of a file, or none where no file is there.
     fn read(&mut self, alloc: Global, path: &PathText) -> Result<Option<Bytes>, PlaceFault>
         ensures ok { IsTrue tells → IfOk result (λ found. found ≡ map.get (world self.old).files path.now) }
         ensures same { IsTrue tells → world self.new ≡ world self.old }
         ensures fault { IfErr result (λ e. e ≢ PlaceFault.OutOfMemory → e ≡ PlaceFault.Read) }
+        ensures fails { IfErr result (λ e. e ≢ PlaceFault.OutOfMemory → fails self.old) }
         ensures counts { counts self.new ≡ counted result (counts self.old) };
 
     /// The paths of all files below a folder, in byte order. The folder's own path is not among them.
@@ -115,6 +119,7 @@ pub trait Place {
         ensures ok { IsTrue tells → IfOk result (λ paths. paths ≡ listed folder.now (world self.old)) }
         ensures same { IsTrue tells → world self.new ≡ world self.old }
         ensures fault { IfErr result (λ e. e ≢ PlaceFault.OutOfMemory → e ≡ PlaceFault.List) }
+        ensures fails { IfErr result (λ e. e ≢ PlaceFault.OutOfMemory → fails self.old) }
         ensures counts { counts self.new ≡ counted result (counts self.old) };
 
     /// Writes a file and makes the folders above it. After an error the old file is there, or none, or the
@@ -123,6 +128,7 @@ pub trait Place {
         ensures ok { IsTrue tells → OnOk result (world self.new ≡ written path.now bytes.now (world self.old)) }
         ensures err { IsTrue tells → OnErr result (Torn path.now bytes.now (world self.old) (world self.new)) }
         ensures fault { IfErr result (λ e. e ≢ PlaceFault.OutOfMemory → e ≡ PlaceFault.Write) }
+        ensures fails { IfErr result (λ e. e ≢ PlaceFault.OutOfMemory → fails self.old) }
         ensures counts { counts self.new ≡ counted result (counts self.old) };
 
     /// Removes the file at a path and all files below it; where nothing is there, nothing is done. After an
@@ -131,6 +137,7 @@ pub trait Place {
         ensures ok { IsTrue tells → OnOk result (world self.new ≡ removed path.now (world self.old)) }
         ensures err { IsTrue tells → OnErr result (PartlyRemoved path.now (world self.old) (world self.new)) }
         ensures fault { IfErr result (λ e. e ≢ PlaceFault.OutOfMemory → e ≡ PlaceFault.Remove) }
+        ensures fails { IfErr result (λ e. e ≢ PlaceFault.OutOfMemory → fails self.old) }
         ensures counts { counts self.new ≡ counted result (counts self.old) };
 
     /// The value of a variable, or none where it is not set.
@@ -138,6 +145,7 @@ pub trait Place {
         ensures ok { IsTrue tells → IfOk result (λ found. found ≡ map.get (world self.old).variables name.now) }
         ensures same { IsTrue tells → world self.new ≡ world self.old }
         ensures fault { IfErr result (λ e. e ≢ PlaceFault.OutOfMemory → e ≡ PlaceFault.Variable) }
+        ensures fails { IfErr result (λ e. e ≢ PlaceFault.OutOfMemory → fails self.old) }
         ensures counts { counts self.new ≡ counted result (counts self.old) };
 
     /// Starts a child and waits for its end. It makes the folder `command.out` first (the maps know files
@@ -146,6 +154,7 @@ pub trait Place {
     fn start(&mut self, alloc: Global, command: &Command) -> Result<Ended, StartFault>
         ensures ok { IsTrue tells → IfOk result (λ ended. Ends (child command.now) command.now (world self.old) ended (world self.new)) }
         ensures only { IsTrue tells → ChangesOnlyInSome command.now.out (world self.old) (world self.new) }
+        ensures fails { IfErr result (λ e. e ≢ StartFault.OutOfMemory → fails self.old) }
         ensures counts { counts self.new ≡ counted_start result (counts self.old) };
 
     /// How many calls failed, at most `u64::MAX`. It takes no memory.

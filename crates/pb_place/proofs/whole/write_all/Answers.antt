@@ -1,5 +1,5 @@
 use Rattle.std.proofs.Common.{refl, ◌∙◌}
-use Rattle.pb_place.proofs.Wholes.{told_none, told_rest, told_all}
+use Rattle.pb_place.proofs.Wholes.{told_none, told_rest, told_all, told_some}
 use Rattle.pb_place.proofs.whole.write_all.Goals as goal
 
 pub loop-rest-init : goal.loop-rest-init
@@ -10,3 +10,6 @@ loop-rest-preserved g c = record {
   told = told_rest _ _ _ _ _ _ c.loop-rest.invariant.told c.in-Some.ensures.took.2;
   faults = c.in-Some.ensures.faults ∙ c.loop-rest.invariant.faults;
 }
+
+pub returns-in-None-clause-part : goal.returns-in-None-clause-part
+returns-in-None-clause-part g c = λ failed. told_some _ _ _ _ _ c.loop-rest.invariant.told c.in-None.ensures.took
