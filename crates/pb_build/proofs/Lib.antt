@@ -1,9 +1,11 @@
+pub mod CourseLaws
 pub mod Courses
 pub mod Keys
 pub mod Names
 pub mod Refusals
-pub mod StepsTaken
+pub mod ResultLaws
 pub mod Setups
 pub mod Sources
+pub mod StepsTaken
 pub mod Told
 pub mod Versions

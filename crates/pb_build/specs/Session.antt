@@ -1,14 +1,17 @@
 -- A session: edits and builds, one after another. Each build gives what its own world gives from nothing.
-use Rattle.std.specs.Prelude.{◌≡◌, ℕ, List, [], ◌∷◌, ◌++◌, Option}
+use Rattle.std.specs.Prelude.{◌≡◌, ℕ, Bool, true, not, List, [], ◌∷◌, ◌++◌, Option, Result, Ok, Err}
+use Rattle.std.specs.List.{list_all}
 use Rattle.std.specs.Io.KnownBytes.{Appends}
 use Rattle.pb_place.specs.World.{World, Answers, written, removed}
 use Rattle.pb_place.specs.Memory.{Held, set, unset}
-use Rattle.pb_report.specs.Faults.{Told}
+use Rattle.pb_report.specs.Faults.{Told, is_outside}
+use Rattle.pb_report.specs.declared.fault.BuildFault.{BuildFault}
+use Rattle.pb_report.specs.declared.summary.Summary.{Summary}
 use Rattle.pb_session.specs.declared.options.Options.{Options}
 use Rattle.pb_session.specs.declared.step.SessionStep.{SessionStep}
 use Rattle.pb_session.specs.declared.step.SessionStep.TheVariants.{Write, Remove, Set, Unset, Build}
 use Rattle.pb_build.specs.declared.sessions.Answer.{Answer}
-use Rattle.pb_build.specs.BuildResult.{result_of, left_by, Inside}
+use Rattle.pb_build.specs.BuildResult.{BuildResult, result_of, left_by, Inside}
 
 -- a moment of a session: the world, what the sink has taken, and the answers of the builds so far
 pub record Moment : Type 0 where
@@ -44,3 +47,38 @@ Step child (Build o) before after = (answer : Answer) × Builds child o answer b
 abbrev pub Course : Answers → List SessionStep → Moment → Moment → Type 0
 Course child [] before after = after ≡ before
 Course child (step ∷ steps) before after = (mid : Moment) × Step child step before mid × Course child steps mid after
+
+-- the results of the builds of a session, each in the world that the steps before it have left
+abbrev pub results_of : Answers → List SessionStep → World → List BuildResult
+results_of child [] w = []
+results_of child (Write path text ∷ steps) w = results_of child steps (written path text w)
+results_of child (Remove path ∷ steps) w = results_of child steps (removed path w)
+results_of child (Set name value ∷ steps) w = results_of child steps (set name value w)
+results_of child (Unset name ∷ steps) w = results_of child steps (unset name w)
+results_of child (Build o ∷ steps) w = result_of child o w ∷ results_of child steps (left_by (result_of child o w).files w)
+
+-- their answers, and their lines one after another
+abbrev pub answers_in : List BuildResult → List Answer
+answers_in [] = []
+answers_in (r ∷ results) = record { result = r.answer } ∷ answers_in results
+
+abbrev pub lines_in : List BuildResult → List ℕ
+lines_in [] = []
+lines_in (r ∷ results) = r.lines ++ lines_in results
+
+-- no build ended with a fault from outside
+abbrev pub is_inside : Result Summary BuildFault → Bool
+is_inside (Ok s) = true
+is_inside (Err fault) = not (is_outside fault)
+
+abbrev pub all_inside : List Answer → Bool
+all_inside answers = list_all (λ a. is_inside a.result) answers
+
+-- these results were given from one moment to another: their answers and their lines
+abbrev pub ResultsGiven : List BuildResult → Moment → Moment → Type 0
+ResultsGiven results before after = (after.answers ≡ before.answers ++ answers_in results) × Appends before.taken after.taken (lines_in results)
+
+-- a session whose builds all end without a fault from outside gives the results of its builds, each in its own world
+abbrev pub GivesResults : Type 0
+GivesResults = (child : Answers) (steps : List SessionStep) (before after : Moment) → Course child steps before after → all_inside after.answers ≡ true
+    → ResultsGiven (results_of child steps before.world) before after

@@ -7,6 +7,7 @@
 mod builder;
 mod command;
 mod device;
+pub mod laws;
 mod library;
 mod message;
 mod package;
