@@ -10,6 +10,7 @@ mod session;
 #[cfg(test)]
 mod tests;
 
+use clap::error::ErrorKind;
 use command_line::session_file;
 use pb_place::Over;
 use session::{refuse, run_session};
@@ -36,8 +37,12 @@ fn run_file(rt: &HostRuntime, path: &str) -> u8 {
     }
 }
 
-/// Prints what the reader of the command line says: help, or what is wrong.
+/// Prints what the reader of the command line says: help, or what is wrong. Memory that was refused there is
+/// told as it is elsewhere outside a build.
 fn explain(rt: &HostRuntime, error: &clap::Error) -> u8 {
+    if error.kind() == ErrorKind::OutOfMemory {
+        return refuse(&mut Over::new(rt.stderr()));
+    }
     let printed = error.print(rt);
     if error.use_stderr() || printed.is_err() {
         1
