@@ -1,12 +1,16 @@
 -- The key of a package's library is the name of a folder.
-use Rattle.std.proofs.Common.{◌≡◌, ◌==◌, ◌&&◌, ◌||◌, ℕ, Bool, true, false, not, cond, List, [], ◌∷◌, ◌++◌, length, codes, refl, sym, ap, subst, ◌∙◌, arith, inl, inr}
+use Rattle.std.proofs.Common.{◌≡◌, ◌+◌, ◌-◌, drop, nat_eq, ◌==◌, ◌&&◌, ◌||◌, ℕ, Bool, true, false, not, cond, List, [], ◌∷◌, ◌++◌, length, codes, refl, sym, ap, subst, ◌∙◌, arith, inl, inr}
 use Rattle.std.proofs.lemmas.Bool.{cases_Bool, false≢true}
 use Rattle.std.proofs.lemmas.Bool.Decides.{nat_tests}
+use Rattle.std.proofs.Math.Seq.{drop-append_seam}
+use Rattle.std.proofs.lemmas.List.{length-append}
+use Rattle.std.specs.Cmp.Lexicographic.{pointwise}
 use Rattle.std.specs.List.{list_any, list_all, onto_first}
 use Rattle.std.specs.Str.{bytes_eq}
 use Rattle.pb_manifest.specs.Letters as letters
 use Rattle.pb_place.specs.Paths.{parts_of, stays, leads_up, has_byte_0, is_name, is_relative}
 use Rattle.pb_place.proofs.PathLemmas.{and_left, and_right}
+use Rattle.pb_build.specs.Causes.{is_key}
 use Rattle.pb_build.specs.Unit.{key_of}
 use Rattle.pb_build.specs.declared.unit.LibraryUnit.{LibraryUnit}
 
@@ -75,3 +79,15 @@ key_is_relative (b ∷ name) is =
     ap (list_all is_name) whole ∙ ap (λ t. not t && true) (either (stays (b ∷ name ++ codes ".target.lib") || leads_up (b ∷ name ++ codes ".target.lib")) _ (leads_on b name) clean)
 
 pub ruleset key_laws = (key_is_relative)
+
+-- and ends as keys do
+pub key_is_key : (name : List ℕ) → is_key (name ++ codes ".target.lib") ≡ true
+key_is_key name =
+    let ending : List ℕ = codes ".target.lib" in
+    let before : length (name ++ ending) - length ending ≡ length name = ap (λ n. n - length ending) (length-append name ending) ∙ less (length name) (length ending) in
+    ap (λ n. pointwise nat_eq ending (drop n (name ++ ending))) before ∙ ap (pointwise nat_eq ending) (drop-append_seam name ending)
+  where
+    less : (n m : ℕ) → n + m - m ≡ n
+    less n m = omega arith
+
+pub ruleset ending_laws = (key_is_key)

@@ -1,6 +1,11 @@
 -- How the counters of a place move where a step of a build ends, and how its faults come about.
-use Rattle.std.specs.Prelude.{◌≡◌, Bool, true, false, Result, MatchResult}
+use Rattle.std.specs.Prelude.{◌≡◌, ◌||◌, ℕ, codes, nat_eq, List, Bool, true, false, Result, MatchResult}
+use Rattle.std.specs.List.{ends_with}
+use Rattle.std.specs.Str.{bytes_eq}
 use Rattle.pb_place.specs.Counts.{Counts, up}
+use Rattle.pb_place.specs.Paths.{is_path}
+use Rattle.pb_place.specs.declared.place.PlaceFault.{PlaceFault}
+use Rattle.pb_place.specs.declared.place.PlaceFault.TheVariants as place
 use Rattle.pb_report.specs.declared.fault.BuildFault.{BuildFault}
 use Rattle.pb_report.specs.declared.fault.BuildFault.TheVariants.{Plan, Toolchain, Child, Device, Sink, OutOfMemory}
 
@@ -22,6 +27,32 @@ is_sink (Device unit fault) = false
 is_sink Sink = true
 is_sink OutOfMemory = false
 
+-- the variables that a build reads
+abbrev pub is_variable : List ℕ → Bool
+is_variable name = bytes_eq name (codes "RUSTC") || bytes_eq name (codes "RUSTFLAGS") || bytes_eq name (codes "CARGO_TARGET_DIR")
+
+-- a library's key
+abbrev pub is_key : List ℕ → Bool
+is_key text = ends_with nat_eq text (codes ".target.lib")
+
+-- the name that goes with a failed call: a variable's, a path, or the unit's key where its folder is emptied; no file is written
+abbrev pub names_call : List ℕ → PlaceFault → Bool
+names_call name place.Read = is_path name
+names_call name place.List = is_path name
+names_call name place.Write = false
+names_call name place.Remove = is_key name
+names_call name place.Variable = is_variable name
+names_call name place.OutOfMemory = false
+
+-- a fault of the place names what failed: a child is the query, `-vV`, or the unit's, by its key. No step before the lines fails by the sink
+abbrev pub is_named : BuildFault → Bool
+is_named (Plan r) = true
+is_named Toolchain = true
+is_named (Child name fault) = bytes_eq name (codes "-vV") || is_key name
+is_named (Device name fault) = names_call name fault
+is_named Sink = false
+is_named OutOfMemory = true
+
 -- neither a call of the place nor a sink failed
 abbrev pub is_inner : BuildFault → Bool
 is_inner (Plan r) = true
@@ -31,20 +62,20 @@ is_inner (Device unit fault) = false
 is_inner Sink = false
 is_inner OutOfMemory = true
 
--- a step that starts no child: a call failed just where the fault says so, and then no further call was made; no sink is written
+-- a step that starts no child: a call failed just where the fault says so, and then no further call was made; the fault has its name, and no sink was written
 abbrev pub Reads : {T : Type 0} → Result T BuildFault → Counts → Counts → Type 0
 Reads result old new = MatchResult result (λ _. (new.failures ≡ old.failures) × (new.starts ≡ old.starts))
-    (λ e. (new.starts ≡ old.starts) × (is_failure e ≡ true → new.failures ≡ up old.failures) × (is_failure e ≡ true → new.late ≡ 0) × (is_sink e ≡ false))
+    (λ e. (new.starts ≡ old.starts) × (is_failure e ≡ true → new.failures ≡ up old.failures) × (is_failure e ≡ true → new.late ≡ 0) × (is_named e ≡ true))
 
 -- a step that starts one child
 abbrev pub Starts : {T : Type 0} → Result T BuildFault → Counts → Counts → Type 0
 Starts result old new = MatchResult result (λ _. (new.failures ≡ old.failures) × (new.starts ≡ up old.starts))
-    (λ e. (is_failure e ≡ true → new.failures ≡ up old.failures) × (is_failure e ≡ true → new.late ≡ 0) × (is_sink e ≡ false))
+    (λ e. (is_failure e ≡ true → new.failures ≡ up old.failures) × (is_failure e ≡ true → new.late ≡ 0) × (is_named e ≡ true))
 
 -- a step that starts the query and then the unit's child
 abbrev pub StartsTwice : {T : Type 0} → Result T BuildFault → Counts → Counts → Type 0
 StartsTwice result old new = MatchResult result (λ _. (new.failures ≡ old.failures) × (new.starts ≡ up (up old.starts)))
-    (λ e. (is_failure e ≡ true → new.failures ≡ up old.failures) × (is_failure e ≡ true → new.late ≡ 0) × (is_sink e ≡ false))
+    (λ e. (is_failure e ≡ true → new.failures ≡ up old.failures) × (is_failure e ≡ true → new.late ≡ 0) × (is_named e ≡ true))
 
 -- the build was refused
 abbrev pub is_refusal : BuildFault → Bool

@@ -3,7 +3,7 @@
 ghost use Rattle.std.specs.Prelude.{◌≡◌, Bool, IfOk, IfErr, OnOk, OnErr, IsTrue, true, false, MatchResult, Ok, Err, string_bytes};
 ghost use Rattle.pb_place.specs.Counts.{up};
 ghost use Rattle.pb_report.specs.Faults.{Told, is_outside};
-ghost use Rattle.pb_build.specs.Causes.{StartsTwice, Built, is_failure, is_sink, is_refusal};
+ghost use Rattle.pb_build.specs.Causes.{StartsTwice, Built, is_failure, is_named, is_sink, is_refusal};
 ghost use Rattle.std.specs.Io.KnownBytes.{Appends};
 ghost use Rattle.pb_build.specs.Messages.{build_finished};
 ghost use Rattle.pb_place.specs.World.{from_nothing};
@@ -23,8 +23,10 @@ use pb_session::Options;
 use std::alloc::Global;
 
 /// Runs the unit of a plan.
+#[tactic(auto, using(crate::proofs::Keys::ending_laws))]
 fn run_plan<P: Place>(place: &mut P, alloc: Global, plan: &Plan) -> Result<Ended, BuildFault>
-    requires { plan.now.out ≡ out_of plan.now.setup.target plan.now.unit }
+    requires key { plan.now.key ≡ key_of plan.now.unit }
+    requires out { plan.now.out ≡ out_of plan.now.setup.target plan.now.unit }
     ensures ok { IsTrue P.tells → IfOk result (λ ended. Ran P.child plan.now.setup plan.now.unit (P.world place.old) ended (P.world place.new)) }
     ensures err { IsTrue P.tells → IfErr result (λ e. is_outside e ≡ false → version_of P.child plan.now.setup (from_nothing plan.now.setup.target (P.world place.old)) ≡ Err e) }
     ensures same { IsTrue P.tells → IfErr result (λ e. is_outside e ≡ false → P.world place.new ≡ P.world place.old) }
@@ -103,6 +105,7 @@ fn close<O: Out>(out: &mut O, fault: BuildFault) -> BuildFault
 ///
 /// Where no fault comes from outside, the answer, the lines and the files are those of the definition
 /// `result_of`, which looks at the sources alone: what stood in the target folder before is not seen.
+#[tactic(auto, using(crate::proofs::Refusals::named_laws))]
 pub fn build<P: Place, O: Out>(
     alloc: Global,
     place: &mut P,
@@ -113,6 +116,7 @@ pub fn build<P: Place, O: Out>(
     ensures lines { IsTrue P.tells → Inside result (Appends (O.taken out.old) (O.taken out.new) (result_of P.child options.now (P.world place.old)).lines) }
     ensures files { IsTrue P.tells → Inside result (P.world place.new ≡ left_by (result_of P.child options.now (P.world place.old)).files (P.world place.old)) }
     ensures starts { Built result (P.counts place.old) (P.counts place.new) }
+    ensures names { IfErr result (λ e. is_sink e ≡ false → is_named e ≡ true) }
     ensures sink { IfErr result (λ e. is_sink e ≡ true → O.faults out.new ≡ up (O.faults out.old)) }
     ensures same { IsTrue P.tells → IfErr result (λ e. is_refusal e ≡ true → P.world place.new ≡ P.world place.old) }
     ensures unstarted { IfErr result (λ e. is_refusal e ≡ true → (P.counts place.new).starts ≡ (P.counts place.old).starts) }

@@ -1,8 +1,9 @@
 //! Faults of the outside, with the name of what was called.
 
-ghost use Rattle.std.specs.Prelude.{◌≡◌, ◌≢◌, true, false};
+ghost use Rattle.std.specs.Prelude.{◌≡◌, ◌≢◌, ◌||◌, codes, true};
+ghost use Rattle.std.specs.Str.{bytes_eq};
 ghost use Rattle.pb_report.specs.Faults.{is_outside};
-ghost use Rattle.pb_build.specs.Causes.{is_failure, is_sink};
+ghost use Rattle.pb_build.specs.Causes.{is_failure, is_key, names_call, is_named};
 
 use pb_data::Text;
 use pb_place::{PlaceFault, StartFault};
@@ -12,8 +13,9 @@ use std::alloc::Global;
 /// The fault of a call on files or variables: it names the path or the variable, or the unit. Want of
 /// memory stays so, also where there is none for the name.
 pub fn device(alloc: Global, name: &str, fault: PlaceFault) -> BuildFault
+    requires { fault ≢ PlaceFault.OutOfMemory → names_call name.now fault ≡ true }
     ensures outside { is_outside result ≡ true }
-    ensures unsunk { is_sink result ≡ false }
+    ensures named { is_named result ≡ true }
     ensures failed { is_failure result ≡ true → fault ≢ PlaceFault.OutOfMemory }
 {
     match fault {
@@ -28,8 +30,9 @@ pub fn device(alloc: Global, name: &str, fault: PlaceFault) -> BuildFault
 /// The fault of a child that gave no answer: it names the unit, or `-vV`. Want of memory stays so, also
 /// where there is none for the name.
 pub fn childless(alloc: Global, name: &str, fault: StartFault) -> BuildFault
+    requires { bytes_eq name.now (codes "-vV") || is_key name.now ≡ true }
     ensures outside { is_outside result ≡ true }
-    ensures unsunk { is_sink result ≡ false }
+    ensures named { is_named result ≡ true }
     ensures failed { is_failure result ≡ true → fault ≢ StartFault.OutOfMemory }
 {
     match fault {

@@ -1,9 +1,10 @@
 //! One unit: its folder is emptied, its child started, its answer judged.
 
-ghost use Rattle.std.specs.Prelude.{◌≡◌, ◌++◌, ◌∷◌, [], Bool, IfOk, IfErr, OnOk, IsTrue, Some, None, true, false, codes, pos, string_bytes};
+ghost use Rattle.std.specs.Prelude.{◌≡◌, ◌||◌, ◌++◌, ◌∷◌, [], Bool, IfOk, IfErr, OnOk, IsTrue, Some, None, true, false, codes, pos, string_bytes};
+ghost use Rattle.std.specs.Str.{bytes_eq};
 ghost use Rattle.pb_place.specs.World.{World, Ends, removed, put_reply, seen_by};
 ghost use Rattle.pb_report.specs.Faults.{is_outside};
-ghost use Rattle.pb_build.specs.Causes.{Reads, Starts, is_failure};
+ghost use Rattle.pb_build.specs.Causes.{Reads, Starts, is_failure, is_key};
 ghost use Rattle.pb_build.specs.Outcome.{is_too_long, fault_of, greatest_stream};
 
 use crate::device::{childless, device};
@@ -42,6 +43,7 @@ pub fn start<P: Place>(
     name: &str,
     command: &Command,
 ) -> Result<Ended, BuildFault>
+    requires { bytes_eq name.now (codes "-vV") || is_key name.now ≡ true }
     ensures ok { IsTrue P.tells → IfOk result (λ ended. Ends (P.child command.now) command.now (P.world place.old) ended (P.world place.new)) }
     ensures outside { IfErr result (λ e. is_outside e ≡ true) }
     ensures starts { Starts result (P.counts place.old) (P.counts place.new) }
@@ -59,6 +61,7 @@ fn empty<P: Place>(
     name: &str,
     folder: &PathText,
 ) -> Result<(), BuildFault>
+    requires { is_key name.now ≡ true }
     ensures ok { IsTrue P.tells → OnOk result (P.world place.new ≡ removed folder.now (P.world place.old)) }
     ensures outside { IfErr result (λ e. is_outside e ≡ true) }
     ensures reads { Reads result (P.counts place.old) (P.counts place.new) }
@@ -77,6 +80,7 @@ pub fn run_unit<P: Place>(
     out: &PathText,
     command: &Command,
 ) -> Result<Ended, BuildFault>
+    requires { is_key key.now ≡ true }
     ensures ok { IsTrue P.tells → IfOk result (λ ended. Ends (P.child command.now) command.now (removed out.now (P.world place.old)) ended (P.world place.new)) }
     ensures outside { IfErr result (λ e. is_outside e ≡ true) }
     ensures starts { Starts result (P.counts place.old) (P.counts place.new) }

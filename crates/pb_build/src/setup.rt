@@ -6,7 +6,7 @@ ghost use Rattle.pb_place.specs.Paths.{joined, below, folder_of};
 ghost use Rattle.pb_report.specs.Faults.{is_outside};
 ghost use Rattle.pb_directive.specs.Directives.{words_of};
 ghost use Rattle.pb_build.specs.Setup.{set_text, rustc_of, flags_of, target_of, setup_of, setup_with};
-ghost use Rattle.pb_build.specs.Causes.{Reads};
+ghost use Rattle.pb_build.specs.Causes.{Reads, is_variable};
 
 use crate::device::device;
 use pb_data::{Items, Text, TryCopy};
@@ -34,6 +34,7 @@ pub struct Setup {
 
 /// A variable that is set to some text: an empty one counts as absent (our own choice).
 fn variable<P: Place>(place: &mut P, alloc: Global, name: &str) -> Result<Option<Text>, BuildFault>
+    requires { is_variable name.now ≡ true }
     ensures ok { IsTrue P.tells → IfOk result (λ found. found ≡ set_text (finite.get (P.world place.old).variables name.now)) }
     ensures same { IsTrue P.tells → P.world place.new ≡ P.world place.old }
     ensures outside { IfErr result (λ e. is_outside e ≡ true) }
