@@ -39,6 +39,10 @@ pub written-listed : (path bytes folder : List ℕ) (old new : World) → new �
 written-listed path bytes folder old new is =
     among_keys (retain_keys new.files (is_below folder)) path ∙ ap is_some (get-kept new.files (is_below folder) path ∙ ap (λ o. cond (is_below folder path) o None) (written-read path bytes old new is)) ∙ kept_is (is_below folder path) bytes
 
+-- what is read after a removal
+pub removed-read : (path q : List ℕ) (old new : World) → new ≡ removed path old → get new.files q ≡ cond (not (is_at_or_below path q)) (get old.files q) None
+removed-read path q old new is = ap (λ w. get w.files q) is ∙ get-kept old.files (λ x. not (is_at_or_below path x)) q
+
 -- paths that compare as one are one
 pub same_path : (p q : List ℕ) → is_same_path p q ≡ true → q ≡ p
 same_path p q same = exact q p (tied (slice_cmp nat_cmp q p) same)
