@@ -1,10 +1,10 @@
 -- A `BTreeMap` of bytes by texts, beside the finite map that it stands for.
-use Rattle.std.proofs.Common.{◌≡◌, ℕ, Bool, true, false, not, cond, List, [], ◌∷◌, length, map as map_list, T, ◌&&◌, Option, Some, None, refl, sym, ap, subst, ◌∙◌, rules, arith, is_some, ◌++◌, ◌==◌, ◌<◌, ◌||◌}
-use Rattle.std.specs.BTreeMap.{BTreeMap, IsOrdered, get_by, is_at, insert_entry}
+use Rattle.std.proofs.Common.{◌≡◌, ℕ, Bool, true, false, not, cond, List, [], ◌∷◌, map as map_list, T, ◌&&◌, Option, Some, None, refl, sym, ap, ◌∙◌, arith, is_some, ◌++◌, ◌==◌, ◌<◌, ◌||◌}
+use Rattle.std.specs.BTreeMap.{is_at, insert_entry}
 use Rattle.std.specs.Map.{lookup, keys_of, remove_entry}
 use Rattle.std.specs.List.{filter, AllByRecursion, list_any, list_all}
 use Rattle.std.specs.List.Sorted.{IsStrictlySortedBy}
-use Rattle.std.specs.Ordering.{nat_cmp, eq_by_cmp, is_eq, is_lt, is_le, ordering_then, match_ordering}
+use Rattle.std.specs.Ordering.{nat_cmp, eq_by_cmp, is_lt, is_le, ordering_then, match_ordering}
 use Rattle.std.specs.declared.cmp.Ordering.{Ordering}
 use Rattle.std.specs.declared.cmp.Ordering.TheVariants.{Less, Equal, Greater}
 use Rattle.std.specs.Cmp.{eq_by_cmp_equiv, ranked, unsigned_ties}
@@ -14,7 +14,7 @@ use Rattle.std.specs.declared.ops.Bound.TheVariants.{Excluded}
 use Rattle.std.proofs.lemmas.Bool.Decides.{nat_tests}
 use Rattle.pb_place.specs.Paths.{stem, leads_below, is_below, is_at_or_below}
 use Rattle.std.specs.Cmp.Lexicographic.{slice_cmp, nat_list_cmp_total, lists_ties}
-use Rattle.std.specs.FinMap.{FinMap, IsAntisymmetric, nat_cmp-IsAntisymmetric, slice_cmp-IsAntisymmetric, get, insert, retain_keys, remove, get-remove, from_entries, find, get-from_entries, get-insert, get-retain_keys, same_map, keys, entries, from_sorted, get-from_sorted, entries-from_sorted, contains_key-keys}
+use Rattle.std.specs.FinMap.{IsAntisymmetric, nat_cmp-IsAntisymmetric, slice_cmp-IsAntisymmetric, get, insert, retain_keys, remove, get-remove, from_entries, find, get-from_entries, get-insert, get-retain_keys, same_map, keys, entries, from_sorted, get-from_sorted, entries-from_sorted, contains_key-keys}
 use Rattle.std.specs.FinMap.Entries.{is_sorted, is_sorted-where_key, below_all, where_key, find-where_key}
 use Rattle.pb_place.specs.World.{Map, is_same_path}
 use Rattle.pb_place.proofs.PathLemmas.{and_left, and_right}

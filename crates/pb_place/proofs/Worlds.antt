@@ -1,7 +1,7 @@
 -- What writing one file changes, and what putting the files of a reply changes.
-use Rattle.std.proofs.Common.{◌≡◌, ℕ, Bool, true, false, not, ◌||◌, ◌⊎◌, take, cond, List, [], ◌∷◌, Option, Some, None, refl, sym, ap, ◌∙◌, inl, inr, is_some}
+use Rattle.std.proofs.Common.{◌≡◌, ℕ, Bool, true, false, not, ◌||◌, ◌⊎◌, take, cond, List, Option, Some, None, refl, sym, ap, ◌∙◌, inl, inr, is_some}
 use Rattle.std.proofs.lemmas.Bool.{cases_Bool, false≢true}
-use Rattle.std.specs.Ordering.{nat_cmp, eq_by_cmp, is_eq}
+use Rattle.std.specs.Ordering.{nat_cmp, is_eq}
 use Rattle.std.specs.declared.cmp.Ordering.{Ordering}
 use Rattle.std.specs.declared.cmp.Ordering.TheVariants.{Less, Equal, Greater}
 use Rattle.std.specs.Cmp.{eq_by_cmp_equiv}
@@ -38,6 +38,10 @@ written-read path bytes old new is = ap (λ w. get w.files path) is ∙ get-same
 pub written-listed : (path bytes folder : List ℕ) (old new : World) → new ≡ written path bytes old → list_any (is_same_path path) (listed folder new) ≡ is_below folder path
 written-listed path bytes folder old new is =
     among_keys (retain_keys new.files (is_below folder)) path ∙ ap is_some (get-kept new.files (is_below folder) path ∙ ap (λ o. cond (is_below folder path) o None) (written-read path bytes old new is)) ∙ kept_is (is_below folder path) bytes
+
+-- what is read after a removal
+pub removed-read : (path q : List ℕ) (old new : World) → new ≡ removed path old → get new.files q ≡ cond (not (is_at_or_below path q)) (get old.files q) None
+removed-read path q old new is = ap (λ w. get w.files q) is ∙ get-kept old.files (λ x. not (is_at_or_below path x)) q
 
 -- paths that compare as one are one
 pub same_path : (p q : List ℕ) → is_same_path p q ≡ true → q ≡ p

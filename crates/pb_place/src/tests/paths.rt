@@ -1,6 +1,6 @@
 //! Paths by tables of texts.
 
-use crate::{PathFault, PathText, RelativePath};
+use crate::{PathFault, PathText, RelativePath, parsing_keeps_paths};
 use pb_data::{Text, TryCopy};
 use std::alloc::{AllocError, Global};
 use std::test::Fail;
@@ -103,6 +103,7 @@ fn folders(rt: HostRuntime) -> Result<(), Fail> {
         assert_eq!(rt; folder.as_str(), wanted);
         assert!(rt; path.copy(rt.alloc())? == path);
     }
+    parsing_keeps_paths();
     Ok(())
 }
 
