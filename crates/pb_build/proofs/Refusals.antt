@@ -35,4 +35,5 @@ named_unsunk Sink h = absurd (false≢true h)
 named_unsunk OutOfMemory h = refl
 
 pub ruleset inner_laws = (inner_failed, inner_named)
+
 pub ruleset named_laws = (named_unsunk)
