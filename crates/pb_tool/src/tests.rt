@@ -1,6 +1,7 @@
 //! The session program and its command line, against worked examples.
 
 mod builds;
+mod definitions;
 mod examples;
 mod failing;
 mod refusals;
