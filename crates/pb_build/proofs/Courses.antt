@@ -140,10 +140,6 @@ queried child s w new c e is ends =
     let asked : Ends (child (query_of s)) (query_of s) w e new = subst (λ (d : Command). Ends (child d) d w e new) is ends in
     ap (λ (v : World). toolchain_in (ended_by (child (query_of s) v))) (sym (query_sees s w)) ∙ ap toolchain_in (sym (ended_is _ _ _ _ _ asked))
 
--- and left the world as it was
-pub query_changes_nothing : (child : Answers) (s : Setup) (w new : World) (c : Command) (e : Ended) → c ≡ query_of s → Ends (child c) c w e new → new ≡ w
-query_changes_nothing child s w new c e is ends = (subst (λ (d : Command). Ends (child d) d w e new) is ends).world
-
 -- the unit's child was run
 pub ran : (child : Answers) (s : Setup) (u : LibraryUnit) (old mid new : World) (version : List ℕ) (c : Command) (out : List ℕ) (e : Ended)
     → version_of child s (from_nothing s.target old) ≡ Ok version → mid ≡ old → c ≡ command_of s version u → out ≡ out_of s.target u → Ends (child c) c (removed out mid) e new

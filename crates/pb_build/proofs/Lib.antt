@@ -1,5 +1,7 @@
 pub mod CourseLaws
 pub mod Courses
+pub mod Edits
+pub mod Keeping
 pub mod Keys
 pub mod Names
 pub mod Refusals

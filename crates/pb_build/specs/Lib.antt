@@ -1,6 +1,7 @@
 pub mod Causes
 pub mod Command
 pub mod BuildResult
+pub mod Kept
 pub mod Laws
 pub mod Library
 pub mod Messages

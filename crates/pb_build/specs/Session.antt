@@ -1,5 +1,5 @@
 -- A session: edits and builds, one after another. Each build gives what its own world gives from nothing.
-use Rattle.std.specs.Prelude.{◌≡◌, ℕ, Bool, true, not, List, [], ◌∷◌, ◌++◌, Option, Result, Ok, Err}
+use Rattle.std.specs.Prelude.{◌≡◌, ⊤, ℕ, Bool, true, not, List, [], ◌∷◌, ◌++◌, Option, Result, Ok, Err}
 use Rattle.std.specs.List.{list_all}
 use Rattle.std.specs.Io.KnownBytes.{Appends}
 use Rattle.pb_place.specs.World.{World, Answers, written, removed}
@@ -12,6 +12,8 @@ use Rattle.pb_session.specs.declared.step.SessionStep.{SessionStep}
 use Rattle.pb_session.specs.declared.step.SessionStep.TheVariants.{Write, Remove, Set, Unset, Build}
 use Rattle.pb_build.specs.declared.sessions.Answer.{Answer}
 use Rattle.pb_build.specs.BuildResult.{BuildResult, result_of, left_by, Inside}
+use Rattle.pb_build.specs.Kept.{SourcesStay}
+use Rattle.pb_build.specs.Setup.{setup_of}
 
 -- a moment of a session: the world, what the sink has taken, and the answers of the builds so far
 pub record Moment : Type 0 where
@@ -29,11 +31,12 @@ pub record Edits (now : World) (before after : Moment) : Type 0 where
   pub taken : after.taken ≡ before.taken
   pub answers : after.answers ≡ before.answers
 
--- a build gives the result of the world before it: its answer, its lines and its files, unless the outside failed or memory was refused
+-- a build gives the result of the world before it: its answer, its lines and its files, unless the outside failed or memory was refused; and however it ends, the sources stay
 pub record Builds (child : Answers) (o : Options) (answer : Answer) (before after : Moment) : Type 0 where
   pub told : Told answer.result (result_of child o before.world).answer
   pub lines : Inside answer.result (Appends before.taken after.taken (result_of child o before.world).lines)
   pub files : Inside answer.result (after.world ≡ left_by (result_of child o before.world).files before.world)
+  pub kept : SourcesStay (setup_of o before.world.variables).target before.world after.world
   pub answers : after.answers ≡ before.answers ++ answer ∷ []
 
 abbrev pub Step : Answers → SessionStep → Moment → Moment → Type 0
@@ -82,3 +85,35 @@ ResultsGiven results before after = (after.answers ≡ before.answers ++ answers
 abbrev pub GivesResults : Type 0
 GivesResults = (child : Answers) (steps : List SessionStep) (before after : Moment) → Course child steps before after → all_inside after.answers ≡ true
     → ResultsGiven (results_of child steps before.world) before after
+
+-- what an edit makes of the world; a build is none
+abbrev pub edit : SessionStep → World → World
+edit (Write path text) w = written path text w
+edit (Remove path) w = removed path w
+edit (Set name value) w = set name value w
+edit (Unset name) w = unset name w
+edit (Build o) w = w
+
+-- the present workspace: what the edits among some steps have made of the world
+abbrev pub edited : List SessionStep → World → World
+edited [] w = w
+edited (step ∷ steps) w = edited steps (edit step w)
+
+-- the target folder of a build
+abbrev pub UsesTarget : List ℕ → SessionStep → World → Type 0
+UsesTarget target (Write path text) w = ⊤
+UsesTarget target (Remove path) w = ⊤
+UsesTarget target (Set name value) w = ⊤
+UsesTarget target (Unset name) w = ⊤
+UsesTarget target (Build o) w = (setup_of o w.variables).target ≡ target
+
+-- all builds among some steps have one target folder
+abbrev pub OneTarget : List ℕ → List SessionStep → World → Type 0
+OneTarget target [] w = ⊤
+OneTarget target (step ∷ steps) w = UsesTarget target step w × OneTarget target steps (edit step w)
+
+-- whatever builds came before into the same target folder, and however they ended, a build gives what the edits alone let it give
+abbrev pub Unaffected : Type 0
+Unaffected = (child : Answers) (o : Options) (steps : List SessionStep) (before after : Moment)
+    → OneTarget (setup_of o (edited steps before.world).variables).target steps before.world → Course child steps before after
+    → result_of child o after.world ≡ result_of child o (edited steps before.world)

@@ -6,9 +6,12 @@ ghost use Rattle.pb_report.specs.Faults.{Told, is_outside};
 ghost use Rattle.pb_build.specs.Causes.{StartsTwice, Built, is_failure, is_named, is_sink, is_refusal};
 ghost use Rattle.std.specs.Io.KnownBytes.{Appends};
 ghost use Rattle.pb_build.specs.Messages.{build_finished};
+ghost use Rattle.pb_place.specs.Paths.{is_below};
 ghost use Rattle.pb_place.specs.World.{from_nothing};
 ghost use Rattle.pb_build.specs.BuildResult.{version_of, result_of, fault_lines, left_by, Inside, Ran, Reported};
+ghost use Rattle.pb_build.specs.Kept.{SourcesStay};
 ghost use Rattle.pb_build.specs.Report.{IsReport, Says};
+ghost use Rattle.pb_build.specs.Setup.{setup_of};
 ghost use Rattle.pb_build.specs.Unit.{key_of, out_of};
 
 use crate::command::command_of;
@@ -27,9 +30,11 @@ use std::alloc::Global;
 fn run_plan<P: Place>(place: &mut P, alloc: Global, plan: &Plan) -> Result<Ended, BuildFault>
     requires key { plan.now.key ≡ key_of plan.now.unit }
     requires out { plan.now.out ≡ out_of plan.now.setup.target plan.now.unit }
+    requires inside { is_below plan.now.setup.target plan.now.out ≡ true }
     ensures ok { IsTrue P.tells → IfOk result (λ ended. Ran P.child plan.now.setup plan.now.unit (P.world place.old) ended (P.world place.new)) }
     ensures err { IsTrue P.tells → IfErr result (λ e. is_outside e ≡ false → version_of P.child plan.now.setup (from_nothing plan.now.setup.target (P.world place.old)) ≡ Err e) }
     ensures same { IsTrue P.tells → IfErr result (λ e. is_outside e ≡ false → P.world place.new ≡ P.world place.old) }
+    ensures kept { IsTrue P.tells → SourcesStay plan.now.setup.target (P.world place.old) (P.world place.new) }
     ensures begun { IfErr result (λ e. is_refusal e ≡ false) }
     ensures starts { StartsTwice result (P.counts place.old) (P.counts place.new) }
 {
@@ -43,9 +48,11 @@ fn run_plan<P: Place>(place: &mut P, alloc: Global, plan: &Plan) -> Result<Ended
 fn report_plan<P: Place>(place: &mut P, alloc: Global, plan: &Plan) -> Result<Report, BuildFault>
     requires key { plan.now.key ≡ key_of plan.now.unit }
     requires out { plan.now.out ≡ out_of plan.now.setup.target plan.now.unit }
+    requires inside { is_below plan.now.setup.target plan.now.out ≡ true }
     ensures ok { IsTrue P.tells → IfOk result (λ report. Reported P.child plan.now.setup plan.now.unit (P.world place.old) (string_bytes report.lines) report.summary (P.world place.new)) }
     ensures err { IsTrue P.tells → IfErr result (λ e. is_outside e ≡ false → version_of P.child plan.now.setup (from_nothing plan.now.setup.target (P.world place.old)) ≡ Err e) }
     ensures same { IsTrue P.tells → IfErr result (λ e. is_outside e ≡ false → P.world place.new ≡ P.world place.old) }
+    ensures kept { IsTrue P.tells → SourcesStay plan.now.setup.target (P.world place.old) (P.world place.new) }
     ensures begun { IfErr result (λ e. is_refusal e ≡ false) }
     ensures starts { StartsTwice result (P.counts place.old) (P.counts place.new) }
     ensures told { IfOk result (λ report. IsReport (string_bytes report.lines) report.summary) }
@@ -65,6 +72,7 @@ fn carry_out<P: Place>(
     ensures lines { IsTrue P.tells → MatchResult result (λ report. (result_of P.child options.now (P.world place.old)).lines ≡ string_bytes report.lines) (λ e. is_outside e ≡ false → (result_of P.child options.now (P.world place.old)).lines ≡ fault_lines e) }
     ensures files { IsTrue P.tells → Inside result (P.world place.new ≡ left_by (result_of P.child options.now (P.world place.old)).files (P.world place.old)) }
     ensures same { IsTrue P.tells → IfErr result (λ e. is_refusal e ≡ true → P.world place.new ≡ P.world place.old) }
+    ensures kept { IsTrue P.tells → SourcesStay (setup_of options.now (P.world place.old).variables).target (P.world place.old) (P.world place.new) }
     ensures unstarted { IfErr result (λ e. is_refusal e ≡ true → (P.counts place.new).starts ≡ (P.counts place.old).starts) }
     ensures starts { StartsTwice result (P.counts place.old) (P.counts place.new) }
     ensures told { IfOk result (λ report. IsReport (string_bytes report.lines) report.summary) }
@@ -119,6 +127,7 @@ pub fn build<P: Place, O: Out>(
     ensures names { IfErr result (λ e. is_sink e ≡ false → is_named e ≡ true) }
     ensures sink { IfErr result (λ e. is_sink e ≡ true → O.faults out.new ≡ up (O.faults out.old)) }
     ensures same { IsTrue P.tells → IfErr result (λ e. is_refusal e ≡ true → P.world place.new ≡ P.world place.old) }
+    ensures kept { IsTrue P.tells → SourcesStay (setup_of options.now (P.world place.old).variables).target (P.world place.old) (P.world place.new) }
     ensures unstarted { IfErr result (λ e. is_refusal e ≡ true → (P.counts place.new).starts ≡ (P.counts place.old).starts) }
     ensures closed { IfErr result (λ e. is_sink e ≡ false → Appends (O.taken out.old) (O.taken out.new) (fault_lines e)) }
     ensures silent { IfErr result (λ e. is_refusal e ≡ true → O.taken out.new ≡ O.taken out.old) }

@@ -2,7 +2,7 @@
 //! says.
 
 ghost use Rattle.pb_build.specs.Laws.{LooksAtSources, GivesFromNothing};
-ghost use Rattle.pb_build.specs.Session.{GivesResults};
+ghost use Rattle.pb_build.specs.Session.{GivesResults, Unaffected};
 
 /// A law: what stands in the target folder is not seen. Two worlds with the same variables and the same
 /// files outside it give the same answer, lines and files.
@@ -19,4 +19,10 @@ pub fn builds_give_from_nothing()
 /// `results_of`: each build gives what its own world gives.
 pub fn sessions_give_their_results()
     ensures { GivesResults }
+{}
+
+/// A law: whatever builds came before into the same target folder, and however they ended, a build gives
+/// what the edits alone let it give.
+pub fn earlier_builds_change_nothing()
+    ensures { Unaffected }
 {}

@@ -1,7 +1,7 @@
 //! What a build is going to do: read from the sources, before a child is started.
 
 ghost use Rattle.std.specs.Prelude.{◌≡◌, Bool, IfOk, IfErr, IsTrue, MatchResult, Ok, Err, true, false, codes};
-ghost use Rattle.pb_place.specs.Paths.{below, is_relative};
+ghost use Rattle.pb_place.specs.Paths.{below, is_below, is_relative};
 ghost use Rattle.pb_place.specs.World.{from_nothing};
 ghost use Rattle.pb_manifest.specs.Letters.{is_name};
 ghost use Rattle.pb_build.specs.Package.{served, has_unserved_file, HasName};
@@ -38,9 +38,11 @@ pub struct Plan {
 }
 
 /// A unit's output folder.
+#[tactic(auto, using(crate::proofs::Keeping::inside_laws))]
 fn out_of(alloc: Global, setup: &Setup, key: &str) -> Result<PathText, AllocError>
     requires { is_relative key.now ≡ true }
-    ensures { IfOk result (λ out. out ≡ below (below setup.now.target (codes "debug")) key.now) }
+    ensures out { IfOk result (λ out. out ≡ below (below setup.now.target (codes "debug")) key.now) }
+    ensures inside { IfOk result (λ out. is_below setup.now.target out ≡ true) }
 {
     let name = RelativePath::name(alloc, key)?;
     let debug = RelativePath::name(alloc, "debug")?;
@@ -56,6 +58,7 @@ fn plan_of(alloc: Global, setup: Setup, unit: LibraryUnit) -> Result<Plan, Alloc
     ensures unit { IfOk result (λ plan. plan.unit ≡ unit) }
     ensures key { IfOk result (λ plan. plan.key ≡ key_of plan.unit) }
     ensures out { IfOk result (λ plan. plan.out ≡ out_of plan.setup.target plan.unit) }
+    ensures inside { IfOk result (λ plan. is_below plan.setup.target plan.out ≡ true) }
 {
     let key = key_of(alloc, &unit)?;
     let out = out_of(alloc, &setup, key.as_str())?;
@@ -195,6 +198,7 @@ pub fn plan_in<P: Place>(
     ensures unit { IsTrue P.tells → MatchResult result (λ plan. planned options.now (P.world place.old) ≡ Ok plan.unit) (λ e. is_outside e ≡ false → planned options.now (P.world place.old) ≡ Err e) }
     ensures key { IfOk result (λ plan. plan.key ≡ key_of plan.unit) }
     ensures out { IfOk result (λ plan. plan.out ≡ out_of plan.setup.target plan.unit) }
+    ensures inside { IfOk result (λ plan. is_below plan.setup.target plan.out ≡ true) }
     ensures same { IsTrue P.tells → P.world place.new ≡ P.world place.old }
     ensures reads { Reads result (P.counts place.old) (P.counts place.new) }
 {

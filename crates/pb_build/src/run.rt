@@ -2,9 +2,10 @@
 
 ghost use Rattle.std.specs.Prelude.{◌≡◌, ◌||◌, ◌++◌, ◌∷◌, [], Bool, IfOk, IfErr, OnOk, IsTrue, Some, None, true, false, codes, pos, string_bytes};
 ghost use Rattle.std.specs.Str.{bytes_eq};
-ghost use Rattle.pb_place.specs.World.{World, Ends, removed, put_reply, seen_by};
+ghost use Rattle.pb_place.specs.World.{World, Ends, ChangesOnlyInSome, removed, put_reply, seen_by};
 ghost use Rattle.pb_report.specs.Faults.{is_outside};
 ghost use Rattle.pb_build.specs.Causes.{Reads, Starts, is_failure, is_key};
+ghost use Rattle.pb_build.specs.Kept.{Spares};
 ghost use Rattle.pb_build.specs.Outcome.{is_too_long, fault_of, greatest_stream};
 
 use crate::device::{childless, device};
@@ -45,6 +46,7 @@ pub fn start<P: Place>(
 ) -> Result<Ended, BuildFault>
     requires { bytes_eq name.now (codes "-vV") || is_key name.now ≡ true }
     ensures ok { IsTrue P.tells → IfOk result (λ ended. Ends (P.child command.now) command.now (P.world place.old) ended (P.world place.new)) }
+    ensures only { IsTrue P.tells → ChangesOnlyInSome command.now.out (P.world place.old) (P.world place.new) }
     ensures outside { IfErr result (λ e. is_outside e ≡ true) }
     ensures starts { Starts result (P.counts place.old) (P.counts place.new) }
 {
@@ -55,6 +57,7 @@ pub fn start<P: Place>(
 }
 
 /// Empties a folder. A fault names the unit.
+#[tactic(auto, using(crate::proofs::Keeping::staying_laws))]
 fn empty<P: Place>(
     place: &mut P,
     alloc: Global,
@@ -63,6 +66,7 @@ fn empty<P: Place>(
 ) -> Result<(), BuildFault>
     requires { is_key name.now ≡ true }
     ensures ok { IsTrue P.tells → OnOk result (P.world place.new ≡ removed folder.now (P.world place.old)) }
+    ensures spared { IsTrue P.tells → Spares folder.now (P.world place.old) (P.world place.new) }
     ensures outside { IfErr result (λ e. is_outside e ≡ true) }
     ensures reads { Reads result (P.counts place.old) (P.counts place.new) }
 {
@@ -73,6 +77,7 @@ fn empty<P: Place>(
 }
 
 /// Runs a unit: its output folder is emptied, then its child is started.
+#[tactic(auto, using(crate::proofs::Keeping::staying_laws))]
 pub fn run_unit<P: Place>(
     place: &mut P,
     alloc: Global,
@@ -80,8 +85,10 @@ pub fn run_unit<P: Place>(
     out: &PathText,
     command: &Command,
 ) -> Result<Ended, BuildFault>
-    requires { is_key key.now ≡ true }
+    requires key { is_key key.now ≡ true }
+    requires out { command.now.out ≡ Some out.now }
     ensures ok { IsTrue P.tells → IfOk result (λ ended. Ends (P.child command.now) command.now (removed out.now (P.world place.old)) ended (P.world place.new)) }
+    ensures spared { IsTrue P.tells → Spares out.now (P.world place.old) (P.world place.new) }
     ensures outside { IfErr result (λ e. is_outside e ≡ true) }
     ensures starts { Starts result (P.counts place.old) (P.counts place.new) }
 {

@@ -68,7 +68,7 @@ fn toolchain_in(ended: Ended) -> Result<Bytes, BuildFault>
 /// Asks the compiler for its version. Toolchain where it does not say its host.
 pub fn toolchain<P: Place>(place: &mut P, alloc: Global, setup: &Setup) -> Result<Bytes, BuildFault>
     ensures told { IsTrue P.tells → Told result (version_of P.child setup.now (from_nothing setup.now.target (P.world place.old))) }
-    ensures same { IsTrue P.tells → Inside result (P.world place.new ≡ P.world place.old) }
+    ensures same { IsTrue P.tells → P.world place.new ≡ P.world place.old }
     ensures begun { IfErr result (λ e. is_refusal e ≡ false) }
     ensures starts { Starts result (P.counts place.old) (P.counts place.new) }
     ensures once { Inside result ((P.counts place.new).starts ≡ up (P.counts place.old).starts) }
