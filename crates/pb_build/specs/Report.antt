@@ -1,5 +1,5 @@
 -- What a build says of its one unit: its lines and its summary.
-use Rattle.std.specs.Prelude.{◌≡◌, ℕ, Bool, true, false, codes, List, [], ◌∷◌, ◌++◌, Option, Some, None, is_none}
+use Rattle.std.specs.Prelude.{◌≡◌, ◌⊎◌, ℕ, Bool, true, false, codes, List, [], ◌∷◌, ◌++◌, Option, Some, None, is_none, take}
 use Rattle.std.specs.List.{concat}
 use Rattle.std.specs.Io.KnownBytes.{Appends}
 use Rattle.pb_place.specs.declared.command.Ended.{Ended}
@@ -42,3 +42,11 @@ IsReport lines s = (out : List ℕ) × (u : LibraryUnit) × (key : List ℕ) × 
 -- a sink took the lines of a build with this summary, whole, and nothing else
 abbrev pub Says : Option (List ℕ) → Option (List ℕ) → Summary → Type 0
 Says old new s = (lines : List ℕ) × Appends old new lines × IsReport lines s
+
+-- a sink took the first of some lines, and nothing else
+abbrev pub Begins : Option (List ℕ) → Option (List ℕ) → List ℕ → Type 0
+Begins old new lines = (n : ℕ) × Appends old new (take n lines)
+
+-- the lines of a build were cut short, or those of a build that ended with a fault, which has the failing finish line alone
+abbrev pub CutShort : Option (List ℕ) → Option (List ℕ) → List ℕ → Type 0
+CutShort old new lines = Begins old new lines ⊎ Begins old new (build_finished false)

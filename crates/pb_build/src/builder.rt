@@ -10,7 +10,7 @@ ghost use Rattle.pb_place.specs.Paths.{is_below};
 ghost use Rattle.pb_place.specs.World.{from_nothing};
 ghost use Rattle.pb_build.specs.BuildResult.{version_of, result_of, fault_lines, left_by, Inside, Ran, Reported};
 ghost use Rattle.pb_build.specs.Kept.{SourcesStay};
-ghost use Rattle.pb_build.specs.Report.{IsReport, Says};
+ghost use Rattle.pb_build.specs.Report.{IsReport, Says, Begins, CutShort};
 ghost use Rattle.pb_build.specs.Setup.{setup_of};
 ghost use Rattle.pb_build.specs.Unit.{key_of, out_of};
 
@@ -89,6 +89,7 @@ fn close<O: Out>(out: &mut O, fault: BuildFault) -> BuildFault
     ensures kept { is_sink result ≡ false → result ≡ fault }
     ensures lines { is_sink result ≡ false → Appends (O.taken out.old) (O.taken out.new) (fault_lines fault) }
     ensures sink { is_sink fault ≡ false → is_sink result ≡ true → O.faults out.new ≡ up (O.faults out.old) }
+    ensures cut { is_sink fault ≡ false → is_sink result ≡ true → Begins (O.taken out.old) (O.taken out.new) (build_finished false) }
     ensures silent { is_refusal fault ≡ true → O.taken out.new ≡ O.taken out.old }
 {
     match fault {
@@ -126,6 +127,7 @@ pub fn build<P: Place, O: Out>(
     ensures starts { Built result (P.counts place.old) (P.counts place.new) }
     ensures names { IfErr result (λ e. is_sink e ≡ false → is_named e ≡ true) }
     ensures sink { IfErr result (λ e. is_sink e ≡ true → O.faults out.new ≡ up (O.faults out.old)) }
+    ensures cut { IsTrue P.tells → IfErr result (λ e. is_sink e ≡ true → CutShort (O.taken out.old) (O.taken out.new) (result_of P.child options.now (P.world place.old)).lines) }
     ensures same { IsTrue P.tells → IfErr result (λ e. is_refusal e ≡ true → P.world place.new ≡ P.world place.old) }
     ensures kept { IsTrue P.tells → SourcesStay (setup_of options.now (P.world place.old).variables).target (P.world place.old) (P.world place.new) }
     ensures unstarted { IfErr result (λ e. is_refusal e ≡ true → (P.counts place.new).starts ≡ (P.counts place.old).starts) }
