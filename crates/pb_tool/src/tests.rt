@@ -4,6 +4,7 @@ mod builds;
 mod definitions;
 mod examples;
 mod failing;
+mod plain;
 mod refusals;
 
 use crate::command_line::session_file;

@@ -1,75 +1,44 @@
-//! What a build gives by its definition, beside the worked examples: functions whose contracts are the
-//! definition's answer, lines and files, and which the tests compare with what the rules say.
+//! The definition of what a build gives, computed by a plain function on worked examples: beside what the rules
+//! say of them, and beside what `build` gives.
 
-ghost use Rattle.std.specs.Prelude.{◌≡◌, ◌++◌};
-ghost use Rattle.pb_report.specs.Faults.{Told};
-ghost use Rattle.pb_build.specs.BuildResult.{result_of, left_by, Inside};
-ghost use Rattle.pb_tool.specs.Session.{small_compiler};
-
+use super::plain::{Given, given_in};
 use super::{ARTIFACT, ERROR, FINISHED, NOT_FINISHED, WARNING};
-use pb_build::{BuildFault, Options, Summary, build};
+use pb_build::{BuildFault, Options, Summary, build, result_line};
 use pb_data::Text;
 use pb_mini::Mini;
-use pb_place::{Memory, Out, PathText};
+use pb_place::{FileMap, Memory, Over, PathText, Place, TextMap};
 use std::alloc::Global;
 use std::test::Fail;
 
-/// A sink that keeps what it took.
+const PACKAGE: &str = "[package]\nname = \"a\"\nversion = \"0.1.0\"\nedition = \"2021\"\n";
+
+const MANIFEST: (&str, &str) = ("/w/Cargo.toml", PACKAGE);
+
+const LIBRARY: (&str, &str) = ("/w/src/lib.rs", "");
+
+/// A world, once for a build and once for the definition.
 #[derive(Drop)]
-struct Kept {
-    bytes: Vec<u8>,
-    failures: u64,
+struct Twice {
+    memory: Memory<Mini>,
+    files: FileMap,
+    variables: TextMap,
 }
 
-impl Out for Kept {
-    ghost use Rattle.std.specs.Prelude.{Some};
-
-    ghost taken = { λ k. Some k.bytes.items };
-
-    ghost faults = { λ k. k.failures };
-
-    fn write(&mut self, bytes: &[u8]) -> Option<usize> {
-        match self.bytes.extend_from_slice(bytes) {
-            Ok(()) => Some(bytes.len()),
-            Err(_) => {
-                self.failures = self.failures.saturating_add(1);
-                None
-            }
-        }
+/// The world of these files and this compiler.
+fn world_twice(alloc: Global, files: &[(&str, &str)], compiler: &str) -> Result<Twice, Fail> {
+    let mut all = Twice {
+        memory: Memory::new(alloc, Mini),
+        files: FileMap::new(alloc),
+        variables: TextMap::new(alloc),
+    };
+    for (path, text) in files {
+        let path = PathText::parse(alloc, *path)?;
+        all.memory.put(alloc, &path, text.as_bytes())?;
+        all.files.insert(alloc, &path, text.as_bytes())?;
     }
-
-    fn failures(&self) -> u64 {
-        self.failures
-    }
-}
-
-/// Builds in a place in memory: the definition's answer, lines and files.
-fn given(
-    alloc: Global,
-    memory: &mut Memory<Mini>,
-    lines: &mut Kept,
-    options: &Options,
-) -> Result<Summary, BuildFault>
-    ensures answer { Told result (result_of small_compiler options.now memory.old.world).answer }
-    ensures lines { Inside result (lines.new.bytes.items ≡ lines.old.bytes.items ++ (result_of small_compiler options.now memory.old.world).lines) }
-    ensures files { Inside result (memory.new.world ≡ left_by (result_of small_compiler options.now memory.old.world).files memory.old.world) }
-{
-    build(alloc, memory, lines, options)
-}
-
-/// Puts a file.
-fn put(alloc: Global, memory: &mut Memory<Mini>, path: &str, text: &str) -> Result<(), Fail> {
-    let path = PathText::parse(alloc, path)?;
-    memory.put(alloc, &path, text.as_bytes())?;
-    Ok(())
-}
-
-/// Puts a package with one source, beside an old file in its output folder.
-fn put_package(alloc: Global, memory: &mut Memory<Mini>, source: &str) -> Result<(), Fail> {
-    let manifest = "[package]\nname = \"a\"\nversion = \"0.1.0\"\nedition = \"2021\"\n";
-    put(alloc, memory, "/w/Cargo.toml", manifest)?;
-    put(alloc, memory, "/w/src/lib.rs", source)?;
-    put(alloc, memory, "/w/target/debug/a.target.lib/old", "old")
+    all.memory.set(alloc, "RUSTC", compiler)?;
+    all.variables.insert(alloc, "RUSTC", compiler)?;
+    Ok(all)
 }
 
 /// The options of the package's build.
@@ -79,46 +48,55 @@ fn options_of(alloc: Global) -> Result<Options, Fail> {
     Ok(Options { manifest, tool })
 }
 
-/// Whether the lines that a build gives by its definition are these.
-fn gives_lines(alloc: Global, memory: &mut Memory<Mini>, want: &str) -> Result<bool, Fail> {
-    let options = options_of(alloc)?;
-    let mut lines = Kept {
-        bytes: Vec::new(alloc),
-        failures: 0,
-    };
-    let ended = given(alloc, memory, &mut lines, &options).is_ok();
-    Ok(ended && lines.bytes.as_slice() == want.as_bytes())
-}
-
-/// Whether a file of the output folder is this one, or is not there.
-fn holds(
+/// Whether two answers have the same result line.
+fn is_same_answer(
     alloc: Global,
-    memory: &Memory<Mini>,
-    path: &str,
-    want: Option<&str>,
+    answer: &Result<Summary, BuildFault>,
+    other: &Result<Summary, BuildFault>,
 ) -> Result<bool, Fail> {
-    let path = PathText::parse(alloc, path)?;
-    match (memory.file(alloc, &path)?, want) {
-        (Some(found), Some(text)) => Ok(found.as_slice() == text.as_bytes()),
-        (None, None) => Ok(true),
-        _ => Ok(false),
-    }
+    let line = result_line(alloc, answer)?;
+    let other_line = result_line(alloc, other)?;
+    Ok(line.as_str() == other_line.as_str())
 }
 
-/// Whether a build of a source gives these lines and this library by its definition, and no file that stood
-/// in the output folder before is left.
-fn gives_all(alloc: Global, source: &str, want: &str, image: Option<&str>) -> Result<bool, Fail> {
-    let mut memory = Memory::new(alloc, Mini);
-    put_package(alloc, &mut memory, source)?;
-    let lines = gives_lines(alloc, &mut memory, want)?;
-    let made = holds(
-        alloc,
-        &memory,
-        "/w/target/debug/a.target.lib/liba.rlib",
-        image,
-    )?;
-    let emptied = holds(alloc, &memory, "/w/target/debug/a.target.lib/old", None)?;
-    Ok(lines && made && emptied)
+/// Whether an output folder holds the files of the definition and no other.
+fn holds_files(alloc: Global, memory: &mut Memory<Mini>, given: &Given) -> Result<bool, Fail> {
+    let (out, files) = match &given.files {
+        Some(made) => made,
+        None => return Ok(true),
+    };
+    for (name, bytes) in files.as_slice() {
+        let path = out.below(alloc, name)?;
+        match memory.file(alloc, &path)? {
+            Some(found) => {
+                if found.as_slice() != bytes.as_slice() {
+                    return Ok(false);
+                }
+            }
+            None => return Ok(false),
+        }
+    }
+    Ok(memory.list(alloc, out)?.len() == files.len())
+}
+
+/// The lines of the definition, where a build gives its answer, its lines and its files.
+fn agreed(alloc: Global, files: &[(&str, &str)], compiler: &str) -> Result<Option<String>, Fail> {
+    let options = options_of(alloc)?;
+    let Twice {
+        mut memory,
+        files,
+        variables,
+    } = world_twice(alloc, files, compiler)?;
+    let given = match given_in(alloc, files, variables, &options) {
+        Ok(given) => given,
+        Err(_) => return Ok(None),
+    };
+    let mut lines = Vec::new(alloc);
+    let answer = build(alloc, &mut memory, &mut Over::new(&mut lines), &options);
+    let same = lines.as_slice() == given.lines.as_bytes()
+        && is_same_answer(alloc, &answer, &given.answer)?
+        && holds_files(alloc, &mut memory, &given)?;
+    Ok(if same { Some(given.lines) } else { None })
 }
 
 /// Texts one after another.
@@ -130,19 +108,94 @@ fn joined(alloc: Global, texts: &[&str]) -> Result<String, Fail> {
     Ok(all)
 }
 
+/// Whether the definition gives a build of a source these lines, and a build gives the same.
+fn gives(alloc: Global, source: &str, want: &str) -> Result<bool, Fail> {
+    let old = ("/w/target/debug/a.target.lib/old", "old");
+    let files = [MANIFEST, ("/w/src/lib.rs", source), old];
+    match agreed(alloc, &files, "rustc")? {
+        Some(lines) => Ok(lines.as_str() == want),
+        None => Ok(false),
+    }
+}
+
 #[test]
-fn builds_by_definition(rt: HostRuntime) -> Result<(), Fail> {
+fn the_definition_on_worked_sources(rt: HostRuntime) -> Result<(), Fail> {
     let alloc = rt.alloc();
     let made = joined(alloc, &[ARTIFACT, FINISHED])?;
     let warned = joined(alloc, &[WARNING, ARTIFACT, FINISHED])?;
     let failed = joined(alloc, &[ERROR, NOT_FINISHED])?;
-    for (source, want, image) in [
-        ("", made.as_str(), Some("mini lib a\n")),
-        ("warn old\n", warned.as_str(), Some("mini lib a\n")),
-        ("print x", made.as_str(), Some("mini lib a\nprint x\n")),
-        ("fail no\n", failed.as_str(), None),
+    for (source, want) in [
+        ("", made.as_str()),
+        ("print x\n", made.as_str()),
+        ("print y\n", made.as_str()),
+        ("warn old\n", warned.as_str()),
+        ("fail no\n", failed.as_str()),
     ] {
-        assert!(rt; gives_all(alloc, source, want, image)?, "{source}");
+        assert!(rt; gives(alloc, source, want)?, "{source}");
     }
+    Ok(())
+}
+
+/// Whether the definition and a build agree on these files, and both have lines or both have none.
+fn agrees(alloc: Global, files: &[(&str, &str)], has_lines: bool) -> Result<bool, Fail> {
+    match agreed(alloc, files, "/opt/rustc")? {
+        Some(lines) => Ok(lines.as_str().is_empty() != has_lines),
+        None => Ok(false),
+    }
+}
+
+#[test]
+fn builds_by_definition(rt: HostRuntime) -> Result<(), Fail> {
+    let alloc = rt.alloc();
+    for (manifest, has_lines) in [
+        (PACKAGE, true),
+        ("[package]\nname = \"w\"\n", true),
+        (
+            "[package]\nname = \"long-name_2\"\nversion = \"1.2.3-rc.4+b\"\nedition = \"2024\"\ndescription = \"d\"\nhomepage = \"h\"\nlicense = \"MIT\"\nlicense-file = \"L\"\nrepository = \"r\"\nrust-version = \"1.80\"\n",
+            true,
+        ),
+        ("", false),
+        ("[package", false),
+        ("[package]\nname = \"a b\"\n", false),
+        ("[package]\nname = \"a\"\nedition = \"2020\"\n", false),
+        ("[package]\nname = \"a\"\nlinks = \"z\"\n", false),
+        ("[package]\nname = \"a\"\nbuild = \"b.rs\"\n", false),
+        (
+            "[package]\nname = \"a\"\n[dependencies]\ns = \"1\"\n",
+            false,
+        ),
+        ("[package]\nname = \"a\"\n[features]\nf = []\n", false),
+        ("[workspace]\nmembers = [\"m\"]\n", false),
+    ] {
+        let files = [("/w/Cargo.toml", manifest), LIBRARY];
+        assert!(rt; agrees(alloc, &files, has_lines)?, "{manifest}");
+    }
+    for (path, has_lines) in [
+        ("/w/README", true),
+        ("/w/README.txt", true),
+        ("/w/README.md", true),
+        ("/w/target/Cargo.toml", true),
+        ("/w/src/main.rs", false),
+        ("/w/src/bin/b.rs", false),
+        ("/w/build.rs", false),
+    ] {
+        let files = [MANIFEST, LIBRARY, (path, "")];
+        assert!(rt; agrees(alloc, &files, has_lines)?, "{path}");
+    }
+    assert!(rt; agrees(alloc, &[MANIFEST], false)?);
+    assert!(rt; agrees(alloc, &[LIBRARY], false)?);
+    Ok(())
+}
+
+#[test]
+fn long_manifests_by_definition(rt: HostRuntime) -> Result<(), Fail> {
+    let alloc = rt.alloc();
+    let mut text = String::new(alloc);
+    for _ in 0..1_048_576 {
+        text.push_str("\n")?;
+    }
+    assert!(rt; agrees(alloc, &[("/w/Cargo.toml", text.as_str()), LIBRARY], false)?);
+    text.push_str("\n")?;
+    assert!(rt; agrees(alloc, &[("/w/Cargo.toml", text.as_str()), LIBRARY], false)?);
     Ok(())
 }
