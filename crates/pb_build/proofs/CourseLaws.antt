@@ -3,9 +3,7 @@ use Rattle.std.proofs.Common.{◌≡◌, ◌∙◌, ◌&&◌, ◌++◌, ℕ, Boo
 use Rattle.std.proofs.lemmas.Bool.{false≢true}
 use Rattle.std.proofs.lemmas.List.{append-nil, append_assoc}
 use Rattle.std.specs.Io.KnownBytes.{Appends}
-use Rattle.std.specs.List.{list_all}
-use Rattle.pb_place.specs.World.{World, Answers, written, removed}
-use Rattle.pb_place.specs.Memory.{set, unset}
+use Rattle.pb_place.specs.World.{World, Answers}
 use Rattle.pb_place.proofs.PathLemmas.{and_left, and_right}
 use Rattle.pb_report.specs.Faults.{Told, is_outside}
 use Rattle.pb_report.specs.declared.fault.BuildFault.{BuildFault}
@@ -14,7 +12,7 @@ use Rattle.pb_session.specs.declared.options.Options.{Options}
 use Rattle.pb_session.specs.declared.step.SessionStep.{SessionStep}
 use Rattle.pb_session.specs.declared.step.SessionStep.TheVariants.{Write, Remove, Set, Unset, Build}
 use Rattle.pb_build.specs.declared.sessions.Answer.{Answer}
-use Rattle.pb_build.specs.BuildResult.{BuildResult, result_of, left_by, Inside}
+use Rattle.pb_build.specs.BuildResult.{result_of, left_by, Inside}
 use Rattle.pb_build.specs.Session.{Moment, Edits, Builds, Step, Course, results_of, answers_in, lines_in, is_inside, all_inside, ResultsGiven}
 
 -- answers are added, and none is taken away

@@ -6,8 +6,8 @@ use Rattle.std.specs.FinMap.{get, retain_keys, same_map}
 use Rattle.std.specs.Cmp.Lexicographic.{nat_list_cmp_total}
 use Rattle.std.specs.Str.{bytes_eq}
 use Rattle.pb_data.specs.Gives.{◌>>=◌}
-use Rattle.pb_place.specs.Paths.{stem, below, leads_below, is_below, is_at_or_below}
-use Rattle.pb_place.specs.World.{World, Answers, Ends, Map, is_shown, is_same_path, seen_by, from_nothing, removed, put_reply}
+use Rattle.pb_place.specs.Paths.{stem, leads_below, is_below, is_at_or_below}
+use Rattle.pb_place.specs.World.{World, Answers, Ends, Map, is_shown, seen_by, from_nothing, removed, put_reply}
 use Rattle.pb_place.specs.declared.child.Reply.{Reply}
 use Rattle.pb_place.specs.declared.command.Command.{Command}
 use Rattle.pb_place.specs.declared.command.Ended.{Ended}
@@ -19,7 +19,7 @@ use Rattle.pb_build.specs.declared.setup.Setup.{Setup}
 use Rattle.pb_build.specs.declared.unit.LibraryUnit.{LibraryUnit}
 use Rattle.pb_session.specs.declared.options.Options.{Options}
 use Rattle.pb_report.specs.declared.summary.Summary.{Summary}
-use Rattle.pb_build.specs.BuildResult.{BuildResult, ended_by, version_of, reply_of, outcome_of, finished_with, fault_lines, ended_with, replied, result_from, result_of, left_by, Inside, Ran, Reported}
+use Rattle.pb_build.specs.BuildResult.{BuildResult, ended_by, version_of, outcome_of, finished_with, fault_lines, ended_with, replied, result_from, result_of, left_by, Inside, Ran, Reported}
 use Rattle.pb_place.specs.Counts.{Counts, up}
 use Rattle.pb_report.specs.Faults.{is_outside}
 use Rattle.pb_build.specs.Causes.{StartsTwice}

@@ -1,6 +1,6 @@
 -- The sources after a session's steps are what its edits have made of them, however its builds have ended.
 use Rattle.std.proofs.Common.{◌≡◌, ◌∙◌, ℕ, Bool, true, false, not, cond, List, [], ◌∷◌, Option, Some, None, refl, sym, ap, subst}
-use Rattle.std.specs.FinMap.{get, insert, remove, get-insert}
+use Rattle.std.specs.FinMap.{insert, remove, get-insert}
 use Rattle.std.specs.Cmp.Lexicographic.{nat_list_cmp_total}
 use Rattle.pb_place.specs.Memory.{set, unset}
 use Rattle.pb_place.specs.Paths.{is_at_or_below}

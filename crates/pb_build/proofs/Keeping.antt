@@ -1,5 +1,5 @@
 -- What a step of a build leaves as it was: the sources of each target folder above the folder that it works in.
-use Rattle.std.proofs.Common.{◌≡◌, ◌==◌, ◌&&◌, ◌||◌, ◌∙◌, ℕ, Bool, true, false, not, cond, List, [], ◌∷◌, ◌++◌, Option, Some, None, codes, refl, sym, ap, arith, inl, inr}
+use Rattle.std.proofs.Common.{◌≡◌, ◌==◌, ◌&&◌, ◌||◌, ◌∙◌, ℕ, Bool, true, false, not, cond, List, [], ◌∷◌, None, codes, refl, sym, ap, arith, inl, inr}
 use Rattle.std.proofs.lemmas.Bool.{cases_Bool, false≢true}
 use Rattle.std.proofs.lemmas.Bool.Decides.{nat_tests}
 use Rattle.std.specs.FinMap.{get, retain_keys, same_map}
@@ -7,7 +7,7 @@ use Rattle.std.specs.Cmp.Lexicographic.{nat_list_cmp_total}
 use Rattle.std.specs.Str.{bytes_eq}
 use Rattle.std.proofs.lemmas.Slice.Eq.{bytes_eq-Decides}
 use Rattle.pb_place.specs.Paths.{stem, below, leads_below, is_below, is_at_or_below, is_relative}
-use Rattle.pb_place.specs.World.{World, Map, AgreeBut, ChangesOnly, ChangesOnlyIn, ChangesOnlyInSome, PartlyRemoved, removed, from_nothing}
+use Rattle.pb_place.specs.World.{World, Map, ChangesOnly, ChangesOnlyIn, PartlyRemoved, removed}
 use Rattle.pb_place.proofs.MapLemmas.{exact, get-kept}
 use Rattle.pb_place.proofs.PathLemmas.{and_left, and_right, below_is_below}
 use Rattle.pb_place.proofs.Worlds.{AgreeBut-removed}

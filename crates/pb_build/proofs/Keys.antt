@@ -1,5 +1,5 @@
 -- The key of a package's library is the name of a folder.
-use Rattle.std.proofs.Common.{◌≡◌, ◌+◌, ◌-◌, drop, nat_eq, ◌==◌, ◌&&◌, ◌||◌, ℕ, Bool, true, false, not, cond, List, [], ◌∷◌, ◌++◌, length, codes, refl, sym, ap, subst, ◌∙◌, arith, inl, inr}
+use Rattle.std.proofs.Common.{◌≡◌, ◌+◌, ◌-◌, drop, nat_eq, ◌==◌, ◌&&◌, ◌||◌, ℕ, Bool, true, false, not, cond, List, [], ◌∷◌, ◌++◌, length, codes, refl, sym, ap, ◌∙◌, arith, inl, inr}
 use Rattle.std.proofs.lemmas.Bool.{cases_Bool, false≢true}
 use Rattle.std.proofs.lemmas.Bool.Decides.{nat_tests}
 use Rattle.std.proofs.Math.Seq.{drop-append_seam}
@@ -8,11 +8,9 @@ use Rattle.std.specs.Cmp.Lexicographic.{pointwise}
 use Rattle.std.specs.List.{list_any, list_all, onto_first}
 use Rattle.std.specs.Str.{bytes_eq}
 use Rattle.pb_manifest.specs.Letters as letters
-use Rattle.pb_place.specs.Paths.{parts_of, stays, leads_up, has_byte_0, is_name, is_relative}
+use Rattle.pb_place.specs.Paths.{parts_of, stays, leads_up, is_name, is_relative}
 use Rattle.pb_place.proofs.PathLemmas.{and_left, and_right}
 use Rattle.pb_build.specs.Causes.{is_key}
-use Rattle.pb_build.specs.Unit.{key_of}
-use Rattle.pb_build.specs.declared.unit.LibraryUnit.{LibraryUnit}
 
 -- a byte that may not stand in a name
 unlike : (n b : ℕ) → letters.is_name_byte n ≡ false → letters.is_name_byte b ≡ true → b == n ≡ false

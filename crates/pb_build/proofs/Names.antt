@@ -1,9 +1,7 @@
 -- The package of a manifest that was read has a name.
-use Rattle.std.proofs.Common.{◌≡◌, ℕ, List, Result, Ok, Err, IfOk, MatchResult, Option, Some, None, true, refl, subst, IfSome}
-use Rattle.pb_data.specs.Gives.{Gives}
+use Rattle.std.proofs.Common.{◌≡◌, ℕ, List, Ok, Option, Some, None, true, refl, subst, IfSome}
 use Rattle.pb_manifest.specs.Document.{manifest_of}
 use Rattle.pb_manifest.specs.Letters.{is_name}
-use Rattle.pb_manifest.specs.declared.fault.ManifestFault.{ManifestFault}
 use Rattle.pb_manifest.specs.declared.manifest.Manifest.{Manifest}
 use Rattle.pb_manifest.specs.declared.package.Package.{Package}
 use Rattle.pb_manifest.proofs.Names.{package_name_passes}

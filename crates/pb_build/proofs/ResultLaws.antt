@@ -1,12 +1,11 @@
 -- The result of a build looks at the sources alone.
 use Rattle.std.proofs.Common.{◌≡◌, ◌∙◌, ℕ, Bool, true, false, not, cond, List, Option, None, refl, sym, ap}
-use Rattle.std.specs.FinMap.{get, retain_keys, same_map}
+use Rattle.std.specs.FinMap.{get, same_map}
 use Rattle.std.specs.Cmp.Lexicographic.{nat_list_cmp_total}
 use Rattle.pb_place.specs.Paths.{is_at_or_below}
-use Rattle.pb_place.specs.World.{World, Map, Answers, from_nothing}
+use Rattle.pb_place.specs.World.{World, Map, from_nothing}
 use Rattle.pb_place.proofs.MapLemmas.{exact, get-kept}
-use Rattle.pb_session.specs.declared.options.Options.{Options}
-use Rattle.pb_build.specs.BuildResult.{build_from, result_of}
+use Rattle.pb_build.specs.BuildResult.{build_from}
 use Rattle.pb_build.specs.Laws.{LooksAtSources, GivesFromNothing}
 use Rattle.pb_build.specs.Setup.{setup_of}
 

@@ -1,7 +1,7 @@
 -- The sources of a world, file by file.
 use Rattle.std.proofs.Common.{◌≡◌, ◌==◌, ◌||◌, Bool, true, false, List, [], ◌∷◌, ℕ, T, not, cond, length, map, None, refl, sym, ap, ◌∙◌, arith}
 use Rattle.std.proofs.lemmas.Bool.Decides.{nat_tests}
-use Rattle.std.specs.FinMap.{get, entries, entries_sorted, keys, retain_keys, same_map, from_sorted, get-from_sorted, get-entries, entries-from_sorted}
+use Rattle.std.specs.FinMap.{get, entries, entries_sorted, retain_keys, same_map, from_sorted, get-from_sorted, get-entries, entries-from_sorted}
 use Rattle.std.specs.FinMap.Entries.{where_key, is_sorted, is_sorted-where_key, find-where_key}
 use Rattle.std.specs.Cmp.Lexicographic.{slice_cmp, nat_list_cmp_total}
 use Rattle.std.specs.List.{filter, list_any}

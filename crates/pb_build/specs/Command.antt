@@ -1,6 +1,6 @@
 -- The command of a library: its words group by group, and its variables (rustc's command line; The Cargo Book, Environment Variables).
 -- With no features, dependencies and scripts, the other groups of words are empty.
-use Rattle.std.specs.Prelude.{ℕ, codes, List, [], ◌∷◌, ◌++◌, Option, Some, None, Result, Ok, Err}
+use Rattle.std.specs.Prelude.{ℕ, codes, List, [], ◌∷◌, ◌++◌, Some, None, Result, Ok, Err}
 use Rattle.std.specs.Fmt.{decimal}
 use Rattle.std.specs.List.{concat}
 use Rattle.pb_manifest.specs.declared.package.Edition.{Edition}

@@ -1,5 +1,5 @@
 -- The message lines of a build (The Cargo Book, External Tools). No spaces outside strings; the keys in this order.
-use Rattle.std.specs.Prelude.{ℕ, ◌==◌, Bool, true, false, if◌then◌else◌, codes, List, [], ◌∷◌, ◌++◌, nat_eq, Option, Some, None}
+use Rattle.std.specs.Prelude.{ℕ, Bool, true, false, if◌then◌else◌, codes, List, [], ◌∷◌, ◌++◌, nat_eq, Option, Some, None}
 use Rattle.std.specs.List.{ends_with, concat}
 use Rattle.serde_json.specs.Data as json
 use Rattle.serde_json.specs.Read.{read}

@@ -1,5 +1,5 @@
 -- How the answer of a child is judged.
-use Rattle.std.specs.Prelude.{ℕ, Bool, true, false, not, ◌||◌, ◌&&◌, nat_lt, nat_eq, codes, if◌then◌else◌, List, length, Option, Some, None, is_some, pos, Result, Ok, Err}
+use Rattle.std.specs.Prelude.{ℕ, Bool, not, ◌||◌, ◌&&◌, nat_lt, nat_eq, codes, if◌then◌else◌, List, length, Option, Some, None, is_some, pos, Result, Ok, Err}
 use Rattle.std.specs.List.{list_any, starts_with}
 use Rattle.pb_directive.specs.Lines.{lines_of, text_of}
 use Rattle.pb_report.specs.declared.fault.BuildFault.{BuildFault}

@@ -1,5 +1,5 @@
 -- The package of a build and its library (The Cargo Book, Manifest Format), read from the sources.
-use Rattle.std.specs.Prelude.{ℕ, ◌==◌, Bool, true, false, not, ◌&&◌, ◌||◌, if◌then◌else◌, codes, List, [], ◌∷◌, ◌++◌, length, nat_eq, Option, Some, None, is_some, IfSome, ◌≡◌, Result, Ok, Err}
+use Rattle.std.specs.Prelude.{ℕ, ◌==◌, Bool, true, false, not, ◌||◌, if◌then◌else◌, codes, List, length, nat_eq, Option, Some, None, is_some, IfSome, ◌≡◌, Result, Ok, Err}
 use Rattle.std.specs.List.{ends_with}
 use Rattle.std.specs.FinMap as map
 use Rattle.pb_data.specs.Gives.{◌>>=◌}
