@@ -4,9 +4,9 @@
 //! It serves the manifests of the worked examples: none where a value is inherited, authors or `[lib]` are
 //! written, or `RUSTFLAGS` or `CARGO_TARGET_DIR` is set, and none where memory is refused.
 
-ghost use Rattle.std.specs.Prelude.{◌≡◌, [], codes, string_bytes, map, ⊤, None, IfOk, Ok, Err, false};
+ghost use Rattle.std.specs.Prelude.{◌≡◌, ◌++◌, [], string_bytes, map, ⊤, None, IfOk, OnOk, IsTrue, Ok, Err, false};
 ghost use Rattle.std.specs.FinMap as finite;
-ghost use Rattle.std.specs.List.{concat};
+ghost use Rattle.std.specs.List.{concat, list_any};
 ghost use Rattle.serde_json.specs.Read.{read};
 ghost use Rattle.pb_manifest.specs.declared.fault.ManifestFault.TheVariants.{UnsupportedTable};
 ghost use Rattle.pb_manifest.specs.declared.inherited.Inherited.TheVariants as inherited;
@@ -15,16 +15,16 @@ ghost use Rattle.pb_directive.specs.Metadata.{underscored};
 ghost use Rattle.pb_json.specs.Json.{json_string};
 ghost use Rattle.pb_place.specs.Paths.{below};
 ghost use Rattle.pb_place.specs.World.{World};
-ghost use Rattle.pb_build.specs.BuildResult.{ended_by, ended_with, reply_of, replied, result_of};
-ghost use Rattle.pb_build.specs.Command.{words_of, pairs_of, command_of};
+ghost use Rattle.pb_build.specs.BuildResult.{ended_by, ended_with, version_of, reply_of, replied, result_from, result_of};
+ghost use Rattle.pb_build.specs.Command.{words_of, pairs_of, query_of, command_of};
 ghost use Rattle.pb_build.specs.Library.{text_of, found_readme, said_in, about_in, standard_source, nothing_to_build, unit_with, library_of};
-ghost use Rattle.pb_build.specs.Messages.{package_id, target_text, subject_text, diagnostic_in, message_of, messages_in, compiler_artifact, reads_as_object};
-ghost use Rattle.pb_build.specs.Outcome.{fault_of};
-ghost use Rattle.pb_build.specs.Package.{refused, no_manifest, has_unserved_table, package_is_unserved, has_unserved_file, has_file, has_file_below};
+ghost use Rattle.pb_build.specs.Messages.{package_id, target_text, subject_text, diagnostic_in, message_of, messages_in, compiler_messages, artifact_line, compiler_artifact, json_list, truth_text, build_finished, reads_as_object};
+ghost use Rattle.pb_build.specs.Outcome.{is_host, toolchain_in, fault_of};
+ghost use Rattle.pb_build.specs.Package.{refused, no_manifest, manifest_in, has_unserved_table, package_is_unserved, has_unserved_file, has_file, has_file_below};
 ghost use Rattle.pb_build.specs.Plan.{unit_of, unit_in};
-ghost use Rattle.pb_build.specs.Report.{file_of, build_lines, summary_of};
+ghost use Rattle.pb_build.specs.Report.{file_of, unit_lines, build_lines, summary_of};
 ghost use Rattle.pb_build.specs.Setup.{set_text, setup_of, setup_with};
-ghost use Rattle.pb_build.specs.Unit.{key_of, out_of, edition_text};
+ghost use Rattle.pb_build.specs.Unit.{key_of, out_of, edition_text, crate_types_of};
 ghost use Rattle.pb_tool.specs.Session.{small_compiler};
 
 use pb_build::{
@@ -158,18 +158,25 @@ fn setup_with(alloc: Global, options: &Options, rustc: Option<Text>) -> Result<S
     })
 }
 
+/// Passes where a variable is not set, or empty.
+fn unset(alloc: Global, variables: &TextMap, name: &str) -> Result<(), Skipped>
+    ensures { OnOk result (set_text (finite.get variables.now name.now) ≡ None) }
+{
+    match variable(alloc, variables, name)? {
+        None => Ok(()),
+        Some(_) => Err(Skipped),
+    }
+}
+
 /// What the variables and the options say.
-#[tactic(auto, using(crate::proofs::Plain::setup_laws))]
 fn setup_of(alloc: Global, variables: &TextMap, options: &Options) -> Result<Setup, Skipped>
     ensures { IfOk result (λ setup. setup ≡ setup_of options.now variables.now) }
 {
-    let flags = variable(alloc, variables, "RUSTFLAGS")?;
-    let target = variable(alloc, variables, "CARGO_TARGET_DIR")?;
+    unset(alloc, variables, "RUSTFLAGS")?;
+    unset(alloc, variables, "CARGO_TARGET_DIR")?;
     let rustc = variable(alloc, variables, "RUSTC")?;
-    match (flags, target) {
-        (None, None) => setup_with(alloc, options, rustc),
-        _ => Err(Skipped),
-    }
+    let setup = setup_with(alloc, options, rustc)?;
+    Ok(setup)
 }
 
 /// Whether a folder has a file of this name.
@@ -318,15 +325,15 @@ fn unit_with(
     alloc: Global,
     manifest: &PathText,
     folder: &PathText,
-    name: &str,
+    name: &Text,
     version: Version,
     edition: Edition,
     about: About,
 ) -> Result<LibraryUnit, Skipped>
     ensures { IfOk result (λ unit. unit ≡ unit_with manifest.now folder.now (record { name = name.now; version = version; edition = edition }) about (record { name = underscored name.now; types = []; source = standard_source folder.now })) }
 {
-    let crate_name = underscored(alloc, name)?;
-    let own_name = Text::from_str(alloc, name)?;
+    let crate_name = underscored(alloc, name.as_str())?;
+    let own_name = name.copy(alloc)?;
     let own_manifest = manifest.copy(alloc)?;
     let own_folder = folder.copy(alloc)?;
     let source = path_in(alloc, folder, "src/lib.rs")?;
@@ -351,7 +358,6 @@ fn nothing_to_build() -> BuildFault
 }
 
 /// The library of a package without `[lib]`.
-#[tactic(auto, using(crate::proofs::Plain::library_laws))]
 fn library_of(
     alloc: Global,
     sources: &Sources,
@@ -364,19 +370,21 @@ fn library_of(
     let version = own_version(alloc, &named.version)?;
     let edition = own_edition(&named.edition)?;
     let about = about_of(alloc, sources, folder, named)?;
-    if !has(alloc, sources, folder, "src/lib.rs")? {
-        return Ok(Err(nothing_to_build()));
-    }
+    let there = has(alloc, sources, folder, "src/lib.rs")?;
     let unit = unit_with(
         alloc,
         manifest,
         folder,
-        named.name.as_str(),
+        &named.name,
         version,
         edition,
         about,
     )?;
-    Ok(Ok(unit))
+    if there {
+        Ok(Ok(unit))
+    } else {
+        Ok(Err(nothing_to_build()))
+    }
 }
 
 /// What a build does not serve yet.
@@ -423,14 +431,13 @@ fn no_manifest(alloc: Global, manifest: &PathText) -> Result<BuildFault, Skipped
     Ok(BuildFault::Plan(Refusal::Load(LoadFault::NoManifest(path))))
 }
 
-/// The library of the package whose manifest is named.
-fn unit_of(
+/// What the manifest at a path says.
+fn manifest_in(
     alloc: Global,
     sources: &Sources,
     manifest: &PathText,
-    folder: &PathText,
-) -> Result<Result<LibraryUnit, BuildFault>, Skipped>
-    ensures { IfOk result (λ made. made ≡ unit_of manifest.now folder.now (record { files = sources.now.files; variables = sources.now.variables })) }
+) -> Result<Result<Manifest, BuildFault>, Skipped>
+    ensures { IfOk result (λ said. said ≡ manifest_in manifest.now (record { files = sources.now.files; variables = sources.now.variables })) }
 {
     if !manifest.as_str().as_bytes().ends_with(b"/Cargo.toml") {
         return Ok(Err(no_manifest(alloc, manifest)?));
@@ -440,9 +447,27 @@ fn unit_of(
         None => return Ok(Err(no_manifest(alloc, manifest)?)),
     };
     match read_manifest(alloc, bytes.as_slice()) {
-        Ok(said) => unit_in(alloc, sources, manifest, folder, &said),
+        Ok(said) => Ok(Ok(said)),
         Err(ManifestFault::OutOfMemory) => Err(Skipped),
         Err(fault) => Ok(Err(refused(alloc, manifest, fault)?)),
+    }
+}
+
+/// The library of the package whose manifest is named.
+fn unit_of(
+    alloc: Global,
+    sources: &Sources,
+    manifest: &PathText,
+    folder: &PathText,
+) -> Result<Result<LibraryUnit, BuildFault>, Skipped>
+    ensures { IfOk result (λ made. made ≡ unit_of manifest.now folder.now (record { files = sources.now.files; variables = sources.now.variables })) }
+{
+    match manifest_in(alloc, sources, manifest)? {
+        Ok(said) => {
+            let made = unit_in(alloc, sources, manifest, folder, &said)?;
+            Ok(made)
+        }
+        Err(fault) => Ok(Err(fault)),
     }
 }
 
@@ -502,11 +527,73 @@ fn words_of(
     )?)
 }
 
-/// The version that the small compiler tells.
-fn version_of(alloc: Global) -> Result<Bytes, AllocError>
-    ensures { IfOk result (λ version. version ≡ codes "mini 0.1.0\nhost: mini-unknown-none\n") }
+/// The query of the version.
+fn query_of(alloc: Global, setup: &Setup) -> Result<Command, AllocError>
+    ensures { IfOk result (λ command. command ≡ query_of setup.now) }
 {
-    Bytes::from_slice(alloc, b"mini 0.1.0\nhost: mini-unknown-none\n")
+    Ok(Command {
+        program: setup.rustc.copy(alloc)?,
+        words: listed(alloc, &["-vV"])?,
+        folder: setup.root.copy(alloc)?,
+        pairs: Items::new(alloc),
+        out: None,
+        target: setup.target.copy(alloc)?,
+        toolchain: Bytes::from_slice(alloc, b"")?,
+        reads: Items::new(alloc),
+    })
+}
+
+/// Whether a line says the host.
+fn is_host(line: &[u8]) -> bool
+    ensures { result ≡ is_host line.now }
+{
+    line.len() > 6 && line.starts_with(b"host: ")
+}
+
+/// Whether one of the lines of a text says the host.
+fn has_host(text: &[u8]) -> bool
+    ensures { result ≡ list_any is_host (lines_of text.now) }
+{
+    let mut found = false;
+    for line in lines_of(text) {
+        found = found || is_host(line);
+    }
+    found
+}
+
+/// Whether a reply is good and says the host.
+fn tells_version(reply: &Reply) -> bool
+    ensures { IsTrue result → toolchain_in (ended_by reply.now) ≡ Ok reply.now.stdout }
+{
+    let stdout = reply.stdout.as_slice();
+    reply.status == 0
+        && stdout.len() <= 4_194_304
+        && reply.stderr.as_slice().len() <= 4_194_304
+        && text_of(stdout).is_some()
+        && has_host(stdout)
+}
+
+/// The small compiler's reply to a command.
+fn asked(alloc: Global, sources: &Sources, command: &Command) -> Result<Reply, Skipped>
+    ensures { IfOk result (λ reply. reply ≡ small_compiler command.now (record { files = sources.now.files; variables = sources.now.variables })) }
+{
+    match Mini.reply(alloc, command, sources) {
+        Ok(reply) => Ok(reply),
+        Err(_) => Err(Skipped),
+    }
+}
+
+/// The version that the small compiler tells.
+fn version_of(alloc: Global, sources: &Sources, setup: &Setup) -> Result<Bytes, Skipped>
+    ensures { IfOk result (λ version. version_of small_compiler setup.now (record { files = sources.now.files; variables = sources.now.variables }) ≡ Ok version) }
+{
+    let query = query_of(alloc, setup)?;
+    let reply = asked(alloc, sources, &query)?;
+    if tells_version(&reply) {
+        Ok(reply.stdout)
+    } else {
+        Err(Skipped)
+    }
 }
 
 /// A unit's key.
@@ -526,24 +613,29 @@ fn out_of(alloc: Global, setup: &Setup, unit: &LibraryUnit) -> Result<PathText, 
 }
 
 /// The compile. It has no variables, since the small compiler looks at none yet.
-fn command_of(alloc: Global, setup: &Setup, unit: &LibraryUnit) -> Result<Command, Skipped>
-    ensures { IfOk result (λ command. record command { pairs = pairs_of setup.now unit.now } ≡ command_of setup.now (codes "mini 0.1.0\nhost: mini-unknown-none\n") unit.now) }
+fn command_of(
+    alloc: Global,
+    setup: &Setup,
+    unit: &LibraryUnit,
+    version: Bytes,
+) -> Result<Command, Skipped>
+    ensures { IfOk result (λ command. record command { pairs = pairs_of setup.now unit.now } ≡ command_of setup.now version unit.now) }
 {
     let out = out_of(alloc, setup, unit)?;
+    let words = words_of(alloc, setup, unit, &out)?;
     Ok(Command {
         program: setup.rustc.copy(alloc)?,
-        words: words_of(alloc, setup, unit, &out)?,
+        words,
         folder: setup.root.copy(alloc)?,
         pairs: Items::new(alloc),
         out: Some(out),
         target: setup.target.copy(alloc)?,
-        toolchain: version_of(alloc)?,
+        toolchain: version,
         reads: Items::new(alloc),
     })
 }
 
 /// The small compiler's reply to the compile.
-#[tactic(auto, using(crate::proofs::Plain::reply_laws))]
 fn reply_of(
     alloc: Global,
     sources: &Sources,
@@ -552,11 +644,9 @@ fn reply_of(
 ) -> Result<Reply, Skipped>
     ensures { IfOk result (λ reply. reply_of small_compiler setup.now unit.now (record { files = sources.now.files; variables = sources.now.variables }) ≡ Ok reply) }
 {
-    let command = command_of(alloc, setup, unit)?;
-    match Mini.reply(alloc, &command, sources) {
-        Ok(reply) => Ok(reply),
-        Err(_) => Err(Skipped),
-    }
+    let version = version_of(alloc, sources, setup)?;
+    let command = command_of(alloc, setup, unit, version)?;
+    asked(alloc, sources, &command)
 }
 
 /// The fault of a reply, or none.
@@ -587,19 +677,28 @@ fn package_id(alloc: Global, unit: &LibraryUnit) -> Result<String, AllocError>
     }
 }
 
-/// The target object of a library without crate types.
-fn target_text(alloc: Global, unit: &LibraryUnit) -> Result<String, Skipped>
+/// The crate types of a library that writes none.
+fn types_text(alloc: Global, unit: &LibraryUnit) -> Result<String, Skipped>
+    ensures { IfOk result (λ text. string_bytes text ≡ json_list (crate_types_of unit.now.crate_types)) }
+{
+    match unit.crate_types.as_slice() {
+        [] => {
+            let lib = json_string(alloc, "lib")?;
+            Ok(joined(alloc, &["[", lib.as_str(), "]"])?)
+        }
+        _ => Err(Skipped),
+    }
+}
+
+/// The target object of a library, from its crate types.
+fn target_text(alloc: Global, unit: &LibraryUnit, types: String) -> Result<String, AllocError>
+    requires { string_bytes types ≡ json_list (crate_types_of unit.now.crate_types) }
     ensures { IfOk result (λ text. string_bytes text ≡ target_text unit.now) }
 {
-    if !unit.crate_types.is_empty() {
-        return Err(Skipped);
-    }
-    let lib = json_string(alloc, "lib")?;
-    let types = joined(alloc, &["[", lib.as_str(), "]"])?;
     let name = json_string(alloc, unit.crate_name.as_str())?;
     let source = json_string(alloc, unit.source.as_str())?;
     let edition = json_string(alloc, edition_text(unit.edition))?;
-    Ok(joined(
+    let text = joined(
         alloc,
         &[
             "{\"kind\":",
@@ -614,18 +713,20 @@ fn target_text(alloc: Global, unit: &LibraryUnit) -> Result<String, Skipped>
             edition.as_str(),
             "}",
         ],
-    )?)
+    )?;
+    Ok(text)
 }
 
-/// What each line of a unit begins with, after its reason.
-fn subject_of(alloc: Global, unit: &LibraryUnit) -> Result<String, Skipped>
+/// What each line of a unit begins with, after its reason, from its crate types.
+fn subject_of(alloc: Global, unit: &LibraryUnit, types: String) -> Result<String, AllocError>
+    requires { string_bytes types ≡ json_list (crate_types_of unit.now.crate_types) }
     ensures { IfOk result (λ text. string_bytes text ≡ subject_text unit.now) }
 {
     let id = package_id(alloc, unit)?;
     let id = json_string(alloc, id.as_str())?;
     let manifest = json_string(alloc, unit.manifest.as_str())?;
-    let target = target_text(alloc, unit)?;
-    Ok(joined(
+    let target = target_text(alloc, unit, types)?;
+    joined(
         alloc,
         &[
             "\"package_id\":",
@@ -635,7 +736,7 @@ fn subject_of(alloc: Global, unit: &LibraryUnit) -> Result<String, Skipped>
             ",\"target\":",
             target.as_str(),
         ],
-    )?)
+    )
 }
 
 /// Whether a text is a JSON object.
@@ -677,41 +778,143 @@ fn message_of(alloc: Global, subject: &str, line: &[u8]) -> Result<String, Alloc
     )
 }
 
+/// Adds the line of a diagnostic, if this is one.
+fn push_message(
+    alloc: Global,
+    lines: &mut String,
+    subject: &str,
+    line: &[u8],
+) -> Result<(), AllocError>
+    ensures { OnOk result (string_bytes lines.new ≡ string_bytes lines.old ++ message_of subject.now (diagnostic_in line.now)) }
+{
+    let message = message_of(alloc, subject, line)?;
+    lines.push_str(message.as_str())?;
+    Ok(())
+}
+
 /// The lines of the diagnostics in a standard error.
 fn messages_of(alloc: Global, subject: &str, stderr: &[u8]) -> Result<String, AllocError>
     ensures { IfOk result (λ text. string_bytes text ≡ messages_in subject.now (lines_of stderr.now)) }
 {
-    let mut all = String::new(alloc);
+    let mut lines = String::new(alloc);
     for line in lines_of(stderr) {
-        all.push_str(message_of(alloc, subject, line)?.as_str())?;
+        push_message(alloc, &mut lines, subject, line)?;
     }
-    Ok(all)
+    Ok(lines)
 }
 
 /// The line of a library that was made.
-fn artifact_of(
-    alloc: Global,
-    subject: &str,
-    out: &PathText,
-    unit: &LibraryUnit,
-) -> Result<String, AllocError>
-    ensures { IfOk result (λ text. subject.now ≡ subject_text unit.now → string_bytes text ≡ compiler_artifact unit.now (file_of out.now unit.now) false) }
+fn artifact_line(alloc: Global, subject: &str, file: &str) -> Result<String, AllocError>
+    ensures { IfOk result (λ text. string_bytes text ≡ artifact_line subject.now file.now (truth_text false)) }
 {
-    let file = joined(
-        alloc,
-        &[out.as_str(), "/lib", unit.crate_name.as_str(), ".rlib"],
-    )?;
-    let file = json_string(alloc, file.as_str())?;
     joined(
         alloc,
         &[
             "{\"reason\":\"compiler-artifact\",",
             subject,
-            ",\"profile\":{\"opt_level\":\"0\",\"debuginfo\":2,\"debug_assertions\":true,\"overflow_checks\":true,\"test\":false},\"features\":[],\"filenames\":[",
-            file.as_str(),
-            "],\"executable\":null,\"fresh\":false}\n",
+            ",\"profile\":{\"opt_level\":\"0\",\"debuginfo\":2,\"debug_assertions\":true,",
+            "\"overflow_checks\":true,\"test\":false},\"features\":[],\"filenames\":[",
+            file,
+            "],\"executable\":null,\"fresh\":",
+            "false",
+            "}\n",
         ],
     )
+}
+
+/// The library's file, as a JSON string.
+fn file_text(alloc: Global, out: &PathText, unit: &LibraryUnit) -> Result<String, AllocError>
+    ensures { IfOk result (λ text. string_bytes text ≡ json_string (file_of out.now unit.now)) }
+{
+    let file = joined(
+        alloc,
+        &[out.as_str(), "/lib", unit.crate_name.as_str(), ".rlib"],
+    )?;
+    json_string(alloc, file.as_str())
+}
+
+/// A text and another behind it.
+fn followed(mut text: String, more: &str) -> Result<String, AllocError>
+    ensures { IfOk result (λ whole. string_bytes whole ≡ string_bytes text ++ more.now) }
+{
+    text.push_str(more)?;
+    Ok(text)
+}
+
+/// The line of a unit's library.
+fn artifact_of(
+    alloc: Global,
+    out: &PathText,
+    unit: &LibraryUnit,
+    subject: &str,
+) -> Result<String, AllocError>
+    requires { subject.now ≡ subject_text unit.now }
+    ensures { IfOk result (λ text. string_bytes text ≡ compiler_artifact unit.now (file_of out.now unit.now) false) }
+{
+    let file = file_text(alloc, out, unit)?;
+    artifact_line(alloc, subject, file.as_str())
+}
+
+/// The lines of a good unit.
+fn good_lines(
+    alloc: Global,
+    out: &PathText,
+    unit: &LibraryUnit,
+    subject: &str,
+    stderr: &[u8],
+) -> Result<String, AllocError>
+    requires { subject.now ≡ subject_text unit.now }
+    ensures { IfOk result (λ text. string_bytes text ≡ compiler_messages unit.now stderr.now ++ compiler_artifact unit.now (file_of out.now unit.now) false) }
+{
+    let messages = messages_of(alloc, subject, stderr)?;
+    let artifact = artifact_of(alloc, out, unit, subject)?;
+    followed(messages, artifact.as_str())
+}
+
+/// The lines of a unit.
+fn unit_lines(
+    alloc: Global,
+    out: &PathText,
+    unit: &LibraryUnit,
+    subject: &str,
+    reply: &Reply,
+    fault: Option<UnitFault>,
+) -> Result<String, AllocError>
+    requires { subject.now ≡ subject_text unit.now }
+    ensures { IfOk result (λ text. string_bytes text ≡ unit_lines out.now unit.now (ended_by reply.now) fault) }
+{
+    match fault {
+        None => good_lines(alloc, out, unit, subject, reply.stderr.as_slice()),
+        Some(UnitFault::Status(_)) => messages_of(alloc, subject, reply.stderr.as_slice()),
+        Some(UnitFault::OutputTooLong) => String::from_str(alloc, ""),
+    }
+}
+
+/// The last line of a build.
+fn finish_line(good: bool) -> &'static str
+    ensures { result.now ≡ build_finished good }
+{
+    if good {
+        "{\"reason\":\"build-finished\",\"success\":true}\n"
+    } else {
+        "{\"reason\":\"build-finished\",\"success\":false}\n"
+    }
+}
+
+/// All lines of a build, from what its unit's lines begin with.
+fn lines_with(
+    alloc: Global,
+    out: &PathText,
+    unit: &LibraryUnit,
+    subject: &str,
+    reply: &Reply,
+) -> Result<String, AllocError>
+    requires { subject.now ≡ subject_text unit.now }
+    ensures { IfOk result (λ text. string_bytes text ≡ build_lines out.now unit.now (ended_by reply.now)) }
+{
+    let fault = fault_of(reply);
+    let lines = unit_lines(alloc, out, unit, subject, reply, fault)?;
+    followed(lines, finish_line(fault.is_none()))
 }
 
 /// All lines of a build.
@@ -723,16 +926,10 @@ fn build_lines(
 ) -> Result<String, Skipped>
     ensures { IfOk result (λ text. string_bytes text ≡ build_lines out.now unit.now (ended_by reply.now)) }
 {
-    let subject = subject_of(alloc, unit)?;
-    let messages = messages_of(alloc, subject.as_str(), reply.stderr.as_slice())?;
-    let artifact = artifact_of(alloc, subject.as_str(), out, unit)?;
-    let good = "{\"reason\":\"build-finished\",\"success\":true}\n";
-    let bad = "{\"reason\":\"build-finished\",\"success\":false}\n";
-    match fault_of(reply) {
-        None => Ok(joined(alloc, &[messages.as_str(), artifact.as_str(), good])?),
-        Some(UnitFault::Status(_)) => Ok(joined(alloc, &[messages.as_str(), bad])?),
-        Some(UnitFault::OutputTooLong) => Ok(joined(alloc, &[bad])?),
-    }
+    let types = types_text(alloc, unit)?;
+    let subject = subject_of(alloc, unit, types)?;
+    let lines = lines_with(alloc, out, unit, subject.as_str(), reply)?;
+    Ok(lines)
 }
 
 /// The summary of a build.
@@ -789,6 +986,27 @@ fn refused_with(alloc: Global, fault: BuildFault) -> Result<Given, Skipped>
     }
 }
 
+/// What a build gives of the sources and of what was set up.
+fn given_from(
+    alloc: Global,
+    sources: &Sources,
+    setup: &Setup,
+    manifest: &PathText,
+) -> Result<Given, Skipped>
+    ensures { IfOk result (λ given. result_from small_compiler setup.now (record { files = sources.now.files; variables = sources.now.variables }) (unit_of manifest.now setup.now.root (record { files = sources.now.files; variables = sources.now.variables })) ≡ record { answer = given.answer; lines = string_bytes given.lines; files = given.files }) }
+{
+    match unit_of(alloc, sources, manifest, &setup.root)? {
+        Ok(unit) => {
+            let given = built(alloc, sources, setup, &unit)?;
+            Ok(given)
+        }
+        Err(fault) => {
+            let given = refused_with(alloc, fault)?;
+            Ok(given)
+        }
+    }
+}
+
 /// What a build gives in a world of these files and variables.
 pub fn given_in(
     alloc: Global,
@@ -801,8 +1019,6 @@ pub fn given_in(
     let setup = setup_of(alloc, &variables, options)?;
     files.remove(alloc, &setup.target)?;
     let sources = Sources { files, variables };
-    match unit_of(alloc, &sources, &options.manifest, &setup.root)? {
-        Ok(unit) => built(alloc, &sources, &setup, &unit),
-        Err(fault) => refused_with(alloc, fault),
-    }
+    let given = given_from(alloc, &sources, &setup, &options.manifest)?;
+    Ok(given)
 }
