@@ -5,7 +5,7 @@ use Rattle.std.specs.Io.KnownBytes.{Appends}
 use Rattle.pb_place.specs.Memory.{Held}
 use Rattle.pb_session.specs.Sessions.{session_of}
 use Rattle.pb_session.specs.declared.step.SessionStep.{SessionStep}
-use Rattle.pb_build.specs.Session.{Moment, Course, moment}
+use Rattle.pb_build.specs.Session.{Course, moment}
 use Rattle.pb_build.specs.declared.sessions.Answer.{Answer}
 use Rattle.pb_tool.specs.Session.{SessionWritten, small_compiler, lines_of}
 

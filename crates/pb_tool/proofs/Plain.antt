@@ -1,5 +1,5 @@
 -- What the plain computation of a build's result stands on.
-use Rattle.std.proofs.Common.{◌≡◌, ◌∙◌, ℕ, List, [], ◌∷◌, Option, Some, None, Result, Ok, Err, Bool, not, if◌then◌else◌, codes, true, false, refl, sym, ap}
+use Rattle.std.proofs.Common.{◌≡◌, ◌∙◌, ℕ, List, [], ◌∷◌, Option, Some, None, Result, Ok, Err, Bool, not, if◌then◌else◌, codes, true, false, sym, ap}
 use Rattle.std.specs.FinMap as map
 use Rattle.std.specs.List.{concat}
 use Rattle.pb_data.specs.Gives.{◌>>=◌}

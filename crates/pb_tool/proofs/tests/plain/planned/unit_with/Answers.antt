@@ -1,6 +1,6 @@
 use Rattle.std.proofs.Common.{◌∙◌, ap}
 use Rattle.pb_directive.specs.Metadata.{underscored}
-use Rattle.pb_tool.proofs.tests.plain.unit_with.Goals as goal
+use Rattle.pb_tool.proofs.tests.plain.planned.unit_with.Goals as goal
 
 pub returns : goal.returns
 returns c = λ i. record {

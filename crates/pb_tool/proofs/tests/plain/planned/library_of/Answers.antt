@@ -1,6 +1,6 @@
 use Rattle.std.proofs.Common.{◌∙◌, sym, ap, Err}
 use Rattle.pb_tool.proofs.Plain.{library_there, library_missing}
-use Rattle.pb_tool.proofs.tests.plain.library_of.Goals as goal
+use Rattle.pb_tool.proofs.tests.plain.planned.library_of.Goals as goal
 
 pub returns-then-there : goal.returns-then-there
 returns-then-there c =

@@ -1,5 +1,5 @@
 use Rattle.pb_tool.proofs.Plain.{setup_is}
-use Rattle.pb_tool.proofs.tests.plain.setup_of.Goals as goal
+use Rattle.pb_tool.proofs.tests.plain.planned.setup_of.Goals as goal
 
 pub returns : goal.returns
 returns c =

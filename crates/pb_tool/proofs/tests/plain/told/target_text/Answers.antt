@@ -1,7 +1,7 @@
 use Rattle.std.proofs.Common.{◌∙◌, ap}
 use Rattle.pb_json.specs.Json.{json_string}
 use Rattle.pb_tool.proofs.Plain.{target_is}
-use Rattle.pb_tool.proofs.tests.plain.target_text.Goals as goal
+use Rattle.pb_tool.proofs.tests.plain.told.target_text.Goals as goal
 
 pub returns : goal.returns
 returns c =
