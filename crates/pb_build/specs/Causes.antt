@@ -53,6 +53,50 @@ is_named (Device name fault) = names_call name fault
 is_named Sink = false
 is_named OutOfMemory = true
 
+-- a fault of a step that reads names the variable or the path; it is none of a child or of a removal
+abbrev pub reads_call : List ℕ → PlaceFault → Bool
+reads_call name place.Read = is_path name
+reads_call name place.List = is_path name
+reads_call name place.Write = false
+reads_call name place.Remove = false
+reads_call name place.Variable = is_variable name
+reads_call name place.OutOfMemory = false
+
+abbrev pub is_read : BuildFault → Bool
+is_read (Plan r) = true
+is_read Toolchain = true
+is_read (Child name fault) = false
+is_read (Device name fault) = reads_call name fault
+is_read Sink = false
+is_read OutOfMemory = true
+
+-- a fault of a child bears this name, and there is none of the device or the sink
+abbrev pub bears : List ℕ → BuildFault → Bool
+bears name (Plan r) = true
+bears name Toolchain = true
+bears name (Child unit fault) = bytes_eq unit name
+bears name (Device unit fault) = false
+bears name Sink = false
+bears name OutOfMemory = true
+
+-- the name that goes with a failed removal: the unit's key
+abbrev pub removes_call : List ℕ → List ℕ → PlaceFault → Bool
+removes_call key name place.Read = false
+removes_call key name place.List = false
+removes_call key name place.Write = false
+removes_call key name place.Remove = bytes_eq name key
+removes_call key name place.Variable = false
+removes_call key name place.OutOfMemory = false
+
+-- a fault of the steps after the plan names the query, `-vV`, or this unit by its key
+abbrev pub names_unit : List ℕ → BuildFault → Bool
+names_unit key (Plan r) = true
+names_unit key Toolchain = true
+names_unit key (Child name fault) = bytes_eq name (codes "-vV") || bytes_eq name key
+names_unit key (Device name fault) = removes_call key name fault
+names_unit key Sink = false
+names_unit key OutOfMemory = true
+
 -- neither a call of the place nor a sink failed
 abbrev pub is_inner : BuildFault → Bool
 is_inner (Plan r) = true
@@ -65,7 +109,12 @@ is_inner OutOfMemory = true
 -- a step that starts no child: a call failed just where the fault says so, and then no further call was made; the fault has its name, and no sink was written
 abbrev pub Reads : {T : Type 0} → Result T BuildFault → Counts → Counts → Type 0
 Reads result old new = MatchResult result (λ _. (new.failures ≡ old.failures) × (new.starts ≡ old.starts))
-    (λ e. (new.starts ≡ old.starts) × (is_failure e ≡ true → new.failures ≡ up old.failures) × (is_failure e ≡ true → new.late ≡ 0) × (is_named e ≡ true))
+    (λ e. (new.starts ≡ old.starts) × (is_failure e ≡ true → new.failures ≡ up old.failures) × (is_failure e ≡ true → new.late ≡ 0) × (is_read e ≡ true))
+
+-- a step that removes files of the unit of this key
+abbrev pub Removes : {T : Type 0} → List ℕ → Result T BuildFault → Counts → Counts → Type 0
+Removes key result old new = MatchResult result (λ _. (new.failures ≡ old.failures) × (new.starts ≡ old.starts))
+    (λ e. (new.starts ≡ old.starts) × (is_failure e ≡ true → new.failures ≡ up old.failures) × (is_failure e ≡ true → new.late ≡ 0) × (is_named e ≡ true) × (names_unit key e ≡ true))
 
 -- a step that starts one child
 abbrev pub Starts : {T : Type 0} → Result T BuildFault → Counts → Counts → Type 0

@@ -3,13 +3,15 @@
 ghost use Rattle.std.specs.Prelude.{◌≡◌, Bool, IfOk, IfErr, OnOk, OnErr, IsTrue, true, false, MatchResult, Ok, Err, string_bytes};
 ghost use Rattle.pb_place.specs.Counts.{up};
 ghost use Rattle.pb_report.specs.Faults.{Told, is_outside};
-ghost use Rattle.pb_build.specs.Causes.{StartsTwice, Built, is_failure, is_named, is_sink, is_refusal};
+ghost use Rattle.pb_build.specs.Causes.{StartsTwice, Built, is_failure, is_named, is_sink, is_refusal, names_unit};
 ghost use Rattle.std.specs.Io.KnownBytes.{Appends};
 ghost use Rattle.pb_build.specs.Messages.{build_finished};
 ghost use Rattle.pb_place.specs.Paths.{is_below};
 ghost use Rattle.pb_place.specs.World.{from_nothing};
 ghost use Rattle.pb_build.specs.BuildResult.{version_of, result_of, fault_lines, left_by, Inside, Ran, Reported};
 ghost use Rattle.pb_build.specs.Kept.{SourcesStay};
+ghost use Rattle.pb_build.specs.Named.{NamesStep};
+ghost use Rattle.pb_build.specs.Plan.{planned};
 ghost use Rattle.pb_build.specs.Report.{IsReport, Says, Begins, CutShort};
 ghost use Rattle.pb_build.specs.Setup.{setup_of};
 ghost use Rattle.pb_build.specs.Unit.{key_of, out_of};
@@ -26,7 +28,7 @@ use pb_session::Options;
 use std::alloc::Global;
 
 /// Runs the unit of a plan.
-#[tactic(auto, using(crate::proofs::Keys::ending_laws))]
+#[tactic(auto, using(crate::proofs::Keys::ending_laws, crate::proofs::Refusals::bearing_laws))]
 fn run_plan<P: Place>(place: &mut P, alloc: Global, plan: &Plan) -> Result<Ended, BuildFault>
     requires key { plan.now.key ≡ key_of plan.now.unit }
     requires out { plan.now.out ≡ out_of plan.now.setup.target plan.now.unit }
@@ -37,6 +39,7 @@ fn run_plan<P: Place>(place: &mut P, alloc: Global, plan: &Plan) -> Result<Ended
     ensures kept { IsTrue P.tells → SourcesStay plan.now.setup.target (P.world place.old) (P.world place.new) }
     ensures begun { IfErr result (λ e. is_refusal e ≡ false) }
     ensures starts { StartsTwice result (P.counts place.old) (P.counts place.new) }
+    ensures unit { IfErr result (λ e. names_unit plan.now.key e ≡ true) }
 {
     let toolchain = toolchain(place, alloc, &plan.setup)?;
     let command = command_of(alloc, &plan.setup, toolchain, &plan.unit, &plan.out)?;
@@ -56,6 +59,7 @@ fn report_plan<P: Place>(place: &mut P, alloc: Global, plan: &Plan) -> Result<Re
     ensures begun { IfErr result (λ e. is_refusal e ≡ false) }
     ensures starts { StartsTwice result (P.counts place.old) (P.counts place.new) }
     ensures told { IfOk result (λ report. IsReport (string_bytes report.lines) report.summary) }
+    ensures unit { IfErr result (λ e. names_unit plan.now.key e ≡ true) }
 {
     let ended = run_plan(place, alloc, plan)?;
     let report = report_of(alloc, plan, ended)?;
@@ -76,6 +80,7 @@ fn carry_out<P: Place>(
     ensures unstarted { IfErr result (λ e. is_refusal e ≡ true → (P.counts place.new).starts ≡ (P.counts place.old).starts) }
     ensures starts { StartsTwice result (P.counts place.old) (P.counts place.new) }
     ensures told { IfOk result (λ report. IsReport (string_bytes report.lines) report.summary) }
+    ensures unit { IsTrue P.tells → IfErr result (λ e. NamesStep (planned options.now (P.world place.old)) e) }
 {
     match plan_in(place, alloc, options) {
         Ok(plan) => report_plan(place, alloc, &plan),
@@ -126,6 +131,7 @@ pub fn build<P: Place, O: Out>(
     ensures files { IsTrue P.tells → Inside result (P.world place.new ≡ left_by (result_of P.child options.now (P.world place.old)).files (P.world place.old)) }
     ensures starts { Built result (P.counts place.old) (P.counts place.new) }
     ensures names { IfErr result (λ e. is_sink e ≡ false → is_named e ≡ true) }
+    ensures unit { IsTrue P.tells → IfErr result (λ e. is_sink e ≡ false → NamesStep (planned options.now (P.world place.old)) e) }
     ensures sink { IfErr result (λ e. is_sink e ≡ true → O.faults out.new ≡ up (O.faults out.old)) }
     ensures cut { IsTrue P.tells → IfErr result (λ e. is_sink e ≡ true → CutShort (O.taken out.old) (O.taken out.new) (result_of P.child options.now (P.world place.old)).lines) }
     ensures same { IsTrue P.tells → IfErr result (λ e. is_refusal e ≡ true → P.world place.new ≡ P.world place.old) }

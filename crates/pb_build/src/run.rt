@@ -4,11 +4,11 @@ ghost use Rattle.std.specs.Prelude.{◌≡◌, ◌||◌, ◌++◌, ◌∷◌, []
 ghost use Rattle.std.specs.Str.{bytes_eq};
 ghost use Rattle.pb_place.specs.World.{World, Ends, ChangesOnlyInSome, removed, put_reply, seen_by};
 ghost use Rattle.pb_report.specs.Faults.{is_outside};
-ghost use Rattle.pb_build.specs.Causes.{Reads, Starts, is_failure, is_key};
+ghost use Rattle.pb_build.specs.Causes.{Removes, Starts, is_failure, is_key, bears, names_unit};
 ghost use Rattle.pb_build.specs.Kept.{Spares};
 ghost use Rattle.pb_build.specs.Outcome.{is_too_long, fault_of, greatest_stream};
 
-use crate::device::{childless, device};
+use crate::device::{childless, unremoved};
 use pb_data::{Bytes, Text};
 use pb_place::{Command, Ended, PathText, Place};
 use pb_report::{BuildFault, UnitFault};
@@ -49,6 +49,7 @@ pub fn start<P: Place>(
     ensures only { IsTrue P.tells → ChangesOnlyInSome command.now.out (P.world place.old) (P.world place.new) }
     ensures outside { IfErr result (λ e. is_outside e ≡ true) }
     ensures starts { Starts result (P.counts place.old) (P.counts place.new) }
+    ensures bears { IfErr result (λ e. bears name.now e ≡ true) }
 {
     match place.start(alloc, command) {
         Ok(ended) => Ok(ended),
@@ -68,16 +69,16 @@ fn empty<P: Place>(
     ensures ok { IsTrue P.tells → OnOk result (P.world place.new ≡ removed folder.now (P.world place.old)) }
     ensures spared { IsTrue P.tells → Spares folder.now (P.world place.old) (P.world place.new) }
     ensures outside { IfErr result (λ e. is_outside e ≡ true) }
-    ensures reads { Reads result (P.counts place.old) (P.counts place.new) }
+    ensures removes { Removes name.now result (P.counts place.old) (P.counts place.new) }
 {
     match place.remove_tree(alloc, folder) {
         Ok(()) => Ok(()),
-        Err(fault) => Err(device(alloc, name, fault)),
+        Err(fault) => Err(unremoved(alloc, name, fault)),
     }
 }
 
 /// Runs a unit: its output folder is emptied, then its child is started.
-#[tactic(auto, using(crate::proofs::Keeping::staying_laws))]
+#[tactic(auto, using(crate::proofs::Keeping::staying_laws, crate::proofs::Refusals::bearing_laws))]
 pub fn run_unit<P: Place>(
     place: &mut P,
     alloc: Global,
@@ -91,6 +92,7 @@ pub fn run_unit<P: Place>(
     ensures spared { IsTrue P.tells → Spares out.now (P.world place.old) (P.world place.new) }
     ensures outside { IfErr result (λ e. is_outside e ≡ true) }
     ensures starts { Starts result (P.counts place.old) (P.counts place.new) }
+    ensures unit { IfErr result (λ e. names_unit key.now e ≡ true) }
 {
     empty(place, alloc, key, out)?;
     let ended = start(place, alloc, key, command)?;

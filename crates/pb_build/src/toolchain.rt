@@ -1,12 +1,12 @@
 //! The query of the compiler's version.
 
-ghost use Rattle.std.specs.Prelude.{◌≡◌, Bool, IfOk, IfErr, IsTrue, Some, None, true, false, nat_eq};
+ghost use Rattle.std.specs.Prelude.{◌≡◌, Bool, IfOk, IfErr, IsTrue, Some, None, true, false, nat_eq, codes};
 ghost use Rattle.std.specs.List.{list_any};
 ghost use Rattle.pb_directive.specs.Lines.{lines_of};
 ghost use Rattle.pb_place.specs.World.{World, from_nothing};
 ghost use Rattle.pb_place.specs.Counts.{up};
 ghost use Rattle.pb_report.specs.Faults.{Told, is_outside};
-ghost use Rattle.pb_build.specs.Causes.{Starts, is_inner, is_refusal};
+ghost use Rattle.pb_build.specs.Causes.{Starts, bears, is_inner, is_refusal};
 ghost use Rattle.pb_build.specs.BuildResult.{version_of, Inside};
 ghost use Rattle.pb_build.specs.Outcome.{is_too_long, is_host, says_host, toolchain_in};
 
@@ -51,6 +51,7 @@ fn toolchain_in(ended: Ended) -> Result<Bytes, BuildFault>
     ensures answer { result ≡ toolchain_in ended }
     ensures here { IfErr result (λ e. is_inner e ≡ true) }
     ensures begun { IfErr result (λ e. is_refusal e ≡ false) }
+    ensures bears { IfErr result (λ e. bears (codes "-vV") e ≡ true) }
 {
     let Ended {
         status,
@@ -72,6 +73,7 @@ pub fn toolchain<P: Place>(place: &mut P, alloc: Global, setup: &Setup) -> Resul
     ensures begun { IfErr result (λ e. is_refusal e ≡ false) }
     ensures starts { Starts result (P.counts place.old) (P.counts place.new) }
     ensures once { Inside result ((P.counts place.new).starts ≡ up (P.counts place.old).starts) }
+    ensures bears { IfErr result (λ e. bears (codes "-vV") e ≡ true) }
 {
     let command = query_of(alloc, setup)?;
     let ended = start(place, alloc, "-vV", &command)?;

@@ -1,5 +1,5 @@
 use Rattle.pb_build.proofs.Courses.{answer_given, lines_given, files_given, starts_after}
-use Rattle.pb_build.proofs.Refusals.{never_refused}
+use Rattle.pb_build.proofs.Refusals.{never_refused, read_step, unit_step}
 use Rattle.pb_build.proofs.builder.carry_out.Goals as goal
 
 pub returns-in-Ok-clause-answer : goal.returns-in-Ok-clause-answer
@@ -28,3 +28,9 @@ returns-in-Ok-clause-unstarted g c = never_refused c.report_plan.result _ c.repo
 
 pub returns-in-Ok-clause-starts : goal.returns-in-Ok-clause-starts
 returns-in-Ok-clause-starts g c = starts_after c.report_plan.result (g.P.Place.counts c.args.place.now) (g.P.Place.counts c.plan_in.new.place) (g.P.Place.counts c.report_plan.new.place) c.in-Ok.ensures.reads.0 c.in-Ok.ensures.reads.1 c.report_plan.ensures.starts
+
+pub returns-in-Ok-clause-unit : goal.returns-in-Ok-clause-unit
+returns-in-Ok-clause-unit g c told = unit_step c.report_plan.result _ c.in-Ok.plan.unit c.in-Ok.plan.key (c.in-Ok.ensures.unit told) c.in-Ok.ensures.key c.report_plan.ensures.unit
+
+pub returns-in-Err-clause-unit : goal.returns-in-Err-clause-unit
+returns-in-Err-clause-unit g c told = read_step _ c.in-Err.fault c.in-Err.ensures.reads.3
