@@ -10,7 +10,7 @@ use Rattle.std.specs.Str.{bytes_eq}
 use Rattle.pb_manifest.specs.Letters as letters
 use Rattle.pb_place.specs.Paths.{parts_of, stays, leads_up, is_name, is_relative}
 use Rattle.pb_place.proofs.PathLemmas.{and_left, and_right}
-use Rattle.pb_build.specs.Causes.{is_key}
+use Rattle.pb_build.specs.Naming.{is_key}
 
 -- a byte that may not stand in a name
 unlike : (n b : ℕ) → letters.is_name_byte n ≡ false → letters.is_name_byte b ≡ true → b == n ≡ false

@@ -6,9 +6,9 @@ use Rattle.pb_place.specs.declared.place.PlaceFault.TheVariants as place
 use Rattle.pb_report.specs.declared.fault.BuildFault.{BuildFault}
 use Rattle.pb_report.specs.declared.fault.BuildFault.TheVariants.{Plan, Toolchain, Child, Device, Sink, OutOfMemory}
 use Rattle.pb_build.specs.declared.unit.LibraryUnit.{LibraryUnit}
-use Rattle.pb_build.specs.Named.{NamesStep}
 use Rattle.pb_build.specs.Unit.{key_of}
-use Rattle.pb_build.specs.Causes.{is_failure, is_sink, is_inner, is_named, is_read, is_refusal, bears, names_unit}
+use Rattle.pb_build.specs.Causes.{is_failure, is_sink, is_inner, is_refusal}
+use Rattle.pb_build.specs.Naming.{is_named, is_read, bears, names_unit, NamesStep}
 
 pub never_refused : {A : Type 0} (r : Result A BuildFault) (Q : Type 0) → IfErr r (λ e. is_refusal e ≡ false) → IfErr r (λ e. is_refusal e ≡ true → Q)
 never_refused (Ok x) Q h = tt

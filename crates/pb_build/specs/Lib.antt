@@ -3,7 +3,7 @@ pub mod Command
 pub mod BuildResult
 pub mod Kept
 pub mod Laws
-pub mod Named
+pub mod Naming
 pub mod Library
 pub mod Messages
 pub mod Outcome

@@ -3,14 +3,14 @@
 ghost use Rattle.std.specs.Prelude.{◌≡◌, Bool, IfOk, IfErr, OnOk, OnErr, IsTrue, true, false, MatchResult, Ok, Err, string_bytes};
 ghost use Rattle.pb_place.specs.Counts.{up};
 ghost use Rattle.pb_report.specs.Faults.{Told, is_outside};
-ghost use Rattle.pb_build.specs.Causes.{StartsTwice, Built, is_failure, is_named, is_sink, is_refusal, names_unit};
+ghost use Rattle.pb_build.specs.Causes.{StartsTwice, Built, is_failure, is_sink, is_refusal};
+ghost use Rattle.pb_build.specs.Naming.{is_named, names_unit, NamesStep};
 ghost use Rattle.std.specs.Io.KnownBytes.{Appends};
 ghost use Rattle.pb_build.specs.Messages.{build_finished};
 ghost use Rattle.pb_place.specs.Paths.{is_below};
 ghost use Rattle.pb_place.specs.World.{from_nothing};
 ghost use Rattle.pb_build.specs.BuildResult.{version_of, result_of, fault_lines, left_by, Inside, Ran, Reported};
 ghost use Rattle.pb_build.specs.Kept.{SourcesStay};
-ghost use Rattle.pb_build.specs.Named.{NamesStep};
 ghost use Rattle.pb_build.specs.Plan.{planned};
 ghost use Rattle.pb_build.specs.Report.{IsReport, Says, Begins, CutShort};
 ghost use Rattle.pb_build.specs.Setup.{setup_of};

@@ -3,7 +3,8 @@
 ghost use Rattle.std.specs.Prelude.{◌≡◌, ◌≢◌, ◌||◌, codes, true};
 ghost use Rattle.std.specs.Str.{bytes_eq};
 ghost use Rattle.pb_report.specs.Faults.{is_outside};
-ghost use Rattle.pb_build.specs.Causes.{is_failure, is_key, is_named, is_read, reads_call, bears, names_unit};
+ghost use Rattle.pb_build.specs.Causes.{is_failure};
+ghost use Rattle.pb_build.specs.Naming.{is_key, is_named, is_read, reads_call, bears, names_unit};
 
 use pb_data::Text;
 use pb_place::{PlaceFault, StartFault};

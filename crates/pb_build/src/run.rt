@@ -4,7 +4,8 @@ ghost use Rattle.std.specs.Prelude.{◌≡◌, ◌||◌, ◌++◌, ◌∷◌, []
 ghost use Rattle.std.specs.Str.{bytes_eq};
 ghost use Rattle.pb_place.specs.World.{World, Ends, ChangesOnlyInSome, removed, put_reply, seen_by};
 ghost use Rattle.pb_report.specs.Faults.{is_outside};
-ghost use Rattle.pb_build.specs.Causes.{Removes, Starts, is_failure, is_key, bears, names_unit};
+ghost use Rattle.pb_build.specs.Causes.{Removes, Starts, is_failure};
+ghost use Rattle.pb_build.specs.Naming.{is_key, bears, names_unit};
 ghost use Rattle.pb_build.specs.Kept.{Spares};
 ghost use Rattle.pb_build.specs.Outcome.{is_too_long, fault_of, greatest_stream};
 

@@ -6,7 +6,8 @@ ghost use Rattle.pb_place.specs.Paths.{joined, below, folder_of};
 ghost use Rattle.pb_report.specs.Faults.{is_outside};
 ghost use Rattle.pb_directive.specs.Directives.{words_of};
 ghost use Rattle.pb_build.specs.Setup.{set_text, rustc_of, flags_of, target_of, setup_of, setup_with};
-ghost use Rattle.pb_build.specs.Causes.{Reads, is_variable};
+ghost use Rattle.pb_build.specs.Causes.{Reads};
+ghost use Rattle.pb_build.specs.Naming.{is_variable};
 
 use crate::device::device;
 use pb_data::{Items, Text, TryCopy};

@@ -6,7 +6,8 @@ ghost use Rattle.pb_directive.specs.Lines.{lines_of};
 ghost use Rattle.pb_place.specs.World.{World, from_nothing};
 ghost use Rattle.pb_place.specs.Counts.{up};
 ghost use Rattle.pb_report.specs.Faults.{Told, is_outside};
-ghost use Rattle.pb_build.specs.Causes.{Starts, bears, is_inner, is_refusal};
+ghost use Rattle.pb_build.specs.Causes.{Starts, is_inner, is_refusal};
+ghost use Rattle.pb_build.specs.Naming.{bears};
 ghost use Rattle.pb_build.specs.BuildResult.{version_of, Inside};
 ghost use Rattle.pb_build.specs.Outcome.{is_too_long, is_host, says_host, toolchain_in};
 
