@@ -1,6 +1,6 @@
 //! The session program.
 
-ghost use Rattle.std.specs.Prelude.{◌≡◌, ◌⊎◌, ◌++◌, Err, IfOk, OnOk, OnErr, IsTrue, false, string_bytes};
+ghost use Rattle.std.specs.Prelude.{◌≡◌, ◌⊎◌, ◌++◌, ℕ, Err, IfOk, IfErr, OnOk, OnErr, IsTrue, false, string_bytes};
 ghost use Rattle.std.specs.Io.KnownBytes.{Appends};
 ghost use Rattle.pb_place.specs.Counts.{up};
 ghost use Rattle.pb_session.specs.Sessions.{session_of};
@@ -53,6 +53,8 @@ pub fn write_results<O: Out>(
 /// Runs a session and writes its lines. Whether all result lines were written.
 fn carry_out<O: Out>(alloc: Global, bytes: &[u8], out: &mut O) -> Result<bool, BadSession>
     ensures written { IfOk result (λ whole. IsTrue whole → SessionWritten bytes.now (O.taken out.old) (O.taken out.new)) }
+    ensures bad { IfErr result (λ e. e ≡ BadForm → session_of bytes.now ≡ Err BadForm) }
+    ensures fault { IfOk result (λ whole. whole ≡ false → (before : ℕ) × (O.faults out.new ≡ up before)) }
     ensures untouched { session_of bytes.now ≡ Err BadForm → out.new ≡ out.old }
 {
     let steps = read_session(alloc, bytes)?;
