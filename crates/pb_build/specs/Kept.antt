@@ -7,6 +7,6 @@ use Rattle.pb_place.specs.World.{World, from_nothing}
 abbrev pub SourcesStay : List ℕ → World → World → Type 0
 SourcesStay target old new = from_nothing target new ≡ from_nothing target old
 
--- the sources stay for each target folder above a folder: no file outside it is changed
+-- the sources for each target folder above this folder stay
 abbrev pub Spares : List ℕ → World → World → Type 0
 Spares folder old new = (target : List ℕ) → is_below target folder ≡ true → SourcesStay target old new

@@ -118,7 +118,8 @@ fn close<O: Out>(out: &mut O, fault: BuildFault) -> BuildFault
 /// is no fault: the summary names it.
 ///
 /// Where no fault comes from outside, the answer, the lines and the files are those of the definition
-/// `result_of`, which looks at the sources alone: what stood in the target folder before is not seen.
+/// `result_of`, which looks at the sources alone: what stood in the target folder before is not seen. However
+/// a build ends, the variables and the files outside the target folder stay as they were.
 #[tactic(auto, using(crate::proofs::Refusals::named_laws))]
 pub fn build<P: Place, O: Out>(
     alloc: Global,
