@@ -1,0 +1,4 @@
+pub mod Line
+pub mod Settings
+pub mod Merging
+pub mod Walking
