@@ -1,13 +1,9 @@
-//! Tests of the outside world (paths, a place in memory, sinks) and of the small compiler, against worked examples.
-//! The crate holds nothing else: a crate with tests is proved twice, so none that others stand on has any.
+//! Tests of the outside world (paths, a place in memory, sinks), against worked examples. The crate holds nothing
+//! else: a crate with tests is proved twice, so none that others stand on has any.
 #![tactic(auto)]
 
 #[cfg(test)]
 mod calls;
-#[cfg(test)]
-mod command_lines;
-#[cfg(test)]
-mod compiles;
 #[cfg(test)]
 mod counters;
 #[cfg(test)]
@@ -22,5 +18,3 @@ mod memory;
 mod paths;
 #[cfg(test)]
 mod sinks;
-#[cfg(test)]
-mod views;

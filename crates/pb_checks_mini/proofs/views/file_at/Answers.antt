@@ -1,6 +1,6 @@
 use Rattle.std.proofs.Common.{rules}
-use Rattle.pb_checks_place.proofs.Shown.{found-here, found-later}
-use Rattle.pb_checks_place.proofs.views.file_at.Goals as goal
+use Rattle.pb_checks_mini.proofs.Shown.{found-here, found-later}
+use Rattle.pb_checks_mini.proofs.views.file_at.Goals as goal
 
 pub returns-then-eq : goal.returns-then-eq
 returns-then-eq c = found-here c.args.path.now c.args.files.now c.loop-file.file-index c.file-item.result _ c.loop-file-test.true c.file-item.is (search rules) (search rules) c.loop-file.invariant
