@@ -17,8 +17,6 @@ pub mod package;
 pub mod profile;
 mod profile_values;
 pub mod target;
-#[cfg(test)]
-mod tests;
 mod values;
 pub mod version;
 mod workspace;

@@ -10,8 +10,6 @@ pub mod path;
 pub mod place;
 pub mod relative;
 pub mod sink;
-#[cfg(test)]
-mod tests;
 pub mod whole;
 
 pub use calls::{FileCall, last_call_stands, perform};
