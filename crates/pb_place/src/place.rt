@@ -100,7 +100,8 @@ pub trait Place {
     /// The child: a member of the type, so no call can change it.
     ghost child: { Answers };
 
-    /// The counters.
+    /// The counters, and the fault of the last call that failed: so each failing call sets it to the very fault
+    /// that it answers.
     ghost counts: { Self → Counts };
 
     /// Whether a call may fail for another reason than want of memory.
