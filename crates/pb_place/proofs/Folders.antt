@@ -1,17 +1,19 @@
 -- The world over many folders.
-use Rattle.std.proofs.Common.{◌≡◌, ◌∙◌, ◌++◌, ◌||◌, ◌⊎◌, Bool, true, false, not, List, [], ◌∷◌, ℕ, cond, Option, Some, None, refl, sym, ap, subst, inl, inr}
+use Rattle.std.proofs.Common.{◌≡◌, ◌≢◌, ◌==◌, ◌&&◌, ◌∙◌, ◌++◌, ◌||◌, ◌⊎◌, Bool, true, false, not, List, [], ◌∷◌, ℕ, cond, Option, Some, None, refl, sym, ap, subst, inl, inr}
 use Rattle.std.proofs.lemmas.Bool.{cases_Bool, false≢true}
 use Rattle.std.specs.FinMap.{get, insert, empty, entries, get-empty, get-insert, get-entries, get-from_entries, find, same_map, retain_keys}
 use Rattle.std.specs.Cmp.Lexicographic.{slice_cmp, nat_list_cmp_total}
 use Rattle.std.specs.Ordering.{nat_cmp, eq_by_cmp}
-use Rattle.std.specs.List.{list_any}
+use Rattle.std.specs.List.{list_any, list_all}
 use Rattle.std.specs.Str.{bytes_eq}
-use Rattle.pb_place.specs.Paths.{below, is_below, is_at_or_below}
+use Rattle.pb_place.specs.Paths.{below, is_name, is_relative, is_below, is_at_or_below}
 use Rattle.pb_place.specs.World.{World, Map, AgreeBut, ChangesOnly, ChangesOnlyIn, ChangesOnlyInSome, PartlyRemoved, Torn, is_shown, is_same_path, seen_by, removed, written, from_nothing, put_files}
-use Rattle.pb_place.specs.Folders.{files_in, over, first_of, folders_over, LieApart, FoldersAgree, FolderStays, SourcesStayed, ChangesJoin, ChangesWiden, LooksOver, LooksIn, LooksAtSources, LooksThrough, SeesSources, SeesFolders, SeesAlike, StandAlone}
+use Rattle.pb_place.specs.Folders.{files_in, over, first_of, folders_over, LieApart, NamedFoldersLieApart, FoldersAgree, FolderStays, SourcesStayed, ChangesJoin, ChangesWiden, LooksOver, LooksIn, LooksAtSources, LooksThrough, SeesSources, SeesFolders, SeesAlike, StandAlone}
 use Rattle.pb_place.specs.declared.command.Command.{Command}
 use Rattle.pb_place.proofs.MapLemmas.{exact, get-kept}
-use Rattle.pb_place.proofs.Within.{at_below, share_no_path, outside_within}
+use Rattle.pb_place.proofs.PathLemmas.{below_is_path}
+use Rattle.pb_place.proofs.TakenApart.{parts_lone}
+use Rattle.pb_place.proofs.Within.{at_below, names_lie_apart, share_no_path, outside_within}
 use Rattle.pb_place.proofs.Worlds.{AgreeBut-removed, AgreeBut-written, apart_by}
 
 -- two worlds with the same files and variables are one
@@ -33,6 +35,21 @@ sources_alike target old new alike variables = same_world _ _ (same_map nat_list
       | inl at ↦ ap (λ b. cond (not b) (get new.files q) None) at ∙ sym (ap (λ b. cond (not b) (get old.files q) None) at)
       | inr outside ↦ ap (λ x. cond (not (is_at_or_below target q)) x None) (alike q outside)
     ] ∙ sym (get-kept old.files (λ p. not (is_at_or_below target p)) q))) variables
+
+-- a name without a slash is a relative path
+name_relative : (name : List ℕ) → is_name name ≡ true → list_any (λ b. b == 47) name ≡ false → is_relative name ≡ true
+name_relative name named plain = ap (list_all is_name) (parts_lone name plain) ∙ ap (λ b. b && true) named
+
+name_some : (name : List ℕ) → is_name name ≡ true → name ≢ []
+name_some name named e = absurd (false≢true (sym (ap is_name e) ∙ named))
+
+pub named_folders_lie_apart : NamedFoldersLieApart
+named_folders_lie_apart folder name other is named other_named plain other_plain apart = record {
+  first = below_is_path folder name (below folder name) is (name_relative name named plain) refl;
+  second = below_is_path folder other (below folder other) is (name_relative other other_named other_plain) refl;
+  not_below_first = names_lie_apart folder name other (name_some name named) other_plain apart;
+  not_below_second = names_lie_apart folder other name (name_some other other_named) plain (λ e. apart (sym e));
+}
 
 pub folder_stays : FolderStays
 folder_stays f g old new apart only = files_alike f new.files old.files (λ q inside.

@@ -1,4 +1,5 @@
 pub mod CallLemmas
+pub mod Changes
 pub mod Failing
 pub mod Folders
 pub mod MapLemmas

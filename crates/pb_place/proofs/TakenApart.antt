@@ -124,7 +124,7 @@ pub name_fails : (text : List ℕ) (i : ℕ) (part : List ℕ) → i < length (p
 name_fails text i part within is named = sym (none_at (parts_of text) i part within is named)
 
 -- a text without a slash is its only part
-parts_lone : (name : List ℕ) → list_any (λ b. b == 47) name ≡ false → parts_of name ≡ name ∷ []
+pub parts_lone : (name : List ℕ) → list_any (λ b. b == 47) name ≡ false → parts_of name ≡ name ∷ []
 parts_lone [] plain = refl
 parts_lone (x ∷ name) plain = ap (λ b. cond b ([] ∷ parts_of name) (onto_first x (parts_of name))) (or_left _ _ plain) ∙ ap (onto_first x) (parts_lone name (or_right _ _ plain))
   where

@@ -322,4 +322,6 @@ names_lie_apart folder (c ∷ rest) other some plain apart = elim (cases_Bool (i
   | inr outside ↦ outside
 ]
 
-pub ruleset within_laws = (at_itself, at_below, below_on, below_then_at, at_then_below, at_or_below_on, outside_within)
+pub ruleset within_laws = (at_itself, at_below, goes_below, below_on, below_then_at, at_then_below, at_or_below_on, outside_within)
+
+pub ruleset apart_laws = (share_no_path, names_lie_apart, not_below_itself, one_folder)

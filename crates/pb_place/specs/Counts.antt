@@ -2,13 +2,10 @@
 use Rattle.std.specs.Prelude.{ℕ, ◌+◌, ◌==◌, min, if◌then◌else◌, Option, Some, None, Result, Ok, Err}
 use Rattle.pb_place.specs.declared.place.PlaceFault.{PlaceFault}
 use Rattle.pb_place.specs.declared.place.PlaceFault.TheVariants.{OutOfMemory}
+use Rattle.pb_place.specs.declared.place.Failure.{Failure}
+use Rattle.pb_place.specs.declared.place.Failure.TheVariants.{Called, Started}
 use Rattle.pb_place.specs.declared.place.StartFault.{StartFault}
 use Rattle.pb_place.specs.declared.place.StartFault.TheVariants as start
-
--- what the outside answered to a call that failed: to one on files or variables, or to a start
-pub data Failure : Type 0 where
-  called : PlaceFault → Failure
-  started : StartFault → Failure
 
 -- calls that failed, calls of `start`, calls since the last that failed, and the fault of that one
 pub record Counts : Type 0 where
@@ -36,7 +33,7 @@ past_fault f c = record c { failures = up c.failures; late = 0; last = Some f }
 -- want of memory is no failure of the outside
 abbrev pub past_place_fault : PlaceFault → Counts → Counts
 past_place_fault OutOfMemory c = past_call c
-past_place_fault e c = past_fault (called e) c
+past_place_fault e c = past_fault (Called e) c
 
 abbrev pub counted : {T : Type 0} → Result T PlaceFault → Counts → Counts
 counted (Ok x) c = past_call c
@@ -48,7 +45,7 @@ one_start c = record c { starts = up c.starts }
 
 abbrev pub past_start_fault : StartFault → Counts → Counts
 past_start_fault start.OutOfMemory c = past_call c
-past_start_fault e c = past_fault (started e) c
+past_start_fault e c = past_fault (Started e) c
 
 abbrev pub counted_start : {T : Type 0} → Result T StartFault → Counts → Counts
 counted_start (Ok x) c = past_call (one_start c)

@@ -1,7 +1,8 @@
 -- The laws of the world over many folders: what stays where only another folder changes, one map over another, and what a child is shown.
-use Rattle.std.specs.Prelude.{◌≡◌, ℕ, Bool, true, false, not, List, [], ◌∷◌, ◌++◌, Option, Some, None, if◌then◌else◌}
+use Rattle.std.specs.Prelude.{◌≡◌, ◌≢◌, ◌==◌, ℕ, Bool, true, false, not, List, [], ◌∷◌, ◌++◌, Option, Some, None, if◌then◌else◌}
 use Rattle.std.specs.FinMap as map
-use Rattle.pb_place.specs.Paths.{is_path, is_below, is_at_or_below}
+use Rattle.std.specs.List.{list_any}
+use Rattle.pb_place.specs.Paths.{is_path, is_name, below, is_below, is_at_or_below}
 use Rattle.pb_place.specs.World.{World, Map, is_shown, seen_by, removed, from_nothing, put_files, ChangesOnly}
 use Rattle.pb_place.specs.declared.command.Command.{Command}
 
@@ -29,6 +30,11 @@ pub record LieApart (f g : List ℕ) : Type 0 where
   pub second : is_path g ≡ true
   pub not_below_first : is_at_or_below f g ≡ false
   pub not_below_second : is_at_or_below g f ≡ false
+
+-- two folders with other names in one folder lie apart
+abbrev pub NamedFoldersLieApart : Type 0
+NamedFoldersLieApart = (folder name other : List ℕ) → is_path folder ≡ true → is_name name ≡ true → is_name other ≡ true
+    → list_any (λ b. b == 47) name ≡ false → list_any (λ b. b == 47) other ≡ false → name ≢ other → LieApart (below folder name) (below folder other)
 
 -- each of these folders holds the same files in both worlds
 abbrev pub FoldersAgree : List (List ℕ) → World → World → Type 0

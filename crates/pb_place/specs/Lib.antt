@@ -1,5 +1,6 @@
 pub use Rattle.pb_data.specs.Gives
 pub mod Calls
+pub mod Changes
 pub mod Counts
 pub mod Failing
 pub mod Folders

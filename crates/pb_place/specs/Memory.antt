@@ -5,7 +5,9 @@ use Rattle.std.specs.BTreeMap.{BTreeMap}
 use Rattle.std.specs.Coded.{Coded, code_by, coded×, coded⊎, coded_ℕ, coded_list, coded_option}
 use Rattle.std.proofs.Common.{inl, inr, ap}
 use Rattle.pb_place.specs.World.{World, Map}
-use Rattle.pb_place.specs.Counts.{Counts, Failure, called, started}
+use Rattle.pb_place.specs.Counts.{Counts}
+use Rattle.pb_place.specs.declared.place.Failure.{Failure}
+use Rattle.pb_place.specs.declared.place.Failure.TheVariants.{Called, Started}
 use Rattle.pb_place.specs.declared.place.PlaceFault.{PlaceFault}
 use Rattle.pb_place.specs.declared.place.PlaceFault.TheVariants.{Read, List as Listing, Write, Remove, Variable, OutOfMemory}
 use Rattle.pb_place.specs.declared.place.StartFault.{StartFault}
@@ -56,16 +58,16 @@ start_back start.Capture = refl
 start_back start.OutOfMemory = refl
 
 abbrev pub failure_sides : Failure → ℕ ⊎ ℕ
-failure_sides (called e) = inl (place_number e)
-failure_sides (started e) = inr (start_number e)
+failure_sides (Called e) = inl (place_number e)
+failure_sides (Started e) = inr (start_number e)
 
 abbrev pub failure_sided : ℕ ⊎ ℕ → Failure
-failure_sided (inl n) = called (place_numbered n)
-failure_sided (inr n) = started (start_numbered n)
+failure_sided (inl n) = Called (place_numbered n)
+failure_sided (inr n) = Started (start_numbered n)
 
 pub failure_back : (f : Failure) → failure_sided (failure_sides f) ≡ f
-failure_back (called e) = ap called (place_back e)
-failure_back (started e) = ap started (start_back e)
+failure_back (Called e) = ap Called (place_back e)
+failure_back (Started e) = ap Started (start_back e)
 
 abbrev pub failure_code : Coded Failure
 failure_code = code_by (ℕ ⊎ ℕ) (coded⊎ coded_ℕ coded_ℕ) failure_sides failure_sided failure_back

@@ -3,8 +3,9 @@
 ghost use Rattle.std.specs.Prelude.{◌≡◌, ℕ, List, true, Ok};
 ghost use Rattle.pb_place.specs.Paths.{is_path, parsed};
 ghost use Rattle.pb_place.specs.Within.{BelowGoesOn, AtOrBelow, AtOrBelowGoesOn, BelowThenAt, AtThenBelow, OneFolder, NotBelowItself, ShareNoPath, RootIsAbove, NamesLieApart, JoinsAgain, FoundInside, InsideIsRelative, EndsWithLastPart, LastPartIsName, LiesInFolder};
+ghost use Rattle.pb_place.specs.Changes.{LastWordStands, VariablesStand};
 ghost use Rattle.pb_place.specs.Failing.{TornSparesOthers, TornLeaves, TornSparesVariables, PartlySparesOthers, PartlyMakesNothing, PartlySparesVariables, StartSparesOthers, StartSparesVariables};
-ghost use Rattle.pb_place.specs.Folders.{FolderStays, SourcesStayed, ChangesJoin, ChangesWiden, LooksOver, LooksIn, LooksAtSources, LooksThrough, SeesSources, SeesFolders, SeesAlike, StandAlone};
+ghost use Rattle.pb_place.specs.Folders.{NamedFoldersLieApart, FolderStays, SourcesStayed, ChangesJoin, ChangesWiden, LooksOver, LooksIn, LooksAtSources, LooksThrough, SeesSources, SeesFolders, SeesAlike, StandAlone};
 
 /// Parsing leaves a normalised path as it is: so a path says itself, and what was parsed once is parsed no further.
 pub fn parsing_keeps_paths()
@@ -38,9 +39,10 @@ pub fn paths_join_again()
     ensures folder { LiesInFolder }
 {}
 
-/// What only changes at or below one folder leaves each folder that lies apart from it as it was, and, where it
+/// Two folders with other names in one folder lie apart. What only changes at or below one folder leaves each folder that lies apart from it as it was, and, where it
 /// lies in the target folder, the sources. Such changes join, and those in a folder are changes in each above.
 pub fn changes_stay_in_folders()
+    ensures named { NamedFoldersLieApart }
     ensures folders { FolderStays }
     ensures sources { SourcesStayed }
     ensures join { ChangesJoin }
@@ -77,4 +79,11 @@ pub fn failing_calls_spare()
     ensures partly_variables { PartlySparesVariables }
     ensures started { StartSparesOthers }
     ensures started_variables { StartSparesVariables }
+{}
+
+/// After writes and removals in turn a path has what the last of them that says something of it says: the bytes
+/// written there, or nothing where it was removed. None of them changes a variable.
+pub fn last_word_stands()
+    ensures files { LastWordStands }
+    ensures variables { VariablesStand }
 {}

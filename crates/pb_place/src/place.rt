@@ -53,6 +53,15 @@ pub enum StartFault {
     OutOfMemory,
 }
 
+/// What the outside answered to a call that failed. Want of memory is no failure of the outside.
+#[derive(Clone, Copy, Debug, PartialEq, Eq)]
+pub enum Failure {
+    /// A call on files or variables failed.
+    Called(PlaceFault),
+    /// A child could not be started, or gave no answer.
+    Started(StartFault),
+}
+
 impl From<AllocError> for PlaceFault {
     ghost from_gives = { λ _ e. e ≡ place_fault.OutOfMemory };
 
