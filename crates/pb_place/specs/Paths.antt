@@ -1,5 +1,5 @@
 -- Normalised absolute paths, and what lies below a folder. Paths are UTF-8 bytes, cut at `/`; links are no part of them.
-use Rattle.std.specs.Prelude.{ℕ, ◌==◌, Bool, false, not, ◌&&◌, ◌||◌, if◌then◌else◌, codes, List, [], ◌∷◌, ◌++◌, ◌-◌, length, take, Result, Ok, Err}
+use Rattle.std.specs.Prelude.{ℕ, ◌==◌, Bool, false, not, ◌&&◌, ◌||◌, if◌then◌else◌, codes, List, [], ◌∷◌, ◌++◌, ◌+◌, ◌-◌, length, take, drop, Option, Some, None, Result, Ok, Err}
 use Rattle.std.specs.List.{fold, list_any, list_all, slice_split}
 use Rattle.std.specs.Str.{bytes_eq}
 use Rattle.pb_place.specs.declared.path.PathFault.{PathFault}
@@ -54,6 +54,15 @@ joined folder text = parsed (if is_absolute text then text else folder ++ 47 ∷
 abbrev pub folder_of : List ℕ → List ℕ
 folder_of path = path_of (walked (names_of path) (codes ".."))
 
+-- the last of some texts, or this one where there is none
+abbrev pub last_of : List ℕ → List (List ℕ) → List ℕ
+last_of text [] = text
+last_of text (next ∷ texts) = last_of next texts
+
+-- the last part of a path: the name that it ends with; of the root it is empty
+abbrev pub last_part : List ℕ → List ℕ
+last_part path = last_of [] (parts_of path)
+
 -- a name of a file or folder
 abbrev pub is_name : List ℕ → Bool
 is_name part = not (stays part || leads_up part || has_byte_0 part)
@@ -91,3 +100,12 @@ is_below folder path = leads_below (stem folder) path
 -- the folder itself, or below it
 unfoldable pub is_at_or_below : List ℕ → List ℕ → Bool
 is_at_or_below folder path = bytes_eq folder path || is_below folder path
+
+-- the path inside a folder of what lies strictly below it: what follows its stem and a slash
+abbrev pub inside : List ℕ → List ℕ → Option (List ℕ)
+inside folder path = if is_below folder path then Some (drop (length (stem folder) + 1) path) else None
+
+-- what follows a slash at the front
+abbrev pub after_slash : List ℕ → Option (List ℕ)
+after_slash [] = None
+after_slash (b ∷ rest) = if b == 47 then Some rest else None
