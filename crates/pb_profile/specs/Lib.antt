@@ -2,3 +2,4 @@ pub mod Line
 pub mod Settings
 pub mod Merging
 pub mod Walking
+pub mod Laws

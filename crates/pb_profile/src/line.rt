@@ -85,6 +85,7 @@ fn above<'a>(
 ///
 /// NoSuchProfile where one of them is not built in and not written, InheritsCycle where the line has no
 /// end, NotInOverride where an override of one of them sets `panic`, `lto` or `rpath`.
+#[tactic(auto, using(crate::proofs::Merged::each_seen))]
 pub fn line_of<'a>(
     alloc: Global,
     profiles: &'a [Profile],
@@ -101,9 +102,8 @@ pub fn line_of<'a>(
 }
 
 /// Whether no override of these profiles sets what it may not set.
-#[tactic(auto, using(crate::proofs::Merged::each_seen))]
 fn all_allow(line: &[Ancestor]) -> bool
-    ensures { result ≡ list_all allows (map seen line.now) }
+    ensures { result ≡ list_all (λ ancestor. allows (seen ancestor)) line.now }
 {
     line.iter().all(|ancestor| allows(ancestor))
 }
