@@ -1,20 +1,12 @@
-//! Tests of the outside world (paths, a place in memory, sinks), against worked examples. The crate holds nothing
-//! else: a crate with tests is proved twice, so none that others stand on has any.
+//! Tests of places: the one in memory by each of its calls, and any by the clauses of the trait alone. The crate holds
+//! nothing else: a crate with tests is proved twice, so none that others stand on has any.
 #![tactic(auto)]
 
 #[cfg(test)]
 mod calls;
 #[cfg(test)]
-mod counters;
-#[cfg(test)]
 mod echo;
-#[cfg(test)]
-mod failing;
 #[cfg(test)]
 mod honest;
 #[cfg(test)]
 mod memory;
-#[cfg(test)]
-mod paths;
-#[cfg(test)]
-mod sinks;

@@ -1,6 +1,6 @@
-//! Tests of the base types, of all readers (manifests, the output of scripts, dep-info, session files) and of the
-//! lines that are written (JSON strings, result lines), against worked examples. The crate holds nothing else: a
-//! crate with tests is proved twice, so none that others stand on has any.
+//! Tests of the base types, of the readers but that of manifests (the output of scripts, dep-info, session files) and
+//! of the lines that are written (JSON strings, result lines), against worked examples. The crate holds nothing else:
+//! a crate with tests is proved twice, so none that others stand on has any.
 #![tactic(auto)]
 
 #[cfg(test)]
@@ -9,8 +9,6 @@ mod data;
 mod directives;
 #[cfg(test)]
 mod json;
-#[cfg(test)]
-mod manifests;
 #[cfg(test)]
 mod metadata;
 #[cfg(test)]
