@@ -1,10 +1,11 @@
--- What a call that fails leaves as it was.
-use Rattle.std.proofs.Common.{◌≡◌, ◌≢◌, ◌⊎◌, ◌++◌, ◌∙◌, ℕ, List, Option, Some, None, refl, sym, ap, take, drop, take-append-drop, inl, inr}
+-- What a call that fails leaves as it was, and that its fault is the last.
+use Rattle.std.proofs.Common.{◌≡◌, ◌⊎◌, ◌++◌, ◌∙◌, ℕ, List, Some, None, refl, sym, ap, take, drop, take-append-drop, inl, inr}
 use Rattle.std.proofs.lemmas.Bool.{cases_Bool}
 use Rattle.std.specs.FinMap.{get}
-use Rattle.pb_place.specs.Paths.{is_below, is_at_or_below}
-use Rattle.pb_place.specs.World.{World, Torn, PartlyRemoved, ChangesOnlyInSome, is_same_path}
-use Rattle.pb_place.specs.Failing.{is_in_out, TornSparesOthers, TornLeaves, PartlySparesOthers, PartlyMakesNothing, StartSparesOthers, TornSparesVariables, PartlySparesVariables, StartSparesVariables}
+use Rattle.pb_place.specs.World.{World, is_same_path}
+use Rattle.pb_place.specs.declared.place.PlaceFault.TheVariants as place
+use Rattle.pb_place.specs.declared.place.StartFault.TheVariants as start
+use Rattle.pb_place.specs.Failing.{CallTellsFault, StartTellsFault, TornSparesOthers, TornLeaves, PartlySparesOthers, PartlyMakesNothing, StartSparesOthers, TornSparesVariables, PartlySparesVariables, StartSparesVariables}
 use Rattle.pb_place.proofs.Worlds.{same_path}
 
 pub torn_spares_others : TornSparesOthers
@@ -46,3 +47,19 @@ partly_spares_variables path old new partly = partly.variables
 pub start_spares_variables : StartSparesVariables
 start_spares_variables None old new same = ap (λ (w : World). w.variables) same
 start_spares_variables (Some folder) old new only = only.variables
+
+pub call_tells_fault : CallTellsFault
+call_tells_fault place.Read c apart = refl
+call_tells_fault place.List c apart = refl
+call_tells_fault place.Write c apart = refl
+call_tells_fault place.Remove c apart = refl
+call_tells_fault place.Variable c apart = refl
+call_tells_fault place.OutOfMemory c apart = absurd (apart refl)
+
+pub start_tells_fault : StartTellsFault
+start_tells_fault start.CannotStart c apart = refl
+start_tells_fault start.Died c apart = refl
+start_tells_fault start.Capture c apart = refl
+start_tells_fault start.OutOfMemory c apart = absurd (apart refl)
+
+pub ruleset fault_laws = (call_tells_fault, start_tells_fault)

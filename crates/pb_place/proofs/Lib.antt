@@ -1,4 +1,3 @@
-pub mod CallLemmas
 pub mod Changes
 pub mod Failing
 pub mod Folders

@@ -1,8 +1,14 @@
--- What a call that fails leaves as it was.
+-- What a call that fails leaves as it was, and that its fault is the last.
 use Rattle.std.specs.Prelude.{◌≡◌, ◌≢◌, ◌⊎◌, ◌++◌, ℕ, Bool, false, List, Option, Some, None}
 use Rattle.std.specs.FinMap as map
 use Rattle.pb_place.specs.Paths.{is_below, is_at_or_below}
 use Rattle.pb_place.specs.World.{World, Torn, PartlyRemoved, ChangesOnlyInSome}
+use Rattle.pb_place.specs.Counts.{Counts, past_fault, past_place_fault, past_start_fault}
+use Rattle.pb_place.specs.declared.place.Failure.TheVariants.{Called, Started}
+use Rattle.pb_place.specs.declared.place.PlaceFault.{PlaceFault}
+use Rattle.pb_place.specs.declared.place.PlaceFault.TheVariants as place
+use Rattle.pb_place.specs.declared.place.StartFault.{StartFault}
+use Rattle.pb_place.specs.declared.place.StartFault.TheVariants as start
 
 -- after a write that failed, every other path has what it had
 abbrev pub TornSparesOthers : Type 0
@@ -39,3 +45,11 @@ PartlySparesVariables = (path : List ℕ) (old new : World) → PartlyRemoved pa
 
 abbrev pub StartSparesVariables : Type 0
 StartSparesVariables = (out : Option (List ℕ)) (old new : World) → ChangesOnlyInSome out old new → new.variables ≡ old.variables
+
+-- a call that failed, but for want of memory, is counted and sets the last fault to the one that it answers
+abbrev pub CallTellsFault : Type 0
+CallTellsFault = (e : PlaceFault) (c : Counts) → e ≢ place.OutOfMemory → past_place_fault e c ≡ past_fault (Called e) c
+
+-- and so does a start
+abbrev pub StartTellsFault : Type 0
+StartTellsFault = (e : StartFault) (c : Counts) → e ≢ start.OutOfMemory → past_start_fault e c ≡ past_fault (Started e) c

@@ -4,7 +4,7 @@ ghost use Rattle.std.specs.Prelude.{◌≡◌, ℕ, List, true, Ok};
 ghost use Rattle.pb_place.specs.Paths.{is_path, parsed};
 ghost use Rattle.pb_place.specs.Within.{BelowGoesOn, AtOrBelow, AtOrBelowGoesOn, BelowThenAt, AtThenBelow, OneFolder, NotBelowItself, ShareNoPath, RootIsAbove, NamesLieApart, JoinsAgain, FoundInside, InsideIsRelative, EndsWithLastPart, LastPartIsName, LiesInFolder};
 ghost use Rattle.pb_place.specs.Changes.{LastWordStands, VariablesStand};
-ghost use Rattle.pb_place.specs.Failing.{TornSparesOthers, TornLeaves, TornSparesVariables, PartlySparesOthers, PartlyMakesNothing, PartlySparesVariables, StartSparesOthers, StartSparesVariables};
+ghost use Rattle.pb_place.specs.Failing.{TornSparesOthers, TornLeaves, TornSparesVariables, PartlySparesOthers, PartlyMakesNothing, PartlySparesVariables, StartSparesOthers, StartSparesVariables, CallTellsFault, StartTellsFault};
 ghost use Rattle.pb_place.specs.Folders.{NamedFoldersLieApart, FolderStays, SourcesStayed, ChangesJoin, ChangesWiden, LooksOver, LooksIn, LooksAtSources, LooksThrough, SeesSources, SeesFolders, SeesAlike, StandAlone};
 
 /// Parsing leaves a normalised path as it is: so a path says itself, and what was parsed once is parsed no further.
@@ -86,4 +86,10 @@ pub fn failing_calls_spare()
 pub fn last_word_stands()
     ensures files { LastWordStands }
     ensures variables { VariablesStand }
+{}
+
+/// A call that failed, but for want of memory, is counted, and the last fault is then the one that it answered.
+pub fn failing_calls_are_told()
+    ensures calls { CallTellsFault }
+    ensures starts { StartTellsFault }
 {}
