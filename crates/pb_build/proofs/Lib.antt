@@ -5,6 +5,7 @@ pub mod Keeping
 pub mod Keys
 pub mod Names
 pub mod Refusals
+pub mod Resolving
 pub mod ResultLaws
 pub mod Setups
 pub mod Sources

@@ -11,7 +11,9 @@ use Rattle.pb_place.specs.declared.command.Command.{Command}
 use Rattle.pb_build.specs.declared.setup.Setup.{Setup}
 use Rattle.pb_build.specs.declared.unit.About.{About}
 use Rattle.pb_build.specs.declared.unit.LibraryUnit.{LibraryUnit}
-use Rattle.pb_build.specs.Unit.{edition_text, crate_types_of, out_of}
+use Rattle.pb_build.specs.Unit.{out_of}
+use Rattle.pb_manifest.specs.Library.{crate_type_texts}
+use Rattle.pb_manifest.specs.Package.{edition_text}
 
 -- `--crate-type` and the type, for each
 abbrev pub type_words : List (List ℕ) → List (List ℕ)
@@ -41,7 +43,7 @@ check_words = codes "--check-cfg" ∷ codes "cfg(feature, values())" ∷ []
 
 abbrev pub words_of : Setup → LibraryUnit → List (List ℕ)
 words_of s u =
-    source_words u.crate_name (edition_word u.edition) u.source ++ type_words (crate_types_of u.crate_types) ++ output_words (out_of s.target u) ++ profile_words ++ check_words ++ s.flags
+    source_words u.crate_name (edition_word u.edition) u.source ++ type_words (crate_type_texts u.crate_types) ++ output_words (out_of s.target u) ++ profile_words ++ check_words ++ s.flags
 
 -- the numbers of a version and its pre-release
 abbrev pub numbers_in : {E : Type 0} → Result (ℕ × ℕ × ℕ × List ℕ × List ℕ) E → ℕ × ℕ × ℕ × List ℕ × List ℕ

@@ -1,14 +1,13 @@
 -- The library of a package, and what its package says of itself (The Cargo Book, Manifest Format).
-use Rattle.std.specs.Prelude.{ℕ, Bool, if◌then◌else◌, codes, List, [], ◌∷◌, ◌++◌, Option, Some, None, unwrap_or, Result, Ok, Err}
+use Rattle.std.specs.Prelude.{ℕ, Bool, if◌then◌else◌, codes, List, [], ◌∷◌, ◌++◌, Option, Some, None, Result, Ok, Err}
 use Rattle.pb_data.specs.Gives.{◌>>=◌}
-use Rattle.pb_directive.specs.Metadata.{underscored}
-use Rattle.pb_place.specs.Paths.{below, joined}
+use Rattle.pb_place.specs.Paths.{below, is_absolute, names_of, path_of}
 use Rattle.pb_place.specs.World.{World}
-use Rattle.pb_place.specs.declared.path.PathFault.{PathFault}
-use Rattle.pb_manifest.specs.declared.fault.ManifestFault.TheVariants.{BadKind}
+use Rattle.pb_manifest.specs.Library.{library_name}
+use Rattle.pb_manifest.specs.declared.inherited.Inheritable.{Inheritable}
+use Rattle.pb_manifest.specs.declared.inherited.Inheritable.TheVariants.{Written, Workspace, Absent}
 use Rattle.pb_manifest.specs.declared.inherited.Inherited.{Inherited}
 use Rattle.pb_manifest.specs.declared.inherited.Inherited.TheVariants as inherited
-use Rattle.pb_manifest.specs.declared.key.Key.TheVariants as key
 use Rattle.pb_manifest.specs.declared.package.Edition.{Edition}
 use Rattle.pb_manifest.specs.declared.package.Package.{Package}
 use Rattle.pb_manifest.specs.declared.package.Readme.{Readme}
@@ -24,7 +23,7 @@ use Rattle.pb_build.specs.declared.library.Named.{Named}
 use Rattle.pb_build.specs.declared.library.Said.{Said}
 use Rattle.pb_build.specs.declared.unit.About.{About}
 use Rattle.pb_build.specs.declared.unit.LibraryUnit.{LibraryUnit}
-use Rattle.pb_build.specs.Package.{refused, has_file}
+use Rattle.pb_build.specs.Package.{has_file}
 
 abbrev pub not_inherited : BuildFault
 not_inherited = Plan (refusal.Load load.NoInherited)
@@ -35,9 +34,10 @@ written (inherited.Written x) = Ok x
 written inherited.Workspace = Err not_inherited
 
 -- a text, empty where it is absent
-abbrev pub text_of : Option (Inherited (List ℕ)) → Result (List ℕ) BuildFault
-text_of None = Ok []
-text_of (Some value) = written value
+abbrev pub text_of : Inheritable (List ℕ) → Result (List ℕ) BuildFault
+text_of (Written text) = Ok text
+text_of Workspace = Err not_inherited
+text_of Absent = Ok []
 
 -- each author after a colon
 abbrev pub further_authors : List (List ℕ) → List ℕ
@@ -54,9 +54,10 @@ readme_text readme.Standard = codes "README.md"
 readme_text readme.Never = []
 readme_text (readme.At path) = path
 
-abbrev pub authors_of : Option (Inherited (List (List ℕ))) → Result (List ℕ) BuildFault
-authors_of None = Ok []
-authors_of (Some value) = written value >>= (λ authors. Ok (joined_authors authors))
+abbrev pub authors_of : Inheritable (List (List ℕ)) → Result (List ℕ) BuildFault
+authors_of (Written authors) = Ok (joined_authors authors)
+authors_of Workspace = Err not_inherited
+authors_of Absent = Ok []
 
 -- a file of the sources in the package's folder
 abbrev pub has_own_file : List ℕ → World → List ℕ → Bool
@@ -69,9 +70,10 @@ found_readme folder sources =
     else (if has_own_file folder sources (codes "README.txt") then codes "README.txt"
     else (if has_own_file folder sources (codes "README") then codes "README" else []))
 
-abbrev pub readme_of : List ℕ → World → Option (Inherited Readme) → Result (List ℕ) BuildFault
-readme_of folder sources None = Ok (found_readme folder sources)
-readme_of folder sources (Some value) = written value >>= (λ readme. Ok (readme_text readme))
+abbrev pub readme_of : List ℕ → World → Inheritable Readme → Result (List ℕ) BuildFault
+readme_of folder sources (Written readme) = Ok (readme_text readme)
+readme_of folder sources Workspace = Err not_inherited
+readme_of folder sources Absent = Ok (found_readme folder sources)
 
 -- what the package's table says for people
 abbrev pub said_in : Package → Said
@@ -110,23 +112,21 @@ about_of s readme =
 abbrev pub about_in : List ℕ → World → Said → Result About BuildFault
 about_in folder sources s = readme_of folder sources s.readme >>= about_of s
 
--- a path of the package; one that no path says is refused, as the manifest's reader refuses it
-abbrev pub path_in : List ℕ → Result (List ℕ) PathFault → Result (List ℕ) BuildFault
-path_in manifest (Ok path) = Ok path
-path_in manifest (Err fault) = Err (refused manifest (BadKind key.Path))
+-- the path that a written one says, from the package's folder; an absolute one says its own
+abbrev pub resolved : List ℕ → List ℕ → List ℕ
+resolved folder text = path_of (names_of (if is_absolute text then text else folder ++ 47 ∷ text))
 
 abbrev pub standard_source : List ℕ → List ℕ
 standard_source folder = below folder (codes "src/lib.rs")
 
--- the library's source: the written path, from the package's folder, else `src/lib.rs`
-abbrev pub source_of : List ℕ → List ℕ → Option (List ℕ) → Result (List ℕ) BuildFault
-source_of manifest folder None = Ok (standard_source folder)
-source_of manifest folder (Some text) = path_in manifest (joined folder text)
+-- the library's source: the written path, else `src/lib.rs`
+abbrev pub source_of : List ℕ → Option (List ℕ) → List ℕ
+source_of folder None = standard_source folder
+source_of folder (Some text) = resolved folder text
 
--- the crate of a `[lib]` table: its name is the written one, else the package's with `_` for each `-`
-abbrev pub written_crate : List ℕ → List ℕ → List ℕ → Library → Result Crate BuildFault
-written_crate manifest folder name l =
-    source_of manifest folder l.path >>= (λ source. Ok record { name = unwrap_or l.name (underscored name); types = l.crate_types; source = source })
+-- the crate of a `[lib]` table
+abbrev pub written_crate : List ℕ → List ℕ → Library → Crate
+written_crate folder name l = record { name = name; types = l.crate_types; source = source_of folder l.path }
 
 abbrev pub nothing_to_build : BuildFault
 nothing_to_build = Plan (refusal.Plan plan.NothingToBuild)
@@ -134,11 +134,11 @@ nothing_to_build = Plan (refusal.Plan plan.NothingToBuild)
 -- without a `[lib]` table: `src/lib.rs` where that is a file, else there is nothing to build
 abbrev pub discovered_crate : List ℕ → World → List ℕ → Result Crate BuildFault
 discovered_crate folder sources name =
-    if has_own_file folder sources (codes "src/lib.rs") then Ok record { name = underscored name; types = []; source = standard_source folder } else Err nothing_to_build
+    if has_own_file folder sources (codes "src/lib.rs") then Ok record { name = name; types = []; source = standard_source folder } else Err nothing_to_build
 
-abbrev pub crate_of : List ℕ → List ℕ → World → List ℕ → Option Library → Result Crate BuildFault
-crate_of manifest folder sources name None = discovered_crate folder sources name
-crate_of manifest folder sources name (Some l) = written_crate manifest folder name l
+abbrev pub crate_of : List ℕ → World → List ℕ → Option Library → Result Crate BuildFault
+crate_of folder sources name None = discovered_crate folder sources (library_name name None)
+crate_of folder sources name (Some l) = Ok (written_crate folder (library_name name (Some l)) l)
 
 -- a package's name, its version and its edition, where both are written
 abbrev pub named_of : List ℕ → Inherited (List ℕ) → Inherited Edition → Result Named BuildFault
@@ -164,7 +164,7 @@ unit_with manifest folder named about made = record {
 -- the library of a package of this name, version and edition
 abbrev pub library_with : List ℕ → List ℕ → World → Said → Option Library → Named → Result LibraryUnit BuildFault
 library_with manifest folder sources said library named =
-    about_in folder sources said >>= (λ about. crate_of manifest folder sources named.name library >>= (λ made. Ok (unit_with manifest folder named about made)))
+    about_in folder sources said >>= (λ about. crate_of folder sources named.name library >>= (λ made. Ok (unit_with manifest folder named about made)))
 
 -- the library of a package
 abbrev pub library_of : List ℕ → List ℕ → World → Package → Option Library → Result LibraryUnit BuildFault

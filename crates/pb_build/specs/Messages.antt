@@ -6,7 +6,8 @@ use Rattle.serde_json.specs.Read.{read}
 use Rattle.pb_json.specs.Json.{json_string}
 use Rattle.pb_directive.specs.Lines.{lines_of, trimmed, text_of}
 use Rattle.pb_build.specs.declared.unit.LibraryUnit.{LibraryUnit}
-use Rattle.pb_build.specs.Unit.{edition_text, crate_types_of}
+use Rattle.pb_manifest.specs.Library.{crate_type_texts}
+use Rattle.pb_manifest.specs.Package.{edition_text}
 
 -- strings with a comma before each
 abbrev pub json_rest : List (List ℕ) → List ℕ
@@ -27,7 +28,7 @@ package_id u =
 -- the target object of a library: both lists hold its crate types
 abbrev pub target_text : LibraryUnit → List ℕ
 target_text u = concat (
-    codes "{\"kind\":" ∷ json_list (crate_types_of u.crate_types) ∷ codes ",\"crate_types\":" ∷ json_list (crate_types_of u.crate_types) ∷ codes ",\"name\":" ∷ json_string u.crate_name
+    codes "{\"kind\":" ∷ json_list (crate_type_texts u.crate_types) ∷ codes ",\"crate_types\":" ∷ json_list (crate_type_texts u.crate_types) ∷ codes ",\"name\":" ∷ json_string u.crate_name
     ∷ codes ",\"src_path\":" ∷ json_string u.source ∷ codes ",\"edition\":" ∷ json_string (edition_text u.edition) ∷ codes "}" ∷ [])
 
 -- what each line of a unit begins with, after its reason

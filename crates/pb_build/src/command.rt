@@ -3,14 +3,14 @@
 ghost use Rattle.std.specs.Prelude.{◌≡◌, ℕ, List, ◌++◌, ◌∷◌, [], IfOk, OnOk, map, string_bytes, codes};
 ghost use Rattle.std.specs.FinMap as finite;
 ghost use Rattle.std.specs.Fmt.{decimal};
-ghost use Rattle.pb_build.specs.Unit.{edition_text, crate_types_of, out_of, key_of};
+ghost use Rattle.pb_build.specs.Unit.{out_of, key_of};
 ghost use Rattle.pb_build.specs.Command.{type_words, source_words, output_words, profile_words, check_words, words_of, version_numbers, all_set, unit_variables, about_variables, version_variables, variables_of_version, edition_word, pairs_of, query_of, command_of};
 
 use crate::setup::Setup;
 use crate::texts::joined;
-use crate::unit::{About, LibraryUnit, crate_types_of, edition_text};
+use crate::unit::{About, LibraryUnit};
 use pb_data::{Bytes, Items, Text, TryCopy};
-use pb_manifest::{Edition, Version};
+use pb_manifest::{Edition, Version, crate_type_texts};
 use pb_place::{Command, PathText, TextMap};
 use std::alloc::{AllocError, Global};
 
@@ -56,7 +56,7 @@ fn push_copies(alloc: Global, words: &mut Items<Text>, more: &[Text]) -> Result<
 fn edition_word(alloc: Global, edition: Edition) -> Result<String, AllocError>
     ensures { IfOk result (λ word. string_bytes word ≡ edition_word edition) }
 {
-    joined(alloc, &["--edition=", edition_text(edition)])
+    joined(alloc, &["--edition=", edition.text()])
 }
 
 /// Adds the words of the crate's source, and of how diagnostics are told.
@@ -124,7 +124,7 @@ fn words_of(
     requires { out.now ≡ out_of setup.now.target unit.now }
     ensures { IfOk result (λ words. words ≡ words_of setup.now unit.now) }
 {
-    let types = crate_types_of(alloc, unit)?;
+    let types = crate_type_texts(alloc, unit.crate_types.as_slice())?;
     let edition = edition_word(alloc, unit.edition)?;
     let mut words = Items::new(alloc);
     push_source(

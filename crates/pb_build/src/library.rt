@@ -1,22 +1,21 @@
 //! The library of a package: where its source is, and what its package says of itself.
 
-ghost use Rattle.std.specs.Prelude.{◌≡◌, ◌++◌, Bool, IfOk, IfErr, OnOk, IsTrue, Some, None, true, false, codes, string_bytes, unwrap_or, map};
-ghost use Rattle.pb_directive.specs.Metadata.{underscored};
-ghost use Rattle.pb_place.specs.Paths.{below, joined, is_relative};
+ghost use Rattle.std.specs.Prelude.{◌≡◌, ◌++◌, Bool, IfOk, IfErr, OnOk, IsTrue, Some, None, true, false, codes, string_bytes, map};
+ghost use Rattle.pb_place.specs.Paths.{below, is_relative};
 ghost use Rattle.pb_place.specs.World.{from_nothing};
 ghost use Rattle.pb_report.specs.Faults.{Told, is_outside};
 ghost use Rattle.pb_build.specs.Causes.{Reads, is_inner};
-ghost use Rattle.pb_build.specs.Library.{not_inherited, written, text_of, further_authors, joined_authors, readme_text, authors_of, has_own_file, found_readme, readme_of, said_in, about_of, path_in, standard_source, source_of, written_crate, discovered_crate, crate_of, named_of, named_in, unit_with, about_in, library_with, library_of};
+ghost use Rattle.pb_build.specs.Library.{not_inherited, written, text_of, further_authors, joined_authors, readme_text, authors_of, has_own_file, found_readme, readme_of, said_in, about_of, resolved, standard_source, source_of, written_crate, discovered_crate, crate_of, named_of, named_in, unit_with, about_in, library_with, library_of};
 
-use crate::package::{is_source, refused};
+use crate::package::is_source;
 use crate::setup::Setup;
 use crate::unit::{About, LibraryUnit};
 use pb_data::{Items, Text, TryCopy};
-use pb_directive::underscored;
 use pb_manifest::{
-    CrateType, Edition, Inherited, Key, Library, ManifestFault, Package, Readme, Version,
+    CrateType, Edition, Inheritable, Inherited, Library, Package, Readme, Version, WrittenPath,
+    library_name,
 };
-use pb_place::{PathFault, PathText, Place, RelativePath};
+use pb_place::{PathText, Place, RelativePath};
 use pb_report::{BuildFault, LoadFault, PlanFault, Refusal};
 use std::alloc::{AllocError, Global};
 
@@ -39,13 +38,14 @@ fn written<T: Drop>(value: Inherited<T>) -> Result<T, BuildFault>
 }
 
 /// A text of a package, empty where it is absent.
-fn text_of(alloc: Global, value: Option<Inherited<Text>>) -> Result<Text, BuildFault>
+fn text_of(alloc: Global, value: Inheritable<Text>) -> Result<Text, BuildFault>
     ensures told { Told result (text_of value) }
     ensures here { IfErr result (λ e. is_inner e ≡ true) }
 {
     match value {
-        Some(value) => written(value),
-        None => Ok(Text::from_str(alloc, "")?),
+        Inheritable::Written(text) => Ok(text),
+        Inheritable::Workspace => Err(not_inherited()),
+        Inheritable::Absent => Ok(Text::from_str(alloc, "")?),
     }
 }
 
@@ -67,16 +67,14 @@ fn joined_authors(alloc: Global, authors: &[Text]) -> Result<Text, AllocError>
 }
 
 /// The authors of a package, joined by `:`.
-fn authors_of(alloc: Global, value: Option<Inherited<Items<Text>>>) -> Result<Text, BuildFault>
+fn authors_of(alloc: Global, value: Inheritable<Items<Text>>) -> Result<Text, BuildFault>
     ensures told { Told result (authors_of value) }
     ensures here { IfErr result (λ e. is_inner e ≡ true) }
 {
     match value {
-        Some(value) => {
-            let authors = written(value)?;
-            Ok(joined_authors(alloc, authors.as_slice())?)
-        }
-        None => Ok(Text::from_str(alloc, "")?),
+        Inheritable::Written(authors) => Ok(joined_authors(alloc, authors.as_slice())?),
+        Inheritable::Workspace => Err(not_inherited()),
+        Inheritable::Absent => Ok(Text::from_str(alloc, "")?),
     }
 }
 
@@ -143,16 +141,16 @@ fn readme_of<P: Place>(
     place: &mut P,
     alloc: Global,
     setup: &Setup,
-    value: &Option<Inherited<Readme>>,
+    value: &Inheritable<Readme>,
 ) -> Result<Text, BuildFault>
     ensures ok { IsTrue P.tells → Told result (readme_of setup.now.root (from_nothing setup.now.target (P.world place.old)) value.now) }
     ensures same { IsTrue P.tells → P.world place.new ≡ P.world place.old }
     ensures reads { Reads result (P.counts place.old) (P.counts place.new) }
 {
     match value {
-        Some(Inherited::Written(readme)) => Ok(readme_text(alloc, readme)?),
-        Some(Inherited::Workspace) => Err(not_inherited()),
-        None => {
+        Inheritable::Written(readme) => Ok(readme_text(alloc, readme)?),
+        Inheritable::Workspace => Err(not_inherited()),
+        Inheritable::Absent => {
             let readme = found_readme(place, alloc, setup)?;
             Ok(readme)
         }
@@ -162,14 +160,14 @@ fn readme_of<P: Place>(
 /// What a manifest says for people, not yet taken from anywhere else.
 #[derive(Drop)]
 pub struct Said {
-    pub authors: Option<Inherited<Items<Text>>>,
-    pub description: Option<Inherited<Text>>,
-    pub homepage: Option<Inherited<Text>>,
-    pub license: Option<Inherited<Text>>,
-    pub license_file: Option<Inherited<Text>>,
-    pub readme: Option<Inherited<Readme>>,
-    pub repository: Option<Inherited<Text>>,
-    pub rust_version: Option<Inherited<Text>>,
+    pub authors: Inheritable<Items<Text>>,
+    pub description: Inheritable<Text>,
+    pub homepage: Inheritable<Text>,
+    pub license: Inheritable<Text>,
+    pub license_file: Inheritable<Text>,
+    pub readme: Inheritable<Readme>,
+    pub repository: Inheritable<Text>,
+    pub rust_version: Inheritable<Text>,
 }
 
 /// What a package says of itself, and its README.
@@ -232,20 +230,14 @@ pub struct Crate {
     pub source: PathText,
 }
 
-/// A path of a package. One that no path says is BadKind, as a path with byte 0 is.
-fn path_in(
-    alloc: Global,
-    manifest: &PathText,
-    folder: &PathText,
-    text: &str,
-) -> Result<PathText, BuildFault>
-    ensures told { Told result (path_in manifest.now (joined folder.now text.now)) }
-    ensures here { IfErr result (λ e. is_inner e ≡ true) }
+/// The path that a written one says, from the package's folder. It holds no byte 0, so it is one.
+#[tactic(auto, using(crate::proofs::Resolving::resolving_laws))]
+fn resolved(alloc: Global, folder: &PathText, path: &WrittenPath) -> Result<PathText, AllocError>
+    ensures { IfOk result (λ made. made ≡ resolved folder.now path.now) }
 {
-    match folder.join(alloc, text) {
-        Ok(path) => Ok(path),
-        Err(PathFault::OutOfMemory) => Err(BuildFault::OutOfMemory),
-        Err(_) => Err(refused(alloc, manifest, ManifestFault::BadKind(Key::Path))),
+    match folder.join(alloc, path.as_str()) {
+        Ok(made) => Ok(made),
+        Err(_) => Err(AllocError),
     }
 }
 
@@ -253,33 +245,13 @@ fn path_in(
 fn source_of(
     alloc: Global,
     setup: &Setup,
-    manifest: &PathText,
-    path: Option<Text>,
-) -> Result<PathText, BuildFault>
-    ensures told { Told result (source_of manifest.now setup.now.root path) }
-    ensures here { IfErr result (λ e. is_inner e ≡ true) }
+    path: Option<WrittenPath>,
+) -> Result<PathText, AllocError>
+    ensures { IfOk result (λ source. source ≡ source_of setup.now.root path) }
 {
     match path {
-        Some(path) => path_in(alloc, manifest, &setup.root, path.as_str()),
-        None => Ok(own_path(alloc, setup, "src/lib.rs")?),
-    }
-}
-
-/// A package's name as its library's: `_` for each `-` (The Cargo Book, Cargo Targets).
-fn crate_name_of(alloc: Global, package_name: &str) -> Result<Text, AllocError>
-    ensures { IfOk result (λ name. name ≡ underscored package_name.now) }
-{
-    let name = underscored(alloc, package_name)?;
-    Ok(Text::new(name))
-}
-
-/// The name of a library: the one that `[lib]` writes, else the package's.
-fn name_or(alloc: Global, name: Option<Text>, package_name: &str) -> Result<Text, AllocError>
-    ensures { IfOk result (λ text. text ≡ unwrap_or name (underscored package_name.now)) }
-{
-    match name {
-        Some(name) => Ok(name),
-        None => crate_name_of(alloc, package_name),
+        Some(path) => resolved(alloc, &setup.root, &path),
+        None => own_path(alloc, setup, "src/lib.rs"),
     }
 }
 
@@ -287,20 +259,17 @@ fn name_or(alloc: Global, name: Option<Text>, package_name: &str) -> Result<Text
 fn written_crate(
     alloc: Global,
     setup: &Setup,
-    manifest: &PathText,
-    package_name: &str,
+    name: Text,
     library: Library,
-) -> Result<Crate, BuildFault>
-    ensures told { Told result (written_crate manifest.now setup.now.root package_name.now library) }
-    ensures here { IfErr result (λ e. is_inner e ≡ true) }
+) -> Result<Crate, AllocError>
+    ensures { IfOk result (λ made. made ≡ written_crate setup.now.root name library) }
 {
     let Library {
         crate_types,
-        name,
+        name: _,
         path,
     } = library;
-    let source = source_of(alloc, setup, manifest, path)?;
-    let name = name_or(alloc, name, package_name)?;
+    let source = source_of(alloc, setup, path)?;
     Ok(Crate {
         name,
         types: crate_types,
@@ -314,9 +283,9 @@ fn discovered_crate<P: Place>(
     place: &mut P,
     alloc: Global,
     setup: &Setup,
-    package_name: &str,
+    name: Text,
 ) -> Result<Crate, BuildFault>
-    ensures ok { IsTrue P.tells → Told result (discovered_crate setup.now.root (from_nothing setup.now.target (P.world place.old)) package_name.now) }
+    ensures ok { IsTrue P.tells → Told result (discovered_crate setup.now.root (from_nothing setup.now.target (P.world place.old)) name) }
     ensures same { IsTrue P.tells → P.world place.new ≡ P.world place.old }
     ensures reads { Reads result (P.counts place.old) (P.counts place.new) }
 {
@@ -324,7 +293,6 @@ fn discovered_crate<P: Place>(
         return Err(BuildFault::Plan(Refusal::Plan(PlanFault::NothingToBuild)));
     }
     let source = own_path(alloc, setup, "src/lib.rs")?;
-    let name = crate_name_of(alloc, package_name)?;
     Ok(Crate {
         name,
         types: Items::new(alloc),
@@ -337,21 +305,18 @@ fn crate_of<P: Place>(
     place: &mut P,
     alloc: Global,
     setup: &Setup,
-    manifest: &PathText,
     package_name: &str,
     library: Option<Library>,
 ) -> Result<Crate, BuildFault>
-    ensures ok { IsTrue P.tells → Told result (crate_of manifest.now setup.now.root (from_nothing setup.now.target (P.world place.old)) package_name.now library) }
+    ensures ok { IsTrue P.tells → Told result (crate_of setup.now.root (from_nothing setup.now.target (P.world place.old)) package_name.now library) }
     ensures same { IsTrue P.tells → P.world place.new ≡ P.world place.old }
     ensures reads { Reads result (P.counts place.old) (P.counts place.new) }
 {
+    let name = library_name(alloc, package_name, &library)?;
     match library {
-        Some(library) => {
-            let made = written_crate(alloc, setup, manifest, package_name, library)?;
-            Ok(made)
-        }
+        Some(library) => Ok(written_crate(alloc, setup, name, library)?),
         None => {
-            let made = discovered_crate(place, alloc, setup, package_name)?;
+            let made = discovered_crate(place, alloc, setup, name)?;
             Ok(made)
         }
     }
@@ -407,7 +372,7 @@ fn library_with<P: Place>(
     ensures reads { Reads result (P.counts place.old) (P.counts place.new) }
 {
     let about = about_in(place, alloc, setup, said)?;
-    let made = crate_of(place, alloc, setup, manifest, named.name.as_str(), library)?;
+    let made = crate_of(place, alloc, setup, named.name.as_str(), library)?;
     let unit = unit_with(alloc, setup, manifest, named, about, made)?;
     Ok(unit)
 }

@@ -7,10 +7,11 @@ ghost use Rattle.std.specs.Option.{option_map};
 ghost use Rattle.serde_json.specs.Read.{read};
 
 use crate::texts::joined;
-use crate::unit::{LibraryUnit, crate_types_of, edition_text};
+use crate::unit::LibraryUnit;
 use pb_directive::lines::{lines_of, trimmed};
 use pb_directive::texts::text_of;
 use pb_json::json_string;
+use pb_manifest::crate_type_texts;
 use pb_place::PathText;
 use serde_json::Value;
 use std::alloc::{AllocError, Global};
@@ -66,11 +67,11 @@ fn package_id(alloc: Global, unit: &LibraryUnit) -> Result<String, AllocError>
 fn target_text(alloc: Global, unit: &LibraryUnit) -> Result<String, AllocError>
     ensures { IfOk result (λ text. string_bytes text ≡ target_text unit.now) }
 {
-    let types = crate_types_of(alloc, unit)?;
+    let types = crate_type_texts(alloc, unit.crate_types.as_slice())?;
     let types = json_list(alloc, types.as_slice())?;
     let name = json_string(alloc, unit.crate_name.as_str())?;
     let source = json_string(alloc, unit.source.as_str())?;
-    let edition = json_string(alloc, edition_text(unit.edition))?;
+    let edition = json_string(alloc, unit.edition.text())?;
     joined(
         alloc,
         &[

@@ -92,6 +92,7 @@ fn served(
         binaries: _,
         dependencies: _,
         build_dependencies: _,
+        dev_dependencies: _,
         features: _,
         profiles: _,
         workspace: _,

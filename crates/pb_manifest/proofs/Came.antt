@@ -5,8 +5,8 @@ use Rattle.pb_data.specs.Gives.{◌>>=◌}
 use Rattle.pb_manifest.specs.Values.{Read, value_at, each}
 use Rattle.pb_manifest.specs.Laws.{AreReadInOrder}
 use Rattle.std.proofs.Common.{true, unwrap_or, codes}
-use Rattle.pb_manifest.specs.Package.{package_of, package_from, first_keys, middle_keys, last_keys, inherited_edition_at, build_at, inherited_readme_at, resolver_at}
-use Rattle.pb_manifest.specs.Values.{inherited_text_at, inherited_texts_at, truth_at}
+use Rattle.pb_manifest.specs.Package.{package_of, package_from, first_keys, middle_keys, last_keys, inherited_edition_at, build_at, inheritable_readme_at, resolver_at}
+use Rattle.pb_manifest.specs.Values.{inheritable_text_at, inheritable_texts_at, truth_at}
 use Rattle.pb_manifest.specs.Versions.{inherited_version_at}
 use Rattle.pb_manifest.specs.declared.key.Key.TheVariants as key
 use Rattle.pb_manifest.specs.declared.inherited.Inherited.TheVariants.{Written}
@@ -60,10 +60,10 @@ gave ms p h =
 -- the edition is the last of the first keys
 pub edition_gave : (ms : Members) (first : FirstKeys) → first_keys ms ≡ Ok first → inherited_edition_at ms ≡ Ok first.edition
 edition_gave ms first h =
-    let a : Came (inherited_texts_at key.Authors ms) (λ authors. truth_at key.Autobins ms >>= (λ autobins. build_at ms >>= (λ build. inherited_text_at key.Description ms >>= (λ description. inherited_edition_at ms >>= (λ edition. Ok record { authors = authors; autobins = unwrap_or autobins true; build = build; description = description; edition = edition }))))) first = came (inherited_texts_at key.Authors ms) _ first h in
-    let b : Came (truth_at key.Autobins ms) (λ autobins. build_at ms >>= (λ build. inherited_text_at key.Description ms >>= (λ description. inherited_edition_at ms >>= (λ edition. Ok record { authors = a.value; autobins = unwrap_or autobins true; build = build; description = description; edition = edition })))) first = came (truth_at key.Autobins ms) _ first a.more in
-    let c : Came (build_at ms) (λ build. inherited_text_at key.Description ms >>= (λ description. inherited_edition_at ms >>= (λ edition. Ok record { authors = a.value; autobins = unwrap_or b.value true; build = build; description = description; edition = edition }))) first = came (build_at ms) _ first b.more in
-    let d : Came (inherited_text_at key.Description ms) (λ description. inherited_edition_at ms >>= (λ edition. Ok record { authors = a.value; autobins = unwrap_or b.value true; build = c.value; description = description; edition = edition })) first = came (inherited_text_at key.Description ms) _ first c.more in
+    let a : Came (inheritable_texts_at key.Authors ms) (λ authors. truth_at key.Autobins ms >>= (λ autobins. build_at ms >>= (λ build. inheritable_text_at key.Description ms >>= (λ description. inherited_edition_at ms >>= (λ edition. Ok record { authors = authors; autobins = unwrap_or autobins true; build = build; description = description; edition = edition }))))) first = came (inheritable_texts_at key.Authors ms) _ first h in
+    let b : Came (truth_at key.Autobins ms) (λ autobins. build_at ms >>= (λ build. inheritable_text_at key.Description ms >>= (λ description. inherited_edition_at ms >>= (λ edition. Ok record { authors = a.value; autobins = unwrap_or autobins true; build = build; description = description; edition = edition })))) first = came (truth_at key.Autobins ms) _ first a.more in
+    let c : Came (build_at ms) (λ build. inheritable_text_at key.Description ms >>= (λ description. inherited_edition_at ms >>= (λ edition. Ok record { authors = a.value; autobins = unwrap_or b.value true; build = build; description = description; edition = edition }))) first = came (build_at ms) _ first b.more in
+    let d : Came (inheritable_text_at key.Description ms) (λ description. inherited_edition_at ms >>= (λ edition. Ok record { authors = a.value; autobins = unwrap_or b.value true; build = c.value; description = description; edition = edition })) first = came (inheritable_text_at key.Description ms) _ first c.more in
     let e : Came (inherited_edition_at ms) (λ edition. Ok record { authors = a.value; autobins = unwrap_or b.value true; build = c.value; description = d.value; edition = edition }) first = came (inherited_edition_at ms) _ first d.more in
     let same : e.value ≡ first.edition = cc (e.more) in
     e.was ∙ ap Ok same
@@ -71,10 +71,10 @@ edition_gave ms first h =
 -- the version is the last of the last keys
 pub version_gave : (ms : Members) (found : LastKeys) → last_keys ms ≡ Ok found → inherited_version_at ms ≡ Ok found.version
 version_gave ms found h =
-    let a : Came (inherited_readme_at ms) (λ readme. inherited_text_at key.Repository ms >>= (λ repository. resolver_at ms >>= (λ resolver. inherited_text_at key.RustVersion ms >>= (λ rust_version. inherited_version_at ms >>= (λ version. Ok record { readme = readme; repository = repository; rust_version = rust_version; version = version }))))) found = came (inherited_readme_at ms) _ found h in
-    let b : Came (inherited_text_at key.Repository ms) (λ repository. resolver_at ms >>= (λ resolver. inherited_text_at key.RustVersion ms >>= (λ rust_version. inherited_version_at ms >>= (λ version. Ok record { readme = a.value; repository = repository; rust_version = rust_version; version = version })))) found = came (inherited_text_at key.Repository ms) _ found a.more in
-    let c : Came (resolver_at ms) (λ resolver. inherited_text_at key.RustVersion ms >>= (λ rust_version. inherited_version_at ms >>= (λ version. Ok record { readme = a.value; repository = b.value; rust_version = rust_version; version = version }))) found = came (resolver_at ms) _ found b.more in
-    let d : Came (inherited_text_at key.RustVersion ms) (λ rust_version. inherited_version_at ms >>= (λ version. Ok record { readme = a.value; repository = b.value; rust_version = rust_version; version = version })) found = came (inherited_text_at key.RustVersion ms) _ found c.more in
+    let a : Came (inheritable_readme_at ms) (λ readme. inheritable_text_at key.Repository ms >>= (λ repository. resolver_at ms >>= (λ resolver. inheritable_text_at key.RustVersion ms >>= (λ rust_version. inherited_version_at ms >>= (λ version. Ok record { readme = readme; repository = repository; rust_version = rust_version; version = version }))))) found = came (inheritable_readme_at ms) _ found h in
+    let b : Came (inheritable_text_at key.Repository ms) (λ repository. resolver_at ms >>= (λ resolver. inheritable_text_at key.RustVersion ms >>= (λ rust_version. inherited_version_at ms >>= (λ version. Ok record { readme = a.value; repository = repository; rust_version = rust_version; version = version })))) found = came (inheritable_text_at key.Repository ms) _ found a.more in
+    let c : Came (resolver_at ms) (λ resolver. inheritable_text_at key.RustVersion ms >>= (λ rust_version. inherited_version_at ms >>= (λ version. Ok record { readme = a.value; repository = b.value; rust_version = rust_version; version = version }))) found = came (resolver_at ms) _ found b.more in
+    let d : Came (inheritable_text_at key.RustVersion ms) (λ rust_version. inherited_version_at ms >>= (λ version. Ok record { readme = a.value; repository = b.value; rust_version = rust_version; version = version })) found = came (inheritable_text_at key.RustVersion ms) _ found c.more in
     let e : Came (inherited_version_at ms) (λ version. Ok record { readme = a.value; repository = b.value; rust_version = d.value; version = version }) found = came (inherited_version_at ms) _ found d.more in
     let same : e.value ≡ found.version = cc (e.more) in
     e.was ∙ ap Ok same

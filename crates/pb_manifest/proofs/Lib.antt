@@ -1,5 +1,7 @@
 pub mod Came
+pub mod Dashes
 pub mod Loops
+pub mod Matching
 pub mod Named
 pub mod Names
 pub mod Tables

@@ -5,7 +5,7 @@ use Rattle.toml.specs.Data.{Data, Members, member}
 use Rattle.toml.specs.View.{view, members_view}
 use Rattle.toml.specs.declared.value.Value.{Value}
 use Rattle.pb_data.specs.Gives.{◌>>=◌}
-use Rattle.pb_manifest.specs.Values.{Text, Read, each_entry}
+use Rattle.pb_manifest.specs.Values.{Text, Read, each_entry, keys_of}
 
 -- what is read of the rest, behind what is read already
 abbrev pub behind : {A : Type 0} → List A → Read (List A) → Read (List A)
@@ -27,4 +27,14 @@ next_entry {A} read whole made now_made entries rest name text v x are is one pu
     ap (λ (m : List A). behind m (each_entry read (members_view rest))) pushed
     ∙ next_member read made (string_bytes name) (view v) (members_view rest) x (ap (λ t. read t (view v)) (sym is) ∙ one)
     ∙ ap (λ (es : List (String Global × Value)). behind made (each_entry read (members_view es))) (sym are)
+    ∙ before
+
+-- one key more is put behind those that are there
+pub next_key : (whole made now_made : List Text) (entries rest : List (String Global × Value)) (name : String Global) (text : Text) (v : Value)
+    → entries ≡ (name, v) ∷ rest → text ≡ string_bytes name → now_made ≡ made ++ text ∷ []
+    → made ++ keys_of (members_view entries) ≡ whole → now_made ++ keys_of (members_view rest) ≡ whole
+next_key whole made now_made entries rest name text v are is pushed before =
+    ap (λ m. m ++ keys_of (members_view rest)) (pushed ∙ ap (λ t. made ++ t ∷ []) is)
+    ∙ append_assoc made (string_bytes name ∷ []) (keys_of (members_view rest))
+    ∙ ap (λ (es : List (String Global × Value)). made ++ keys_of (members_view es)) (sym are)
     ∙ before

@@ -16,7 +16,6 @@ use Rattle.pb_manifest.specs.Library.{library_of}
 use Rattle.pb_manifest.specs.Package.{package_of}
 use Rattle.pb_manifest.specs.Profiles.{profile_keys, profile_of_table}
 use Rattle.pb_manifest.specs.Workspace as workspace
-use Rattle.pb_manifest.specs.declared.dependency.DependencyTable.{DependencyTable}
 use Rattle.pb_manifest.specs.declared.key.Key.{Key}
 
 equal_from_is : (o : Ordering) → is_eq o ≡ true → o ≡ Equal
@@ -66,8 +65,11 @@ library_looks ms ns same = simp (same.at)
 pub binary_looks : LooksAtNamed binary_keys
 binary_looks ms ns same = simp (same.at)
 
-pub dependency_looks : (which : DependencyTable) (name : Text) → LooksAtNamed (dependency.dependency_keys which name)
-dependency_looks which name ms ns same = simp (same.at)
+pub dependency_looks : (name : Text) → LooksAtNamed (dependency.dependency_keys name)
+dependency_looks name ms ns same = simp (same.at)
+
+pub shared_dependency_looks : (name : Text) → LooksAtNamed (dependency.shared_dependency_keys name)
+shared_dependency_looks name ms ns same = simp (same.at)
 
 pub profile_looks : (name : Text) → LooksAtNamed (profile_of_table name)
 profile_looks name ms ns same = simp (same.at)

@@ -6,7 +6,7 @@ use Rattle.pb_manifest.specs.Binaries.{binaries_at}
 use Rattle.pb_manifest.specs.Document.{supported, not_old, package_in, package_at, library_at, targets_of, tables_of, document_of, document_in, manifest_of, greatest_length}
 use Rattle.pb_manifest.specs.Letters.{is_name}
 use Rattle.pb_manifest.specs.Package.{name_in, name_at, first_keys, middle_keys, last_keys, package_of}
-use Rattle.pb_manifest.specs.Values.{Text, Read, table_at, text_at, inherited_text_at}
+use Rattle.pb_manifest.specs.Values.{Text, Read, table_at, text_at, inheritable_text_at}
 use Rattle.pb_manifest.specs.declared.document.Targets.{Targets}
 use Rattle.pb_manifest.specs.declared.fault.ManifestFault.TheVariants.{BadName, TooLarge}
 use Rattle.pb_manifest.specs.declared.key.Key.TheVariants as key
@@ -39,9 +39,9 @@ middle_passes : (ms : Members) (middle : MiddleKeys) → middle_keys ms ≡ Ok m
 middle_passes ms middle h =
     let P : MiddleKeys → Type 0 = λ m. is_name m.name ≡ true in
     let Q : Text → Type 0 = λ name. is_name name ≡ true in
-    through P (inherited_text_at key.Homepage ms) _ middle h (λ homepage was1 h1.
-    through P (inherited_text_at key.License ms) _ middle h1 (λ license was2 h2.
-    through P (inherited_text_at key.LicenseFile ms) _ middle h2 (λ license_file was3 h3.
+    through P (inheritable_text_at key.Homepage ms) _ middle h (λ homepage was1 h1.
+    through P (inheritable_text_at key.License ms) _ middle h1 (λ license was2 h2.
+    through P (inheritable_text_at key.LicenseFile ms) _ middle h2 (λ license_file was3 h3.
     through P (text_at key.Links ms) _ middle h3 (λ links was4 h4.
     through P (name_at ms) _ middle h4 (λ name was5 h5.
     let passes : Q name = through Q (text_at key.Name ms) name_in name was5 (λ found was6 h6. name_passes found name h6) in

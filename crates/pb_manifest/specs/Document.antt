@@ -1,7 +1,7 @@
 -- What the bytes of a manifest say, or why they are refused.
 use Rattle.std.specs.Prelude.{ℕ, List, Bool, false, ◌||◌, if◌then◌else◌, nat_lt, length, Option, Some, None, Ok, Err, codes}
 use Rattle.std.specs.Str.{bytes_eq, is_utf8}
-use Rattle.toml.specs.Data.{Data, Members, as_str, as_table}
+use Rattle.toml.specs.Data.{Data, Members, as_str}
 use Rattle.toml.specs.Parse.{parse_document}
 use Rattle.pb_data.specs.Gives.{◌>>=◌, some_or}
 use Rattle.pb_manifest.specs.Binaries.{binaries_at}
@@ -10,9 +10,8 @@ use Rattle.pb_manifest.specs.Features.{features_at}
 use Rattle.pb_manifest.specs.Library.{library_of}
 use Rattle.pb_manifest.specs.Package.{package_of}
 use Rattle.pb_manifest.specs.Profiles.{profiles_at}
-use Rattle.pb_manifest.specs.Values.{Text, Read, has, value_at, table_at}
+use Rattle.pb_manifest.specs.Values.{Text, Read, has, value_at, table_in, table_at, keys_at}
 use Rattle.pb_manifest.specs.Workspace.{workspace_of}
-use Rattle.pb_manifest.specs.declared.dependency.DependencyTable.TheVariants as dependencies
 use Rattle.pb_manifest.specs.declared.key.Key.{Key}
 use Rattle.pb_manifest.specs.declared.key.Key.TheVariants as key
 use Rattle.pb_manifest.specs.declared.fault.ManifestFault.TheVariants.{TooLarge, NotToml, UnsupportedTable, OldResolver, BadKind}
@@ -34,10 +33,6 @@ text_in (Some d) = as_str d
 abbrev pub is_one : Option Text → Bool
 is_one None = false
 is_one (Some text) = bytes_eq text (codes "1")
-
-abbrev pub table_in : Option Data → Option Members
-table_in None = None
-table_in (Some d) = as_table d
 
 abbrev pub says_one : Option Members → Bool
 says_one None = false
@@ -84,12 +79,19 @@ targets_of ms =
 -- the tables after those of the targets
 unfoldable pub tables_of : Members → Read Tables
 tables_of ms =
-    dependencies_at dependencies.Normal ms >>= (λ normal.
-    dependencies_at dependencies.Build ms >>= (λ build.
+    dependencies_at key.Dependencies ms >>= (λ dependencies.
+    dependencies_at key.BuildDependencies ms >>= (λ build_dependencies.
     features_at ms >>= (λ features.
     profiles_at ms >>= (λ profiles.
     workspace_at ms >>= (λ workspace.
-    Ok record { dependencies = normal; build_dependencies = build; features = features; profiles = profiles; workspace = workspace })))))
+    Ok record {
+      dependencies = dependencies;
+      build_dependencies = build_dependencies;
+      dev_dependencies = keys_at key.DevDependencies ms;
+      features = features;
+      profiles = profiles;
+      workspace = workspace;
+    })))))
 
 -- the tables of a document, in this order
 unfoldable pub document_of : Members → Read Manifest
@@ -104,6 +106,7 @@ document_of ms =
       binaries = a.binaries;
       dependencies = b.dependencies;
       build_dependencies = b.build_dependencies;
+      dev_dependencies = b.dev_dependencies;
       features = b.features;
       profiles = b.profiles;
       workspace = b.workspace;

@@ -1,5 +1,5 @@
 -- The table `[lib]` (The Cargo Book, Manifest Format and Cargo Targets).
-use Rattle.std.specs.Prelude.{List, Bool, if◌then◌else◌, Option, Some, None, Ok, Err, codes}
+use Rattle.std.specs.Prelude.{ℕ, List, [], ◌∷◌, map, Bool, if◌then◌else◌, Option, Some, None, Ok, Err, codes}
 use Rattle.std.specs.Str.{bytes_eq}
 use Rattle.toml.specs.Data.{Data, Members}
 use Rattle.pb_data.specs.Gives.{◌>>=◌}
@@ -10,6 +10,17 @@ use Rattle.pb_manifest.specs.declared.fault.ManifestFault.TheVariants.{BadName, 
 use Rattle.pb_manifest.specs.declared.target.CrateType.{CrateType}
 use Rattle.pb_manifest.specs.declared.target.CrateType.TheVariants.{Lib, Rlib, Bin}
 use Rattle.pb_manifest.specs.declared.target.Library.{Library}
+
+-- a crate type as a manifest and the compiler's `--crate-type` spell it
+abbrev pub crate_type_text : CrateType → List ℕ
+crate_type_text Lib = codes "lib"
+crate_type_text Rlib = codes "rlib"
+crate_type_text Bin = codes "bin"
+
+-- the crate types of a library, in the manifest's order; `lib` where none is written
+abbrev pub crate_type_texts : List CrateType → List (List ℕ)
+crate_type_texts [] = codes "lib" ∷ []
+crate_type_texts (t ∷ ts) = map crate_type_text (t ∷ ts)
 
 -- a crate type that is served
 abbrev pub crate_type_in : Text → Read CrateType

@@ -1,15 +1,15 @@
 -- The table `[package]` (The Cargo Book, Manifest Format).
-use Rattle.std.specs.Prelude.{Bool, true, false, ◌||◌, if◌then◌else◌, Option, Some, None, Ok, Err, codes, unwrap_or}
+use Rattle.std.specs.Prelude.{ℕ, List, Bool, true, false, ◌||◌, if◌then◌else◌, Option, Some, None, Ok, Err, codes, unwrap_or}
 use Rattle.std.specs.Str.{bytes_eq}
 use Rattle.toml.specs.Data.{Data, Members, as_str, as_bool}
 use Rattle.pb_data.specs.Gives.{◌>>=◌}
 use Rattle.pb_manifest.specs.Letters.{is_name}
-use Rattle.pb_manifest.specs.Values.{Text, Read, text_of, optional, value_at, zero_free, text_at, truth_at, inheritable, inherited_text_at, inherited_texts_at}
+use Rattle.pb_manifest.specs.Values.{Text, Read, text_of, optional, value_at, zero_free, text_at, truth_at, inheritable_at, inheritable_text_at, inheritable_texts_at, or_default}
 use Rattle.pb_manifest.specs.Versions.{inherited_version_at}
 use Rattle.pb_manifest.specs.declared.key.Key.TheVariants as key
 use Rattle.pb_manifest.specs.declared.fault.ManifestFault.TheVariants.{BadKind, BadName}
 use Rattle.pb_manifest.specs.declared.inherited.Inherited.{Inherited}
-use Rattle.pb_manifest.specs.declared.inherited.Inherited.TheVariants.{Written}
+use Rattle.pb_manifest.specs.declared.inherited.Inheritable.{Inheritable}
 use Rattle.pb_manifest.specs.declared.package.Edition.{Edition}
 use Rattle.pb_manifest.specs.declared.package.Edition.TheVariants.{E2015, E2018, E2021, E2024}
 use Rattle.pb_manifest.specs.declared.package.Build.{Build}
@@ -29,6 +29,13 @@ name_in (Some text) = if is_name text then Ok text else Err BadName
 abbrev pub name_at : Members → Read Text
 name_at ms = text_at key.Name ms >>= name_in
 
+-- an edition as a manifest and the compiler's `--edition` spell it
+abbrev pub edition_text : Edition → List ℕ
+edition_text E2015 = codes "2015"
+edition_text E2018 = codes "2018"
+edition_text E2021 = codes "2021"
+edition_text E2024 = codes "2024"
+
 abbrev pub edition_in : Text → Read Edition
 edition_in text =
     if bytes_eq text (codes "2015") then Ok E2015
@@ -43,13 +50,9 @@ edition_of d = text_of key.Edition d >>= edition_in
 abbrev pub edition_at : Members → Read (Option Edition)
 edition_at ms = optional edition_of (value_at key.Edition ms)
 
--- the edition that a package has where none is written
-abbrev pub edition_or_first : Option (Inherited Edition) → Inherited Edition
-edition_or_first None = Written E2015
-edition_or_first (Some edition) = edition
-
+-- the edition of a package: 2015 where none is written
 abbrev pub inherited_edition_at : Members → Read (Inherited Edition)
-inherited_edition_at ms = optional (inheritable key.Edition edition_of) (value_at key.Edition ms) >>= (λ found. Ok (edition_or_first found))
+inherited_edition_at ms = inheritable_at key.Edition edition_of ms >>= (λ found. Ok (or_default E2015 found))
 
 -- `true`, `false` or a path
 abbrev pub build_from : Option Text → Option Bool → Read Build
@@ -78,8 +81,8 @@ readme_of d = readme_from (as_str d) (as_bool d)
 abbrev pub readme_at : Members → Read (Option Readme)
 readme_at ms = optional readme_of (value_at key.Readme ms)
 
-abbrev pub inherited_readme_at : Members → Read (Option (Inherited Readme))
-inherited_readme_at ms = optional (inheritable key.Readme readme_of) (value_at key.Readme ms)
+abbrev pub inheritable_readme_at : Members → Read (Inheritable Readme)
+inheritable_readme_at ms = inheritable_at key.Readme readme_of ms
 
 -- a resolver other than the first: `"2"`, or `"3"`, which is read as `"2"`
 abbrev pub resolver_in : Option Text → Read (Unit {0})
@@ -93,19 +96,19 @@ resolver_at ms = text_at key.Resolver ms >>= resolver_in
 -- the keys in byte order, `authors` to `edition`
 abbrev pub first_keys : Members → Read FirstKeys
 first_keys ms =
-    inherited_texts_at key.Authors ms >>= (λ authors.
+    inheritable_texts_at key.Authors ms >>= (λ authors.
     truth_at key.Autobins ms >>= (λ autobins.
     build_at ms >>= (λ build.
-    inherited_text_at key.Description ms >>= (λ description.
+    inheritable_text_at key.Description ms >>= (λ description.
     inherited_edition_at ms >>= (λ edition.
     Ok record { authors = authors; autobins = unwrap_or autobins true; build = build; description = description; edition = edition })))))
 
 -- `homepage` to `name`
 abbrev pub middle_keys : Members → Read MiddleKeys
 middle_keys ms =
-    inherited_text_at key.Homepage ms >>= (λ homepage.
-    inherited_text_at key.License ms >>= (λ license.
-    inherited_text_at key.LicenseFile ms >>= (λ license_file.
+    inheritable_text_at key.Homepage ms >>= (λ homepage.
+    inheritable_text_at key.License ms >>= (λ license.
+    inheritable_text_at key.LicenseFile ms >>= (λ license_file.
     text_at key.Links ms >>= (λ links.
     name_at ms >>= (λ name.
     Ok record { homepage = homepage; license = license; license_file = license_file; links = links; name = name })))))
@@ -113,10 +116,10 @@ middle_keys ms =
 -- `readme` to `version`
 abbrev pub last_keys : Members → Read LastKeys
 last_keys ms =
-    inherited_readme_at ms >>= (λ readme.
-    inherited_text_at key.Repository ms >>= (λ repository.
+    inheritable_readme_at ms >>= (λ readme.
+    inheritable_text_at key.Repository ms >>= (λ repository.
     resolver_at ms >>= (λ resolver.
-    inherited_text_at key.RustVersion ms >>= (λ rust_version.
+    inheritable_text_at key.RustVersion ms >>= (λ rust_version.
     inherited_version_at ms >>= (λ version.
     Ok record { readme = readme; repository = repository; rust_version = rust_version; version = version })))))
 

@@ -11,6 +11,8 @@ use Rattle.pb_manifest.specs.declared.key.Key.{Key}
 use Rattle.pb_manifest.specs.declared.key.Key.TheVariants as key
 use Rattle.pb_manifest.specs.declared.fault.ManifestFault.{ManifestFault}
 use Rattle.pb_manifest.specs.declared.fault.ManifestFault.TheVariants.{BadKind, OutOfMemory}
+use Rattle.pb_manifest.specs.declared.inherited.Inheritable.{Inheritable}
+use Rattle.pb_manifest.specs.declared.inherited.Inheritable.TheVariants.{Written, Workspace, Absent}
 use Rattle.pb_manifest.specs.declared.inherited.Inherited.{Inherited}
 use Rattle.pb_manifest.specs.declared.inherited.Inherited.TheVariants as inherited
 
@@ -114,6 +116,23 @@ entries_of read (Some ms) = each_entry read ms
 abbrev pub entries_at : {A : Type 0} → (Text → Data → Read A) → Key → Members → Read (List A)
 entries_at read k ms = table_at k ms >>= entries_of read
 
+-- the keys of a table, in its order
+abbrev pub keys_of : Members → List Text
+keys_of no_members = []
+keys_of (member name d ms) = name ∷ keys_of ms
+
+abbrev pub table_in : Option Data → Option Members
+table_in None = None
+table_in (Some d) = as_table d
+
+abbrev pub keys_in : Option Members → List Text
+keys_in None = []
+keys_in (Some ms) = keys_of ms
+
+-- the keys of the table at a key, none where no table is there
+abbrev pub keys_at : Key → Members → List Text
+keys_at k ms = keys_in (table_in (value_at k ms))
+
 -- true, and nothing else
 abbrev pub is_true : Option Bool → Bool
 is_true None = false
@@ -133,11 +152,25 @@ is_taken k None = Ok false
 is_taken k (Some ms) = if takes_workspace ms then Ok true else Err (BadKind k)
 
 -- a value that is written, or `{ workspace = true }` (The Cargo Book, Workspaces)
-abbrev pub inheritable : {A : Type 0} → Key → (Data → Read A) → Data → Read (Inherited A)
-inheritable k read d = is_taken k (as_table d) >>= (λ taken. if taken then Ok inherited.Workspace else (read d >>= (λ x. Ok (inherited.Written x))))
+abbrev pub written_or_taken : {A : Type 0} → Key → (Data → Read A) → Data → Read (Inheritable A)
+written_or_taken k read d = is_taken k (as_table d) >>= (λ taken. if taken then Ok Workspace else (read d >>= (λ x. Ok (Written x))))
 
-abbrev pub inherited_text_at : Key → Members → Read (Option (Inherited Text))
-inherited_text_at k ms = optional (inheritable k (text_of k)) (value_at k ms)
+abbrev pub inheritable_in : {A : Type 0} → Key → (Data → Read A) → Option Data → Read (Inheritable A)
+inheritable_in k read None = Ok Absent
+inheritable_in k read (Some d) = written_or_taken k read d
 
-abbrev pub inherited_texts_at : Key → Members → Read (Option (Inherited (List Text)))
-inherited_texts_at k ms = optional (inheritable k (texts_of k)) (value_at k ms)
+-- what stands at a key whose value may be taken from the workspace
+abbrev pub inheritable_at : {A : Type 0} → Key → (Data → Read A) → Members → Read (Inheritable A)
+inheritable_at k read ms = inheritable_in k read (value_at k ms)
+
+abbrev pub inheritable_text_at : Key → Members → Read (Inheritable Text)
+inheritable_text_at k ms = inheritable_at k (text_of k) ms
+
+abbrev pub inheritable_texts_at : Key → Members → Read (Inheritable (List Text))
+inheritable_texts_at k ms = inheritable_at k (texts_of k) ms
+
+-- this value where nothing is written
+abbrev pub or_default : {A : Type 0} → A → Inheritable A → Inherited A
+or_default default (Written x) = inherited.Written x
+or_default default Workspace = inherited.Workspace
+or_default default Absent = inherited.Written default

@@ -1,13 +1,13 @@
 -- Versions and requirements of Semantic Versioning 2.0.0: the texts that `semver` reads.
-use Rattle.std.specs.Prelude.{ℕ, List, Bool, if◌then◌else◌, Option, Some, None, Ok, Err, is_ok, codes}
-use Rattle.semver.specs.Parse.{version_parts, req_of}
+use Rattle.std.specs.Prelude.{ℕ, List, Bool, false, if◌then◌else◌, Option, Result, Ok, Err, is_ok, codes}
+use Rattle.semver.specs.EvalViews.{matches_views}
+use Rattle.semver.specs.Parse.{Held, Parts, version_parts, req_of}
 use Rattle.toml.specs.Data.{Data, Members}
 use Rattle.pb_data.specs.Gives.{◌>>=◌}
-use Rattle.pb_manifest.specs.Values.{Text, Read, text_of, optional, value_at, inheritable}
+use Rattle.pb_manifest.specs.Values.{Text, Read, text_of, optional, value_at, inheritable_at, or_default}
 use Rattle.pb_manifest.specs.declared.key.Key.TheVariants as key
 use Rattle.pb_manifest.specs.declared.fault.ManifestFault.TheVariants.{BadVersion}
 use Rattle.pb_manifest.specs.declared.inherited.Inherited.{Inherited}
-use Rattle.pb_manifest.specs.declared.inherited.Inherited.TheVariants.{Written}
 
 unfoldable pub is_version : List ℕ → Bool
 is_version text = is_ok (version_parts text)
@@ -33,10 +33,18 @@ version_at ms = optional version_of (value_at key.Version ms)
 abbrev pub requirement_at : Members → Read (Option Text)
 requirement_at ms = optional requirement_of (value_at key.Version ms)
 
--- the version that a package has where none is written
-abbrev pub version_or_zero : Option (Inherited Text) → Inherited Text
-version_or_zero None = Written (codes "0.0.0")
-version_or_zero (Some version) = version
+-- the version of a package: 0.0.0 where none is written
+abbrev pub zero : Text
+zero = codes "0.0.0"
 
 abbrev pub inherited_version_at : Members → Read (Inherited Text)
-inherited_version_at ms = optional (inheritable key.Version version_of) (value_at key.Version ms) >>= (λ found. Ok (version_or_zero found))
+inherited_version_at ms = inheritable_at key.Version version_of ms >>= (λ found. Ok (or_default zero found))
+
+-- whether what `semver` reads in a requirement is met by what it reads in a version
+abbrev pub meets : {E F : Type 0} → Result (List Held) E → Result Parts F → Bool
+meets (Ok comparators) (Ok parts) = matches_views comparators parts
+meets _ _ = false
+
+-- whether the version of a text matches the requirement of a text (The Cargo Book, Specifying Dependencies)
+unfoldable pub matches : Text → Text → Bool
+matches requirement version = meets (req_of requirement) (version_parts version)

@@ -2,11 +2,10 @@
 use Rattle.std.specs.Prelude.{List, Option, Some, None, Ok}
 use Rattle.toml.specs.Data.{Members}
 use Rattle.pb_data.specs.Gives.{◌>>=◌}
-use Rattle.pb_manifest.specs.Dependencies.{dependencies_at}
+use Rattle.pb_manifest.specs.Dependencies.{shared_dependencies_at}
 use Rattle.pb_manifest.specs.Package.{edition_at, readme_at, resolver_at}
 use Rattle.pb_manifest.specs.Values.{Text, Read, text_at, texts_at, paths_at, listed, table_at}
 use Rattle.pb_manifest.specs.Versions.{version_at}
-use Rattle.pb_manifest.specs.declared.dependency.DependencyTable.TheVariants as dependencies
 use Rattle.pb_manifest.specs.declared.key.Key.{Key}
 use Rattle.pb_manifest.specs.declared.key.Key.TheVariants as key
 use Rattle.pb_manifest.specs.declared.manifest.WorkspacePackage.{WorkspacePackage}
@@ -67,7 +66,7 @@ listed_paths_at k ms = paths_at k ms >>= (λ found. Ok (listed found))
 abbrev pub workspace_of : Members → Read WorkspaceTable
 workspace_of ms =
     paths_at key.DefaultMembers ms >>= (λ default_members.
-    dependencies_at dependencies.Workspace ms >>= (λ dependencies.
+    shared_dependencies_at ms >>= (λ dependencies.
     listed_paths_at key.Exclude ms >>= (λ exclude.
     listed_paths_at key.Members ms >>= (λ members.
     workspace_package_at ms >>= (λ inherited.

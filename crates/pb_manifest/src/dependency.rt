@@ -1,289 +1,214 @@
-//! What the tables of dependencies say.
+//! What the tables of dependencies say (The Cargo Book, Specifying Dependencies and Workspaces).
 
-ghost use Rattle.std.specs.Prelude.{◌≡◌};
-ghost use Rattle.toml.specs.Data.{Data};
+ghost use Rattle.std.specs.Prelude.{◌≡◌, false};
 ghost use Rattle.toml.specs.View.{view, table_view};
 ghost use Rattle.pb_manifest.specs.Values.{Gives, each_entry};
-ghost use Rattle.pb_manifest.specs.Dependencies.{keeps, key_of, refused_where, workspace_at, first_keys, lacks_path, source_of, last_keys, dependency_keys, version_alone, dependency_of, dependencies_at};
+ghost use Rattle.pb_manifest.specs.Dependencies.{own_path, last_keys, source_of, dependency_keys, dependency_of, dependencies_at};
 
+use crate::entry::{
+    FirstKeys, LastKeys, at_path, first_keys, refused_where, version_and_workspace,
+};
 use crate::fault::ManifestFault;
 use crate::key::Key;
 use crate::letters::is_name;
-use crate::values::{
-    has, listed_texts_at, path_at, table_at, takes_workspace, text_at, truth_at, value_at,
-};
-use crate::version::{Requirement, requirement_at};
-use pb_data::{Items, Text};
-use std::alloc::Global;
+use crate::values::{has, path_at, table_at, takes_workspace};
+use crate::version::Requirement;
+use crate::written_path::WrittenPath;
+use pb_data::{Items, Text, TryCopy};
+use std::alloc::{AllocError, Global};
 use toml::{Table, Value};
 
-/// Where a dependency comes from.
+/// The package that an entry with a path asks for.
 #[derive(Debug, Drop)]
-pub enum Source {
-    /// The package's folder, from the folder of the manifest. It holds no byte 0.
-    Path(Text),
-    /// `workspace = true`: the entry of this key in `[workspace.dependencies]`.
-    Workspace,
-    /// `git`, `registry` or no path. In `[workspace.dependencies]` alone, where it is refused only
-    /// when a package takes the entry.
-    Unsupported,
+pub struct PathSource {
+    /// The package's folder: from the folder of the manifest, and in `[workspace.dependencies]`
+    /// that of the workspace's root.
+    pub path: WrittenPath,
+    /// The package's name. None: it is the entry's key.
+    pub package: Option<Text>,
+    /// What the package's version has to match. None: any version serves.
+    pub version: Option<Requirement>,
+    /// Whether the package's feature `default` is asked for: unless `default-features = false`.
+    pub default_features: bool,
 }
 
-/// An entry of a table of dependencies (The Cargo Book, Specifying Dependencies).
+impl TryCopy for PathSource {
+    fn copy(&self, alloc: Global) -> Result<PathSource, AllocError> {
+        let path = self.path.copy(alloc)?;
+        let package = self.package.copy(alloc)?;
+        let version = self.version.copy(alloc)?;
+        Ok(PathSource {
+            path,
+            package,
+            version,
+            default_features: self.default_features,
+        })
+    }
+}
+
+/// Where a package's own dependency comes from.
+#[derive(Debug, Drop)]
+pub enum Source {
+    /// A folder.
+    Path(PathSource),
+    /// `workspace = true`: the entry of this key in `[workspace.dependencies]`. The entry's
+    /// `path`, `package` and `version` have no effect beside it.
+    Workspace {
+        /// Whether `default-features = true` stands beside it, which asks for the package's feature
+        /// `default` where that entry does not. `default-features = false` has no effect beside
+        /// it: our own choice.
+        default_features: bool,
+    },
+}
+
+/// An entry of `[dependencies]` or `[build-dependencies]`.
 #[derive(Debug, Drop)]
 pub struct Dependency {
     /// The name by which the manifest knows it: the letters of a package's name.
     pub key: Text,
     /// Where it comes from.
     pub source: Source,
-    /// The package's name where it is not the key. Not used beside `workspace = true`.
-    pub package: Option<Text>,
-    /// Not used beside `workspace = true`.
-    pub version: Option<Requirement>,
     /// False where it is not written.
     pub optional: bool,
-    /// None where it is not written.
-    pub default_features: Option<bool>,
-    /// In the manifest's order.
+    /// The features that it asks for, in the manifest's order. Beside `workspace = true` they are
+    /// added to those of the workspace's entry.
     pub features: Items<Text>,
 }
 
-/// The three tables of dependencies.
-#[derive(Clone, Copy)]
-pub(crate) enum DependencyTable {
-    Normal,
-    Build,
-    Workspace,
+/// Where an entry of `[workspace.dependencies]` comes from.
+#[derive(Debug, Drop)]
+pub enum WorkspaceSource {
+    /// A folder.
+    Path(PathSource),
+    /// `git`, `registry` or no path. It is refused only where a package takes the entry.
+    Unsupported,
 }
 
-impl DependencyTable {
-    /// Whether an entry whose source is not supported is kept, and not refused.
-    fn keeps(self) -> bool
-        ensures { result ≡ keeps self }
-    {
-        match self {
-            DependencyTable::Workspace => true,
-            _ => false,
-        }
-    }
-
-    /// The key that holds the table.
-    fn key(self) -> Key
-        ensures { result ≡ key_of self }
-    {
-        match self {
-            DependencyTable::Build => Key::BuildDependencies,
-            _ => Key::Dependencies,
-        }
-    }
+/// An entry of `[workspace.dependencies]`. Its `optional` has no effect.
+#[derive(Debug, Drop)]
+pub struct WorkspaceDependency {
+    /// The name by which packages take it: the letters of a package's name.
+    pub key: Text,
+    /// Where it comes from.
+    pub source: WorkspaceSource,
+    /// The features that it asks for, in the manifest's order.
+    pub features: Items<Text>,
 }
 
-/// The keys of an entry from `default-features` to `package`.
-#[derive(Drop)]
-struct FirstKeys {
-    default_features: Option<bool>,
-    features: Items<Text>,
-    optional: bool,
-    package: Option<Text>,
+/// The path of an entry: none beside `workspace = true`, and else it has to be there.
+fn own_path(taken: bool, path: Option<WrittenPath>) -> Result<Option<WrittenPath>, ManifestFault>
+    ensures { result ≡ own_path taken path }
+{
+    if taken {
+        return Ok(None);
+    }
+    match path {
+        Some(path) => Ok(Some(path)),
+        None => Err(ManifestFault::UnsupportedSource),
+    }
 }
 
 /// The keys of an entry from `path` to `workspace`.
-#[derive(Drop)]
-struct LastKeys {
-    source: Source,
+fn last_keys(alloc: Global, table: &Table) -> Result<LastKeys, ManifestFault>
+    ensures { Gives result (last_keys (table_view table.now)) }
+{
+    let path = own_path(takes_workspace(table), path_at(alloc, table, Key::Path)?)?;
+    refused_where(has(table, Key::Registry))?;
+    let version = version_and_workspace(alloc, table)?;
+    Ok(LastKeys { path, version })
+}
+
+/// Where an entry comes from.
+fn source_of(
+    default_features: Option<bool>,
+    package: Option<Text>,
     version: Option<Requirement>,
-}
-
-/// Refuses a source that is not supported, where it is to be refused.
-fn refused_where(refused: bool) -> Result<(), ManifestFault>
-    ensures { result ≡ refused_where refused }
+    path: Option<WrittenPath>,
+) -> Source
+    ensures { result ≡ source_of default_features «package» version path }
 {
-    if refused {
-        Err(ManifestFault::UnsupportedSource)
-    } else {
-        Ok(())
+    match path {
+        Some(path) => Source::Path(at_path(default_features, package, version, path)),
+        None => Source::Workspace {
+            default_features: default_features.unwrap_or(false),
+        },
     }
 }
 
-/// Refuses a `workspace` that does not say true.
-fn workspace_at(table: &Table) -> Result<(), ManifestFault>
-    ensures { result ≡ workspace_at (table_view table.now) }
+/// An entry that is a table.
+fn dependency_keys(alloc: Global, name: &str, table: &Table) -> Result<Dependency, ManifestFault>
+    ensures { Gives result (dependency_keys name.now (table_view table.now)) }
 {
-    match value_at(table, Key::Workspace) {
-        None => Ok(()),
-        Some(_) => {
-            if takes_workspace(table) {
-                Ok(())
-            } else {
-                Err(ManifestFault::BadKind(Key::Workspace))
-            }
-        }
-    }
-}
-
-/// The keys of an entry from `default-features` to `package`.
-fn first_keys(
-    alloc: Global,
-    which: DependencyTable,
-    table: &Table,
-) -> Result<FirstKeys, ManifestFault>
-    ensures { Gives result (first_keys which (table_view table.now)) }
-{
-    let default_features = truth_at(table, Key::DefaultFeatures)?;
-    let features = listed_texts_at(alloc, table, Key::Features)?;
-    refused_where(has(table, Key::Git) && !which.keeps())?;
-    let optional = truth_at(table, Key::Optional)?.unwrap_or(false);
-    let package = text_at(alloc, table, Key::Package)?;
-    Ok(FirstKeys {
+    let first = first_keys(alloc, false, table)?;
+    let last = last_keys(alloc, table)?;
+    let key = Text::from_str(alloc, name)?;
+    let FirstKeys {
         default_features,
         features,
         optional,
         package,
-    })
-}
-
-/// Whether there is no path, and the workspace gives none.
-fn lacks_path(which: DependencyTable, path: &Option<Text>, table: &Table) -> bool
-    ensures { result ≡ lacks_path which path.now (table_view table.now) }
-{
-    path.is_none() && !which.keeps() && !takes_workspace(table)
-}
-
-/// Where an entry comes from.
-fn source_of(which: DependencyTable, path: Option<Text>, table: &Table) -> Source
-    ensures { result ≡ source_of which path (table_view table.now) }
-{
-    if which.keeps() {
-        if has(table, Key::Git) || has(table, Key::Registry) {
-            return Source::Unsupported;
-        }
-    } else if takes_workspace(table) {
-        return Source::Workspace;
-    }
-    match path {
-        Some(path) => Source::Path(path),
-        None => Source::Unsupported,
-    }
-}
-
-/// The keys of an entry from `path` to `workspace`.
-fn last_keys(
-    alloc: Global,
-    which: DependencyTable,
-    table: &Table,
-) -> Result<LastKeys, ManifestFault>
-    ensures { Gives result (last_keys which (table_view table.now)) }
-{
-    let path = path_at(alloc, table, Key::Path)?;
-    refused_where(lacks_path(which, &path, table))?;
-    refused_where(has(table, Key::Registry) && !which.keeps())?;
-    let version = requirement_at(alloc, table)?;
-    workspace_at(table)?;
-    Ok(LastKeys {
-        source: source_of(which, path, table),
-        version,
-    })
-}
-
-/// An entry that is a table.
-fn dependency_keys(
-    alloc: Global,
-    which: DependencyTable,
-    name: &str,
-    table: &Table,
-) -> Result<Dependency, ManifestFault>
-    ensures { Gives result (dependency_keys which name.now (table_view table.now)) }
-{
-    let first = first_keys(alloc, which, table)?;
-    let last = last_keys(alloc, which, table)?;
-    let key = Text::from_str(alloc, name)?;
+    } = first;
+    let LastKeys { path, version } = last;
     Ok(Dependency {
         key,
-        source: last.source,
-        package: first.package,
-        version: last.version,
-        optional: first.optional,
-        default_features: first.default_features,
-        features: first.features,
+        source: source_of(default_features, package, version, path),
+        optional,
+        features,
     })
 }
 
-/// An entry that is a version, and so has no path.
-fn version_alone(
-    alloc: Global,
-    which: DependencyTable,
-    name: &str,
-    version: &str,
-) -> Result<Dependency, ManifestFault>
-    ensures { Gives result (version_alone which name.now version.now) }
-{
-    refused_where(!which.keeps())?;
-    let requirement = Requirement::read(alloc, Text::from_str(alloc, version)?)?;
-    let key = Text::from_str(alloc, name)?;
-    Ok(Dependency {
-        key,
-        source: Source::Unsupported,
-        package: None,
-        version: Some(requirement),
-        optional: false,
-        default_features: None,
-        features: Items::new(alloc),
-    })
-}
-
-/// An entry.
+/// An entry of the table at a key. One that is a version has no path.
 #[tactic(auto, unfolding(crate::specs::Dependencies::dependency_of))]
 fn dependency_of(
     alloc: Global,
-    which: DependencyTable,
+    key: Key,
     name: &str,
     value: &Value,
 ) -> Result<Dependency, ManifestFault>
-    ensures { Gives result (dependency_of which name.now (view value.now)) }
+    ensures { Gives result (dependency_of key name.now (view value.now)) }
 {
     if !is_name(name) {
         return Err(ManifestFault::BadName);
     }
-    if let Some(version) = value.as_str() {
-        let dependency = version_alone(alloc, which, name, version)?;
-        return Ok(dependency);
+    if value.as_str().is_some() {
+        return Err(ManifestFault::UnsupportedSource);
     }
     match value.as_table() {
         Some(table) => {
-            let dependency = dependency_keys(alloc, which, name, table)?;
+            let dependency = dependency_keys(alloc, name, table)?;
             Ok(dependency)
         }
-        None => Err(ManifestFault::BadKind(which.key())),
+        None => Err(ManifestFault::BadKind(key)),
     }
 }
 
 /// The entries of a table, in byte order of their keys.
 fn each_dependency(
     alloc: Global,
-    which: DependencyTable,
+    key: Key,
     table: &Table,
 ) -> Result<Items<Dependency>, ManifestFault>
-    ensures { Gives result (each_entry (dependency_of which) (table_view table.now)) }
+    ensures { Gives result (each_entry (dependency_of key) (table_view table.now)) }
 {
     let mut dependencies = Items::new(alloc);
     for (name, value) in table {
-        dependencies.push(dependency_of(alloc, which, name.as_str(), value)?)?;
+        dependencies.push(dependency_of(alloc, key, name.as_str(), value)?)?;
     }
     Ok(dependencies)
 }
 
-/// The entries of one of the tables of dependencies; none where the table is not there.
+/// The entries of `[dependencies]` or `[build-dependencies]`; none where the table is not there.
 pub(crate) fn dependencies_at(
     alloc: Global,
-    which: DependencyTable,
+    key: Key,
     table: &Table,
 ) -> Result<Items<Dependency>, ManifestFault>
-    ensures { Gives result (dependencies_at which (table_view table.now)) }
+    ensures { Gives result (dependencies_at key (table_view table.now)) }
 {
-    match table_at(table, which.key())? {
+    match table_at(table, key)? {
         None => Ok(Items::new(alloc)),
         Some(entries) => {
-            let dependencies = each_dependency(alloc, which, entries)?;
+            let dependencies = each_dependency(alloc, key, entries)?;
             Ok(dependencies)
         }
     }

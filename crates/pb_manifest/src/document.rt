@@ -5,7 +5,7 @@ ghost use Rattle.toml.specs.View.{table_view};
 ghost use Rattle.pb_manifest.specs.Values.{Gives, GivesAs};
 ghost use Rattle.pb_manifest.specs.Document.{supported, asks_old_resolver, not_old, package_at, library_at, workspace_at, targets_of, tables_of, document_of, document_in, manifest_of};
 
-use crate::dependency::{Dependency, DependencyTable, dependencies_at};
+use crate::dependency::{Dependency, dependencies_at};
 use crate::fault::ManifestFault;
 use crate::feature::{Feature, features_at};
 use crate::key::Key;
@@ -13,9 +13,9 @@ use crate::manifest::{Manifest, WorkspaceTable};
 use crate::package::{Package, package_of};
 use crate::profile::{Profile, profiles_at};
 use crate::target::{Binary, Library, binaries_at, library_of};
-use crate::values::{has, table_at, value_at};
+use crate::values::{has, keys_at, table_at, value_at};
 use crate::workspace::workspace_of;
-use pb_data::Items;
+use pb_data::{Items, Text};
 use std::alloc::Global;
 use toml::Table;
 
@@ -35,6 +35,7 @@ struct Targets {
 struct Tables {
     dependencies: Items<Dependency>,
     build_dependencies: Items<Dependency>,
+    dev_dependencies: Items<Text>,
     features: Items<Feature>,
     profiles: Items<Profile>,
     workspace: Option<WorkspaceTable>,
@@ -147,14 +148,16 @@ fn targets_of(alloc: Global, table: &Table) -> Result<Targets, ManifestFault>
 fn tables_of(alloc: Global, table: &Table) -> Result<Tables, ManifestFault>
     ensures { Gives result (tables_of (table_view table.now)) }
 {
-    let dependencies = dependencies_at(alloc, DependencyTable::Normal, table)?;
-    let build_dependencies = dependencies_at(alloc, DependencyTable::Build, table)?;
+    let dependencies = dependencies_at(alloc, Key::Dependencies, table)?;
+    let build_dependencies = dependencies_at(alloc, Key::BuildDependencies, table)?;
+    let dev_dependencies = keys_at(alloc, table, Key::DevDependencies)?;
     let features = features_at(alloc, table)?;
     let profiles = profiles_at(alloc, table)?;
     let workspace = workspace_at(alloc, table)?;
     Ok(Tables {
         dependencies,
         build_dependencies,
+        dev_dependencies,
         features,
         profiles,
         workspace,
@@ -176,6 +179,7 @@ fn document_of(alloc: Global, table: &Table) -> Result<Manifest, ManifestFault>
         binaries: targets.binaries,
         dependencies: tables.dependencies,
         build_dependencies: tables.build_dependencies,
+        dev_dependencies: tables.dev_dependencies,
         features: tables.features,
         profiles: tables.profiles,
         workspace: tables.workspace,
@@ -207,7 +211,7 @@ fn document_in(alloc: Global, bytes: &[u8]) -> Result<Table, ManifestFault>
 ///
 /// `ManifestFault` says when each fault comes, and which of several is told. A key that no rule
 /// names is accepted and changes nothing, and so are the tables that a build does not use, as
-/// `[dev-dependencies]`, `[lints]` and `[package.metadata]`.
+/// `[lints]` and `[package.metadata]`; of `[dev-dependencies]` the keys alone are read.
 pub fn read_manifest(alloc: Global, bytes: &[u8]) -> Result<Manifest, ManifestFault>
     ensures { Gives result (manifest_of bytes.now) }
 {

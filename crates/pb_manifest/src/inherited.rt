@@ -1,11 +1,21 @@
-//! What a package may take from its workspace.
+//! What a package may take from its workspace (The Cargo Book, Workspaces).
 
-/// A value that is written in the manifest, or taken from the workspace by `workspace = true`
-/// (The Cargo Book, Workspaces).
+/// A value that is there: written in the manifest, or taken from the workspace.
 #[derive(Debug, Drop)]
 pub enum Inherited<T> {
     /// The value stands here.
     Written(T),
     /// `{ workspace = true }`.
     Workspace,
+}
+
+/// A value that may be left out.
+#[derive(Debug, Drop)]
+pub enum Inheritable<T> {
+    /// The value stands here.
+    Written(T),
+    /// `{ workspace = true }`.
+    Workspace,
+    /// Nothing is written.
+    Absent,
 }

@@ -34,6 +34,8 @@ pub enum Key {
     Dependencies,
     /// `description`.
     Description,
+    /// `dev-dependencies`.
+    DevDependencies,
     /// `edition`.
     Edition,
     /// `exclude`.
@@ -125,6 +127,7 @@ impl Key {
             Key::DefaultMembers => "default-members",
             Key::Dependencies => "dependencies",
             Key::Description => "description",
+            Key::DevDependencies => "dev-dependencies",
             Key::Edition => "edition",
             Key::Exclude => "exclude",
             Key::Features => "features",

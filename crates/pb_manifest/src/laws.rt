@@ -3,7 +3,7 @@
 
 ghost use Rattle.std.specs.Prelude.{◌≡◌, ◌<◌, ℕ, List};
 ghost use Rattle.pb_manifest.specs.Binaries.{binary_keys};
-ghost use Rattle.pb_manifest.specs.Dependencies.{dependency_keys};
+ghost use Rattle.pb_manifest.specs.Dependencies.{dependency_keys, shared_dependency_keys};
 ghost use Rattle.pb_manifest.specs.Document.{document_of};
 ghost use Rattle.pb_manifest.specs.Laws.{PassesOver, RefusesLarge, NamesPackages, DefaultEdition, DefaultVersion, DefaultLibraryName, KeepsOrder};
 ghost use Rattle.pb_manifest.specs.Library.{library_of};
@@ -11,7 +11,6 @@ ghost use Rattle.pb_manifest.specs.Package.{package_of};
 ghost use Rattle.pb_manifest.specs.Profiles.{profile_keys, profile_of_table};
 ghost use Rattle.pb_manifest.specs.Values.{Text};
 ghost use Rattle.pb_manifest.specs.Workspace.{workspace_of, workspace_package_of};
-ghost use Rattle.pb_manifest.specs.declared.dependency.DependencyTable.{DependencyTable};
 
 /// In each table with fixed keys, a key that no rule names never changes the answer (The Cargo
 /// Book, Manifest Format: unused keys are warned of, and no more).
@@ -19,7 +18,8 @@ pub fn unnamed_keys_change_nothing()
     ensures package { PassesOver package_of }
     ensures library { PassesOver library_of }
     ensures binary { PassesOver binary_keys }
-    ensures dependency { (which : DependencyTable) (name : Text) → PassesOver (dependency_keys which name) }
+    ensures dependency { (name : Text) → PassesOver (dependency_keys name) }
+    ensures shared_dependency { (name : Text) → PassesOver (shared_dependency_keys name) }
     ensures profile { (name : Text) → PassesOver (profile_of_table name) }
     ensures settings { PassesOver profile_keys }
     ensures workspace { PassesOver workspace_of }

@@ -1,11 +1,12 @@
 //! What a manifest says.
 
-use crate::dependency::Dependency;
+use crate::dependency::{Dependency, WorkspaceDependency};
 use crate::feature::Feature;
 use crate::package::{Edition, Package, Readme};
 use crate::profile::Profile;
 use crate::target::{Binary, Library};
 use crate::version::Version;
+use crate::written_path::WrittenPath;
 use pb_data::{Items, Text};
 
 /// The table `[workspace.package]`: what members inherit (The Cargo Book, Workspaces). Paths are
@@ -34,19 +35,19 @@ pub struct WorkspacePackage {
     pub version: Option<Version>,
 }
 
-/// The table `[workspace]`. No text of `members`, `default_members` and `exclude` holds byte 0.
+/// The table `[workspace]` (The Cargo Book, Workspaces).
 #[derive(Debug, Drop)]
 pub struct WorkspaceTable {
-    /// In the manifest's order.
-    pub members: Items<Text>,
-    /// None where it is not written.
-    pub default_members: Option<Items<Text>>,
+    /// Paths and globs, in the manifest's order.
+    pub members: Items<WrittenPath>,
+    /// Paths and globs, in the manifest's order. None where it is not written.
+    pub default_members: Option<Items<WrittenPath>>,
     /// Paths, in the manifest's order.
-    pub exclude: Items<Text>,
+    pub exclude: Items<WrittenPath>,
     /// None where it is not written.
     pub package: Option<WorkspacePackage>,
     /// `[workspace.dependencies]`, in byte order of their keys.
-    pub dependencies: Items<Dependency>,
+    pub dependencies: Items<WorkspaceDependency>,
 }
 
 /// A manifest. A table that is not written has no entries.
@@ -62,6 +63,10 @@ pub struct Manifest {
     pub dependencies: Items<Dependency>,
     /// In byte order of their keys.
     pub build_dependencies: Items<Dependency>,
+    /// The keys of `[dev-dependencies]` in byte order, of any letters: a feature may name one, and
+    /// then does nothing by it. Of the table nothing else is read, and where it is no table there
+    /// are none.
+    pub dev_dependencies: Items<Text>,
     /// In byte order of their names.
     pub features: Items<Feature>,
     /// In byte order of their names.

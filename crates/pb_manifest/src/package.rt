@@ -2,20 +2,22 @@
 
 ghost use Rattle.std.specs.Prelude.{◌≡◌};
 ghost use Rattle.toml.specs.View.{view, table_view};
-ghost use Rattle.pb_manifest.specs.Values.{Gives, inheritable, text_at};
-ghost use Rattle.pb_manifest.specs.Package.{name_in, name_at, edition_in, edition_of, edition_at, inherited_edition_at, build_at, readme_of, readme_at, inherited_readme_at, resolver_at, first_keys, middle_keys, last_keys, package_of};
+ghost use Rattle.pb_manifest.specs.Values.{Gives, written_or_taken, text_at};
+ghost use Rattle.pb_manifest.specs.Package.{name_in, name_at, edition_in, edition_of, edition_at, inherited_edition_at, build_at, readme_of, readme_at, inheritable_readme_at, resolver_at, first_keys, middle_keys, last_keys, package_of};
 ghost use Rattle.pb_manifest.specs.declared.key.Key.TheVariants as key;
 
 use crate::fault::ManifestFault;
-use crate::inherited::Inherited;
+use crate::inherited::{Inheritable, Inherited};
 use crate::key::Key;
-use crate::letters::{has_zero, is_name};
+use crate::letters::is_name;
 use crate::values::{
-    inherited_text_at, inherited_texts_at, is_taken, text_at, text_of, truth_at, value_at,
+    inheritable_text_at, inheritable_texts_at, is_taken, path_in, text_at, text_of, truth_at,
+    value_at,
 };
 use crate::version::{Version, inherited_version_at};
-use pb_data::{Items, Text};
-use std::alloc::Global;
+use crate::written_path::WrittenPath;
+use pb_data::{Items, Text, TryCopy};
+use std::alloc::{AllocError, Global};
 use toml::{Table, Value};
 
 /// A Rust edition.
@@ -40,8 +42,8 @@ pub enum Build {
     Standard,
     /// `build = false`: there is no script.
     Never,
-    /// The script's path, from the package's folder. It holds no byte 0.
-    At(Text),
+    /// The script's path, from the package's folder.
+    At(WrittenPath),
 }
 
 /// What `readme` says.
@@ -55,36 +57,49 @@ pub enum Readme {
     At(Text),
 }
 
+impl TryCopy for Readme {
+    fn copy(&self, alloc: Global) -> Result<Readme, AllocError> {
+        match self {
+            Readme::Standard => Ok(Readme::Standard),
+            Readme::Never => Ok(Readme::Never),
+            Readme::At(path) => {
+                let path = path.copy(alloc)?;
+                Ok(Readme::At(path))
+            }
+        }
+    }
+}
+
 /// The table `[package]`: the keys of The Cargo Book's chapter Manifest Format that a build uses.
 #[derive(Debug, Drop)]
 pub struct Package {
-    /// In the manifest's order. None where it is not written.
-    pub authors: Option<Inherited<Items<Text>>>,
+    /// In the manifest's order.
+    pub authors: Inheritable<Items<Text>>,
     /// Whether binaries are discovered. True where it is not written: our own choice, in every
     /// edition.
     pub autobins: bool,
     /// What `build` says.
     pub build: Build,
-    /// None where it is not written.
-    pub description: Option<Inherited<Text>>,
+    /// `description`.
+    pub description: Inheritable<Text>,
     /// 2015 where it is not written.
     pub edition: Inherited<Edition>,
-    /// None where it is not written.
-    pub homepage: Option<Inherited<Text>>,
-    /// None where it is not written.
-    pub license: Option<Inherited<Text>>,
-    /// Any text. None where it is not written.
-    pub license_file: Option<Inherited<Text>>,
+    /// `homepage`.
+    pub homepage: Inheritable<Text>,
+    /// `license`.
+    pub license: Inheritable<Text>,
+    /// Any text.
+    pub license_file: Inheritable<Text>,
     /// Any text, also an empty one. None where it is not written.
     pub links: Option<Text>,
     /// ASCII letters, digits, `-` and `_`, not empty.
     pub name: Text,
-    /// None where it is not written: then it is discovered.
-    pub readme: Option<Inherited<Readme>>,
-    /// None where it is not written.
-    pub repository: Option<Inherited<Text>>,
-    /// Any text. None where it is not written.
-    pub rust_version: Option<Inherited<Text>>,
+    /// Where it is not written, it is discovered.
+    pub readme: Inheritable<Readme>,
+    /// `repository`.
+    pub repository: Inheritable<Text>,
+    /// Any text.
+    pub rust_version: Inheritable<Text>,
     /// 0.0.0 where it is not written.
     pub version: Inherited<Version>,
 }
@@ -92,19 +107,19 @@ pub struct Package {
 /// The keys of `[package]` from `authors` to `edition`.
 #[derive(Drop)]
 struct FirstKeys {
-    authors: Option<Inherited<Items<Text>>>,
+    authors: Inheritable<Items<Text>>,
     autobins: bool,
     build: Build,
-    description: Option<Inherited<Text>>,
+    description: Inheritable<Text>,
     edition: Inherited<Edition>,
 }
 
 /// The keys of `[package]` from `homepage` to `name`.
 #[derive(Drop)]
 struct MiddleKeys {
-    homepage: Option<Inherited<Text>>,
-    license: Option<Inherited<Text>>,
-    license_file: Option<Inherited<Text>>,
+    homepage: Inheritable<Text>,
+    license: Inheritable<Text>,
+    license_file: Inheritable<Text>,
     links: Option<Text>,
     name: Text,
 }
@@ -112,9 +127,9 @@ struct MiddleKeys {
 /// The keys of `[package]` from `readme` to `version`.
 #[derive(Drop)]
 struct LastKeys {
-    readme: Option<Inherited<Readme>>,
-    repository: Option<Inherited<Text>>,
-    rust_version: Option<Inherited<Text>>,
+    readme: Inheritable<Readme>,
+    repository: Inheritable<Text>,
+    rust_version: Inheritable<Text>,
     version: Inherited<Version>,
 }
 
@@ -178,26 +193,28 @@ pub(crate) fn edition_at(alloc: Global, table: &Table) -> Result<Option<Edition>
 }
 
 /// An edition, or `{ workspace = true }`.
-fn inherited_edition_of(alloc: Global, value: &Value) -> Result<Inherited<Edition>, ManifestFault>
-    ensures { Gives result (inheritable key.Edition edition_of (view value.now)) }
+fn edition_or_taken(alloc: Global, value: &Value) -> Result<Inheritable<Edition>, ManifestFault>
+    ensures { Gives result (written_or_taken key.Edition edition_of (view value.now)) }
 {
     if is_taken(value, Key::Edition)? {
-        return Ok(Inherited::Workspace);
+        return Ok(Inheritable::Workspace);
     }
     let edition = edition_of(alloc, value)?;
-    Ok(Inherited::Written(edition))
+    Ok(Inheritable::Written(edition))
 }
 
 /// The edition of a package: 2015 where none is written.
 fn inherited_edition_at(alloc: Global, table: &Table) -> Result<Inherited<Edition>, ManifestFault>
     ensures { Gives result (inherited_edition_at (table_view table.now)) }
 {
-    match value_at(table, Key::Edition) {
-        None => Ok(Inherited::Written(Edition::E2015)),
-        Some(value) => {
-            let edition = inherited_edition_of(alloc, value)?;
-            Ok(edition)
-        }
+    let value = match value_at(table, Key::Edition) {
+        None => return Ok(Inherited::Written(Edition::E2015)),
+        Some(value) => value,
+    };
+    match edition_or_taken(alloc, value)? {
+        Inheritable::Written(edition) => Ok(Inherited::Written(edition)),
+        Inheritable::Workspace => Ok(Inherited::Workspace),
+        Inheritable::Absent => Ok(Inherited::Written(Edition::E2015)),
     }
 }
 
@@ -210,10 +227,7 @@ fn build_at(alloc: Global, table: &Table) -> Result<Build, ManifestFault>
         Some(value) => value,
     };
     if let Some(path) = value.as_str() {
-        if has_zero(path) {
-            return Err(ManifestFault::BadKind(Key::Build));
-        }
-        let path = Text::from_str(alloc, path)?;
+        let path = path_in(Text::from_str(alloc, path)?, Key::Build)?;
         return Ok(Build::At(path));
     }
     match value.as_bool() {
@@ -252,28 +266,25 @@ pub(crate) fn readme_at(alloc: Global, table: &Table) -> Result<Option<Readme>, 
 }
 
 /// A readme, or `{ workspace = true }`.
-fn inherited_readme_of(alloc: Global, value: &Value) -> Result<Inherited<Readme>, ManifestFault>
-    ensures { Gives result (inheritable key.Readme readme_of (view value.now)) }
+fn readme_or_taken(alloc: Global, value: &Value) -> Result<Inheritable<Readme>, ManifestFault>
+    ensures { Gives result (written_or_taken key.Readme readme_of (view value.now)) }
 {
     if is_taken(value, Key::Readme)? {
-        return Ok(Inherited::Workspace);
+        return Ok(Inheritable::Workspace);
     }
     let readme = readme_of(alloc, value)?;
-    Ok(Inherited::Written(readme))
+    Ok(Inheritable::Written(readme))
 }
 
-/// What `readme` says or that it is inherited, where it is there.
-fn inherited_readme_at(
-    alloc: Global,
-    table: &Table,
-) -> Result<Option<Inherited<Readme>>, ManifestFault>
-    ensures { Gives result (inherited_readme_at (table_view table.now)) }
+/// What `readme` says, or that it is taken from the workspace.
+fn inheritable_readme_at(alloc: Global, table: &Table) -> Result<Inheritable<Readme>, ManifestFault>
+    ensures { Gives result (inheritable_readme_at (table_view table.now)) }
 {
     match value_at(table, Key::Readme) {
-        None => Ok(None),
+        None => Ok(Inheritable::Absent),
         Some(value) => {
-            let readme = inherited_readme_of(alloc, value)?;
-            Ok(Some(readme))
+            let readme = readme_or_taken(alloc, value)?;
+            Ok(readme)
         }
     }
 }
@@ -295,10 +306,10 @@ pub(crate) fn resolver_at(alloc: Global, table: &Table) -> Result<(), ManifestFa
 fn first_keys(alloc: Global, table: &Table) -> Result<FirstKeys, ManifestFault>
     ensures { Gives result (first_keys (table_view table.now)) }
 {
-    let authors = inherited_texts_at(alloc, table, Key::Authors)?;
+    let authors = inheritable_texts_at(alloc, table, Key::Authors)?;
     let autobins = truth_at(table, Key::Autobins)?.unwrap_or(true);
     let build = build_at(alloc, table)?;
-    let description = inherited_text_at(alloc, table, Key::Description)?;
+    let description = inheritable_text_at(alloc, table, Key::Description)?;
     let edition = inherited_edition_at(alloc, table)?;
     Ok(FirstKeys {
         authors,
@@ -313,9 +324,9 @@ fn first_keys(alloc: Global, table: &Table) -> Result<FirstKeys, ManifestFault>
 fn middle_keys(alloc: Global, table: &Table) -> Result<MiddleKeys, ManifestFault>
     ensures { Gives result (middle_keys (table_view table.now)) }
 {
-    let homepage = inherited_text_at(alloc, table, Key::Homepage)?;
-    let license = inherited_text_at(alloc, table, Key::License)?;
-    let license_file = inherited_text_at(alloc, table, Key::LicenseFile)?;
+    let homepage = inheritable_text_at(alloc, table, Key::Homepage)?;
+    let license = inheritable_text_at(alloc, table, Key::License)?;
+    let license_file = inheritable_text_at(alloc, table, Key::LicenseFile)?;
     let links = text_at(alloc, table, Key::Links)?;
     let name = name_at(alloc, table)?;
     Ok(MiddleKeys {
@@ -331,10 +342,10 @@ fn middle_keys(alloc: Global, table: &Table) -> Result<MiddleKeys, ManifestFault
 fn last_keys(alloc: Global, table: &Table) -> Result<LastKeys, ManifestFault>
     ensures { Gives result (last_keys (table_view table.now)) }
 {
-    let readme = inherited_readme_at(alloc, table)?;
-    let repository = inherited_text_at(alloc, table, Key::Repository)?;
+    let readme = inheritable_readme_at(alloc, table)?;
+    let repository = inheritable_text_at(alloc, table, Key::Repository)?;
     resolver_at(alloc, table)?;
-    let rust_version = inherited_text_at(alloc, table, Key::RustVersion)?;
+    let rust_version = inheritable_text_at(alloc, table, Key::RustVersion)?;
     let version = inherited_version_at(alloc, table)?;
     Ok(LastKeys {
         readme,

@@ -13,6 +13,7 @@ use crate::package::name_at;
 use crate::values::{
     array_of, listed_texts_at, path_at, table_of, text_at, text_of, truth_at, value_at,
 };
+use crate::written_path::WrittenPath;
 use pb_data::{Items, Text};
 use std::alloc::Global;
 use toml::{Table, Value};
@@ -36,8 +37,8 @@ pub struct Library {
     /// The crate's name: ASCII letters, digits and `_`, not empty. None: the package's name with
     /// `-` as `_`.
     pub name: Option<Text>,
-    /// From the package's folder. It holds no byte 0. None: `src/lib.rs`.
-    pub path: Option<Text>,
+    /// From the package's folder. None: `src/lib.rs`.
+    pub path: Option<WrittenPath>,
 }
 
 /// A table of `[[bin]]`.
@@ -45,8 +46,8 @@ pub struct Library {
 pub struct Binary {
     /// ASCII letters, digits, `-` and `_`, not empty.
     pub name: Text,
-    /// From the package's folder. It holds no byte 0. None: it is looked for.
-    pub path: Option<Text>,
+    /// From the package's folder. None: it is looked for.
+    pub path: Option<WrittenPath>,
     /// The features without which the binary is not built.
     pub required_features: Items<Text>,
 }

@@ -3,14 +3,14 @@
 ghost use Rattle.std.specs.Prelude.{◌≡◌, option_map, Ok, Err, IfOk, IfErr, is_some};
 ghost use Rattle.toml.specs.Data.{get_member, as_table};
 ghost use Rattle.toml.specs.View.{view, table_view, array_view, items_view};
-ghost use Rattle.pb_manifest.specs.Values.{Gives, value_at, has, each, text_of, truth_of, path_of, texts_of, paths_of, text_at, truth_at, path_at, texts_at, listed_texts_at, paths_at, table_of, array_of, table_at, takes_workspace, is_taken, inheritable, inherited_text_at, inherited_texts_at};
+ghost use Rattle.pb_manifest.specs.Values.{Gives, value_at, has, each, text_of, truth_of, zero_free, path_of, texts_of, paths_of, text_at, truth_at, path_at, texts_at, listed_texts_at, paths_at, table_of, array_of, table_at, takes_workspace, is_taken, written_or_taken, inheritable_text_at, inheritable_texts_at, keys_of, keys_at};
 
 use crate::fault::ManifestFault;
-use crate::inherited::Inherited;
+use crate::inherited::Inheritable;
 use crate::key::Key;
-use crate::letters::has_zero;
+use crate::written_path::WrittenPath;
 use pb_data::{Items, Text};
-use std::alloc::Global;
+use std::alloc::{AllocError, Global};
 use toml::{Table, Value};
 
 /// The value of a name.
@@ -51,14 +51,21 @@ pub(crate) fn text_of(alloc: Global, value: &Value, key: Key) -> Result<Text, Ma
     }
 }
 
+/// The path of a text.
+pub(crate) fn path_in(text: Text, key: Key) -> Result<WrittenPath, ManifestFault>
+    ensures { result ≡ zero_free key text }
+{
+    match WrittenPath::new(text) {
+        Some(path) => Ok(path),
+        None => Err(ManifestFault::BadKind(key)),
+    }
+}
+
 /// A text without byte 0.
-pub(crate) fn path_of(alloc: Global, value: &Value, key: Key) -> Result<Text, ManifestFault>
+pub(crate) fn path_of(alloc: Global, value: &Value, key: Key) -> Result<WrittenPath, ManifestFault>
     ensures { Gives result (path_of key (view value.now)) }
 {
-    let path = text_of(alloc, value, key)?;
-    if has_zero(path.as_str()) {
-        return Err(ManifestFault::BadKind(key));
-    }
+    let path = path_in(text_of(alloc, value, key)?, key)?;
     Ok(path)
 }
 
@@ -106,7 +113,7 @@ fn each_text(alloc: Global, values: &[Value], key: Key) -> Result<Items<Text>, M
 }
 
 /// The paths of a list.
-fn each_path(alloc: Global, values: &[Value], key: Key) -> Result<Items<Text>, ManifestFault>
+fn each_path(alloc: Global, values: &[Value], key: Key) -> Result<Items<WrittenPath>, ManifestFault>
     ensures { Gives result (each (path_of key) (items_view values.now)) }
 {
     let mut paths = Items::new(alloc);
@@ -125,7 +132,11 @@ pub(crate) fn texts_of(alloc: Global, value: &Value, key: Key) -> Result<Items<T
 }
 
 /// A list of paths.
-pub(crate) fn paths_of(alloc: Global, value: &Value, key: Key) -> Result<Items<Text>, ManifestFault>
+pub(crate) fn paths_of(
+    alloc: Global,
+    value: &Value,
+    key: Key,
+) -> Result<Items<WrittenPath>, ManifestFault>
     ensures { Gives result (paths_of key (view value.now)) }
 {
     let paths = each_path(alloc, array_of(value, key)?, key)?;
@@ -159,7 +170,11 @@ pub(crate) fn truth_at(table: &Table, key: Key) -> Result<Option<bool>, Manifest
 }
 
 /// The path at a key, where the key is there.
-pub(crate) fn path_at(alloc: Global, table: &Table, key: Key) -> Result<Option<Text>, ManifestFault>
+pub(crate) fn path_at(
+    alloc: Global,
+    table: &Table,
+    key: Key,
+) -> Result<Option<WrittenPath>, ManifestFault>
     ensures { Gives result (path_at key (table_view table.now)) }
 {
     match value_at(table, key) {
@@ -207,7 +222,7 @@ pub(crate) fn paths_at(
     alloc: Global,
     table: &Table,
     key: Key,
-) -> Result<Option<Items<Text>>, ManifestFault>
+) -> Result<Option<Items<WrittenPath>>, ManifestFault>
     ensures { Gives result (paths_at key (table_view table.now)) }
 {
     match value_at(table, key) {
@@ -263,65 +278,89 @@ pub(crate) fn is_taken(value: &Value, key: Key) -> Result<bool, ManifestFault>
 }
 
 /// A text, or `{ workspace = true }`.
-fn inherited_text_of(
-    alloc: Global,
-    value: &Value,
-    key: Key,
-) -> Result<Inherited<Text>, ManifestFault>
-    ensures { Gives result (inheritable key (text_of key) (view value.now)) }
+fn text_or_taken(alloc: Global, value: &Value, key: Key) -> Result<Inheritable<Text>, ManifestFault>
+    ensures { Gives result (written_or_taken key (text_of key) (view value.now)) }
 {
     if is_taken(value, key)? {
-        return Ok(Inherited::Workspace);
+        return Ok(Inheritable::Workspace);
     }
     let text = text_of(alloc, value, key)?;
-    Ok(Inherited::Written(text))
+    Ok(Inheritable::Written(text))
 }
 
 /// A list of texts, or `{ workspace = true }`.
-fn inherited_texts_of(
+fn texts_or_taken(
     alloc: Global,
     value: &Value,
     key: Key,
-) -> Result<Inherited<Items<Text>>, ManifestFault>
-    ensures { Gives result (inheritable key (texts_of key) (view value.now)) }
+) -> Result<Inheritable<Items<Text>>, ManifestFault>
+    ensures { Gives result (written_or_taken key (texts_of key) (view value.now)) }
 {
     if is_taken(value, key)? {
-        return Ok(Inherited::Workspace);
+        return Ok(Inheritable::Workspace);
     }
     let texts = texts_of(alloc, value, key)?;
-    Ok(Inherited::Written(texts))
+    Ok(Inheritable::Written(texts))
 }
 
-/// The text at a key or that it is inherited, where the key is there.
-pub(crate) fn inherited_text_at(
+/// The text at a key, or that it is taken from the workspace.
+pub(crate) fn inheritable_text_at(
     alloc: Global,
     table: &Table,
     key: Key,
-) -> Result<Option<Inherited<Text>>, ManifestFault>
-    ensures { Gives result (inherited_text_at key (table_view table.now)) }
+) -> Result<Inheritable<Text>, ManifestFault>
+    ensures { Gives result (inheritable_text_at key (table_view table.now)) }
 {
     match value_at(table, key) {
-        None => Ok(None),
+        None => Ok(Inheritable::Absent),
         Some(value) => {
-            let text = inherited_text_of(alloc, value, key)?;
-            Ok(Some(text))
+            let text = text_or_taken(alloc, value, key)?;
+            Ok(text)
         }
     }
 }
 
-/// The list of texts at a key or that it is inherited, where the key is there.
-pub(crate) fn inherited_texts_at(
+/// The list of texts at a key, or that it is taken from the workspace.
+pub(crate) fn inheritable_texts_at(
     alloc: Global,
     table: &Table,
     key: Key,
-) -> Result<Option<Inherited<Items<Text>>>, ManifestFault>
-    ensures { Gives result (inherited_texts_at key (table_view table.now)) }
+) -> Result<Inheritable<Items<Text>>, ManifestFault>
+    ensures { Gives result (inheritable_texts_at key (table_view table.now)) }
 {
     match value_at(table, key) {
-        None => Ok(None),
+        None => Ok(Inheritable::Absent),
         Some(value) => {
-            let texts = inherited_texts_of(alloc, value, key)?;
-            Ok(Some(texts))
+            let texts = texts_or_taken(alloc, value, key)?;
+            Ok(texts)
+        }
+    }
+}
+
+/// The keys of a table, in byte order.
+fn keys_of(alloc: Global, table: &Table) -> Result<Items<Text>, AllocError>
+    ensures { IfOk result (λ keys. keys ≡ keys_of (table_view table.now)) }
+{
+    let mut keys = Items::new(alloc);
+    for (name, _value) in table {
+        keys.push(Text::from_str(alloc, name.as_str())?)?;
+    }
+    Ok(keys)
+}
+
+/// The keys of the table at a key; none where there is no table.
+pub(crate) fn keys_at(alloc: Global, table: &Table, key: Key) -> Result<Items<Text>, AllocError>
+    ensures { IfOk result (λ keys. keys ≡ keys_at key (table_view table.now)) }
+{
+    let value = match value_at(table, key) {
+        None => return Ok(Items::new(alloc)),
+        Some(value) => value,
+    };
+    match value.as_table() {
+        None => Ok(Items::new(alloc)),
+        Some(entries) => {
+            let keys = keys_of(alloc, entries)?;
+            Ok(keys)
         }
     }
 }

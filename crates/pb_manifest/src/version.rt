@@ -1,18 +1,18 @@
 //! Versions and requirements, as `semver` reads them.
 
-ghost use Rattle.std.specs.Prelude.{◌≡◌, Ok, map};
+ghost use Rattle.std.specs.Prelude.{◌≡◌, IfOk, Ok, map};
 ghost use Rattle.semver.specs.Parse.{version_parts, req_of};
 ghost use Rattle.semver.specs.Identifiers.{parts_of, comparator_view};
 ghost use Rattle.toml.specs.View.{view, table_view};
-ghost use Rattle.pb_manifest.specs.Values.{Gives, inheritable};
-ghost use Rattle.pb_manifest.specs.Versions.{version_in, requirement_in, version_of, requirement_of, version_at, requirement_at, inherited_version_at, version_or_zero};
+ghost use Rattle.pb_manifest.specs.Values.{Gives, written_or_taken, inheritable_at, or_default};
+ghost use Rattle.pb_manifest.specs.Versions.{version_in, requirement_in, version_of, requirement_of, version_at, requirement_at, inherited_version_at, zero, matches};
 ghost use Rattle.pb_manifest.specs.declared.key.Key.TheVariants as key;
 
 use crate::fault::ManifestFault;
-use crate::inherited::Inherited;
+use crate::inherited::{Inheritable, Inherited};
 use crate::key::Key;
 use crate::values::{is_taken, text_of, value_at};
-use pb_data::Text;
+use pb_data::{Text, TryCopy};
 use std::alloc::{AllocError, Global};
 use std::marker::Model;
 use toml::{Table, Value};
@@ -70,6 +70,14 @@ impl Version {
     }
 }
 
+impl TryCopy for Version {
+    fn copy(&self, alloc: Global) -> Result<Version, AllocError> {
+        let text = self.text.copy(alloc)?;
+        let number = self.number.clone()?;
+        Ok(Version { text, number })
+    }
+}
+
 /// A version requirement. Contracts see its text, which is one that `semver` reads.
 #[derive(Debug, Drop)]
 pub struct Requirement {
@@ -119,6 +127,24 @@ impl Requirement {
         ensures { ∥ req_of self.now ≡ Ok (map comparator_view result.now.comparators.items) ∥₁ }
     {
         &self.parsed
+    }
+
+    /// Whether a version matches the requirement, as `semver` decides it (The Cargo Book,
+    /// Specifying Dependencies).
+    pub fn matches(&self, version: &Version) -> bool
+        ensures { result ≡ matches self.now version.now }
+    {
+        self.parsed.matches(&version.number)
+    }
+}
+
+impl TryCopy for Requirement {
+    fn copy(&self, alloc: Global) -> Result<Requirement, AllocError> {
+        // The text was read once, so only want of memory can keep it from being read again.
+        match Requirement::read(alloc, self.text.copy(alloc)?) {
+            Ok(made) => Ok(made),
+            Err(_) => Err(AllocError),
+        }
     }
 }
 
@@ -170,24 +196,40 @@ pub(crate) fn requirement_at(
 }
 
 /// A version, or `{ workspace = true }`.
-fn inherited_version_of(alloc: Global, value: &Value) -> Result<Inherited<Version>, ManifestFault>
-    ensures { Gives result (inheritable key.Version version_of (view value.now)) }
+fn version_or_taken(alloc: Global, value: &Value) -> Result<Inheritable<Version>, ManifestFault>
+    ensures { Gives result (written_or_taken key.Version version_of (view value.now)) }
 {
     if is_taken(value, Key::Version)? {
-        return Ok(Inherited::Workspace);
+        return Ok(Inheritable::Workspace);
     }
     let version = version_of(alloc, value)?;
-    Ok(Inherited::Written(version))
+    Ok(Inheritable::Written(version))
+}
+
+/// The version at `version`, or that it is taken from the workspace.
+fn inheritable_version_at(
+    alloc: Global,
+    table: &Table,
+) -> Result<Inheritable<Version>, ManifestFault>
+    ensures { Gives result (inheritable_at key.Version version_of (table_view table.now)) }
+{
+    match value_at(table, Key::Version) {
+        None => Ok(Inheritable::Absent),
+        Some(value) => {
+            let version = version_or_taken(alloc, value)?;
+            Ok(version)
+        }
+    }
 }
 
 /// The version that a package has where none is written.
 #[tactic(auto, using(crate::proofs::Zero::zero_is_version))]
-fn zero_version(alloc: Global) -> Result<Inherited<Version>, ManifestFault>
-    ensures { Gives result (Ok (version_or_zero None)) }
+fn zero(alloc: Global) -> Result<Version, ManifestFault>
+    ensures { Gives result (Ok zero) }
 {
     let text = Text::from_str(alloc, "0.0.0")?;
     let version = Version::read(alloc, text)?;
-    Ok(Inherited::Written(version))
+    Ok(version)
 }
 
 /// The version of a package: 0.0.0 where none is written.
@@ -197,14 +239,12 @@ pub(crate) fn inherited_version_at(
 ) -> Result<Inherited<Version>, ManifestFault>
     ensures { Gives result (inherited_version_at (table_view table.now)) }
 {
-    match value_at(table, Key::Version) {
-        None => {
-            let version = zero_version(alloc)?;
-            Ok(version)
-        }
-        Some(value) => {
-            let version = inherited_version_of(alloc, value)?;
-            Ok(version)
+    match inheritable_version_at(alloc, table)? {
+        Inheritable::Written(version) => Ok(Inherited::Written(version)),
+        Inheritable::Workspace => Ok(Inherited::Workspace),
+        Inheritable::Absent => {
+            let version = zero(alloc)?;
+            Ok(Inherited::Written(version))
         }
     }
 }

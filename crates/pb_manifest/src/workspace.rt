@@ -5,13 +5,14 @@ ghost use Rattle.toml.specs.View.{table_view};
 ghost use Rattle.pb_manifest.specs.Values.{Gives};
 ghost use Rattle.pb_manifest.specs.Workspace.{first_keys, last_keys, workspace_package_of, workspace_package_at, listed_paths_at, workspace_of};
 
-use crate::dependency::{DependencyTable, dependencies_at};
 use crate::fault::ManifestFault;
 use crate::key::Key;
 use crate::manifest::{WorkspacePackage, WorkspaceTable};
 use crate::package::{Edition, Readme, edition_at, readme_at, resolver_at};
+use crate::shared_dependency::shared_dependencies_at;
 use crate::values::{paths_at, table_at, text_at, texts_at};
 use crate::version::{Version, version_at};
+use crate::written_path::WrittenPath;
 use pb_data::{Items, Text};
 use std::alloc::Global;
 use toml::Table;
@@ -109,7 +110,11 @@ fn workspace_package_at(
 }
 
 /// The list of paths at a key, none where the key is not there.
-fn listed_paths_at(alloc: Global, table: &Table, key: Key) -> Result<Items<Text>, ManifestFault>
+fn listed_paths_at(
+    alloc: Global,
+    table: &Table,
+    key: Key,
+) -> Result<Items<WrittenPath>, ManifestFault>
     ensures { Gives result (listed_paths_at key (table_view table.now)) }
 {
     match paths_at(alloc, table, key)? {
@@ -123,7 +128,7 @@ pub(crate) fn workspace_of(alloc: Global, table: &Table) -> Result<WorkspaceTabl
     ensures { Gives result (workspace_of (table_view table.now)) }
 {
     let default_members = paths_at(alloc, table, Key::DefaultMembers)?;
-    let dependencies = dependencies_at(alloc, DependencyTable::Workspace, table)?;
+    let dependencies = shared_dependencies_at(alloc, table)?;
     let exclude = listed_paths_at(alloc, table, Key::Exclude)?;
     let members = listed_paths_at(alloc, table, Key::Members)?;
     let package = workspace_package_at(alloc, table)?;

@@ -12,8 +12,6 @@ pub mod place;
 pub mod relative;
 pub mod sink;
 pub mod taken_apart;
-#[cfg(test)]
-mod tests;
 pub mod whole;
 
 pub use child::{Child, Reply, View, ViewFault};

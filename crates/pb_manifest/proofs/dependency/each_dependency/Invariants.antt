@@ -6,4 +6,4 @@ use Rattle.pb_manifest.specs.Dependencies.{dependency_of}
 use Rattle.pb_manifest.proofs.dependency.each_dependency.Given as goal
 
 abbrev pub invariant-loop-name : goal.invariant-loop-name
-invariant-loop-name l = (each_entry (dependency_of l.which) (members_view l.name-iterator) >>= (λ rest. Ok (l.dependencies ++ rest))) ≡ each_entry (dependency_of l.which) (table_view l.table)
+invariant-loop-name l = (each_entry (dependency_of l.key) (members_view l.name-iterator) >>= (λ rest. Ok (l.dependencies ++ rest))) ≡ each_entry (dependency_of l.key) (table_view l.table)

@@ -1,0 +1,146 @@
+//! Paths by tables of texts.
+
+use pb_data::{Text, TryCopy};
+use pb_place::{PathFault, PathText, RelativePath, parsing_keeps_paths};
+use std::alloc::{AllocError, Global};
+use std::test::Fail;
+
+/// A path's text, or the name of the fault.
+fn told(alloc: Global, answer: Result<PathText, PathFault>) -> Result<Text, AllocError> {
+    match answer {
+        Ok(path) => Text::from_str(alloc, path.as_str()),
+        Err(PathFault::NotAbsolute) => Text::from_str(alloc, "NotAbsolute"),
+        Err(PathFault::BadByte) => Text::from_str(alloc, "BadByte"),
+        Err(PathFault::OutOfMemory) => Text::from_str(alloc, "OutOfMemory"),
+    }
+}
+
+#[test]
+fn parses(rt: HostRuntime) -> Result<(), Fail> {
+    let cases = [
+        ("/", "/"),
+        ("/w", "/w"),
+        ("/w/./a/../b", "/w/b"),
+        ("/w/a/", "/w/a"),
+        ("//w///a//", "/w/a"),
+        ("/..", "/"),
+        ("/../../w", "/w"),
+        ("/w/../..", "/"),
+        ("/w/...", "/w/..."),
+        ("/w/.a/..b", "/w/.a/..b"),
+        ("/é/ x", "/é/ x"),
+        ("", "NotAbsolute"),
+        ("w", "NotAbsolute"),
+        ("./w", "NotAbsolute"),
+        ("../w", "NotAbsolute"),
+        ("\0", "NotAbsolute"),
+        ("w/\0", "NotAbsolute"),
+        ("/\0", "BadByte"),
+        ("/w\0/..", "BadByte"),
+    ];
+    for (text, wanted) in cases {
+        let answer = told(rt.alloc(), PathText::parse(rt.alloc(), text))?;
+        assert_eq!(rt; answer.as_str(), wanted, "of {text}");
+    }
+    Ok(())
+}
+
+#[test]
+fn joins(rt: HostRuntime) -> Result<(), Fail> {
+    let cases = [
+        ("/w", "a/b", "/w/a/b"),
+        ("/w", "../x", "/x"),
+        ("/w", "../../../x", "/x"),
+        ("/w/a", "..", "/w"),
+        ("/", "..", "/"),
+        ("/", "a", "/a"),
+        ("/w", "", "/w"),
+        ("/w", ".", "/w"),
+        ("/w", "a//./b/", "/w/a/b"),
+        ("/w", "/x/../y", "/y"),
+        ("/w", "/", "/"),
+        ("/w", "a\0", "BadByte"),
+        ("/w", "/\0", "BadByte"),
+    ];
+    for (folder, text, wanted) in cases {
+        let folder = PathText::parse(rt.alloc(), folder)?;
+        let answer = told(rt.alloc(), folder.join(rt.alloc(), text))?;
+        assert_eq!(rt; answer.as_str(), wanted, "of {text}");
+    }
+    Ok(())
+}
+
+#[test]
+fn beginnings(rt: HostRuntime) -> Result<(), Fail> {
+    // a path, a folder, whether it is below the folder, and whether it is the folder or below it
+    let cases = [
+        ("/w/a", "/w/a", false, true),
+        ("/w/a/b", "/w/a", true, true),
+        ("/w/a/b/c", "/w/a", true, true),
+        ("/w/ab", "/w/a", false, false),
+        ("/w/a", "/w/ab", false, false),
+        ("/w", "/w/a", false, false),
+        ("/w/A", "/w/a", false, false),
+        ("/", "/", false, true),
+        ("/w", "/", true, true),
+        ("/w/a", "/", true, true),
+        ("/", "/w", false, false),
+    ];
+    for (path, folder, is_below, starts) in cases {
+        let one = PathText::parse(rt.alloc(), path)?;
+        let other = PathText::parse(rt.alloc(), folder)?;
+        assert_eq!(rt; one.is_below(&other), is_below, "{path} below {folder}");
+        assert_eq!(rt; one.starts_with(&other), starts, "{path} in {folder}");
+    }
+    Ok(())
+}
+
+#[test]
+fn folders(rt: HostRuntime) -> Result<(), Fail> {
+    for (path, wanted) in [("/w/a/b", "/w/a"), ("/w", "/"), ("/", "/")] {
+        let path = PathText::parse(rt.alloc(), path)?;
+        let folder = path.folder(rt.alloc())?;
+        assert_eq!(rt; folder.as_str(), wanted);
+        assert!(rt; path.copy(rt.alloc())? == path);
+    }
+    parsing_keeps_paths();
+    Ok(())
+}
+
+/// The text of the relative path in a folder, or `none` where the text is no relative path.
+fn inside(alloc: Global, folder: &str, text: &str) -> Result<Text, Fail> {
+    let folder = PathText::parse(alloc, folder)?;
+    let text = Text::from_str(alloc, text)?;
+    let Some(relative) = RelativePath::new(alloc, text)? else {
+        return Ok(Text::from_str(alloc, "none")?);
+    };
+    let again = relative.copy(alloc)?;
+    let path = folder.below(alloc, &again)?;
+    Ok(Text::from_str(alloc, path.as_str())?)
+}
+
+#[test]
+fn relative_paths(rt: HostRuntime) -> Result<(), Fail> {
+    let cases = [
+        ("/w", "a", "/w/a"),
+        ("/w", "a/b.d", "/w/a/b.d"),
+        ("/", "a", "/a"),
+        ("/w", "...", "/w/..."),
+        ("/w", "", "none"),
+        ("/w", ".", "none"),
+        ("/w", "..", "none"),
+        ("/w", "a/../b", "none"),
+        ("/w", "./a", "none"),
+        ("/w", "/a", "none"),
+        ("/w", "a/", "none"),
+        ("/w", "a//b", "none"),
+        ("/w", "a\0", "none"),
+    ];
+    for (folder, text, wanted) in cases {
+        let answer = inside(rt.alloc(), folder, text)?;
+        assert_eq!(rt; answer.as_str(), wanted, "of {text}");
+    }
+    let name = RelativePath::name(rt.alloc(), "a.rlib")?;
+    assert_eq!(rt; name.as_str(), "a.rlib");
+    Ok(())
+}
