@@ -6,7 +6,7 @@ use Rattle.std.specs.FinMap.{get, retain_keys, same_map}
 use Rattle.std.specs.Cmp.Lexicographic.{nat_list_cmp_total}
 use Rattle.std.specs.Str.{bytes_eq}
 use Rattle.pb_data.specs.Gives.{◌>>=◌}
-use Rattle.pb_place.specs.Paths.{stem, leads_below, is_below, is_at_or_below}
+use Rattle.pb_place.specs.Paths.{below, is_at_or_below}
 use Rattle.pb_place.specs.World.{World, Answers, Ends, Map, is_shown, seen_by, from_nothing, removed, put_reply}
 use Rattle.pb_place.specs.declared.child.Reply.{Reply}
 use Rattle.pb_place.specs.declared.command.Command.{Command}
