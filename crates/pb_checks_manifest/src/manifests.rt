@@ -132,6 +132,10 @@ fn versions(rt: HostRuntime) -> Result<(), Fail> {
 fn requirements(rt: HostRuntime) -> Result<(), Fail> {
     let requirement = Requirement::read(rt.alloc(), Text::from_str(rt.alloc(), ">=1, <2")?)?;
     assert_eq!(rt; requirement.parsed().comparators.len(), 2);
+    for (text, matches) in [("1.2.3", true), ("2.0.0", false), ("1.0.0-a", false)] {
+        let version = Version::read(rt.alloc(), Text::from_str(rt.alloc(), text)?)?;
+        assert_eq!(rt; requirement.matches(&version), matches, "{text}");
+    }
     Ok(())
 }
 
