@@ -77,8 +77,8 @@ int posix_memalign(void **to, size_t align, size_t size) {
 }
 C
 cc -O2 -shared -fPIC -o "$folder/failing.so" "$folder/failing.c"
-python3 - "$program" "$folder" "$top/examples" "${EVERY:-1}" <<'PYTHON'
-import os, subprocess, sys
+python3 - "$program" "$folder" "$top/crates/pb_examples" "${EVERY:-1}" <<'PYTHON'
+import os, re, subprocess, sys
 from concurrent.futures import ThreadPoolExecutor
 
 program, folder, examples, every = sys.argv[1:]
@@ -170,9 +170,7 @@ def try_all(name, session, count, from_then_on, may):
 
 
 def try_example(name):
-    session = f"{examples}/{name}.json"
-    with open(f"{examples}/{name}.out", "rb") as it:
-        printed = it.read()
+    session, printed = f"{examples}/data/{name}.json", outputs[name]
     with open("/dev/full", "wb") as full:
         ran = subprocess.run([program, "session", session], stdout=full, stderr=subprocess.PIPE, timeout=60)
     if (ran.returncode, ran.stderr) != (1, BAD):
@@ -189,7 +187,12 @@ def try_example(name):
 
 
 print(f"{'example':30} {'refused':10} {'asked':>6} {'tried':>6} {'memory':>7} {'bad session':>11} {'right':>6} {'wrong':>6}")
-names = sorted(it.removesuffix(".json") for it in os.listdir(examples) if it.endswith(".json"))
+with open(f"{examples}/stdout", "rb") as it:
+    parts = (part.partition(b"\n") for part in re.split(rb"^== ", it.read(), flags=re.MULTILINE)[1:])
+    outputs = {name.decode(): printed for name, _, printed in parts}
+names = sorted(it.removesuffix(".json") for it in os.listdir(f"{examples}/data") if it.endswith(".json"))
+if names != sorted(outputs):
+    sys.exit("the examples are not those of the file stdout")
 alone, on = zip(*(try_example(name) for name in names))
 for what, found in (("alone", alone), ("with all that follow", on)):
     print(f"{sum(it[0] for it in found)} allocations refused {what}, {sum(it[1] for it in found)} outcomes were wrong")

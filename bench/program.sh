@@ -6,7 +6,7 @@ make_program() {
     cp -r "$top/crates/." "$folder/crates/"
     cp "$top/crates.txt" "$top/HANDLES" "$folder/"
     git -C "$folder" init -q .
-    (cd "$folder/crates/pb_tool" && rt run -- session "$top/examples/one_library.json") > "$folder/made" 2>&1 ||
+    (cd "$folder/crates/pb_tool" && rt run -- session "$top/crates/pb_examples/data/one_library.json") > "$folder/made" 2>&1 ||
         { cat "$folder/made" >&2; return 1; }
     echo "$folder/crates/pb_tool/out/pb_tool"
 }

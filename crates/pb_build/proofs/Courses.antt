@@ -1,19 +1,13 @@
 -- What a child sees, and what the steps of a build give, over what each call ensures.
-use Rattle.std.proofs.Common.{◌≡◌, ◌==◌, ◌∙◌, ◌++◌, ◌&&◌, ◌||◌, Bool, true, false, not, if◌then◌else◌, List, [], ◌∷◌, ℕ, cond, codes, Option, Some, None, Result, Ok, Err, IfOk, IfErr, MatchResult, string_bytes, refl, sym, ap, subst, arith, inl, inr}
-use Rattle.std.proofs.lemmas.Bool.{cases_Bool, false≢true}
-use Rattle.std.proofs.lemmas.Bool.Decides.{nat_tests}
-use Rattle.std.specs.FinMap.{get, retain_keys, same_map}
-use Rattle.std.specs.Cmp.Lexicographic.{nat_list_cmp_total}
-use Rattle.std.specs.Str.{bytes_eq}
+use Rattle.std.proofs.Common.{◌≡◌, ◌≢◌, ◌∙◌, ◌++◌, true, false, List, [], ◌∷◌, ℕ, codes, Some, Result, Ok, Err, IfOk, IfErr, MatchResult, string_bytes, refl, sym, ap, subst}
 use Rattle.pb_data.specs.Gives.{◌>>=◌}
-use Rattle.pb_place.specs.Paths.{stem, leads_below, is_below, is_at_or_below}
-use Rattle.pb_place.specs.World.{World, Answers, Ends, Map, is_shown, seen_by, from_nothing, removed, put_reply}
+use Rattle.pb_place.specs.Paths.{below, is_at_or_below}
+use Rattle.pb_place.specs.World.{World, Answers, Ends, seen_by, from_nothing, removed, put_reply}
 use Rattle.pb_place.specs.declared.child.Reply.{Reply}
 use Rattle.pb_place.specs.declared.command.Command.{Command}
 use Rattle.pb_place.specs.declared.command.Ended.{Ended}
-use Rattle.pb_place.proofs.MapLemmas.{exact, get-kept, same_bytes}
-use Rattle.pb_place.proofs.PathLemmas.{and_left, and_right}
-use Rattle.pb_place.proofs.Worlds.{same_path}
+use Rattle.pb_place.proofs.Folders.{sees_sources, sources_stayed, only_removed}
+use Rattle.pb_place.proofs.Within.{at_below, below_on, goes_below}
 use Rattle.pb_report.specs.declared.fault.BuildFault.{BuildFault}
 use Rattle.pb_build.specs.declared.setup.Setup.{Setup}
 use Rattle.pb_build.specs.declared.unit.LibraryUnit.{LibraryUnit}
@@ -31,104 +25,24 @@ use Rattle.pb_build.specs.Report.{build_lines, summary_of}
 use Rattle.pb_build.specs.Setup.{setup_of}
 use Rattle.pb_build.specs.Unit.{key_of, out_of}
 
--- what is kept by two tests that agree
-kept_alike : (m : Map) (p q : List ℕ → Bool) → ((x : List ℕ) → p x ≡ q x) → retain_keys m p ≡ retain_keys m q
-kept_alike m p q same = same_map nat_list_cmp_total exact _ _ (λ x. get-kept m p x ∙ ap (λ b. cond b (get m x) None) (same x) ∙ sym (get-kept m q x))
-
-or_none : (b : Bool) → b || false ≡ b
-or_none true = refl
-or_none false = refl
-
-query_shows : (s : Setup) (path : List ℕ) → is_shown (query_of s) path ≡ not (is_at_or_below s.target path)
-unfolding is_shown
-query_shows s path = or_none _
-
-compile_shows : (s : Setup) (version : List ℕ) (u : LibraryUnit) (path : List ℕ) → is_shown (command_of s version u) path ≡ not (is_at_or_below s.target path)
-unfolding is_shown
-compile_shows s version u path = or_none _
-
 -- the query and the compile of a library see the sources
 query_sees : (s : Setup) (w : World) → seen_by (query_of s) w ≡ from_nothing s.target w
-query_sees s w = ap (λ (m : Map). record { files = m; variables = w.variables }) (kept_alike w.files (is_shown (query_of s)) (λ q. not (is_at_or_below s.target q)) (query_shows s))
+query_sees s w = sees_sources (query_of s) w refl
 
 compile_sees : (s : Setup) (version : List ℕ) (u : LibraryUnit) (w : World) → seen_by (command_of s version u) w ≡ from_nothing s.target w
-compile_sees s version u w =
-    ap (λ (m : Map). record { files = m; variables = w.variables }) (kept_alike w.files (is_shown (command_of s version u)) (λ q. not (is_at_or_below s.target q)) (compile_shows s version u))
+compile_sees s version u w = sees_sources (command_of s version u) w refl
 
-tied : (a b e : ℕ) → a == b ≡ true → b == e ≡ true → a == e ≡ true
-tied a b e p q = grind (arith, nat_tests)
-
-both : (a b : Bool) → a ≡ true → b ≡ true → a && b ≡ true
-both a b p q = ap (λ x. x && b) p ∙ q
-
--- below a folder that is below a folder
-below_both : (s d p : List ℕ) → leads_below s d ≡ true → leads_below d p ≡ true → leads_below s p ≡ true
-unfolding leads_below
-below_both [] [] p h k = absurd (false≢true h)
-below_both [] (b ∷ []) p h k = absurd (false≢true h)
-below_both [] (b ∷ c ∷ d) [] h k = absurd (false≢true k)
-below_both [] (b ∷ c ∷ d) (e ∷ []) h k = absurd (false≢true (and_right (b == e) _ k))
-below_both [] (b ∷ c ∷ d) (e ∷ f ∷ p) h k = let one : b == e ≡ true = and_left _ _ k in grind (arith, nat_tests)
-below_both (a ∷ s) [] p h k = absurd (false≢true h)
-below_both (a ∷ s) (b ∷ d) [] h k = absurd (false≢true k)
-below_both (a ∷ s) (b ∷ d) (e ∷ p) h k = both _ _ (tied a b e (and_left _ _ h) (and_left _ _ k)) (below_both s d p (and_right _ _ h) (and_right _ _ k))
-
-alike : (a : ℕ) → a == a ≡ true
-alike a = grind (arith, nat_tests)
-
--- the folder of a profile, and what stands in it
-leads_in : (s rest : List ℕ) → leads_below s ((s ++ codes "/debug") ++ rest) ≡ true
-unfolding leads_below
-leads_in [] rest = refl
-leads_in (a ∷ s) rest = both _ _ (alike a) (leads_in s rest)
-
-neither : (a b : Bool) → b ≡ false → a && b ≡ false
-neither true b h = h
-neither false b h = refl
-
-is_long : (s rest : List ℕ) → bytes_eq ((s ++ codes "/debug") ++ rest) (codes "/") ≡ false
-is_long [] rest = refl
-is_long (a ∷ []) rest = neither (a == 47) _ refl
-is_long (a ∷ b ∷ s) rest = neither (a == 47) _ refl
-
-profile_long : (s : List ℕ) → bytes_eq (s ++ codes "/debug") (codes "/") ≡ false
-profile_long [] = refl
-profile_long (a ∷ []) = neither (a == 47) _ refl
-profile_long (a ∷ b ∷ s) = neither (a == 47) _ refl
-
--- an output folder, letter by letter
-out_spelled : (target : List ℕ) (u : LibraryUnit) → out_of target u ≡ (stem target ++ codes "/debug") ++ 47 ∷ key_of u
-out_spelled target u = ap (λ b. (if b then [] else stem target ++ codes "/debug") ++ 47 ∷ key_of u) (profile_long (stem target))
-
--- what is at or below an output folder is at or below the target folder
-inside : (target : List ℕ) (u : LibraryUnit) (q : List ℕ) → is_at_or_below (out_of target u) q ≡ true → is_at_or_below target q ≡ true
-unfolding is_at_or_below is_below
-inside target u q h =
-    let out : List ℕ = (stem target ++ codes "/debug") ++ 47 ∷ key_of u in
-    let spelled : out_of target u ≡ out = out_spelled target u in
-    let here : bytes_eq out q || leads_below (stem out) q ≡ true = subst (λ (o : List ℕ). bytes_eq o q || leads_below (stem o) q ≡ true) spelled h in
-    let stays : stem out ≡ out = ap (λ b. if b then [] else out) (is_long (stem target) (47 ∷ key_of u)) in
-    elim (cases_Bool (bytes_eq out q)) [
-      | inl same ↦ let at : out ≡ q = same_path q out (sym (same_bytes out q) ∙ same) in
-          ap (λ b. bytes_eq target q || b) (subst (λ (p : List ℕ). leads_below (stem target) p ≡ true) at (leads_in (stem target) (47 ∷ key_of u))) ∙ or_true (bytes_eq target q)
-      | inr apart ↦ ap (λ b. bytes_eq target q || b) (below_both (stem target) out q (leads_in (stem target) (47 ∷ key_of u))
-          (ap (λ (s : List ℕ). leads_below s q) (sym stays) ∙ sym (ap (λ b. b || leads_below (stem out) q) apart) ∙ here)) ∙ or_true (bytes_eq target q)
-    ]
+-- an output folder is at or below the target folder
+out_within : (target : List ℕ) (u : LibraryUnit) → is_at_or_below target (out_of target u) ≡ true
+out_within target u = at_below target (out_of target u) (below_on target (below target (codes "debug")) (out_of target u) (goes_below target (codes "debug") (λ e. cc)) (goes_below (below target (codes "debug")) (key_of u) (some_key u.name)))
   where
-    or_true : (b : Bool) → b || true ≡ true
-    or_true true = refl
-    or_true false = refl
+    some_key : (name : List ℕ) → name ++ codes ".target.lib" ≢ []
+    some_key [] e = cc
+    some_key (b ∷ name) e = cc
 
 -- to empty an output folder takes nothing away from the sources
 sources_stay : (target : List ℕ) (u : LibraryUnit) (w : World) → from_nothing target (removed (out_of target u) w) ≡ from_nothing target w
-sources_stay target u w = ap (λ (m : Map). record { files = m; variables = w.variables }) (same_map nat_list_cmp_total exact _ _ (λ q.
-    get-kept _ _ q ∙ ap (λ o. cond (not (is_at_or_below target q)) o None) (get-kept w.files (λ p. not (is_at_or_below (out_of target u) p)) q)
-    ∙ once (is_at_or_below target q) (is_at_or_below (out_of target u) q) (get w.files q) (inside target u q) ∙ sym (get-kept w.files (λ p. not (is_at_or_below target p)) q)))
-  where
-    once : (t o : Bool) (x : Option (List ℕ)) → (o ≡ true → t ≡ true) → cond (not t) (cond (not o) x None) None ≡ cond (not t) x None
-    once true o x h = refl
-    once false true x h = absurd (false≢true (h refl))
-    once false false x h = refl
+sources_stay target u w = sources_stayed target (out_of target u) w (removed (out_of target u) w) (out_within target u) (only_removed (out_of target u) w (removed (out_of target u) w) refl)
 
 -- how a child ended
 ended_is : (reply : World → Reply) (c : Command) (old new : World) (e : Ended) → Ends reply c old e new → e ≡ ended_by (reply (seen_by c old))

@@ -8,8 +8,6 @@ pub mod hashing;
 pub mod items;
 pub mod mentions;
 pub mod table;
-#[cfg(test)]
-mod tests;
 pub mod text;
 
 pub use bytes::Bytes;

@@ -23,8 +23,3 @@ pub use fault::LineFault;
 pub use metadata::{add_dep_pairs, dep_pairs, underscored};
 pub use names::read_dep_info;
 pub use read::read_directives;
-
-#[cfg(test)]
-mod tests;
-#[cfg(test)]
-mod tests_metadata;

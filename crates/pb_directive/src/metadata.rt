@@ -1,6 +1,6 @@
 //! The metadata that a build script passes on.
 
-ghost use Rattle.std.specs.Prelude.{◌≡◌, IfOk, OnOk, string_bytes};
+ghost use Rattle.std.specs.Prelude.{◌≡◌, IfOk, string_bytes};
 ghost use Rattle.std.specs.Option.{option_map};
 ghost use Rattle.pb_data.specs.Table.{with_entries};
 ghost use Rattle.pb_directive.specs.Lines.{split_first};
@@ -54,24 +54,26 @@ fn dep_name(alloc: Global, links: &str, key: &str) -> Result<Text, AllocError>
     Ok(Text::new(name))
 }
 
-/// Adds the variables that the metadata of one more build script gives, in printed order, to those
-/// that are there: a later value takes the place of an earlier one, and a new name goes last. Their
-/// names are those of `dep_pairs`. The one fault is want of memory.
+/// The variables that are there, and those that the metadata of one more build script gives, in printed
+/// order: a later value takes the place of an earlier one, and a new name goes last. Their names are those
+/// of `dep_pairs`. It takes the table and gives it back, so that nobody sees one to which a part was added;
+/// the one fault is want of memory.
 pub fn add_dep_pairs(
     alloc: Global,
     links: &str,
     directives: &Directives,
-    pairs: &mut Table<Text>,
-) -> Result<(), AllocError>
-    ensures { OnOk result (pairs.new ≡ with_entries pairs.old (passed links.now directives.now)) }
+    pairs: Table<Text>,
+) -> Result<Table<Text>, AllocError>
+    ensures { IfOk result (λ after. after ≡ with_entries pairs (passed links.now directives.now)) }
 {
+    let mut after = pairs;
     for directive in directives.as_slice() {
         if let Directive::Metadata(key, value) = directive {
             let name = dep_name(alloc, links, key.as_str())?;
-            pairs.insert(name, value.copy(alloc)?)?;
+            after.insert(name, value.copy(alloc)?)?;
         }
     }
-    Ok(())
+    Ok(after)
 }
 
 /// The variables by which the metadata of one build script reaches the build scripts of the
@@ -88,7 +90,6 @@ pub fn dep_pairs(
 ) -> Result<Table<Text>, AllocError>
     ensures { IfOk result (λ pairs. pairs ≡ dep_pairs links.now directives.now) }
 {
-    let mut pairs = Table::new(alloc);
-    add_dep_pairs(alloc, links, directives, &mut pairs)?;
+    let pairs = add_dep_pairs(alloc, links, directives, Table::new(alloc))?;
     Ok(pairs)
 }

@@ -21,8 +21,6 @@ mod profile_values;
 mod shared_dependency;
 pub mod spelling;
 pub mod target;
-#[cfg(test)]
-mod tests;
 mod values;
 pub mod version;
 mod workspace;

@@ -1,6 +1,6 @@
 //! A compile: its source, its image and its reply.
 
-ghost use Rattle.std.specs.Prelude.{◌≡◌, ◌++◌, ◌∷◌, [], IfOk, OnOk, IfErr, ℕ, List};
+ghost use Rattle.std.specs.Prelude.{◌≡◌, ◌++◌, ◌∷◌, [], IfOk, OnOk, IfErr, IsTrue, ℕ, List};
 ghost use Rattle.pb_mini.specs.Effects.{joined, effects_in};
 ghost use Rattle.pb_mini.specs.Compile.{text_of, source_path, source_text, reads_of, effects_of, title, lines_text, image_text, status_of, files_of, replied, compiled};
 ghost use Rattle.pb_mini.specs.declared.effects.Effects.{Effects};
@@ -45,7 +45,7 @@ fn source_text<V: View>(
     path: &Option<PathText>,
     view: &V,
 ) -> Result<Option<Text>, ViewFault>
-    ensures text { IfOk result (λ text. text ≡ source_text path.now (V.shown view.now)) }
+    ensures text { IsTrue V.tells → IfOk result (λ text. text ≡ source_text path.now (V.shown view.now)) }
     ensures failed { IfErr result (λ e. e ≡ ViewFault.Failed → V.fails view.now) }
 {
     let Some(path) = path else {
@@ -82,7 +82,7 @@ fn add_source(alloc: Global, effects: &mut Effects, text: &Option<Text>) -> Resu
 
 /// All that a compile does.
 fn effects_of<V: View>(alloc: Global, line: &CommandLine, view: &V) -> Result<Effects, ViewFault>
-    ensures effects { IfOk result (λ effects. effects ≡ effects_of line.now (V.shown view.now)) }
+    ensures effects { IsTrue V.tells → IfOk result (λ effects. effects ≡ effects_of line.now (V.shown view.now)) }
     ensures failed { IfErr result (λ e. e ≡ ViewFault.Failed → V.fails view.now) }
 {
     let path = source_path(alloc, line.source.as_str())?;
@@ -172,7 +172,7 @@ pub(crate) fn compile<V: View>(
     line: &CommandLine,
     view: &V,
 ) -> Result<Reply, ViewFault>
-    ensures reply { IfOk result (λ reply. reply ≡ compiled line.now (V.shown view.now)) }
+    ensures reply { IsTrue V.tells → IfOk result (λ reply. reply ≡ compiled line.now (V.shown view.now)) }
     ensures failed { IfErr result (λ e. e ≡ ViewFault.Failed → V.fails view.now) }
 {
     let effects = effects_of(alloc, line, view)?;

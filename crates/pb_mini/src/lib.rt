@@ -11,10 +11,3 @@ pub mod laws;
 pub mod mini;
 
 pub use mini::{Mini, answer};
-
-#[cfg(test)]
-mod tests;
-#[cfg(test)]
-mod tests_command_line;
-#[cfg(test)]
-mod tests_view;

@@ -1,6 +1,6 @@
 //! The small compiler's answer to any words.
 
-ghost use Rattle.std.specs.Prelude.{◌≡◌, [], IfOk, IfErr};
+ghost use Rattle.std.specs.Prelude.{◌≡◌, [], IfOk, IfErr, IsTrue};
 ghost use Rattle.pb_mini.specs.Answer.{asks_version, version, bad_command_line, answered};
 
 use crate::command_line::{CommandLineFault, command_line_of};
@@ -65,7 +65,8 @@ fn bad_command_line(alloc: Global) -> Result<Reply, AllocError>
 ///
 /// `pairs` are names and values that go over the variables of the view. Of neither does a compile read any yet.
 ///
-/// OutOfMemory where memory is refused, and Failed where the view fails: a failure is only passed on.
+/// OutOfMemory where memory is refused, and Failed where the view fails: a failure is only passed on. Over a view
+/// that does not tell what it shows, as one of real files, nothing is said of the reply.
 ///
 /// The words are those that Cargo passes to a compiler; the language of the source is our own choice.
 pub fn answer<V: View>(
@@ -74,7 +75,7 @@ pub fn answer<V: View>(
     pairs: &[(Text, Text)],
     view: &V,
 ) -> Result<Reply, ViewFault>
-    ensures reply { IfOk result (λ reply. reply ≡ answered words.now pairs.now (V.shown view.now)) }
+    ensures reply { IsTrue V.tells → IfOk result (λ reply. reply ≡ answered words.now pairs.now (V.shown view.now)) }
     ensures failed { IfErr result (λ e. e ≡ ViewFault.Failed → V.fails view.now) }
 {
     let _ = pairs;

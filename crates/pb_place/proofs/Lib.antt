@@ -1,5 +1,9 @@
-pub mod CallLemmas
+pub mod Changes
+pub mod Failing
+pub mod Folders
 pub mod MapLemmas
 pub mod PathLemmas
+pub mod TakenApart
+pub mod Within
 pub mod Worlds
 pub mod Wholes

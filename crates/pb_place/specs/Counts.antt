@@ -1,15 +1,22 @@
--- How the calls of a place are counted: each counter stays at the greatest number of 64 bits.
-use Rattle.std.specs.Prelude.{ℕ, ◌+◌, ◌==◌, min, if◌then◌else◌, Result, Ok, Err}
+-- How the calls of a place are counted, and which fault came last. Each counter stays at the greatest number of 64 bits.
+use Rattle.std.specs.Prelude.{ℕ, ◌+◌, ◌==◌, min, if◌then◌else◌, Option, Some, None, Result, Ok, Err}
 use Rattle.pb_place.specs.declared.place.PlaceFault.{PlaceFault}
 use Rattle.pb_place.specs.declared.place.PlaceFault.TheVariants.{OutOfMemory}
+use Rattle.pb_place.specs.declared.place.Failure.{Failure}
+use Rattle.pb_place.specs.declared.place.Failure.TheVariants.{Called, Started}
 use Rattle.pb_place.specs.declared.place.StartFault.{StartFault}
 use Rattle.pb_place.specs.declared.place.StartFault.TheVariants as start
 
--- calls that failed, calls of `start`, and calls since the last that failed
+-- calls that failed, calls of `start`, calls since the last that failed, and the fault of that one
 pub record Counts : Type 0 where
   pub failures : ℕ
   pub starts : ℕ
   pub late : ℕ
+  pub last : Option Failure
+
+-- where no call was made
+abbrev pub no_calls : Counts
+no_calls = record { failures = 0; starts = 0; late = 0; last = None }
 
 -- one more, or the greatest number of 64 bits
 abbrev pub up : ℕ → ℕ
@@ -20,13 +27,13 @@ abbrev pub past_call : Counts → Counts
 past_call c = record c { late = if c.failures == 0 then 0 else up c.late }
 
 -- after a call that failed
-abbrev pub past_fault : Counts → Counts
-past_fault c = record c { failures = up c.failures; late = 0 }
+abbrev pub past_fault : Failure → Counts → Counts
+past_fault f c = record c { failures = up c.failures; late = 0; last = Some f }
 
 -- want of memory is no failure of the outside
 abbrev pub past_place_fault : PlaceFault → Counts → Counts
 past_place_fault OutOfMemory c = past_call c
-past_place_fault _ c = past_fault c
+past_place_fault e c = past_fault (Called e) c
 
 abbrev pub counted : {T : Type 0} → Result T PlaceFault → Counts → Counts
 counted (Ok x) c = past_call c
@@ -38,7 +45,7 @@ one_start c = record c { starts = up c.starts }
 
 abbrev pub past_start_fault : StartFault → Counts → Counts
 past_start_fault start.OutOfMemory c = past_call c
-past_start_fault _ c = past_fault c
+past_start_fault e c = past_fault (Started e) c
 
 abbrev pub counted_start : {T : Type 0} → Result T StartFault → Counts → Counts
 counted_start (Ok x) c = past_call (one_start c)

@@ -1,7 +1,11 @@
 pub use Rattle.pb_data.specs.Gives
-pub mod Calls
+pub mod Changes
 pub mod Counts
+pub mod Failing
+pub mod Folders
 pub mod Memory
 pub mod Paths
+pub mod Private
 pub mod Sinks
+pub mod Within
 pub mod World

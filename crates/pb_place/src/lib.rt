@@ -1,26 +1,31 @@
 //! The outside world: paths, places of files, variables and children, and sinks.
 #![tactic(auto)]
 
-pub mod calls;
 pub mod child;
 pub mod command;
 pub mod files;
+pub mod host_view;
+pub mod laws;
 pub mod memory;
 pub mod path;
 pub mod place;
 pub mod relative;
 pub mod sink;
-#[cfg(test)]
-mod tests;
+pub mod taken_apart;
 pub mod whole;
 
-pub use calls::{FileCall, last_call_stands, perform};
 pub use child::{Child, Reply, View, ViewFault};
 pub use command::{Command, Ended};
 pub use files::{FileMap, TextMap};
+pub use host_view::HostView;
+pub use laws::{
+    changes_stay_in_folders, children_see_sources_and_folders, failing_calls_are_told,
+    failing_calls_spare, folders_nest, last_word_stands, maps_look_up, parsing_keeps_paths,
+    paths_join_again,
+};
 pub use memory::Memory;
-pub use path::{PathFault, PathText, parsing_keeps_paths};
-pub use place::{Place, PlaceFault, StartFault};
+pub use path::{PathFault, PathText};
+pub use place::{Failure, Place, PlaceFault, StartFault};
 pub use relative::RelativePath;
 pub use sink::{Out, Over};
 pub use whole::write_all;

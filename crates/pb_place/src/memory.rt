@@ -5,7 +5,7 @@ ghost use Rattle.std.specs.List.{list_any};
 ghost use Rattle.std.specs.FinMap as map;
 ghost use Rattle.pb_place.specs.Paths.{is_below, is_at_or_below};
 ghost use Rattle.pb_place.specs.World.{World, is_shown, seen_by, written, removed, put_files, AgreeBut};
-ghost use Rattle.pb_place.specs.Counts.{Counts, past_call, one_start};
+ghost use Rattle.pb_place.specs.Counts.{Counts, past_call, one_start, no_calls};
 ghost use Rattle.pb_place.specs.Memory.{Held, counts_of, set, unset};
 
 use crate::child::{Child, View, ViewFault};
@@ -143,7 +143,7 @@ impl<C> Model for Memory<C> {
 impl<C> Memory<C> {
     /// A place with no file and no variable, whose child is the one given. It takes no memory.
     pub fn new(alloc: Global, child: C) -> Memory<C>
-        ensures { result ≡ record { world = record { files = map.empty; variables = map.empty }; counts = record { failures = 0; starts = 0; late = 0 } } }
+        ensures { result ≡ record { world = record { files = map.empty; variables = map.empty }; counts = no_calls } }
     {
         Memory {
             files: FileMap::new(alloc),

@@ -53,6 +53,15 @@ pub enum StartFault {
     OutOfMemory,
 }
 
+/// What the outside answered to a call that failed. Want of memory is no failure of the outside.
+#[derive(Clone, Copy, Debug, PartialEq, Eq)]
+pub enum Failure {
+    /// A call on files or variables failed.
+    Called(PlaceFault),
+    /// A child could not be started, or gave no answer.
+    Started(StartFault),
+}
+
 impl From<AllocError> for PlaceFault {
     ghost from_gives = { λ _ e. e ≡ place_fault.OutOfMemory };
 
@@ -100,7 +109,8 @@ pub trait Place {
     /// The child: a member of the type, so no call can change it.
     ghost child: { Answers };
 
-    /// The counters.
+    /// The counters, and the fault of the last call that failed: so each failing call sets it to the very fault
+    /// that it answers.
     ghost counts: { Self → Counts };
 
     /// Whether a call may fail for another reason than want of memory.

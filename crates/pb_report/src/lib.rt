@@ -4,8 +4,6 @@
 pub mod fault;
 pub mod line;
 pub mod summary;
-#[cfg(test)]
-mod tests;
 
 pub use fault::{BuildFault, LoadFault, PlanFault, Refusal};
 pub use line::result_line;

@@ -6,8 +6,6 @@ pub mod laws;
 pub mod options;
 pub mod session;
 pub mod step;
-#[cfg(test)]
-mod tests;
 pub mod value;
 
 pub use fault::BadSession;

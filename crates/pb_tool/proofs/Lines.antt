@@ -2,6 +2,7 @@
 use Rattle.std.proofs.Common.{◌≡◌, ℕ, List, [], Option, Ok, subst}
 use Rattle.std.specs.FinMap as map
 use Rattle.std.specs.Io.KnownBytes.{Appends}
+use Rattle.pb_place.specs.Counts.{no_calls}
 use Rattle.pb_place.specs.Memory.{Held}
 use Rattle.pb_session.specs.Sessions.{session_of}
 use Rattle.pb_session.specs.declared.step.SessionStep.{SessionStep}
@@ -11,7 +12,7 @@ use Rattle.pb_tool.specs.Session.{SessionWritten, small_compiler, lines_of}
 
 pub session_written : (bytes : List ℕ) (read steps : List SessionStep) (first last : Held) (old mid new : Option (List ℕ)) (answers told : List Answer)
     → session_of bytes ≡ Ok read → steps ≡ read
-    → first ≡ record { world = record { files = map.empty; variables = map.empty }; counts = record { failures = 0; starts = 0; late = 0 } }
+    → first ≡ record { world = record { files = map.empty; variables = map.empty }; counts = no_calls }
     → Course small_compiler steps (moment first old []) (moment last mid answers) → told ≡ answers → Appends mid new (lines_of told) → SessionWritten bytes old new
 session_written bytes read steps first last old mid new answers told is_read is_steps is_first course is_told appends = (
   read,

@@ -1,11 +1,9 @@
 //! The session program and its command line, against worked examples.
 
 mod builds;
-mod definitions;
-mod examples;
 mod failing;
-mod plain;
 mod refusals;
+mod worked;
 
 use crate::command_line::session_file;
 use crate::session::run_session;
@@ -36,6 +34,15 @@ const ERROR: &str =
 
 const NOT_FINISHED: &str = "{\"reason\":\"build-finished\",\"success\":false}\n";
 
+/// The texts one after another.
+fn joined(alloc: Global, texts: &[&str]) -> Result<String, Fail> {
+    let mut all = String::new(alloc);
+    for text in texts {
+        all.push_str(*text)?;
+    }
+    Ok(all)
+}
+
 /// Runs a session into sinks that take all, and compares the status and what was written.
 fn gives(
     rt: &impl Abort,
@@ -53,10 +60,7 @@ fn gives(
         &mut Over::new(&mut out),
         &mut Over::new(&mut err),
     );
-    let mut want = String::new(alloc);
-    for line in lines {
-        want.push_str(*line)?;
-    }
+    let want = joined(alloc, lines)?;
     assert_eq!(rt; answer, status, "{session}");
     assert!(rt; out.as_slice() == want.as_bytes(), "{session}");
     assert!(rt; err.as_slice() == said.as_bytes(), "{session}");

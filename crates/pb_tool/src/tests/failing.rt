@@ -1,6 +1,6 @@
-//! Each example session over sinks that take all, a little at a time, or fail.
+//! Sessions over sinks that take all, a little at a time, or fail.
 
-use super::examples::EXAMPLES;
+use super::{ARTIFACT, ERROR, FAILS, FINISHED, NOT_FINISHED, ONE_LIBRARY, WARNING, WARNS, joined};
 use crate::session::run_session;
 use pb_place::Over;
 use std::alloc::Global;
@@ -200,61 +200,96 @@ fn around(alloc: Global, printed: &str, room: usize) -> Result<Outcome, Fail> {
 }
 
 /// A sink that takes few bytes of each write gets the right output.
-fn takes_little(
-    rt: &impl Abort,
-    alloc: Global,
-    name: &str,
-    session: &str,
-    printed: &str,
-) -> Result<(), Fail> {
+fn takes_little(rt: &impl Abort, alloc: Global, session: &str, printed: &str) -> Result<(), Fail> {
     for most in [usize::MAX, 1, 7] {
         let outcome = outcome_over(alloc, session, most, None);
         let wanted = good(alloc, printed.as_bytes())?;
-        assert!(rt; outcome == wanted, "{name} by {most}");
+        assert!(rt; outcome == wanted, "{session} by {most}");
     }
     Ok(())
 }
 
 /// A sink that takes so many bytes and then none gets the first of the right output, and the session is told
 /// to be bad.
-fn is_cut_short(
-    rt: &impl Abort,
-    alloc: Global,
-    name: &str,
-    session: &str,
-    printed: &str,
-) -> Result<(), Fail> {
+fn is_cut_short(rt: &impl Abort, alloc: Global, session: &str, printed: &str) -> Result<(), Fail> {
     for room in 0..printed.len() {
         let outcome = outcome_with_room(alloc, session, room)?;
         let wanted = cut(alloc, printed, room)?;
-        assert!(rt; outcome == wanted, "{name} cut at {room}");
+        assert!(rt; outcome == wanted, "{session} cut at {room}");
     }
     Ok(())
 }
 
 /// A sink that fails once gets what it should, at whichever byte it fails.
-fn fails_once(
-    rt: &impl Abort,
-    alloc: Global,
-    name: &str,
-    session: &str,
-    printed: &str,
-) -> Result<(), Fail> {
+fn fails_once(rt: &impl Abort, alloc: Global, session: &str, printed: &str) -> Result<(), Fail> {
     for room in 0..printed.len() {
         let outcome = outcome_over(alloc, session, usize::MAX, Some(room));
         let wanted = around(alloc, printed, room)?;
-        assert!(rt; outcome == wanted, "{name} fails at {room}");
+        assert!(rt; outcome == wanted, "{session} fails at {room}");
     }
     Ok(())
 }
 
+/// A library that is broken, built, repaired and built again.
+const REPAIRED: &str =
+    r#"[{"write":["/w/Cargo.toml","[package]\nname = \"a\"\nversion = \"0.1.0\"\nedition = \"2021\"\n"]},{"write":["/w/src/lib.rs","fail no\n"]},{"build":{}},{"write":["/w/src/lib.rs",""]},{"build":{}}]"#;
+
+/// Builds that are refused before and after one that is not.
+const REFUSED: &str =
+    r#"[{"build":{}},{"write":["/w/Cargo.toml","[package]\nname = \"a\"\nversion = \"0.1.0\"\nedition = \"2021\"\n"]},{"write":["/w/src/lib.rs",""]},{"build":{}},{"remove":"/w/src"},{"build":{}},{"write":["/w/src/lib.rs",""]},{"build":{}}]"#;
+
+/// Sessions and the lines that they print, those of builds and then the result lines.
+const CASES: [(&str, &[&str]); 5] = [
+    (
+        ONE_LIBRARY,
+        &[ARTIFACT, FINISHED, "ok started=a.target.lib\n"],
+    ),
+    (
+        WARNS,
+        &[WARNING, ARTIFACT, FINISHED, "ok started=a.target.lib\n"],
+    ),
+    (
+        FAILS,
+        &[
+            ERROR,
+            NOT_FINISHED,
+            "bad a.target.lib Status(1) started=a.target.lib\n",
+        ],
+    ),
+    (
+        REPAIRED,
+        &[
+            ERROR,
+            NOT_FINISHED,
+            ARTIFACT,
+            FINISHED,
+            "bad a.target.lib Status(1) started=a.target.lib\n",
+            "ok started=a.target.lib\n",
+        ],
+    ),
+    (
+        REFUSED,
+        &[
+            ARTIFACT,
+            FINISHED,
+            ARTIFACT,
+            FINISHED,
+            "refused NoManifest\n",
+            "ok started=a.target.lib\n",
+            "refused NothingToBuild\n",
+            "ok started=a.target.lib\n",
+        ],
+    ),
+];
+
 #[test]
-fn examples(rt: HostRuntime) -> Result<(), Fail> {
+fn sinks_at_each_byte(rt: HostRuntime) -> Result<(), Fail> {
     let alloc = rt.alloc();
-    for (name, session, printed) in EXAMPLES {
-        takes_little(&rt, alloc, name, session, printed)?;
-        is_cut_short(&rt, alloc, name, session, printed)?;
-        fails_once(&rt, alloc, name, session, printed)?;
+    for (session, lines) in CASES {
+        let printed = joined(alloc, lines)?;
+        takes_little(&rt, alloc, session, printed.as_str())?;
+        is_cut_short(&rt, alloc, session, printed.as_str())?;
+        fails_once(&rt, alloc, session, printed.as_str())?;
     }
     Ok(())
 }

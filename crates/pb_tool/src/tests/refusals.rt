@@ -1,6 +1,6 @@
 //! What a build of one library refuses, each once.
 
-use super::gives;
+use super::{gives, joined};
 use std::alloc::Global;
 use std::process::Abort;
 use std::test::Fail;
@@ -8,15 +8,6 @@ use std::test::Fail;
 const MANIFEST: &str = r#"{"write":["/w/Cargo.toml","[package]\nname = \"a\"\n"]}"#;
 
 const LIBRARY: &str = r#"{"write":["/w/src/lib.rs",""]}"#;
-
-/// The texts one after another.
-fn joined(alloc: Global, texts: &[&str]) -> Result<String, Fail> {
-    let mut all = String::new(alloc);
-    for text in texts {
-        all.push_str(*text)?;
-    }
-    Ok(all)
-}
 
 /// Steps in JSON that write the root manifest, whose text is given as JSON spells it, and a library.
 fn with_library(alloc: Global, manifest: &str) -> Result<String, Fail> {

@@ -4,4 +4,4 @@ use Rattle.pb_directive.specs.Metadata.{passed}
 use Rattle.pb_directive.proofs.metadata.add_dep_pairs.Given as goal
 
 abbrev pub invariant-loop-directive : goal.invariant-loop-directive
-invariant-loop-directive l = with_entries l.pairs (passed l.links (drop l.directive-index l.directive-items)) ≡ with_entries l.initial.pairs (passed l.links l.directive-items)
+invariant-loop-directive l = with_entries l.after (passed l.links (drop l.directive-index l.directive-items)) ≡ with_entries l.fn.pairs (passed l.links l.directive-items)

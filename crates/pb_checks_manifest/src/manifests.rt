@@ -1,0 +1,172 @@
+//! The reader on tables of manifests and at the size limit, the letters of names, versions, and
+//! faults in words.
+
+mod cases;
+mod show;
+
+use cases::CASES;
+use pb_data::Text;
+use pb_manifest::letters::{has_zero, is_crate_name, is_feature_name, is_name};
+use pb_manifest::{Key, ManifestFault, Requirement, Version, read_manifest};
+use show::shown;
+use std::alloc::Global;
+use std::process::Abort;
+use std::test::Fail;
+
+/// Asserts the answers to the manifests of a table, of which there are at least 25.
+fn expect_answers(rt: &impl Abort, alloc: Global, cases: &str) -> Result<(), Fail> {
+    let mut count = 0usize;
+    for case in cases.split("=== ") {
+        let Some((want, manifest)) = case.split_once('\n') else {
+            continue;
+        };
+        let answer = shown(alloc, &read_manifest(alloc, manifest.as_bytes()))?;
+        assert_eq!(rt; answer.as_str(), want, "{manifest}");
+        count = count.saturating_add(1);
+    }
+    assert!(rt; count >= 25);
+    Ok(())
+}
+
+#[test]
+fn manifests(rt: HostRuntime) -> Result<(), Fail> {
+    for cases in CASES {
+        expect_answers(&rt, rt.alloc(), cases)?;
+    }
+    Ok(())
+}
+
+/// The answer to as many line feeds.
+fn answer_to_blank(alloc: Global, length: usize) -> Result<String, Fail> {
+    let mut bytes = Vec::new(alloc);
+    for _ in 0..length {
+        bytes.push(b'\n')?;
+    }
+    shown(alloc, &read_manifest(alloc, bytes.as_slice()))
+}
+
+#[test]
+fn sizes(rt: HostRuntime) -> Result<(), Fail> {
+    for (length, want) in [(1_048_576, "BadKind(Package)"), (1_048_577, "TooLarge")] {
+        let answer = answer_to_blank(rt.alloc(), length)?;
+        assert_eq!(rt; answer.as_str(), want);
+    }
+    Ok(())
+}
+
+#[test]
+fn bytes_that_are_no_text(rt: HostRuntime) {
+    for bytes in [b"name = \"\xff\"".as_slice(), b"\x00", b"\xef\xbb"] {
+        let answer = read_manifest(rt.alloc(), bytes);
+        assert!(rt; answer.is_err_and(|fault| fault == ManifestFault::NotToml));
+    }
+}
+
+/// Texts, and whether each has the letters of a package's, a crate's and a feature's name.
+const LETTERS: [(&str, bool, bool, bool); 36] = [
+    ("a", true, true, true),
+    ("z", true, true, true),
+    ("A", true, true, true),
+    ("Z", true, true, true),
+    ("0", true, true, true),
+    ("9", true, true, true),
+    ("_", true, true, true),
+    ("-", true, false, false),
+    ("+", false, false, false),
+    (".", false, false, false),
+    ("@", false, false, false),
+    ("[", false, false, false),
+    ("`", false, false, false),
+    ("{", false, false, false),
+    ("/", false, false, false),
+    (":", false, false, false),
+    (" ", false, false, false),
+    ("\0", false, false, false),
+    ("\u{e9}", false, false, false),
+    ("", false, false, false),
+    ("az", true, true, true),
+    ("AZ", true, true, true),
+    ("09", true, true, true),
+    ("a_", true, true, true),
+    ("a-", true, false, true),
+    ("a+", false, false, true),
+    ("a.", false, false, true),
+    ("a@", false, false, false),
+    ("a[", false, false, false),
+    ("a`", false, false, false),
+    ("a{", false, false, false),
+    ("a/", false, false, false),
+    ("a:", false, false, false),
+    ("a ", false, false, false),
+    ("a\0", false, false, false),
+    ("a\u{e9}", false, false, false),
+];
+
+#[test]
+fn letters(rt: HostRuntime) {
+    for (text, package, library, feature) in LETTERS {
+        assert_eq!(rt; is_name(text), package, "{text}");
+        assert_eq!(rt; is_crate_name(text), library, "{text}");
+        assert_eq!(rt; is_feature_name(text), feature, "{text}");
+    }
+}
+
+#[test]
+fn byte_zero(rt: HostRuntime) {
+    for text in ["\0", "a\0", "\0a"] {
+        assert!(rt; has_zero(text));
+    }
+    for text in ["", "0", "a\u{1}"] {
+        assert!(rt; !has_zero(text));
+    }
+}
+
+#[test]
+fn versions(rt: HostRuntime) -> Result<(), Fail> {
+    let version = Version::read(rt.alloc(), Text::from_str(rt.alloc(), "1.2.3")?)?;
+    assert_eq!(rt; version.number().minor, 2);
+    Ok(())
+}
+
+#[test]
+fn requirements(rt: HostRuntime) -> Result<(), Fail> {
+    let requirement = Requirement::read(rt.alloc(), Text::from_str(rt.alloc(), ">=1, <2")?)?;
+    assert_eq!(rt; requirement.parsed().comparators.len(), 2);
+    Ok(())
+}
+
+#[test]
+fn faults_in_words(rt: HostRuntime) -> Result<(), Fail> {
+    for (fault, want) in [
+        (ManifestFault::NotToml, "the manifest is not TOML"),
+        (
+            ManifestFault::BadKind(Key::CodegenUnits),
+            "`codegen-units` has a value that it may not have",
+        ),
+        (
+            ManifestFault::BadName,
+            "a name is missing or has letters that it may not have",
+        ),
+        (
+            ManifestFault::BadVersion,
+            "a version or a version requirement cannot be read",
+        ),
+        (ManifestFault::UnsupportedTable, "a table is not supported"),
+        (
+            ManifestFault::UnsupportedSource,
+            "a dependency has a source that is not supported",
+        ),
+        (
+            ManifestFault::UnsupportedCrateType,
+            "a crate type is not supported",
+        ),
+        (ManifestFault::BadProfile, "a profile cannot be read"),
+        (ManifestFault::BadFeature, "a feature cannot be read"),
+        (ManifestFault::TooLarge, "the manifest is too large"),
+        (ManifestFault::OldResolver, "resolver 1 is not supported"),
+    ] {
+        let words = format!(in rt.alloc(); "{fault}")?;
+        assert_eq!(rt; words.as_str(), want);
+    }
+    Ok(())
+}

@@ -1,0 +1,252 @@
+//! Worked compiles with their bytes.
+
+use super::views::{Broken, Files};
+use pb_data::{Bytes, Items, Text};
+use pb_mini::laws::{is_honest, tells_names};
+use pb_mini::{Mini, answer};
+use pb_place::{Child, Command, PathText, Reply, View, ViewFault};
+use std::alloc::{AllocError, Global};
+use std::process::Abort;
+use std::test::Fail;
+
+/// Words of a compile of `/w/src/lib.rs` in the order of a whole build, with a bar between them. The first ten say
+/// all that is needed.
+const WORDS: &str =
+    "--crate-name|a|--edition=2021|/w/src/lib.rs|--error-format=json|--crate-type|lib|--emit=dep-info,link|--out-dir|/w/target/debug/a.target.lib|-C|opt-level=0|-C|debuginfo=2|-C|debug-assertions=on|-C|overflow-checks=on|-C|codegen-units=256|-C|panic=unwind|--check-cfg|cfg(feature, values())";
+
+/// The dep-info of `WORDS`.
+const DEP_INFO: &str = "/w/target/debug/a.target.lib/liba.rlib: /w/src/lib.rs\n";
+
+/// The words between the bars of a text; the empty text has none.
+fn words_of(alloc: Global, text: &str) -> Result<Items<Text>, AllocError> {
+    let mut words = Items::new(alloc);
+    if text.is_empty() {
+        return Ok(words);
+    }
+    for word in text.split('|') {
+        words.push(Text::from_str(alloc, word)?)?;
+    }
+    Ok(words)
+}
+
+/// A view of one file.
+fn one_file(alloc: Global, path: &str, bytes: &[u8]) -> Result<Files, AllocError> {
+    let mut inside = Items::new(alloc);
+    inside.push((
+        Text::from_str(alloc, path)?,
+        Bytes::from_slice(alloc, bytes)?,
+    ))?;
+    Ok(Files { inside })
+}
+
+/// The answer to words where one file is shown.
+pub fn answer_to(
+    alloc: Global,
+    words: &str,
+    path: &str,
+    source: &[u8],
+) -> Result<Reply, ViewFault> {
+    let words = words_of(alloc, words)?;
+    let view = one_file(alloc, path, source)?;
+    answer(alloc, words.as_slice(), &[], &view)
+}
+
+/// Asserts what a reply has.
+pub fn assert_reply(
+    rt: &impl Abort,
+    reply: &Reply,
+    status: i32,
+    stdout: &str,
+    stderr: &str,
+    files: &[(&str, &str)],
+) {
+    assert_eq!(rt; reply.status, status, "{stderr}");
+    assert_eq!(rt; reply.stdout.as_slice(), stdout.as_bytes(), "{stderr}");
+    assert_eq!(rt; reply.stderr.as_slice(), stderr.as_bytes(), "{stderr}");
+    assert_eq!(rt; reply.files.len(), files.len(), "{stderr}");
+    for (file, wanted) in reply.files.as_slice().iter().zip(files) {
+        assert_eq!(rt; file.0.as_str(), wanted.0);
+        assert_eq!(rt; file.1.as_slice(), wanted.1.as_bytes(), "{stderr}");
+    }
+}
+
+/// Sources of `WORDS`: the bytes, the status, the standard error, and the image of a good one.
+const SOURCES: [(&[u8], i32, &str, &str); 18] = [
+    (b"", 0, "", "mini lib a\n"),
+    (b"print x", 0, "", "mini lib a\nprint x\n"),
+    (b"print y\n", 0, "", "mini lib a\nprint y\n"),
+    (
+        b"warn old",
+        0,
+        "{\"level\":\"warning\",\"message\":\"old\",\"line\":1}\n",
+        "mini lib a\n",
+    ),
+    (
+        b"fail no",
+        1,
+        "{\"level\":\"error\",\"message\":\"no\",\"line\":1}\n",
+        "",
+    ),
+    (b"# warn x\n\n#\n", 0, "", "mini lib a\n"),
+    (
+        b"show A\nread b c\nput d  e\nexit 3\nprint\n",
+        0,
+        "",
+        "mini lib a\nshow A\nread b c\nput d  e\nexit 3\nprint\n",
+    ),
+    (
+        b"\n#\nwarn\n\nprint x\r\nwarn  y ",
+        0,
+        "{\"level\":\"warning\",\"message\":\"\",\"line\":3}\n{\"level\":\"warning\",\"message\":\" y \",\"line\":6}\n",
+        "mini lib a\nprint x\r\n",
+    ),
+    (
+        b"warn a\nfail b\nwarn c",
+        1,
+        "{\"level\":\"warning\",\"message\":\"a\",\"line\":1}\n{\"level\":\"error\",\"message\":\"b\",\"line\":2}\n{\"level\":\"warning\",\"message\":\"c\",\"line\":3}\n",
+        "",
+    ),
+    (
+        b" warn x",
+        1,
+        "{\"level\":\"error\",\"message\":\"unknown line\",\"line\":1}\n",
+        "",
+    ),
+    (
+        b"print x\nWarn x",
+        1,
+        "{\"level\":\"error\",\"message\":\"unknown line\",\"line\":2}\n",
+        "",
+    ),
+    (
+        b"printx",
+        1,
+        "{\"level\":\"error\",\"message\":\"unknown line\",\"line\":1}\n",
+        "",
+    ),
+    (
+        b"print\tx",
+        1,
+        "{\"level\":\"error\",\"message\":\"unknown line\",\"line\":1}\n",
+        "",
+    ),
+    (
+        b"#\n#\n#\n#\n#\n#\n#\n#\n#\n#\n#\nwarn #x",
+        0,
+        "{\"level\":\"warning\",\"message\":\"#x\",\"line\":12}\n",
+        "mini lib a\n",
+    ),
+    (
+        b"\r\n",
+        1,
+        "{\"level\":\"error\",\"message\":\"unknown line\",\"line\":1}\n",
+        "",
+    ),
+    (
+        b"warn a\"b\\c\td\x01",
+        0,
+        "{\"level\":\"warning\",\"message\":\"a\\\"b\\\\c\\td\\u0001\",\"line\":1}\n",
+        "mini lib a\n",
+    ),
+    (
+        b"warn \xc3\xa9",
+        0,
+        "{\"level\":\"warning\",\"message\":\"\u{e9}\",\"line\":1}\n",
+        "mini lib a\n",
+    ),
+    (
+        b"warn \xc3",
+        1,
+        "{\"level\":\"error\",\"message\":\"no source\",\"line\":0}\n",
+        "",
+    ),
+];
+
+#[test]
+fn sources(rt: HostRuntime) -> Result<(), Fail> {
+    for (source, status, stderr, image) in SOURCES {
+        let reply = answer_to(rt.alloc(), WORDS, "/w/src/lib.rs", source)?;
+        if status == 0 {
+            assert_reply(
+                &rt,
+                &reply,
+                0,
+                "",
+                stderr,
+                &[("liba.rlib", image), ("a.d", DEP_INFO)],
+            );
+        } else {
+            assert_reply(&rt, &reply, 1, "", stderr, &[("a.d", DEP_INFO)]);
+        }
+    }
+    Ok(())
+}
+
+#[test]
+fn prefixes(rt: HostRuntime) -> Result<(), Fail> {
+    let alloc = rt.alloc();
+    let words = words_of(alloc, WORDS)?;
+    let words = words.as_slice();
+    let view = one_file(alloc, "/w/src/lib.rs", b"")?;
+    assert_eq!(rt; words.len(), 24);
+    for count in 0..words.len() {
+        let reply = answer(alloc, &words[..count], &[], &view)?;
+        let whole = 10 <= count && count % 2 == 0;
+        assert_eq!(rt; reply.status, if whole { 0 } else { 2 }, "{count} words");
+    }
+    let source = b"warn \xc3\xa9\n\nput a b\n# c\nfail d\n";
+    for count in 0..source.len() {
+        let reply = answer_to(alloc, WORDS, "/w/src/lib.rs", &source[..count])?;
+        let Some(last) = reply.files.as_slice().last() else {
+            return Err("no file")?;
+        };
+        assert_eq!(rt; last.0.as_str(), "a.d", "{count} bytes");
+        assert!(rt; reply.status == 0 || reply.status == 1, "{count} bytes");
+    }
+    Ok(())
+}
+
+/// The reply of any child to a compile of `/s` into `/o`.
+fn reply_of<C: Child, V: View>(alloc: Global, child: &C, view: &V) -> Result<Reply, ViewFault> {
+    let command = Command {
+        program: Text::from_str(alloc, "mini")?,
+        words: words_of(alloc, "--crate-name|a|--crate-type|lib|--out-dir|/o|/s")?,
+        folder: root(alloc)?,
+        pairs: Items::new(alloc),
+        out: None,
+        target: root(alloc)?,
+        toolchain: Bytes::new(Vec::new(alloc)),
+        reads: Items::new(alloc),
+    };
+    child.reply(alloc, &command, view)
+}
+
+/// The root as a path.
+fn root(alloc: Global) -> Result<PathText, ViewFault> {
+    match PathText::parse(alloc, "/") {
+        Ok(path) => Ok(path),
+        Err(_) => Err(ViewFault::OutOfMemory),
+    }
+}
+
+#[test]
+fn child(rt: HostRuntime) -> Result<(), Fail> {
+    let view = one_file(rt.alloc(), "/s", b"warn w")?;
+    let reply = reply_of(rt.alloc(), &Mini, &view)?;
+    let stderr = "{\"level\":\"warning\",\"message\":\"w\",\"line\":1}\n";
+    assert_reply(
+        &rt,
+        &reply,
+        0,
+        "",
+        stderr,
+        &[("liba.rlib", "mini lib a\n"), ("a.d", "/o/liba.rlib: /s\n")],
+    );
+    let Err(fault) = reply_of(rt.alloc(), &Mini, &Broken) else {
+        return Err("a view that fails has an answer")?;
+    };
+    assert_eq!(rt; fault, ViewFault::Failed);
+    is_honest();
+    tells_names();
+    Ok(())
+}

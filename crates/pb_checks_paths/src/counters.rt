@@ -1,0 +1,157 @@
+//! How the calls of a place are counted, by worked cases.
+
+ghost use Rattle.std.specs.Prelude.{◌≡◌, ◌==◌, Some, if◌then◌else◌};
+ghost use Rattle.pb_place.specs.Counts.{up, counted, counted_start};
+
+use pb_place::{Failure, PlaceFault, StartFault};
+
+/// The three counters of a place, and its last fault.
+#[derive(Clone, Copy, Debug, PartialEq, Eq)]
+struct Counters {
+    failures: u64,
+    starts: u64,
+    late: u64,
+    last: Option<Failure>,
+}
+
+/// The counters after a call that did not fail.
+fn past_call(before: Counters) -> Counters
+    ensures failures { result.failures ≡ before.failures }
+    ensures starts { result.starts ≡ before.starts }
+    ensures late { result.late ≡ (if before.failures == 0 then 0 else up before.late) }
+    ensures last { result.last ≡ before.last }
+{
+    let late = if before.failures == 0 {
+        0
+    } else {
+        before.late.saturating_add(1)
+    };
+    Counters { late, ..before }
+}
+
+/// The counters after a call that failed.
+fn past_fault(failure: Failure, before: Counters) -> Counters
+    ensures failures { result.failures ≡ up before.failures }
+    ensures starts { result.starts ≡ before.starts }
+    ensures late { result.late ≡ 0 }
+    ensures last { result.last ≡ Some failure }
+{
+    Counters {
+        failures: before.failures.saturating_add(1),
+        late: 0,
+        last: Some(failure),
+        ..before
+    }
+}
+
+/// The counters after a call on files or variables.
+fn after_call(answer: Result<(), PlaceFault>, before: Counters) -> Counters
+    ensures failures { result.failures ≡ (counted answer record { failures = before.failures; starts = before.starts; late = before.late; last = before.last }).failures }
+    ensures starts { result.starts ≡ (counted answer record { failures = before.failures; starts = before.starts; late = before.late; last = before.last }).starts }
+    ensures late { result.late ≡ (counted answer record { failures = before.failures; starts = before.starts; late = before.late; last = before.last }).late }
+    ensures last { result.last ≡ (counted answer record { failures = before.failures; starts = before.starts; late = before.late; last = before.last }).last }
+{
+    match answer {
+        Ok(()) => past_call(before),
+        Err(PlaceFault::OutOfMemory) => past_call(before),
+        Err(fault) => past_fault(Failure::Called(fault), before),
+    }
+}
+
+/// The counters after a start.
+fn after_start(answer: Result<(), StartFault>, before: Counters) -> Counters
+    ensures failures { result.failures ≡ (counted_start answer record { failures = before.failures; starts = before.starts; late = before.late; last = before.last }).failures }
+    ensures starts { result.starts ≡ (counted_start answer record { failures = before.failures; starts = before.starts; late = before.late; last = before.last }).starts }
+    ensures late { result.late ≡ (counted_start answer record { failures = before.failures; starts = before.starts; late = before.late; last = before.last }).late }
+    ensures last { result.last ≡ (counted_start answer record { failures = before.failures; starts = before.starts; late = before.late; last = before.last }).last }
+{
+    let begun = Counters {
+        starts: before.starts.saturating_add(1),
+        ..before
+    };
+    match answer {
+        Ok(()) => past_call(begun),
+        Err(StartFault::OutOfMemory) => past_call(begun),
+        Err(fault) => past_fault(Failure::Started(fault), begun),
+    }
+}
+
+/// The counters with these numbers.
+fn of_numbers(failures: u64, starts: u64, late: u64) -> Counters {
+    Counters {
+        failures,
+        starts,
+        late,
+        last: None,
+    }
+}
+
+/// The same, where this fault came last.
+fn after_fault(failure: Failure, counters: Counters) -> Counters {
+    Counters {
+        last: Some(failure),
+        ..counters
+    }
+}
+
+#[test]
+fn calls_that_pass(rt: HostRuntime) {
+    let most = u64::MAX;
+    // the late calls and the failures before a call, and the late calls after it
+    for (late, failures, want) in [(0, 0, 0), (0, 1, 1), (4, 2, 5), (most, 1, most)] {
+        let before = of_numbers(failures, 3, late);
+        let after = of_numbers(failures, 3, want);
+        assert_eq!(rt; after_call(Ok(()), before), after);
+        assert_eq!(rt; after_call(Err(PlaceFault::OutOfMemory), before), after);
+        let begun = of_numbers(failures, 4, want);
+        assert_eq!(rt; after_start(Ok(()), before), begun);
+        assert_eq!(rt; after_start(Err(StartFault::OutOfMemory), before), begun);
+    }
+}
+
+#[test]
+fn calls_that_fail(rt: HostRuntime) {
+    for fault in [
+        PlaceFault::Read,
+        PlaceFault::List,
+        PlaceFault::Write,
+        PlaceFault::Remove,
+        PlaceFault::Variable,
+    ] {
+        assert_eq!(rt;
+            after_call(Err(fault), of_numbers(1, 3, 9)),
+            after_fault(Failure::Called(fault), of_numbers(2, 3, 0))
+        );
+    }
+    for fault in [
+        StartFault::CannotStart,
+        StartFault::Died,
+        StartFault::Capture,
+    ] {
+        assert_eq!(rt;
+            after_start(Err(fault), of_numbers(0, 3, 0)),
+            after_fault(Failure::Started(fault), of_numbers(1, 4, 0))
+        );
+    }
+}
+
+#[test]
+fn counters_that_are_full(rt: HostRuntime) {
+    let full = of_numbers(u64::MAX, u64::MAX, 9);
+    let failed = of_numbers(u64::MAX, u64::MAX, 0);
+    let read = Failure::Called(PlaceFault::Read);
+    let died = Failure::Started(StartFault::Died);
+    assert_eq!(rt;
+        after_call(Err(PlaceFault::Read), full),
+        after_fault(read, failed)
+    );
+    assert_eq!(rt;
+        after_start(Err(StartFault::Died), full),
+        after_fault(died, failed)
+    );
+    // a call that passes, and want of memory, leave the last fault
+    let before = after_fault(read, of_numbers(1, 0, 0));
+    let after = after_fault(read, of_numbers(1, 0, 1));
+    assert_eq!(rt; after_call(Ok(()), before), after);
+    assert_eq!(rt; after_call(Err(PlaceFault::OutOfMemory), before), after);
+}

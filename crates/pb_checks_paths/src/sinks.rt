@@ -1,0 +1,53 @@
+//! Sinks over writers of std.
+
+use pb_place::{Out, Over};
+use std::io::{self, Write};
+use std::test::Fail;
+
+/// A writer that takes at most three bytes of each write, then none of one, and then fails.
+#[derive(Drop)]
+struct Tiring {
+    writes: u8,
+}
+
+impl Write for Tiring {
+    fn write(&mut self, buf: &[u8]) -> io::Result<usize> {
+        self.writes = self.writes.saturating_add(1);
+        match self.writes {
+            1 => Ok(buf.len().min(3)),
+            2 => Ok(0),
+            _ => Err(io::Error::from(io::ErrorKind::TimedOut)),
+        }
+    }
+
+    fn flush(&mut self) -> io::Result<()> {
+        Ok(())
+    }
+}
+
+#[test]
+fn over_bytes(rt: HostRuntime) -> Result<(), Fail> {
+    let mut sink = Over::new(Vec::new(rt.alloc()));
+    for (bytes, taken) in [("ab", 2), ("", 0), ("c", 1)] {
+        assert_eq!(rt; sink.write(bytes.as_bytes()), Some(taken));
+    }
+    assert_eq!(rt; sink.failures(), 0);
+    Ok(())
+}
+
+#[test]
+fn over_a_tiring_writer(rt: HostRuntime) -> Result<(), Fail> {
+    let mut sink = Over::new(Tiring { writes: 0 });
+    // what is written, how many bytes are taken, and the failures after it
+    let cases = [
+        ("abcd", Some(3), 0),
+        ("d", Some(0), 1),
+        ("d", None, 2),
+        ("", None, 3),
+    ];
+    for (bytes, taken, failures) in cases {
+        assert_eq!(rt; sink.write(bytes.as_bytes()), taken, "of {bytes}");
+        assert_eq!(rt; sink.failures(), failures, "of {bytes}");
+    }
+    Ok(())
+}

@@ -1,0 +1,82 @@
+//! A child that says what it sees.
+
+ghost use Rattle.std.specs.Prelude.{◌≡◌, [], Option, IfOk};
+ghost use Rattle.std.specs.Option.{unwrap_or};
+
+use pb_data::{Bytes, Items, Text, TryCopy};
+use pb_place::{Child, Command, PathFault, PathText, RelativePath, Reply, View, ViewFault};
+use std::alloc::{AllocError, Global};
+
+/// A child that writes the file that it sees at the command's folder to standard output, and the variable that
+/// the program names to standard error. It leaves the two at `a` and `d/b`, and then the first at `d/b` again.
+/// Its status is 7.
+#[derive(Clone, Copy, Debug)]
+pub struct Echo;
+
+/// The bytes that were found, or none.
+fn bytes_of(alloc: Global, found: Option<Bytes>) -> Result<Bytes, AllocError>
+    ensures { IfOk result (λ bytes. bytes ≡ unwrap_or found []) }
+{
+    match found {
+        Some(bytes) => Ok(bytes),
+        None => Bytes::from_slice(alloc, b""),
+    }
+}
+
+/// The bytes of the text that was found, or none.
+fn text_of(alloc: Global, found: Option<Text>) -> Result<Bytes, AllocError>
+    ensures { IfOk result (λ bytes. bytes ≡ unwrap_or found []) }
+{
+    match found {
+        Some(text) => Bytes::from_slice(alloc, text.as_str().as_bytes()),
+        None => Bytes::from_slice(alloc, b""),
+    }
+}
+
+impl Child for Echo {
+    ghost use Rattle.std.specs.Prelude.{[], ◌∷◌, pos, codes};
+    ghost use Rattle.std.specs.Option.{unwrap_or};
+    ghost use Rattle.std.specs.FinMap as map;
+
+    ghost answers = { λ c w.
+        let file = unwrap_or (map.get w.files c.folder) [] in
+        let value = unwrap_or (map.get w.variables c.program) [] in
+        record { status = pos 7; stdout = file; stderr = value; files = (codes "a", file) ∷ (codes "d/b", value) ∷ (codes "d/b", file) ∷ [] } };
+
+    fn reply<V: View>(
+        &self,
+        alloc: Global,
+        command: &Command,
+        view: &V,
+    ) -> Result<Reply, ViewFault> {
+        let stdout = bytes_of(alloc, view.file(alloc, &command.folder)?)?;
+        let stderr = text_of(alloc, view.variable(alloc, command.program.as_str())?)?;
+        let mut files = Items::new(alloc);
+        files.push((RelativePath::name(alloc, "a")?, stdout.copy(alloc)?))?;
+        files.push((RelativePath::name(alloc, "d/b")?, stderr.copy(alloc)?))?;
+        files.push((RelativePath::name(alloc, "d/b")?, stdout.copy(alloc)?))?;
+        Ok(Reply {
+            status: 7,
+            stdout,
+            stderr,
+            files,
+        })
+    }
+}
+
+/// A command for the child: it says the file at `folder` and the variable NAME, and writes into `/w/target/out`.
+/// Of the target folder `/w/target` it sees what lies below `/w/target/dep`.
+pub fn say(alloc: Global, folder: &str) -> Result<Command, PathFault> {
+    let mut reads = Items::new(alloc);
+    reads.push(PathText::parse(alloc, "/w/target/dep")?)?;
+    Ok(Command {
+        program: Text::from_str(alloc, "NAME")?,
+        words: Items::new(alloc),
+        folder: PathText::parse(alloc, folder)?,
+        pairs: Items::new(alloc),
+        out: Some(PathText::parse(alloc, "/w/target/out")?),
+        target: PathText::parse(alloc, "/w/target")?,
+        toolchain: Bytes::from_slice(alloc, b"")?,
+        reads,
+    })
+}

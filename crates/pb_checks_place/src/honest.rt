@@ -1,0 +1,182 @@
+//! What the clauses of a place alone say of calls in turn, for any place that tells its maps.
+
+ghost use Rattle.std.specs.Prelude.{◌≡◌, true, not, None, Some, if◌then◌else◌, IsTrue, IfOk, IfErr, OnOk};
+ghost use Rattle.std.specs.List.{list_any};
+ghost use Rattle.std.specs.FinMap as map;
+ghost use Rattle.pb_place.specs.Paths.{is_below, is_at_or_below};
+ghost use Rattle.pb_place.specs.World.{is_same_path, seen_by, written, removed, put_reply};
+ghost use Rattle.pb_place.specs.Counts.{up};
+
+use super::echo::{Echo, say};
+use pb_data::{Bytes, Items};
+use pb_place::{Child, Command, Ended, Memory, PathText, Place, PlaceFault, StartFault};
+use std::alloc::Global;
+use std::test::Fail;
+
+/// What is read where these bytes were just written: these bytes.
+fn written_then_read<P: Place>(
+    alloc: Global,
+    place: &mut P,
+    path: &PathText,
+    bytes: &[u8],
+) -> Result<Option<Bytes>, PlaceFault>
+    ensures found { IsTrue P.tells → IfOk result (λ found. found ≡ Some bytes.now) }
+    ensures world { IsTrue P.tells → OnOk result (P.world place.new ≡ written path.now bytes.now (P.world place.old)) }
+    ensures starts { OnOk result ((P.counts place.new).starts ≡ (P.counts place.old).starts) }
+    ensures quiet { OnOk result ((P.counts place.new).failures ≡ (P.counts place.old).failures) }
+{
+    place.write(alloc, path, bytes)?;
+    let found = place.read(alloc, path)?;
+    Ok(found)
+}
+
+/// What is read after a removal: nothing at the path or below it, and elsewhere what was there.
+fn removed_then_read<P: Place>(
+    alloc: Global,
+    place: &mut P,
+    removed_path: &PathText,
+    path: &PathText,
+) -> Result<Option<Bytes>, PlaceFault>
+    ensures found { IsTrue P.tells → IfOk result (λ found. found ≡ (if not (is_at_or_below removed_path.now path.now) then map.get (P.world place.old).files path.now else None)) }
+    ensures world { IsTrue P.tells → OnOk result (P.world place.new ≡ removed removed_path.now (P.world place.old)) }
+    ensures starts { OnOk result ((P.counts place.new).starts ≡ (P.counts place.old).starts) }
+    ensures quiet { OnOk result ((P.counts place.new).failures ≡ (P.counts place.old).failures) }
+{
+    place.remove_tree(alloc, removed_path)?;
+    let found = place.read(alloc, path)?;
+    Ok(found)
+}
+
+/// What is listed after a write: among it the path that was written, if it is below the folder.
+fn written_then_listed<P: Place>(
+    alloc: Global,
+    place: &mut P,
+    path: &PathText,
+    folder: &PathText,
+) -> Result<Items<PathText>, PlaceFault>
+    ensures listed { IsTrue P.tells → IfOk result (λ paths. list_any (is_same_path path.now) paths ≡ is_below folder.now path.now) }
+    ensures quiet { OnOk result ((P.counts place.new).failures ≡ (P.counts place.old).failures) }
+{
+    place.write(alloc, path, b"")?;
+    let paths = place.list(alloc, folder)?;
+    Ok(paths)
+}
+
+/// How a child ended, and what is read after it: what its reply put there, or what was there.
+fn started_then_read<P: Place>(
+    alloc: Global,
+    place: &mut P,
+    command: &Command,
+    path: &PathText,
+) -> Result<(Ended, Option<Bytes>), Fail>
+    ensures stdout { IsTrue P.tells → IfOk result (λ answer. answer.0.stdout ≡ (P.child command.now (seen_by command.now (P.world place.old))).stdout) }
+    ensures found { IsTrue P.tells → IfOk result (λ answer. answer.1 ≡ map.get (put_reply command.now.out (P.child command.now (seen_by command.now (P.world place.old))).files (P.world place.old)).files path.now) }
+    ensures world { IsTrue P.tells → OnOk result (P.world place.new ≡ put_reply command.now.out (P.child command.now (seen_by command.now (P.world place.old))).files (P.world place.old)) }
+    ensures starts { OnOk result ((P.counts place.new).starts ≡ up (P.counts place.old).starts) }
+    ensures quiet { OnOk result ((P.counts place.new).failures ≡ (P.counts place.old).failures) }
+{
+    let ended = place.start(alloc, command)?;
+    let found = place.read(alloc, path)?;
+    Ok((ended, found))
+}
+
+/// Writes a file, starts a child, and takes the file away again. The child saw the file, what it left stands, and
+/// the file is gone.
+fn written_started_removed<P: Place>(
+    alloc: Global,
+    place: &mut P,
+    path: &PathText,
+    bytes: &[u8],
+    command: &Command,
+) -> Result<Ended, Fail>
+    ensures stdout { IsTrue P.tells → IfOk result (λ ended. ended.stdout ≡ (P.child command.now (seen_by command.now (written path.now bytes.now (P.world place.old)))).stdout) }
+    ensures world { IsTrue P.tells → OnOk result (P.world place.new ≡ removed path.now (put_reply command.now.out (P.child command.now (seen_by command.now (written path.now bytes.now (P.world place.old)))).files (written path.now bytes.now (P.world place.old)))) }
+    ensures starts { OnOk result ((P.counts place.new).starts ≡ up (P.counts place.old).starts) }
+    ensures quiet { OnOk result ((P.counts place.new).failures ≡ (P.counts place.old).failures) }
+{
+    written_then_read(alloc, place, path, bytes)?;
+    let (ended, _) = started_then_read(alloc, place, command, path)?;
+    removed_then_read(alloc, place, path, path)?;
+    Ok(ended)
+}
+
+/// What is read at a place in memory, which fails for want of memory alone.
+fn read_in_memory<C: Child>(
+    alloc: Global,
+    memory: &mut Memory<C>,
+    path: &PathText,
+) -> Result<Option<Bytes>, PlaceFault>
+    ensures { IfErr result (λ e. e ≡ PlaceFault.OutOfMemory) }
+{
+    memory.read(alloc, path)
+}
+
+/// How a child ended at a place in memory, where a start fails for want of memory alone.
+fn start_in_memory<C: Child>(
+    alloc: Global,
+    memory: &mut Memory<C>,
+    command: &Command,
+) -> Result<Ended, StartFault>
+    ensures { IfErr result (λ e. e ≡ StartFault.OutOfMemory) }
+{
+    memory.start(alloc, command)
+}
+
+/// Whether a file that is written at a path is read there.
+fn writes(alloc: Global, memory: &mut Memory<Echo>, path: &PathText) -> Result<bool, Fail> {
+    let found = written_then_read(alloc, memory, path, b"one")?;
+    Ok(found.is_some())
+}
+
+/// Whether one file is listed below a folder, where it is written.
+fn lists(
+    alloc: Global,
+    memory: &mut Memory<Echo>,
+    path: &PathText,
+    folder: &PathText,
+) -> Result<bool, Fail> {
+    let paths = written_then_listed(alloc, memory, path, folder)?;
+    Ok(paths.len() == 1)
+}
+
+/// Whether no file is read at a path, once a folder is removed.
+fn removes(
+    alloc: Global,
+    memory: &mut Memory<Echo>,
+    path: &PathText,
+    folder: &PathText,
+) -> Result<bool, Fail> {
+    let found = removed_then_read(alloc, memory, folder, path)?;
+    Ok(found.is_none())
+}
+
+/// Whether a child that says the file at a path says what was written there.
+fn says(alloc: Global, memory: &mut Memory<Echo>, path: &PathText) -> Result<bool, Fail> {
+    let command = say(alloc, path.as_str())?;
+    let ended = written_started_removed(alloc, memory, path, b"two", &command)?;
+    Ok(ended.stdout.as_slice() == b"two".as_slice())
+}
+
+/// Whether a child that ran leaves a file, and may run again.
+fn leaves(alloc: Global, memory: &mut Memory<Echo>) -> Result<bool, Fail> {
+    let command = say(alloc, "/w/a")?;
+    let ended = start_in_memory(alloc, memory, &command)?;
+    let path = PathText::parse(alloc, "/w/target/out/a")?;
+    let found = read_in_memory(alloc, memory, &path)?;
+    Ok(ended.status == 7 && found.is_some())
+}
+
+#[test]
+fn at_a_place_in_memory(rt: HostRuntime) -> Result<(), Fail> {
+    let alloc = rt.alloc();
+    let mut memory = Memory::new(alloc, Echo);
+    let folder = PathText::parse(alloc, "/w")?;
+    let path = PathText::parse(alloc, "/w/a")?;
+    assert!(rt; writes(alloc, &mut memory, &path)?);
+    assert!(rt; lists(alloc, &mut memory, &path, &folder)?);
+    assert!(rt; removes(alloc, &mut memory, &path, &folder)?);
+    assert!(rt; says(alloc, &mut memory, &path)?);
+    assert!(rt; leaves(alloc, &mut memory)?);
+    assert_eq!(rt; memory.starts(), 2);
+    Ok(())
+}

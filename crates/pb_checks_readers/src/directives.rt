@@ -1,0 +1,372 @@
+//! What the readers answer, against worked examples.
+
+use pb_data::{Mentions, Text, TryCopy};
+use pb_directive::{
+    DepInfo, Directive, Directives, LineFault, laws, read_dep_info, read_directives,
+};
+use std::alloc::{AllocError, Global};
+use std::process::Abort;
+use std::test::Fail;
+
+fn show_one(alloc: Global, directive: &Directive) -> Result<String, AllocError> {
+    let (key, first, second) = match directive {
+        Directive::RerunIfChanged(path) => ("changed", path.as_str(), ""),
+        Directive::RerunIfEnvChanged(name) => ("env-changed", name.as_str(), ""),
+        Directive::LinkArg(flag) => ("arg", flag.as_str(), ""),
+        Directive::LinkArgBins(flag) => ("arg-bins", flag.as_str(), ""),
+        Directive::LinkArgCdylib(flag) => ("arg-cdylib", flag.as_str(), ""),
+        Directive::LinkArgTests(flag) => ("arg-tests", flag.as_str(), ""),
+        Directive::LinkArgExamples(flag) => ("arg-examples", flag.as_str(), ""),
+        Directive::LinkArgBenches(flag) => ("arg-benches", flag.as_str(), ""),
+        Directive::LinkArgBin(name, flag) => ("arg-bin", name.as_str(), flag.as_str()),
+        Directive::LinkLib(name) => ("lib", name.as_str(), ""),
+        Directive::LinkSearch(folder) => ("search", folder.as_str(), ""),
+        Directive::Cfg(condition) => ("cfg", condition.as_str(), ""),
+        Directive::CheckCfg(condition) => ("check-cfg", condition.as_str(), ""),
+        Directive::Env(name, value) => ("env", name.as_str(), value.as_str()),
+        Directive::Metadata(key, value) => ("metadata", key.as_str(), value.as_str()),
+        Directive::Warning(text) => ("warning", text.as_str(), ""),
+    };
+    format!(in alloc; "{key}<{first}><{second}>;")
+}
+
+fn show(alloc: Global, directives: &Directives) -> Result<String, AllocError> {
+    let mut shown = String::new(alloc);
+    for directive in directives.as_slice() {
+        shown.push_str(show_one(alloc, directive)?.as_str())?;
+    }
+    Ok(shown)
+}
+
+fn show_fault(alloc: Global, fault: LineFault) -> Result<String, AllocError> {
+    match fault {
+        LineFault::NotText(line) => format!(in alloc; "NotText {line}"),
+        LineFault::UnknownKey(line) => format!(in alloc; "UnknownKey {line}"),
+        LineFault::BadValue(line) => format!(in alloc; "BadValue {line}"),
+        LineFault::BadFlag(line) => format!(in alloc; "BadFlag {line}"),
+        LineFault::OutOfMemory => format!(in alloc; "OutOfMemory"),
+    }
+}
+
+fn directives_in(alloc: Global, bytes: &[u8]) -> Result<String, AllocError> {
+    match read_directives(alloc, bytes) {
+        Ok(directives) => show(alloc, &directives.copy(alloc)?),
+        Err(fault) => show_fault(alloc, fault),
+    }
+}
+
+fn show_mentions(alloc: Global, mentions: &Mentions) -> Result<String, AllocError> {
+    let mut shown = String::new(alloc);
+    for text in mentions.as_slice() {
+        shown.push_str(text.as_str())?;
+        shown.push_str(";")?;
+    }
+    Ok(shown)
+}
+
+fn names_in(alloc: Global, bytes: &[u8]) -> Result<String, AllocError> {
+    match read_dep_info(alloc, bytes) {
+        Ok(DepInfo { words, variables }) => {
+            let words = show_mentions(alloc, &words)?;
+            let variables = show_mentions(alloc, &variables)?;
+            format!(in alloc; "{words} {variables}")
+        }
+        Err(fault) => show_fault(alloc, fault),
+    }
+}
+
+fn expect_directives(
+    rt: &impl Abort,
+    alloc: Global,
+    bytes: &[u8],
+    want: &str,
+) -> Result<(), AllocError> {
+    let found = directives_in(alloc, bytes)?;
+    assert_eq!(rt; found.as_str(), want);
+    Ok(())
+}
+
+fn expect_names(
+    rt: &impl Abort,
+    alloc: Global,
+    bytes: &[u8],
+    want: &str,
+) -> Result<(), AllocError> {
+    let found = names_in(alloc, bytes)?;
+    assert_eq!(rt; found.as_str(), want);
+    Ok(())
+}
+
+/// Outputs of scripts, and what they say: lines and prefixes.
+const LINES: [(&[u8], &str); 17] = [
+    (b"cargo:root=/x", "metadata<root></x>;"),
+    (b"cargo::root=/x", "UnknownKey 1"),
+    (b"", ""),
+    (b"hello\n\n", ""),
+    (b"xcargo::a=b\n cargo :a=b", ""),
+    (
+        b"cargo::rustc-cfg=a\ncargo:rustc-cfg=b\n",
+        "cfg<a><>;cfg<b><>;",
+    ),
+    (b" \t cargo::warning= w \t\r\r\n", "warning< w><>;"),
+    (b"\xffcargo::x=y\ncargo::rustc-cfg=a", "cfg<a><>;"),
+    (b"\xc3\ncargo::rustc-cfg=\xc3\xa9\n", "cfg<\u{e9}><>;"),
+    (b"cargo::warning", "BadValue 1"),
+    (b"cargo:warning\ncargo:", ""),
+    (b"cargo::", "BadValue 1"),
+    (b"cargo::=x", "UnknownKey 1"),
+    (b"cargo:=x", "BadValue 1"),
+    (
+        b"\ncargo::rustc-cfg=\ncargo::x=y\ncargo::rustc-flags=x\n",
+        "BadValue 2",
+    ),
+    (b"cargo::error=e", "UnknownKey 1"),
+    (
+        b"cargo:error=e\ncargo:metadata=a=b",
+        "metadata<error><e>;metadata<metadata><a=b>;",
+    ),
+];
+
+#[test]
+fn lines_and_prefixes(rt: HostRuntime) -> Result<(), Fail> {
+    for (bytes, want) in LINES {
+        expect_directives(&rt, rt.alloc(), bytes, want)?;
+    }
+    Ok(())
+}
+
+/// Outputs of scripts, and what they say: keys and values.
+const KEYS: [(&[u8], &str); 34] = [
+    (b"cargo::rerun-if-changed=build.rs", "changed<build.rs><>;"),
+    (b"cargo::rerun-if-changed=", "BadValue 1"),
+    (b"cargo::rerun-if-changed=a\0", "BadValue 1"),
+    (b"cargo:rerun-if-env-changed=CC", "env-changed<CC><>;"),
+    (b"cargo::rerun-if-env-changed=A=B", "BadValue 1"),
+    (b"cargo::rerun-if-env-changed=", "BadValue 1"),
+    (b"cargo::rustc-link-arg=", "arg<><>;"),
+    (b"cargo::rustc-link-arg=\0", "BadValue 1"),
+    (b"cargo::rustc-link-arg-bins=-s", "arg-bins<-s><>;"),
+    (b"cargo::rustc-link-arg-cdylib=-s", "arg-cdylib<-s><>;"),
+    (b"cargo::rustc-link-arg-tests=-s", "arg-tests<-s><>;"),
+    (b"cargo::rustc-link-arg-examples=-s", "arg-examples<-s><>;"),
+    (b"cargo::rustc-link-arg-benches=-s", "arg-benches<-s><>;"),
+    (b"cargo::rustc-link-arg-bin=a=-s=t", "arg-bin<a><-s=t>;"),
+    (b"cargo::rustc-link-arg-bin==x", "arg-bin<><x>;"),
+    (b"cargo::rustc-link-arg-bin=x", "BadValue 1"),
+    (b"cargo::rustc-link-lib=static=a", "lib<static=a><>;"),
+    (b"cargo::rustc-link-search=", "BadValue 1"),
+    (
+        b"cargo::rustc-link-search=native=/l",
+        "search<native=/l><>;",
+    ),
+    (b"cargo::rustc-check-cfg=cfg(a)", "check-cfg<cfg(a)><>;"),
+    (
+        b"cargo::rustc-flags=-l a  -Lb -lc -L d ",
+        "lib<a><>;search<b><>;lib<c><>;search<d><>;",
+    ),
+    (b"cargo::rustc-flags=-l -L", "lib<-L><>;"),
+    (b"cargo::rustc-flags=", ""),
+    (b"cargo::rustc-flags=-l a -l", "BadFlag 1"),
+    (b"cargo::rustc-flags=-la\t-x b", "BadFlag 1"),
+    (b"cargo::rustc-flags=x\0", "BadValue 1"),
+    (b"cargo::rustc-env=A=b=c", "env<A><b=c>;"),
+    (b"cargo::rustc-env==b", "BadValue 1"),
+    (b"cargo::rustc-env=A", "BadValue 1"),
+    (b"cargo::metadata=root=/r", "metadata<root></r>;"),
+    (b"cargo::metadata=root", "BadValue 1"),
+    (b"cargo:a\0=b", "BadValue 1"),
+    (b"cargo:a=b\0", "BadValue 1"),
+    (b"cargo::warning=", "warning<><>;"),
+];
+
+#[test]
+fn keys_and_values(rt: HostRuntime) -> Result<(), Fail> {
+    for (bytes, want) in KEYS {
+        expect_directives(&rt, rt.alloc(), bytes, want)?;
+    }
+    Ok(())
+}
+
+/// Lines with a value that the key may not have.
+const BAD_VALUES: [&[u8]; 24] = [
+    b"cargo:rerun-if-changed=",
+    b"cargo::rerun-if-env-changed=A\0",
+    b"cargo::rerun-if-env-changed==",
+    b"cargo::rustc-link-arg-bins=\0",
+    b"cargo::rustc-link-arg-cdylib=\0",
+    b"cargo::rustc-link-arg-tests=\0",
+    b"cargo::rustc-link-arg-examples=\0",
+    b"cargo::rustc-link-arg-benches=\0",
+    b"cargo::rustc-link-arg-bin=a=\0",
+    b"cargo::rustc-link-arg-bin=\0=a",
+    b"cargo::rustc-link-lib=",
+    b"cargo::rustc-link-lib=a\0",
+    b"cargo::rustc-link-search=a\0",
+    b"cargo::rustc-cfg=a\0",
+    b"cargo::rustc-check-cfg=",
+    b"cargo::rustc-check-cfg=a\0",
+    b"cargo::rustc-flags=-la\0",
+    b"cargo::rustc-env=A=\0",
+    b"cargo::rustc-env=\0=a",
+    b"cargo::metadata==a",
+    b"cargo::metadata=a=\0",
+    b"cargo::metadata=\0=a",
+    b"cargo::metadata",
+    b"cargo::unknown",
+];
+
+/// Lines that are near to those, and what they say.
+const NEAR_VALUES: [(&[u8], &str); 10] = [
+    (b"cargo::rustc-flags=-L", "BadFlag 1"),
+    (b"cargo::rustc-flags=-l", "BadFlag 1"),
+    (b"cargo::rustc-flags=-L a -L", "BadFlag 1"),
+    (b"cargo:rustc-flags=a", "BadFlag 1"),
+    (b"cargo::rustc-link-arg-bin=a=", "arg-bin<a><>;"),
+    (b"cargo::rustc-env=A=", "env<A><>;"),
+    (b"cargo::metadata=a=", "metadata<a><>;"),
+    (b"cargo:a=", "metadata<a><>;"),
+    (b"cargo::warning=\0", "warning<\0><>;"),
+    (b"cargo:warning=w", "warning<w><>;"),
+];
+
+#[test]
+fn values_that_a_key_may_not_have(rt: HostRuntime) -> Result<(), Fail> {
+    for line in BAD_VALUES {
+        expect_directives(&rt, rt.alloc(), line, "BadValue 1")?;
+    }
+    for (line, want) in NEAR_VALUES {
+        expect_directives(&rt, rt.alloc(), line, want)?;
+    }
+    Ok(())
+}
+
+#[test]
+fn prefixes_of_a_line(rt: HostRuntime) -> Result<(), Fail> {
+    let text = b"cargo::rustc-cfg=ab";
+    for end in 0..text.len() {
+        let want = if end < 7 {
+            ""
+        } else if end < 18 {
+            "BadValue 1"
+        } else {
+            "cfg<a><>;"
+        };
+        expect_directives(&rt, rt.alloc(), &text[..end], want)?;
+    }
+    Ok(())
+}
+
+/// Dep-info, and what it names.
+const RULES: [(&[u8], &str); 35] = [
+    (
+        b"o: /w/a\\ b.rs /w/c.rs\n# env-dep:V\n",
+        "/w/a b.rs;/w/c.rs; V;",
+    ),
+    (b"", " "),
+    (b"\n\r\n", " "),
+    (b"o p: a\r\n", "a; "),
+    (b"o:", " "),
+    (b"o: ", " "),
+    (b"o:a b", "BadValue 1"),
+    (b"o", "BadValue 1"),
+    (b"C:/o: x", "x; "),
+    (b"o: a: b", "a:;b; "),
+    (b"o:  a   b  ", "a;b; "),
+    (b"o: a\\b \\ c\\\\ d", "a\\b; c\\ d; "),
+    (b"o: a\\", "a\\; "),
+    (b"o: a\\ ", "a ; "),
+    (b"o: a\tb", "a\tb; "),
+    (b"o: b a b\no: a c b\n", "b;a;c; "),
+    (b"# env-dep:B\n# env-dep:A=x=y\n# env-dep:B=z", " B;A;"),
+    (b"# env-dep:", "BadValue 1"),
+    (b"# env-dep:=x", "BadValue 1"),
+    (b"# env-dep:A\0", "BadValue 1"),
+    (b"# env-dep:A=\0", " A;"),
+    (b"#env-dep:A\n# env-dep\n#", " "),
+    (b"o: a\0", "BadValue 1"),
+    (b"o\0: a", "a; "),
+    (b"\xff", "NotText 1"),
+    (b"o: a\n# \xff\nx", "NotText 2"),
+    (b"o: a\nx\n\xff", "BadValue 2"),
+    (b"o: \xc3\xa9", "\u{e9}; "),
+    (b"\r", " "),
+    (b"o:a: b", "b; "),
+    (b"o:\ta", "BadValue 1"),
+    (b" o : a", "a; "),
+    (b"o: a\r\r\n", "a\r; "),
+    (b"# env-dep: A", "  A;"),
+    (b" # env-dep:A", "BadValue 1"),
+];
+
+#[test]
+fn rules_and_variables(rt: HostRuntime) -> Result<(), Fail> {
+    for (bytes, want) in RULES {
+        expect_names(&rt, rt.alloc(), bytes, want)?;
+    }
+    Ok(())
+}
+
+fn of_bytes(alloc: Global, start: &[u8], byte: u8, count: usize) -> Result<Vec<u8>, AllocError> {
+    let mut made = Vec::from_slice(alloc, start)?;
+    for _ in 0..count {
+        made.push(byte)?;
+    }
+    Ok(made)
+}
+
+#[test]
+fn long_lines(rt: HostRuntime) -> Result<(), Fail> {
+    let plain = of_bytes(rt.alloc(), b"", b'a', 4_194_304)?;
+    expect_directives(&rt, rt.alloc(), plain.as_slice(), "")?;
+    expect_names(&rt, rt.alloc(), plain.as_slice(), "BadValue 1")?;
+    let warning = of_bytes(rt.alloc(), b"cargo::warning=", b'w', 4_194_289)?;
+    match read_directives(rt.alloc(), warning.as_slice())?.as_slice() {
+        [Directive::Warning(text)] => assert_eq!(rt; text.as_str().len(), 4_194_289),
+        _ => assert!(rt; false),
+    }
+    let word = of_bytes(rt.alloc(), b"o: ", b'w', 4_194_301)?;
+    match read_dep_info(rt.alloc(), word.as_slice())?.words.as_slice() {
+        [text] => assert_eq!(rt; text.as_str().len(), 4_194_301),
+        _ => assert!(rt; false),
+    }
+    Ok(())
+}
+
+#[test]
+fn mentions_give_items(rt: HostRuntime) -> Result<(), Fail> {
+    let info = read_dep_info(rt.alloc(), b"o: b a b")?;
+    let name = Text::from_str(rt.alloc(), "a")?;
+    assert!(rt; info.words.contains(&name));
+    assert!(rt; !info.variables.contains(&name));
+    assert_eq!(rt; info.words.into_items(rt.alloc())?.len(), 2);
+    Ok(())
+}
+
+#[test]
+fn faults_in_words(rt: HostRuntime) -> Result<(), Fail> {
+    for (fault, want) in [
+        (LineFault::NotText(1), "line 1 is not UTF-8"),
+        (LineFault::UnknownKey(23), "line 23 has an unknown key"),
+        (LineFault::BadValue(4), "line 4 has a bad value"),
+        (LineFault::BadFlag(5), "line 5 has a bad flag"),
+        (LineFault::OutOfMemory, "out of memory"),
+    ] {
+        let words = format!(in rt.alloc(); "{fault}")?;
+        assert_eq!(rt; words.as_str(), want);
+    }
+    Ok(())
+}
+
+#[test]
+fn laws_are_named(_rt: HostRuntime) {
+    laws::directives_concatenate();
+    laws::names_concatenate();
+    laws::other_lines_say_nothing();
+    laws::words_stand_once();
+    laws::variables_stand_once();
+    laws::last_metadata_counts();
+    laws::passed_names_stand_once();
+    pb_data::table::table_names::<Text>();
+    pb_data::table::table_values::<Text>();
+    pb_data::table::table_joins::<Text>();
+}

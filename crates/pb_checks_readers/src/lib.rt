@@ -1,0 +1,17 @@
+//! Tests of the base types, of the readers but that of manifests (the output of scripts, dep-info, session files) and
+//! of the lines that are written (JSON strings, result lines), against worked examples. The crate holds nothing else:
+//! a crate with tests is proved twice, so none that others stand on has any.
+#![tactic(auto)]
+
+#[cfg(test)]
+mod data;
+#[cfg(test)]
+mod directives;
+#[cfg(test)]
+mod json;
+#[cfg(test)]
+mod metadata;
+#[cfg(test)]
+mod results;
+#[cfg(test)]
+mod sessions;

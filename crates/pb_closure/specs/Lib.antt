@@ -1,0 +1,4 @@
+pub mod Closure
+pub mod Table
+pub mod Placed
+pub mod Numbered

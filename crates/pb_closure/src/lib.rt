@@ -1,0 +1,11 @@
+//! The least set that rules give: each thing is looked at once, and what is found is the least set
+//! and nothing else.
+#![tactic(auto)]
+
+pub mod closure;
+pub mod graph;
+pub mod table;
+
+pub use closure::{Rules, least};
+pub use graph::{Graph, reached};
+pub use table::{Rule, derived};

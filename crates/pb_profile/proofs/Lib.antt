@@ -1,0 +1,4 @@
+pub mod Merged
+pub mod Walks
+pub mod Lines
+pub mod Found

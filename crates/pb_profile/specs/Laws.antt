@@ -1,0 +1,59 @@
+-- What the line of a profile is, in the words of The Cargo Book: profiles of which each inherits from the next.
+use Rattle.std.specs.Prelude.{◌≡◌, ◌↔◌, ℕ, zero, suc, ◌+◌, List, [], ◌∷◌, length, Some, None, Ok, Err, IsSome}
+use Rattle.pb_manifest.specs.declared.profile.Profile.{Profile}
+use Rattle.pb_workspace.specs.declared.package.Package.{Package}
+use Rattle.pb_workspace.specs.declared.package.Side.{Side}
+use Rattle.pb_profile.specs.declared.fault.ProfileFault.TheVariants.{NoSuchProfile, InheritsCycle}
+use Rattle.pb_profile.specs.Line.{Seen, seen_at, above, line_of}
+use Rattle.pb_profile.specs.Settings.{looked_up, places_of}
+
+-- a profile inherits from another
+abbrev pub InheritsFrom : List Profile → Seen → Seen → Type 0
+InheritsFrom profiles s t = above profiles s ≡ Ok (Some t)
+
+-- a line: a profile that inherits from none, or one and then the line of what it inherits from
+pub data IsLine (profiles : List Profile) : Seen → List Seen → Type 0 where
+  last : (s : Seen) (ends : above profiles s ≡ Ok None) → IsLine profiles s (s ∷ [])
+  further : (s t : Seen) (line : List Seen) (inherits : InheritsFrom profiles s t) (rest : IsLine profiles t line) → IsLine profiles s (s ∷ line)
+
+-- the profile itself, or one that it inherits from in some steps
+pub data IsAncestor (profiles : List Profile) : Seen → Seen → Type 0 where
+  itself : (s : Seen) → IsAncestor profiles s s
+  higher : (s t u : Seen) (inherits : InheritsFrom profiles s t) (more : IsAncestor profiles t u) → IsAncestor profiles s u
+
+-- the line goes on for so many steps
+pub data GoesOn (profiles : List Profile) : ℕ → Seen → Type 0 where
+  here : (s : Seen) → GoesOn profiles zero s
+  step : (n : ℕ) (s t : Seen) (inherits : InheritsFrom profiles s t) (more : GoesOn profiles n t) → GoesOn profiles (suc n) s
+
+-- what is given as a line is one
+abbrev pub GivesLines : Type 0
+GivesLines = (profiles : List Profile) (name : List ℕ) (line : List Seen) → line_of profiles name ≡ Ok line → IsLine profiles (seen_at profiles name) line
+
+-- a profile is told as none only where the asked one, or one that it inherits from, inherits from nothing that is there
+pub record IsMissing (profiles : List Profile) (from : Seen) : Type 0 where
+  pub profile : Seen
+  pub ancestor : IsAncestor profiles from profile
+  pub missing : above profiles profile ≡ Err NoSuchProfile
+
+abbrev pub TellsMissing : Type 0
+TellsMissing = (profiles : List Profile) (name : List ℕ) → line_of profiles name ≡ Err NoSuchProfile → IsMissing profiles (seen_at profiles name)
+
+-- a cycle is told only where the line goes on for more steps than there are profiles, written and built in, to leave: so it comes back to one of them
+abbrev pub TellsCycles : Type 0
+TellsCycles = (profiles : List Profile) (name : List ℕ) → line_of profiles name ≡ Err InheritsCycle → GoesOn profiles (length profiles + 2) (seen_at profiles name)
+
+-- each of the nine keys has a value at some place, whatever the profiles write
+pub record AllAreFound (p : Package) (role : Side) (line : List Seen) : Type 0 where
+  pub opt_level : IsSome (looked_up (λ k. k.opt_level) (places_of p role) line)
+  pub debug : IsSome (looked_up (λ k. k.debug) (places_of p role) line)
+  pub debug_assertions : IsSome (looked_up (λ k. k.debug_assertions) (places_of p role) line)
+  pub overflow_checks : IsSome (looked_up (λ k. k.overflow_checks) (places_of p role) line)
+  pub lto : IsSome (looked_up (λ k. k.lto) (places_of p role) line)
+  pub panic : IsSome (looked_up (λ k. k.panic) (places_of p role) line)
+  pub codegen_units : IsSome (looked_up (λ k. k.codegen_units) (places_of p role) line)
+  pub rpath : IsSome (looked_up (λ k. k.rpath) (places_of p role) line)
+  pub strip : IsSome (looked_up (λ k. k.strip) (places_of p role) line)
+
+abbrev pub FindsValues : Type 0
+FindsValues = (profiles : List Profile) (s : Seen) (line : List Seen) → IsLine profiles s line → (p : Package) (role : Side) → AllAreFound p role line

@@ -1,0 +1,5 @@
+pub mod Line
+pub mod Settings
+pub mod Merging
+pub mod Walking
+pub mod Laws

@@ -1,0 +1,14 @@
+//! The settings of a package under a profile: the value of each key is that of the first place that has
+//! it (The Cargo Book, Profiles).
+#![tactic(auto)]
+
+pub mod fault;
+pub mod keys;
+pub mod laws;
+pub mod line;
+pub mod settings;
+
+pub use fault::ProfileFault;
+pub use laws::{lines_follow_inherits, values_are_found};
+pub use line::{Ancestor, folder_of, line_of};
+pub use settings::{Settings, settings_along};

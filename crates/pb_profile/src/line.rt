@@ -1,0 +1,176 @@
+//! The line of a profile: the profile, what it inherits from, and so on.
+
+ghost use Rattle.std.specs.Prelude.{◌≡◌, map, option_map};
+ghost use Rattle.std.specs.List.{list_all};
+ghost use Rattle.pb_data.specs.Gives.{Gives};
+ghost use Rattle.pb_profile.specs.Line.{folder_of, named, seen_at, parent_of, above, shown_parent, option_all, seen, line_of, allows, table_allows, may_override, checked_line};
+ghost use Rattle.pb_profile.specs.declared.fault.ProfileFault.TheVariants as profile_fault;
+
+use crate::fault::ProfileFault;
+use pb_manifest::{Profile, ProfileKeys, ProfileOverride};
+use std::alloc::Global;
+
+/// A profile of a line.
+#[derive(Debug, Drop)]
+pub struct Ancestor<'a> {
+    /// Its name.
+    pub name: &'a str,
+    /// Its table in the root manifest. None for a built-in profile of which nothing is written.
+    pub table: Option<&'a Profile>,
+}
+
+/// The folder inside the target folder that a profile's output goes to: `debug` for `dev` and `test`,
+/// `release` for `release` and `bench`, else the profile's name (The Cargo Book, Profiles). It takes no
+/// memory.
+pub fn folder_of(profile: &str) -> &str
+    ensures { result.now ≡ folder_of profile.now }
+{
+    match profile {
+        "dev" | "test" => "debug",
+        "release" | "bench" => "release",
+        name => name,
+    }
+}
+
+/// The table of this name.
+fn named<'a>(profiles: &'a [Profile], name: &str) -> Option<&'a Profile>
+    ensures { option_map (λ p. p.now) result ≡ named profiles.now name.now }
+{
+    profiles.iter().find(|profile| profile.name.as_str() == name)
+}
+
+/// The profile of this name.
+fn ancestor_at<'a>(profiles: &'a [Profile], name: &'a str) -> Ancestor<'a>
+    ensures { seen result ≡ seen_at profiles.now name.now }
+{
+    Ancestor {
+        name,
+        table: named(profiles, name),
+    }
+}
+
+/// The name of what a profile inherits from: none for `dev` and `release`. NoSuchProfile where it is not
+/// built in and not written.
+fn parent_of<'a>(ancestor: &Ancestor<'a>) -> Result<Option<&'a str>, ProfileFault>
+    ensures { shown_parent (λ text. text.now) result ≡ parent_of (seen ancestor.now) }
+{
+    match ancestor.name {
+        "dev" | "release" => Ok(None),
+        "test" => Ok(Some("dev")),
+        "bench" => Ok(Some("release")),
+        _ => match ancestor.table {
+            None => Err(ProfileFault::NoSuchProfile),
+            Some(profile) => match &profile.inherits {
+                None => Err(ProfileFault::NoSuchProfile),
+                Some(parent) => Ok(Some(parent.as_str())),
+            },
+        },
+    }
+}
+
+/// The profile that a profile inherits from.
+fn above<'a>(
+    profiles: &'a [Profile],
+    ancestor: &Ancestor<'a>,
+) -> Result<Option<Ancestor<'a>>, ProfileFault>
+    ensures { shown_parent seen result ≡ above profiles.now (seen ancestor.now) }
+{
+    match parent_of(ancestor)? {
+        None => Ok(None),
+        Some(parent) => Ok(Some(ancestor_at(profiles, parent))),
+    }
+}
+
+/// The line of a profile: itself, what it inherits from, and so on to `dev` or `release`.
+///
+/// NoSuchProfile where one of them is not built in and not written, InheritsCycle where the line has no
+/// end, NotInOverride where an override of one of them sets `panic`, `lto` or `rpath`.
+#[tactic(auto, using(crate::proofs::Merged::each_seen))]
+pub fn line_of<'a>(
+    alloc: Global,
+    profiles: &'a [Profile],
+    profile: &'a str,
+) -> Result<Vec<Ancestor<'a>>, ProfileFault>
+    ensures { Gives profile_fault.OutOfMemory (λ line. map seen line.items) result (checked_line profiles.now profile.now) }
+{
+    let line = walked(alloc, profiles, profile)?;
+    if all_allow(line.as_slice()) {
+        Ok(line)
+    } else {
+        Err(ProfileFault::NotInOverride)
+    }
+}
+
+/// Whether no override of these profiles sets what it may not set.
+fn all_allow(line: &[Ancestor]) -> bool
+    ensures { result ≡ list_all (λ ancestor. allows (seen ancestor)) line.now }
+{
+    line.iter().all(|ancestor| allows(ancestor))
+}
+
+/// The line of a profile, whatever its overrides set.
+fn walked<'a>(
+    alloc: Global,
+    profiles: &'a [Profile],
+    profile: &'a str,
+) -> Result<Vec<Ancestor<'a>>, ProfileFault>
+    ensures { Gives profile_fault.OutOfMemory (λ line. map seen line.items) result (line_of profiles.now profile.now) }
+{
+    let mut line = Vec::new(alloc);
+    let mut ancestor = ancestor_at(profiles, profile);
+    'upward: for _ in 0..profiles.len() + 2 {
+        match above(profiles, &ancestor) {
+            Err(fault) => return Err(fault),
+            Ok(None) => {
+                line.push(ancestor)?;
+                return Ok(line);
+            }
+            Ok(Some(next)) => {
+                line.push(ancestor)?;
+                ancestor = next;
+            }
+        }
+    }
+    Err(ProfileFault::InheritsCycle)
+}
+
+/// Whether keys set none that an override may not set.
+fn may_override(keys: &ProfileKeys) -> bool
+    ensures { result ≡ may_override keys.now }
+{
+    keys.panic.is_none() && keys.lto.is_none() && keys.rpath.is_none()
+}
+
+/// Whether no override of a profile sets what it may not set.
+fn allows(ancestor: &Ancestor) -> bool
+    ensures { result ≡ allows (seen ancestor.now) }
+{
+    match ancestor.table {
+        None => true,
+        Some(table) => table_allows(table),
+    }
+}
+
+/// Whether keys that may be there set none that an override may not set.
+fn some_may_override(keys: Option<ProfileKeys>) -> bool
+    ensures { result ≡ option_all may_override keys }
+{
+    match keys {
+        None => true,
+        Some(keys) => may_override(&keys),
+    }
+}
+
+/// Whether overrides set none that they may not set.
+fn all_may_override(overrides: &[ProfileOverride]) -> bool
+    ensures { result ≡ list_all (λ (o : ProfileOverride). may_override o.keys) overrides.now }
+{
+    overrides.iter().all(|one| may_override(&one.keys))
+}
+
+/// Whether no override of a table sets what it may not set.
+fn table_allows(table: &Profile) -> bool
+    ensures { result ≡ table_allows table.now }
+{
+    some_may_override(table.build_override) && all_may_override(table.packages.as_slice())
+}

@@ -1,0 +1,14 @@
+//! Workspaces: which packages there are, each with nothing left to inherit and nothing left to look
+//! for, and which of them a build is asked for (The Cargo Book, Workspaces, Manifest Format,
+//! Specifying Dependencies).
+#![tactic(auto)]
+
+pub mod fault;
+pub mod options;
+pub mod package;
+pub mod workspace;
+
+pub use fault::LoadFault;
+pub use options::{Options, Selection};
+pub use package::{About, Binary, DependencyKind, Entry, Library, Package, Side};
+pub use workspace::{DefaultMembers, Workspace};
