@@ -34,7 +34,7 @@ fn put_manifest(out: &mut String, manifest: &Manifest) -> Result<(), Fail> {
     put_dependencies(out, "dep", &manifest.dependencies)?;
     put_dependencies(out, "build-dep", &manifest.build_dependencies)?;
     if !manifest.dev_dependencies.is_empty() {
-        put_texts(out, "dev", &manifest.dev_dependencies)?;
+        put_texts(out, "dev-deps", &manifest.dev_dependencies)?;
     }
     for feature in manifest.features.as_slice() {
         put_feature(out, feature)?;
@@ -80,14 +80,14 @@ fn put_path(out: &mut String, name: &str, path: &Option<WrittenPath>) -> Result<
 }
 
 fn put_paths(out: &mut String, name: &str, paths: &Items<WrittenPath>) -> Result<(), Fail> {
-    let mut mark = "=";
-    write!(out, " {name}")?;
+    write!(out, " {name}=")?;
+    let mut first = true;
     for path in paths.as_slice() {
-        write!(out, "{mark}{}", path.as_str())?;
-        mark = "+";
-    }
-    if mark == "=" {
-        write!(out, "=")?;
+        if !first {
+            write!(out, "+")?;
+        }
+        first = false;
+        write!(out, "{}", path.as_str())?;
     }
     Ok(())
 }
@@ -180,34 +180,29 @@ fn put_dependencies(out: &mut String, name: &str, entries: &Items<Dependency>) -
     Ok(())
 }
 
-fn put_path_source(out: &mut String, source: &PathSource) -> Result<(), Fail> {
+fn put_source(out: &mut String, source: &PathSource) -> Result<(), Fail> {
     write!(out, " path={}", source.path.as_str())?;
     put_text(out, "package", &source.package)?;
     if let Some(version) = &source.version {
         write!(out, " version={}", version.text().as_str())?;
     }
     if !source.default_features {
-        write!(out, " without-default")?;
-    }
-    Ok(())
-}
-
-fn put_source(out: &mut String, source: &Source) -> Result<(), Fail> {
-    match source {
-        Source::Path(source) => put_path_source(out, source)?,
-        Source::Workspace { default_features } => {
-            write!(out, " ^")?;
-            if *default_features {
-                write!(out, " with-default")?;
-            }
-        }
+        write!(out, " default-features=false")?;
     }
     Ok(())
 }
 
 fn put_dependency(out: &mut String, name: &str, entry: &Dependency) -> Result<(), Fail> {
     write!(out, " {name}({}", entry.key.as_str())?;
-    put_source(out, &entry.source)?;
+    match &entry.source {
+        Source::Path(source) => put_source(out, source)?,
+        Source::Workspace { default_features } => {
+            write!(out, " ^")?;
+            if *default_features {
+                write!(out, " default-features=true")?;
+            }
+        }
+    }
     if entry.optional {
         write!(out, " optional")?;
     }
@@ -221,7 +216,7 @@ fn put_dependency(out: &mut String, name: &str, entry: &Dependency) -> Result<()
 fn put_shared_dependency(out: &mut String, entry: &WorkspaceDependency) -> Result<(), Fail> {
     write!(out, " dep({}", entry.key.as_str())?;
     match &entry.source {
-        WorkspaceSource::Path(source) => put_path_source(out, source)?,
+        WorkspaceSource::Path(source) => put_source(out, source)?,
         WorkspaceSource::Unsupported => write!(out, " !")?,
     }
     if !entry.features.is_empty() {

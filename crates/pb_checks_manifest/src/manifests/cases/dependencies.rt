@@ -5,7 +5,7 @@ pub const DEPENDENCIES: &str = r#"=== a 0.0.0 E2015 dep(q path=b) build-dep(q pa
 package.name = "a"
 dependencies.q.path = "b"
 build-dependencies.q.path = "c"
-=== a 0.0.0 E2015 dep(q path= package=p-p version=>=1, <2 without-default optional features=f+g h)
+=== a 0.0.0 E2015 dep(q path= package=p-p version=>=1, <2 optional default-features=false features=f+g h)
 package.name = "a"
 [dependencies.q]
 path = ""
@@ -23,12 +23,6 @@ a_b = { path = "1" }
 === a 0.0.0 E2015 dep(q ^ optional features=f)
 package.name = "a"
 dependencies.q = { workspace = true, path = "b", package = "p", version = "1", optional = true, default-features = false, features = ["f"] }
-=== a 0.0.0 E2015 dep(q ^ with-default)
-package.name = "a"
-dependencies.q = { workspace = true, default-features = true }
-=== a 0.0.0 E2015 dev=a b+b
-package.name = "a"
-dev-dependencies = { b = 1, "a b" = { git = 1 } }
 === UnsupportedSource
 package.name = "a"
 dependencies.s = "1"
@@ -150,6 +144,12 @@ dependencies.s = { path = "s", package = "p p", features = ["a b"] }
 === a 0.0.0 E2015 build-dep(s ^)
 package.name = "a"
 build-dependencies.s.workspace = true
+=== a 0.0.0 E2015 dep(s ^ default-features=true)
+package.name = "a"
+dependencies.s = { workspace = true, default-features = true }
+=== a 0.0.0 E2015 dev-deps=+a b+z
+package.name = "a"
+dev-dependencies = { z = 1, "a b" = { git = 1 }, "" = [] }
 === BadKind(BuildDependencies)
 package.name = "a"
 build-dependencies = 1
