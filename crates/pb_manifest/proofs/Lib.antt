@@ -10,6 +10,7 @@ pub mod Names
 pub mod Parting
 pub mod Promises
 pub mod Sorted
+pub mod Spelled
 pub mod Tables
 pub mod Yields
 pub mod Zero

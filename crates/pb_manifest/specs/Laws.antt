@@ -63,6 +63,10 @@ pub record IsSpelled (text : Text) (i : FeatureItem) : Type 0 where
 abbrev pub SpellsItems : Type 0
 SpellsItems = (text : Text) (i : FeatureItem) → item_in text ≡ Ok i → IsSpelled text i
 
+-- and each spelling of an item whose names have their letters is read as that item
+abbrev pub ReadsSpellings : Type 0
+ReadsSpellings = (i : FeatureItem) → IsItem i → item_in (item_text i) ≡ Ok i
+
 -- a package that was read has a name of the letters of package names, which is not empty
 abbrev pub NamesPackages : Type 0
 NamesPackages = (bytes : List ℕ) (m : Manifest) (p : Package) → manifest_of bytes ≡ Ok m → m.package ≡ Some p → is_name p.name ≡ true

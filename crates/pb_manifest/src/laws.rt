@@ -5,7 +5,7 @@ ghost use Rattle.std.specs.Prelude.{◌≡◌, ◌<◌, ℕ, List};
 ghost use Rattle.pb_manifest.specs.Binaries.{binary_keys};
 ghost use Rattle.pb_manifest.specs.Dependencies.{dependency_keys, shared_dependency_keys};
 ghost use Rattle.pb_manifest.specs.Document.{document_of};
-ghost use Rattle.pb_manifest.specs.Laws.{OrdersTables, SpellsItems, KeepsPromises, PassesOver, RefusesLarge, NamesPackages, DefaultEdition, DefaultVersion, DefaultLibraryName, KeepsOrder};
+ghost use Rattle.pb_manifest.specs.Laws.{OrdersTables, SpellsItems, ReadsSpellings, KeepsPromises, PassesOver, RefusesLarge, NamesPackages, DefaultEdition, DefaultVersion, DefaultLibraryName, KeepsOrder};
 ghost use Rattle.pb_manifest.specs.Library.{library_of};
 ghost use Rattle.pb_manifest.specs.OwnKeys.{LooksAt, of_package, of_library, of_binary, of_dependency, of_settings, of_profile, of_workspace, of_inherited, of_document};
 ghost use Rattle.pb_manifest.specs.Package.{package_of};
@@ -61,10 +61,12 @@ pub fn manifests_keep_promises()
     ensures { KeepsPromises }
 {}
 
-/// No text is read as an item of a feature but the item's own spelling: `F`, `dep:N`, `N/F` or `N?/F`,
-/// with N of the letters of package names and F of those of feature names (The Cargo Book, Features).
+/// A text is read as an item of a feature exactly where it is the item's own spelling: `F`, `dep:N`, `N/F`
+/// or `N?/F`, with N of the letters of package names and F of those of feature names (The Cargo Book,
+/// Features).
 pub fn items_have_their_spelling()
-    ensures { SpellsItems }
+    ensures only { SpellsItems }
+    ensures each { ReadsSpellings }
 {}
 
 /// The package of a manifest that was read has a name of ASCII letters, digits, `-` and `_`, and

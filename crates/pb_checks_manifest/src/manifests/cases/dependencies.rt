@@ -5,7 +5,7 @@ pub const DEPENDENCIES: &str = r#"=== a 0.0.0 E2015 dep(q path=b) build-dep(q pa
 package.name = "a"
 dependencies.q.path = "b"
 build-dependencies.q.path = "c"
-=== a 0.0.0 E2015 dep(q path= package=p-p version=>=1, <2 optional default-features=false features=f+g h)
+=== a 0.0.0 E2015 dep(q path= package=p-p version=>=1, <2 default-features=false optional features=f+g h)
 package.name = "a"
 [dependencies.q]
 path = ""
