@@ -1,5 +1,5 @@
 -- A table tells the first fault of its keys.
-use Rattle.std.proofs.Common.{◌≡◌, List, [], ◌∷◌, Option, Some, None, Ok, Err, Bool, true, false, ◌&&◌, not, refl, sym, ◌∙◌, ap}
+use Rattle.std.proofs.Common.{◌≡◌, Option, Some, None, Ok, Err, Bool, true, false, ◌&&◌, not, refl, ◌∙◌}
 use Rattle.std.specs.Option.{option_or}
 use Rattle.toml.specs.Data.{Members}
 use Rattle.pb_data.specs.Gives.{◌>>=◌}
@@ -15,7 +15,7 @@ use Rattle.pb_manifest.specs.Package.{name_at, build_at, inherited_edition_at, i
 use Rattle.pb_manifest.specs.Dependencies.{shared_dependencies_at, refused_where, own_path, workspace_at}
 use Rattle.pb_manifest.specs.Workspace.{listed_paths_at, workspace_package_at}
 use Rattle.pb_manifest.specs.Workspace as workspace_table
-use Rattle.pb_manifest.specs.FirstFaults.{told, first_fault, TellsLowest, faults_of_package, faults_of_library, faults_of_binary, faults_of_dependency, faults_of_shared_dependency, faults_of_inherited, faults_of_workspace}
+use Rattle.pb_manifest.specs.FirstFaults.{told, first_fault, faults_of_package, faults_of_library, faults_of_binary, faults_of_dependency, faults_of_shared_dependency, faults_of_inherited, faults_of_workspace}
 
 or_assoc : {A : Type 0} (a b c : Option A) → option_or (option_or a b) c ≡ option_or a (option_or b c)
 or_assoc None b c = refl
