@@ -1,5 +1,5 @@
 -- Names with `_` for each `-`.
-use Rattle.std.proofs.Common.{◌≡◌, ℕ, ◌+◌, ◌<◌, ◌≤◌, suc, not, ◌||◌, Bool, true, false, cond, List, [], ◌∷◌, ◌++◌, length, take, drop, Option, None, Some, sym, ◌∙◌, ap, refl, subst, arith, eqb, if◌then◌else◌, append_assoc, length-drop}
+use Rattle.std.proofs.Common.{◌≡◌, ℕ, ◌+◌, ◌<◌, ◌≤◌, suc, not, Bool, true, false, cond, List, [], ◌∷◌, ◌++◌, length, take, drop, None, Some, sym, ◌∙◌, ap, refl, subst, arith, eqb, if◌then◌else◌, append_assoc, length-drop}
 use Rattle.std.proofs.lemmas.Bool.Decides.{Decides-eqb, nat_tests}
 use Rattle.std.specs.List.{position_or_len, before_first, after_first}
 use Rattle.pb_manifest.specs.Features.{parted}

@@ -1,18 +1,15 @@
 -- An item of a feature is read from its spelling alone.
-use Rattle.std.proofs.Common.{◌≡◌, ℕ, ◌+◌, ◌<◌, suc, not, ◌&&◌, ◌==◌, Bool, true, false, cond, List, [], ◌∷◌, ◌++◌, length, take, drop, Option, None, Some, Ok, Err, sym, ◌∙◌, ap, refl, subst, arith, eqb, if◌then◌else◌, append_assoc, codes}
+use Rattle.std.proofs.Common.{◌≡◌, ◌&&◌, ◌==◌, [], ◌∷◌, ◌++◌, length, Option, None, Some, ◌∙◌, ap, refl, append_assoc, codes}
 use Rattle.std.proofs.lemmas.Bool.{and_parts}
 use Rattle.std.proofs.lemmas.Bool.Decides.{Decides-eqb}
 use Rattle.std.proofs.lemmas.List.{nil_from_length}
 use Rattle.std.proofs.lemmas.Slice.Eq.{bytes_eq-Decides}
-use Rattle.std.specs.List.{position_or_len, before_first, after_first}
 use Rattle.std.specs.Str.{bytes_eq}
 use Rattle.pb_manifest.specs.Features.{parted, own_item, dependency_item, whole_item, item_of, item_of_enabled, parted_item, item_from, item_in}
-use Rattle.pb_manifest.specs.Laws.{item_text, IsSpelled}
+use Rattle.pb_manifest.specs.Laws.{IsSpelled}
 use Rattle.pb_manifest.specs.Letters.{is_name, is_feature_name}
 use Rattle.pb_manifest.specs.Values.{Text}
 use Rattle.pb_manifest.specs.declared.fault.ManifestFault.TheVariants.{BadFeature}
-use Rattle.pb_manifest.specs.declared.feature.FeatureItem.{FeatureItem}
-use Rattle.pb_manifest.specs.declared.feature.FeatureItem.TheVariants as item
 use Rattle.pb_manifest.proofs.Parting.{parted_around}
 use Rattle.pb_manifest.proofs.Yields.{Yields, yields_ok, yields_err, yields_either}
 

@@ -14,3 +14,4 @@ pub mod Spelled
 pub mod Tables
 pub mod Yields
 pub mod Zero
+pub mod Firsts

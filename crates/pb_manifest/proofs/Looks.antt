@@ -1,6 +1,4 @@
 -- The reading of each table looks at its own keys alone.
-use Rattle.std.proofs.Common.{◌≡◌}
-use Rattle.toml.specs.Data.{Members}
 use Rattle.pb_manifest.specs.Binaries.{binary_keys}
 use Rattle.pb_manifest.specs.Dependencies as dependency
 use Rattle.pb_manifest.specs.Document.{document_of, targets_of, tables_of}

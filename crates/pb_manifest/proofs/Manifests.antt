@@ -1,28 +1,26 @@
 -- Each manifest that was read is one.
-use Rattle.std.proofs.Common.{◌≡◌, ◌≢◌, ◌≤◌, ℕ, ℤ, pos, negsuc, List, [], Bool, true, false, not, ◌&&◌, ◌||◌, nat_le, nat_lt, length, ap, sym, ◌∙◌, refl, subst, Option, Some, None, Ok, Err, IfSome, IsSome, is_some, if◌then◌else◌, codes, arith}
+use Rattle.std.proofs.Common.{◌≡◌, ◌≢◌, ◌≤◌, ℕ, ℤ, pos, negsuc, List, Bool, true, false, not, ◌&&◌, ◌||◌, nat_le, nat_lt, length, ap, sym, ◌∙◌, refl, subst, Option, Some, None, Err, IfSome, IsSome, is_some, if◌then◌else◌, codes, arith}
 use Rattle.std.proofs.lemmas.Bool.{and_parts, false≢true}
 use Rattle.std.proofs.lemmas.Bool.Decides.{nat_tests}
 use Rattle.std.specs.List.{AllByRecursion}
 use Rattle.std.specs.Str.{bytes_eq}
 use Rattle.toml.specs.Data.{Data, Members, as_str, as_bool, as_table, as_integer, is_sorted}
-use Rattle.pb_data.specs.Gives.{◌>>=◌, some_or}
 use Rattle.pb_manifest.specs.Binaries.{binaries_at}
 use Rattle.pb_manifest.specs.Dependencies.{dependencies_at, dependency_of, shared_dependencies_at, shared_dependency_of}
-use Rattle.pb_manifest.specs.Document.{supported, not_old, package_in, package_at, library_in, library_at, workspace_in, workspace_at, targets_of, tables_of, document_of, document_in, manifest_of, greatest_length}
+use Rattle.pb_manifest.specs.Document.{supported, not_old, package_at, library_in, library_at, workspace_in, workspace_at, targets_of, tables_of, document_of, document_in, manifest_of, greatest_length}
 use Rattle.pb_manifest.specs.Features.{features_at, feature_of}
 use Rattle.pb_manifest.specs.Keys.{spelled}
 use Rattle.pb_manifest.specs.Letters.{is_name, is_name_byte}
 use Rattle.pb_manifest.specs.Package.{resolver_at}
 use Rattle.pb_manifest.specs.Profiles.{codegen_units_from, codegen_units_in, debug_in, lto_in, opt_level_in, panic_in, strip_in, profile_value, profile_keys, profile_table, override_of, overrides_at, build_override_in, build_override_at, is_built_in, may_be_profile, profile_of_table, profile_of, profiles_at}
-use Rattle.pb_manifest.specs.Promises.{IsName, IsPath, Ascend, IsDependency, IsFeature, AreEntries, AreProfileKeys, IsOverride, IsCustom, IsProfile, IsPackage, IsLibrary, IsWorkspaceTable, IsManifest}
-use Rattle.pb_manifest.specs.Values.{Text, Read, paths_at, listed, table_at, value_at, optional, keys_at, entries_of}
+use Rattle.pb_manifest.specs.Promises.{IsName, IsPath, Ascend, IsDependency, IsFeature, AreEntries, AreProfileKeys, IsOverride, IsProfile, IsPackage, IsLibrary, IsWorkspaceTable, IsManifest}
+use Rattle.pb_manifest.specs.Values.{Text, paths_at, listed, table_at, value_at, optional, entries_of}
 use Rattle.pb_manifest.specs.Workspace.{workspace_of, workspace_package_at, listed_paths_at}
 use Rattle.pb_manifest.specs.declared.document.Targets.{Targets}
 use Rattle.pb_manifest.specs.declared.document.Tables.{Tables}
 use Rattle.pb_manifest.specs.declared.fault.ManifestFault.TheVariants.{BadProfile, TooLarge}
 use Rattle.pb_manifest.specs.declared.key.Key.{Key}
 use Rattle.pb_manifest.specs.declared.key.Key.TheVariants as key
-use Rattle.pb_manifest.specs.declared.manifest.Manifest.{Manifest}
 use Rattle.pb_manifest.specs.declared.manifest.WorkspaceTable.{WorkspaceTable}
 use Rattle.pb_manifest.specs.declared.profile.Profile.{Profile}
 use Rattle.pb_manifest.specs.declared.profile.ProfileKeys.{ProfileKeys}

@@ -1,47 +1,33 @@
 -- What each table promises.
-use Rattle.std.proofs.Common.{◌≡◌, ◌≢◌, ◌≤◌, ℕ, ℤ, pos, negsuc, List, [], Bool, true, false, not, ◌&&◌, ◌||◌, ◌==◌, nat_le, nat_lt, length, ap, sym, ◌∙◌, refl, subst, Option, Some, None, Ok, Err, IfSome, IsSome, is_some, if◌then◌else◌, codes, arith}
-use Rattle.std.proofs.lemmas.Bool.{and_parts, false≢true}
-use Rattle.std.proofs.lemmas.Bool.Decides.{nat_tests}
+use Rattle.std.proofs.Common.{◌≡◌, List, [], Bool, true, false, ◌&&◌, ◌==◌, length, refl, Option, Some, None, Ok, Err, IfSome, if◌then◌else◌, codes}
+use Rattle.std.proofs.lemmas.Bool.{and_parts}
 use Rattle.std.specs.List.{AllByRecursion}
 use Rattle.std.specs.Str.{bytes_eq}
-use Rattle.toml.specs.Data.{Data, Members, as_str, as_bool, as_table, as_integer, is_sorted}
-use Rattle.pb_data.specs.Gives.{◌>>=◌, some_or}
+use Rattle.toml.specs.Data.{Data, Members, as_str, as_bool, as_table}
 use Rattle.pb_manifest.specs.Binaries as binaries
 use Rattle.pb_manifest.specs.Dependencies as dependencies
-use Rattle.pb_manifest.specs.Document.{supported, not_old, package_in, package_at, library_in, library_at, workspace_in, workspace_at, targets_of, tables_of, document_of, document_in, manifest_of, greatest_length}
+use Rattle.pb_manifest.specs.Document.{package_in, library_in}
 use Rattle.pb_manifest.specs.Features as features
-use Rattle.pb_manifest.specs.Letters.{is_name, is_crate_name, is_feature_name, has_zero}
+use Rattle.pb_manifest.specs.Letters.{is_name, is_crate_name, is_feature_name}
 use Rattle.pb_manifest.specs.Library as library
 use Rattle.pb_manifest.specs.Package.{name_in, name_at, build_from, build_in, build_at, first_keys, middle_keys, last_keys, package_of, inherited_edition_at}
-use Rattle.pb_manifest.specs.Profiles as profiles
-use Rattle.pb_manifest.specs.Profiles.{is_built_in}
-use Rattle.pb_manifest.specs.Promises.{IsName, IsFeatureName, IsPath, Ascend, AreEntries, IsBuild, IsPackage, IsLibrary, IsBinary, IsSource, IsSharedSource, IsDependency, IsSharedDependency, IsItem, IsFeature, AreProfileKeys, IsOverride, IsCustom, IsProfile, IsWorkspaceTable, IsManifest}
-use Rattle.pb_manifest.specs.Values.{Text, Read, text_at, truth_at, path_at, paths_at, listed, listed_texts_at, inheritable_text_at, inheritable_texts_at, table_at, array_of, table_of, text_of, value_at, optional, each, zero_free, takes_workspace, keys_at, has, truth_in, entries_of}
-use Rattle.pb_manifest.specs.Versions.{requirement_at, requirement_in}
-use Rattle.pb_manifest.specs.Workspace as workspace
+use Rattle.pb_manifest.specs.Promises.{IsName, IsPath, IsBuild, IsPackage, IsLibrary, IsBinary, IsSource, IsSharedSource, IsDependency, IsSharedDependency, IsItem, IsFeature}
+use Rattle.pb_manifest.specs.Values.{Text, text_at, truth_at, path_at, listed_texts_at, inheritable_text_at, inheritable_texts_at, array_of, table_of, text_of, value_at, zero_free, takes_workspace, has}
+use Rattle.pb_manifest.specs.Versions.{requirement_in}
 use Rattle.pb_manifest.specs.declared.dependency.Dependency.{Dependency}
 use Rattle.pb_manifest.specs.declared.dependency.WorkspaceDependency.{WorkspaceDependency}
-use Rattle.pb_manifest.specs.declared.document.Targets.{Targets}
-use Rattle.pb_manifest.specs.declared.document.Tables.{Tables}
 use Rattle.pb_manifest.specs.declared.entry.LastKeys.{LastKeys}
-use Rattle.pb_manifest.specs.declared.fault.ManifestFault.TheVariants.{BadKind, BadName, BadFeature, BadProfile, UnsupportedSource, TooLarge}
+use Rattle.pb_manifest.specs.declared.fault.ManifestFault.TheVariants.{BadKind, BadName, BadFeature, UnsupportedSource}
 use Rattle.pb_manifest.specs.declared.feature.Feature.{Feature}
-use Rattle.pb_manifest.specs.declared.feature.FeatureItem.{FeatureItem}
 use Rattle.pb_manifest.specs.declared.key.Key.{Key}
 use Rattle.pb_manifest.specs.declared.key.Key.TheVariants as key
-use Rattle.pb_manifest.specs.declared.manifest.Manifest.{Manifest}
-use Rattle.pb_manifest.specs.declared.manifest.WorkspaceTable.{WorkspaceTable}
-use Rattle.pb_manifest.specs.declared.package.Build.{Build}
 use Rattle.pb_manifest.specs.declared.package.Build.TheVariants as build
 use Rattle.pb_manifest.specs.declared.package.FirstKeys.{FirstKeys}
 use Rattle.pb_manifest.specs.declared.package.MiddleKeys.{MiddleKeys}
 use Rattle.pb_manifest.specs.declared.package.Package.{Package}
-use Rattle.pb_manifest.specs.declared.profile.Profile.{Profile}
-use Rattle.pb_manifest.specs.declared.profile.ProfileKeys.{ProfileKeys}
-use Rattle.pb_manifest.specs.declared.profile.ProfileOverride.{ProfileOverride}
 use Rattle.pb_manifest.specs.declared.target.Binary.{Binary}
 use Rattle.pb_manifest.specs.declared.target.Library.{Library}
-use Rattle.pb_manifest.proofs.Yields.{Yields, yields_ok, yields_err, yields_then, yields_either, yields_some, yields_optional, yields_each, Ordered, yields_table, table_sorted, value_sorted, Read1, yields_entries, yields_entries_at, yields_zero_free, yields_path_at, yields_paths_at, keys_ascend}
+use Rattle.pb_manifest.proofs.Yields.{Yields, yields_ok, yields_err, yields_then, yields_either, yields_each, Read1, yields_zero_free, yields_path_at}
 
 -- names
 name_in_is : (found : Option Text) → Yields IsName (name_in found)

@@ -1,14 +1,13 @@
 -- Each spelling of an item is read as the item.
-use Rattle.std.proofs.Common.{◌≡◌, ℕ, ◌+◌, ◌-◌, suc, not, ◌&&◌, ◌||◌, ◌==◌, Bool, true, false, cond, List, [], ◌∷◌, ◌++◌, length, take, drop, Option, None, Some, Ok, Err, sym, ◌∙◌, ap, refl, subst, arith, eqb, if◌then◌else◌, append_assoc, length-append, codes, inl, inr}
+use Rattle.std.proofs.Common.{◌≡◌, ℕ, ◌+◌, suc, not, ◌||◌, ◌==◌, Bool, true, false, cond, [], ◌∷◌, ◌++◌, length, take, drop, None, Some, Ok, sym, ◌∙◌, ap, refl, arith, eqb, append_assoc, length-append, codes, inl, inr}
 use Rattle.std.proofs.lemmas.Bool.{cases_Bool, and_parts, false≢true}
 use Rattle.std.proofs.lemmas.Bool.Decides.{Decides-eqb, nat_tests}
 use Rattle.std.specs.List.{position_or_len, before_first, after_first, list_any, list_all}
-use Rattle.std.specs.Str.{bytes_eq}
-use Rattle.pb_manifest.specs.Features.{parted, own_item, dependency_item, whole_item, item_of, item_of_enabled, parted_item, item_from, item_in}
+use Rattle.pb_manifest.specs.Features.{parted, whole_item, parted_item, item_from, item_in}
 use Rattle.pb_manifest.specs.Laws.{item_text}
 use Rattle.pb_manifest.specs.Letters.{is_name, is_name_byte, is_crate_name_byte, is_feature_byte, is_feature_name}
 use Rattle.pb_manifest.specs.Promises.{IsItem, IsName, IsFeatureName}
-use Rattle.pb_manifest.specs.Values.{Text, Read}
+use Rattle.pb_manifest.specs.Values.{Text}
 use Rattle.pb_manifest.specs.declared.feature.FeatureItem.{FeatureItem}
 use Rattle.pb_manifest.specs.declared.feature.FeatureItem.TheVariants as item
 

@@ -1,17 +1,17 @@
 -- What every answer of a definition is.
-use Rattle.std.proofs.Common.{◌≡◌, ℕ, List, [], ◌∷◌, map, Bool, true, false, ◌&&◌, ap, sym, ◌∙◌, refl, subst, Option, Some, None, Ok, Err, IfSome, if◌then◌else◌, is_lt, nat_cmp, Ordering, Less, Equal, Greater}
+use Rattle.std.proofs.Common.{◌≡◌, List, [], ◌∷◌, map, Bool, true, false, ◌&&◌, ap, sym, refl, subst, Option, Some, None, Ok, Err, IfSome, if◌then◌else◌, is_lt, nat_cmp, Ordering, Less, Equal, Greater}
 use Rattle.std.proofs.lemmas.Bool.{and_parts}
 use Rattle.std.proofs.lemmas.Cmp.{nat_list_cmp_total}
 use Rattle.std.specs.Cmp.Lexicographic.{slice_cmp}
 use Rattle.std.specs.List.{AllByRecursion}
 use Rattle.std.specs.List.Sorted.{IsStrictlySortedBy}
 use Rattle.std.specs.Ordering.{match_ordering}
-use Rattle.toml.specs.Data.{Data, string, integer, float, boolean, datetime, array, table, Items, no_items, item, Members, no_members, member, get_member, as_str, as_array, as_table, is_before, is_sorted, items_are_sorted, members_are_sorted}
+use Rattle.toml.specs.Data.{Data, string, integer, float, boolean, datetime, array, table, Items, no_items, item, Members, no_members, member, get_member, as_table, is_before, is_sorted, members_are_sorted}
 use Rattle.pb_data.specs.Gives.{◌>>=◌, some_or}
 use Rattle.pb_manifest.specs.Keys.{spelled}
 use Rattle.pb_manifest.specs.Letters.{has_zero}
 use Rattle.pb_manifest.specs.Promises.{IsPath, Ascend, AreEntries}
-use Rattle.pb_manifest.specs.Values.{Text, Read, value_at, optional, each, each_entry, entries_of, entries_at, table_of, table_at, array_of, text_of, path_of, zero_free, paths_of, path_at, paths_at, listed, keys_of, keys_in, keys_at, table_in}
+use Rattle.pb_manifest.specs.Values.{Text, Read, value_at, optional, each, each_entry, entries_of, entries_at, table_of, table_at, array_of, text_of, path_of, zero_free, paths_of, path_at, paths_at, keys_of, keys_in, keys_at, table_in}
 use Rattle.pb_manifest.specs.declared.fault.ManifestFault.TheVariants.{BadKind}
 use Rattle.pb_manifest.specs.declared.key.Key.{Key}
 

@@ -2,6 +2,7 @@ pub mod Binaries
 pub mod Dependencies
 pub mod Document
 pub mod Features
+pub mod FirstFaults
 pub mod Keys
 pub mod Laws
 pub mod Letters

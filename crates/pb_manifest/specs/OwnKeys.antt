@@ -1,5 +1,5 @@
 -- The keys that each table's reading looks at (The Cargo Book, Manifest Format, Workspaces, Specifying Dependencies, Profiles).
-use Rattle.std.specs.Prelude.{◌≡◌, List, [], ◌∷◌, ◌++◌}
+use Rattle.std.specs.Prelude.{◌≡◌, List, [], ◌∷◌}
 use Rattle.std.specs.List.{AllByRecursion}
 use Rattle.toml.specs.Data.{Members}
 use Rattle.pb_manifest.specs.Values.{Read, value_at}

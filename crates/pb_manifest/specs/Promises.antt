@@ -1,5 +1,5 @@
 -- What a manifest that was read promises.
-use Rattle.std.specs.Prelude.{◌≡◌, ◌≢◌, ◌≤◌, true, false, List, map, codes, Option, IfSome, IsSome}
+use Rattle.std.specs.Prelude.{◌≡◌, ◌≢◌, ◌≤◌, true, false, List, map, codes, IfSome, IsSome}
 use Rattle.std.specs.Cmp.Lexicographic.{slice_cmp}
 use Rattle.std.specs.List.{AllByRecursion}
 use Rattle.std.specs.List.Sorted.{IsStrictlySortedBy}
@@ -7,7 +7,6 @@ use Rattle.std.specs.Ordering.{nat_cmp}
 use Rattle.pb_manifest.specs.Letters.{is_name, is_crate_name, is_feature_name, has_zero}
 use Rattle.pb_manifest.specs.Profiles.{is_built_in}
 use Rattle.pb_manifest.specs.Values.{Text}
-use Rattle.pb_manifest.specs.declared.dependency.PathSource.{PathSource}
 use Rattle.pb_manifest.specs.declared.dependency.Source.{Source}
 use Rattle.pb_manifest.specs.declared.dependency.Source.TheVariants as own
 use Rattle.pb_manifest.specs.declared.dependency.WorkspaceSource.{WorkspaceSource}

@@ -6,6 +6,7 @@ ghost use Rattle.pb_manifest.specs.Binaries.{binary_keys};
 ghost use Rattle.pb_manifest.specs.Dependencies.{dependency_keys, shared_dependency_keys};
 ghost use Rattle.pb_manifest.specs.Document.{document_of};
 ghost use Rattle.pb_manifest.specs.Laws.{OrdersTables, SpellsItems, ReadsSpellings, KeepsPromises, PassesOver, RefusesLarge, NamesPackages, DefaultEdition, DefaultVersion, DefaultLibraryName, KeepsOrder};
+ghost use Rattle.pb_manifest.specs.FirstFaults.{TellsLowest, faults_of_package, faults_of_library, faults_of_binary, faults_of_dependency, faults_of_shared_dependency, faults_of_inherited, faults_of_workspace};
 ghost use Rattle.pb_manifest.specs.Library.{library_of};
 ghost use Rattle.pb_manifest.specs.OwnKeys.{LooksAt, of_package, of_library, of_binary, of_dependency, of_settings, of_profile, of_workspace, of_inherited, of_document};
 ghost use Rattle.pb_manifest.specs.Package.{package_of};
@@ -94,4 +95,17 @@ pub fn default_library_name()
 /// The binaries of `[[bin]]` are those of the list, one for one and in its order.
 pub fn binaries_keep_their_order()
     ensures { KeepsOrder }
+{}
+
+/// Of the faults in a table with fixed keys the one of the lowest key, in byte order, is told: `[package]`,
+/// `[lib]`, a `[[bin]]`, an entry of dependencies, one of `[workspace.dependencies]`, `[workspace.package]`
+/// and `[workspace]`. In `[profile]` all faults are one.
+pub fn lowest_faults_are_told()
+    ensures package_table { TellsLowest faults_of_package package_of }
+    ensures library { TellsLowest faults_of_library library_of }
+    ensures binary { TellsLowest faults_of_binary binary_keys }
+    ensures dependency { (name : Text) → TellsLowest faults_of_dependency (dependency_keys name) }
+    ensures shared_dependency { (name : Text) → TellsLowest faults_of_shared_dependency (shared_dependency_keys name) }
+    ensures inherited { TellsLowest faults_of_inherited workspace_package_of }
+    ensures workspace { TellsLowest faults_of_workspace workspace_of }
 {}

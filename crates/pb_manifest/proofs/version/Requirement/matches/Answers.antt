@@ -1,4 +1,4 @@
-use Rattle.std.proofs.Common.{◌∙◌, sym}
+use Rattle.std.proofs.Common.{◌∙◌}
 use Rattle.pb_manifest.specs.Versions.{matches}
 use Rattle.pb_manifest.proofs.Matching.{decided}
 use Rattle.pb_manifest.proofs.version.Requirement.matches.Goals as goal
