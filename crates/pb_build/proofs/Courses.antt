@@ -1,21 +1,13 @@
 -- What a child sees, and what the steps of a build give, over what each call ensures.
-use Rattle.std.proofs.Common.{◌≡◌, ◌≢◌, ◌==◌, ◌∙◌, ◌++◌, ◌&&◌, ◌||◌, Bool, true, false, not, if◌then◌else◌, List, [], ◌∷◌, ℕ, cond, codes, Option, Some, None, Result, Ok, Err, IfOk, IfErr, MatchResult, string_bytes, refl, sym, ap, subst, arith, inl, inr}
-use Rattle.std.proofs.lemmas.Bool.{cases_Bool, false≢true}
-use Rattle.std.proofs.lemmas.Bool.Decides.{nat_tests}
-use Rattle.std.specs.FinMap.{get, retain_keys, same_map}
-use Rattle.std.specs.Cmp.Lexicographic.{nat_list_cmp_total}
-use Rattle.std.specs.Str.{bytes_eq}
+use Rattle.std.proofs.Common.{◌≡◌, ◌≢◌, ◌∙◌, ◌++◌, true, false, List, [], ◌∷◌, ℕ, codes, Some, Result, Ok, Err, IfOk, IfErr, MatchResult, string_bytes, refl, sym, ap, subst}
 use Rattle.pb_data.specs.Gives.{◌>>=◌}
-use Rattle.pb_place.specs.Paths.{stem, leads_below, is_below, is_at_or_below}
-use Rattle.pb_place.specs.World.{World, Answers, Ends, Map, is_shown, seen_by, from_nothing, removed, put_reply}
+use Rattle.pb_place.specs.Paths.{below, is_at_or_below}
+use Rattle.pb_place.specs.World.{World, Answers, Ends, seen_by, from_nothing, removed, put_reply}
 use Rattle.pb_place.specs.declared.child.Reply.{Reply}
 use Rattle.pb_place.specs.declared.command.Command.{Command}
 use Rattle.pb_place.specs.declared.command.Ended.{Ended}
 use Rattle.pb_place.proofs.Folders.{sees_sources, sources_stayed, only_removed}
-use Rattle.pb_place.proofs.MapLemmas.{exact, get-kept, same_bytes}
-use Rattle.pb_place.proofs.PathLemmas.{and_left, and_right}
 use Rattle.pb_place.proofs.Within.{at_below, below_on, goes_below}
-use Rattle.pb_place.proofs.Worlds.{same_path}
 use Rattle.pb_report.specs.declared.fault.BuildFault.{BuildFault}
 use Rattle.pb_build.specs.declared.setup.Setup.{Setup}
 use Rattle.pb_build.specs.declared.unit.LibraryUnit.{LibraryUnit}

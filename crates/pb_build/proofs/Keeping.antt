@@ -1,5 +1,5 @@
 -- What a step of a build leaves as it was: the sources of each target folder above the folder that it works in.
-use Rattle.std.proofs.Common.{◌≡◌, ◌∙◌, ℕ, Bool, true, not, cond, List, None, codes, refl, sym, ap}
+use Rattle.std.proofs.Common.{◌≡◌, ◌∙◌, ℕ, true, not, cond, List, None, codes, refl, sym, ap}
 use Rattle.std.specs.FinMap.{get, retain_keys, same_map}
 use Rattle.std.specs.Cmp.Lexicographic.{nat_list_cmp_total}
 use Rattle.pb_place.specs.Paths.{below, is_below, is_at_or_below, is_relative}

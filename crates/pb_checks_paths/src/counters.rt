@@ -1,16 +1,17 @@
 //! How the calls of a place are counted, by worked cases.
 
-ghost use Rattle.std.specs.Prelude.{◌≡◌, ◌==◌, if◌then◌else◌};
+ghost use Rattle.std.specs.Prelude.{◌≡◌, ◌==◌, Some, if◌then◌else◌};
 ghost use Rattle.pb_place.specs.Counts.{up, counted, counted_start};
 
-use pb_place::{PlaceFault, StartFault};
+use pb_place::{Failure, PlaceFault, StartFault};
 
-/// The three counters of a place.
+/// The three counters of a place, and its last fault.
 #[derive(Clone, Copy, Debug, PartialEq, Eq)]
 struct Counters {
     failures: u64,
     starts: u64,
     late: u64,
+    last: Option<Failure>,
 }
 
 /// The counters after a call that did not fail.
@@ -18,6 +19,7 @@ fn past_call(before: Counters) -> Counters
     ensures failures { result.failures ≡ before.failures }
     ensures starts { result.starts ≡ before.starts }
     ensures late { result.late ≡ (if before.failures == 0 then 0 else up before.late) }
+    ensures last { result.last ≡ before.last }
 {
     let late = if before.failures == 0 {
         0
@@ -28,36 +30,40 @@ fn past_call(before: Counters) -> Counters
 }
 
 /// The counters after a call that failed.
-fn past_fault(before: Counters) -> Counters
+fn past_fault(failure: Failure, before: Counters) -> Counters
     ensures failures { result.failures ≡ up before.failures }
     ensures starts { result.starts ≡ before.starts }
     ensures late { result.late ≡ 0 }
+    ensures last { result.last ≡ Some failure }
 {
     Counters {
         failures: before.failures.saturating_add(1),
         late: 0,
+        last: Some(failure),
         ..before
     }
 }
 
 /// The counters after a call on files or variables.
 fn after_call(answer: Result<(), PlaceFault>, before: Counters) -> Counters
-    ensures failures { result.failures ≡ (counted answer record { failures = before.failures; starts = before.starts; late = before.late }).failures }
-    ensures starts { result.starts ≡ (counted answer record { failures = before.failures; starts = before.starts; late = before.late }).starts }
-    ensures late { result.late ≡ (counted answer record { failures = before.failures; starts = before.starts; late = before.late }).late }
+    ensures failures { result.failures ≡ (counted answer record { failures = before.failures; starts = before.starts; late = before.late; last = before.last }).failures }
+    ensures starts { result.starts ≡ (counted answer record { failures = before.failures; starts = before.starts; late = before.late; last = before.last }).starts }
+    ensures late { result.late ≡ (counted answer record { failures = before.failures; starts = before.starts; late = before.late; last = before.last }).late }
+    ensures last { result.last ≡ (counted answer record { failures = before.failures; starts = before.starts; late = before.late; last = before.last }).last }
 {
     match answer {
         Ok(()) => past_call(before),
         Err(PlaceFault::OutOfMemory) => past_call(before),
-        Err(_) => past_fault(before),
+        Err(fault) => past_fault(Failure::Called(fault), before),
     }
 }
 
 /// The counters after a start.
 fn after_start(answer: Result<(), StartFault>, before: Counters) -> Counters
-    ensures failures { result.failures ≡ (counted_start answer record { failures = before.failures; starts = before.starts; late = before.late }).failures }
-    ensures starts { result.starts ≡ (counted_start answer record { failures = before.failures; starts = before.starts; late = before.late }).starts }
-    ensures late { result.late ≡ (counted_start answer record { failures = before.failures; starts = before.starts; late = before.late }).late }
+    ensures failures { result.failures ≡ (counted_start answer record { failures = before.failures; starts = before.starts; late = before.late; last = before.last }).failures }
+    ensures starts { result.starts ≡ (counted_start answer record { failures = before.failures; starts = before.starts; late = before.late; last = before.last }).starts }
+    ensures late { result.late ≡ (counted_start answer record { failures = before.failures; starts = before.starts; late = before.late; last = before.last }).late }
+    ensures last { result.last ≡ (counted_start answer record { failures = before.failures; starts = before.starts; late = before.late; last = before.last }).last }
 {
     let begun = Counters {
         starts: before.starts.saturating_add(1),
@@ -66,7 +72,7 @@ fn after_start(answer: Result<(), StartFault>, before: Counters) -> Counters
     match answer {
         Ok(()) => past_call(begun),
         Err(StartFault::OutOfMemory) => past_call(begun),
-        Err(_) => past_fault(begun),
+        Err(fault) => past_fault(Failure::Started(fault), begun),
     }
 }
 
@@ -76,6 +82,15 @@ fn of_numbers(failures: u64, starts: u64, late: u64) -> Counters {
         failures,
         starts,
         late,
+        last: None,
+    }
+}
+
+/// The same, where this fault came last.
+fn after_fault(failure: Failure, counters: Counters) -> Counters {
+    Counters {
+        last: Some(failure),
+        ..counters
     }
 }
 
@@ -105,7 +120,7 @@ fn calls_that_fail(rt: HostRuntime) {
     ] {
         assert_eq!(rt;
             after_call(Err(fault), of_numbers(1, 3, 9)),
-            of_numbers(2, 3, 0)
+            after_fault(Failure::Called(fault), of_numbers(2, 3, 0))
         );
     }
     for fault in [
@@ -115,7 +130,7 @@ fn calls_that_fail(rt: HostRuntime) {
     ] {
         assert_eq!(rt;
             after_start(Err(fault), of_numbers(0, 3, 0)),
-            of_numbers(1, 4, 0)
+            after_fault(Failure::Started(fault), of_numbers(1, 4, 0))
         );
     }
 }
@@ -124,6 +139,19 @@ fn calls_that_fail(rt: HostRuntime) {
 fn counters_that_are_full(rt: HostRuntime) {
     let full = of_numbers(u64::MAX, u64::MAX, 9);
     let failed = of_numbers(u64::MAX, u64::MAX, 0);
-    assert_eq!(rt; after_call(Err(PlaceFault::Read), full), failed);
-    assert_eq!(rt; after_start(Err(StartFault::Died), full), failed);
+    let read = Failure::Called(PlaceFault::Read);
+    let died = Failure::Started(StartFault::Died);
+    assert_eq!(rt;
+        after_call(Err(PlaceFault::Read), full),
+        after_fault(read, failed)
+    );
+    assert_eq!(rt;
+        after_start(Err(StartFault::Died), full),
+        after_fault(died, failed)
+    );
+    // a call that passes, and want of memory, leave the last fault
+    let before = after_fault(read, of_numbers(1, 0, 0));
+    let after = after_fault(read, of_numbers(1, 0, 1));
+    assert_eq!(rt; after_call(Ok(()), before), after);
+    assert_eq!(rt; after_call(Err(PlaceFault::OutOfMemory), before), after);
 }

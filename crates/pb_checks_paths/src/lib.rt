@@ -7,6 +7,8 @@ mod counters;
 #[cfg(test)]
 mod failing;
 #[cfg(test)]
+mod faulty;
+#[cfg(test)]
 mod paths;
 #[cfg(test)]
 mod sinks;

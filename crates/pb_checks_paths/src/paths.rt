@@ -1,7 +1,9 @@
 //! Paths by tables of texts.
 
 use pb_data::{Text, TryCopy};
-use pb_place::{PathFault, PathText, RelativePath, parsing_keeps_paths};
+use pb_place::{
+    PathFault, PathText, RelativePath, folders_nest, parsing_keeps_paths, paths_join_again,
+};
 use std::alloc::{AllocError, Global};
 use std::test::Fail;
 
@@ -111,7 +113,7 @@ fn folders(rt: HostRuntime) -> Result<(), Fail> {
 fn inside(alloc: Global, folder: &str, text: &str) -> Result<Text, Fail> {
     let folder = PathText::parse(alloc, folder)?;
     let text = Text::from_str(alloc, text)?;
-    let Some(relative) = RelativePath::new(alloc, text)? else {
+    let Some(relative) = RelativePath::of(text) else {
         return Ok(Text::from_str(alloc, "none")?);
     };
     let again = relative.copy(alloc)?;
@@ -142,5 +144,60 @@ fn relative_paths(rt: HostRuntime) -> Result<(), Fail> {
     }
     let name = RelativePath::name(rt.alloc(), "a.rlib")?;
     assert_eq!(rt; name.as_str(), "a.rlib");
+    Ok(())
+}
+
+/// What a path is inside a folder, `none` where it is not below it.
+fn inside_of(alloc: Global, folder: &str, path: &str) -> Result<Text, Fail> {
+    let folder = PathText::parse(alloc, folder)?;
+    let path = PathText::parse(alloc, path)?;
+    match path.inside(alloc, &folder)? {
+        Some(relative) => Ok(relative.into_text()),
+        None => Ok(Text::from_str(alloc, "none")?),
+    }
+}
+
+#[test]
+fn paths_taken_apart(rt: HostRuntime) -> Result<(), Fail> {
+    for (folder, path, wanted) in [
+        ("/w", "/w/a/b", "a/b"),
+        ("/", "/w/a", "w/a"),
+        ("/w", "/w", "none"),
+        ("/w", "/wa", "none"),
+        ("/w/a", "/w", "none"),
+    ] {
+        let answer = inside_of(rt.alloc(), folder, path)?;
+        assert_eq!(rt; answer.as_str(), wanted, "of {path} in {folder}");
+    }
+    for (path, wanted) in [("/", ""), ("/w", "w"), ("/w/a.b", "a.b")] {
+        let path = PathText::parse(rt.alloc(), path)?;
+        assert_eq!(rt; path.last_part(), wanted);
+    }
+    paths_join_again();
+    folders_nest();
+    Ok(())
+}
+
+#[test]
+fn texts_that_are_paths(rt: HostRuntime) -> Result<(), Fail> {
+    for (text, wanted) in [
+        ("/", true),
+        ("/w/a", true),
+        ("", false),
+        ("w", false),
+        ("/w/", false),
+        ("//", false),
+        ("/w/../a", false),
+        ("/w\0", false),
+    ] {
+        let made = PathText::of(Text::from_str(rt.alloc(), text)?);
+        assert_eq!(rt; made.is_some(), wanted, "of {text}");
+        if let Some(path) = made {
+            assert_eq!(rt; path.into_text().as_str(), text);
+        }
+    }
+    let low = PathText::parse(rt.alloc(), "/a")?;
+    let high = PathText::parse(rt.alloc(), "/a.b")?;
+    assert!(rt; low < high);
     Ok(())
 }

@@ -1,27 +1,27 @@
-//! Lists of calls, and variables in order.
+//! Writes and removals in turn, and variables in order.
 
 use super::echo::Echo;
 use super::memory::read;
-use pb_data::{Bytes, Text};
-use pb_place::{FileCall, Memory, PathText, TextMap, last_call_stands, perform};
+use pb_data::Text;
+use pb_place::{Memory, PathText, Place, TextMap, last_word_stands};
 use std::alloc::Global;
 use std::test::Fail;
 
-/// A write of a text, or a removal where it is `none`.
-fn call(alloc: Global, path: &str, text: &str) -> Result<FileCall, Fail> {
+/// Writes a text, or removes where it is `none`.
+fn change(alloc: Global, memory: &mut Memory<Echo>, path: &str, text: &str) -> Result<(), Fail> {
     let path = PathText::parse(alloc, path)?;
     if text == "none" {
-        return Ok(FileCall::RemoveTree(path));
+        memory.remove_tree(alloc, &path)?;
+        return Ok(());
     }
-    let bytes = Bytes::from_slice(alloc, text.as_bytes())?;
-    Ok(FileCall::Write(path, bytes))
+    memory.write(alloc, &path, text.as_bytes())?;
+    Ok(())
 }
 
 #[test]
-fn performs(rt: HostRuntime) -> Result<(), Fail> {
+fn changes_in_turn(rt: HostRuntime) -> Result<(), Fail> {
     let alloc = rt.alloc();
     let mut memory = Memory::new(alloc, Echo);
-    let mut calls = Vec::new(alloc);
     for (path, text) in [
         ("/a", "one"),
         ("/a/b", "two"),
@@ -30,10 +30,9 @@ fn performs(rt: HostRuntime) -> Result<(), Fail> {
         ("/a", "none"),
         ("/c", "five"),
     ] {
-        calls.push(call(alloc, path, text)?)?;
+        change(alloc, &mut memory, path, text)?;
     }
-    perform(alloc, &mut memory, calls.as_slice())?;
-    last_call_stands();
+    last_word_stands();
     for (path, want) in [
         ("/a", "none"),
         ("/a/b", "none"),
