@@ -13,7 +13,7 @@ rm -rf "$folder/crates/pb_manifest/src/tests" "$folder/crates/pb_manifest/src/te
 sed -i '/^#\[cfg(test)\]$/d; /^mod tests;$/d' "$folder/crates/pb_manifest/src/lib.rt"
 cat > "$folder/crates.txt" <<'LIST'
 pb_data: indexmap
-pb_manifest: pb_data semver thiserror toml
+pb_manifest: pb_data semver thiserror toml toml_parser
 bench_manifest: pb_manifest toml anyhow
 LIST
 cat > "$folder/crates/bench_manifest/src/main.rt" <<'PROGRAM'

@@ -5,9 +5,12 @@ mod cases;
 mod show;
 
 use cases::CASES;
-use pb_data::Text;
+use pb_data::{Items, Text, TryCopy};
 use pb_manifest::letters::{has_zero, is_crate_name, is_feature_name, is_name};
-use pb_manifest::{Key, ManifestFault, Requirement, Version, read_manifest};
+use pb_manifest::{
+    CrateType, Edition, Key, Library, ManifestFault, PathSource, Readme, Requirement, Version,
+    WrittenPath, crate_name, crate_type_texts, library_name, read_manifest,
+};
 use show::shown;
 use std::alloc::Global;
 use std::process::Abort;
@@ -168,5 +171,83 @@ fn faults_in_words(rt: HostRuntime) -> Result<(), Fail> {
         let words = format!(in rt.alloc(); "{fault}")?;
         assert_eq!(rt; words.as_str(), want);
     }
+    Ok(())
+}
+
+/// Requirements, versions, and whether they match.
+const MATCHES: [(&str, &str, bool); 8] = [
+    ("1", "1.2.3", true),
+    ("1", "2.0.0", false),
+    ("^0.1", "0.1.9", true),
+    ("^0.1", "0.2.0", false),
+    (">=1, <2", "1.9.9+x", true),
+    ("1", "1.0.0-a", false),
+    ("=1.0.0-a", "1.0.0-a", true),
+    ("*", "7.0.0", true),
+];
+
+#[test]
+fn requirements_match(rt: HostRuntime) -> Result<(), Fail> {
+    let alloc = rt.alloc();
+    for (requirement, version, want) in MATCHES {
+        let requirement = Requirement::read(alloc, Text::from_str(alloc, requirement)?)?.copy(
+            alloc,
+        )?;
+        let version = Version::read(alloc, Text::from_str(alloc, version)?)?.copy(alloc)?;
+        assert_eq!(rt;
+            requirement.matches(&version),
+            want,
+            "{}",
+            version.text().as_str()
+        );
+    }
+    Ok(())
+}
+
+#[test]
+fn crates_have_names(rt: HostRuntime) -> Result<(), Fail> {
+    let alloc = rt.alloc();
+    assert_eq!(rt; crate_name(alloc, "a-b--c")?.as_str(), "a_b__c");
+    assert_eq!(rt; crate_name(alloc, "ab")?.as_str(), "ab");
+    assert_eq!(rt; library_name(alloc, "a-b", &None)?.as_str(), "a_b");
+    let mut library = Library {
+        crate_types: Items::new(alloc),
+        name: None,
+        path: None,
+    };
+    library.name = Some(Text::from_str(alloc, "own")?);
+    assert_eq!(rt; library_name(alloc, "a-b", &Some(library))?.as_str(), "own");
+    Ok(())
+}
+
+#[test]
+fn spellings(rt: HostRuntime) -> Result<(), Fail> {
+    let alloc = rt.alloc();
+    assert_eq!(rt; Edition::E2015.text(), "2015");
+    assert_eq!(rt; Edition::E2024.text(), "2024");
+    assert_eq!(rt; CrateType::Bin.text(), "bin");
+    let texts = crate_type_texts(alloc, &[CrateType::Rlib, CrateType::Lib])?;
+    assert_eq!(rt; texts.as_slice(), ["rlib", "lib"].as_slice());
+    let texts = crate_type_texts(alloc, &[])?;
+    assert_eq!(rt; texts.as_slice(), ["lib"].as_slice());
+    Ok(())
+}
+
+#[test]
+fn copies(rt: HostRuntime) -> Result<(), Fail> {
+    let alloc = rt.alloc();
+    assert!(rt; WrittenPath::new(Text::from_str(alloc, "a\0")?).is_none());
+    let Some(path) = WrittenPath::new(Text::from_str(alloc, "../a b")?) else {
+        return Ok(());
+    };
+    let source = PathSource {
+        path,
+        package: None,
+        version: None,
+        default_features: true,
+    };
+    assert_eq!(rt; source.copy(alloc)?.path.as_str(), "../a b");
+    let readme = Readme::At(Text::from_str(alloc, "R")?).copy(alloc)?;
+    assert!(rt; matches!(&readme, Readme::At(_)));
     Ok(())
 }

@@ -9,6 +9,7 @@ use std::alloc::Global;
 use std::test::Fail;
 
 /// A place without files, whose every call fails.
+#[derive(Drop)]
 struct Faulty {
     failures: u64,
     starts: u64,

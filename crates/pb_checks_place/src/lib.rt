@@ -9,4 +9,6 @@ mod echo;
 #[cfg(test)]
 mod honest;
 #[cfg(test)]
+mod host_view;
+#[cfg(test)]
 mod memory;

@@ -1,8 +1,15 @@
 pub mod Came
 pub mod Dashes
+pub mod Items
+pub mod Looks
 pub mod Loops
+pub mod Manifests
 pub mod Matching
 pub mod Named
 pub mod Names
+pub mod Parting
+pub mod Promises
+pub mod Sorted
 pub mod Tables
+pub mod Yields
 pub mod Zero

@@ -1,16 +1,20 @@
 -- Laws of the reader, each about a definition, in the words of the rules.
-use Rattle.std.specs.Prelude.{◌≡◌, ◌≢◌, ◌<◌, ℕ, true, List, [], ◌∷◌, if◌then◌else◌, length, codes, map, Some, None, Ok, Err}
-use Rattle.toml.specs.Data.{Data, Items, no_items, item, Members, no_members, member, same_key}
+use Rattle.std.specs.Prelude.{◌≡◌, ◌≢◌, ◌<◌, ℕ, true, List, [], ◌∷◌, ◌++◌, if◌then◌else◌, length, codes, map, Some, None, Ok, Err}
+use Rattle.toml.specs.Data.{Data, Items, no_items, item, Members, no_members, member, same_key, members_are_sorted}
 use Rattle.pb_manifest.specs.Keys.{spelled}
 use Rattle.pb_manifest.specs.Values.{Text, Read, value_at, each}
 use Rattle.pb_manifest.specs.Binaries.{binary_of}
-use Rattle.pb_manifest.specs.Document.{manifest_of, greatest_length}
+use Rattle.pb_manifest.specs.Document.{document_in, manifest_of, greatest_length}
+use Rattle.pb_manifest.specs.Features.{item_in}
 use Rattle.pb_manifest.specs.Letters.{is_name, underscored_byte}
 use Rattle.pb_manifest.specs.Library.{library_name}
 use Rattle.pb_manifest.specs.Package.{package_of}
+use Rattle.pb_manifest.specs.Promises.{IsItem, IsManifest}
 use Rattle.pb_manifest.specs.declared.key.Key.{Key}
 use Rattle.pb_manifest.specs.declared.key.Key.TheVariants as key
 use Rattle.pb_manifest.specs.declared.fault.ManifestFault.TheVariants.{TooLarge}
+use Rattle.pb_manifest.specs.declared.feature.FeatureItem.{FeatureItem}
+use Rattle.pb_manifest.specs.declared.feature.FeatureItem.TheVariants as feature_item
 use Rattle.pb_manifest.specs.declared.inherited.Inherited.TheVariants.{Written}
 use Rattle.pb_manifest.specs.declared.manifest.Manifest.{Manifest}
 use Rattle.pb_manifest.specs.declared.package.Edition.TheVariants.{E2015}
@@ -31,9 +35,33 @@ without name (member l d ms) = if same_key name l then without name ms else memb
 abbrev pub PassesOver : {A : Type 0} → (Members → Read A) → Type 0
 PassesOver read = (name : Text) (ms : Members) → IsUnnamed name → read (without name ms) ≡ read ms
 
+-- the keys of each table of a document ascend
+abbrev pub OrdersTables : Type 0
+OrdersTables = (bytes : List ℕ) (ms : Members) → document_in bytes ≡ Ok ms → members_are_sorted ms ≡ true
+
 -- a manifest over the size is refused, whatever it says
 abbrev pub RefusesLarge : Type 0
 RefusesLarge = (bytes : List ℕ) → greatest_length < length bytes → manifest_of bytes ≡ Err TooLarge
+
+-- each manifest that was read keeps the promises
+abbrev pub KeepsPromises : Type 0
+KeepsPromises = (bytes : List ℕ) (m : Manifest) → manifest_of bytes ≡ Ok m → IsManifest m
+
+-- how an item of a feature is spelled, in its four forms
+abbrev pub item_text : FeatureItem → Text
+item_text (feature_item.Own feature) = feature
+item_text (feature_item.Dependency name) = codes "dep:" ++ name
+item_text (feature_item.Of name feature) = name ++ (codes "/" ++ feature)
+item_text (feature_item.OfEnabled name feature) = name ++ (codes "?/" ++ feature)
+
+-- the text spells the item, whose names have their letters
+pub record IsSpelled (text : Text) (i : FeatureItem) : Type 0 where
+  pub spelling : text ≡ item_text i
+  pub letters : IsItem i
+
+-- no text is read as an item but the item's own spelling
+abbrev pub SpellsItems : Type 0
+SpellsItems = (text : Text) (i : FeatureItem) → item_in text ≡ Ok i → IsSpelled text i
 
 -- a package that was read has a name of the letters of package names, which is not empty
 abbrev pub NamesPackages : Type 0

@@ -6,8 +6,10 @@ pub mod Keys
 pub mod Laws
 pub mod Letters
 pub mod Library
+pub mod OwnKeys
 pub mod Package
 pub mod Profiles
+pub mod Promises
 pub mod Values
 pub mod Versions
 pub mod Workspace

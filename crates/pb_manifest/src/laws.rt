@@ -5,8 +5,9 @@ ghost use Rattle.std.specs.Prelude.{◌≡◌, ◌<◌, ℕ, List};
 ghost use Rattle.pb_manifest.specs.Binaries.{binary_keys};
 ghost use Rattle.pb_manifest.specs.Dependencies.{dependency_keys, shared_dependency_keys};
 ghost use Rattle.pb_manifest.specs.Document.{document_of};
-ghost use Rattle.pb_manifest.specs.Laws.{PassesOver, RefusesLarge, NamesPackages, DefaultEdition, DefaultVersion, DefaultLibraryName, KeepsOrder};
+ghost use Rattle.pb_manifest.specs.Laws.{OrdersTables, SpellsItems, KeepsPromises, PassesOver, RefusesLarge, NamesPackages, DefaultEdition, DefaultVersion, DefaultLibraryName, KeepsOrder};
 ghost use Rattle.pb_manifest.specs.Library.{library_of};
+ghost use Rattle.pb_manifest.specs.OwnKeys.{LooksAt, of_package, of_library, of_binary, of_dependency, of_settings, of_profile, of_workspace, of_inherited, of_document};
 ghost use Rattle.pb_manifest.specs.Package.{package_of};
 ghost use Rattle.pb_manifest.specs.Profiles.{profile_keys, profile_of_table};
 ghost use Rattle.pb_manifest.specs.Values.{Text};
@@ -27,9 +28,43 @@ pub fn unnamed_keys_change_nothing()
     ensures document { PassesOver document_of }
 {}
 
+/// The reading of each table looks at the table's own keys and at no other: it answers the same for two
+/// tables that say the same there.
+pub fn tables_look_at_their_own_keys()
+    ensures package { LooksAt of_package package_of }
+    ensures library { LooksAt of_library library_of }
+    ensures binary { LooksAt of_binary binary_keys }
+    ensures dependency { (name : Text) → LooksAt of_dependency (dependency_keys name) }
+    ensures shared_dependency { (name : Text) → LooksAt of_dependency (shared_dependency_keys name) }
+    ensures profile { (name : Text) → LooksAt of_profile (profile_of_table name) }
+    ensures settings { LooksAt of_settings profile_keys }
+    ensures workspace { LooksAt of_workspace workspace_of }
+    ensures inherited { LooksAt of_inherited workspace_package_of }
+    ensures document { LooksAt of_document document_of }
+{}
+
 /// A manifest over the size is refused, whatever it says.
 pub fn large_manifests_are_refused()
     ensures { RefusesLarge }
+{}
+
+/// The keys of each table of a document that `toml` reads ascend in byte order, so each stands there
+/// once.
+pub fn documents_are_in_order()
+    ensures { OrdersTables }
+{}
+
+/// Each manifest that was read keeps the promises of `specs/Promises.antt`: names have their letters,
+/// paths hold no byte 0, `codegen-units` is from 1 to 65,536, a custom profile inherits and none is
+/// called `debug`, and the entries of each table stand in byte order of their keys, each key once.
+pub fn manifests_keep_promises()
+    ensures { KeepsPromises }
+{}
+
+/// No text is read as an item of a feature but the item's own spelling: `F`, `dep:N`, `N/F` or `N?/F`,
+/// with N of the letters of package names and F of those of feature names (The Cargo Book, Features).
+pub fn items_have_their_spelling()
+    ensures { SpellsItems }
 {}
 
 /// The package of a manifest that was read has a name of ASCII letters, digits, `-` and `_`, and

@@ -1,5 +1,5 @@
 -- Along each line every key has a value: at the latest that of the built-in profile at its end.
-use Rattle.std.proofs.Common.{◌≡◌, ◌⊎◌, inl, inr, ℕ, Bool, true, false, List, [], ◌∷◌, ◌++◌, Option, Some, None, Result, Ok, Err, refl, sym, ◌∙◌, ap, subst, codes, if◌then◌else◌}
+use Rattle.std.proofs.Common.{◌≡◌, ℕ, Bool, true, false, List, [], ◌∷◌, ◌++◌, Option, Some, None, Result, Ok, Err, refl, codes, if◌then◌else◌}
 use Rattle.std.specs.Prelude.{IsSome, ◌||◌}
 use Rattle.std.specs.Str.{bytes_eq}
 use Rattle.std.specs.Option.{option_or, option_map}
@@ -13,7 +13,7 @@ use Rattle.pb_workspace.specs.declared.package.Side.TheVariants.{Target, Host}
 use Rattle.pb_profile.specs.declared.fault.ProfileFault.{ProfileFault}
 use Rattle.pb_profile.specs.Line.{Seen, seen_at, parent_of, custom_parent, inherited, is_either, above}
 use Rattle.pb_profile.specs.Settings.{Place, no_keys, in_build_override, of_hosts, own, built_in, dev_keys, release_keys, in_package, of_others, of_role, places_of, along, looked_up}
-use Rattle.pb_profile.specs.Laws.{IsLine, last, further, AllAreFound, FindsValues}
+use Rattle.pb_profile.specs.Laws.{IsLine, last, further, FindsValues}
 
 -- a value stands where one of two has one
 second : {A : Type 0} (a b : Option A) → IsSome b → IsSome (option_or a b)
@@ -74,13 +74,13 @@ module _ {A : Type 0} (key : ProfileKeys → Option A) (in_dev : IsSome (key dev
 
 pub all_found : FindsValues
 all_found ps s line is p role = record {
-    opt_level = key_found (λ k. k.opt_level) refl refl ps s line is p role;
-    debug = key_found (λ k. k.debug) refl refl ps s line is p role;
-    debug_assertions = key_found (λ k. k.debug_assertions) refl refl ps s line is p role;
-    overflow_checks = key_found (λ k. k.overflow_checks) refl refl ps s line is p role;
-    lto = key_found (λ k. k.lto) refl refl ps s line is p role;
-    panic = key_found (λ k. k.panic) refl refl ps s line is p role;
-    codegen_units = key_found (λ k. k.codegen_units) refl refl ps s line is p role;
-    rpath = key_found (λ k. k.rpath) refl refl ps s line is p role;
-    strip = key_found (λ k. k.strip) refl refl ps s line is p role
-  }
+  opt_level = key_found (λ k. k.opt_level) refl refl ps s line is p role;
+  debug = key_found (λ k. k.debug) refl refl ps s line is p role;
+  debug_assertions = key_found (λ k. k.debug_assertions) refl refl ps s line is p role;
+  overflow_checks = key_found (λ k. k.overflow_checks) refl refl ps s line is p role;
+  lto = key_found (λ k. k.lto) refl refl ps s line is p role;
+  panic = key_found (λ k. k.panic) refl refl ps s line is p role;
+  codegen_units = key_found (λ k. k.codegen_units) refl refl ps s line is p role;
+  rpath = key_found (λ k. k.rpath) refl refl ps s line is p role;
+  strip = key_found (λ k. k.strip) refl refl ps s line is p role;
+}

@@ -1,5 +1,5 @@
 -- What is given as a line is one; and why none is given.
-use Rattle.std.proofs.Common.{◌≡◌, ℕ, zero, suc, ◌+◌, Bool, true, false, List, [], ◌∷◌, Option, Some, None, Result, Ok, Err, length, refl, sym, ◌∙◌, ap, subst, codes, if◌then◌else◌}
+use Rattle.std.proofs.Common.{◌≡◌, ℕ, zero, suc, Bool, true, false, List, [], ◌∷◌, Option, Some, None, Result, Ok, Err, refl, sym, ◌∙◌, ap, subst, codes, if◌then◌else◌}
 use Rattle.std.specs.Option.{option_map}
 use Rattle.std.specs.Str.{bytes_eq}
 use Rattle.pb_data.specs.Gives.{◌>>=◌}
@@ -7,7 +7,7 @@ use Rattle.pb_manifest.specs.declared.profile.Profile.{Profile}
 use Rattle.pb_profile.specs.declared.fault.ProfileFault.{ProfileFault}
 use Rattle.pb_profile.specs.declared.fault.ProfileFault.TheVariants.{NoSuchProfile, InheritsCycle}
 use Rattle.pb_profile.specs.Line.{Seen, seen_at, parent_of, custom_parent, inherited, is_either, above, then_above, line_within}
-use Rattle.pb_profile.specs.Laws.{InheritsFrom, IsLine, last, further, IsAncestor, itself, higher, IsMissing, GoesOn, here, step}
+use Rattle.pb_profile.specs.Laws.{InheritsFrom, IsLine, last, further, itself, higher, IsMissing, GoesOn, here, step}
 
 -- a value is no fault
 differs : {A E : Type 0} (x : A) (f : E) → Ok x ≡ Err f → ⊥

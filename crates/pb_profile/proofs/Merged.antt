@@ -1,5 +1,5 @@
 -- Merged keys give what the places say, key by key.
-use Rattle.std.proofs.Common.{◌≡◌, ℕ, Bool, List, [], ◌∷◌, ◌++◌, Option, Some, None, refl, sym, ◌∙◌, ap, map}
+use Rattle.std.proofs.Common.{◌≡◌, List, [], ◌∷◌, ◌++◌, Option, Some, None, refl, sym, ◌∙◌, ap, map}
 use Rattle.std.specs.Option.{option_or}
 use Rattle.pb_manifest.specs.declared.profile.ProfileKeys.{ProfileKeys}
 use Rattle.pb_workspace.specs.declared.package.Package.{Package}
@@ -53,15 +53,16 @@ each_key key nothing first = record { nothing = nothing; first = first }
 
 pub merged_settings : (p : Package) (role : Side) (line : List Seen) → settings_from role (keys_at (places_of p role) line) ≡ settings_along p role line
 merged_settings p role line = rw (
-    key_at (λ k. k.opt_level) (each_key (λ k. k.opt_level) refl (λ a b. refl)) (places_of p role) line,
-    key_at (λ k. k.debug) (each_key (λ k. k.debug) refl (λ a b. refl)) (places_of p role) line,
-    key_at (λ k. k.debug_assertions) (each_key (λ k. k.debug_assertions) refl (λ a b. refl)) (places_of p role) line,
-    key_at (λ k. k.overflow_checks) (each_key (λ k. k.overflow_checks) refl (λ a b. refl)) (places_of p role) line,
-    key_at (λ k. k.lto) (each_key (λ k. k.lto) refl (λ a b. refl)) (places_of p role) line,
-    key_at (λ k. k.panic) (each_key (λ k. k.panic) refl (λ a b. refl)) (places_of p role) line,
-    key_at (λ k. k.codegen_units) (each_key (λ k. k.codegen_units) refl (λ a b. refl)) (places_of p role) line,
-    key_at (λ k. k.rpath) (each_key (λ k. k.rpath) refl (λ a b. refl)) (places_of p role) line,
-    key_at (λ k. k.strip) (each_key (λ k. k.strip) refl (λ a b. refl)) (places_of p role) line) refl
+  key_at (λ k. k.opt_level) (each_key (λ k. k.opt_level) refl (λ a b. refl)) (places_of p role) line,
+  key_at (λ k. k.debug) (each_key (λ k. k.debug) refl (λ a b. refl)) (places_of p role) line,
+  key_at (λ k. k.debug_assertions) (each_key (λ k. k.debug_assertions) refl (λ a b. refl)) (places_of p role) line,
+  key_at (λ k. k.overflow_checks) (each_key (λ k. k.overflow_checks) refl (λ a b. refl)) (places_of p role) line,
+  key_at (λ k. k.lto) (each_key (λ k. k.lto) refl (λ a b. refl)) (places_of p role) line,
+  key_at (λ k. k.panic) (each_key (λ k. k.panic) refl (λ a b. refl)) (places_of p role) line,
+  key_at (λ k. k.codegen_units) (each_key (λ k. k.codegen_units) refl (λ a b. refl)) (places_of p role) line,
+  key_at (λ k. k.rpath) (each_key (λ k. k.rpath) refl (λ a b. refl)) (places_of p role) line,
+  key_at (λ k. k.strip) (each_key (λ k. k.strip) refl (λ a b. refl)) (places_of p role) line,
+) refl
 
 -- a test of each profile of a line, as contracts see them
 pub each_seen : (line : List Ancestor) → list_all allows (map seen line) ≡ list_all (λ a. allows (seen a)) line

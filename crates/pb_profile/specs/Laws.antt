@@ -1,5 +1,5 @@
 -- What the line of a profile is, in the words of The Cargo Book: profiles of which each inherits from the next.
-use Rattle.std.specs.Prelude.{◌≡◌, ◌↔◌, ℕ, zero, suc, ◌+◌, List, [], ◌∷◌, length, Some, None, Ok, Err, IsSome}
+use Rattle.std.specs.Prelude.{◌≡◌, ℕ, zero, suc, ◌+◌, List, [], ◌∷◌, length, Some, None, Ok, Err, IsSome}
 use Rattle.pb_manifest.specs.declared.profile.Profile.{Profile}
 use Rattle.pb_workspace.specs.declared.package.Package.{Package}
 use Rattle.pb_workspace.specs.declared.package.Side.{Side}

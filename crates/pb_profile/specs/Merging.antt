@@ -18,16 +18,16 @@ use Rattle.pb_profile.specs.declared.keys.Source.TheVariants.{Package, BuildOver
 -- the keys of the first, and those of the second that the first does not set
 abbrev pub keys_or : ProfileKeys → ProfileKeys → ProfileKeys
 keys_or a b = record {
-    codegen_units = option_or a.codegen_units b.codegen_units;
-    debug = option_or a.debug b.debug;
-    debug_assertions = option_or a.debug_assertions b.debug_assertions;
-    lto = option_or a.lto b.lto;
-    opt_level = option_or a.opt_level b.opt_level;
-    overflow_checks = option_or a.overflow_checks b.overflow_checks;
-    panic = option_or a.panic b.panic;
-    rpath = option_or a.rpath b.rpath;
-    strip = option_or a.strip b.strip
-  }
+  codegen_units = option_or a.codegen_units b.codegen_units;
+  debug = option_or a.debug b.debug;
+  debug_assertions = option_or a.debug_assertions b.debug_assertions;
+  lto = option_or a.lto b.lto;
+  opt_level = option_or a.opt_level b.opt_level;
+  overflow_checks = option_or a.overflow_checks b.overflow_checks;
+  panic = option_or a.panic b.panic;
+  rpath = option_or a.rpath b.rpath;
+  strip = option_or a.strip b.strip;
+}
 
 -- the keys at one place, along a line
 abbrev pub keys_along : Place → List Seen → ProfileKeys
@@ -58,13 +58,13 @@ written_in BuiltIn table = no_keys
 -- the settings that merged keys say
 abbrev pub settings_from : Side → ProfileKeys → Settings
 settings_from role k = record {
-    opt_level = unwrap_or k.opt_level Zero;
-    debug = unwrap_or k.debug debug.Full;
-    debug_assertions = unwrap_or k.debug_assertions true;
-    overflow_checks = unwrap_or k.overflow_checks true;
-    lto = unwrap_or k.lto lto.ThinLocal;
-    panic = panic_of role (unwrap_or k.panic panic.Unwind);
-    codegen_units = unwrap_or k.codegen_units 256;
-    rpath = unwrap_or k.rpath false;
-    strip = unwrap_or k.strip strip.Nothing
-  }
+  opt_level = unwrap_or k.opt_level Zero;
+  debug = unwrap_or k.debug debug.Full;
+  debug_assertions = unwrap_or k.debug_assertions true;
+  overflow_checks = unwrap_or k.overflow_checks true;
+  lto = unwrap_or k.lto lto.ThinLocal;
+  panic = panic_of role (unwrap_or k.panic panic.Unwind);
+  codegen_units = unwrap_or k.codegen_units 256;
+  rpath = unwrap_or k.rpath false;
+  strip = unwrap_or k.strip strip.Nothing;
+}

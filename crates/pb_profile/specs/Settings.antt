@@ -1,5 +1,5 @@
 -- The value of a key of a profile: that of the first place that has it, each place looked up along `inherits` before the next (The Cargo Book, Profiles).
-use Rattle.std.specs.Prelude.{◌≡◌, ℕ, Bool, true, false, if◌then◌else◌, codes, List, [], ◌∷◌, ◌++◌, Option, Some, None, Result, Ok, option_and_then, option_map, unwrap_or}
+use Rattle.std.specs.Prelude.{ℕ, Bool, true, false, if◌then◌else◌, codes, List, [], ◌∷◌, ◌++◌, Option, Some, None, Result, Ok, option_and_then, option_map, unwrap_or}
 use Rattle.std.specs.List.{find}
 use Rattle.std.specs.Option.{option_or}
 use Rattle.std.specs.Str.{bytes_eq}
@@ -93,16 +93,16 @@ panic_of Host value = panic.Unwind
 -- the nine settings; each line ends in a profile whose built-in values are all there, so none of the values behind is ever taken
 abbrev pub settings_along : Package → Side → List Seen → Settings
 settings_along p role line = record {
-    opt_level = unwrap_or (looked_up (λ k. k.opt_level) (places_of p role) line) Zero;
-    debug = unwrap_or (looked_up (λ k. k.debug) (places_of p role) line) debug.Full;
-    debug_assertions = unwrap_or (looked_up (λ k. k.debug_assertions) (places_of p role) line) true;
-    overflow_checks = unwrap_or (looked_up (λ k. k.overflow_checks) (places_of p role) line) true;
-    lto = unwrap_or (looked_up (λ k. k.lto) (places_of p role) line) lto.ThinLocal;
-    panic = panic_of role (unwrap_or (looked_up (λ k. k.panic) (places_of p role) line) panic.Unwind);
-    codegen_units = unwrap_or (looked_up (λ k. k.codegen_units) (places_of p role) line) 256;
-    rpath = unwrap_or (looked_up (λ k. k.rpath) (places_of p role) line) false;
-    strip = unwrap_or (looked_up (λ k. k.strip) (places_of p role) line) strip.Nothing
-  }
+  opt_level = unwrap_or (looked_up (λ k. k.opt_level) (places_of p role) line) Zero;
+  debug = unwrap_or (looked_up (λ k. k.debug) (places_of p role) line) debug.Full;
+  debug_assertions = unwrap_or (looked_up (λ k. k.debug_assertions) (places_of p role) line) true;
+  overflow_checks = unwrap_or (looked_up (λ k. k.overflow_checks) (places_of p role) line) true;
+  lto = unwrap_or (looked_up (λ k. k.lto) (places_of p role) line) lto.ThinLocal;
+  panic = panic_of role (unwrap_or (looked_up (λ k. k.panic) (places_of p role) line) panic.Unwind);
+  codegen_units = unwrap_or (looked_up (λ k. k.codegen_units) (places_of p role) line) 256;
+  rpath = unwrap_or (looked_up (λ k. k.rpath) (places_of p role) line) false;
+  strip = unwrap_or (looked_up (λ k. k.strip) (places_of p role) line) strip.Nothing;
+}
 
 -- the settings of a package in a role under a profile
 abbrev pub settings_of : Workspace → List ℕ → Package → Side → Result Settings ProfileFault

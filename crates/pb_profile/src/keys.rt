@@ -72,7 +72,11 @@ fn keys_or_none(keys: Option<ProfileKeys>) -> ProfileKeys
 fn override_named(name: &str, profile: &Profile) -> Option<ProfileKeys>
     ensures { result ≡ override_named name.now profile.now }
 {
-    let found = profile.packages.as_slice().iter().find(|package| package.name.as_str() == name);
+    let found = profile
+        .packages
+        .as_slice()
+        .iter()
+        .find(|package| package.name.as_str() == name);
     match found {
         Some(package) => Some(package.keys),
         None => None,

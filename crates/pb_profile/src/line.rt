@@ -36,7 +36,9 @@ pub fn folder_of(profile: &str) -> &str
 fn named<'a>(profiles: &'a [Profile], name: &str) -> Option<&'a Profile>
     ensures { option_map (λ p. p.now) result ≡ named profiles.now name.now }
 {
-    profiles.iter().find(|profile| profile.name.as_str() == name)
+    profiles
+        .iter()
+        .find(|profile| profile.name.as_str() == name)
 }
 
 /// The profile of this name.

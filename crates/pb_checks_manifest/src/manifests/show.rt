@@ -2,8 +2,9 @@
 
 use pb_data::{Items, Text};
 use pb_manifest::{
-    Binary, Build, Dependency, Feature, FeatureItem, Inherited, Library, Manifest, ManifestFault,
-    Package, Profile, ProfileKeys, Readme, Source, WorkspacePackage, WorkspaceTable,
+    Binary, Build, Dependency, Feature, FeatureItem, Inheritable, Inherited, Library, Manifest,
+    ManifestFault, Package, PathSource, Profile, ProfileKeys, Readme, Source, WorkspaceDependency,
+    WorkspacePackage, WorkspaceSource, WorkspaceTable, WrittenPath,
 };
 use std::alloc::Global;
 use std::fmt::Write;
@@ -32,6 +33,9 @@ fn put_manifest(out: &mut String, manifest: &Manifest) -> Result<(), Fail> {
     }
     put_dependencies(out, "dep", &manifest.dependencies)?;
     put_dependencies(out, "build-dep", &manifest.build_dependencies)?;
+    if !manifest.dev_dependencies.is_empty() {
+        put_texts(out, "dev-deps", &manifest.dev_dependencies)?;
+    }
     for feature in manifest.features.as_slice() {
         put_feature(out, feature)?;
     }
@@ -68,11 +72,31 @@ fn put_text(out: &mut String, name: &str, text: &Option<Text>) -> Result<(), Fai
     Ok(())
 }
 
-fn put_inherited(out: &mut String, name: &str, text: &Option<Inherited<Text>>) -> Result<(), Fail> {
+fn put_path(out: &mut String, name: &str, path: &Option<WrittenPath>) -> Result<(), Fail> {
+    if let Some(path) = path {
+        write!(out, " {name}={}", path.as_str())?;
+    }
+    Ok(())
+}
+
+fn put_paths(out: &mut String, name: &str, paths: &Items<WrittenPath>) -> Result<(), Fail> {
+    write!(out, " {name}=")?;
+    let mut first = true;
+    for path in paths.as_slice() {
+        if !first {
+            write!(out, "+")?;
+        }
+        first = false;
+        write!(out, "{}", path.as_str())?;
+    }
+    Ok(())
+}
+
+fn put_inherited(out: &mut String, name: &str, text: &Inheritable<Text>) -> Result<(), Fail> {
     match text {
-        None => {}
-        Some(Inherited::Workspace) => write!(out, " {name}=^")?,
-        Some(Inherited::Written(text)) => write!(out, " {name}={}", text.as_str())?,
+        Inheritable::Absent => {}
+        Inheritable::Workspace => write!(out, " {name}=^")?,
+        Inheritable::Written(text) => write!(out, " {name}={}", text.as_str())?,
     }
     Ok(())
 }
@@ -97,9 +121,9 @@ fn put_package(out: &mut String, package: &Package) -> Result<(), Fail> {
         Inherited::Written(edition) => write!(out, " {edition:?}")?,
     }
     match &package.authors {
-        None => {}
-        Some(Inherited::Workspace) => write!(out, " authors=^")?,
-        Some(Inherited::Written(authors)) => put_texts(out, "authors", authors)?,
+        Inheritable::Absent => {}
+        Inheritable::Workspace => write!(out, " authors=^")?,
+        Inheritable::Written(authors) => put_texts(out, "authors", authors)?,
     }
     if !package.autobins {
         write!(out, " autobins=false")?;
@@ -120,9 +144,9 @@ fn put_description(out: &mut String, package: &Package) -> Result<(), Fail> {
     put_inherited(out, "license-file", &package.license_file)?;
     put_text(out, "links", &package.links)?;
     match &package.readme {
-        None => {}
-        Some(Inherited::Workspace) => write!(out, " readme=^")?,
-        Some(Inherited::Written(readme)) => put_readme(out, readme)?,
+        Inheritable::Absent => {}
+        Inheritable::Workspace => write!(out, " readme=^")?,
+        Inheritable::Written(readme) => put_readme(out, readme)?,
     }
     put_inherited(out, "repository", &package.repository)?;
     put_inherited(out, "rust-version", &package.rust_version)
@@ -134,14 +158,14 @@ fn put_library(out: &mut String, library: &Library) -> Result<(), Fail> {
         write!(out, "{crate_type:?},")?;
     }
     put_text(out, "name", &library.name)?;
-    put_text(out, "path", &library.path)?;
+    put_path(out, "path", &library.path)?;
     write!(out, ")")?;
     Ok(())
 }
 
 fn put_binary(out: &mut String, binary: &Binary) -> Result<(), Fail> {
     write!(out, " bin({}", binary.name.as_str())?;
-    put_text(out, "path", &binary.path)?;
+    put_path(out, "path", &binary.path)?;
     if !binary.required_features.is_empty() {
         put_texts(out, "required", &binary.required_features)?;
     }
@@ -156,22 +180,44 @@ fn put_dependencies(out: &mut String, name: &str, entries: &Items<Dependency>) -
     Ok(())
 }
 
+fn put_source(out: &mut String, source: &PathSource) -> Result<(), Fail> {
+    write!(out, " path={}", source.path.as_str())?;
+    put_text(out, "package", &source.package)?;
+    if let Some(version) = &source.version {
+        write!(out, " version={}", version.text().as_str())?;
+    }
+    if !source.default_features {
+        write!(out, " default-features=false")?;
+    }
+    Ok(())
+}
+
 fn put_dependency(out: &mut String, name: &str, entry: &Dependency) -> Result<(), Fail> {
     write!(out, " {name}({}", entry.key.as_str())?;
     match &entry.source {
-        Source::Path(path) => write!(out, " path={}", path.as_str())?,
-        Source::Workspace => write!(out, " ^")?,
-        Source::Unsupported => write!(out, " !")?,
-    }
-    put_text(out, "package", &entry.package)?;
-    if let Some(version) = &entry.version {
-        write!(out, " version={}", version.text().as_str())?;
+        Source::Path(source) => put_source(out, source)?,
+        Source::Workspace { default_features } => {
+            write!(out, " ^")?;
+            if *default_features {
+                write!(out, " default-features=true")?;
+            }
+        }
     }
     if entry.optional {
         write!(out, " optional")?;
     }
-    if let Some(default_features) = entry.default_features {
-        write!(out, " default-features={default_features}")?;
+    if !entry.features.is_empty() {
+        put_texts(out, "features", &entry.features)?;
+    }
+    write!(out, ")")?;
+    Ok(())
+}
+
+fn put_shared_dependency(out: &mut String, entry: &WorkspaceDependency) -> Result<(), Fail> {
+    write!(out, " dep({}", entry.key.as_str())?;
+    match &entry.source {
+        WorkspaceSource::Path(source) => put_source(out, source)?,
+        WorkspaceSource::Unsupported => write!(out, " !")?,
     }
     if !entry.features.is_empty() {
         put_texts(out, "features", &entry.features)?;
@@ -257,18 +303,20 @@ fn put_profile(out: &mut String, profile: &Profile) -> Result<(), Fail> {
 fn put_workspace(out: &mut String, workspace: &WorkspaceTable) -> Result<(), Fail> {
     write!(out, " workspace(")?;
     if !workspace.members.is_empty() {
-        put_texts(out, "members", &workspace.members)?;
+        put_paths(out, "members", &workspace.members)?;
     }
     if let Some(members) = &workspace.default_members {
-        put_texts(out, "default-members", members)?;
+        put_paths(out, "default-members", members)?;
     }
     if !workspace.exclude.is_empty() {
-        put_texts(out, "exclude", &workspace.exclude)?;
+        put_paths(out, "exclude", &workspace.exclude)?;
     }
     if let Some(package) = &workspace.package {
         put_workspace_package(out, package)?;
     }
-    put_dependencies(out, "dep", &workspace.dependencies)?;
+    for entry in workspace.dependencies.as_slice() {
+        put_shared_dependency(out, entry)?;
+    }
     write!(out, ")")?;
     Ok(())
 }

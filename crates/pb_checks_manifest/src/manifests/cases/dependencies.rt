@@ -15,12 +15,12 @@ optional = true
 default-features = false
 features = ["f", "g h"]
 unknown = 1
-=== a 0.0.0 E2015 dep(a_b path=1) dep(b-c path=2 default-features=true)
+=== a 0.0.0 E2015 dep(a_b path=1) dep(b-c path=2)
 package.name = "a"
 [dependencies]
 b-c = { path = "2", default-features = true, optional = false, default_features = 1 }
 a_b = { path = "1" }
-=== a 0.0.0 E2015 dep(q ^ package=p version=1 optional default-features=false features=f)
+=== a 0.0.0 E2015 dep(q ^ optional features=f)
 package.name = "a"
 dependencies.q = { workspace = true, path = "b", package = "p", version = "1", optional = true, default-features = false, features = ["f"] }
 === UnsupportedSource
@@ -144,6 +144,12 @@ dependencies.s = { path = "s", package = "p p", features = ["a b"] }
 === a 0.0.0 E2015 build-dep(s ^)
 package.name = "a"
 build-dependencies.s.workspace = true
+=== a 0.0.0 E2015 dep(s ^ default-features=true)
+package.name = "a"
+dependencies.s = { workspace = true, default-features = true }
+=== a 0.0.0 E2015 dev-deps=+a b+z
+package.name = "a"
+dev-dependencies = { z = 1, "a b" = { git = 1 }, "" = [] }
 === BadKind(BuildDependencies)
 package.name = "a"
 build-dependencies = 1

@@ -44,7 +44,7 @@ name = 1
 links = 1
 === - workspace( package())
 [workspace.package]
-=== - workspace( dep(a ! version=1) dep(b path=b features=f) dep(c !) dep(d ! optional) dep(e !))
+=== - workspace( dep(a !) dep(b path=b features=f) dep(c !) dep(d !) dep(e !))
 [workspace.dependencies]
 a = "1"
 b = { path = "b", features = ["f"] }

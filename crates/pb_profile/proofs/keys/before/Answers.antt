@@ -1,7 +1,5 @@
-use Rattle.std.proofs.Common.{◌≡◌, ◌+◌, ◌<◌, map, take, length, get_or, List, [], ◌∷◌, ◌++◌, sym, arith, refl}
+use Rattle.std.proofs.Common.{◌<◌, length, arith, refl}
 use Rattle.std.proofs.lemmas.List.{take_more, map-append}
-use Rattle.pb_profile.specs.Line.{seen}
-use Rattle.pb_profile.specs.Merging.{keys_or, keys_along, sought}
 use Rattle.pb_profile.proofs.Merged.{keys_along-push}
 use Rattle.pb_profile.proofs.keys.before.Goals as goal
 

@@ -1,7 +1,7 @@
-use Rattle.std.proofs.Common.{rules, ◌≡◌, map, ◌+◌, ◌-◌, ◌<◌, length, List, [], ◌∷◌, ◌++◌, Ok, Err, Some, None, sym, ◌∙◌, ap, arith}
+use Rattle.std.proofs.Common.{◌≡◌, map, ◌+◌, ◌<◌, length, Ok, Some, None, sym, ◌∙◌, ap, arith}
 use Rattle.std.proofs.lemmas.List.{map-append}
 use Rattle.std.specs.Option.{option_map}
-use Rattle.pb_profile.specs.Line.{Seen, seen, seen_at, above, line_of, line_within}
+use Rattle.pb_profile.specs.Line.{seen, above}
 use Rattle.pb_profile.proofs.Walks.{ends_badly, ends_well, goes_on}
 use Rattle.pb_profile.proofs.line.walked.Goals as goal
 

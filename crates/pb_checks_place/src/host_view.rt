@@ -1,0 +1,23 @@
+//! A view of real files and variables: what is there, what stands nowhere, and what is no file.
+
+use pb_place::{HostView, PathText, View};
+use std::test::Fail;
+
+#[test]
+fn real_files(rt: HostRuntime) -> Result<(), Fail> {
+    let alloc = rt.alloc();
+    let view = HostView::new(&rt);
+    for (path, wanted) in [
+        ("/", false),
+        ("/no/such/file", false),
+        ("/dev/null", false),
+        ("/dev/null/x", false),
+        ("/proc/version", true),
+    ] {
+        let path = PathText::parse(alloc, path)?;
+        let found = view.file(alloc, &path)?;
+        assert_eq!(rt; found.is_some(), wanted, "at {path:?}");
+    }
+    assert!(rt; view.variable(alloc, "NO_SUCH_VARIABLE")?.is_none());
+    Ok(())
+}
