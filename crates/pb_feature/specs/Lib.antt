@@ -1,2 +1,4 @@
 pub mod Facts
 pub mod Faults
+pub mod Numbers
+pub mod Rules

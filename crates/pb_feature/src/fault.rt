@@ -1,6 +1,5 @@
 //! Why no features are resolved.
 
-
 ghost use Rattle.std.specs.Prelude.{◌≡◌};
 ghost use Rattle.pb_feature.specs.declared.fault.FeatureFault.TheVariants as feature_fault;
 

@@ -3,5 +3,7 @@
 #![tactic(auto)]
 
 pub mod fault;
+mod numbers;
+mod rules;
 
 pub use fault::FeatureFault;
