@@ -1,5 +1,5 @@
 -- Why no features are resolved (The Cargo Book, Features): what an item names has to be there.
-use Rattle.std.specs.Prelude.{◌≡◌, ℕ, Bool, true, false, List, [], ◌∷◌, ◌++◌, Contains, Option, Some, None, if◌then◌else◌, filter, slice_get}
+use Rattle.std.specs.Prelude.{◌≡◌, ℕ, Bool, true, false, List, [], ◌∷◌, ◌++◌, Contains, Option, Some, None, ◌&&◌, if◌then◌else◌, slice_get}
 use Rattle.std.specs.List.{list_any}
 use Rattle.std.specs.Option.{option_or}
 use Rattle.std.specs.Str.{bytes_eq}
@@ -18,30 +18,31 @@ use Rattle.pb_feature.specs.declared.fault.FeatureFault.{FeatureFault}
 use Rattle.pb_feature.specs.declared.fault.FeatureFault.TheVariants.{NoSuchFeature, NoSuchDependency, NotOptional}
 use Rattle.pb_feature.specs.Facts.{Fact, Has, Holds, of_package}
 
--- the entries of this name, in both tables
-abbrev pub entries_named : Package → List ℕ → List Entry
-entries_named p name = filter (λ (e : Entry). bytes_eq name e.key) p.entries
+-- whether an entry has this name, in either table; whether one that has it is optional
+abbrev pub is_entry : Package → List ℕ → Bool
+is_entry p name = list_any (λ (e : Entry). bytes_eq name e.key) p.entries
+
+abbrev pub is_optional_entry : Package → List ℕ → Bool
+is_optional_entry p name = list_any (λ (e : Entry). bytes_eq name e.key && e.optional) p.entries
 
 -- a name of `[dev-dependencies]` alone does nothing; any other name without an entry is none
 abbrev pub absent_fault : Package → List ℕ → Option FeatureFault
 absent_fault p name = if list_any (bytes_eq name) p.development then None else Some NoSuchDependency
 
 -- an item that names an entry
-abbrev pub entry_fault : Package → List ℕ → List Entry → Option FeatureFault
-entry_fault p name [] = absent_fault p name
-entry_fault p name (e ∷ es) = None
+abbrev pub entry_fault : Package → List ℕ → Option FeatureFault
+entry_fault p name = if is_entry p name then None else absent_fault p name
 
 -- an item that names an entry which has to be optional
-abbrev pub optional_fault : Package → List ℕ → List Entry → Option FeatureFault
-optional_fault p name [] = absent_fault p name
-optional_fault p name (e ∷ es) = if list_any (λ (one : Entry). one.optional) (e ∷ es) then None else Some NotOptional
+abbrev pub optional_fault : Package → List ℕ → Option FeatureFault
+optional_fault p name = if is_entry p name then (if is_optional_entry p name then None else Some NotOptional) else absent_fault p name
 
 -- what is wrong with an item
 abbrev pub item_fault : Package → FeatureItem → Option FeatureFault
 item_fault p (Own feature) = if has_feature_named p.features feature then None else Some NoSuchFeature
-item_fault p (Dependency name) = optional_fault p name (entries_named p name)
-item_fault p (Of name feature) = entry_fault p name (entries_named p name)
-item_fault p (OfEnabled name feature) = optional_fault p name (entries_named p name)
+item_fault p (Dependency name) = optional_fault p name
+item_fault p (Of name feature) = entry_fault p name
+item_fault p (OfEnabled name feature) = optional_fault p name
 
 -- the first fault of items as they are written, and of features in byte order
 abbrev pub items_fault : Package → List FeatureItem → Option FeatureFault

@@ -2,8 +2,16 @@
 //! resolver 2).
 #![tactic(auto)]
 
+mod asked;
+mod checks;
 pub mod fault;
+mod items;
 mod numbers;
+mod resolution;
+pub mod resolved;
 mod rules;
+mod seeds;
 
 pub use fault::FeatureFault;
+pub use resolution::resolve;
+pub use resolved::{Features, Part, Sides};

@@ -3,10 +3,9 @@
 ghost use Rattle.std.specs.Prelude.{◌≡◌, ◌+◌, ◌*◌, IfOk, IfSome};
 ghost use Rattle.pb_feature.specs.Numbers.{width_of, bases_from, end_from, side_number, number_from, number_at, slot, slot_at};
 
-use crate::fault::FeatureFault;
 use pb_manifest::Feature;
 use pb_workspace::{Package, Side};
-use std::alloc::Global;
+use std::alloc::{AllocError, Global};
 
 /// Where the numbers of each package begin, and how many there are.
 #[derive(Drop)]
@@ -38,20 +37,20 @@ fn width_of(owner: &Package) -> Option<usize>
 }
 
 /// Where the next package's numbers begin. A number past `usize` counts as want of memory.
-fn next_base(base: usize, owner: &Package) -> Result<usize, FeatureFault>
+fn next_base(base: usize, owner: &Package) -> Result<usize, AllocError>
     ensures { IfOk result (λ next. next ≡ base + width_of owner.now) }
 {
     let Some(width) = width_of(owner) else {
-        return Err(FeatureFault::OutOfMemory);
+        return Err(AllocError);
     };
     match base.checked_add(width) {
         Some(next) => Ok(next),
-        None => Err(FeatureFault::OutOfMemory),
+        None => Err(AllocError),
     }
 }
 
 /// Where the numbers of each package begin.
-pub(crate) fn bases_of(alloc: Global, packages: &[Package]) -> Result<Bases, FeatureFault>
+pub(crate) fn bases_of(alloc: Global, packages: &[Package]) -> Result<Bases, AllocError>
     ensures bases { IfOk result (λ made. made.bases.items ≡ bases_from 0 packages.now) }
     ensures count { IfOk result (λ made. made.count ≡ end_from 0 packages.now * 2) }
 {
@@ -63,7 +62,7 @@ pub(crate) fn bases_of(alloc: Global, packages: &[Package]) -> Result<Bases, Fea
     }
     match base.checked_mul(2) {
         Some(count) => Ok(Bases { bases, count }),
-        None => Err(FeatureFault::OutOfMemory),
+        None => Err(AllocError),
     }
 }
 
@@ -106,7 +105,7 @@ impl Ground<'_> {
         place: usize,
         side: Side,
         local: usize,
-    ) -> Result<usize, FeatureFault>
+    ) -> Result<usize, AllocError>
         ensures { IfOk result (λ i. i ≡ number_at self.now.bases.now place side local) }
     {
         let base = match self.bases.get(place) {
@@ -115,7 +114,7 @@ impl Ground<'_> {
         };
         match number_from(base, side, local) {
             Some(i) => Ok(i),
-            None => Err(FeatureFault::OutOfMemory),
+            None => Err(AllocError),
         }
     }
 

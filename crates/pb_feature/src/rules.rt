@@ -7,13 +7,12 @@ ghost use Rattle.pb_feature.specs.Numbers.{on, has, enabled, slot, slot_at};
 ghost use Rattle.pb_feature.specs.Rules.{alone, pair, there_rules, given_rules, enabled_rules, entry_rules, of_rules, item_rules, own_rules, one_item_rules, feature_rules, package_rules, both_rules, rules_of};
 ghost use Rattle.pb_workspace.specs.declared.package.Side.TheVariants.{Target, Host};
 
-use crate::fault::FeatureFault;
 use crate::numbers::{Ground, slot};
 use pb_closure::Rule;
 use pb_data::Text;
 use pb_manifest::{Feature, FeatureItem};
 use pb_workspace::{DependencyKind, Entry, Package, Side};
-use std::alloc::Global;
+use std::alloc::{AllocError, Global};
 
 /// The side on which an entry's package is made.
 fn side_made(kind: DependencyKind, side: Side) -> Side
@@ -27,7 +26,7 @@ fn side_made(kind: DependencyKind, side: Side) -> Side
 
 impl Ground<'_> {
     /// The number of a package that is on.
-    pub(crate) fn on(&self, place: usize, side: Side) -> Result<usize, FeatureFault>
+    pub(crate) fn on(&self, place: usize, side: Side) -> Result<usize, AllocError>
         ensures { IfOk result (λ i. i ≡ on self.now.bases.now place side) }
     {
         let i = self.number(place, side, 0)?;
@@ -36,11 +35,11 @@ impl Ground<'_> {
 
     /// The number of a feature that a package has, by its place counted from 1; 0 is a feature that it
     /// does not have.
-    pub(crate) fn has(&self, place: usize, side: Side, feature: usize) -> Result<usize, FeatureFault>
+    pub(crate) fn has(&self, place: usize, side: Side, feature: usize) -> Result<usize, AllocError>
         ensures { IfOk result (λ i. i ≡ has self.now.bases.now place side feature) }
     {
         let Some(local) = feature.checked_add(1) else {
-            return Err(FeatureFault::OutOfMemory);
+            return Err(AllocError);
         };
         let i = self.number(place, side, local)?;
         Ok(i)
@@ -53,21 +52,21 @@ impl Ground<'_> {
         side: Side,
         features: usize,
         entry: usize,
-    ) -> Result<usize, FeatureFault>
+    ) -> Result<usize, AllocError>
         ensures { IfOk result (λ i. i ≡ enabled self.now.bases.now place side features entry) }
     {
         let Some(behind) = entry.checked_add(2) else {
-            return Err(FeatureFault::OutOfMemory);
+            return Err(AllocError);
         };
         let Some(local) = features.checked_add(behind) else {
-            return Err(FeatureFault::OutOfMemory);
+            return Err(AllocError);
         };
         let i = self.number(place, side, local)?;
         Ok(i)
     }
 
     /// The number of a feature of a name.
-    fn given(&self, place: usize, side: Side, name: &[u8]) -> Result<usize, FeatureFault>
+    fn given(&self, place: usize, side: Side, name: &[u8]) -> Result<usize, AllocError>
         ensures { IfOk result (λ i. i ≡ has self.now.bases.now place side (slot_at self.now.packages.now place name.now)) }
     {
         let i = self.has(place, side, self.slot_at(place, name))?;
@@ -76,7 +75,7 @@ impl Ground<'_> {
 }
 
 /// A rule with one premise.
-fn add_alone(rules: &mut Vec<Rule>, first: usize, gives: usize) -> Result<(), FeatureFault>
+fn add_alone(rules: &mut Vec<Rule>, first: usize, gives: usize) -> Result<(), AllocError>
     ensures { OnOk result (rules.new.items ≡ rules.old.items ++ alone first gives ∷ []) }
 {
     rules.push(Rule {
@@ -96,7 +95,7 @@ fn add_there(
     side: Side,
     test: bool,
     feature: usize,
-) -> Result<(), FeatureFault>
+) -> Result<(), AllocError>
     ensures { OnOk result (rules.new.items ≡ rules.old.items ++ there_rules ground.now.bases.now from place side test feature) }
 {
     if !test {
@@ -117,7 +116,7 @@ fn add_given(
     place: usize,
     side: Side,
     features: &[Text],
-) -> Result<(), FeatureFault>
+) -> Result<(), AllocError>
     ensures { OnOk result (rules.new.items ≡ rules.old.items ++ placed (given_rules ground.now.packages.now ground.now.bases.now from place side) 0 features.now) }
 {
     for feature in features {
@@ -134,7 +133,7 @@ fn add_enabled(
     from: usize,
     side: Side,
     entry: &Entry,
-) -> Result<(), FeatureFault>
+) -> Result<(), AllocError>
     ensures { OnOk result (rules.new.items ≡ rules.old.items ++ enabled_rules ground.now.packages.now ground.now.bases.now from side entry.now) }
 {
     let on = ground.on(entry.to, side)?;
@@ -168,7 +167,7 @@ fn add_entry(
     features: usize,
     index: usize,
     entry: &Entry,
-) -> Result<(), FeatureFault>
+) -> Result<(), AllocError>
     ensures { OnOk result (rules.new.items ≡ rules.old.items ++ entry_rules ground.now.packages.now ground.now.bases.now side place features index entry.now) }
 {
     let enabled = ground.enabled(place, side, features, index)?;
@@ -188,7 +187,7 @@ fn add_own(
     features: &[Feature],
     feature: usize,
     item: &FeatureItem,
-) -> Result<(), FeatureFault>
+) -> Result<(), AllocError>
     ensures { OnOk result (rules.new.items ≡ rules.old.items ++ own_rules ground.now.bases.now side place features.now feature item.now) }
 {
     match item {
@@ -212,7 +211,7 @@ fn add_of(
     asked: &[u8],
     enabled: usize,
     entry: &Entry,
-) -> Result<(), FeatureFault>
+) -> Result<(), AllocError>
     ensures { OnOk result (rules.new.items ≡ rules.old.items ++ of_rules ground.now.packages.now ground.now.bases.now from place side own asked.now enabled entry.now) }
 {
     add_alone(rules, from, enabled)?;
@@ -232,7 +231,7 @@ fn add_item(
     item: &FeatureItem,
     index: usize,
     entry: &Entry,
-) -> Result<(), FeatureFault>
+) -> Result<(), AllocError>
     ensures { OnOk result (rules.new.items ≡ rules.old.items ++ item_rules ground.now.packages.now ground.now.bases.now side place features.now feature item.now index entry.now) }
 {
     match item {
@@ -296,7 +295,7 @@ fn add_one_item(
     owner: &Package,
     feature: usize,
     item: &FeatureItem,
-) -> Result<(), FeatureFault>
+) -> Result<(), AllocError>
     ensures { OnOk result (rules.new.items ≡ rules.old.items ++ one_item_rules ground.now.packages.now ground.now.bases.now side place owner.now feature 0 item.now) }
 {
     let features = owner.features.as_slice();
@@ -327,11 +326,11 @@ fn add_feature(
     owner: &Package,
     index: usize,
     items: &[FeatureItem],
-) -> Result<(), FeatureFault>
+) -> Result<(), AllocError>
     ensures { OnOk result (rules.new.items ≡ rules.old.items ++ placed (one_item_rules ground.now.packages.now ground.now.bases.now side place owner.now (index + 1)) 0 items.now) }
 {
     let Some(feature) = index.checked_add(1) else {
-        return Err(FeatureFault::OutOfMemory);
+        return Err(AllocError);
     };
     for item in items {
         add_one_item(rules, ground, side, place, owner, feature, item)?;
@@ -347,7 +346,7 @@ fn add_entries(
     place: usize,
     features: usize,
     entries: &[Entry],
-) -> Result<(), FeatureFault>
+) -> Result<(), AllocError>
     ensures { OnOk result (rules.new.items ≡ rules.old.items ++ placed (entry_rules ground.now.packages.now ground.now.bases.now side place features) 0 entries.now) }
 {
     for index in 0..entries.len() {
@@ -363,7 +362,7 @@ fn add_package(
     side: Side,
     place: usize,
     owner: &Package,
-) -> Result<(), FeatureFault>
+) -> Result<(), AllocError>
     ensures { OnOk result (rules.new.items ≡ rules.old.items ++ package_rules ground.now.packages.now ground.now.bases.now side place owner.now) }
 {
     let features = owner.features.as_slice();
@@ -395,7 +394,7 @@ fn add_both(
     ground: &Ground<'_>,
     place: usize,
     owner: &Package,
-) -> Result<(), FeatureFault>
+) -> Result<(), AllocError>
     ensures { OnOk result (rules.new.items ≡ rules.old.items ++ both_rules ground.now.packages.now ground.now.bases.now place owner.now) }
 {
     add_package(rules, ground, Side::Target, place, owner)?;
@@ -403,7 +402,7 @@ fn add_both(
 }
 
 /// The rules of all packages, on both sides.
-pub(crate) fn rules_of(alloc: Global, ground: &Ground<'_>) -> Result<Vec<Rule>, FeatureFault>
+pub(crate) fn rules_of(alloc: Global, ground: &Ground<'_>) -> Result<Vec<Rule>, AllocError>
     ensures { IfOk result (λ rules. rules.items ≡ rules_of ground.now.packages.now ground.now.bases.now) }
 {
     let mut rules = Vec::new(alloc);
