@@ -1,5 +1,5 @@
 -- Why nothing is resolved, in the words of the calls that find it.
-use Rattle.std.proofs.Common.{◌≡◌, ◌⊎◌, inl, inr, ℕ, true, List, All, None, length, sym, ap, subst}
+use Rattle.std.proofs.Common.{◌≡◌, ◌⊎◌, inl, inr, ℕ, true, List, All, None, length, sym, subst}
 use Rattle.pb_workspace.specs.declared.package.Package.{Package}
 use Rattle.pb_workspace.specs.declared.options.Selection.{Selection}
 use Rattle.pb_workspace.specs.declared.workspace.Workspace.{Workspace}

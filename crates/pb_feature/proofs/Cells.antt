@@ -1,11 +1,11 @@
 -- What a number stands for; no number stands for two things.
-use Rattle.std.proofs.Common.{◌≡◌, ◌≢◌, ◌⊎◌, inl, inr, ℕ, zero, suc, ◌+◌, ◌*◌, ◌<◌, ◌≤◌, List, [], ◌∷◌, Some, None, Option, length, get_or, refl, sym, ◌∙◌, ap, subst, arith}
+use Rattle.std.proofs.Common.{◌≡◌, inl, inr, ℕ, zero, suc, ◌+◌, ◌*◌, ◌<◌, ◌≤◌, List, [], ◌∷◌, Some, length, get_or, refl, sym, ◌∙◌, ap, subst, arith}
 use Rattle.std.specs.Prelude.{slice_get}
 use Rattle.std.proofs.lemmas.Bool.{cases_order}
 use Rattle.pb_workspace.specs.declared.package.Side.{Side}
 use Rattle.pb_workspace.specs.declared.package.Side.TheVariants.{Target, Host}
 use Rattle.pb_workspace.specs.declared.package.Package.{Package}
-use Rattle.pb_feature.specs.Numbers.{width_of, bases_from, end_from, side_number, number_from, number_at, on, has, enabled}
+use Rattle.pb_feature.specs.Numbers.{width_of, bases_from, end_from, side_number, number_at}
 
 -- that a package is on; that it has the feature of a slot; that an entry is enabled
 pub data Cell : Type 0 where
@@ -117,7 +117,7 @@ module _ (ps : List Package) where
       let lc : local_of nc.owner c < width_of nc.owner = local_below nc.owner c nc.is_in in
       let ld : local_of nd.owner d < width_of nd.owner = local_below nd.owner d nd.is_in in
       let both : base (place_of c) + local_of nc.owner c ≡ base (place_of d) + local_of nd.owner d =
-          high _ _ (side_number (side_at c)) (side_number (side_at d)) (nc.is ∙ sym nd.is) (side_below (side_at c)) (side_below (side_at d)) in
+      high _ _ (side_number (side_at c)) (side_number (side_at d)) (nc.is ∙ sym nd.is) (side_below (side_at c)) (side_below (side_at d)) in
       let sides : side_at c ≡ side_at d = side_back _ _ (low _ _ _ _ (nc.is ∙ sym nd.is) both) in
       let places : place_of c ≡ place_of d = same_place _ _ _ _ nc.owner nd.owner nc.at nd.at lc ld both in
       let owners : nc.owner ≡ nd.owner = same_owner _ _ nc.owner nd.owner places nc.at nd.at in

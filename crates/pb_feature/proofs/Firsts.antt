@@ -72,8 +72,8 @@ module _ (ps : List Package) (n : ℕ) (o : Package) (at : slice_get ps n ≡ So
   picked_other f fault sofar e true l = lesser_first f.place f.fault fault sofar.owner sofar sofar.package_at l e
   picked_other f fault sofar e false l =
       still_first f.place f.fault sofar (λ owner owner_at lesser.
-        let is : owner ≡ sofar.owner = same (slice_get ps f.place) owner sofar.owner owner_at sofar.package_at in
-        absurd (false≢true (sym l ∙ subst (λ (w : Package). is_lesser o w ≡ true) is lesser)))
+      let is : owner ≡ sofar.owner = same (slice_get ps f.place) owner sofar.owner owner_at sofar.package_at in
+      absurd (false≢true (sym l ∙ subst (λ (w : Package). is_lesser o w ≡ true) is lesser)))
 
   picked_some : (f : First) (w : Option FeatureFault) (sofar : IsFirstBelow ps n f.place f.fault) → package_fault o ≡ w → IsSofar ps (n + 1) (picked w (Some f) (is_lesser o sofar.owner) n)
   picked_some f None sofar e = still_first f.place f.fault sofar (λ owner owner_at lesser. e)

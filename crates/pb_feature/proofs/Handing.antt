@@ -1,11 +1,10 @@
 -- The laws of what is computed, in the words of the calls that compute it.
-use Rattle.std.proofs.Common.{◌≡◌, ◌≢◌, ◌⊎◌, inl, inr, ℕ, ◌*◌, ◌<◌, Bool, true, false, IsTrue, List, Contains, All, Some, length, refl, sym, ◌∙◌, ap, subst}
+use Rattle.std.proofs.Common.{◌≡◌, ◌≢◌, ◌⊎◌, inl, inr, ℕ, ◌*◌, ◌<◌, Bool, true, List, Contains, All, length, sym, ◌∙◌, ap, subst}
 use Rattle.std.specs.Prelude.{slice_get}
-use Rattle.pb_workspace.specs.declared.package.Side.{Side}
 use Rattle.pb_workspace.specs.declared.package.Package.{Package}
 use Rattle.pb_workspace.specs.declared.options.Selection.{Selection}
 use Rattle.pb_workspace.specs.declared.workspace.Workspace.{Workspace}
-use Rattle.pb_workspace.specs.Workspace.{has_feature_named, HasFeature}
+use Rattle.pb_workspace.specs.Workspace.{has_feature_named}
 use Rattle.pb_workspace.specs.Settled.{IsSettled}
 use Rattle.pb_closure.specs.declared.table.Rule.{Rule}
 use Rattle.pb_closure.specs.Closure.{Least, IsLeast, is_on}
@@ -16,7 +15,7 @@ use Rattle.pb_feature.specs.declared.fault.FeatureFault.TheVariants.{OutOfMemory
 use Rattle.pb_feature.specs.declared.resolved.Features.{Features}
 use Rattle.pb_feature.specs.Facts.{Has}
 use Rattle.pb_feature.specs.Faults.{IsMissing}
-use Rattle.pb_feature.specs.Numbers.{bases_from, end_from, slot, slot_at}
+use Rattle.pb_feature.specs.Numbers.{bases_from, end_from, slot}
 use Rattle.pb_feature.specs.Rules.{rules_of, seeds_of}
 use Rattle.pb_feature.specs.Resolved.{IsResolved}
 use Rattle.pb_feature.specs.Marked.{marked_sides, IsMarkedMissing, NoneMarkedMissing}
@@ -66,8 +65,8 @@ module _ (ws : Workspace) (selection : Selection) (settled : IsSettled ws) (with
         feature = h.0;
         holds = h.1;
         missing = λ there. there_some o.0.features h.0
-          (subst (λ (w : Package). has_feature_named w.features h.0 ≡ true) (same_owner (slice_get ws.packages m.place) there.owner o.0 there.package_at o.1) there.is_there)
-          (sym (slot_of ws selection settled m.place h.0 o.0 o.1) ∙ h.2);
+            (subst (λ (w : Package). has_feature_named w.features h.0 ≡ true) (same_owner (slice_get ws.packages m.place) there.owner o.0 there.package_at o.1) there.is_there)
+            (sym (slot_of ws selection settled m.place h.0 o.0 o.1) ∙ h.2);
       }
 
   abbrev Complete : List Package → List ℕ → List Bool → Type 0
@@ -90,7 +89,7 @@ module _ (ws : Workspace) (selection : Selection) (settled : IsSettled ws) (with
   complete_of qs bases marks features same_qs same_bases least complete made m =
       let o = whole ws selection settled within (Has m.place m.side m.feature) m.holds in
       let some : slot o.0.features m.feature ≢ 0 =
-          present ws selection settled within marks (subst (λ b. Marked b marks) same_bases least) features (made_is qs bases marks features same_qs same_bases made) (complete_is qs bases marks same_qs same_bases complete) m.place m.side m.feature o.0 o.1 m.holds in
+      present ws selection settled within marks (subst (λ b. Marked b marks) same_bases least) features (made_is qs bases marks features same_qs same_bases made) (complete_is qs bases marks same_qs same_bases complete) m.place m.side m.feature o.0 o.1 m.holds in
       m.missing (feature_there ws selection settled m.place m.feature o.0 o.1 some)
 
   -- the same, of marks that are passed on, and of the error that is answered

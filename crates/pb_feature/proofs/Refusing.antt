@@ -1,7 +1,7 @@
 -- Why nothing is resolved, from what is computed.
-use Rattle.std.proofs.Common.{◌≡◌, ◌⊎◌, inl, inr, ℕ, ◌<◌, Bool, ◌||◌, true, false, List, Contains, All, Option, Some, None, length, get_or, refl, sym, ◌∙◌, ap, subst}
+use Rattle.std.proofs.Common.{◌≡◌, inl, inr, ℕ, Bool, true, List, Contains, All, Option, Some, None, length, refl, sym, ◌∙◌, ap, subst}
 use Rattle.std.specs.Prelude.{slice_get}
-use Rattle.std.specs.List.{list_any, Any}
+use Rattle.std.specs.List.{list_any}
 use Rattle.std.specs.Str.{bytes_eq}
 use Rattle.std.proofs.lemmas.Bool.{false≢true}
 use Rattle.std.proofs.lemmas.Option.{slice_get_within}
@@ -15,13 +15,12 @@ use Rattle.pb_workspace.specs.Workspace.{has_feature_named, HasFeature}
 use Rattle.pb_feature.specs.declared.fault.FeatureFault.{FeatureFault}
 use Rattle.pb_feature.specs.declared.fault.FeatureFault.TheVariants.{NoSuchFeature}
 use Rattle.pb_feature.specs.Facts.{of_package}
-use Rattle.pb_feature.specs.Faults.{package_fault, IsFirstFault, ItemsAreRight, IsAnswered, by_name, by_package, IsMissing, Refuses, by_item, by_asked, by_missing}
+use Rattle.pb_feature.specs.Faults.{package_fault, ItemsAreRight, IsAnswered, by_name, by_package, IsMissing, Refuses, by_item, by_asked, by_missing}
 use Rattle.pb_feature.specs.Rules.{is_text_of}
 use Rattle.pb_feature.specs.Answered.{is_owner_of, owner_is, is_owner_at, is_answered, IsUnanswered}
 use Rattle.pb_feature.specs.Checked.{IsFirstBelow, IsSofar}
 use Rattle.pb_feature.proofs.Slots.{same_name, its_name}
-use Rattle.pb_feature.proofs.Sound.{contains_at, same_owner}
-use Rattle.pb_feature.proofs.Whole.{at_contains, or_left, or_right}
+use Rattle.pb_feature.proofs.Whole.{or_left, or_right}
 use Rattle.pb_feature.proofs.Resolving.{or_two}
 
 -- one of a list passes, by its place

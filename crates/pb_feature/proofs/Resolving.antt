@@ -1,5 +1,5 @@
 -- What is marked is what holds, and what is handed out says it.
-use Rattle.std.proofs.Common.{◌≡◌, ◌≢◌, ◌⊎◌, inl, inr, Less, ℕ, zero, suc, ◌+◌, ◌*◌, ◌<◌, ◌≤◌, ◌==◌, Bool, ◌||◌, ◌&&◌, not, true, false, codes, IsTrue, List, [], ◌∷◌, ◌++◌, Contains, All, Option, Some, None, length, map, get_or, arith, refl, sym, ◌∙◌, ap, subst, if◌then◌else◌}
+use Rattle.std.proofs.Common.{◌≡◌, ◌≢◌, ◌⊎◌, inl, inr, Less, ℕ, zero, suc, ◌+◌, ◌*◌, ◌<◌, Bool, ◌||◌, ◌&&◌, not, true, false, codes, IsTrue, List, [], ◌∷◌, ◌++◌, Contains, All, Some, None, length, map, get_or, arith, refl, sym, ◌∙◌, ap, subst, if◌then◌else◌}
 use Rattle.std.specs.Prelude.{slice_get, ◌↔◌}
 use Rattle.std.specs.List.{list_any, Any, AllByRecursion}
 use Rattle.std.specs.List.Sorted.{IsStrictlySortedBy}
@@ -7,10 +7,10 @@ use Rattle.std.specs.Ordering.{nat_cmp}
 use Rattle.std.specs.Cmp.Lexicographic.{slice_cmp}
 use Rattle.std.specs.Option.{unwrap_or}
 use Rattle.std.specs.Str.{bytes_eq}
-use Rattle.std.proofs.lemmas.Bool.{eqb-true, eq-eqb, false≢true, and_parts, cases_Bool}
-use Rattle.std.proofs.lemmas.Option.{slice_get_within, get_or_from_slice_get, slice_get-get_or, unwrap_or-slice_get, slice_get_cases}
-use Rattle.std.proofs.lemmas.List.Folds.{list_any_at, Any-from_list_any}
-use Rattle.std.proofs.lemmas.List.Elements.{Contains-append_left, Contains-append_right, All-contains, Contains-get_or}
+use Rattle.std.proofs.lemmas.Bool.{false≢true, and_parts}
+use Rattle.std.proofs.lemmas.Option.{slice_get_within, get_or_from_slice_get, unwrap_or-slice_get, slice_get_cases}
+use Rattle.std.proofs.lemmas.List.Folds.{Any-from_list_any}
+use Rattle.std.proofs.lemmas.List.Elements.{All-contains, Contains-get_or}
 use Rattle.pb_manifest.specs.declared.feature.Feature.{Feature}
 use Rattle.pb_workspace.specs.declared.package.Side.{Side}
 use Rattle.pb_workspace.specs.declared.package.Side.TheVariants.{Target, Host}
@@ -21,10 +21,10 @@ use Rattle.pb_workspace.specs.declared.workspace.Workspace.{Workspace}
 use Rattle.pb_workspace.specs.Workspace.{HasFeature}
 use Rattle.pb_workspace.specs.Settled.{IsSettled, IsPackage, IsAscending}
 use Rattle.pb_closure.specs.declared.table.Rule.{Rule}
-use Rattle.pb_closure.specs.Closure.{Least, seed, joined, IsLeast, is_on}
-use Rattle.pb_closure.specs.Table.{IsInRange, joined_by}
+use Rattle.pb_closure.specs.Closure.{seed, joined, IsLeast, is_on}
+use Rattle.pb_closure.specs.Table.{IsInRange}
 use Rattle.pb_closure.specs.Placed.{placed}
-use Rattle.pb_closure.proofs.Membership.{none, single, cases, head, tail}
+use Rattle.pb_closure.proofs.Membership.{none, single, cases, head}
 use Rattle.pb_closure.proofs.Placed.{placed_from, placed_to, where_true, at_true}
 use Rattle.pb_feature.specs.declared.resolved.Part.{Part}
 use Rattle.pb_feature.specs.declared.resolved.Sides.{Sides}
@@ -128,10 +128,11 @@ module _ (ws : Workspace) (selection : Selection) (settled : IsSettled ws) (with
         let w = where_true (is_chosen selection o.name h.1.name) (has bs p Target (h.0 + 1) ∷ []) i h.3 in
         let number : slot o.features h.1.name ≡ h.0 + 1 = slot_at_place o.features h.0 h.1 (its_package p o at).features h.2 in
         let lt : h.0 < length o.features = slice_get_within o.features h.0 h.1 h.2 in
-        let present : HasFeature ws p h.1.name = feature_there ws selection settled p h.1.name o at (λ z. absurd (omega arith)) in
-        (HasSlot p Target (h.0 + 1),
-        subst (Numbered ps (HasSlot p Target (h.0 + 1))) (single (has bs p Target (h.0 + 1)) i w.1) (num_has ws selection settled p Target (h.0 + 1) o at (omega (arith, lt))),
-        (h.1.name, slot_of ws selection settled p h.1.name o at ∙ number, chosen p h.1.name is (is_choice p o h.1.name at present w.0))))
+        let present : HasFeature ws p h.1.name = feature_there ws selection settled p h.1.name o at (λ z. absurd (omega arith)) in (
+          HasSlot p Target (h.0 + 1),
+          subst (Numbered ps (HasSlot p Target (h.0 + 1))) (single (has bs p Target (h.0 + 1)) i w.1) (num_has ws selection settled p Target (h.0 + 1) o at (omega (arith, lt))),
+          (h.1.name, slot_of ws selection settled p h.1.name o at ∙ number, chosen p h.1.name is (is_choice p o h.1.name at present w.0)),
+        ))
   ]
 
   from_seeds : (i : ℕ) → Contains (seeds_of ps bs selection) i → Known i
@@ -216,38 +217,43 @@ module _ (ws : Workspace) (selection : Selection) (settled : IsSettled ws) (with
       it_holds : (p : ℕ) (s : Side) (o : Package) → slice_get ps p ≡ Some o → (IsTrue (is_active features p s) ↔ Holds ws selection (On p s))
       it_holds p s o at = (
         λ on_it. known_cell (IsOn p s) (on bs p s) (num_on ws selection settled p s o at) ((least (on bs p s)).0 (sym (active_is p s o at) ∙ on_it)),
-        λ holds. active_is p s o at ∙ (least (on bs p s)).1 (whole ws selection settled within (On p s) holds).2)
+        λ holds. active_is p s o at ∙ (least (on bs p s)).1 (whole ws selection settled within (On p s) holds).2,
+      )
 
       pub active_exact : (p : ℕ) (s : Side) → IsTrue (is_active features p s) ↔ Holds ws selection (On p s)
       active_exact p s = elim (slice_get_cases ps p).1 [
         | inl h ↦ it_holds p s h.0 h.2
         | inr h ↦ (
-            λ on_it. absurd (false≢true (sym (ap (λ w. active_of w s) (no_sides p h.1)) ∙ on_it)),
-            λ holds. (let m = whole ws selection settled within (On p s) holds in absurd (none_some p m.0 h.1 m.1)))
+          λ on_it. absurd (false≢true (sym (ap (λ w. active_of w s) (no_sides p h.1)) ∙ on_it)),
+          λ holds. (let m = whole ws selection settled within (On p s) holds in absurd (none_some p m.0 h.1 m.1)),
+        )
       ]
 
       enabled_holds : (p : ℕ) (s : Side) (n : ℕ) (o : Package) → slice_get ps p ≡ Some o → (IsTrue (is_enabled features p s n) ↔ Holds ws selection (Enabled p s n))
       enabled_holds p s n o at = elim (slice_get_cases o.entries n).1 [
         | inl h ↦
             (let i : ℕ = enabled bs p s (length o.features) n in
-            let value : is_enabled features p s n ≡ is_on marks i = flags_are p s n o at ∙ flag_at p s n o h.0 h.2 in
-            (λ on_it. known_cell (IsEnabled p s n) i (num_enabled ws selection settled p s n o at h.1) ((least i).0 (sym value ∙ on_it)),
-            λ holds. (let m = whole ws selection settled within (Enabled p s n) holds in
-              value ∙ (least i).1 (subst (λ (w : Package). Follows ws selection settled within (enabled bs p s (length w.features) n)) (same_owner (slice_get ps p) m.0 o m.1 at) m.3))))
+            let value : is_enabled features p s n ≡ is_on marks i = flags_are p s n o at ∙ flag_at p s n o h.0 h.2 in (
+              λ on_it. known_cell (IsEnabled p s n) i (num_enabled ws selection settled p s n o at h.1) ((least i).0 (sym value ∙ on_it)),
+              λ holds. (let m = whole ws selection settled within (Enabled p s n) holds in
+                  value ∙ (least i).1 (subst (λ (w : Package). Follows ws selection settled within (enabled bs p s (length w.features) n)) (same_owner (slice_get ps p) m.0 o m.1 at) m.3)),
+            ))
         | inr h ↦ (
-            λ on_it. absurd (false≢true (sym (flags_are p s n o at ∙ no_flag p s n o h.1) ∙ on_it)),
-            λ holds. (let m = whole ws selection settled within (Enabled p s n) holds in
+          λ on_it. absurd (false≢true (sym (flags_are p s n o at ∙ no_flag p s n o h.1) ∙ on_it)),
+          λ holds. (let m = whole ws selection settled within (Enabled p s n) holds in
               let same : m.0 ≡ o = same_owner (slice_get ps p) m.0 o m.1 at in
               let lt : n < length o.entries = subst (λ (w : Package). n < length w.entries) same m.2 in
-              absurd (omega (arith, lt, h.0))))
+              absurd (omega (arith, lt, h.0))),
+        )
       ]
 
       pub enabled_exact : (p : ℕ) (s : Side) (n : ℕ) → IsTrue (is_enabled features p s n) ↔ Holds ws selection (Enabled p s n)
       enabled_exact p s n = elim (slice_get_cases ps p).1 [
         | inl h ↦ enabled_holds p s n h.0 h.2
         | inr h ↦ (
-            λ on_it. absurd (false≢true (sym (ap (λ w. enabled_of w s n) (no_sides p h.1)) ∙ on_it)),
-            λ holds. (let m = whole ws selection settled within (Enabled p s n) holds in absurd (none_some p m.0 h.1 m.1)))
+          λ on_it. absurd (false≢true (sym (ap (λ w. enabled_of w s n) (no_sides p h.1)) ∙ on_it)),
+          λ holds. (let m = whole ws selection settled within (Enabled p s n) holds in absurd (none_some p m.0 h.1 m.1)),
+        )
       ]
 
       not_missing : (p : ℕ) (s : Side) (o : Package) → slice_get ps p ≡ Some o → is_on marks (has bs p s 0) ≡ false
@@ -285,8 +291,9 @@ module _ (ws : Workspace) (selection : Selection) (settled : IsSettled ws) (with
       has_exact p s f = elim (slice_get_cases ps p).1 [
         | inl h ↦ has_holds p s f h.0 h.2
         | inr h ↦ (
-            λ is. absurd (none f (subst (λ xs. Contains xs f) (ap (λ w. names_of w s) (no_sides p h.1)) is)),
-            λ holds. (let m = whole ws selection settled within (Has p s f) holds in absurd (none_some p m.0 h.1 m.1)))
+          λ is. absurd (none f (subst (λ xs. Contains xs f) (ap (λ w. names_of w s) (no_sides p h.1)) is)),
+          λ holds. (let m = whole ws selection settled within (Has p s f) holds in absurd (none_some p m.0 h.1 m.1)),
+        )
       ]
 
       pub in_order : (p : ℕ) (s : Side) → IsAscending (features_at features p s)

@@ -1,10 +1,10 @@
 -- Each rule that is written down speaks of cells, and what it gives holds where its premises do.
-use Rattle.std.proofs.Common.{◌≡◌, ◌≢◌, ◌⊎◌, inl, inr, ℕ, ◌+◌, ◌<◌, ◌≤◌, ◌==◌, Bool, true, false, codes, List, [], ◌∷◌, ◌++◌, Contains, All, Option, Some, None, length, get_or, arith, refl, sym, ◌∙◌, ap, subst, if◌then◌else◌}
+use Rattle.std.proofs.Common.{◌≡◌, ◌≢◌, inl, inr, ℕ, ◌+◌, ◌<◌, ◌≤◌, ◌==◌, Bool, true, false, codes, List, [], ◌∷◌, ◌++◌, Contains, All, Option, Some, length, arith, refl, sym, ◌∙◌, ap, subst, if◌then◌else◌}
 use Rattle.std.specs.Prelude.{slice_get}
 use Rattle.std.specs.Str.{bytes_eq}
-use Rattle.std.proofs.lemmas.Bool.{eqb-true, eq-eqb, false≢true}
-use Rattle.std.proofs.lemmas.Option.{slice_get_within, get_or_from_slice_get, slice_get-get_or, slice_get_cases}
-use Rattle.std.proofs.lemmas.List.Elements.{Contains-append_left, Contains-append_right, Contains-append_cases, Contains-get_or}
+use Rattle.std.proofs.lemmas.Bool.{eq-eqb, false≢true}
+use Rattle.std.proofs.lemmas.Option.{slice_get_within, get_or_from_slice_get, slice_get_cases}
+use Rattle.std.proofs.lemmas.List.Elements.{Contains-append_cases}
 use Rattle.pb_manifest.specs.declared.feature.Feature.{Feature}
 use Rattle.pb_manifest.specs.declared.feature.FeatureItem.{FeatureItem}
 use Rattle.pb_manifest.specs.declared.feature.FeatureItem.TheVariants.{Own, Dependency, Of, OfEnabled}
@@ -19,12 +19,12 @@ use Rattle.pb_workspace.specs.Settled.{IsSettled, IsPackage}
 use Rattle.pb_closure.specs.declared.table.Rule.{Rule}
 use Rattle.pb_closure.specs.Placed.{placed}
 use Rattle.pb_closure.proofs.Membership.{none, single, cases, head}
-use Rattle.pb_closure.proofs.Placed.{placed_from, placed_to, where_true, where_false, at_true, at_false}
-use Rattle.pb_feature.specs.Facts.{Fact, On, Has, Enabled, Asked, Holds, required, listed, named, of_enables, of_asks, of_gives, of_enabled, leads, with_listed, with_asked, with_default}
+use Rattle.pb_closure.proofs.Placed.{placed_from, where_true, where_false}
+use Rattle.pb_feature.specs.Facts.{On, Has, Enabled, Holds, required, listed, named, of_enables, of_asks, of_gives, of_enabled, leads, with_listed, with_asked, with_default}
 use Rattle.pb_feature.specs.Numbers.{bases_from, slot, features_of, slot_at, on, has, enabled}
 use Rattle.pb_feature.specs.Rules.{pair, alone, there_rules, given_rules, enabled_rules, entry_rules, of_rules, item_rules, own_rules, one_item_rules, feature_rules, package_rules, both_rules, rules_of}
 use Rattle.pb_feature.proofs.Cells.{Cell, IsOn, HasSlot, IsEnabled, Numbered}
-use Rattle.pb_feature.proofs.Slots.{IsSlot, slot_named, slot_below, some_there, slot_at_place, same_name}
+use Rattle.pb_feature.proofs.Slots.{IsSlot, slot_named, slot_below, some_there, same_name}
 
 pub same_owner : (o : Option Package) (a b : Package) → o ≡ Some a → o ≡ Some b → a ≡ b
 same_owner o a b x y = cc

@@ -1,5 +1,5 @@
 -- A step of a loop over what each of a list gives by its place alone.
-use Rattle.std.proofs.Common.{◌≡◌, ℕ, ◌+◌, ◌<◌, List, ◌∷◌, ◌++◌, length, get_or, drop, sym, ◌∙◌, ap}
+use Rattle.std.proofs.Common.{◌≡◌, ℕ, ◌+◌, ◌<◌, List, ◌++◌, length, get_or, drop, sym, ◌∙◌, ap}
 use Rattle.std.proofs.lemmas.List.{drop_more, append_assoc}
 use Rattle.pb_closure.specs.Placed.{placed}
 use Rattle.pb_feature.proofs.Sound.{one_at}

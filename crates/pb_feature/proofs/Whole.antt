@@ -1,10 +1,10 @@
 -- Each rule of what holds is written down, so what holds follows.
-use Rattle.std.proofs.Common.{◌≡◌, ◌≢◌, ◌⊎◌, inl, inr, ℕ, ◌+◌, ◌<◌, ◌≤◌, ◌==◌, Bool, ◌||◌, ◌&&◌, not, true, false, codes, List, [], ◌∷◌, ◌++◌, Contains, All, Option, Some, None, length, get_or, arith, refl, sym, ◌∙◌, ap, subst, if◌then◌else◌}
+use Rattle.std.proofs.Common.{◌≡◌, ◌≢◌, inl, inr, ℕ, ◌+◌, ◌<◌, ◌==◌, Bool, ◌||◌, ◌&&◌, not, true, false, codes, List, [], ◌∷◌, ◌++◌, Contains, All, Some, length, refl, sym, ◌∙◌, ap, subst, if◌then◌else◌}
 use Rattle.std.specs.Prelude.{slice_get}
 use Rattle.std.specs.List.{list_any}
 use Rattle.std.specs.Str.{bytes_eq}
-use Rattle.std.proofs.lemmas.Bool.{eqb-true, eq-eqb, false≢true, cases_Bool}
-use Rattle.std.proofs.lemmas.Option.{slice_get_within, get_or_from_slice_get, slice_get-get_or}
+use Rattle.std.proofs.lemmas.Bool.{eqb-true, false≢true, cases_Bool}
+use Rattle.std.proofs.lemmas.Option.{slice_get_within, slice_get-get_or}
 use Rattle.std.proofs.lemmas.List.Folds.{list_any_at}
 use Rattle.std.proofs.lemmas.List.Elements.{Contains-append_left, Contains-append_right, All-contains}
 use Rattle.pb_manifest.specs.declared.feature.Feature.{Feature}
@@ -22,10 +22,10 @@ use Rattle.pb_closure.specs.declared.table.Rule.{Rule}
 use Rattle.pb_closure.specs.Closure.{Least, seed, joined}
 use Rattle.pb_closure.specs.Table.{joined_by}
 use Rattle.pb_closure.specs.Placed.{placed}
-use Rattle.pb_closure.proofs.Membership.{none, head, tail}
+use Rattle.pb_closure.proofs.Membership.{head, tail}
 use Rattle.pb_closure.proofs.Placed.{placed_to, at_true, at_false}
 use Rattle.pb_feature.specs.Facts.{Fact, On, Has, Enabled, Asked, of_package, IsChosen, all, asked, asked_of, default, Holds, selected, chosen, required, listed, named, of_enables, of_asks, of_gives, of_enabled, leads, with_listed, with_asked, with_default}
-use Rattle.pb_feature.specs.Numbers.{bases_from, slot, features_of, slot_at, on, has, enabled}
+use Rattle.pb_feature.specs.Numbers.{bases_from, slot, slot_at, on, has, enabled}
 use Rattle.pb_feature.specs.Rules.{pair, alone, there_rules, given_rules, enabled_rules, entry_rules, of_rules, item_rules, own_rules, one_item_rules, feature_rules, package_rules, both_rules, rules_of, is_text_of, is_chosen, chosen_seeds, owner_seeds, selected_seeds, seeds_of}
 use Rattle.pb_feature.proofs.Slots.{IsSlot, slot_named, there_some, slot_at_place, its_name}
 use Rattle.pb_feature.proofs.Sound.{same_owner, same_entry, all_at, one_at, to_there, slot_of}
@@ -207,29 +207,41 @@ module _ (ws : Workspace) (selection : Selection) (settled : IsSettled ws) (with
       (o.0, o.1, chosen_follows p f o.0 o.1 is choice)
   whole _ (required p s n e before here needed) =
       let o : Package = here.owner in
-      let r : Rule = alone (on bs p s) (enabled bs p s (length o.features) n) in
-      (o, here.package_at, slice_get_within o.entries n e here.entry_at,
-      one (on bs p s) (enabled bs p s (length o.features) n) (whole (On p s) before).2
-      (to_entry s p n o e r here.package_at here.entry_at (Contains-append_left (if e.optional then [] else r ∷ []) _ r (at_false e.optional (r ∷ []) r needed (head r [])))))
+      let r : Rule = alone (on bs p s) (enabled bs p s (length o.features) n) in (
+        o,
+        here.package_at,
+        slice_get_within o.entries n e here.entry_at,
+        one (on bs p s) (enabled bs p s (length o.features) n) (whole (On p s) before).2
+            (to_entry s p n o e r here.package_at here.entry_at (Contains-append_left (if e.optional then [] else r ∷ []) _ r (at_false e.optional (r ∷ []) r needed (head r [])))),
+      )
   whole _ (listed p s f g before lists) =
       let l : ListedAt p f (Own g) = listed_at p f (Own g) lists in
-      let r : Rule = alone (has bs p s (l.place + 1)) (has bs p s (slot l.owner.features g)) in
-      (l.owner, l.at, subst (λ k. Follows (has bs p s k)) (sym (slot_of ws selection settled p g l.owner l.at))
-      (one _ _ (has_in p s f (Own g) l (whole (Has p s f) before)) (to_item s p f (Own g) r l (Contains-append_left (r ∷ []) _ r (head r [])))))
+      let r : Rule = alone (has bs p s (l.place + 1)) (has bs p s (slot l.owner.features g)) in (
+        l.owner,
+        l.at,
+        subst (λ k. Follows (has bs p s k)) (sym (slot_of ws selection settled p g l.owner l.at))
+            (one _ _ (has_in p s f (Own g) l (whole (Has p s f) before)) (to_item s p f (Own g) r l (Contains-append_left (r ∷ []) _ r (head r [])))),
+      )
   whole _ (named p s f n e before lists here) =
       let l : ListedAt p f (Dependency e.key) = listed_at p f (Dependency e.key) lists in
-      let r : Rule = alone (has bs p s (l.place + 1)) (enabled bs p s (length l.owner.features) n) in
-      (l.owner, l.at, slice_get_within l.owner.entries n e (entry_in p n l.owner e l.at here),
-      one _ _ (has_in p s f (Dependency e.key) l (whole (Has p s f) before)) (to_named s p n f (Dependency e.key) e (r ∷ []) r l here refl (head r [])))
+      let r : Rule = alone (has bs p s (l.place + 1)) (enabled bs p s (length l.owner.features) n) in (
+        l.owner,
+        l.at,
+        slice_get_within l.owner.entries n e (entry_in p n l.owner e l.at here),
+        one _ _ (has_in p s f (Dependency e.key) l (whole (Has p s f) before)) (to_named s p n f (Dependency e.key) e (r ∷ []) r l here refl (head r [])),
+      )
   whole _ (of_enables p s f g n e before lists here) =
       let l : ListedAt p f (Of e.key g) = listed_at p f (Of e.key g) lists in
       let fr : ℕ = has bs p s (l.place + 1) in
       let en : ℕ = enabled bs p s (length l.owner.features) n in
       let gives : ℕ = has bs e.to (side_of e.kind s) (slot_at ps e.to g) in
-      let r : Rule = alone fr en in
-      (l.owner, l.at, slice_get_within l.owner.entries n e (entry_in p n l.owner e l.at here),
-      one _ _ (has_in p s f (Of e.key g) l (whole (Has p s f) before))
-      (to_named s p n f (Of e.key g) e (of_rules ps bs fr p s (slot l.owner.features e.key) g en e) r l here refl (Contains-append_left (r ∷ alone fr gives ∷ []) _ r (head r (alone fr gives ∷ [])))))
+      let r : Rule = alone fr en in (
+        l.owner,
+        l.at,
+        slice_get_within l.owner.entries n e (entry_in p n l.owner e l.at here),
+        one _ _ (has_in p s f (Of e.key g) l (whole (Has p s f) before))
+            (to_named s p n f (Of e.key g) e (of_rules ps bs fr p s (slot l.owner.features e.key) g en e) r l here refl (Contains-append_left (r ∷ alone fr gives ∷ []) _ r (head r (alone fr gives ∷ [])))),
+      )
   whole _ (of_asks p s f g n e before lists here) =
       let l : ListedAt p f (Of e.key g) = listed_at p f (Of e.key g) lists in
       let fr : ℕ = has bs p s (l.place + 1) in
@@ -237,18 +249,21 @@ module _ (ws : Workspace) (selection : Selection) (settled : IsSettled ws) (with
       let gives : ℕ = has bs e.to (side_of e.kind s) (slot_at ps e.to g) in
       let r : Rule = alone fr gives in
       let it : Follows gives = one fr gives (has_in p s f (Of e.key g) l (whole (Has p s f) before))
-          (to_named s p n f (Of e.key g) e (of_rules ps bs fr p s (slot l.owner.features e.key) g en e) r l here refl (Contains-append_left (alone fr en ∷ r ∷ []) _ r (tail (alone fr en) (r ∷ []) r (head r [])))) in
+      (to_named s p n f (Of e.key g) e (of_rules ps bs fr p s (slot l.owner.features e.key) g en e) r l here refl (Contains-append_left (alone fr en ∷ r ∷ []) _ r (tail (alone fr en) (r ∷ []) r (head r [])))) in
       λ o d at d_at _. subst (λ (x : Entry). Follows (has bs x.to (side_of x.kind s) (slot_at ps x.to g))) (same_entry (slice_get o.entries n) e d (entry_in p n o e at here) d_at) it
   whole _ (of_gives p s f g n e before lists here is_optional there) =
       let l : ListedAt p f (Of e.key g) = listed_at p f (Of e.key g) lists in
       let fr : ℕ = has bs p s (l.place + 1) in
       let en : ℕ = enabled bs p s (length l.owner.features) n in
       let k : ℕ = slot l.owner.features e.key in
-      let r : Rule = alone fr (has bs p s k) in
-      (l.owner, l.at, subst (λ j. Follows (has bs p s j)) (sym (slot_of ws selection settled p e.key l.owner l.at))
-      (one fr (has bs p s k) (has_in p s f (Of e.key g) l (whole (Has p s f) before))
-      (to_named s p n f (Of e.key g) e (of_rules ps bs fr p s k g en e) r l here refl
-      (Contains-append_right (alone fr en ∷ alone fr (has bs e.to (side_of e.kind s) (slot_at ps e.to g)) ∷ []) _ r (to_there_rule fr p s e.optional k is_optional (some_slot p e.key l.owner l.at there))))))
+      let r : Rule = alone fr (has bs p s k) in (
+        l.owner,
+        l.at,
+        subst (λ j. Follows (has bs p s j)) (sym (slot_of ws selection settled p e.key l.owner l.at))
+            (one fr (has bs p s k) (has_in p s f (Of e.key g) l (whole (Has p s f) before))
+            (to_named s p n f (Of e.key g) e (of_rules ps bs fr p s k g en e) r l here refl
+            (Contains-append_right (alone fr en ∷ alone fr (has bs e.to (side_of e.kind s) (slot_at ps e.to g)) ∷ []) _ r (to_there_rule fr p s e.optional k is_optional (some_slot p e.key l.owner l.at there))))),
+      )
   whole _ (of_enabled p s f g n e before lists here enables) =
       let l : ListedAt p f (OfEnabled e.key g) = listed_at p f (OfEnabled e.key g) lists in
       let fr : ℕ = has bs p s (l.place + 1) in
@@ -256,26 +271,32 @@ module _ (ws : Workspace) (selection : Selection) (settled : IsSettled ws) (with
       let gives : ℕ = has bs e.to (side_of e.kind s) (slot_at ps e.to g) in
       let r : Rule = pair fr en gives in
       let it : Follows gives = joined fr en gives (has_in p s f (OfEnabled e.key g) l (whole (Has p s f) before)) (en_in p n s l.owner l.at (whole (Enabled p s n) enables))
-          (to_named s p n f (OfEnabled e.key g) e (r ∷ []) r l here refl (head r [])) in
+      (to_named s p n f (OfEnabled e.key g) e (r ∷ []) r l here refl (head r [])) in
       λ o d at d_at _. subst (λ (x : Entry). Follows (has bs x.to (side_of x.kind s) (slot_at ps x.to g))) (same_entry (slice_get o.entries n) e d (entry_in p n o e at here) d_at) it
   whole _ (leads p s n e enables here) =
       let o : Package = here.owner in
       let t : Side = side_of e.kind s in
       let q = to_there ws selection settled p n o e here.package_at here.entry_at in
       let en : ℕ = enabled bs p s (length o.features) n in
-      let r : Rule = alone en (on bs e.to t) in
-      (q.0, q.1, one en (on bs e.to t) (en_in p n s o here.package_at (whole (Enabled p s n) enables))
-      (to_enabled s p n o e r here.package_at here.entry_at (Contains-append_left ((r ∷ []) ++ there_rules bs en e.to t e.default_features (slot_at ps e.to (codes "default"))) _ r (Contains-append_left (r ∷ []) _ r (head r [])))))
+      let r : Rule = alone en (on bs e.to t) in (
+        q.0,
+        q.1,
+        one en (on bs e.to t) (en_in p n s o here.package_at (whole (Enabled p s n) enables))
+            (to_enabled s p n o e r here.package_at here.entry_at (Contains-append_left ((r ∷ []) ++ there_rules bs en e.to t e.default_features (slot_at ps e.to (codes "default"))) _ r (Contains-append_left (r ∷ []) _ r (head r [])))),
+      )
   whole _ (with_listed p s n e f enables here is) =
       let o : Package = here.owner in
       let t : Side = side_of e.kind s in
       let q = to_there ws selection settled p n o e here.package_at here.entry_at in
       let en : ℕ = enabled bs p s (length o.features) n in
       let r : Rule = alone en (has bs e.to t (slot_at ps e.to f)) in
-      let k = at_contains e.features f is in
-      (q.0, q.1, one en (has bs e.to t (slot_at ps e.to f)) (en_in p n s o here.package_at (whole (Enabled p s n) enables))
-      (to_enabled s p n o e r here.package_at here.entry_at (Contains-append_right ((alone en (on bs e.to t) ∷ []) ++ there_rules bs en e.to t e.default_features (slot_at ps e.to (codes "default"))) _ r
-      (placed_to (given_rules ps bs en e.to t) e.features k.0 f r k.1 (head r [])))))
+      let k = at_contains e.features f is in (
+        q.0,
+        q.1,
+        one en (has bs e.to t (slot_at ps e.to f)) (en_in p n s o here.package_at (whole (Enabled p s n) enables))
+            (to_enabled s p n o e r here.package_at here.entry_at (Contains-append_right ((alone en (on bs e.to t) ∷ []) ++ there_rules bs en e.to t e.default_features (slot_at ps e.to (codes "default"))) _ r
+            (placed_to (given_rules ps bs en e.to t) e.features k.0 f r k.1 (head r [])))),
+      )
   whole _ (with_asked p s n e f enables asks here) =
       let o : Package = here.owner in
       let q = to_there ws selection settled p n o e here.package_at here.entry_at in
@@ -287,7 +308,10 @@ module _ (ws : Workspace) (selection : Selection) (settled : IsSettled ws) (with
       let en : ℕ = enabled bs p s (length o.features) n in
       let k : ℕ = slot_at ps e.to (codes "default") in
       let r : Rule = alone en (has bs e.to t k) in
-      let some : k ≢ 0 = λ z. some_slot e.to (codes "default") q.0 q.1 there (sym (slot_of ws selection settled e.to (codes "default") q.0 q.1) ∙ z) in
-      (q.0, q.1, one en (has bs e.to t k) (en_in p n s o here.package_at (whole (Enabled p s n) enables))
-      (to_enabled s p n o e r here.package_at here.entry_at (Contains-append_left ((alone en (on bs e.to t) ∷ []) ++ there_rules bs en e.to t e.default_features k) _ r
-      (Contains-append_right (alone en (on bs e.to t) ∷ []) _ r (to_there_rule en e.to t e.default_features k takes some)))))
+      let some : k ≢ 0 = λ z. some_slot e.to (codes "default") q.0 q.1 there (sym (slot_of ws selection settled e.to (codes "default") q.0 q.1) ∙ z) in (
+        q.0,
+        q.1,
+        one en (has bs e.to t k) (en_in p n s o here.package_at (whole (Enabled p s n) enables))
+            (to_enabled s p n o e r here.package_at here.entry_at (Contains-append_left ((alone en (on bs e.to t) ∷ []) ++ there_rules bs en e.to t e.default_features k) _ r
+            (Contains-append_right (alone en (on bs e.to t) ∷ []) _ r (to_there_rule en e.to t e.default_features k takes some)))),
+      )

@@ -2,8 +2,7 @@
 use Rattle.std.specs.Prelude.{◌≡◌, ℕ, true, false, codes, List, ◌∷◌, ◌++◌, Contains}
 use Rattle.pb_manifest.specs.declared.feature.FeatureItem.TheVariants.{Own, Dependency, Of, OfEnabled}
 use Rattle.pb_workspace.specs.declared.package.Side.{Side}
-use Rattle.pb_workspace.specs.declared.package.Side.TheVariants.{Target, Host}
-use Rattle.pb_workspace.specs.declared.package.Package.{Package}
+use Rattle.pb_workspace.specs.declared.package.Side.TheVariants.{Target}
 use Rattle.pb_workspace.specs.declared.package.Entry.{Entry}
 use Rattle.pb_workspace.specs.declared.options.Selection.{Selection}
 use Rattle.pb_workspace.specs.declared.workspace.Workspace.{Workspace}

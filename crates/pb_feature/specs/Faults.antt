@@ -1,5 +1,5 @@
 -- Why no features are resolved (The Cargo Book, Features): what an item names has to be there.
-use Rattle.std.specs.Prelude.{◌≡◌, ℕ, Bool, true, false, List, [], ◌∷◌, ◌++◌, Contains, Option, Some, None, ◌&&◌, if◌then◌else◌, slice_get}
+use Rattle.std.specs.Prelude.{◌≡◌, ℕ, Bool, true, List, [], ◌∷◌, Contains, Option, Some, None, ◌&&◌, if◌then◌else◌, slice_get}
 use Rattle.std.specs.List.{list_any}
 use Rattle.std.specs.Option.{option_or}
 use Rattle.std.specs.Str.{bytes_eq}
@@ -16,7 +16,7 @@ use Rattle.pb_workspace.specs.declared.workspace.Workspace.{Workspace}
 use Rattle.pb_workspace.specs.Workspace.{has_feature_named, HasFeature}
 use Rattle.pb_feature.specs.declared.fault.FeatureFault.{FeatureFault}
 use Rattle.pb_feature.specs.declared.fault.FeatureFault.TheVariants.{NoSuchFeature, NoSuchDependency, NotOptional}
-use Rattle.pb_feature.specs.Facts.{Fact, Has, Holds, of_package}
+use Rattle.pb_feature.specs.Facts.{Has, Holds, of_package}
 
 -- whether an entry has this name, in either table; whether one that has it is optional
 abbrev pub is_entry : Package → List ℕ → Bool

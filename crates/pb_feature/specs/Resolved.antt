@@ -1,5 +1,5 @@
 -- What is on, as it is handed out, and what it has to say.
-use Rattle.std.specs.Prelude.{◌↔◌, ℕ, Bool, false, IsTrue, List, [], ◌∷◌, Contains, Option, Some, None, slice_get, slice_index_or}
+use Rattle.std.specs.Prelude.{◌↔◌, ℕ, Bool, false, IsTrue, List, [], Contains, Option, Some, None, slice_get, slice_index_or}
 use Rattle.pb_workspace.specs.declared.package.Side.{Side}
 use Rattle.pb_workspace.specs.declared.package.Side.TheVariants.{Target, Host}
 use Rattle.pb_workspace.specs.declared.options.Selection.{Selection}

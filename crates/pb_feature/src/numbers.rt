@@ -1,7 +1,7 @@
 //! The numbers of what can hold of the packages of a workspace, for the rules that are written down.
 
 ghost use Rattle.std.specs.Prelude.{◌≡◌, ◌+◌, ◌*◌, IfOk, IfSome};
-ghost use Rattle.pb_feature.specs.Numbers.{width_of, bases_from, end_from, side_number, number_from, number_at, slot, slot_at};
+ghost use Rattle.pb_feature.specs.Numbers.{width_of, bases_from, end_from, side_number, number_from, number_at, slot, slot_at, on, has, enabled};
 
 use pb_manifest::Feature;
 use pb_workspace::{Package, Side};
@@ -100,12 +100,7 @@ pub(crate) fn slot(features: &[Feature], name: &[u8]) -> usize
 impl Ground<'_> {
     /// The number of a place in a package's row, on a side. A number past `usize` counts as want of
     /// memory.
-    pub(crate) fn number(
-        &self,
-        place: usize,
-        side: Side,
-        local: usize,
-    ) -> Result<usize, AllocError>
+    pub(crate) fn number(&self, place: usize, side: Side, local: usize) -> Result<usize, AllocError>
         ensures { IfOk result (λ i. i ≡ number_at self.now.bases.now place side local) }
     {
         let base = match self.bases.get(place) {
@@ -126,5 +121,53 @@ impl Ground<'_> {
             Some(owner) => slot(owner.features.as_slice(), name),
             None => 0,
         }
+    }
+
+    /// The number of a package that is on.
+    pub(crate) fn on(&self, place: usize, side: Side) -> Result<usize, AllocError>
+        ensures { IfOk result (λ i. i ≡ on self.now.bases.now place side) }
+    {
+        let i = self.number(place, side, 0)?;
+        Ok(i)
+    }
+
+    /// The number of a feature that a package has, by its place counted from 1; 0 is a feature that it
+    /// does not have.
+    pub(crate) fn has(&self, place: usize, side: Side, feature: usize) -> Result<usize, AllocError>
+        ensures { IfOk result (λ i. i ≡ has self.now.bases.now place side feature) }
+    {
+        let Some(local) = feature.checked_add(1) else {
+            return Err(AllocError);
+        };
+        let i = self.number(place, side, local)?;
+        Ok(i)
+    }
+
+    /// The number of an enabled entry, behind so many features.
+    pub(crate) fn enabled(
+        &self,
+        place: usize,
+        side: Side,
+        features: usize,
+        entry: usize,
+    ) -> Result<usize, AllocError>
+        ensures { IfOk result (λ i. i ≡ enabled self.now.bases.now place side features entry) }
+    {
+        let Some(behind) = entry.checked_add(2) else {
+            return Err(AllocError);
+        };
+        let Some(local) = features.checked_add(behind) else {
+            return Err(AllocError);
+        };
+        let i = self.number(place, side, local)?;
+        Ok(i)
+    }
+
+    /// The number of a feature of a name.
+    pub(crate) fn given(&self, place: usize, side: Side, name: &[u8]) -> Result<usize, AllocError>
+        ensures { IfOk result (λ i. i ≡ has self.now.bases.now place side (slot_at self.now.packages.now place name.now)) }
+    {
+        let i = self.has(place, side, self.slot_at(place, name))?;
+        Ok(i)
     }
 }

@@ -176,15 +176,7 @@ fn entries_of(
 {
     let mut enabled = Items::new(alloc);
     for index in 0..entries.len() {
-        add_mark(
-            &mut enabled,
-            ground,
-            marks,
-            place,
-            side,
-            features,
-            index,
-        )?;
+        add_mark(&mut enabled, ground, marks, place, side, features, index)?;
     }
     Ok(enabled)
 }

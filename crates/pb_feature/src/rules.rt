@@ -24,56 +24,6 @@ fn side_made(kind: DependencyKind, side: Side) -> Side
     }
 }
 
-impl Ground<'_> {
-    /// The number of a package that is on.
-    pub(crate) fn on(&self, place: usize, side: Side) -> Result<usize, AllocError>
-        ensures { IfOk result (λ i. i ≡ on self.now.bases.now place side) }
-    {
-        let i = self.number(place, side, 0)?;
-        Ok(i)
-    }
-
-    /// The number of a feature that a package has, by its place counted from 1; 0 is a feature that it
-    /// does not have.
-    pub(crate) fn has(&self, place: usize, side: Side, feature: usize) -> Result<usize, AllocError>
-        ensures { IfOk result (λ i. i ≡ has self.now.bases.now place side feature) }
-    {
-        let Some(local) = feature.checked_add(1) else {
-            return Err(AllocError);
-        };
-        let i = self.number(place, side, local)?;
-        Ok(i)
-    }
-
-    /// The number of an enabled entry, behind so many features.
-    pub(crate) fn enabled(
-        &self,
-        place: usize,
-        side: Side,
-        features: usize,
-        entry: usize,
-    ) -> Result<usize, AllocError>
-        ensures { IfOk result (λ i. i ≡ enabled self.now.bases.now place side features entry) }
-    {
-        let Some(behind) = entry.checked_add(2) else {
-            return Err(AllocError);
-        };
-        let Some(local) = features.checked_add(behind) else {
-            return Err(AllocError);
-        };
-        let i = self.number(place, side, local)?;
-        Ok(i)
-    }
-
-    /// The number of a feature of a name.
-    fn given(&self, place: usize, side: Side, name: &[u8]) -> Result<usize, AllocError>
-        ensures { IfOk result (λ i. i ≡ has self.now.bases.now place side (slot_at self.now.packages.now place name.now)) }
-    {
-        let i = self.has(place, side, self.slot_at(place, name))?;
-        Ok(i)
-    }
-}
-
 /// A rule with one premise.
 fn add_alone(rules: &mut Vec<Rule>, first: usize, gives: usize) -> Result<(), AllocError>
     ensures { OnOk result (rules.new.items ≡ rules.old.items ++ alone first gives ∷ []) }

@@ -32,12 +32,7 @@ fn has_either(texts: &[Text], one: &[u8], other: &[u8]) -> bool
 }
 
 /// Whether a feature of the package of this name is asked for.
-fn is_asked(
-    alloc: Global,
-    asked: &[Text],
-    name: &str,
-    feature: &str,
-) -> Result<bool, AllocError>
+fn is_asked(alloc: Global, asked: &[Text], name: &str, feature: &str) -> Result<bool, AllocError>
     ensures { IfOk result (λ is. is ≡ list_any (is_text_of name.now feature.now) asked.now) }
 {
     let whole = of_package(alloc, name, feature)?;

@@ -1,4 +1,4 @@
-use Rattle.std.proofs.Common.{arith, sym, ◌∙◌, ap, subst, true, false, ◌≡◌, rules, get_or}
+use Rattle.std.proofs.Common.{arith, sym, ◌∙◌, ap}
 use Rattle.std.specs.Str.{bytes_eq}
 use Rattle.pb_feature.proofs.Slots.{passed_by, found_at}
 use Rattle.pb_feature.proofs.numbers.slot.Goals as goal

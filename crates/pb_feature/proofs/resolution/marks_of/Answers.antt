@@ -1,4 +1,4 @@
-use Rattle.pb_feature.proofs.Handing.{seeds_fit, rules_fit, least_is}
+use Rattle.pb_feature.proofs.Handing.{seeds_fit, rules_fit}
 use Rattle.pb_feature.proofs.resolution.marks_of.Goals as goal
 
 pub derived-requires-clause-seeds : goal.derived-requires-clause-seeds

@@ -1,4 +1,4 @@
-use Rattle.std.proofs.Common.{◌≡◌, ◌+◌, ◌++◌, drop, length}
+use Rattle.std.proofs.Common.{◌≡◌, ◌++◌, drop}
 use Rattle.pb_closure.specs.Placed.{placed}
 use Rattle.pb_feature.specs.Rules.{both_rules}
 use Rattle.pb_feature.proofs.rules.rules_of.Given as goal
