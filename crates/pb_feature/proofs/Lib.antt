@@ -1,0 +1,10 @@
+pub mod Slots
+pub mod Cells
+pub mod Sound
+pub mod Whole
+pub mod Stepping
+pub mod Resolving
+pub mod Handing
+pub mod Firsts
+pub mod Refusing
+pub mod Answering

@@ -1,0 +1,49 @@
+-- Which packages, features and entries are on: the least set of facts closed under the rules of The Cargo Book, Features (resolver 2).
+use Rattle.std.specs.Prelude.{◌≡◌, ℕ, true, false, codes, List, ◌∷◌, ◌++◌, Contains}
+use Rattle.pb_manifest.specs.declared.feature.FeatureItem.TheVariants.{Own, Dependency, Of, OfEnabled}
+use Rattle.pb_workspace.specs.declared.package.Side.{Side}
+use Rattle.pb_workspace.specs.declared.package.Side.TheVariants.{Target}
+use Rattle.pb_workspace.specs.declared.package.Entry.{Entry}
+use Rattle.pb_workspace.specs.declared.options.Selection.{Selection}
+use Rattle.pb_workspace.specs.declared.workspace.Workspace.{Workspace}
+use Rattle.pb_workspace.specs.Workspace.{side_of, HasEntry, ListsItem, HasFeature}
+
+-- a package, known by its place, is on at a side; it has a feature there; its entry at a place is enabled there; a feature is asked of the package of that entry
+pub data Fact : Type 0 where
+  On : (p : ℕ) (s : Side) → Fact
+  Has : (p : ℕ) (s : Side) (feature : List ℕ) → Fact
+  Enabled : (p : ℕ) (s : Side) (entry : ℕ) → Fact
+  Asked : (p : ℕ) (s : Side) (entry : ℕ) (feature : List ℕ) → Fact
+
+-- the text `PACKAGE/FEATURE`
+abbrev pub of_package : List ℕ → List ℕ → List ℕ
+of_package name feature = name ++ 47 ∷ feature
+
+-- what is chosen for a package, of the features that it has: all of them; one that is asked for by its name; one that is asked of this package; `default`
+pub data IsChosen (ws : Workspace) (selection : Selection) (p : ℕ) : List ℕ → Type 0 where
+  all : (feature : List ℕ) (asked : selection.all_features ≡ true) (there : HasFeature ws p feature) → IsChosen ws selection p feature
+  asked : (feature : List ℕ) (is : Contains selection.features feature) (there : HasFeature ws p feature) → IsChosen ws selection p feature
+  asked_of : (feature : List ℕ) (there : HasFeature ws p feature) (is : Contains selection.features (of_package there.owner.name feature)) → IsChosen ws selection p feature
+  default : (kept : selection.no_default_features ≡ false) (there : HasFeature ws p (codes "default")) → IsChosen ws selection p (codes "default")
+
+pub data Holds (ws : Workspace) (selection : Selection) : Fact → Type 0 where
+  -- a selected package is on at the target, with what is chosen for it
+  selected : (p : ℕ) (is : Contains selection.packages p) → Holds ws selection (On p Target)
+  chosen : (p : ℕ) (feature : List ℕ) (is : Contains selection.packages p) (chosen : IsChosen ws selection p feature) → Holds ws selection (Has p Target feature)
+  -- a package that is on enables its entries that are not optional
+  required : (p : ℕ) (s : Side) (n : ℕ) (e : Entry) (on : Holds ws selection (On p s)) (has : HasEntry ws p n e) (needed : e.optional ≡ false) → Holds ws selection (Enabled p s n)
+  -- a feature gives the features that it lists
+  listed : (p : ℕ) (s : Side) (f g : List ℕ) (on : Holds ws selection (Has p s f)) (lists : ListsItem ws p f (Own g)) → Holds ws selection (Has p s g)
+  -- `dep:N` enables the entries N; the implicit feature N lists it
+  named : (p : ℕ) (s : Side) (f : List ℕ) (n : ℕ) (e : Entry) (on : Holds ws selection (Has p s f)) (lists : ListsItem ws p f (Dependency e.key)) (has : HasEntry ws p n e) → Holds ws selection (Enabled p s n)
+  -- `N/F` enables the entries N, asks F of them, and gives the feature N where one of them is optional and there is one
+  of_enables : (p : ℕ) (s : Side) (f g : List ℕ) (n : ℕ) (e : Entry) (on : Holds ws selection (Has p s f)) (lists : ListsItem ws p f (Of e.key g)) (has : HasEntry ws p n e) → Holds ws selection (Enabled p s n)
+  of_asks : (p : ℕ) (s : Side) (f g : List ℕ) (n : ℕ) (e : Entry) (on : Holds ws selection (Has p s f)) (lists : ListsItem ws p f (Of e.key g)) (has : HasEntry ws p n e) → Holds ws selection (Asked p s n g)
+  of_gives : (p : ℕ) (s : Side) (f g : List ℕ) (n : ℕ) (e : Entry) (on : Holds ws selection (Has p s f)) (lists : ListsItem ws p f (Of e.key g)) (has : HasEntry ws p n e) (is_optional : e.optional ≡ true) (there : HasFeature ws p e.key) → Holds ws selection (Has p s e.key)
+  -- `N?/F` asks F of the entries N that are enabled
+  of_enabled : (p : ℕ) (s : Side) (f g : List ℕ) (n : ℕ) (e : Entry) (on : Holds ws selection (Has p s f)) (lists : ListsItem ws p f (OfEnabled e.key g)) (has : HasEntry ws p n e) (enabled : Holds ws selection (Enabled p s n)) → Holds ws selection (Asked p s n g)
+  -- an enabled entry puts its package on, at this side or, for a build entry, at the host, with its listed and asked features and, unless it says otherwise, `default` where there is one
+  leads : (p : ℕ) (s : Side) (n : ℕ) (e : Entry) (enabled : Holds ws selection (Enabled p s n)) (has : HasEntry ws p n e) → Holds ws selection (On e.to (side_of e.kind s))
+  with_listed : (p : ℕ) (s : Side) (n : ℕ) (e : Entry) (f : List ℕ) (enabled : Holds ws selection (Enabled p s n)) (has : HasEntry ws p n e) (is : Contains e.features f) → Holds ws selection (Has e.to (side_of e.kind s) f)
+  with_asked : (p : ℕ) (s : Side) (n : ℕ) (e : Entry) (f : List ℕ) (enabled : Holds ws selection (Enabled p s n)) (asked : Holds ws selection (Asked p s n f)) (has : HasEntry ws p n e) → Holds ws selection (Has e.to (side_of e.kind s) f)
+  with_default : (p : ℕ) (s : Side) (n : ℕ) (e : Entry) (enabled : Holds ws selection (Enabled p s n)) (has : HasEntry ws p n e) (takes : e.default_features ≡ true) (there : HasFeature ws e.to (codes "default")) → Holds ws selection (Has e.to (side_of e.kind s) (codes "default"))

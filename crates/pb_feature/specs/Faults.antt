@@ -1,0 +1,88 @@
+-- Why no features are resolved (The Cargo Book, Features): what an item names has to be there.
+use Rattle.std.specs.Prelude.{◌≡◌, ℕ, Bool, true, List, [], ◌∷◌, Contains, Option, Some, None, ◌&&◌, if◌then◌else◌, slice_get}
+use Rattle.std.specs.List.{list_any}
+use Rattle.std.specs.Option.{option_or}
+use Rattle.std.specs.Str.{bytes_eq}
+use Rattle.std.specs.Ordering.{nat_cmp, is_lt}
+use Rattle.std.specs.Cmp.Lexicographic.{slice_cmp}
+use Rattle.pb_manifest.specs.declared.feature.Feature.{Feature}
+use Rattle.pb_manifest.specs.declared.feature.FeatureItem.{FeatureItem}
+use Rattle.pb_manifest.specs.declared.feature.FeatureItem.TheVariants.{Own, Dependency, Of, OfEnabled}
+use Rattle.pb_workspace.specs.declared.package.Side.{Side}
+use Rattle.pb_workspace.specs.declared.package.Package.{Package}
+use Rattle.pb_workspace.specs.declared.package.Entry.{Entry}
+use Rattle.pb_workspace.specs.declared.options.Selection.{Selection}
+use Rattle.pb_workspace.specs.declared.workspace.Workspace.{Workspace}
+use Rattle.pb_workspace.specs.Workspace.{has_feature_named, HasFeature}
+use Rattle.pb_feature.specs.declared.fault.FeatureFault.{FeatureFault}
+use Rattle.pb_feature.specs.declared.fault.FeatureFault.TheVariants.{NoSuchFeature, NoSuchDependency, NotOptional}
+use Rattle.pb_feature.specs.Facts.{Has, Holds, of_package}
+
+-- whether an entry has this name, in either table; whether one that has it is optional
+abbrev pub is_entry : Package → List ℕ → Bool
+is_entry p name = list_any (λ (e : Entry). bytes_eq name e.key) p.entries
+
+abbrev pub is_optional_entry : Package → List ℕ → Bool
+is_optional_entry p name = list_any (λ (e : Entry). bytes_eq name e.key && e.optional) p.entries
+
+-- a name of `[dev-dependencies]` alone does nothing; any other name without an entry is none
+abbrev pub absent_fault : Package → List ℕ → Option FeatureFault
+absent_fault p name = if list_any (bytes_eq name) p.development then None else Some NoSuchDependency
+
+-- an item that names an entry
+abbrev pub entry_fault : Package → List ℕ → Option FeatureFault
+entry_fault p name = if is_entry p name then None else absent_fault p name
+
+-- an item that names an entry which has to be optional
+abbrev pub optional_fault : Package → List ℕ → Option FeatureFault
+optional_fault p name = if is_entry p name then (if is_optional_entry p name then None else Some NotOptional) else absent_fault p name
+
+-- what is wrong with an item
+abbrev pub item_fault : Package → FeatureItem → Option FeatureFault
+item_fault p (Own feature) = if has_feature_named p.features feature then None else Some NoSuchFeature
+item_fault p (Dependency name) = optional_fault p name
+item_fault p (Of name feature) = entry_fault p name
+item_fault p (OfEnabled name feature) = optional_fault p name
+
+-- the first fault of items as they are written, and of features in byte order
+abbrev pub items_fault : Package → List FeatureItem → Option FeatureFault
+items_fault p [] = None
+items_fault p (item ∷ items) = option_or (item_fault p item) (items_fault p items)
+
+abbrev pub features_fault : Package → List Feature → Option FeatureFault
+features_fault p [] = None
+features_fault p (feature ∷ features) = option_or (items_fault p feature.items) (features_fault p features)
+
+abbrev pub package_fault : Package → Option FeatureFault
+package_fault p = features_fault p p.features
+
+-- the fault of a package whose items are wrong, where no package of a lesser name has one
+pub record IsFirstFault (ws : Workspace) (fault : FeatureFault) : Type 0 where
+  pub place : ℕ
+  pub owner : Package
+  pub package_at : slice_get ws.packages place ≡ Some owner
+  pub told : package_fault owner ≡ Some fault
+  pub first : (q : ℕ) (other : Package) → slice_get ws.packages q ≡ Some other → is_lt (slice_cmp nat_cmp other.name owner.name) ≡ true → package_fault other ≡ None
+
+-- no item of any package is wrong
+abbrev pub ItemsAreRight : Workspace → Type 0
+ItemsAreRight ws = (place : ℕ) (owner : Package) → slice_get ws.packages place ≡ Some owner → package_fault owner ≡ None
+
+-- an asked feature is that of a selected package
+pub data IsAnswered (ws : Workspace) (selection : Selection) (text : List ℕ) : Type 0 where
+  by_name : (p : ℕ) (selected : Contains selection.packages p) (there : HasFeature ws p text) → IsAnswered ws selection text
+  by_package : (p : ℕ) (feature : List ℕ) (selected : Contains selection.packages p) (there : HasFeature ws p feature) (is : text ≡ of_package there.owner.name feature) → IsAnswered ws selection text
+
+-- a feature that holds and that the package does not have
+pub record IsMissing (ws : Workspace) (selection : Selection) : Type 0 where
+  pub place : ℕ
+  pub side : Side
+  pub feature : List ℕ
+  pub holds : Holds ws selection (Has place side feature)
+  pub missing : HasFeature ws place feature → ⊥
+
+-- why nothing is resolved: an item; else an asked feature that no selected package has; else a feature that is asked of a package which has none of that name
+pub data Refuses (ws : Workspace) (selection : Selection) : FeatureFault → Type 0 where
+  by_item : (fault : FeatureFault) (first : IsFirstFault ws fault) → Refuses ws selection fault
+  by_asked : (right : ItemsAreRight ws) (text : List ℕ) (asked : Contains selection.features text) (none : IsAnswered ws selection text → ⊥) → Refuses ws selection NoSuchFeature
+  by_missing : (right : ItemsAreRight ws) (answered : (text : List ℕ) → Contains selection.features text → IsAnswered ws selection text) (missing : IsMissing ws selection) → Refuses ws selection NoSuchFeature

@@ -1,0 +1,56 @@
+-- The numbers of what can hold, for the rules that are written down; they serve private functions alone. A package has a row of numbers: that it is on; that it is given a feature that it does not have; its features; its entries. Each stands for two, one a side.
+use Rattle.std.specs.Prelude.{ℕ, zero, suc, ◌+◌, ◌*◌, List, [], ◌∷◌, Option, Some, None, length, slice_get, slice_index_or, if◌then◌else◌}
+use Rattle.std.specs.Str.{bytes_eq}
+use Rattle.pb_manifest.specs.declared.feature.Feature.{Feature}
+use Rattle.pb_workspace.specs.declared.package.Side.{Side}
+use Rattle.pb_workspace.specs.declared.package.Side.TheVariants.{Target, Host}
+use Rattle.pb_workspace.specs.declared.package.Package.{Package}
+
+-- how many numbers a package has on one side
+abbrev pub width_of : Package → ℕ
+width_of p = length p.features + length p.entries + 2
+
+-- where the row of each package begins, and where the last one ends
+abbrev pub bases_from : ℕ → List Package → List ℕ
+bases_from base [] = []
+bases_from base (p ∷ ps) = base ∷ bases_from (base + width_of p) ps
+
+abbrev pub end_from : ℕ → List Package → ℕ
+end_from base [] = base
+end_from base (p ∷ ps) = end_from (base + width_of p) ps
+
+abbrev pub side_number : Side → ℕ
+side_number Target = 0
+side_number Host = 1
+
+abbrev pub number_from : ℕ → Side → ℕ → ℕ
+number_from base s local = (base + local) * 2 + side_number s
+
+abbrev pub number_at : List ℕ → ℕ → Side → ℕ → ℕ
+number_at bases p s local = number_from (slice_index_or bases p 0) s local
+
+-- the place of a feature counted from 1; 0 where there is none of that name
+abbrev pub after : ℕ → ℕ
+after zero = zero
+after (suc k) = suc (suc k)
+
+abbrev pub slot : List Feature → List ℕ → ℕ
+slot [] name = 0
+slot (f ∷ fs) name = if bytes_eq name f.name then 1 else after (slot fs name)
+
+abbrev pub features_of : Option Package → List Feature
+features_of None = []
+features_of (Some p) = p.features
+
+abbrev pub slot_at : List Package → ℕ → List ℕ → ℕ
+slot_at ps p name = slot (features_of (slice_get ps p)) name
+
+-- that the package is on; that it has the feature of this slot; that the entry after so many features is enabled
+abbrev pub on : List ℕ → ℕ → Side → ℕ
+on bases p s = number_at bases p s 0
+
+abbrev pub has : List ℕ → ℕ → Side → ℕ → ℕ
+has bases p s k = number_at bases p s (k + 1)
+
+abbrev pub enabled : List ℕ → ℕ → Side → ℕ → ℕ → ℕ
+enabled bases p s features n = number_at bases p s (features + (n + 2))

@@ -1,0 +1,105 @@
+-- The rules on numbers that the packages of a workspace give, one after another, and what is chosen; they serve private functions alone.
+use Rattle.std.specs.Prelude.{ℕ, ◌+◌, ◌==◌, Bool, not, ◌||◌, ◌&&◌, codes, List, [], ◌∷◌, ◌++◌, Option, Some, None, length, slice_get, if◌then◌else◌}
+use Rattle.std.specs.List.{list_any}
+use Rattle.std.specs.Str.{bytes_eq}
+use Rattle.pb_manifest.specs.declared.feature.Feature.{Feature}
+use Rattle.pb_manifest.specs.declared.feature.FeatureItem.{FeatureItem}
+use Rattle.pb_manifest.specs.declared.feature.FeatureItem.TheVariants.{Own, Dependency, Of, OfEnabled}
+use Rattle.pb_workspace.specs.declared.package.Side.{Side}
+use Rattle.pb_workspace.specs.declared.package.Side.TheVariants.{Target, Host}
+use Rattle.pb_workspace.specs.declared.package.Package.{Package}
+use Rattle.pb_workspace.specs.declared.package.Entry.{Entry}
+use Rattle.pb_workspace.specs.declared.options.Selection.{Selection}
+use Rattle.pb_workspace.specs.Workspace.{side_of}
+use Rattle.pb_closure.specs.declared.table.Rule.{Rule}
+use Rattle.pb_closure.specs.Placed.{placed}
+use Rattle.pb_feature.specs.Numbers.{slot, slot_at, on, has, enabled}
+use Rattle.pb_feature.specs.Facts.{of_package}
+
+abbrev pub pair : ℕ → ℕ → ℕ → Rule
+pair x y z = record { first = x; second = y; gives = z }
+
+abbrev pub alone : ℕ → ℕ → Rule
+alone x z = pair x x z
+
+-- a feature of a slot, under a test and where there is one
+abbrev pub there_rules : List ℕ → ℕ → ℕ → Side → Bool → ℕ → List Rule
+there_rules bs from q t test k = if test then (if k == 0 then [] else alone from (has bs q t k) ∷ []) else []
+
+-- a feature of a name
+abbrev pub given_rules : List Package → List ℕ → ℕ → ℕ → Side → ℕ → List ℕ → List Rule
+given_rules ps bs from q t _ f = alone from (has bs q t (slot_at ps q f)) ∷ []
+
+-- an enabled entry puts its package on, with its features
+abbrev pub enabled_rules : List Package → List ℕ → ℕ → Side → Entry → List Rule
+enabled_rules ps bs from t e =
+    (alone from (on bs e.to t) ∷ [])
+    ++ there_rules bs from e.to t e.default_features (slot_at ps e.to (codes "default"))
+    ++ placed (given_rules ps bs from e.to t) 0 e.features
+
+-- an entry that is not optional is enabled where its package is on
+abbrev pub entry_rules : List Package → List ℕ → Side → ℕ → ℕ → ℕ → Entry → List Rule
+entry_rules ps bs s p features n e =
+    (if e.optional then [] else alone (on bs p s) (enabled bs p s features n) ∷ [])
+    ++ enabled_rules ps bs (enabled bs p s features n) (side_of e.kind s) e
+
+-- an item `N/F` at an entry N
+abbrev pub of_rules : List Package → List ℕ → ℕ → ℕ → Side → ℕ → List ℕ → ℕ → Entry → List Rule
+of_rules ps bs from p s own g en e =
+    (alone from en ∷ alone from (has bs e.to (side_of e.kind s) (slot_at ps e.to g)) ∷ [])
+    ++ there_rules bs from p s e.optional own
+
+-- an item at an entry that it may name
+abbrev pub item_rules : List Package → List ℕ → Side → ℕ → List Feature → ℕ → FeatureItem → ℕ → Entry → List Rule
+item_rules ps bs s p fs k (Own g) n e = []
+item_rules ps bs s p fs k (Dependency name) n e =
+    if bytes_eq name e.key then alone (has bs p s k) (enabled bs p s (length fs) n) ∷ [] else []
+item_rules ps bs s p fs k (Of name g) n e =
+    if bytes_eq name e.key then of_rules ps bs (has bs p s k) p s (slot fs name) g (enabled bs p s (length fs) n) e else []
+item_rules ps bs s p fs k (OfEnabled name g) n e =
+    if bytes_eq name e.key then pair (has bs p s k) (enabled bs p s (length fs) n) (has bs e.to (side_of e.kind s) (slot_at ps e.to g)) ∷ [] else []
+
+-- an item that names a feature of its own package
+abbrev pub own_rules : List ℕ → Side → ℕ → List Feature → ℕ → FeatureItem → List Rule
+own_rules bs s p fs k (Own g) = alone (has bs p s k) (has bs p s (slot fs g)) ∷ []
+own_rules bs s p fs k (Dependency name) = []
+own_rules bs s p fs k (Of name g) = []
+own_rules bs s p fs k (OfEnabled name g) = []
+
+abbrev pub one_item_rules : List Package → List ℕ → Side → ℕ → Package → ℕ → ℕ → FeatureItem → List Rule
+one_item_rules ps bs s p owner k _ item = own_rules bs s p owner.features k item ++ placed (item_rules ps bs s p owner.features k item) 0 owner.entries
+
+abbrev pub feature_rules : List Package → List ℕ → Side → ℕ → Package → ℕ → Feature → List Rule
+feature_rules ps bs s p owner i f = placed (one_item_rules ps bs s p owner (i + 1)) 0 f.items
+
+abbrev pub package_rules : List Package → List ℕ → Side → ℕ → Package → List Rule
+package_rules ps bs s p owner = placed (entry_rules ps bs s p (length owner.features)) 0 owner.entries ++ placed (feature_rules ps bs s p owner) 0 owner.features
+
+abbrev pub both_rules : List Package → List ℕ → ℕ → Package → List Rule
+both_rules ps bs p owner = package_rules ps bs Target p owner ++ package_rules ps bs Host p owner
+
+abbrev pub rules_of : List Package → List ℕ → List Rule
+rules_of ps bs = placed (both_rules ps bs) 0 ps
+
+-- whether one of the asked texts is this feature of the package of this name
+abbrev pub is_text_of : List ℕ → List ℕ → List ℕ → Bool
+is_text_of name feature text = bytes_eq text feature || bytes_eq text (of_package name feature)
+
+-- whether a feature is chosen
+abbrev pub is_chosen : Selection → List ℕ → List ℕ → Bool
+is_chosen selection name feature =
+    selection.all_features || (not selection.no_default_features && bytes_eq feature (codes "default")) || list_any (is_text_of name feature) selection.features
+
+-- what holds from the start
+abbrev pub chosen_seeds : List ℕ → Selection → ℕ → List ℕ → ℕ → Feature → List ℕ
+chosen_seeds bs selection p name i f = if is_chosen selection name f.name then has bs p Target (i + 1) ∷ [] else []
+
+abbrev pub owner_seeds : List ℕ → Selection → ℕ → Option Package → List ℕ
+owner_seeds bs selection p None = []
+owner_seeds bs selection p (Some owner) = on bs p Target ∷ placed (chosen_seeds bs selection p owner.name) 0 owner.features
+
+abbrev pub selected_seeds : List Package → List ℕ → Selection → ℕ → ℕ → List ℕ
+selected_seeds ps bs selection _ p = owner_seeds bs selection p (slice_get ps p)
+
+abbrev pub seeds_of : List Package → List ℕ → Selection → List ℕ
+seeds_of ps bs selection = placed (selected_seeds ps bs selection) 0 selection.packages

@@ -1,0 +1,83 @@
+//! Whether each asked feature is that of a selected package.
+
+ghost use Rattle.std.specs.Prelude.{◌≡◌, ℕ, ◌⊎◌, List, All, Contains, true, false, OnOk, IfOk, IfErr};
+ghost use Rattle.std.specs.List.{list_any};
+ghost use Rattle.pb_feature.specs.Rules.{is_text_of};
+ghost use Rattle.pb_feature.specs.Answered.{is_owner_of, is_owner_at, is_answered, IsUnanswered};
+ghost use Rattle.pb_feature.specs.declared.fault.FeatureFault.TheVariants.{OutOfMemory, NoSuchFeature};
+
+use crate::fault::FeatureFault;
+use crate::seeds::of_package;
+use pb_workspace::{Package, Selection};
+use std::alloc::{AllocError, Global};
+
+/// Whether a text is this feature of the package of this name.
+fn is_text_of(alloc: Global, name: &str, feature: &str, text: &str) -> Result<bool, AllocError>
+    ensures { IfOk result (λ is. is ≡ is_text_of name.now feature.now text.now) }
+{
+    let whole = of_package(alloc, name, feature)?;
+    Ok(text == feature || text == whole.as_str())
+}
+
+/// Whether a text is a feature of this package.
+fn is_owner_of(alloc: Global, owner: &Package, text: &str) -> Result<bool, AllocError>
+    ensures { IfOk result (λ is. is ≡ is_owner_of owner.now text.now) }
+{
+    let name = owner.name.as_str();
+    for feature in owner.features.as_slice() {
+        if is_text_of(alloc, name, feature.name.as_str(), text)? {
+            return Ok(true);
+        }
+    }
+    Ok(false)
+}
+
+/// Whether a text is a feature of the package at a place.
+fn is_owner_at(
+    alloc: Global,
+    packages: &[Package],
+    text: &str,
+    place: usize,
+) -> Result<bool, AllocError>
+    ensures { IfOk result (λ is. is ≡ is_owner_at packages.now text.now place) }
+{
+    match packages.get(place) {
+        Some(owner) => is_owner_of(alloc, owner, text),
+        None => Ok(false),
+    }
+}
+
+/// Whether a text is a feature of a package at one of these places.
+fn is_answered(
+    alloc: Global,
+    packages: &[Package],
+    places: &[usize],
+    text: &str,
+) -> Result<bool, AllocError>
+    ensures { IfOk result (λ is. is ≡ is_answered packages.now places.now text.now) }
+{
+    for place in places {
+        if is_owner_at(alloc, packages, text, *place)? {
+            return Ok(true);
+        }
+    }
+    Ok(false)
+}
+
+/// Each asked feature is that of a selected package.
+pub(crate) fn check_asked(
+    alloc: Global,
+    packages: &[Package],
+    selection: &Selection,
+) -> Result<(), FeatureFault>
+    ensures ok { OnOk result (All (λ text. is_answered packages.now selection.now.packages text ≡ true) selection.now.features) }
+    ensures err { IfErr result (λ e. (e ≡ OutOfMemory) ⊎ ((e ≡ NoSuchFeature) × IsUnanswered packages.now selection.now)) }
+{
+    let places = selection.packages.as_slice();
+    for text in selection.features.as_slice() {
+        if !is_answered(alloc, packages, places, text.as_str())? {
+            return Err(FeatureFault::NoSuchFeature);
+        }
+    }
+    Ok(())
+}

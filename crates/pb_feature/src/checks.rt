@@ -1,0 +1,84 @@
+//! The items of all packages, checked: the fault of the first package in byte order of names.
+
+ghost use Rattle.std.specs.Prelude.{◌≡◌, ℕ, ◌+◌, ◌<◌, None, length, OnOk, IfErr};
+ghost use Rattle.pb_feature.specs.Checked.{is_lesser, is_lesser_at, picked, IsFirstBelow, IsSofar};
+
+use crate::fault::FeatureFault;
+use crate::items::package_fault;
+use pb_workspace::Package;
+
+/// A package whose items are wrong.
+#[derive(Clone, Copy)]
+pub(crate) struct First {
+    /// Its place.
+    pub place: usize,
+    /// Its fault.
+    pub fault: FeatureFault,
+}
+
+/// Whether the name of the first package is less, in byte order.
+fn is_lesser(one: &Package, other: &Package) -> bool
+    ensures { result ≡ is_lesser one.now other.now }
+{
+    one.name.cmp(&other.name).is_lt()
+}
+
+/// Whether the package at a place has a lesser name than the one that was found. It has where none was
+/// found.
+fn is_lesser_at(packages: &[Package], place: usize, first: Option<First>) -> bool
+    ensures { result ≡ is_lesser_at packages.now place first }
+{
+    let Some(first) = first else {
+        return true;
+    };
+    match (packages.get(place), packages.get(first.place)) {
+        (Some(one), Some(other)) => is_lesser(one, other),
+        _ => false,
+    }
+}
+
+/// What is found after one more package.
+fn picked(
+    fault: Option<FeatureFault>,
+    first: Option<First>,
+    lesser: bool,
+    place: usize,
+) -> Option<First>
+    ensures { result ≡ picked fault first lesser place }
+{
+    let Some(fault) = fault else {
+        return first;
+    };
+    let Some(old) = first else {
+        return Some(First { place, fault });
+    };
+    if lesser {
+        Some(First { place, fault })
+    } else {
+        Some(old)
+    }
+}
+
+/// The first package in byte order of names whose items are wrong.
+fn first_fault(packages: &[Package]) -> Option<First>
+    ensures { IsSofar packages.now (length packages.now) result }
+{
+    let mut first = None;
+    for place in 0..packages.len() {
+        let fault = package_fault(&packages[place]);
+        let lesser = is_lesser_at(packages, place, first);
+        first = picked(fault, first, lesser, place);
+    }
+    first
+}
+
+/// The items of all packages are right.
+pub(crate) fn check_items(packages: &[Package]) -> Result<(), FeatureFault>
+    ensures ok { OnOk result (IsSofar packages.now (length packages.now) None) }
+    ensures err { IfErr result (λ e. (place : ℕ) × IsFirstBelow packages.now (length packages.now) place e) }
+{
+    match first_fault(packages) {
+        Some(first) => Err(first.fault),
+        None => Ok(()),
+    }
+}

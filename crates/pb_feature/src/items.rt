@@ -1,0 +1,126 @@
+//! What is wrong with the items of the packages' features.
+
+ghost use Rattle.std.specs.Prelude.{◌≡◌, ℕ, ◌⊎◌, ◌&&◌, None, OnOk, IfErr};
+ghost use Rattle.std.specs.List.{list_any};
+ghost use Rattle.std.specs.Str.{bytes_eq};
+ghost use Rattle.pb_workspace.specs.Workspace.{has_feature_named};
+ghost use Rattle.pb_feature.specs.Faults.{absent_fault, entry_fault, optional_fault, item_fault, items_fault, features_fault, package_fault};
+
+use crate::fault::FeatureFault;
+use pb_data::Text;
+use pb_manifest::{Feature, FeatureItem};
+use pb_workspace::{Entry, Package};
+
+/// Whether a feature has this name.
+pub(crate) fn has_feature_named(features: &[Feature], name: &[u8]) -> bool
+    ensures { result ≡ has_feature_named features.now name.now }
+{
+    features.iter().any(|f| name == f.name.as_bytes())
+}
+
+/// Whether one of the texts is this one.
+fn has_text(texts: &[Text], name: &[u8]) -> bool
+    ensures { result ≡ list_any (bytes_eq name.now) texts.now }
+{
+    texts.iter().any(|text| name == text.as_bytes())
+}
+
+/// Whether an entry has this name.
+fn is_entry(entries: &[Entry], name: &[u8]) -> bool
+    ensures { result ≡ list_any (λ e. bytes_eq name.now e.key) entries.now }
+{
+    entries.iter().any(|e| name == e.key.as_bytes())
+}
+
+/// Whether an optional entry has this name.
+fn is_optional_entry(entries: &[Entry], name: &[u8]) -> bool
+    ensures { result ≡ list_any (λ e. bytes_eq name.now e.key && e.optional) entries.now }
+{
+    entries
+        .iter()
+        .any(|e| name == e.key.as_bytes() && e.optional)
+}
+
+/// The fault of a name that no entry has.
+fn absent_fault(owner: &Package, name: &[u8]) -> Option<FeatureFault>
+    ensures { result ≡ absent_fault owner.now name.now }
+{
+    if has_text(owner.development.as_slice(), name) {
+        None
+    } else {
+        Some(FeatureFault::NoSuchDependency)
+    }
+}
+
+/// What is wrong with an item that names an entry.
+fn entry_fault(owner: &Package, name: &[u8]) -> Option<FeatureFault>
+    ensures { result ≡ entry_fault owner.now name.now }
+{
+    if is_entry(owner.entries.as_slice(), name) {
+        None
+    } else {
+        absent_fault(owner, name)
+    }
+}
+
+/// What is wrong with an item that names an entry which has to be optional.
+fn optional_fault(owner: &Package, name: &[u8]) -> Option<FeatureFault>
+    ensures { result ≡ optional_fault owner.now name.now }
+{
+    if !is_entry(owner.entries.as_slice(), name) {
+        return absent_fault(owner, name);
+    }
+    if is_optional_entry(owner.entries.as_slice(), name) {
+        None
+    } else {
+        Some(FeatureFault::NotOptional)
+    }
+}
+
+/// What is wrong with an item.
+fn item_fault(owner: &Package, item: &FeatureItem) -> Option<FeatureFault>
+    ensures { result ≡ item_fault owner.now item.now }
+{
+    match item {
+        FeatureItem::Own(name) => {
+            if has_feature_named(owner.features.as_slice(), name.as_bytes()) {
+                None
+            } else {
+                Some(FeatureFault::NoSuchFeature)
+            }
+        }
+        FeatureItem::Dependency(name) => optional_fault(owner, name.as_bytes()),
+        FeatureItem::Of {
+            dependency,
+            feature: _,
+        } => entry_fault(owner, dependency.as_bytes()),
+        FeatureItem::OfEnabled {
+            dependency,
+            feature: _,
+        } => optional_fault(owner, dependency.as_bytes()),
+    }
+}
+
+/// The first fault of items as they are written.
+fn items_fault(owner: &Package, items: &[FeatureItem]) -> Option<FeatureFault>
+    ensures { result ≡ items_fault owner.now items.now }
+{
+    for item in items {
+        if let Some(fault) = item_fault(owner, item) {
+            return Some(fault);
+        }
+    }
+    None
+}
+
+/// The first fault of a package's items, its features in byte order.
+pub(crate) fn package_fault(owner: &Package) -> Option<FeatureFault>
+    ensures { result ≡ package_fault owner.now }
+{
+    for feature in owner.features.as_slice() {
+        if let Some(fault) = items_fault(owner, feature.items.as_slice()) {
+            return Some(fault);
+        }
+    }
+    None
+}

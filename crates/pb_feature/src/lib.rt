@@ -1,0 +1,17 @@
+//! Which packages, features and dependencies are on, on each of two sides (The Cargo Book, Features,
+//! resolver 2).
+#![tactic(auto)]
+
+mod asked;
+mod checks;
+pub mod fault;
+mod items;
+mod numbers;
+mod resolution;
+pub mod resolved;
+mod rules;
+mod seeds;
+
+pub use fault::FeatureFault;
+pub use resolution::resolve;
+pub use resolved::{Features, Part, Sides};

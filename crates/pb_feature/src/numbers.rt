@@ -1,0 +1,173 @@
+//! The numbers of what can hold of the packages of a workspace, for the rules that are written down.
+
+ghost use Rattle.std.specs.Prelude.{◌≡◌, ◌+◌, ◌*◌, IfOk, IfSome};
+ghost use Rattle.pb_feature.specs.Numbers.{width_of, bases_from, end_from, side_number, number_from, number_at, slot, slot_at, on, has, enabled};
+
+use pb_manifest::Feature;
+use pb_workspace::{Package, Side};
+use std::alloc::{AllocError, Global};
+
+/// Where the numbers of each package begin, and how many there are.
+#[derive(Drop)]
+pub(crate) struct Bases {
+    /// A place for each package.
+    pub bases: Vec<usize>,
+    /// How many numbers there are.
+    pub count: usize,
+}
+
+/// The packages of a workspace, and where the numbers of each begin.
+#[derive(Clone, Copy)]
+pub(crate) struct Ground<'a> {
+    /// The packages.
+    pub packages: &'a [Package],
+    /// A place for each package.
+    pub bases: &'a [usize],
+}
+
+/// How many numbers a package has on one side.
+fn width_of(owner: &Package) -> Option<usize>
+    ensures { IfSome result (λ width. width ≡ width_of owner.now) }
+{
+    owner
+        .features
+        .len()
+        .checked_add(owner.entries.len())?
+        .checked_add(2)
+}
+
+/// Where the next package's numbers begin. A number past `usize` counts as want of memory.
+fn next_base(base: usize, owner: &Package) -> Result<usize, AllocError>
+    ensures { IfOk result (λ next. next ≡ base + width_of owner.now) }
+{
+    let Some(width) = width_of(owner) else {
+        return Err(AllocError);
+    };
+    match base.checked_add(width) {
+        Some(next) => Ok(next),
+        None => Err(AllocError),
+    }
+}
+
+/// Where the numbers of each package begin.
+pub(crate) fn bases_of(alloc: Global, packages: &[Package]) -> Result<Bases, AllocError>
+    ensures bases { IfOk result (λ made. made.bases.items ≡ bases_from 0 packages.now) }
+    ensures count { IfOk result (λ made. made.count ≡ end_from 0 packages.now * 2) }
+{
+    let mut bases = Vec::new(alloc);
+    let mut base = 0;
+    for owner in packages {
+        bases.push(base)?;
+        base = next_base(base, owner)?;
+    }
+    match base.checked_mul(2) {
+        Some(count) => Ok(Bases { bases, count }),
+        None => Err(AllocError),
+    }
+}
+
+/// A side's number.
+fn side_number(side: Side) -> usize
+    ensures { result ≡ side_number side }
+{
+    match side {
+        Side::Target => 0,
+        Side::Host => 1,
+    }
+}
+
+/// The number of a place after a base, on a side.
+fn number_from(base: usize, side: Side, local: usize) -> Option<usize>
+    ensures { IfSome result (λ i. i ≡ number_from base side local) }
+{
+    base.checked_add(local)?
+        .checked_mul(2)?
+        .checked_add(side_number(side))
+}
+
+/// The place of a feature counted from 1; 0 where there is none of that name.
+pub(crate) fn slot(features: &[Feature], name: &[u8]) -> usize
+    ensures { result ≡ slot features.now name.now }
+{
+    for i in 0..features.len() {
+        if name == features[i].name.as_bytes() {
+            return i + 1;
+        }
+    }
+    0
+}
+
+impl Ground<'_> {
+    /// The number of a place in a package's row, on a side. A number past `usize` counts as want of
+    /// memory.
+    pub(crate) fn number(&self, place: usize, side: Side, local: usize) -> Result<usize, AllocError>
+        ensures { IfOk result (λ i. i ≡ number_at self.now.bases.now place side local) }
+    {
+        let base = match self.bases.get(place) {
+            Some(base) => *base,
+            None => 0,
+        };
+        match number_from(base, side, local) {
+            Some(i) => Ok(i),
+            None => Err(AllocError),
+        }
+    }
+
+    /// The place of a feature of a package counted from 1; 0 where there is none of that name.
+    pub(crate) fn slot_at(&self, place: usize, name: &[u8]) -> usize
+        ensures { result ≡ slot_at self.now.packages.now place name.now }
+    {
+        match self.packages.get(place) {
+            Some(owner) => slot(owner.features.as_slice(), name),
+            None => 0,
+        }
+    }
+
+    /// The number of a package that is on.
+    pub(crate) fn on(&self, place: usize, side: Side) -> Result<usize, AllocError>
+        ensures { IfOk result (λ i. i ≡ on self.now.bases.now place side) }
+    {
+        let i = self.number(place, side, 0)?;
+        Ok(i)
+    }
+
+    /// The number of a feature that a package has, by its place counted from 1; 0 is a feature that it
+    /// does not have.
+    pub(crate) fn has(&self, place: usize, side: Side, feature: usize) -> Result<usize, AllocError>
+        ensures { IfOk result (λ i. i ≡ has self.now.bases.now place side feature) }
+    {
+        let Some(local) = feature.checked_add(1) else {
+            return Err(AllocError);
+        };
+        let i = self.number(place, side, local)?;
+        Ok(i)
+    }
+
+    /// The number of an enabled entry, behind so many features.
+    pub(crate) fn enabled(
+        &self,
+        place: usize,
+        side: Side,
+        features: usize,
+        entry: usize,
+    ) -> Result<usize, AllocError>
+        ensures { IfOk result (λ i. i ≡ enabled self.now.bases.now place side features entry) }
+    {
+        let Some(behind) = entry.checked_add(2) else {
+            return Err(AllocError);
+        };
+        let Some(local) = features.checked_add(behind) else {
+            return Err(AllocError);
+        };
+        let i = self.number(place, side, local)?;
+        Ok(i)
+    }
+
+    /// The number of a feature of a name.
+    pub(crate) fn given(&self, place: usize, side: Side, name: &[u8]) -> Result<usize, AllocError>
+        ensures { IfOk result (λ i. i ≡ has self.now.bases.now place side (slot_at self.now.packages.now place name.now)) }
+    {
+        let i = self.has(place, side, self.slot_at(place, name))?;
+        Ok(i)
+    }
+}

@@ -1,0 +1,235 @@
+//! What is on, as it is handed out.
+
+ghost use Rattle.std.specs.Prelude.{◌≡◌, ◌++◌, [], ◌∷◌, IfOk, OnOk};
+ghost use Rattle.pb_closure.specs.Closure.{is_on};
+ghost use Rattle.pb_closure.specs.Placed.{placed};
+ghost use Rattle.pb_feature.specs.Marked.{marked_name, marked_entry, marked_part, marked_sides};
+ghost use Rattle.pb_feature.specs.Numbers.{enabled as enabled_at};
+ghost use Rattle.pb_feature.specs.Resolved.{part_of, is_active, features_at, is_enabled};
+
+use crate::numbers::Ground;
+use pb_data::{Items, Text, TryCopy};
+use pb_manifest::Feature;
+use pb_workspace::{Entry, Package, Side};
+use std::alloc::{AllocError, Global};
+
+/// What is on of a package, on one side.
+#[derive(Debug, Drop)]
+pub struct Part {
+    /// Whether the package is on.
+    pub active: bool,
+    /// The names of its features that are on, in byte order.
+    pub features: Items<Text>,
+    /// For each of its entries, by its place, whether it is enabled.
+    pub enabled: Items<bool>,
+}
+
+/// What is on of a package, on each side.
+#[derive(Debug, Drop)]
+pub struct Sides {
+    /// What is made for the target.
+    pub target: Part,
+    /// What is made for the host.
+    pub host: Part,
+}
+
+/// What is on in a workspace, for each package by its place.
+#[derive(Debug, Drop)]
+pub struct Features {
+    /// For each package, by its place in the workspace.
+    pub packages: Items<Sides>,
+}
+
+impl Sides {
+    /// What is on of the package on this side.
+    fn part(&self, side: Side) -> &Part
+        ensures { result.now ≡ part_of self.now side }
+    {
+        match side {
+            Side::Target => &self.target,
+            Side::Host => &self.host,
+        }
+    }
+}
+
+impl Features {
+    /// Whether the package at this place is on at this side. It takes no memory.
+    pub fn active(&self, place: usize, side: Side) -> bool
+        ensures { result ≡ is_active self.now place side }
+    {
+        match self.packages.as_slice().get(place) {
+            Some(sides) => sides.part(side).active,
+            None => false,
+        }
+    }
+
+    /// The names of the features that the package at this place has at this side, in byte order. It takes
+    /// no memory.
+    pub fn features_of(&self, place: usize, side: Side) -> &[Text]
+        ensures { result.now ≡ features_at self.now place side }
+    {
+        match self.packages.as_slice().get(place) {
+            Some(sides) => sides.part(side).features.as_slice(),
+            None => &[],
+        }
+    }
+
+    /// Whether an entry of the package at this place, by its own place, is enabled at this side. It takes
+    /// no memory.
+    pub fn enabled(&self, place: usize, side: Side, entry: usize) -> bool
+        ensures { result ≡ is_enabled self.now place side entry }
+    {
+        match self.packages.as_slice().get(place) {
+            Some(sides) => is_marked(sides.part(side).enabled.as_slice(), entry),
+            None => false,
+        }
+    }
+}
+
+/// Whether a number is marked.
+pub(crate) fn is_marked(marks: &[bool], number: usize) -> bool
+    ensures { result ≡ is_on marks.now number }
+{
+    match marks.get(number) {
+        Some(mark) => *mark,
+        None => false,
+    }
+}
+
+/// Adds the name of a feature that is marked.
+fn add_name(
+    alloc: Global,
+    names: &mut Items<Text>,
+    ground: &Ground<'_>,
+    marks: &[bool],
+    place: usize,
+    side: Side,
+    index: usize,
+    feature: &Feature,
+) -> Result<(), AllocError>
+    ensures { OnOk result (names.new ≡ names.old ++ marked_name marks.now ground.now.bases.now place side index feature.now) }
+{
+    let Some(slot) = index.checked_add(1) else {
+        return Err(AllocError);
+    };
+    if is_marked(marks, ground.has(place, side, slot)?) {
+        names.push(feature.name.copy(alloc)?)?;
+    }
+    Ok(())
+}
+
+/// The names of the features that are marked.
+fn names_of(
+    alloc: Global,
+    ground: &Ground<'_>,
+    marks: &[bool],
+    place: usize,
+    side: Side,
+    features: &[Feature],
+) -> Result<Items<Text>, AllocError>
+    ensures { IfOk result (λ names. names ≡ placed (marked_name marks.now ground.now.bases.now place side) 0 features.now) }
+{
+    let mut names = Items::new(alloc);
+    for index in 0..features.len() {
+        add_name(
+            alloc,
+            &mut names,
+            ground,
+            marks,
+            place,
+            side,
+            index,
+            &features[index],
+        )?;
+    }
+    Ok(names)
+}
+
+/// Adds whether an entry is marked.
+fn add_mark(
+    enabled: &mut Items<bool>,
+    ground: &Ground<'_>,
+    marks: &[bool],
+    place: usize,
+    side: Side,
+    features: usize,
+    index: usize,
+) -> Result<(), AllocError>
+    ensures { OnOk result (enabled.new ≡ enabled.old ++ is_on marks.now (enabled_at ground.now.bases.now place side features index) ∷ []) }
+{
+    let number = ground.enabled(place, side, features, index)?;
+    enabled.push(is_marked(marks, number))?;
+    Ok(())
+}
+
+/// Whether each entry is marked.
+fn entries_of(
+    alloc: Global,
+    ground: &Ground<'_>,
+    marks: &[bool],
+    place: usize,
+    side: Side,
+    features: usize,
+    entries: &[Entry],
+) -> Result<Items<bool>, AllocError>
+    ensures { IfOk result (λ enabled. enabled ≡ placed (marked_entry marks.now ground.now.bases.now place side features) 0 entries.now) }
+{
+    let mut enabled = Items::new(alloc);
+    for index in 0..entries.len() {
+        add_mark(&mut enabled, ground, marks, place, side, features, index)?;
+    }
+    Ok(enabled)
+}
+
+/// What is on of a package, on one side.
+fn part_of(
+    alloc: Global,
+    ground: &Ground<'_>,
+    marks: &[bool],
+    place: usize,
+    side: Side,
+    owner: &Package,
+) -> Result<Part, AllocError>
+    ensures { IfOk result (λ part. part ≡ marked_part marks.now ground.now.bases.now place side owner.now) }
+{
+    let listed = owner.features.as_slice();
+    let active = is_marked(marks, ground.on(place, side)?);
+    let features = names_of(alloc, ground, marks, place, side, listed)?;
+    let entries = owner.entries.as_slice();
+    let enabled = entries_of(alloc, ground, marks, place, side, listed.len(), entries)?;
+    Ok(Part {
+        active,
+        features,
+        enabled,
+    })
+}
+
+/// What is on of a package.
+fn sides_of(
+    alloc: Global,
+    ground: &Ground<'_>,
+    marks: &[bool],
+    place: usize,
+    owner: &Package,
+) -> Result<Sides, AllocError>
+    ensures { IfOk result (λ sides. sides ∷ [] ≡ marked_sides marks.now ground.now.bases.now place owner.now) }
+{
+    let target = part_of(alloc, ground, marks, place, Side::Target, owner)?;
+    let host = part_of(alloc, ground, marks, place, Side::Host, owner)?;
+    Ok(Sides { target, host })
+}
+
+/// What is on of each package.
+pub(crate) fn features_marked(
+    alloc: Global,
+    ground: &Ground<'_>,
+    marks: &[bool],
+) -> Result<Features, AllocError>
+    ensures { IfOk result (λ features. features.packages ≡ placed (marked_sides marks.now ground.now.bases.now) 0 ground.now.packages.now) }
+{
+    let mut packages = Items::new(alloc);
+    for place in 0..ground.packages.len() {
+        packages.push(sides_of(alloc, ground, marks, place, &ground.packages[place])?)?;
+    }
+    Ok(Features { packages })
+}
