@@ -6,9 +6,11 @@
 pub mod fault;
 pub mod options;
 pub mod package;
+pub mod selecting;
 pub mod workspace;
 
 pub use fault::LoadFault;
 pub use options::{Options, Selection};
 pub use package::{About, Binary, DependencyKind, Entry, Library, Package, Side};
+pub use selecting::selected;
 pub use workspace::{DefaultMembers, Workspace};
