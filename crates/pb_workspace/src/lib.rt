@@ -4,6 +4,7 @@
 #![tactic(auto)]
 
 pub mod fault;
+pub mod glob;
 pub mod options;
 pub mod package;
 pub mod selecting;
