@@ -3,3 +3,10 @@ pub mod Settled
 pub mod Selected
 pub mod Globs
 pub mod Rows
+pub mod Between
+pub mod Taken
+pub mod Causes
+pub mod Sources
+pub mod Wanted
+pub mod Sorted
+pub mod Features

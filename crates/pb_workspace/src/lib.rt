@@ -3,11 +3,18 @@
 //! Specifying Dependencies).
 #![tactic(auto)]
 
+pub mod between;
 pub mod fault;
+pub mod features;
+pub mod found;
 pub mod glob;
 pub mod options;
 pub mod package;
 pub mod selecting;
+pub mod sorted;
+pub mod source;
+pub mod taken;
+pub mod wanted;
 pub mod workspace;
 
 pub use fault::LoadFault;
