@@ -98,11 +98,20 @@ failure_of (Place path fault) = Some (Called fault)
 failure_of NoSuchPackage = None
 failure_of OutOfMemory = None
 
+-- what a call on a path that failed is told as; want of memory stays so
+abbrev pub fault_at : List ℕ → PlaceFault → LoadFault
+fault_at path place.Read = Place path place.Read
+fault_at path place.List = Place path place.List
+fault_at path place.Write = Place path place.Write
+fault_at path place.Remove = Place path place.Remove
+fault_at path place.Variable = Place path place.Variable
+fault_at path place.OutOfMemory = OutOfMemory
+
 -- the result is the answer, unless the outside failed or memory was refused
 abbrev pub Told : {A : Type 0} → Result A LoadFault → Result A LoadFault → Type 0
 Told result answer = MatchResult result (λ x. answer ≡ Ok x) (λ e. is_outside e ≡ false → answer ≡ Err e)
 
--- no child was started; a call failed where the fault says so, with this very fault, and then no further call was made; where the answer is one of the rules, none failed
+-- no child was started; a call failed just where the fault says so, with this very fault, and then no further call was made
 abbrev pub Reads : {T : Type 0} → Result T LoadFault → Counts → Counts → Type 0
 Reads result old new = MatchResult result (λ _. (new.failures ≡ old.failures) × (new.starts ≡ old.starts))
-    (λ e. (new.starts ≡ old.starts) × (is_outside e ≡ false → new.failures ≡ old.failures) × (is_failure e ≡ true → new.failures ≡ up old.failures) × (is_failure e ≡ true → new.late ≡ 0) × (is_failure e ≡ true → new.last ≡ failure_of e) × (is_read e ≡ true))
+    (λ e. (new.starts ≡ old.starts) × (is_failure e ≡ false → new.failures ≡ old.failures) × (is_failure e ≡ true → new.failures ≡ up old.failures) × (is_failure e ≡ true → new.late ≡ 0) × (is_failure e ≡ true → new.last ≡ failure_of e) × (is_read e ≡ true))

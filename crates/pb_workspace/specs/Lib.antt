@@ -10,3 +10,6 @@ pub mod Sources
 pub mod Wanted
 pub mod Sorted
 pub mod Features
+pub mod Members
+pub mod Binaries
+pub mod FoundBinaries

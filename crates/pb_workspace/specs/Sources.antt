@@ -19,6 +19,10 @@ has_file path sources = is_some (finite.get sources.files path)
 abbrev pub has_own_file : List ℕ → World → List ℕ → Bool
 has_own_file folder sources name = has_file (below folder name) sources
 
+-- its path, where it is one
+abbrev pub own_source : List ℕ → World → List ℕ → Option (List ℕ)
+own_source folder sources name = if has_own_file folder sources name then Some (below folder name) else None
+
 -- the README of a package that names none: the first of these three that is a file of its folder
 abbrev pub found_readme : List ℕ → World → List ℕ
 found_readme folder sources =
@@ -32,7 +36,7 @@ resolved folder text = path_of (names_of (if is_absolute text then text else fol
 
 -- the build script: `build.rs` where that is a file, or what `build` says
 abbrev pub script_of : List ℕ → World → Build → Option (List ℕ)
-script_of folder sources build.Discovered = if has_own_file folder sources (codes "build.rs") then Some (below folder (codes "build.rs")) else None
+script_of folder sources build.Discovered = own_source folder sources (codes "build.rs")
 script_of folder sources build.Standard = Some (below folder (codes "build.rs"))
 script_of folder sources build.Never = None
 script_of folder sources (build.At path) = Some (resolved folder path)

@@ -11,7 +11,7 @@ use pb_place::PathText;
 use std::alloc::{AllocError, Global};
 
 /// The parts of a text, between its slashes.
-fn cut_at_slashes(alloc: Global, text: &str) -> Result<Vec<&str>, AllocError>
+pub(crate) fn cut_at_slashes(alloc: Global, text: &str) -> Result<Vec<&str>, AllocError>
     ensures { IfOk result (λ parts. map (λ part. part.now) parts.items ≡ slice_split (λ b. b == 47) text.now) }
 {
     text.split('/').collect(alloc)
@@ -31,7 +31,7 @@ fn words_in<'a>(alloc: Global, parts: &[&'a str]) -> Result<Vec<&'a str>, AllocE
 }
 
 /// The names of a path.
-fn names_in(alloc: Global, path: &str) -> Result<Vec<&str>, AllocError>
+pub(crate) fn names_in(alloc: Global, path: &str) -> Result<Vec<&str>, AllocError>
     ensures { IfOk result (λ names. map (λ name. name.now) names.items ≡ names_in path.now) }
 {
     let parts = cut_at_slashes(alloc, path)?;

@@ -1,10 +1,10 @@
 //! What is found in the folder of a package: its README, its library and its build script.
 
-ghost use Rattle.std.specs.Prelude.{◌≡◌, IfOk, IfErr, IsTrue, true, Some, None, [], if◌then◌else◌};
-ghost use Rattle.pb_place.specs.Paths.{below, is_relative};
+ghost use Rattle.std.specs.Prelude.{◌≡◌, IfOk, IfErr, IsTrue, true, []};
+ghost use Rattle.pb_place.specs.Paths.{is_relative};
 ghost use Rattle.pb_place.specs.World.{from_nothing};
 ghost use Rattle.pb_workspace.specs.Causes.{is_outside, Reads};
-ghost use Rattle.pb_workspace.specs.Sources.{has_own_file, found_readme, script_of, library_source, served_types, written_library, found_library, library_of};
+ghost use Rattle.pb_workspace.specs.Sources.{own_source, found_readme, script_of, library_source, served_types, written_library, found_library, library_of};
 
 use crate::fault::LoadFault;
 use crate::package::Library;
@@ -40,7 +40,7 @@ pub fn found_readme<P: Place>(
 }
 
 /// The path of a file of a folder, where it is one of the sources.
-fn own_source<P: Place>(
+pub(crate) fn own_source<P: Place>(
     place: &mut P,
     alloc: Global,
     target: &PathText,
@@ -48,7 +48,7 @@ fn own_source<P: Place>(
     name: &str,
 ) -> Result<Option<PathText>, LoadFault>
     requires { is_relative name.now ≡ true }
-    ensures ok { IsTrue P.tells → IfOk result (λ path. path ≡ (if has_own_file folder.now (from_nothing target.now (P.world place.old)) name.now then Some (below folder.now name.now) else None)) }
+    ensures ok { IsTrue P.tells → IfOk result (λ path. path ≡ own_source folder.now (from_nothing target.now (P.world place.old)) name.now) }
     ensures same { IsTrue P.tells → P.world place.new ≡ P.world place.old }
     ensures outside { IfErr result (λ e. is_outside e ≡ true) }
     ensures reads { Reads result (P.counts place.old) (P.counts place.new) }

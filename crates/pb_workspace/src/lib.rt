@@ -4,10 +4,13 @@
 #![tactic(auto)]
 
 pub mod between;
+pub mod binaries;
 pub mod fault;
 pub mod features;
 pub mod found;
+pub mod found_binaries;
 pub mod glob;
+pub mod member;
 pub mod options;
 pub mod package;
 pub mod selecting;

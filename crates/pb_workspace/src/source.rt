@@ -1,10 +1,10 @@
 //! Files of the sources: what lies at or below the target folder is left out.
 
-ghost use Rattle.std.specs.Prelude.{◌≡◌, ◌≢◌, IfOk, IfErr, IsTrue, true};
+ghost use Rattle.std.specs.Prelude.{◌≡◌, IfOk, IfErr, IsTrue, true};
 ghost use Rattle.std.specs.FinMap as finite;
 ghost use Rattle.pb_place.specs.Paths.{below, is_relative};
 ghost use Rattle.pb_place.specs.World.{from_nothing};
-ghost use Rattle.pb_workspace.specs.Causes.{is_outside, is_failure, is_read, is_read_fault, bears, Reads};
+ghost use Rattle.pb_workspace.specs.Causes.{is_outside, fault_at, bears, Reads};
 ghost use Rattle.pb_workspace.specs.Sources.{has_file, has_own_file, resolved};
 
 use crate::fault::LoadFault;
@@ -13,20 +13,13 @@ use pb_manifest::WrittenPath;
 use pb_place::{PathText, Place, PlaceFault, RelativePath};
 use std::alloc::{AllocError, Global};
 
-/// The fault of a call that reads. Want of memory stays so, also where there is none for the path.
-pub fn failed(alloc: Global, path: &PathText, fault: PlaceFault) -> LoadFault
-    requires { fault ≢ PlaceFault.OutOfMemory → is_read_fault fault ≡ true }
-    ensures outside { is_outside result ≡ true }
-    ensures read { is_read result ≡ true }
-    ensures bears { bears path.now result ≡ true }
-    ensures told { is_failure result ≡ true → (fault ≢ PlaceFault.OutOfMemory) × (result ≡ LoadFault.Place path.now fault) }
+/// The fault of a call on a path that failed. Want of memory stays so. It takes no memory.
+pub fn failed(path: PathText, fault: PlaceFault) -> LoadFault
+    ensures { result ≡ fault_at path fault }
 {
     match fault {
         PlaceFault::OutOfMemory => LoadFault::OutOfMemory,
-        fault => match path.copy(alloc) {
-            Ok(path) => LoadFault::Place(path, fault),
-            Err(_) => LoadFault::OutOfMemory,
-        },
+        fault => LoadFault::Place(path, fault),
     }
 }
 
@@ -47,9 +40,10 @@ pub fn source<P: Place>(
     if path.starts_with(target) {
         return Ok(None);
     }
+    let named = path.copy(alloc)?;
     match place.read(alloc, path) {
         Ok(found) => Ok(found),
-        Err(fault) => Err(failed(alloc, path, fault)),
+        Err(fault) => Err(failed(named, fault)),
     }
 }
 
