@@ -13,3 +13,4 @@ pub mod Features
 pub mod Members
 pub mod Binaries
 pub mod FoundBinaries
+pub mod Settling

@@ -14,6 +14,7 @@ pub mod member;
 pub mod options;
 pub mod package;
 pub mod selecting;
+pub mod settling;
 pub mod sorted;
 pub mod source;
 pub mod taken;
