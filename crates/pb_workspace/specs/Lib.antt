@@ -14,3 +14,4 @@ pub mod Members
 pub mod Binaries
 pub mod FoundBinaries
 pub mod Settling
+pub mod Keys

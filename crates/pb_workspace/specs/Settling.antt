@@ -6,14 +6,11 @@ use Rattle.pb_place.specs.World.{World}
 use Rattle.pb_manifest.specs.declared.dependency.Dependency.{Dependency}
 use Rattle.pb_manifest.specs.declared.inherited.Inheritable.{Inheritable}
 use Rattle.pb_manifest.specs.declared.inherited.Inheritable.TheVariants.{Written, Workspace, Absent}
-use Rattle.pb_manifest.specs.declared.manifest.WorkspacePackage.{WorkspacePackage}
 use Rattle.pb_manifest.specs.declared.package.Build.{Build}
-use Rattle.pb_manifest.specs.declared.package.Package.{Package}
 use Rattle.pb_manifest.specs.declared.package.Readme.{Readme}
 use Rattle.pb_manifest.specs.declared.target.Binary.{Binary as WrittenBinary}
 use Rattle.pb_manifest.specs.declared.target.Library.{Library as WrittenLibrary}
 use Rattle.pb_workspace.specs.declared.fault.LoadFault.{LoadFault}
-use Rattle.pb_workspace.specs.declared.package.About.{About}
 use Rattle.pb_workspace.specs.declared.package.Binary.{Binary}
 use Rattle.pb_workspace.specs.declared.package.DependencyKind.TheVariants.{Normal, Build as ForScript}
 use Rattle.pb_workspace.specs.declared.settling.Given.{Given}
@@ -23,7 +20,6 @@ use Rattle.pb_workspace.specs.declared.wanted.Wanted.{Wanted}
 use Rattle.pb_workspace.specs.Binaries.{binaries_of, written_binary}
 use Rattle.pb_workspace.specs.FoundBinaries.{found_binaries}
 use Rattle.pb_workspace.specs.Sources.{found_readme, library_of, script_of}
-use Rattle.pb_workspace.specs.Taken.{about_of, said_in}
 use Rattle.pb_workspace.specs.Wanted.{each_wanted, wanted_of}
 
 -- the README that is looked for, where none is written
@@ -31,10 +27,6 @@ abbrev pub readme_found : List ℕ → World → Inheritable Readme → List ℕ
 readme_found folder sources (Written readme) = []
 readme_found folder sources Workspace = []
 readme_found folder sources Absent = found_readme folder sources
-
--- what a package says of itself to people
-abbrev pub about_in : World → Standing → WorkspacePackage → Package → Result About LoadFault
-about_in sources at given p = about_of at.root at.folder (readme_found at.folder sources p.readme) (said_in p) given
 
 -- what the entries of its two tables ask for
 abbrev pub wanted_in : Standing → Given → List Dependency → List Dependency → Result (List Wanted) LoadFault

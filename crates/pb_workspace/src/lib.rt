@@ -10,6 +10,7 @@ pub mod features;
 pub mod found;
 pub mod found_binaries;
 pub mod glob;
+pub mod keys;
 pub mod member;
 pub mod options;
 pub mod package;

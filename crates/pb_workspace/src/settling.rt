@@ -1,10 +1,10 @@
 //! A package, settled from its manifest, its folder and what its workspace gives.
 
-ghost use Rattle.std.specs.Prelude.{◌≡◌, ◌++◌, All, Bool, IfOk, IfErr, OnOk, IsTrue, true, map};
+ghost use Rattle.std.specs.Prelude.{◌≡◌, ◌++◌, All, Bool, IfOk, IfErr, OnOk, IsTrue, true, false, map};
 ghost use Rattle.pb_data.specs.Gives.{Gives};
 ghost use Rattle.pb_place.specs.World.{from_nothing};
 ghost use Rattle.pb_manifest.specs.Letters.{is_name};
-ghost use Rattle.pb_workspace.specs.Causes.{is_outside, Reads};
+ghost use Rattle.pb_workspace.specs.Causes.{is_outside, is_failure, Reads};
 ghost use Rattle.pb_workspace.specs.Settling.{readme_found, wanted_in, discovered, targets_of, comes_again, has_same_binaries};
 ghost use Rattle.pb_workspace.specs.declared.fault.LoadFault.TheVariants as load_fault;
 
@@ -82,7 +82,8 @@ pub fn wanted_in(
     dependencies: &[Dependency],
     build: &[Dependency],
 ) -> Result<Items<Wanted>, LoadFault>
-    ensures { Gives load_fault.OutOfMemory (λ wanted. wanted) result (wanted_in at.now given.now dependencies.now build.now) }
+    ensures told { Gives load_fault.OutOfMemory (λ wanted. wanted) result (wanted_in at.now given.now dependencies.now build.now) }
+    ensures here { IfErr result (λ e. is_failure e ≡ false) }
 {
     let shared = given.dependencies.as_slice();
     let normal = each_wanted(alloc, at, shared, DependencyKind::Normal, dependencies)?;

@@ -1,7 +1,8 @@
 //! What a package says of itself: written in its manifest, or taken from its workspace.
 
-ghost use Rattle.std.specs.Prelude.{◌≡◌, ◌++◌, IfOk, OnOk, string_bytes};
+ghost use Rattle.std.specs.Prelude.{◌≡◌, ◌++◌, IfOk, IfErr, OnOk, false, string_bytes};
 ghost use Rattle.pb_data.specs.Gives.{Gives};
+ghost use Rattle.pb_workspace.specs.Causes.{is_failure};
 ghost use Rattle.pb_workspace.specs.Taken.{own_or_given, text_of, further_authors, joined_authors, authors_of, from_member, license_file_of, readme_text, given_readme, readme_of, about_of};
 ghost use Rattle.pb_workspace.specs.declared.fault.LoadFault.TheVariants as load_fault;
 
@@ -19,7 +20,8 @@ pub fn version_of(
     own: Inherited<Version>,
     given: &Option<Version>,
 ) -> Result<Version, LoadFault>
-    ensures { Gives load_fault.OutOfMemory (λ version. version) result (own_or_given own given.now) }
+    ensures told { Gives load_fault.OutOfMemory (λ version. version) result (own_or_given own given.now) }
+    ensures here { IfErr result (λ e. is_failure e ≡ false) }
 {
     match own {
         Inherited::Written(version) => Ok(version),
@@ -32,7 +34,8 @@ pub fn version_of(
 
 /// A package's edition. NoInherited where it is taken from a workspace that has none to give.
 pub fn edition_of(own: Inherited<Edition>, given: Option<Edition>) -> Result<Edition, LoadFault>
-    ensures { result ≡ own_or_given own given }
+    ensures told { result ≡ own_or_given own given }
+    ensures here { IfErr result (λ e. is_failure e ≡ false) }
 {
     match own {
         Inherited::Written(edition) => Ok(edition),
@@ -49,7 +52,8 @@ fn text_of(
     own: Inheritable<Text>,
     given: &Option<Text>,
 ) -> Result<Text, LoadFault>
-    ensures { Gives load_fault.OutOfMemory (λ text. text) result (text_of own given.now) }
+    ensures told { Gives load_fault.OutOfMemory (λ text. text) result (text_of own given.now) }
+    ensures here { IfErr result (λ e. is_failure e ≡ false) }
 {
     match own {
         Inheritable::Written(text) => Ok(text),
@@ -91,7 +95,8 @@ fn authors_of(
     own: Inheritable<Items<Text>>,
     given: &Option<Items<Text>>,
 ) -> Result<Text, LoadFault>
-    ensures { Gives load_fault.OutOfMemory (λ text. text) result (authors_of own given.now) }
+    ensures told { Gives load_fault.OutOfMemory (λ text. text) result (authors_of own given.now) }
+    ensures here { IfErr result (λ e. is_failure e ≡ false) }
 {
     match own {
         Inheritable::Written(authors) => Ok(joined_authors(alloc, authors.as_slice())?),
@@ -128,7 +133,8 @@ fn license_file_of(
     own: Inheritable<Text>,
     given: &Option<Text>,
 ) -> Result<Text, LoadFault>
-    ensures { Gives load_fault.OutOfMemory (λ text. text) result (license_file_of root.now folder.now own given.now) }
+    ensures told { Gives load_fault.OutOfMemory (λ text. text) result (license_file_of root.now folder.now own given.now) }
+    ensures here { IfErr result (λ e. is_failure e ≡ false) }
 {
     match own {
         Inheritable::Written(text) => Ok(text),
@@ -176,7 +182,8 @@ fn readme_of(
     own: Inheritable<Readme>,
     given: &Option<Readme>,
 ) -> Result<Text, LoadFault>
-    ensures { Gives load_fault.OutOfMemory (λ text. text) result (readme_of root.now folder.now found own given.now) }
+    ensures told { Gives load_fault.OutOfMemory (λ text. text) result (readme_of root.now folder.now found own given.now) }
+    ensures here { IfErr result (λ e. is_failure e ≡ false) }
 {
     match own {
         Inheritable::Written(readme) => Ok(readme_text(alloc, &readme)?),
@@ -212,7 +219,8 @@ pub fn about_of(
     said: Said,
     given: &WorkspacePackage,
 ) -> Result<About, LoadFault>
-    ensures { Gives load_fault.OutOfMemory (λ about. about) result (about_of root.now folder.now found said given.now) }
+    ensures told { Gives load_fault.OutOfMemory (λ about. about) result (about_of root.now folder.now found said given.now) }
+    ensures here { IfErr result (λ e. is_failure e ≡ false) }
 {
     let authors = authors_of(alloc, said.authors, &given.authors)?;
     let description = text_of(alloc, said.description, &given.description)?;

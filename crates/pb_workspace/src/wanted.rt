@@ -1,8 +1,9 @@
 //! What the entries of a package ask for, with what they take from the workspace.
 
-ghost use Rattle.std.specs.Prelude.{◌≡◌, ◌++◌, IfOk, OnOk, unwrap_or};
+ghost use Rattle.std.specs.Prelude.{◌≡◌, ◌++◌, IfOk, IfErr, OnOk, false, unwrap_or};
 ghost use Rattle.std.specs.Option.{option_copied};
 ghost use Rattle.pb_data.specs.Gives.{Gives};
+ghost use Rattle.pb_workspace.specs.Causes.{is_failure};
 ghost use Rattle.pb_workspace.specs.Wanted.{is_renamed, wanted_at, shared_at, taken_from, wanted_by, wanted_of, each_wanted};
 ghost use Rattle.pb_workspace.specs.declared.fault.LoadFault.TheVariants as load_fault;
 
@@ -151,7 +152,8 @@ fn taken_from(
     default_features: bool,
     shared: &WorkspaceDependency,
 ) -> Result<Wanted, LoadFault>
-    ensures { Gives load_fault.OutOfMemory (λ wanted. wanted) result (taken_from at.now.root at.now.manifest kind entry.now default_features shared.now shared.now.source) }
+    ensures told { Gives load_fault.OutOfMemory (λ wanted. wanted) result (taken_from at.now.root at.now.manifest kind entry.now default_features shared.now shared.now.source) }
+    ensures here { IfErr result (λ e. is_failure e ≡ false) }
 {
     let source = match &shared.source {
         WorkspaceSource::Path(source) => source,
@@ -181,7 +183,8 @@ fn wanted_of(
     kind: DependencyKind,
     entry: &Dependency,
 ) -> Result<Wanted, LoadFault>
-    ensures { Gives load_fault.OutOfMemory (λ wanted. wanted) result (wanted_of at.now.root at.now.folder at.now.manifest given.now kind entry.now) }
+    ensures told { Gives load_fault.OutOfMemory (λ wanted. wanted) result (wanted_of at.now.root at.now.folder at.now.manifest given.now kind entry.now) }
+    ensures here { IfErr result (λ e. is_failure e ≡ false) }
 {
     match &entry.source {
         Source::Path(source) => {
@@ -216,7 +219,8 @@ pub fn each_wanted(
     kind: DependencyKind,
     entries: &[Dependency],
 ) -> Result<Items<Wanted>, LoadFault>
-    ensures { Gives load_fault.OutOfMemory (λ wanted. wanted) result (each_wanted (wanted_of at.now.root at.now.folder at.now.manifest given.now kind) entries.now) }
+    ensures told { Gives load_fault.OutOfMemory (λ wanted. wanted) result (each_wanted (wanted_of at.now.root at.now.folder at.now.manifest given.now kind) entries.now) }
+    ensures here { IfErr result (λ e. is_failure e ≡ false) }
 {
     let mut made = Items::new(alloc);
     for entry in entries {
