@@ -7,7 +7,6 @@ use Rattle.std.specs.Str.{bytes_eq}
 use Rattle.pb_manifest.specs.Letters as letters
 use Rattle.pb_place.specs.Paths.{parts_of, stays, leads_up, is_name, is_relative}
 use Rattle.pb_place.proofs.PathLemmas.{and_left, and_right}
-use Rattle.pb_workspace.specs.Binaries.{flat_source, nested_source}
 
 -- a byte that may not stand in a name
 unlike : (n b : ℕ) → letters.is_name_byte n ≡ false → letters.is_name_byte b ≡ true → b == n ≡ false

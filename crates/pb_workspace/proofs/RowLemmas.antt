@@ -1,10 +1,8 @@
 -- Rows are what their words say.
-use Rattle.std.proofs.Common.{◌≡◌, ℕ, suc, append-nil, ◌<◌, ◌+◌, ◌++◌, Bool, List, [], ◌∷◌, reverse, length, drop, get_or, refl, ap, rules, arith, sym, ◌∙◌, drop-cons, append_assoc, true, false, ◌==◌, ◌&&◌, if◌then◌else◌}
+use Rattle.std.proofs.Common.{◌≡◌, ℕ, suc, append-nil, ◌<◌, ◌+◌, ◌++◌, Bool, List, [], ◌∷◌, reverse, length, drop, get_or, refl, ap, arith, sym, ◌∙◌, drop-cons, append_assoc, true, false, ◌==◌, ◌&&◌, if◌then◌else◌}
 use Rattle.std.proofs.lemmas.List.{reverse-append, reverse-reverse}
-use Rattle.pb_workspace.specs.Globs.{matches, first_then, some_end, one_then, byte_then, goes_on, past_character}
+use Rattle.pb_workspace.specs.Globs.{matches, some_end, one_then, byte_then, goes_on, past_character}
 use Rattle.pb_workspace.specs.Rows.{cells_from, row_of, star_cells, one_cells, byte_cells, stepped, plain_cells, last_matched}
-use Rattle.pb_workspace.specs.declared.glob.Cell.{Cell}
-use Rattle.pb_workspace.specs.declared.glob.Row.{Row}
 
 star_ok : (test : List ℕ → Bool) (walked before : List ℕ) → star_cells (some_end test walked) (cells_from test walked before) ≡ cells_from (some_end test) walked before
 star_ok test walked [] = refl
@@ -26,8 +24,8 @@ byte_ok c test walked (b ∷ before) = ap (λ xs. record { byte = b; matched = (
 
 step_by : (is_star is_one : Bool) (c : ℕ) (test : List ℕ → Bool) (before : List ℕ)
     → (if is_star then record { empty = test []; cells = star_cells (test []) (cells_from test [] before) }
-       else (if is_one then record { empty = false; cells = one_cells (test []) (cells_from test [] before) }
-       else record { empty = false; cells = byte_cells c (test []) (cells_from test [] before) }))
+    else (if is_one then record { empty = false; cells = one_cells (test []) (cells_from test [] before) }
+    else record { empty = false; cells = byte_cells c (test []) (cells_from test [] before) }))
     ≡ row_of (λ name. if is_star then some_end test name else (if is_one then one_then test name else byte_then c test name)) before
 step_by true is_one c test before = ap (λ xs. record { empty = test []; cells = xs }) (star_ok test [] before)
 step_by false true c test before = ap (λ xs. record { empty = false; cells = xs }) (one_ok test [] before)

@@ -1,5 +1,5 @@
 -- The keys of a package, each settled. These words speak of one package and of what its workspace gives it.
-use Rattle.std.specs.Prelude.{ℕ, List, Result, Ok, Err}
+use Rattle.std.specs.Prelude.{ℕ, List, Result, Ok}
 use Rattle.pb_data.specs.Gives.{◌>>=◌}
 use Rattle.pb_place.specs.World.{World}
 use Rattle.pb_manifest.specs.declared.manifest.WorkspacePackage.{WorkspacePackage}

@@ -1,6 +1,6 @@
 -- How a name is matched in one walk for each byte of the pattern: for each end of the name, whether the rest of the pattern matches it. These words serve private functions alone.
 use Rattle.std.specs.Prelude.{ℕ, Bool, false, ◌&&◌, ◌||◌, ◌==◌, if◌then◌else◌, List, [], ◌∷◌}
-use Rattle.pb_workspace.specs.Globs.{goes_on, matches}
+use Rattle.pb_workspace.specs.Globs.{goes_on}
 use Rattle.pb_workspace.specs.declared.glob.Cell.{Cell}
 use Rattle.pb_workspace.specs.declared.glob.Row.{Row}
 

@@ -1,5 +1,5 @@
 -- A package, settled from its manifest, its folder and what its workspace gives (The Cargo Book, Manifest Format and Workspaces). `sources` is the world without what lies at or below the target folder.
-use Rattle.std.specs.Prelude.{ℕ, Bool, true, false, ◌||◌, if◌then◌else◌, List, [], ◌∷◌, ◌++◌, map, Option, Result, Ok, Err}
+use Rattle.std.specs.Prelude.{ℕ, Bool, false, ◌||◌, if◌then◌else◌, List, [], ◌∷◌, ◌++◌, map, Option, Result, Ok}
 use Rattle.pb_data.specs.Gives.{◌>>=◌}
 use Rattle.pb_data.specs.Mentions.{is_mentioned, mentioned}
 use Rattle.pb_place.specs.World.{World}

@@ -1,5 +1,5 @@
 -- What a package says of itself, written in its manifest or taken from its workspace (The Cargo Book, Manifest Format and Workspaces).
-use Rattle.std.specs.Prelude.{ℕ, if◌then◌else◌, codes, List, [], ◌∷◌, ◌++◌, Option, Some, None, Result, Ok, Err}
+use Rattle.std.specs.Prelude.{ℕ, codes, List, [], ◌∷◌, ◌++◌, Option, Result, Ok, Err}
 use Rattle.pb_data.specs.Gives.{◌>>=◌, some_or}
 use Rattle.pb_place.specs.Paths.{joined}
 use Rattle.pb_place.specs.declared.path.PathFault.{PathFault}

@@ -59,7 +59,11 @@ fn add_names<'a>(steps: &mut Vec<&'a str>, names: &[&'a str]) -> Result<(), Allo
 }
 
 /// The steps up from the one end and down to the other.
-fn up_and_down<'a>(alloc: Global, names: &[&str], others: &[&'a str]) -> Result<Vec<&'a str>, AllocError>
+fn up_and_down<'a>(
+    alloc: Global,
+    names: &[&str],
+    others: &[&'a str],
+) -> Result<Vec<&'a str>, AllocError>
     ensures { IfOk result (λ steps. map (λ step. step.now) steps.items ≡ upward (map (λ name. name.now) names.now) ++ map (λ name. name.now) others.now) }
 {
     let mut steps = Vec::new(alloc);
@@ -69,7 +73,11 @@ fn up_and_down<'a>(alloc: Global, names: &[&str], others: &[&'a str]) -> Result<
 }
 
 /// The steps from the end of the first names to the end of the others.
-fn steps_between<'a>(alloc: Global, names: &[&str], others: &[&'a str]) -> Result<Vec<&'a str>, AllocError>
+fn steps_between<'a>(
+    alloc: Global,
+    names: &[&str],
+    others: &[&'a str],
+) -> Result<Vec<&'a str>, AllocError>
     ensures { IfOk result (λ steps. map (λ step. step.now) steps.items ≡ steps_between (map (λ name. name.now) names.now) (map (λ name. name.now) others.now)) }
 {
     let mut from = names;

@@ -205,10 +205,7 @@ fn put_binaries(
 }
 
 /// The values of entries.
-fn values_of(
-    alloc: Global,
-    entries: Items<(Text, Binary)>,
-) -> Result<Items<Binary>, AllocError>
+fn values_of(alloc: Global, entries: Items<(Text, Binary)>) -> Result<Items<Binary>, AllocError>
     ensures { IfOk result (λ binaries. binaries ≡ map binary_of entries) }
 {
     let mut binaries = Items::new(alloc);

@@ -1,12 +1,12 @@
 //! Why a workspace cannot be read, or nothing of it be selected.
 
+ghost use Rattle.std.specs.Prelude.{◌≡◌};
+ghost use Rattle.pb_workspace.specs.declared.fault.LoadFault.TheVariants as load_fault;
+
 use pb_manifest::ManifestFault;
 use pb_place::{PathText, PlaceFault};
 use std::alloc::{AllocError, AllocFailed};
 use thiserror::Error;
-
-ghost use Rattle.std.specs.Prelude.{◌≡◌};
-ghost use Rattle.pb_workspace.specs.declared.fault.LoadFault.TheVariants as load_fault;
 
 /// Why a workspace cannot be read, or nothing of it be selected.
 #[derive(Debug, Drop, Error)]

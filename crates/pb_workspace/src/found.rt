@@ -115,10 +115,7 @@ fn standard_types(alloc: Global) -> Result<Items<CrateType>, AllocError>
 }
 
 /// The crate types of a library: `lib` alone where none is written.
-fn served_types(
-    alloc: Global,
-    types: Items<CrateType>,
-) -> Result<Items<CrateType>, AllocError>
+fn served_types(alloc: Global, types: Items<CrateType>) -> Result<Items<CrateType>, AllocError>
     ensures { IfOk result (λ served. served ≡ served_types types) }
 {
     if types.is_empty() {

@@ -85,13 +85,22 @@ fn one_cells(alloc: Global, empty: bool, cells: &[Cell]) -> Result<Items<Cell>, 
             byte: cell.byte,
             matched: past,
         })?;
-        past = if goes_on(cell.byte) { past } else { cell.matched };
+        past = if goes_on(cell.byte) {
+            past
+        } else {
+            cell.matched
+        };
     }
     Ok(made)
 }
 
 /// The cells with this byte before the pattern.
-fn byte_cells(alloc: Global, byte: u8, empty: bool, cells: &[Cell]) -> Result<Items<Cell>, AllocError>
+fn byte_cells(
+    alloc: Global,
+    byte: u8,
+    empty: bool,
+    cells: &[Cell],
+) -> Result<Items<Cell>, AllocError>
     ensures { IfOk result (λ made. made ≡ byte_cells byte empty cells.now) }
 {
     let mut made = Items::new(alloc);

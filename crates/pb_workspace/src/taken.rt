@@ -47,11 +47,7 @@ pub fn edition_of(own: Inherited<Edition>, given: Option<Edition>) -> Result<Edi
 }
 
 /// A text of a package, empty where it is absent.
-fn text_of(
-    alloc: Global,
-    own: Inheritable<Text>,
-    given: &Option<Text>,
-) -> Result<Text, LoadFault>
+fn text_of(alloc: Global, own: Inheritable<Text>, given: &Option<Text>) -> Result<Text, LoadFault>
     ensures told { Gives load_fault.OutOfMemory (λ text. text) result (text_of own given.now) }
     ensures here { IfErr result (λ e. is_failure e ≡ false) }
 {
@@ -226,8 +222,13 @@ pub fn about_of(
     let description = text_of(alloc, said.description, &given.description)?;
     let homepage = text_of(alloc, said.homepage, &given.homepage)?;
     let license = text_of(alloc, said.license, &given.license)?;
-    let license_file =
-        license_file_of(alloc, root, folder, said.license_file, &given.license_file)?;
+    let license_file = license_file_of(
+        alloc,
+        root,
+        folder,
+        said.license_file,
+        &given.license_file,
+    )?;
     let readme = readme_of(alloc, root, folder, found, said.readme, &given.readme)?;
     let repository = text_of(alloc, said.repository, &given.repository)?;
     let rust_version = text_of(alloc, said.rust_version, &given.rust_version)?;

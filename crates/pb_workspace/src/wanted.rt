@@ -137,10 +137,7 @@ fn unsupported(alloc: Global, manifest: &PathText) -> Result<LoadFault, AllocErr
     ensures { IfOk result (λ fault. fault ≡ load_fault.Manifest manifest.now ManifestFault.UnsupportedSource) }
 {
     let manifest = manifest.copy(alloc)?;
-    Ok(LoadFault::Manifest(
-        manifest,
-        ManifestFault::UnsupportedSource,
-    ))
+    Ok(LoadFault::Manifest(manifest, ManifestFault::UnsupportedSource))
 }
 
 /// What an entry asks for that takes one of the workspace's.

@@ -1,4 +1,3 @@
-use Rattle.std.proofs.Common.{◌∙◌}
 use Rattle.pb_workspace.proofs.SourceLemmas.{listed_told}
 use Rattle.pb_workspace.proofs.found_binaries.listed_sources.Goals as goal
 

@@ -1,4 +1,4 @@
-use Rattle.std.proofs.Common.{reverse, sym, ap, ◌∙◌}
+use Rattle.std.proofs.Common.{reverse, ap, ◌∙◌}
 use Rattle.pb_workspace.specs.Globs.{matches}
 use Rattle.pb_workspace.specs.Rows.{row_of, last_matched}
 use Rattle.pb_workspace.proofs.RowLemmas.{whole_ok}
