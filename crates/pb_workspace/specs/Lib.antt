@@ -1,2 +1,17 @@
 pub mod Workspace
 pub mod Settled
+pub mod Selected
+pub mod Globs
+pub mod Rows
+pub mod Between
+pub mod Taken
+pub mod Causes
+pub mod Sources
+pub mod Wanted
+pub mod Sorted
+pub mod Features
+pub mod Members
+pub mod Binaries
+pub mod FoundBinaries
+pub mod Settling
+pub mod Keys

@@ -1,5 +1,5 @@
 -- What every workspace that was read is, whatever its files say: packages by folder and by name, entries that lead somewhere, features and binaries by name.
-use Rattle.std.specs.Prelude.{◌≡◌, ℕ, ◌<◌, ◌≤◌, true, List, map, Some, All, IfSome, Contains, length, slice_get}
+use Rattle.std.specs.Prelude.{◌≡◌, ℕ, ◌<◌, ◌≤◌, ◌||◌, true, List, map, All, IfSome, length}
 use Rattle.std.specs.Ordering.{nat_cmp}
 use Rattle.std.specs.Cmp.Lexicographic.{slice_cmp}
 use Rattle.std.specs.List.{IsDistinct}
@@ -9,7 +9,6 @@ use Rattle.pb_manifest.specs.Letters.{is_name, is_crate_name, is_feature_name}
 use Rattle.pb_manifest.specs.declared.feature.Feature.{Feature}
 use Rattle.pb_workspace.specs.declared.package.Package.{Package}
 use Rattle.pb_workspace.specs.declared.package.Binary.{Binary}
-use Rattle.pb_workspace.specs.declared.package.Library.{Library}
 use Rattle.pb_workspace.specs.declared.package.Entry.{Entry}
 use Rattle.pb_workspace.specs.declared.workspace.Workspace.{Workspace}
 
@@ -17,13 +16,13 @@ use Rattle.pb_workspace.specs.declared.workspace.Workspace.{Workspace}
 abbrev pub IsAscending : List (List ℕ) → Type 0
 IsAscending texts = IsStrictlySortedBy (slice_cmp nat_cmp) texts
 
--- a package among so many
+-- a package among so many. A feature has a feature's letters, or a package's where an optional dependency makes it
 pub record IsPackage (count : ℕ) (p : Package) : Type 0 where
   pub name : is_name p.name ≡ true
   pub crate_name : IfSome p.library (λ library. is_crate_name library.name ≡ true)
   pub binary_names : All (λ (binary : Binary). is_name binary.name ≡ true) p.binaries
   pub binaries : IsAscending (map (λ (binary : Binary). binary.name) p.binaries)
-  pub feature_names : All (λ (feature : Feature). is_feature_name feature.name ≡ true) p.features
+  pub feature_names : All (λ (feature : Feature). is_feature_name feature.name || is_name feature.name ≡ true) p.features
   pub features : IsAscending (map (λ (feature : Feature). feature.name) p.features)
   pub leads : All (λ (entry : Entry). entry.to < count) p.entries
 

@@ -1,9 +1,9 @@
 -- Words for what a workspace has, by places.
-use Rattle.std.specs.Prelude.{◌≡◌, ℕ, Bool, true, List, Some, Option, None, Contains, slice_get, map}
+use Rattle.std.specs.Prelude.{◌≡◌, ℕ, Bool, true, List, Some, Contains, slice_get}
 use Rattle.std.specs.List.{list_any}
 use Rattle.std.specs.Str.{bytes_eq}
 use Rattle.pb_workspace.specs.declared.package.Side.{Side}
-use Rattle.pb_workspace.specs.declared.package.Side.TheVariants.{Target, Host}
+use Rattle.pb_workspace.specs.declared.package.Side.TheVariants.{Host}
 use Rattle.pb_workspace.specs.declared.package.DependencyKind.{DependencyKind}
 use Rattle.pb_workspace.specs.declared.package.DependencyKind.TheVariants.{Normal, Build}
 use Rattle.pb_workspace.specs.declared.package.Package.{Package}

@@ -3,12 +3,27 @@
 //! Specifying Dependencies).
 #![tactic(auto)]
 
+pub mod between;
+pub mod binaries;
 pub mod fault;
+pub mod features;
+pub mod found;
+pub mod found_binaries;
+pub mod glob;
+pub mod keys;
+pub mod member;
 pub mod options;
 pub mod package;
+pub mod selecting;
+pub mod settling;
+pub mod sorted;
+pub mod source;
+pub mod taken;
+pub mod wanted;
 pub mod workspace;
 
 pub use fault::LoadFault;
 pub use options::{Options, Selection};
 pub use package::{About, Binary, DependencyKind, Entry, Library, Package, Side};
+pub use selecting::selected;
 pub use workspace::{DefaultMembers, Workspace};

@@ -119,7 +119,7 @@ pub struct Package {
     pub entries: Items<Entry>,
     /// Its features in byte order of their names, no two of one name. An optional dependency N gives a
     /// feature N with the one item `dep:N`, unless a feature N or some item `dep:N` is written
-    /// (The Cargo Book, Features).
+    /// (The Cargo Book, Features); so a feature may have a package's letters and begin with `-`.
     pub features: Items<Feature>,
     /// The keys of `[dev-dependencies]`, in byte order.
     pub development: Items<Text>,

@@ -1,0 +1,4 @@
+pub mod RowLemmas
+pub mod Resolving
+pub mod SourceLemmas
+pub mod BinPaths

@@ -1,0 +1,9 @@
+-- Values by names, in byte order of the names.
+use Rattle.std.specs.Prelude.{ℕ, List}
+use Rattle.std.specs.BTreeMap.{insert_entry}
+use Rattle.std.specs.Ordering.{nat_cmp}
+use Rattle.std.specs.Cmp.Lexicographic.{slice_cmp}
+
+-- with one more entry, in its place by byte order; one of its name gives way
+abbrev pub placed : {V : Type 0} → List (List ℕ × V) → List ℕ → V → List (List ℕ × V)
+placed entries name value = insert_entry (slice_cmp nat_cmp) entries name value

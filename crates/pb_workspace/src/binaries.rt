@@ -1,0 +1,232 @@
+//! The binaries of a package.
+
+ghost use Rattle.std.specs.Prelude.{◌≡◌, ◌++◌, All, IfOk, IfErr, OnOk, IsTrue, true, false, codes, map};
+ghost use Rattle.pb_place.specs.Paths.{below};
+ghost use Rattle.pb_place.specs.World.{from_nothing};
+ghost use Rattle.pb_manifest.specs.Letters.{is_name};
+ghost use Rattle.pb_workspace.specs.Binaries.{main_source, flat_source, nested_source, looked_in_bin, looked_for, binary_source, written_binary, with_binaries, binary_of, binaries_of};
+ghost use Rattle.pb_workspace.specs.Causes.{is_outside, Reads};
+
+use crate::fault::LoadFault;
+use crate::found::own_source;
+use crate::package::Binary;
+use crate::sorted::Sorted;
+use crate::source::{own_path, resolved};
+use pb_data::{Items, Text, TryCopy};
+use pb_manifest::WrittenPath;
+use pb_place::{PathText, Place};
+use std::alloc::{AllocError, Global};
+
+/// A path in `src/bin`.
+fn in_bin(alloc: Global, name: &str, end: &str) -> Result<Text, AllocError>
+    ensures { IfOk result (λ text. text ≡ codes "src/bin/" ++ (name.now ++ end.now)) }
+{
+    let mut text = String::from_str(alloc, "src/bin/")?;
+    text.push_str(name)?;
+    text.push_str(end)?;
+    Ok(Text::new(text))
+}
+
+/// `src/bin/NAME.rs` or `src/bin/NAME/main.rs`, the first that is a file of the sources.
+#[tactic(auto, using(crate::proofs::BinPaths::bin_laws))]
+fn looked_in_bin<P: Place>(
+    place: &mut P,
+    alloc: Global,
+    target: &PathText,
+    folder: &PathText,
+    name: &str,
+) -> Result<Option<PathText>, LoadFault>
+    requires { is_name name.now ≡ true }
+    ensures ok { IsTrue P.tells → IfOk result (λ path. path ≡ looked_in_bin folder.now (from_nothing target.now (P.world place.old)) name.now) }
+    ensures same { IsTrue P.tells → P.world place.new ≡ P.world place.old }
+    ensures outside { IfErr result (λ e. is_outside e ≡ true) }
+    ensures reads { Reads result (P.counts place.old) (P.counts place.new) }
+{
+    let flat = in_bin(alloc, name, ".rs")?;
+    if let Some(path) = own_source(place, alloc, target, folder, flat.as_str())? {
+        return Ok(Some(path));
+    }
+    let nested = in_bin(alloc, name, "/main.rs")?;
+    let path = own_source(place, alloc, target, folder, nested.as_str())?;
+    Ok(path)
+}
+
+/// `src/bin/NAME.rs`, whether it is there or not.
+#[tactic(auto, using(crate::proofs::BinPaths::bin_laws))]
+fn flat_path(alloc: Global, folder: &PathText, name: &str) -> Result<PathText, AllocError>
+    requires { is_name name.now ≡ true }
+    ensures { IfOk result (λ path. path ≡ below folder.now (flat_source name.now)) }
+{
+    let flat = in_bin(alloc, name, ".rs")?;
+    own_path(alloc, folder, flat.as_str())
+}
+
+/// The source of a `[[bin]]` without path that is not named as its package.
+fn looked_for_other<P: Place>(
+    place: &mut P,
+    alloc: Global,
+    target: &PathText,
+    folder: &PathText,
+    name: &str,
+) -> Result<PathText, LoadFault>
+    requires { is_name name.now ≡ true }
+    ensures ok { IsTrue P.tells → IfOk result (λ path. path ≡ looked_for folder.now (from_nothing target.now (P.world place.old)) false name.now) }
+    ensures same { IsTrue P.tells → P.world place.new ≡ P.world place.old }
+    ensures outside { IfErr result (λ e. is_outside e ≡ true) }
+    ensures reads { Reads result (P.counts place.old) (P.counts place.new) }
+{
+    if let Some(path) = looked_in_bin(place, alloc, target, folder, name)? {
+        return Ok(path);
+    }
+    let path = flat_path(alloc, folder, name)?;
+    Ok(path)
+}
+
+/// The source of a `[[bin]]` without path that is named as its package.
+fn looked_for_main<P: Place>(
+    place: &mut P,
+    alloc: Global,
+    target: &PathText,
+    folder: &PathText,
+    name: &str,
+) -> Result<PathText, LoadFault>
+    requires { is_name name.now ≡ true }
+    ensures ok { IsTrue P.tells → IfOk result (λ path. path ≡ looked_for folder.now (from_nothing target.now (P.world place.old)) true name.now) }
+    ensures same { IsTrue P.tells → P.world place.new ≡ P.world place.old }
+    ensures outside { IfErr result (λ e. is_outside e ≡ true) }
+    ensures reads { Reads result (P.counts place.old) (P.counts place.new) }
+{
+    if let Some(path) = own_source(place, alloc, target, folder, "src/main.rs")? {
+        return Ok(path);
+    }
+    if let Some(path) = looked_in_bin(place, alloc, target, folder, name)? {
+        return Ok(path);
+    }
+    let path = own_path(alloc, folder, "src/main.rs")?;
+    Ok(path)
+}
+
+/// The source of a `[[bin]]` of a package (The Cargo Book, Cargo Targets): the path that it writes, as it is;
+/// else the first that is a file of `src/main.rs`, where it is named as its package, `src/bin/NAME.rs` and
+/// `src/bin/NAME/main.rs`, and the first of these where none is.
+pub fn binary_source<P: Place>(
+    place: &mut P,
+    alloc: Global,
+    target: &PathText,
+    folder: &PathText,
+    package_name: &Text,
+    name: &Text,
+    path: &Option<WrittenPath>,
+) -> Result<PathText, LoadFault>
+    requires { is_name name.now ≡ true }
+    ensures ok { IsTrue P.tells → IfOk result (λ source. source ≡ binary_source folder.now (from_nothing target.now (P.world place.old)) package_name.now name.now path.now) }
+    ensures same { IsTrue P.tells → P.world place.new ≡ P.world place.old }
+    ensures outside { IfErr result (λ e. is_outside e ≡ true) }
+    ensures reads { Reads result (P.counts place.old) (P.counts place.new) }
+{
+    if let Some(path) = path {
+        return Ok(resolved(alloc, folder, path)?);
+    }
+    if *name == *package_name {
+        let found = looked_for_main(place, alloc, target, folder, name.as_str())?;
+        return Ok(found);
+    }
+    let found = looked_for_other(place, alloc, target, folder, name.as_str())?;
+    Ok(found)
+}
+
+/// The binary of a `[[bin]]`.
+pub fn written_binary<P: Place>(
+    place: &mut P,
+    alloc: Global,
+    target: &PathText,
+    folder: &PathText,
+    package_name: &Text,
+    written: pb_manifest::Binary,
+) -> Result<Binary, LoadFault>
+    requires { is_name written.name ≡ true }
+    ensures ok { IsTrue P.tells → IfOk result (λ binary. binary ≡ written_binary folder.now (from_nothing target.now (P.world place.old)) package_name.now written) }
+    ensures same { IsTrue P.tells → P.world place.new ≡ P.world place.old }
+    ensures outside { IfErr result (λ e. is_outside e ≡ true) }
+    ensures reads { Reads result (P.counts place.old) (P.counts place.new) }
+{
+    let source = binary_source(
+        place,
+        alloc,
+        target,
+        folder,
+        package_name,
+        &written.name,
+        &written.path,
+    )?;
+    Ok(Binary {
+        name: written.name,
+        source,
+        required_features: written.required_features,
+    })
+}
+
+/// The binaries of the `[[bin]]`s of a package, in the manifest's order.
+pub fn written_binaries<P: Place>(
+    place: &mut P,
+    alloc: Global,
+    target: &PathText,
+    folder: &PathText,
+    package_name: &Text,
+    written: Items<pb_manifest::Binary>,
+) -> Result<Items<Binary>, LoadFault>
+    requires { All (λ b. is_name b.name ≡ true) written }
+    ensures ok { IsTrue P.tells → IfOk result (λ binaries. binaries ≡ map (written_binary folder.now (from_nothing target.now (P.world place.old)) package_name.now) written) }
+    ensures same { IsTrue P.tells → P.world place.new ≡ P.world place.old }
+    ensures outside { IfErr result (λ e. is_outside e ≡ true) }
+    ensures reads { Reads result (P.counts place.old) (P.counts place.new) }
+{
+    let mut binaries = Items::new(alloc);
+    for binary in written.into_vec() {
+        let made = written_binary(place, alloc, target, folder, package_name, binary)?;
+        binaries.push(made)?;
+    }
+    Ok(binaries)
+}
+
+/// Puts binaries in turn; one of the same name gives way.
+fn put_binaries(
+    alloc: Global,
+    entries: &mut Sorted<Binary>,
+    binaries: Items<Binary>,
+) -> Result<(), AllocError>
+    ensures { OnOk result (entries.new ≡ with_binaries entries.old binaries) }
+{
+    for binary in binaries.into_vec() {
+        let name = binary.name.copy(alloc)?;
+        entries.insert(name, binary)?;
+    }
+    Ok(())
+}
+
+/// The values of entries.
+fn values_of(alloc: Global, entries: Items<(Text, Binary)>) -> Result<Items<Binary>, AllocError>
+    ensures { IfOk result (λ binaries. binaries ≡ map binary_of entries) }
+{
+    let mut binaries = Items::new(alloc);
+    for (_name, binary) in entries.into_vec() {
+        binaries.push(binary)?;
+    }
+    Ok(binaries)
+}
+
+/// The binaries of a package, in byte order of their names, each once: those that were found, of two of one
+/// name the later, and the written ones, which replace found ones of their name. The one fault is want of
+/// memory.
+pub fn binaries_of(
+    alloc: Global,
+    found: Items<Binary>,
+    written: Items<Binary>,
+) -> Result<Items<Binary>, AllocError>
+    ensures { IfOk result (λ binaries. binaries ≡ binaries_of found written) }
+{
+    let mut entries = Sorted::new(alloc);
+    put_binaries(alloc, &mut entries, found)?;
+    put_binaries(alloc, &mut entries, written)?;
+    values_of(alloc, entries.into_items(alloc)?)
+}

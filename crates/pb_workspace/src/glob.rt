@@ -1,0 +1,173 @@
+//! Globs: patterns with `*` and `?` for one part of a path.
+
+ghost use Rattle.std.specs.Prelude.{◌≡◌, ◌++◌, IfOk, true, reverse};
+ghost use Rattle.pb_workspace.specs.Globs.{goes_on, matches, is_glob};
+ghost use Rattle.pb_workspace.specs.Rows.{cells_from, row_of, plain_cells, star_cells, one_cells, byte_cells, stepped, last_matched};
+
+use pb_data::Items;
+use std::alloc::{AllocError, Global};
+
+/// An end of a name: its first byte, and whether a pattern matches it.
+#[derive(Clone, Copy)]
+struct Cell {
+    byte: u8,
+    matched: bool,
+}
+
+/// Whether a pattern matches each end of a name: the empty one, and the others, the shortest first.
+#[derive(Drop)]
+struct Row {
+    empty: bool,
+    cells: Items<Cell>,
+}
+
+/// Whether a text is a glob: it has `*` or `?`.
+pub fn is_glob(text: &str) -> bool
+    ensures { result ≡ is_glob text.now }
+{
+    text.as_bytes()
+        .iter()
+        .any(|byte| *byte == b'*' || *byte == b'?')
+}
+
+/// Whether a byte is one of a character after its first.
+fn goes_on(byte: u8) -> bool
+    ensures { result ≡ goes_on byte }
+{
+    128 <= byte && byte <= 191
+}
+
+/// Bytes, the last first.
+fn backwards(alloc: Global, name: &[u8]) -> Result<Vec<u8>, AllocError>
+    ensures { IfOk result (λ bytes. bytes.items ≡ reverse name.now) }
+{
+    name.iter().rev().copied().collect(alloc)
+}
+
+/// The row of the empty pattern, which matches the empty end alone.
+fn last_row(alloc: Global, before: &[u8]) -> Result<Row, AllocError>
+    ensures { IfOk result (λ row. row ≡ record { empty = true; cells = plain_cells before.now }) }
+{
+    let mut cells = Items::new(alloc);
+    for byte in before {
+        cells.push(Cell {
+            byte: *byte,
+            matched: false,
+        })?;
+    }
+    Ok(Row { empty: true, cells })
+}
+
+/// The cells with `*` before the pattern.
+fn star_cells(alloc: Global, empty: bool, cells: &[Cell]) -> Result<Items<Cell>, AllocError>
+    ensures { IfOk result (λ made. made ≡ star_cells empty cells.now) }
+{
+    let mut made = Items::new(alloc);
+    let mut shorter = empty;
+    for cell in cells {
+        shorter = cell.matched || shorter;
+        made.push(Cell {
+            byte: cell.byte,
+            matched: shorter,
+        })?;
+    }
+    Ok(made)
+}
+
+/// The cells with `?` before the pattern.
+fn one_cells(alloc: Global, empty: bool, cells: &[Cell]) -> Result<Items<Cell>, AllocError>
+    ensures { IfOk result (λ made. made ≡ one_cells empty cells.now) }
+{
+    let mut made = Items::new(alloc);
+    let mut past = empty;
+    for cell in cells {
+        made.push(Cell {
+            byte: cell.byte,
+            matched: past,
+        })?;
+        past = if goes_on(cell.byte) {
+            past
+        } else {
+            cell.matched
+        };
+    }
+    Ok(made)
+}
+
+/// The cells with this byte before the pattern.
+fn byte_cells(
+    alloc: Global,
+    byte: u8,
+    empty: bool,
+    cells: &[Cell],
+) -> Result<Items<Cell>, AllocError>
+    ensures { IfOk result (λ made. made ≡ byte_cells byte empty cells.now) }
+{
+    let mut made = Items::new(alloc);
+    let mut shorter = empty;
+    for cell in cells {
+        made.push(Cell {
+            byte: cell.byte,
+            matched: cell.byte == byte && shorter,
+        })?;
+        shorter = cell.matched;
+    }
+    Ok(made)
+}
+
+/// The row with one byte before the pattern.
+fn stepped(alloc: Global, byte: u8, row: &Row) -> Result<Row, AllocError>
+    ensures { IfOk result (λ made. made ≡ stepped byte row.now) }
+{
+    if byte == b'*' {
+        let cells = star_cells(alloc, row.empty, row.cells.as_slice())?;
+        return Ok(Row {
+            empty: row.empty,
+            cells,
+        });
+    }
+    let cells = if byte == b'?' {
+        one_cells(alloc, row.empty, row.cells.as_slice())?
+    } else {
+        byte_cells(alloc, byte, row.empty, row.cells.as_slice())?
+    };
+    Ok(Row {
+        empty: false,
+        cells,
+    })
+}
+
+/// The row of a pattern.
+fn row_of(alloc: Global, pattern: &[u8], name: &[u8]) -> Result<Row, AllocError>
+    ensures { IfOk result (λ row. row ≡ row_of (matches pattern.now) (reverse name.now)) }
+{
+    let before = backwards(alloc, name)?;
+    let mut row = last_row(alloc, before.as_slice())?;
+    for done in 0..pattern.len() {
+        let place = pattern.len() - 1 - done;
+        row = stepped(alloc, pattern[place], &row)?;
+    }
+    Ok(row)
+}
+
+/// What the longest end has.
+fn last_matched(row: &Row) -> bool
+    ensures { result ≡ last_matched row.now.empty row.now.cells }
+{
+    let mut matched = row.empty;
+    for cell in row.cells.as_slice() {
+        matched = cell.matched;
+    }
+    matched
+}
+
+/// Whether a pattern matches all of a name, which is one part of a path: `*` stands for any characters, also
+/// none and also a dot at the front, `?` for one character, all else for itself (The Cargo Book, Workspaces;
+/// our own choice that `[` stands for itself and `**` for `*`). It takes time as the pattern's length times
+/// the name's. The one fault is want of memory.
+pub fn matches(alloc: Global, pattern: &str, name: &str) -> Result<bool, AllocError>
+    ensures { IfOk result (λ answer. answer ≡ matches pattern.now name.now) }
+{
+    let row = row_of(alloc, pattern.as_bytes(), name.as_bytes())?;
+    Ok(last_matched(&row))
+}

@@ -1,0 +1,157 @@
+//! Which folders the texts of `members`, `default-members` and `exclude` mean.
+
+ghost use Rattle.std.specs.Prelude.{◌≡◌, ◌++◌, IfOk, OnOk, map};
+ghost use Rattle.std.specs.List.{fold, list_any};
+ghost use Rattle.pb_place.specs.Paths.{is_absolute, is_at_or_below, leads_up, parts_of, stays};
+ghost use Rattle.pb_workspace.specs.Between.{names_in};
+ghost use Rattle.pb_workspace.specs.Members.{is_excluded, plain_parts, further, start_of, parts_meant, part_matches, parts_match, means};
+ghost use Rattle.pb_workspace.specs.Sources.{resolved};
+
+use crate::between::{cut_at_slashes, names_in};
+use crate::glob::matches;
+use crate::source::resolved;
+use pb_data::Text;
+use pb_manifest::WrittenPath;
+use pb_place::PathText;
+use std::alloc::{AllocError, Global};
+
+/// A part of what a folder has to be for a text to mean it.
+#[derive(Debug, Drop)]
+pub struct Part {
+    /// A name, or a pattern for one.
+    pub text: Text,
+    /// Whether `*` and `?` stand for other characters.
+    pub is_pattern: bool,
+}
+
+/// Whether a folder lies at or below one that `exclude` writes out, from the workspace's root (The Cargo Book,
+/// Workspaces). The one fault is want of memory.
+pub fn is_excluded(
+    alloc: Global,
+    root: &PathText,
+    exclude: &[WrittenPath],
+    folder: &PathText,
+) -> Result<bool, AllocError>
+    ensures { IfOk result (λ answer. answer ≡ is_excluded root.now exclude.now folder.now) }
+{
+    for text in exclude {
+        let path = resolved(alloc, root, text)?;
+        if folder.starts_with(&path) {
+            return Ok(true);
+        }
+    }
+    Ok(false)
+}
+
+/// The names of a folder, as parts that stand for themselves.
+fn plain_parts(alloc: Global, names: &[&str]) -> Result<Vec<Part>, AllocError>
+    ensures { IfOk result (λ parts. parts.items ≡ plain_parts (map (λ name. name.now) names.now)) }
+{
+    let mut parts = Vec::new(alloc);
+    for name in names {
+        let text = Text::from_str(alloc, *name)?;
+        parts.push(Part {
+            text,
+            is_pattern: false,
+        })?;
+    }
+    Ok(parts)
+}
+
+/// Whether a text begins with `/`.
+fn is_absolute(text: &str) -> bool
+    ensures { result ≡ is_absolute text.now }
+{
+    match text.as_bytes() {
+        [first, ..] => *first == b'/',
+        [] => false,
+    }
+}
+
+/// Where a text starts: in the root folder, an absolute one at `/`.
+fn start_of(alloc: Global, root: &PathText, text: &str) -> Result<Vec<Part>, AllocError>
+    ensures { IfOk result (λ parts. parts.items ≡ start_of root.now text.now) }
+{
+    if is_absolute(text) {
+        return Ok(Vec::new(alloc));
+    }
+    let names = names_in(alloc, root.as_str())?;
+    plain_parts(alloc, names.as_slice())
+}
+
+/// Goes one part further.
+fn go_further(alloc: Global, parts: &mut Vec<Part>, part: &str) -> Result<(), AllocError>
+    ensures { OnOk result (parts.new.items ≡ further parts.old.items part.now) }
+{
+    if part == "" || part == "." {
+        return Ok(());
+    }
+    if part == ".." {
+        parts.pop();
+        return Ok(());
+    }
+    let text = Text::from_str(alloc, part)?;
+    parts.push(Part {
+        text,
+        is_pattern: true,
+    })?;
+    Ok(())
+}
+
+/// The parts that a folder has to have for a text of `members` or `default-members` to mean it: those of the
+/// root folder, which stand for themselves, and then the text's, walked as a path is. The one fault is want of
+/// memory.
+pub fn parts_meant(
+    alloc: Global,
+    root: &PathText,
+    text: &WrittenPath,
+) -> Result<Vec<Part>, AllocError>
+    ensures { IfOk result (λ parts. parts.items ≡ parts_meant root.now text.now) }
+{
+    let mut parts = start_of(alloc, root, text.as_str())?;
+    let written = cut_at_slashes(alloc, text.as_str())?;
+    for part in written.as_slice() {
+        go_further(alloc, &mut parts, *part)?;
+    }
+    Ok(parts)
+}
+
+/// Whether a part is a name, or a pattern that matches it.
+fn part_matches(alloc: Global, part: &Part, name: &str) -> Result<bool, AllocError>
+    ensures { IfOk result (λ answer. answer ≡ part_matches part.now name.now) }
+{
+    if part.is_pattern {
+        return matches(alloc, part.text.as_str(), name);
+    }
+    Ok(part.text.as_str() == name)
+}
+
+/// Whether names match parts, one for one.
+fn parts_match(alloc: Global, parts: &[Part], names: &[&str]) -> Result<bool, AllocError>
+    ensures { IfOk result (λ answer. answer ≡ parts_match parts.now (map (λ name. name.now) names.now)) }
+{
+    let mut left = parts;
+    let mut to_match = names;
+    while let [part, parts_left @ ..] = left {
+        match to_match {
+            [name, names_left @ ..] => {
+                if !part_matches(alloc, part, *name)? {
+                    return Ok(false);
+                }
+                left = parts_left;
+                to_match = names_left;
+            }
+            [] => return Ok(false),
+        }
+    }
+    Ok(to_match.is_empty())
+}
+
+/// Whether a folder is meant: it has these parts, name for name, so that no `*` goes over a slash (The Cargo
+/// Book, Workspaces). The one fault is want of memory.
+pub fn is_meant(alloc: Global, parts: &[Part], folder: &PathText) -> Result<bool, AllocError>
+    ensures { IfOk result (λ answer. answer ≡ parts_match parts.now (names_in folder.now)) }
+{
+    let names = names_in(alloc, folder.as_str())?;
+    parts_match(alloc, parts, names.as_slice())
+}

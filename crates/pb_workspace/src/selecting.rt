@@ -1,0 +1,266 @@
+//! Which packages of a workspace a build is asked for, and with which features.
+
+ghost use Rattle.std.specs.Prelude.{◌≡◌, ◌++◌, ◌==◌, IfOk, OnOk, map, filter};
+ghost use Rattle.std.specs.List.{flat_map, list_any, slice_split};
+ghost use Rattle.pb_data.specs.Gives.{Gives};
+ghost use Rattle.pb_data.specs.Mentions.{is_mentioned};
+ghost use Rattle.pb_workspace.specs.Selected.{places_where, members_of, is_member_named, is_named_member, name_members, named_members, root_or_members, by_default, selected_packages, is_word, spaced_words, feature_words, selection_of, selected};
+ghost use Rattle.pb_workspace.specs.declared.fault.LoadFault.TheVariants as load_fault;
+
+use crate::fault::LoadFault;
+use crate::options::{Options, Selection};
+use crate::package::Package;
+use crate::workspace::{DefaultMembers, Workspace};
+use pb_data::{Items, Text, TryCopy};
+use std::alloc::{AllocError, Global};
+
+/// The places of all members.
+fn members_of(alloc: Global, packages: &[Package]) -> Result<Items<usize>, AllocError>
+    ensures { IfOk result (λ places. places ≡ members_of packages.now) }
+{
+    let mut places = Items::new(alloc);
+    for (place, found) in packages.iter().enumerate() {
+        if found.is_member {
+            places.push(place)?;
+        }
+    }
+    Ok(places)
+}
+
+/// Whether a package is a member of this name.
+fn is_member_named(name: &Text, found: &Package) -> bool
+    ensures { result ≡ is_member_named name.now found.now }
+{
+    found.is_member && *name == found.name
+}
+
+/// Whether a name is one of these.
+fn is_mentioned(names: &[Text], name: &Text) -> bool
+    ensures { result ≡ is_mentioned names.now name.now }
+{
+    names.iter().any(|other| *name == *other)
+}
+
+/// Whether a package is a member that has one of these names.
+fn is_named_member(names: &[Text], found: &Package) -> bool
+    ensures { result ≡ is_named_member names.now found.now }
+{
+    found.is_member && is_mentioned(names, &found.name)
+}
+
+/// Whether a name is that of a member.
+fn names_member(name: &Text, packages: &[Package]) -> bool
+    ensures { result ≡ list_any (is_member_named name.now) packages.now }
+{
+    packages.iter().any(|found| is_member_named(name, found))
+}
+
+/// Whether each of these names is that of a member.
+fn name_members(names: &[Text], packages: &[Package]) -> bool
+    ensures { result ≡ name_members names.now packages.now }
+{
+    names.iter().all(|name| names_member(name, packages))
+}
+
+/// The places of the members that have one of these names.
+fn members_named(
+    alloc: Global,
+    names: &[Text],
+    packages: &[Package],
+) -> Result<Items<usize>, AllocError>
+    ensures { IfOk result (λ places. places ≡ places_where (is_named_member names.now) packages.now) }
+{
+    let mut places = Items::new(alloc);
+    for (place, found) in packages.iter().enumerate() {
+        if is_named_member(names, found) {
+            places.push(place)?;
+        }
+    }
+    Ok(places)
+}
+
+/// The places of the members of these names, of which each has to be a member's.
+fn named_members(
+    alloc: Global,
+    names: &[Text],
+    packages: &[Package],
+) -> Result<Items<usize>, LoadFault>
+    ensures { Gives load_fault.OutOfMemory (λ places. places) result (named_members names.now packages.now) }
+{
+    if !name_members(names, packages) {
+        return Err(LoadFault::NoSuchPackage);
+    }
+    let places = members_named(alloc, names, packages)?;
+    Ok(places)
+}
+
+/// The place of the root package, else those of all members.
+fn root_or_members(
+    alloc: Global,
+    root: Option<usize>,
+    packages: &[Package],
+) -> Result<Items<usize>, AllocError>
+    ensures { IfOk result (λ places. places ≡ root_or_members root packages.now) }
+{
+    match root {
+        None => members_of(alloc, packages),
+        Some(place) => {
+            let mut places = Items::new(alloc);
+            places.push(place)?;
+            Ok(places)
+        }
+    }
+}
+
+/// The packages that are selected where the options name none.
+fn by_default(alloc: Global, workspace: &Workspace) -> Result<Items<usize>, LoadFault>
+    ensures { Gives load_fault.OutOfMemory (λ places. places) result (by_default workspace.now.default_members workspace.now.root_package workspace.now.packages) }
+{
+    match &workspace.default_members {
+        DefaultMembers::Unwritten => {
+            let packages = workspace.packages.as_slice();
+            let places = root_or_members(alloc, workspace.root_package, packages)?;
+            Ok(places)
+        }
+        DefaultMembers::Named(places) => {
+            let places = copied(alloc, places.as_slice())?;
+            Ok(places)
+        }
+        DefaultMembers::Unknown => Err(LoadFault::NoSuchPackage),
+    }
+}
+
+/// A copy of some places.
+fn copied(alloc: Global, places: &[usize]) -> Result<Items<usize>, AllocError>
+    ensures { IfOk result (λ made. made ≡ places.now) }
+{
+    Ok(Items::from_vec(places.to_vec(alloc)?))
+}
+
+/// The places of the selected packages.
+fn selected_packages(
+    alloc: Global,
+    workspace: &Workspace,
+    options: &Options,
+) -> Result<Items<usize>, LoadFault>
+    ensures { Gives load_fault.OutOfMemory (λ places. places) result (selected_packages workspace.now options.now.workspace options.now.packages) }
+{
+    let packages = workspace.packages.as_slice();
+    if options.workspace {
+        let places = members_of(alloc, packages)?;
+        return Ok(places);
+    }
+    if !options.packages.is_empty() {
+        let places = named_members(alloc, options.packages.as_slice(), packages)?;
+        return Ok(places);
+    }
+    let places = by_default(alloc, workspace)?;
+    Ok(places)
+}
+
+/// The parts of a text, between its spaces.
+fn cut_at_spaces(alloc: Global, text: &str) -> Result<Vec<&str>, AllocError>
+    ensures { IfOk result (λ parts. map (λ part. part.now) parts.items ≡ slice_split (λ b. b == 32) text.now) }
+{
+    text.split(' ').collect(alloc)
+}
+
+/// The parts of a text, between its commas.
+fn cut_at_commas(alloc: Global, text: &str) -> Result<Vec<&str>, AllocError>
+    ensures { IfOk result (λ parts. map (λ part. part.now) parts.items ≡ slice_split (λ b. b == 44) text.now) }
+{
+    text.split(',').collect(alloc)
+}
+
+/// Adds the parts that are not empty.
+fn add_words(alloc: Global, parts: &[&str], words: &mut Items<Text>) -> Result<(), AllocError>
+    ensures { OnOk result (words.new ≡ words.old ++ filter is_word (map (λ part. part.now) parts.now)) }
+{
+    for word in parts {
+        if !word.is_empty() {
+            words.push(Text::from_str(alloc, *word)?)?;
+        }
+    }
+    Ok(())
+}
+
+/// Adds the words between the spaces of a part.
+fn add_spaced_words(alloc: Global, part: &str, words: &mut Items<Text>) -> Result<(), AllocError>
+    ensures { OnOk result (words.new ≡ words.old ++ spaced_words part.now) }
+{
+    let parts = cut_at_spaces(alloc, part)?;
+    add_words(alloc, parts.as_slice(), words)?;
+    Ok(())
+}
+
+/// Adds the words between the spaces of some parts.
+fn add_parts(alloc: Global, parts: &[&str], words: &mut Items<Text>) -> Result<(), AllocError>
+    ensures { OnOk result (words.new ≡ words.old ++ flat_map spaced_words (map (λ part. part.now) parts.now)) }
+{
+    for part in parts {
+        add_spaced_words(alloc, *part, words)?;
+    }
+    Ok(())
+}
+
+/// Adds the features that a text asks for.
+fn add_feature_words(alloc: Global, text: &str, words: &mut Items<Text>) -> Result<(), AllocError>
+    ensures { OnOk result (words.new ≡ words.old ++ feature_words text.now) }
+{
+    let parts = cut_at_commas(alloc, text)?;
+    add_parts(alloc, parts.as_slice(), words)?;
+    Ok(())
+}
+
+/// The features that some texts ask for.
+fn features_of(alloc: Global, texts: &[Text]) -> Result<Items<Text>, AllocError>
+    ensures { IfOk result (λ words. words ≡ flat_map feature_words texts.now) }
+{
+    let mut words = Items::new(alloc);
+    for text in texts {
+        add_feature_words(alloc, text.as_str(), &mut words)?;
+    }
+    Ok(words)
+}
+
+/// The selection of these packages.
+fn selection_of(
+    alloc: Global,
+    options: &Options,
+    packages: Items<usize>,
+) -> Result<Selection, AllocError>
+    ensures { IfOk result (λ selection. selection ≡ selection_of options.now packages) }
+{
+    let features = features_of(alloc, options.features.as_slice())?;
+    let bin = options.bin.copy(alloc)?;
+    Ok(Selection {
+        packages,
+        features,
+        all_features: options.all_features,
+        no_default_features: options.no_default_features,
+        lib: options.lib,
+        bins: options.bins,
+        bin,
+    })
+}
+
+/// What a build of the workspace is asked for (The Cargo Book, Workspaces and cargo build).
+///
+/// The packages are all members with `--workspace`; else the members that `-p` names; else those of
+/// `default-members`; else the root package; else all members. They stand in ascending order of their
+/// places, each once. NoSuchPackage where `-p` names no member, and where `default-members` decide and
+/// write out a folder that is no member.
+///
+/// The features are what stands between the commas and spaces of the texts of `--features`, in their order,
+/// empty parts dropped.
+pub fn selected(
+    alloc: Global,
+    workspace: &Workspace,
+    options: &Options,
+) -> Result<Selection, LoadFault>
+    ensures { Gives load_fault.OutOfMemory (λ selection. selection) result (selected workspace.now options.now) }
+{
+    let packages = selected_packages(alloc, workspace, options)?;
+    let selection = selection_of(alloc, options, packages)?;
+    Ok(selection)
+}

@@ -1,0 +1,172 @@
+//! A package, settled from its manifest, its folder and what its workspace gives.
+
+ghost use Rattle.std.specs.Prelude.{◌≡◌, ◌++◌, All, Bool, IfOk, IfErr, OnOk, IsTrue, true, false, map};
+ghost use Rattle.pb_data.specs.Gives.{Gives};
+ghost use Rattle.pb_place.specs.World.{from_nothing};
+ghost use Rattle.pb_manifest.specs.Letters.{is_name};
+ghost use Rattle.pb_workspace.specs.Causes.{is_outside, is_failure, Reads};
+ghost use Rattle.pb_workspace.specs.Settling.{readme_found, wanted_in, discovered, targets_of, comes_again, has_same_binaries};
+ghost use Rattle.pb_workspace.specs.declared.fault.LoadFault.TheVariants as load_fault;
+
+use crate::binaries::{binaries_of, written_binaries};
+use crate::fault::LoadFault;
+use crate::found::{found_readme, library_of, script_of};
+use crate::found_binaries::found_binaries;
+use crate::package::{Binary, DependencyKind, Library};
+use crate::wanted::{Standing, Wanted, each_wanted};
+use pb_data::{Items, Mentions, Text, TryCopy};
+use pb_manifest::{Build, Dependency, Inheritable, Readme, WorkspaceDependency, WorkspacePackage};
+use pb_place::{PathText, Place};
+use std::alloc::{AllocError, Global};
+
+/// What a package may take from its workspace. A package that may take nothing is given a table without
+/// values and no entries.
+#[derive(Debug, Drop)]
+pub struct Given {
+    /// `[workspace.package]`.
+    pub package: WorkspacePackage,
+    /// `[workspace.dependencies]`.
+    pub dependencies: Items<WorkspaceDependency>,
+}
+
+/// What a package is built to.
+#[derive(Debug, Drop)]
+pub struct Targets {
+    /// Its library, where it has one.
+    pub library: Option<Library>,
+    /// Its binaries, in byte order of their names.
+    pub binaries: Items<Binary>,
+    /// The source of its build script, where it has one.
+    pub script: Option<PathText>,
+}
+
+/// The README that is looked for in a package's folder, where none is written; else the empty text.
+pub fn readme_found<P: Place>(
+    place: &mut P,
+    alloc: Global,
+    target: &PathText,
+    folder: &PathText,
+    readme: &Inheritable<Readme>,
+) -> Result<Text, LoadFault>
+    ensures ok { IsTrue P.tells → IfOk result (λ text. text ≡ readme_found folder.now (from_nothing target.now (P.world place.old)) readme.now) }
+    ensures same { IsTrue P.tells → P.world place.new ≡ P.world place.old }
+    ensures outside { IfErr result (λ e. is_outside e ≡ true) }
+    ensures reads { Reads result (P.counts place.old) (P.counts place.new) }
+{
+    match readme {
+        Inheritable::Written(_) => Ok(Text::from_str(alloc, "")?),
+        Inheritable::Workspace => Ok(Text::from_str(alloc, "")?),
+        Inheritable::Absent => {
+            let readme = found_readme(place, alloc, target, folder)?;
+            Ok(readme)
+        }
+    }
+}
+
+/// Entries and then more of them.
+fn joined(first: Items<Wanted>, second: Items<Wanted>) -> Result<Items<Wanted>, AllocError>
+    ensures { IfOk result (λ made. made ≡ first ++ second) }
+{
+    let mut made = first;
+    for wanted in second.into_vec() {
+        made.push(wanted)?;
+    }
+    Ok(made)
+}
+
+/// What the entries of `[dependencies]` and then of `[build-dependencies]` ask for, up to the first fault.
+pub fn wanted_in(
+    alloc: Global,
+    at: &Standing,
+    given: &Given,
+    dependencies: &[Dependency],
+    build: &[Dependency],
+) -> Result<Items<Wanted>, LoadFault>
+    ensures told { Gives load_fault.OutOfMemory (λ wanted. wanted) result (wanted_in at.now given.now dependencies.now build.now) }
+    ensures here { IfErr result (λ e. is_failure e ≡ false) }
+{
+    let shared = given.dependencies.as_slice();
+    let normal = each_wanted(alloc, at, shared, DependencyKind::Normal, dependencies)?;
+    let for_script = each_wanted(alloc, at, shared, DependencyKind::Build, build)?;
+    let wanted = joined(normal, for_script)?;
+    Ok(wanted)
+}
+
+/// The binaries that are found, unless `autobins` is false.
+fn discovered<P: Place>(
+    place: &mut P,
+    alloc: Global,
+    target: &PathText,
+    folder: &PathText,
+    name: &Text,
+    autobins: bool,
+) -> Result<Items<Binary>, LoadFault>
+    ensures ok { IsTrue P.tells → IfOk result (λ binaries. binaries ≡ discovered folder.now (from_nothing target.now (P.world place.old)) name.now autobins) }
+    ensures same { IsTrue P.tells → P.world place.new ≡ P.world place.old }
+    ensures outside { IfErr result (λ e. is_outside e ≡ true) }
+    ensures reads { Reads result (P.counts place.old) (P.counts place.new) }
+{
+    if !autobins {
+        return Ok(Items::new(alloc));
+    }
+    let found = found_binaries(place, alloc, target, folder, name)?;
+    Ok(found)
+}
+
+/// What the targets of a package are made of.
+#[derive(Debug, Drop)]
+pub struct TargetTables {
+    /// `autobins`.
+    pub autobins: bool,
+    /// `build`.
+    pub build: Build,
+    /// `[lib]`.
+    pub library: Option<pb_manifest::Library>,
+    /// `[[bin]]`, in the manifest's order.
+    pub binaries: Items<pb_manifest::Binary>,
+}
+
+/// What a package of this name is built to: its library, its binaries and its build script, each where it is
+/// written or found (The Cargo Book, Cargo Targets and Build Scripts).
+pub fn targets_of<P: Place>(
+    place: &mut P,
+    alloc: Global,
+    target: &PathText,
+    folder: &PathText,
+    name: &Text,
+    tables: TargetTables,
+) -> Result<Targets, LoadFault>
+    requires { All (λ b. is_name b.name ≡ true) tables.binaries }
+    ensures ok { IsTrue P.tells → IfOk result (λ targets. targets ≡ targets_of folder.now (from_nothing target.now (P.world place.old)) name.now tables.autobins tables.build tables.library tables.binaries) }
+    ensures same { IsTrue P.tells → P.world place.new ≡ P.world place.old }
+    ensures outside { IfErr result (λ e. is_outside e ≡ true) }
+    ensures reads { Reads result (P.counts place.old) (P.counts place.new) }
+{
+    let library = library_of(place, alloc, target, folder, name.as_str(), tables.library)?;
+    let script = script_of(place, alloc, target, folder, &tables.build)?;
+    let found = discovered(place, alloc, target, folder, name, tables.autobins)?;
+    let written = written_binaries(place, alloc, target, folder, name, tables.binaries)?;
+    let binaries = binaries_of(alloc, found, written)?;
+    Ok(Targets {
+        library,
+        binaries,
+        script,
+    })
+}
+
+/// Whether two `[[bin]]` have one name. The one fault is want of memory.
+pub fn has_same_binaries(
+    alloc: Global,
+    binaries: &[pb_manifest::Binary],
+) -> Result<bool, AllocError>
+    ensures { IfOk result (λ answer. answer ≡ has_same_binaries binaries.now) }
+{
+    let mut seen = Mentions::new(alloc);
+    for binary in binaries {
+        if seen.contains(&binary.name) {
+            return Ok(true);
+        }
+        seen.insert(binary.name.copy(alloc)?)?;
+    }
+    Ok(false)
+}
