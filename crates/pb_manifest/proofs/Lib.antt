@@ -15,3 +15,4 @@ pub mod Tables
 pub mod Yields
 pub mod Zero
 pub mod Firsts
+pub mod Entries

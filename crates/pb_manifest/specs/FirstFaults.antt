@@ -1,17 +1,18 @@
--- Of the faults in one table the one of the lowest key is told: for each table with fixed keys, its keys in byte order, each with what its own reading tells.
+-- Of the faults in one table the one of the lowest key is told: for each table with fixed keys, its keys in byte order, each with what its own reading tells; for one whose keys the user chooses, the entry that tells it.
 use Rattle.std.specs.Prelude.{◌≡◌, List, Bool, true, ◌&&◌, [], ◌∷◌, map, Option, Some, None, Ok, Err}
 use Rattle.std.specs.Option.{option_or}
 use Rattle.std.specs.Ordering.{nat_cmp, is_lt}
 use Rattle.std.specs.Cmp.Lexicographic.{slice_cmp}
-use Rattle.toml.specs.Data.{Members}
+use Rattle.toml.specs.Data.{Data, Members, member}
 use Rattle.pb_data.specs.Gives.{◌>>=◌}
 use Rattle.pb_manifest.specs.Keys.{spelled}
-use Rattle.pb_manifest.specs.Values.{Text, Read, has, text_at, truth_at, path_at, paths_at, texts_at, listed_texts_at, takes_workspace, inheritable_text_at, inheritable_texts_at}
+use Rattle.pb_manifest.specs.Values.{Text, Read, has, each_entry, keys_of, text_at, truth_at, path_at, paths_at, texts_at, listed_texts_at, takes_workspace, inheritable_text_at, inheritable_texts_at}
 use Rattle.pb_manifest.specs.Versions.{inherited_version_at, version_at, requirement_at}
 use Rattle.pb_manifest.specs.Library.{crate_types_at, crate_name_at, proc_macro_at}
 use Rattle.pb_manifest.specs.Package.{name_at, build_at, edition_at, inherited_edition_at, readme_at, inheritable_readme_at, resolver_at}
 use Rattle.pb_manifest.specs.Dependencies.{refused_where, own_path, workspace_at, shared_dependencies_at}
 use Rattle.pb_manifest.specs.Workspace.{listed_paths_at, workspace_package_at}
+use Rattle.pb_manifest.specs.Promises.{Ascend}
 use Rattle.pb_manifest.specs.declared.fault.ManifestFault.{ManifestFault}
 use Rattle.pb_manifest.specs.declared.key.Key.{Key}
 use Rattle.pb_manifest.specs.declared.key.Key.TheVariants as key
@@ -129,3 +130,21 @@ faults_of_workspace ms =
     ∷ (key.Package, told (workspace_package_at ms))
     ∷ (key.Resolver, told (resolver_at ms))
     ∷ []
+
+-- an entry stands in a table
+pub data HasEntry (name : Text) (value : Data) : Members → Type 0 where
+  here : (ms : Members) → HasEntry name value (member name value ms)
+  further : (other : Text) (d : Data) (ms : Members) (rest : HasEntry name value ms) → HasEntry name value (member other d ms)
+
+-- an entry tells the fault, and none of a lower key tells one
+pub record IsOfLowestEntry {A : Type 0} (read : Text → Data → Read A) (ms : Members) (fault : ManifestFault) : Type 0 where
+  pub name : Text
+  pub value : Data
+  pub stands : HasEntry name value ms
+  pub tells : told (read name value) ≡ Some fault
+  pub lower : (other : Text) (d : Data) → HasEntry other d ms → is_lt (slice_cmp nat_cmp other name) ≡ true → told (read other d) ≡ None
+
+-- a table whose keys the user chooses tells the fault of its lowest bad entry, and none only where no entry tells one
+pub record TellsLowestEntry {A : Type 0} (read : Text → Data → Read A) : Type 0 where
+  pub refused : (ms : Members) (fault : ManifestFault) → Ascend (keys_of ms) → told (each_entry read ms) ≡ Some fault → IsOfLowestEntry read ms fault
+  pub taken : (ms : Members) → told (each_entry read ms) ≡ None → (name : Text) (d : Data) → HasEntry name d ms → told (read name d) ≡ None

@@ -2,14 +2,14 @@
 use Rattle.std.specs.Prelude.{◌≡◌, ◌≢◌, ◌<◌, ℕ, true, List, [], ◌∷◌, ◌++◌, if◌then◌else◌, length, codes, map, Some, None, Ok, Err}
 use Rattle.toml.specs.Data.{Data, Items, no_items, item, Members, no_members, member, same_key, members_are_sorted}
 use Rattle.pb_manifest.specs.Keys.{spelled}
-use Rattle.pb_manifest.specs.Values.{Text, Read, value_at, each}
+use Rattle.pb_manifest.specs.Values.{Text, Read, value_at, table_at, keys_of, each}
 use Rattle.pb_manifest.specs.Binaries.{binary_of}
 use Rattle.pb_manifest.specs.Document.{document_in, manifest_of, greatest_length}
 use Rattle.pb_manifest.specs.Features.{item_in}
 use Rattle.pb_manifest.specs.Letters.{is_name, underscored_byte}
 use Rattle.pb_manifest.specs.Library.{library_name}
 use Rattle.pb_manifest.specs.Package.{package_of}
-use Rattle.pb_manifest.specs.Promises.{IsItem, IsManifest}
+use Rattle.pb_manifest.specs.Promises.{Ascend, IsItem, IsManifest}
 use Rattle.pb_manifest.specs.declared.key.Key.{Key}
 use Rattle.pb_manifest.specs.declared.key.Key.TheVariants as key
 use Rattle.pb_manifest.specs.declared.fault.ManifestFault.TheVariants.{TooLarge}
@@ -38,6 +38,14 @@ PassesOver read = (name : Text) (ms : Members) → IsUnnamed name → read (with
 -- the keys of each table of a document ascend
 abbrev pub OrdersTables : Type 0
 OrdersTables = (bytes : List ℕ) (ms : Members) → document_in bytes ≡ Ok ms → members_are_sorted ms ≡ true
+
+-- so do those of the table at a key
+abbrev pub OrdersInnerTables : Type 0
+OrdersInnerTables = (k : Key) (ms inner : Members) → members_are_sorted ms ≡ true → table_at k ms ≡ Ok (Some inner) → members_are_sorted inner ≡ true
+
+-- where they ascend, each stands before all that come after it
+abbrev pub OrdersKeys : Type 0
+OrdersKeys = (ms : Members) → members_are_sorted ms ≡ true → Ascend (keys_of ms)
 
 -- a manifest over the size is refused, whatever it says
 abbrev pub RefusesLarge : Type 0

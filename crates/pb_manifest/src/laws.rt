@@ -3,16 +3,18 @@
 
 ghost use Rattle.std.specs.Prelude.{◌≡◌, ◌<◌, ℕ, List};
 ghost use Rattle.pb_manifest.specs.Binaries.{binary_keys};
-ghost use Rattle.pb_manifest.specs.Dependencies.{dependency_keys, shared_dependency_keys};
+ghost use Rattle.pb_manifest.specs.Dependencies.{dependency_keys, dependency_of, shared_dependency_keys, shared_dependency_of};
 ghost use Rattle.pb_manifest.specs.Document.{document_of};
-ghost use Rattle.pb_manifest.specs.Laws.{OrdersTables, SpellsItems, ReadsSpellings, KeepsPromises, PassesOver, RefusesLarge, NamesPackages, DefaultEdition, DefaultVersion, DefaultLibraryName, KeepsOrder};
-ghost use Rattle.pb_manifest.specs.FirstFaults.{TellsLowest, faults_of_package, faults_of_library, faults_of_binary, faults_of_dependency, faults_of_shared_dependency, faults_of_inherited, faults_of_workspace};
+ghost use Rattle.pb_manifest.specs.Laws.{OrdersTables, OrdersInnerTables, OrdersKeys, SpellsItems, ReadsSpellings, KeepsPromises, PassesOver, RefusesLarge, NamesPackages, DefaultEdition, DefaultVersion, DefaultLibraryName, KeepsOrder};
+ghost use Rattle.pb_manifest.specs.FirstFaults.{TellsLowest, TellsLowestEntry, faults_of_package, faults_of_library, faults_of_binary, faults_of_dependency, faults_of_shared_dependency, faults_of_inherited, faults_of_workspace};
+ghost use Rattle.pb_manifest.specs.Features.{feature_of};
 ghost use Rattle.pb_manifest.specs.Library.{library_of};
 ghost use Rattle.pb_manifest.specs.OwnKeys.{LooksAt, of_package, of_library, of_binary, of_dependency, of_settings, of_profile, of_workspace, of_inherited, of_document};
 ghost use Rattle.pb_manifest.specs.Package.{package_of};
-ghost use Rattle.pb_manifest.specs.Profiles.{profile_keys, profile_of_table};
+ghost use Rattle.pb_manifest.specs.Profiles.{override_of, profile_keys, profile_of, profile_of_table};
 ghost use Rattle.pb_manifest.specs.Values.{Text};
 ghost use Rattle.pb_manifest.specs.Workspace.{workspace_of, workspace_package_of};
+ghost use Rattle.pb_manifest.specs.declared.key.Key.{Key};
 
 /// In each table with fixed keys, a key that no rule names never changes the answer (The Cargo
 /// Book, Manifest Format: unused keys are warned of, and no more).
@@ -50,9 +52,11 @@ pub fn large_manifests_are_refused()
 {}
 
 /// The keys of each table of a document that `toml` reads ascend in byte order, so each stands there
-/// once.
+/// once: of the document itself, and of the table at a key of a table.
 pub fn documents_are_in_order()
-    ensures { OrdersTables }
+    ensures document { OrdersTables }
+    ensures tables { OrdersInnerTables }
+    ensures keys { OrdersKeys }
 {}
 
 /// Each manifest that was read keeps the promises of `specs/Promises.antt`: names have their letters,
@@ -100,6 +104,9 @@ pub fn binaries_keep_their_order()
 /// Of the faults in a table with fixed keys the one of the lowest key, in byte order, is told: `[package]`,
 /// `[lib]`, a `[[bin]]`, an entry of dependencies, one of `[workspace.dependencies]`, `[workspace.package]`
 /// and `[workspace]`. In `[profile]` all faults are one.
+///
+/// Of the bad entries of a table whose keys the user chooses, in byte order of the keys as each table of a
+/// document is, the one of the lowest key is told.
 pub fn lowest_faults_are_told()
     ensures package_table { TellsLowest faults_of_package package_of }
     ensures library { TellsLowest faults_of_library library_of }
@@ -108,4 +115,9 @@ pub fn lowest_faults_are_told()
     ensures shared_dependency { (name : Text) → TellsLowest faults_of_shared_dependency (shared_dependency_keys name) }
     ensures inherited { TellsLowest faults_of_inherited workspace_package_of }
     ensures workspace { TellsLowest faults_of_workspace workspace_of }
+    ensures dependencies { (k : Key) → TellsLowestEntry (dependency_of k) }
+    ensures shared_dependencies { TellsLowestEntry shared_dependency_of }
+    ensures features { TellsLowestEntry feature_of }
+    ensures overrides { TellsLowestEntry override_of }
+    ensures profiles { TellsLowestEntry profile_of }
 {}

@@ -1,4 +1,5 @@
 pub mod Merged
 pub mod Walks
 pub mod Lines
+pub mod Rings
 pub mod Found

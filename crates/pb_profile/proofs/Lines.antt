@@ -7,7 +7,12 @@ use Rattle.pb_manifest.specs.declared.profile.Profile.{Profile}
 use Rattle.pb_profile.specs.declared.fault.ProfileFault.{ProfileFault}
 use Rattle.pb_profile.specs.declared.fault.ProfileFault.TheVariants.{NoSuchProfile, InheritsCycle}
 use Rattle.pb_profile.specs.Line.{Seen, seen_at, parent_of, custom_parent, inherited, is_either, above, then_above, line_within}
-use Rattle.pb_profile.specs.Laws.{InheritsFrom, IsLine, last, further, itself, higher, IsMissing, GoesOn, here, step}
+use Rattle.pb_profile.specs.Laws.{InheritsFrom, IsLine, last, further, itself, higher, IsMissing}
+
+-- the line goes on for so many steps
+pub data GoesOn (profiles : List Profile) : ℕ → Seen → Type 0 where
+  here : (s : Seen) → GoesOn profiles zero s
+  step : (n : ℕ) (s t : Seen) (inherits : InheritsFrom profiles s t) (more : GoesOn profiles n t) → GoesOn profiles (suc n) s
 
 -- a value is no fault
 differs : {A E : Type 0} (x : A) (f : E) → Ok x ≡ Err f → ⊥

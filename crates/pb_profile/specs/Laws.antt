@@ -1,5 +1,5 @@
 -- What the line of a profile is, in the words of The Cargo Book: profiles of which each inherits from the next.
-use Rattle.std.specs.Prelude.{◌≡◌, ℕ, zero, suc, ◌+◌, List, [], ◌∷◌, length, Some, None, Ok, Err, IsSome}
+use Rattle.std.specs.Prelude.{◌≡◌, ℕ, List, [], ◌∷◌, Some, None, Ok, Err, IsSome}
 use Rattle.pb_manifest.specs.declared.profile.Profile.{Profile}
 use Rattle.pb_workspace.specs.declared.package.Package.{Package}
 use Rattle.pb_workspace.specs.declared.package.Side.{Side}
@@ -21,11 +21,6 @@ pub data IsAncestor (profiles : List Profile) : Seen → Seen → Type 0 where
   itself : (s : Seen) → IsAncestor profiles s s
   higher : (s t u : Seen) (inherits : InheritsFrom profiles s t) (more : IsAncestor profiles t u) → IsAncestor profiles s u
 
--- the line goes on for so many steps
-pub data GoesOn (profiles : List Profile) : ℕ → Seen → Type 0 where
-  here : (s : Seen) → GoesOn profiles zero s
-  step : (n : ℕ) (s t : Seen) (inherits : InheritsFrom profiles s t) (more : GoesOn profiles n t) → GoesOn profiles (suc n) s
-
 -- what is given as a line is one
 abbrev pub GivesLines : Type 0
 GivesLines = (profiles : List Profile) (name : List ℕ) (line : List Seen) → line_of profiles name ≡ Ok line → IsLine profiles (seen_at profiles name) line
@@ -39,9 +34,17 @@ pub record IsMissing (profiles : List Profile) (from : Seen) : Type 0 where
 abbrev pub TellsMissing : Type 0
 TellsMissing = (profiles : List Profile) (name : List ℕ) → line_of profiles name ≡ Err NoSuchProfile → IsMissing profiles (seen_at profiles name)
 
--- a cycle is told only where the line goes on for more steps than there are profiles, written and built in, to leave: so it comes back to one of them
+-- the line of a profile comes back: one of it inherits, in one step or more, from itself
+pub record ComesBack (profiles : List Profile) (from : Seen) : Type 0 where
+  pub profile : Seen
+  pub ancestor : IsAncestor profiles from profile
+  pub next : Seen
+  pub inherits : InheritsFrom profiles profile next
+  pub back : IsAncestor profiles next profile
+
+-- a cycle is told only where the line comes back
 abbrev pub TellsCycles : Type 0
-TellsCycles = (profiles : List Profile) (name : List ℕ) → line_of profiles name ≡ Err InheritsCycle → GoesOn profiles (length profiles + 2) (seen_at profiles name)
+TellsCycles = (profiles : List Profile) (name : List ℕ) → line_of profiles name ≡ Err InheritsCycle → ComesBack profiles (seen_at profiles name)
 
 -- each of the nine keys has a value at some place, whatever the profiles write
 pub record AllAreFound (p : Package) (role : Side) (line : List Seen) : Type 0 where

@@ -3,8 +3,8 @@
 ghost use Rattle.pb_profile.specs.Laws.{GivesLines, TellsMissing, TellsCycles, FindsValues};
 
 /// What is given as the line of a profile is one: each inherits from the next, and the last from none. A
-/// profile is told as missing only where one of its line is, and a cycle only where the line goes on for
-/// more steps than there are profiles.
+/// profile is told as missing only where one of its line is, and a cycle only where one of its line
+/// inherits, in one step or more, from itself.
 pub fn lines_follow_inherits()
     ensures lines { GivesLines }
     ensures missing { TellsMissing }

@@ -1,6 +1,10 @@
 use Rattle.std.proofs.Common.{refl}
 use Rattle.pb_manifest.specs.Keys.{spelled}
 use Rattle.pb_manifest.proofs.Firsts.{package_first, library_first, binary_first, dependency_first, shared_dependency_first, inherited_first, workspace_first}
+use Rattle.pb_manifest.specs.Dependencies.{dependency_of, shared_dependency_of}
+use Rattle.pb_manifest.specs.Features.{feature_of}
+use Rattle.pb_manifest.specs.Profiles.{override_of, profile_of}
+use Rattle.pb_manifest.proofs.Entries.{lowest_entry}
 use Rattle.pb_manifest.proofs.laws.lowest_faults_are_told.Goals as goal
 
 pub returns-clause-package_table : goal.returns-clause-package_table
@@ -30,3 +34,18 @@ returns-clause-workspace c = record { order = λ ms. refl; first = workspace_fir
 pub returns-clause-shared_dependency : goal.returns-clause-shared_dependency
 unfolding spelled
 returns-clause-shared_dependency c name = record { order = λ ms. refl; first = shared_dependency_first name }
+
+pub returns-clause-dependencies : goal.returns-clause-dependencies
+returns-clause-dependencies c k = lowest_entry (dependency_of k)
+
+pub returns-clause-shared_dependencies : goal.returns-clause-shared_dependencies
+returns-clause-shared_dependencies c = lowest_entry shared_dependency_of
+
+pub returns-clause-features : goal.returns-clause-features
+returns-clause-features c = lowest_entry feature_of
+
+pub returns-clause-overrides : goal.returns-clause-overrides
+returns-clause-overrides c = lowest_entry override_of
+
+pub returns-clause-profiles : goal.returns-clause-profiles
+returns-clause-profiles c = lowest_entry profile_of
