@@ -5,4 +5,6 @@
 #[cfg(test)]
 mod cases;
 #[cfg(test)]
+mod places;
+#[cfg(test)]
 mod settings;

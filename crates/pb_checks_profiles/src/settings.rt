@@ -1,6 +1,7 @@
 //! Settings of packages under profiles, by a table of manifests with questions and answers.
 
 use crate::cases::CASES;
+use crate::places::PLACES;
 use pb_data::{Items, Text};
 use pb_manifest::{Edition, Version, read_manifest};
 use pb_place::PathText;
@@ -131,15 +132,21 @@ fn ask_all(rt: &impl Abort, alloc: Global, manifest: &str, questions: &str) -> R
     Ok(count)
 }
 
-#[test]
-fn settings(rt: HostRuntime) -> Result<(), Fail> {
+/// Asks all questions of a table. How many there were.
+fn ask_table(rt: &impl Abort, alloc: Global, table: &str) -> Result<usize, Fail> {
     let mut count = 0usize;
-    for case in CASES.split("=== ") {
+    for case in table.split("=== ") {
         if let Some((manifest, questions)) = case.split_once("---\n") {
-            count = count.saturating_add(ask_all(&rt, rt.alloc(), manifest, questions)?);
+            count = count.saturating_add(ask_all(rt, alloc, manifest, questions)?);
         }
     }
-    assert!(rt; count >= 60);
+    Ok(count)
+}
+
+#[test]
+fn settings(rt: HostRuntime) -> Result<(), Fail> {
+    assert!(rt; ask_table(&rt, rt.alloc(), CASES)? >= 60);
+    assert!(rt; ask_table(&rt, rt.alloc(), PLACES)? >= 55);
     lines_follow_inherits();
     values_are_found();
     Ok(())

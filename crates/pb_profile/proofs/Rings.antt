@@ -1,39 +1,39 @@
 -- A line that has no end comes back to where it was: there are more steps than profiles to leave.
-use Rattle.std.proofs.Common.{◌≡◌, ℕ, zero, suc, ◌+◌, ◌≤◌, Bool, true, false, ◌||◌, List, [], ◌∷◌, Option, Some, None, Result, Ok, Err, refl, sym, ◌∙◌, ap, subst, codes, if◌then◌else◌, length, map, arith}
-use Rattle.std.specs.Prelude.{◌⊎◌, inl, inr, ⊥}
-use Rattle.std.specs.List.{IsDistinct, AllByRecursion, list_any, find}
+use Rattle.std.proofs.Common.{◌≡◌, ◌⊎◌, inl, inr, ℕ, zero, suc, ◌≤◌, Bool, true, false, ◌||◌, List, [], ◌∷◌, Option, Some, None, Result, Ok, Err, refl, sym, ◌∙◌, ap, subst, codes, if◌then◌else◌, length, map, arith}
+use Rattle.std.specs.List.{IsDistinct, AllByRecursion, list_any}
 use Rattle.std.specs.Option.{option_map}
 use Rattle.std.specs.Set.{is_member}
 use Rattle.std.specs.Str.{bytes_eq}
 use Rattle.std.proofs.lemmas.Bool.{false≢true}
 use Rattle.std.proofs.lemmas.Cmp.{nat_list_eq_equiv}
-use Rattle.std.proofs.lemmas.Map.Keys.{IsDistinct-cons}
 use Rattle.std.proofs.lemmas.List.{length-map}
 use Rattle.std.proofs.lemmas.Map.Made.{length-le_from_is_member}
+use Rattle.std.proofs.lemmas.Option.{none-some}
 use Rattle.std.proofs.lemmas.Slice.Eq.{bytes_eq-Decides}
 use Rattle.pb_data.specs.Gives.{◌>>=◌}
 use Rattle.pb_manifest.specs.declared.profile.Profile.{Profile}
 use Rattle.pb_profile.specs.declared.fault.ProfileFault.{ProfileFault}
 use Rattle.pb_profile.specs.Line.{Seen, seen_at, named, parent_of, custom_parent, is_either, above}
 use Rattle.pb_profile.specs.Laws.{InheritsFrom, IsAncestor, itself, higher, ComesBack}
-use Rattle.pb_profile.proofs.Lines.{GoesOn, here, step}
+use Rattle.pb_profile.proofs.Lines.{GoesOn, step}
 
 -- the names of the written profiles
-names_of : List Profile → List (List ℕ)
+abbrev names_of : List Profile → List (List ℕ)
 names_of ps = map (λ (p : Profile). p.name) ps
+
+or_second : (a b : Bool) → b ≡ true → (a || b) ≡ true
+or_second true b is = refl
+or_second false b is = is
 
 -- a profile that is found has its name among the names
 is_named : (ps : List Profile) (name : List ℕ) (x : Profile) → named ps name ≡ Some x → is_member bytes_eq (names_of ps) name ≡ true
-is_named [] name x e = cc
+is_named [] name x e = absurd (none-some x e)
 is_named (p ∷ ps) name x e = by (bytes_eq p.name name) refl (λ q. is_named ps name x q) e
   where
     by : (r : Bool) → bytes_eq p.name name ≡ r → (named ps name ≡ Some x → is_member bytes_eq (names_of ps) name ≡ true)
         → (if r then Some p else named ps name) ≡ Some x → (bytes_eq name p.name || is_member bytes_eq (names_of ps) name) ≡ true
     by true same rest q = rw ((bytes_eq-Decides name p.name).1 (sym ((bytes_eq-Decides p.name name).0 same))) refl
     by false other rest q = or_second (bytes_eq name p.name) (is_member bytes_eq (names_of ps) name) (rest q)
-    or_second : (a b : Bool) → b ≡ true → (a || b) ≡ true
-    or_second true b is = refl
-    or_second false b is = is
 
 module _ (ps : List Profile) where
   -- what a profile inherits from is looked up by its name
@@ -46,11 +46,17 @@ module _ (ps : List Profile) where
   looked_up_at s t inherits = parent_shown t (parent_of s) inherits
 
   -- nothing stands above `dev`
-  ends_at_dev : (t u : Seen) → Ok (Some (seen_at ps (codes "dev"))) ≡ Ok (Some t) → InheritsFrom ps t u → ⊥
-  ends_at_dev t u is above_it = cc
+  no_more : (s t : Seen) → above ps s ≡ Ok None → InheritsFrom ps s t → ⊥
+  no_more s t ends inherits = cc
 
-  ends_at_release : (t u : Seen) → Ok (Some (seen_at ps (codes "release"))) ≡ Ok (Some t) → InheritsFrom ps t u → ⊥
-  ends_at_release t u is above_it = cc
+  one_of : (s t : Seen) (made : Result (Option Seen) ProfileFault) → made ≡ Ok (Some s) → made ≡ Ok (Some t) → s ≡ t
+  one_of s t made is was = cc
+
+  ends_at_dev : (t u : Seen) (made : Result (Option Seen) ProfileFault) → made ≡ Ok (Some (seen_at ps (codes "dev"))) → made ≡ Ok (Some t) → InheritsFrom ps t u → ⊥
+  ends_at_dev t u made is was inherits = no_more (seen_at ps (codes "dev")) u refl (subst (λ x. InheritsFrom ps x u) (sym (one_of (seen_at ps (codes "dev")) t made is was)) inherits)
+
+  ends_at_release : (t u : Seen) (made : Result (Option Seen) ProfileFault) → made ≡ Ok (Some (seen_at ps (codes "release"))) → made ≡ Ok (Some t) → InheritsFrom ps t u → ⊥
+  ends_at_release t u made is was inherits = no_more (seen_at ps (codes "release")) u refl (subst (λ x. InheritsFrom ps x u) (sym (one_of (seen_at ps (codes "release")) t made is was)) inherits)
 
   has_table : (s : Seen) (t : Seen) (table : Option Profile) → named ps s.name ≡ table → (custom_parent table >>= (λ parent. Ok (option_map (seen_at ps) parent))) ≡ Ok (Some t) → is_member bytes_eq (names_of ps) s.name ≡ true
   has_table s t None is e = cc
@@ -61,8 +67,8 @@ module _ (ps : List Profile) where
       → ((if a then Ok None else (if b then Ok (Some (codes "dev")) else (if c then Ok (Some (codes "release")) else custom_parent s.table))) >>= (λ parent. Ok (option_map (seen_at ps) parent))) ≡ Ok (Some t)
       → InheritsFrom ps t u → is_member bytes_eq (names_of ps) s.name ≡ true
   choice_written s t u true b c is e more = cc
-  choice_written s t u false true c is e more = absurd (ends_at_dev t u e more)
-  choice_written s t u false false true is e more = absurd (ends_at_release t u e more)
+  choice_written s t u false true c is e more = absurd (ends_at_dev t u _ refl e more)
+  choice_written s t u false false true is e more = absurd (ends_at_release t u _ refl e more)
   choice_written s t u false false false is e more = has_table s t s.table (sym (ap (λ (x : Seen). x.table) is)) e
 
   is_written : (s t u : Seen) → s ≡ seen_at ps s.name → InheritsFrom ps s t → InheritsFrom ps t u → is_member bytes_eq (names_of ps) s.name ≡ true
@@ -70,7 +76,7 @@ module _ (ps : List Profile) where
       choice_written s t u (is_either (codes "dev") (codes "release") s.name) (bytes_eq s.name (codes "test")) (bytes_eq s.name (codes "bench")) is inherits more
 
   -- the names that a line leaves, but for the last
-  left : (n : ℕ) (s : Seen) → GoesOn ps (suc n) s → List (List ℕ)
+  abbrev left : (n : ℕ) (s : Seen) → GoesOn ps (suc n) s → List (List ℕ)
   left zero s on = []
   left (suc n) s (step _ _ t inherits more) = s.name ∷ left n t more
 
@@ -129,7 +135,7 @@ module _ (ps : List Profile) where
   ]
 
   too_many : (n : ℕ) (names : List (List ℕ)) → length names ≡ suc n → length names ≤ n → ⊥
-  too_many n names is le = arith
+  too_many n names is le = omega arith
 
   -- more steps than profiles: the line comes back
   pub comes_back : (s : Seen) → s ≡ seen_at ps s.name → GoesOn ps (suc (suc (length ps))) s → ComesBack ps s

@@ -6,7 +6,7 @@ use Rattle.pb_profile.proofs.Rings.{comes_back}
 use Rattle.pb_profile.proofs.laws.lines_follow_inherits.Goals as goal
 
 more_by_two : (ps : List Profile) (s : Seen) → GoesOn ps (length ps + 2) s → GoesOn ps (suc (suc (length ps))) s
-more_by_two ps s on = let e : length ps + 2 ≡ suc (suc (length ps)) = arith in subst (λ n. GoesOn ps n s) e on
+more_by_two ps s on = let e : length ps + 2 ≡ suc (suc (length ps)) = omega arith in subst (λ n. GoesOn ps n s) e on
 
 pub returns : goal.returns
 returns c = record {
