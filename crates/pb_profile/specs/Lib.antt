@@ -3,3 +3,4 @@ pub mod Settings
 pub mod Merging
 pub mod Walking
 pub mod Laws
+pub mod Words

@@ -7,8 +7,10 @@ pub mod keys;
 pub mod laws;
 pub mod line;
 pub mod settings;
+pub mod words;
 
 pub use fault::ProfileFault;
 pub use laws::{lines_follow_inherits, values_are_found};
 pub use line::{Ancestor, folder_of, line_of};
 pub use settings::{Settings, settings_along};
+pub use words::opt_level_text;

@@ -1,0 +1,35 @@
+-- The diagnostics of a compiler (The Cargo Book, External Tools): the lines of its standard error that read as JSON objects, byte for byte.
+use Rattle.std.specs.Prelude.{ℕ, Bool, true, false, if◌then◌else◌, List, [], ◌∷◌, ◌++◌, Option, Some, None}
+use Rattle.serde_json.specs.Data as json
+use Rattle.serde_json.specs.Read.{read}
+use Rattle.pb_directive.specs.Lines.{lines_of, trimmed, text_of}
+
+abbrev pub is_object : json.Data → Bool
+is_object (json.object _) = true
+is_object _ = false
+
+abbrev pub reads_as_object : Option json.Data → Bool
+reads_as_object None = false
+reads_as_object (Some d) = is_object d
+
+-- a text, where it reads as a JSON object
+abbrev pub object_text : Option (List ℕ) → Option (List ℕ)
+object_text None = None
+object_text (Some text) = if reads_as_object (read text) then Some text else None
+
+-- the diagnostic in a line: without the blanks at its ends
+abbrev pub diagnostic_in : List ℕ → Option (List ℕ)
+diagnostic_in line = object_text (text_of (trimmed line))
+
+abbrev pub and_more : Option (List ℕ) → List (List ℕ) → List (List ℕ)
+and_more None texts = texts
+and_more (Some text) texts = text ∷ texts
+
+-- those of lines, in their order
+abbrev pub diagnostics_in : List (List ℕ) → List (List ℕ)
+diagnostics_in [] = []
+diagnostics_in (line ∷ lines) = and_more (diagnostic_in line) (diagnostics_in lines)
+
+-- the diagnostics of a standard error
+abbrev pub diagnostics_of : List ℕ → List (List ℕ)
+diagnostics_of stderr = diagnostics_in (lines_of stderr)

@@ -1,0 +1,28 @@
+-- Values in JSON, with no spaces outside strings.
+use Rattle.std.specs.Prelude.{ℕ, Bool, true, false, codes, List, [], ◌∷◌, ◌++◌, map}
+use Rattle.pb_json.specs.Json.{json_string}
+
+abbrev pub truth_text : Bool → List ℕ
+truth_text true = codes "true"
+truth_text false = codes "false"
+
+-- texts with a comma before each
+abbrev pub after_commas : List (List ℕ) → List ℕ
+after_commas [] = []
+after_commas (x ∷ xs) = 44 ∷ x ++ after_commas xs
+
+-- values in brackets, with a comma between each and the next
+abbrev pub listed : List (List ℕ) → List ℕ
+listed [] = codes "[]"
+listed (x ∷ xs) = 91 ∷ x ++ after_commas xs ++ codes "]"
+
+-- a list of strings
+abbrev pub json_texts : List (List ℕ) → List ℕ
+json_texts texts = listed (map json_string texts)
+
+-- `["NAME","VALUE"]`
+abbrev pub json_pair : List ℕ × List ℕ → List ℕ
+json_pair pair = 91 ∷ json_string pair.0 ++ 44 ∷ json_string pair.1 ++ codes "]"
+
+abbrev pub json_pairs : List (List ℕ × List ℕ) → List ℕ
+json_pairs pairs = listed (map json_pair pairs)

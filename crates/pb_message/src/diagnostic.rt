@@ -1,0 +1,67 @@
+//! The diagnostics of a compiler.
+
+ghost use Rattle.std.specs.Prelude.{◌≡◌, ◌++◌, [], IfOk, OnOk};
+ghost use Rattle.std.specs.Option.{option_map};
+ghost use Rattle.serde_json.specs.Read.{read};
+ghost use Rattle.pb_message.specs.Diagnostics.{reads_as_object, diagnostic_in, and_more, diagnostics_of};
+
+use pb_data::{Items, Text};
+use pb_directive::lines::{lines_of, trimmed};
+use pb_directive::texts::text_of;
+use serde_json::Value;
+use std::alloc::{AllocError, Global};
+
+/// Whether a text reads as a JSON object.
+fn reads_as_object(alloc: Global, text: &str) -> Result<bool, AllocError>
+    ensures { IfOk result (λ answer. answer ≡ reads_as_object (read text.now)) }
+{
+    match Value::from_str(alloc, text) {
+        Ok(value) => Ok(value.is_object()),
+        Err(fault) => {
+            if fault.is_memory() {
+                Err(AllocError)
+            } else {
+                Ok(false)
+            }
+        }
+    }
+}
+
+/// A line of standard error as a diagnostic, or none where it reads as no JSON object.
+fn diagnostic_in(alloc: Global, line: &[u8]) -> Result<Option<&str>, AllocError>
+    ensures { IfOk result (λ found. option_map (λ text. text.now) found ≡ diagnostic_in line.now) }
+{
+    match text_of(trimmed(line)) {
+        Some(text) => {
+            if reads_as_object(alloc, text)? {
+                Ok(Some(text))
+            } else {
+                Ok(None)
+            }
+        }
+        None => Ok(None),
+    }
+}
+
+/// Adds the diagnostic in a line, if there is one.
+fn add_diagnostic(alloc: Global, found: &mut Items<Text>, line: &[u8]) -> Result<(), AllocError>
+    ensures { OnOk result (found.new ≡ found.old ++ and_more (diagnostic_in line.now) []) }
+{
+    if let Some(text) = diagnostic_in(alloc, line)? {
+        found.push(Text::from_str(alloc, text)?)?;
+    }
+    Ok(())
+}
+
+/// The diagnostics of a compiler: the lines of its standard error that read as JSON objects, each byte for
+/// byte but for spaces, tabs and carriage returns at its ends, which are taken away (The Cargo Book,
+/// External Tools). Other lines are dropped. The one fault is want of memory.
+pub fn diagnostics(alloc: Global, stderr: &[u8]) -> Result<Items<Text>, AllocError>
+    ensures { IfOk result (λ found. found ≡ diagnostics_of stderr.now) }
+{
+    let mut found = Items::new(alloc);
+    for line in lines_of(stderr) {
+        add_diagnostic(alloc, &mut found, line)?;
+    }
+    Ok(found)
+}
