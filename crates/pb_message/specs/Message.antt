@@ -43,12 +43,16 @@ abbrev pub target_text : Target → List ℕ
 target_text t = target_object (json_texts t.kinds) (json_texts t.crate_types) (json_string t.name) (json_string t.source) (json_string (edition_text t.edition)) (required_text t.required_features)
 
 -- the package of a line
-abbrev pub id_text : Subject → List ℕ
+unfoldable pub id_text : Subject → List ℕ
 id_text s = concat (codes "\"package_id\":" ∷ json_string (package_id s) ∷ [])
+
+-- the package, a manifest and a target in JSON
+unfoldable pub subject_object : List ℕ → List ℕ → List ℕ → List ℕ
+subject_object id manifest target = concat (id ∷ codes ",\"manifest_path\":" ∷ manifest ∷ codes ",\"target\":" ∷ target ∷ [])
 
 -- what the lines of a compiled unit begin with, after their reason
 abbrev pub subject_text : Subject → List ℕ
-subject_text s = concat (id_text s ∷ codes ",\"manifest_path\":" ∷ json_string s.manifest ∷ codes ",\"target\":" ∷ target_text s.target ∷ [])
+subject_text s = subject_object (id_text s) (json_string s.manifest) (target_text s.target)
 
 -- what is kept for debuggers: a number, or a name as a string
 abbrev pub debug_info_json : DebugInfo → List ℕ
@@ -87,9 +91,13 @@ abbrev pub level_text : Level → List ℕ
 level_text Warning = codes "warning"
 level_text Error = codes "error"
 
+-- a line of a level and of a text in JSON
+unfoldable pub note_object : List ℕ → List ℕ → List ℕ → List ℕ
+note_object id level text = concat (codes "{\"reason\":\"build-script-note\"," ∷ id ∷ codes ",\"level\":\"" ∷ level ∷ codes "\",\"text\":" ∷ text ∷ codes "}\n" ∷ [])
+
 -- what a script tells its user
 abbrev pub note_line : List ℕ → Level → List ℕ → List ℕ
-note_line id level text = concat (codes "{\"reason\":\"build-script-note\"," ∷ id ∷ codes ",\"level\":\"" ∷ level_text level ∷ codes "\",\"text\":" ∷ json_string text ∷ codes "}\n" ∷ [])
+note_line id level text = note_object id (level_text level) (json_string text)
 
 -- a line of these values in JSON
 unfoldable pub executed_object : List ℕ → List ℕ → List ℕ → List ℕ → List ℕ → List ℕ → List ℕ
@@ -108,14 +116,18 @@ line_from id subject fresh (message.CompilerArtifact artifact) = artifact_line s
 line_from id subject fresh (message.BuildScriptNote level text) = note_line id level text
 line_from id subject fresh (message.BuildScriptExecuted executed) = executed_line id executed
 
--- the line of a message
+-- the lines of messages, one after another
+abbrev pub lines_from : List ℕ → List ℕ → Bool → List Message → List ℕ
+lines_from id subject fresh [] = []
+lines_from id subject fresh (m ∷ ms) = line_from id subject fresh m ++ lines_from id subject fresh ms
+
+-- the line of a message of this subject
 abbrev pub line_of : Subject → Bool → Message → List ℕ
 line_of s fresh m = line_from (id_text s) (subject_text s) fresh m
 
--- the lines of messages, one after another
+-- the lines of messages of this subject
 abbrev pub lines_of : Subject → Bool → List Message → List ℕ
-lines_of s fresh [] = []
-lines_of s fresh (m ∷ ms) = line_of s fresh m ++ lines_of s fresh ms
+lines_of s fresh ms = lines_from (id_text s) (subject_text s) fresh ms
 
 -- the last line of a build
 abbrev pub finish_line : Bool → List ℕ

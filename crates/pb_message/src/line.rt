@@ -2,7 +2,7 @@
 
 ghost use Rattle.std.specs.Prelude.{◌≡◌, ◌++◌, ◌∷◌, Bool, IfOk, OnOk, map, string_bytes, codes, nat_eq};
 ghost use Rattle.std.specs.List.{ends_with};
-ghost use Rattle.pb_message.specs.Message.{package_id, required_list, required_text, target_object, target_text, id_text, subject_text, debug_info_json, profile_text, executable_text, diagnostic_line, artifact_object, artifact_line, level_text, note_line, executed_object, executed_line, line_from, line_of, lines_of, finish_line};
+ghost use Rattle.pb_message.specs.Message.{package_id, required_list, required_text, target_object, target_text, id_text, subject_object, subject_text, debug_info_json, profile_text, executable_text, diagnostic_line, artifact_object, artifact_line, level_text, note_object, note_line, executed_object, executed_line, line_from, lines_from, line_of, lines_of, finish_line};
 
 use crate::json::{joined, json_pairs, json_texts, push_all, truth_text};
 use crate::message::{Artifact, Executed, Level, Message};
@@ -37,6 +37,7 @@ fn package_id(alloc: Global, subject: &Subject) -> Result<String, AllocError>
 }
 
 /// The package of a line.
+#[tactic(auto, unfolding(crate::specs::Message::id_text))]
 fn id_text(alloc: Global, subject: &Subject) -> Result<String, AllocError>
     ensures { IfOk result (λ text. string_bytes text ≡ id_text subject.now) }
 {
@@ -117,6 +118,22 @@ fn target_text(alloc: Global, target: &Target) -> Result<String, AllocError>
     )
 }
 
+/// What the lines of a compiled unit begin with, from its package and, in JSON, its manifest and target.
+#[tactic(auto, unfolding(crate::specs::Message::subject_object))]
+fn subject_object(
+    alloc: Global,
+    id: &str,
+    manifest: &str,
+    target: &str,
+) -> Result<String, AllocError>
+    ensures { IfOk result (λ text. string_bytes text ≡ subject_object id.now manifest.now target.now) }
+{
+    joined(
+        alloc,
+        &[id, ",\"manifest_path\":", manifest, ",\"target\":", target],
+    )
+}
+
 /// What the lines of a compiled unit begin with, after their reason.
 fn subject_text(alloc: Global, subject: &Subject) -> Result<String, AllocError>
     ensures { IfOk result (λ text. string_bytes text ≡ subject_text subject.now) }
@@ -124,16 +141,7 @@ fn subject_text(alloc: Global, subject: &Subject) -> Result<String, AllocError>
     let id = id_text(alloc, subject)?;
     let manifest = json_string(alloc, subject.manifest.as_str())?;
     let target = target_text(alloc, &subject.target)?;
-    joined(
-        alloc,
-        &[
-            id.as_str(),
-            ",\"manifest_path\":",
-            manifest.as_str(),
-            ",\"target\":",
-            target.as_str(),
-        ],
-    )
+    subject_object(alloc, id.as_str(), manifest.as_str(), target.as_str())
 }
 
 /// What is kept for debuggers in JSON: a number, or a name as a string.
@@ -264,6 +272,30 @@ fn level_text(level: Level) -> &'static str
     }
 }
 
+/// Adds the line of a note, of its level and its text in JSON.
+#[tactic(auto, unfolding(crate::specs::Message::note_object))]
+fn push_note_object(
+    out: &mut String,
+    id: &str,
+    level: &str,
+    text: &str,
+) -> Result<(), AllocError>
+    ensures { OnOk result (string_bytes out.new ≡ string_bytes out.old ++ note_object id.now level.now text.now) }
+{
+    push_all(
+        out,
+        &[
+            "{\"reason\":\"build-script-note\",",
+            id,
+            ",\"level\":\"",
+            level,
+            "\",\"text\":",
+            text,
+            "}\n",
+        ],
+    )
+}
+
 /// Adds the line of a note.
 fn push_note(
     alloc: Global,
@@ -274,19 +306,8 @@ fn push_note(
 ) -> Result<(), AllocError>
     ensures { OnOk result (string_bytes out.new ≡ string_bytes out.old ++ note_line id.now level text.now) }
 {
-    let text = json_string(alloc, text)?;
-    push_all(
-        out,
-        &[
-            "{\"reason\":\"build-script-note\",",
-            id,
-            ",\"level\":\"",
-            level_text(level),
-            "\",\"text\":",
-            text.as_str(),
-            "}\n",
-        ],
-    )
+    let json = json_string(alloc, text)?;
+    push_note_object(out, id, level_text(level), json.as_str())
 }
 
 /// Adds the line of what a script gave, of these values in JSON.
@@ -366,6 +387,23 @@ fn push_line(
     }
 }
 
+/// Adds the lines of messages, from what the lines of their unit begin with.
+fn push_lines(
+    alloc: Global,
+    out: &mut String,
+    id: &str,
+    subject: &str,
+    fresh: bool,
+    messages: &[Message],
+) -> Result<(), AllocError>
+    ensures { OnOk result (string_bytes out.new ≡ string_bytes out.old ++ lines_from id.now subject.now fresh messages.now) }
+{
+    for message in messages {
+        push_line(alloc, out, id, subject, fresh, message)?;
+    }
+    Ok(())
+}
+
 /// The line of a message, with its line feed. `fresh` says whether nothing was started for its unit. The
 /// one fault is want of memory.
 pub fn line_of(
@@ -403,16 +441,14 @@ pub fn lines_of(
     let id = id_text(alloc, subject)?;
     let begin = subject_text(alloc, subject)?;
     let mut lines = String::new(alloc);
-    for message in messages {
-        push_line(
-            alloc,
-            &mut lines,
-            id.as_str(),
-            begin.as_str(),
-            fresh,
-            message,
-        )?;
-    }
+    push_lines(
+        alloc,
+        &mut lines,
+        id.as_str(),
+        begin.as_str(),
+        fresh,
+        messages,
+    )?;
     Ok(Text::new(lines))
 }
 
