@@ -1,3 +1,4 @@
 pub mod Json
 pub mod Message
 pub mod Diagnostics
+pub mod Targets

@@ -1,8 +1,13 @@
 //! Whose lines they are: a package, and one of its targets.
 
+ghost use Rattle.std.specs.Prelude.{◌≡◌, IfOk, map};
+ghost use Rattle.pb_manifest.specs.Library.{crate_type_texts};
+ghost use Rattle.pb_message.specs.Targets.{library_target, binary_target, script_target};
+
 use pb_data::{Items, Text};
-use pb_manifest::Edition;
+use pb_manifest::{CrateType, Edition, crate_type_texts};
 use pb_place::PathText;
+use std::alloc::{AllocError, Global};
 
 /// A target of a package, as lines show it (The Cargo Book, External Tools).
 #[derive(Debug, Drop)]
@@ -35,4 +40,88 @@ pub struct Subject {
     pub manifest: PathText,
     /// The target.
     pub target: Target,
+}
+
+/// Texts of their own.
+fn owned(alloc: Global, texts: &[&str]) -> Result<Items<Text>, AllocError>
+    ensures { IfOk result (λ made. made ≡ map (λ t. t.now) texts.now) }
+{
+    let mut made = Items::new(alloc);
+    for text in texts {
+        made.push(Text::from_str(alloc, *text)?)?;
+    }
+    Ok(made)
+}
+
+/// The crate types of a library.
+fn library_types(alloc: Global, crate_types: &[CrateType]) -> Result<Items<Text>, AllocError>
+    ensures { IfOk result (λ made. made ≡ crate_type_texts crate_types.now) }
+{
+    let texts = crate_type_texts(alloc, crate_types)?;
+    owned(alloc, texts.as_slice())
+}
+
+impl Target {
+    /// The target of a library, by its crate types, in the manifest's order, and its crate's name. The one
+    /// fault is want of memory.
+    pub fn library(
+        alloc: Global,
+        crate_types: &[CrateType],
+        name: Text,
+        source: PathText,
+        edition: Edition,
+    ) -> Result<Target, AllocError>
+        ensures { IfOk result (λ made. made ≡ library_target crate_types.now name source edition) }
+    {
+        let kinds = library_types(alloc, crate_types)?;
+        let crate_types = library_types(alloc, crate_types)?;
+        Ok(Target {
+            kinds,
+            crate_types,
+            name,
+            source,
+            edition,
+            required_features: Items::new(alloc),
+        })
+    }
+
+    /// The target of a binary of this name, with the features that it requires. The one fault is want of
+    /// memory.
+    pub fn binary(
+        alloc: Global,
+        name: Text,
+        source: PathText,
+        edition: Edition,
+        required_features: Items<Text>,
+    ) -> Result<Target, AllocError>
+        ensures { IfOk result (λ made. made ≡ binary_target name source edition required_features) }
+    {
+        let kinds = owned(alloc, &["bin"])?;
+        let crate_types = owned(alloc, &["bin"])?;
+        Ok(Target {
+            kinds,
+            crate_types,
+            name,
+            source,
+            edition,
+            required_features,
+        })
+    }
+
+    /// The target of a build script. The one fault is want of memory.
+    pub fn script(alloc: Global, source: PathText, edition: Edition) -> Result<Target, AllocError>
+        ensures { IfOk result (λ made. made ≡ script_target source edition) }
+    {
+        let kinds = owned(alloc, &["custom-build"])?;
+        let crate_types = owned(alloc, &["bin"])?;
+        let name = Text::from_str(alloc, "build-script-build")?;
+        Ok(Target {
+            kinds,
+            crate_types,
+            name,
+            source,
+            edition,
+            required_features: Items::new(alloc),
+        })
+    }
 }
