@@ -1,0 +1,92 @@
+//! Subjects and messages for tests.
+
+use pb_data::{Items, Text};
+use pb_manifest::{CrateType, DebugInfo, Edition, Lto, OptLevel, Panic, Strip};
+use pb_message::{Artifact, Executed, Message, Subject, Target};
+use pb_place::PathText;
+use pb_profile::Settings;
+use std::alloc::Global;
+use std::test::Fail;
+
+/// A text.
+pub fn text(alloc: Global, text: &str) -> Result<Text, Fail> {
+    Ok(Text::from_str(alloc, text)?)
+}
+
+/// The words of a text, one after another.
+pub fn texts(alloc: Global, words: &str) -> Result<Items<Text>, Fail> {
+    let mut made = Items::new(alloc);
+    for word in words.split(' ') {
+        if !word.is_empty() {
+            made.push(Text::from_str(alloc, word)?)?;
+        }
+    }
+    Ok(made)
+}
+
+/// The library at `/w/src/lib.rs`.
+pub fn library(alloc: Global, types: &[CrateType]) -> Result<Target, Fail> {
+    let source = PathText::parse(alloc, "/w/src/lib.rs")?;
+    Ok(Target::library(alloc, types, text(alloc, "a")?, source, Edition::E2021)?)
+}
+
+/// A package of version 0.1.0 with a target.
+pub fn subject(alloc: Global, folder: &str, name: &str, target: Target) -> Result<Subject, Fail> {
+    let folder = PathText::parse(alloc, folder)?;
+    let manifest = folder.join(alloc, "Cargo.toml")?;
+    Ok(Subject {
+        name: text(alloc, name)?,
+        version: text(alloc, "0.1.0")?,
+        folder,
+        manifest,
+        target,
+    })
+}
+
+/// The built-in settings of `dev`, with this level and this much for debuggers.
+pub fn settings(opt_level: OptLevel, debug: DebugInfo) -> Settings {
+    Settings {
+        opt_level,
+        debug,
+        debug_assertions: true,
+        overflow_checks: true,
+        lto: Lto::ThinLocal,
+        panic: Panic::Unwind,
+        codegen_units: 256,
+        rpath: false,
+        strip: Strip::Nothing,
+    }
+}
+
+/// A file that was made.
+pub fn artifact(
+    alloc: Global,
+    settings: Settings,
+    features: &str,
+    file: &str,
+    is_executable: bool,
+) -> Result<Message, Fail> {
+    let file = PathText::parse(alloc, file)?;
+    Ok(Message::CompilerArtifact(Artifact {
+        settings,
+        features: texts(alloc, features)?,
+        file,
+        is_executable,
+    }))
+}
+
+/// What a script gave: libraries, folders and conditions, one variable, and its folder.
+pub fn executed(alloc: Global, lists: &str, value: &str) -> Result<Message, Fail> {
+    let mut variables = Items::new(alloc);
+    if !value.is_empty() {
+        variables.push((text(alloc, "A")?, text(alloc, value)?))?;
+        variables.push((text(alloc, "B")?, text(alloc, "")?))?;
+    }
+    Ok(Message::BuildScriptExecuted(Executed {
+        linked_libraries: texts(alloc, lists)?,
+        linked_paths: texts(alloc, lists)?,
+        conditions: texts(alloc, lists)?,
+        variables,
+        out_folder: PathText::parse(alloc, "/w/target/debug/a.target.run")?,
+    }))
+}
