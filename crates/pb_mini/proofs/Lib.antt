@@ -1,4 +1,7 @@
-pub mod Honesty
-pub mod Lines
+pub mod ConditionLemmas
+pub mod DoingLemmas
+pub mod LineLemmas
+pub mod MentionLemmas
+pub mod SlashLemmas
 pub mod Texts
 pub mod Words

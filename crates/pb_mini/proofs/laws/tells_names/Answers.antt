@@ -1,5 +1,0 @@
-use Rattle.pb_mini.proofs.Honesty.{tells}
-use Rattle.pb_mini.proofs.laws.tells_names.Goals as goal
-
-pub returns : goal.returns
-returns c = tells
