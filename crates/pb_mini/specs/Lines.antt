@@ -1,5 +1,5 @@
 -- The lines of a text, and the words in front of a line.
-use Rattle.std.specs.Prelude.{ℕ, ◌==◌, if◌then◌else◌, List, [], ◌∷◌, ◌++◌}
+use Rattle.std.specs.Prelude.{ℕ, ◌==◌, ◌-◌, if◌then◌else◌, List, [], ◌∷◌, ◌++◌, length, take, slice_index}
 use Rattle.std.specs.List.{onto_first, before_first, after_first}
 
 -- A text is cut at line feeds alone. Each line feed ends a line; what follows the last one is a line, unless it is empty.
@@ -34,3 +34,9 @@ marked mark (line ∷ lines) = mark ++ ended line ++ marked mark lines
 -- each line of a file after a mark
 abbrev pub quoted : List ℕ → List ℕ → List ℕ
 quoted mark bytes = marked mark (lines_of bytes)
+
+-- ---- for private functions
+
+-- bytes without the line feed at their end, where there is one
+abbrev pub without_feed : List ℕ → List ℕ
+without_feed bytes = if slice_index bytes (length bytes - 1) == 10 then take (length bytes - 1) bytes else bytes

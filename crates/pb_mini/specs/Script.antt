@@ -36,31 +36,37 @@ prints text = Writes (record no_output { stdout = text })
 abbrev pub printed : List ℕ → Step
 printed text = prints (ended text)
 
--- `show NAME`: the variable's name is declared, and its value, empty where it is not set, set as SHOW_NAME
+-- `show NAME`: the variable is declared, and SHOW_NAME is set to its value, which is empty where it is not set
+abbrev pub shown_text : List ℕ → List ℕ → List ℕ
+shown_text name value = ended (codes "cargo::rerun-if-env-changed=" ++ name) ++ ended (codes "cargo::rustc-env=SHOW_" ++ name ++ codes "=" ++ value)
+
 abbrev pub shown : List ℕ → Option (List ℕ) → Step
-shown name value = prints (ended (codes "cargo::rerun-if-env-changed=" ++ name) ++ ended (codes "cargo::rustc-env=SHOW_" ++ name ++ 61 ∷ unwrap_or value []))
+shown name value = prints (shown_text name (unwrap_or value []))
 
 -- the first line of a text
 abbrev pub first_line : List ℕ → List ℕ
 first_line text = before_first (λ b. b == 10) text
 
--- `read PATH`: the path is declared, and the first line of the file, where it is there and a text, set as READ
+-- `read PATH`: the path is declared, and READ is set to the first line of the file, where it is there and a text
 abbrev pub first_line_set : Option (List ℕ) → List ℕ
 first_line_set None = []
 first_line_set (Some text) = ended (codes "cargo::rustc-env=READ=" ++ first_line text)
 
+abbrev pub read_text : List ℕ → Option (List ℕ) → List ℕ
+read_text path text = ended (codes "cargo::rerun-if-changed=" ++ path) ++ first_line_set text
+
 abbrev pub was_read : List ℕ → Option (List ℕ) → Step
-was_read path text = prints (ended (codes "cargo::rerun-if-changed=" ++ path) ++ first_line_set text)
+was_read path text = prints (read_text path text)
 
 -- a relative path begins at CARGO_MANIFEST_DIR, which is empty where it is not set
-abbrev pub manifest_dir : List (List ℕ × List ℕ) → World → List ℕ
-manifest_dir pairs w = unwrap_or (value_of pairs w (codes "CARGO_MANIFEST_DIR")) []
+abbrev pub below_text : Option (List ℕ) → List ℕ → List ℕ
+below_text folder path = unwrap_or folder [] ++ 47 ∷ path
 
-abbrev pub read_path : List (List ℕ × List ℕ) → World → List ℕ → Option (List ℕ)
-read_path pairs w path = if is_absolute path then path_of path else path_of (manifest_dir pairs w ++ 47 ∷ path)
+abbrev pub full_path : List (List ℕ × List ℕ) → World → List ℕ → List ℕ
+full_path pairs w path = if is_absolute path then path else below_text (value_of pairs w (codes "CARGO_MANIFEST_DIR")) path
 
 abbrev pub text_read : List (List ℕ × List ℕ) → World → List ℕ → Option (List ℕ)
-text_read pairs w path = text_at w (read_path pairs w path)
+text_read pairs w path = text_at w (path_of (full_path pairs w path))
 
 -- `put NAME TEXT`: a file of that name, which is one part of a relative path
 abbrev pub is_file_name : List ℕ → Bool

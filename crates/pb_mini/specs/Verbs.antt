@@ -43,12 +43,12 @@ abbrev pub library_path : Scope → List ℕ → Option (List ℕ)
 library_path scope name = option_and_then path_of (value_at name scope.libraries)
 
 -- the line, and then each line of the library's file
-abbrev pub used : ℕ → List ℕ → Option (List ℕ) → Effects
-used number line None = diagnosed Error (codes "no library " ++ rest_of line) number
-used number line (Some bytes) = joined (copied line) (copied_file (codes "> ") bytes)
+abbrev pub used : ℕ → List ℕ → List ℕ → Option (List ℕ) → Effects
+used number line name None = diagnosed Error (codes "no library " ++ name) number
+used number line name (Some bytes) = joined (copied line) (copied_file (codes "> ") bytes)
 
-abbrev pub use_effect : Scope → World → ℕ → List ℕ → Effects
-use_effect scope w number line = used number line (file_at w (library_path scope (rest_of line)))
+abbrev pub use_effect : Scope → World → ℕ → List ℕ → List ℕ → Effects
+use_effect scope w number line name = used number line name (file_at w (library_path scope name))
 
 -- ---- `include PATH`
 
@@ -94,8 +94,12 @@ include_effect scope w number path = included number path (variable_of scope.pai
 -- ---- `env NAME`
 
 -- `env NAME=VALUE`, or `env NAME` where it is not set
+abbrev pub env_line : List ℕ → Option (List ℕ) → List ℕ
+env_line name value = codes "env " ++ name ++ value_text value
+
+-- the variable is read, and its line put in
 abbrev pub told : List ℕ → Option (List ℕ) → Effects
-told name value = joined (asks name value) (copied (codes "env " ++ name ++ value_text value))
+told name value = joined (asks name value) (copied (env_line name value))
 
 abbrev pub env_effect : Scope → World → List ℕ → Effects
 env_effect scope w name = told name (value_of scope.pairs w name)
@@ -117,18 +121,18 @@ abbrev pub is_passed_over : List ℕ → Bool
 is_passed_over [] = true
 is_passed_over (b ∷ bytes) = b == 35
 
--- what a line of this number does, by its verb, which is its first word
-abbrev pub effect_by : Verb → Scope → World → ℕ → List ℕ → Effects
-effect_by Use scope w number line = use_effect scope w number line
-effect_by Include scope w number line = include_effect scope w number (rest_of line)
-effect_by Env scope w number line = env_effect scope w (rest_of line)
-effect_by Warn scope w number line = diagnosed Warning (rest_of line) number
-effect_by Fail scope w number line = diagnosed Error (rest_of line) number
-effect_by Copied scope w number line = copied line
-effect_by Unknown scope w number line = diagnosed Error (codes "unknown line") number
+-- what a line of this number does, by its verb, which is its first word, and by the rest of it
+abbrev pub effect_by : Verb → Scope → World → ℕ → List ℕ → List ℕ → Effects
+effect_by Use scope w number line rest = use_effect scope w number line rest
+effect_by Include scope w number line rest = include_effect scope w number rest
+effect_by Env scope w number line rest = env_effect scope w rest
+effect_by Warn scope w number line rest = diagnosed Warning rest number
+effect_by Fail scope w number line rest = diagnosed Error rest number
+effect_by Copied scope w number line rest = copied line
+effect_by Unknown scope w number line rest = diagnosed Error (codes "unknown line") number
 
 abbrev pub effect_meant : Scope → World → ℕ → List ℕ → Effects
-effect_meant scope w number line = if is_passed_over line then no_effects else effect_by (verb_of (word_in line)) scope w number line
+effect_meant scope w number line = if is_passed_over line then no_effects else effect_by (verb_of (word_in line)) scope w number line (rest_of line)
 
 abbrev pub effect_of : Scope → World → ℕ → List ℕ → Effects
 effect_of scope w number line = effect_meant scope w number (line_meant scope.conditions line)

@@ -1,15 +1,15 @@
 //! A compile: its source, its image and its reply.
 
 ghost use Rattle.std.specs.Prelude.{◌≡◌, ◌++◌, [], IfOk, OnOk, IfErr, IsTrue, ℕ, List};
-ghost use Rattle.pb_mini.specs.Effects.{Does, followed_by, names_once};
-ghost use Rattle.pb_mini.specs.Compile.{text_of, text_at, no_source, source_effects, effects_of, title, image_text, replied, files_of, compiled};
+ghost use Rattle.pb_mini.specs.Effects.{followed_by, names_once};
+ghost use Rattle.pb_mini.specs.Compile.{text_of, text_at, source_effects, effects_of, title, image_text, replied, files_of, compiled};
 ghost use Rattle.pb_place.specs.declared.child.ViewFault.TheVariants as view_fault;
 
 use crate::buffer::Buffer;
 use crate::command_line::{CommandLine, CrateType};
 use crate::dep_info::{Names, dep_info_text};
 use crate::diagnostic::{Level, diagnostics_text, has_error};
-use crate::effects::{Effects, add_diagnostic, add_path};
+use crate::effects::{Effects, add_path, add_said};
 use crate::lines::{push_line, text_lines};
 use crate::lookups::{file_at, path_of};
 use crate::scope::Scope;
@@ -48,18 +48,6 @@ pub(crate) fn text_at<V: View>(
     Ok(text)
 }
 
-/// Says that there is no source.
-fn add_no_source(alloc: Global, effects: &mut Effects) -> Result<(), AllocError>
-    ensures { OnOk result (Does effects.new effects.old no_source) }
-{
-    add_diagnostic(
-        effects,
-        Level::Error,
-        Text::from_str(alloc, "no source")?,
-        0,
-    )
-}
-
 /// Does the lines of a source with this path and this text, or says that there is none.
 fn add_source<V: View>(
     alloc: Global,
@@ -74,7 +62,7 @@ fn add_source<V: View>(
     ensures failed { IfErr result (λ e. e ≡ ViewFault.Failed → V.fails view.now) }
 {
     let (Some(source), Some(text)) = (source, text) else {
-        add_no_source(alloc, effects)?;
+        add_said(alloc, effects, Level::Error, "no source", 0)?;
         return Ok(());
     };
     let scope = Scope::new(alloc, line, pairs, source)?;
@@ -147,10 +135,15 @@ fn files_of(
 fn replied(alloc: Global, line: &CommandLine, effects: Effects) -> Result<Reply, AllocError>
     ensures { IfOk result (λ reply. reply ≡ replied line.now effects) }
 {
-    let diagnostics = diagnostics_text(alloc, effects.diagnostics.as_slice())?;
-    let stderr = Bytes::from_slice(alloc, diagnostics.as_bytes())?;
-    let is_bad = has_error(effects.diagnostics.as_slice());
-    let files = files_of(alloc, line, is_bad, effects.image.as_slice(), effects.names)?;
+    let Effects {
+        image,
+        diagnostics,
+        names,
+    } = effects;
+    let text = diagnostics_text(alloc, diagnostics.as_slice())?;
+    let stderr = Bytes::from_slice(alloc, text.as_bytes())?;
+    let is_bad = has_error(diagnostics.as_slice());
+    let files = files_of(alloc, line, is_bad, image.as_slice(), names)?;
     let status = if is_bad { 1 } else { 0 };
     Ok(Reply {
         status,

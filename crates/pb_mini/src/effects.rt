@@ -55,6 +55,19 @@ pub(crate) fn add_diagnostic(
     Ok(())
 }
 
+/// Adds a diagnostic with a message that is copied.
+pub(crate) fn add_said(
+    alloc: Global,
+    effects: &mut Effects,
+    level: Level,
+    message: &str,
+    number: u64,
+) -> Result<(), AllocError>
+    ensures { OnOk result (Does effects.new effects.old (diagnosed level message.now number)) }
+{
+    add_diagnostic(effects, level, Text::from_str(alloc, message)?, number)
+}
+
 /// Adds a line of the image.
 pub(crate) fn add_copied(effects: &mut Effects, line: &str) -> Result<(), AllocError>
     ensures { OnOk result (Does effects.new effects.old (copied line.now)) }

@@ -1,9 +1,9 @@
 //! The line `include PATH`.
 
-ghost use Rattle.std.specs.Prelude.{◌≡◌, ◌==◌, ◌∷◌, ◌++◌, [], IfOk, OnOk, IfErr, IsTrue, string_bytes};
+ghost use Rattle.std.specs.Prelude.{◌≡◌, ◌≢◌, ◌==◌, ℕ, List, MatchOption, ◌∷◌, ◌++◌, [], codes, IfOk, OnOk, IfErr, IsTrue, string_bytes};
 ghost use Rattle.std.specs.List.{before_first};
 ghost use Rattle.std.specs.Option.{option_map, option_map_or};
-ghost use Rattle.pb_mini.specs.Effects.{Does};
+ghost use Rattle.pb_mini.specs.Effects.{Does, diagnosed};
 ghost use Rattle.pb_mini.specs.Lookups.{path_from, file_at};
 ghost use Rattle.pb_mini.specs.Verbs.{from_slash, variable_in, variable_of, expanded, asks_for, included_lines, included, include_effect};
 
@@ -27,12 +27,22 @@ fn first_part(text: &str) -> (&str, Option<&str>)
     }
 }
 
+/// What follows a `$` in front, where there is one.
+fn after_dollar(path: &str) -> Option<&str>
+    ensures { MatchOption result ((rest : List ℕ) → path.now ≢ 36 ∷ rest) (λ rest. path.now ≡ 36 ∷ rest.now) }
+{
+    path.strip_prefix('$')
+}
+
 /// The name of the variable that stands for the first part of a path, as in `$NAME/x`.
+#[tactic(auto, using(crate::proofs::SlashLemmas::variable_laws))]
 fn variable_in(path: &str) -> Option<&str>
     ensures { option_map (λ name. name.now) result ≡ variable_in path.now }
 {
-    let rest = path.strip_prefix('$')?;
-    Some(first_part(rest).0)
+    match after_dollar(path) {
+        Some(rest) => Some(first_part(rest).0),
+        None => None,
+    }
 }
 
 /// The variable that stands for the first part of a path, with its value.
@@ -95,6 +105,27 @@ fn add_variable_of(
     Ok(())
 }
 
+/// The message that there is no file.
+fn no_file(alloc: Global, written: &str) -> Result<Text, AllocError>
+    ensures { IfOk result (λ message. message ≡ codes "no file " ++ written.now) }
+{
+    let message = format!(in alloc; "no file {written}")?;
+    Ok(Text::new(message))
+}
+
+/// Says that there is no file.
+fn add_no_file(
+    alloc: Global,
+    effects: &mut Effects,
+    number: u64,
+    written: &str,
+) -> Result<(), AllocError>
+    ensures { OnOk result (Does effects.new effects.old (diagnosed Level.Error (codes "no file " ++ written.now) number)) }
+{
+    let message = no_file(alloc, written)?;
+    add_diagnostic(effects, Level::Error, message, number)
+}
+
 /// Adds each line of the file, or says that there is none.
 fn add_lines_of(
     alloc: Global,
@@ -107,15 +138,12 @@ fn add_lines_of(
 {
     match found {
         Some(bytes) => add_file(alloc, effects, b"| ", bytes.as_slice()),
-        None => {
-            let message = format!(in alloc; "no file {written}")?;
-            add_diagnostic(effects, Level::Error, Text::new(message), number)
-        }
+        None => add_no_file(alloc, effects, number, written),
     }
 }
 
 /// Names the variable and the file, and adds the file's lines.
-#[tactic(auto, using(crate::proofs::DoingLemmas::doing_laws))]
+
 fn add_included(
     alloc: Global,
     effects: &mut Effects,

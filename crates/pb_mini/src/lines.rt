@@ -2,7 +2,7 @@
 
 ghost use Rattle.std.specs.Prelude.{◌≡◌, ◌≢◌, ◌==◌, ℕ, List, [], ◌∷◌, ◌++◌, map, IfOk, OnOk, MatchOption};
 ghost use Rattle.std.specs.List.{slice_split};
-ghost use Rattle.pb_mini.specs.Lines.{lines_of, word_in, rest_of, name_in, value_in, ended, marked, quoted};
+ghost use Rattle.pb_mini.specs.Lines.{lines_of, word_in, rest_of, name_in, value_in, ended, marked, quoted, without_feed};
 
 use crate::buffer::Buffer;
 use std::alloc::{AllocError, Global};
@@ -37,16 +37,24 @@ fn byte_parts(alloc: Global, bytes: &[u8]) -> Result<Vec<&[u8]>, AllocError>
     bytes.split(|byte| *byte == b'\n').collect(alloc)
 }
 
+/// Bytes without the line feed at their end, where there is one.
+fn without_feed(bytes: &[u8]) -> &[u8]
+    ensures { result.now ≡ without_feed bytes.now }
+{
+    match bytes {
+        [front @ .., b'\n'] => front,
+        _ => bytes,
+    }
+}
+
 /// The lines of bytes.
-#[tactic(auto, using(crate::proofs::LineLemmas::line_laws))]
 pub(crate) fn byte_lines(alloc: Global, bytes: &[u8]) -> Result<Vec<&[u8]>, AllocError>
     ensures { IfOk result (λ lines. map (λ line. line.now) lines.items ≡ lines_of bytes.now) }
 {
-    match bytes {
-        [] => Ok(Vec::new(alloc)),
-        [front @ .., b'\n'] => byte_parts(alloc, front),
-        _ => byte_parts(alloc, bytes),
+    if bytes.is_empty() {
+        return Ok(Vec::new(alloc));
     }
+    byte_parts(alloc, without_feed(bytes))
 }
 
 /// The parts of a text between its line feeds.
@@ -64,7 +72,6 @@ fn before_line_feed(text: &str) -> Option<&str>
 }
 
 /// The lines of a text.
-#[tactic(auto, using(crate::proofs::LineLemmas::line_laws))]
 pub(crate) fn text_lines(alloc: Global, text: &str) -> Result<Vec<&str>, AllocError>
     ensures { IfOk result (λ lines. map (λ line. line.now) lines.items ≡ lines_of text.now) }
 {

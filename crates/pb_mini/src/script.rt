@@ -2,10 +2,12 @@
 
 ghost use Rattle.std.specs.Prelude.{◌≡◌, ◌==◌, ℕ, List, ◌++◌, ◌∷◌, [], map, IfOk, OnOk, IfErr, IsTrue, string_bytes, unwrap_or, if◌then◌else◌, Some, None};
 ghost use Rattle.std.specs.List.{list_any};
-ghost use Rattle.pb_mini.specs.Script.{before, Goes, Wrote, printed, shown, first_line, was_read, read_path, text_read, is_file_name, was_put, is_digit, is_leading, status_in, three_digits, deed_of, step_by, step_of, lines_run, no_image, ran};
+ghost use Rattle.pb_mini.specs.Lines.{ended};
+ghost use Rattle.pb_mini.specs.Script.{before, Goes, Wrote, printed, shown_text, shown, first_line, read_text, was_read, below_text, full_path, text_read, is_file_name, was_put, is_digit, is_leading, status_in, three_digits, deed_of, step_by, step_of, lines_run, no_image, ran};
 ghost use Rattle.pb_place.specs.Paths.{is_absolute};
 ghost use Rattle.pb_place.specs.declared.child.ViewFault.TheVariants as view_fault;
 
+use crate::buffer::Buffer;
 use crate::compile::{text_at, text_of};
 use crate::lines::{byte_lines, push_line, word_and_rest};
 use crate::lookups::{file_at, path_of, value_of};
@@ -60,20 +62,41 @@ fn print(output: &mut Output, text: &str) -> Result<(), AllocError>
     push_line(&mut output.stdout, text.as_bytes())
 }
 
+/// The value, which is empty where there is none.
+fn or_empty(value: &Option<Text>) -> &str
+    ensures { result.now ≡ unwrap_or value.now [] }
+{
+    match value {
+        Some(value) => value.as_str(),
+        None => "",
+    }
+}
+
+/// Adds a line that is a key and a text.
+fn push_keyed(buffer: &mut Buffer, key: &[u8], text: &[u8]) -> Result<(), AllocError>
+    ensures { OnOk result (buffer.new ≡ buffer.old ++ ended (key.now ++ text.now)) }
+{
+    buffer.push(key)?;
+    push_line(buffer, text)?;
+    Ok(())
+}
+
+/// Adds what `show NAME` prints of a variable with this value.
+fn push_shown(buffer: &mut Buffer, name: &str, value: &str) -> Result<(), AllocError>
+    ensures { OnOk result (buffer.new ≡ buffer.old ++ shown_text name.now value.now) }
+{
+    push_keyed(buffer, b"cargo::rerun-if-env-changed=", name.as_bytes())?;
+    buffer.push(b"cargo::rustc-env=SHOW_")?;
+    buffer.push(name.as_bytes())?;
+    push_keyed(buffer, b"=", value.as_bytes())?;
+    Ok(())
+}
+
 /// Does `show NAME` of a variable with this value.
 fn show(output: &mut Output, name: &str, value: &Option<Text>) -> Result<(), AllocError>
     ensures { OnOk result (Wrote output.new output.old (shown name.now value.now)) }
 {
-    output.stdout.push(b"cargo::rerun-if-env-changed=")?;
-    push_line(&mut output.stdout, name.as_bytes())?;
-    output.stdout.push(b"cargo::rustc-env=SHOW_")?;
-    output.stdout.push(name.as_bytes())?;
-    output.stdout.push(b"=")?;
-    if let Some(value) = value {
-        output.stdout.push(value.as_bytes())?;
-    }
-    output.stdout.push(b"\n")?;
-    Ok(())
+    push_shown(&mut output.stdout, name, or_empty(value))
 }
 
 /// The first line of a text.
@@ -86,17 +109,26 @@ fn first_line(text: &str) -> &str
     }
 }
 
+/// Adds what `read PATH` prints of a file with this text.
+fn push_read(buffer: &mut Buffer, path: &str, text: &Option<Text>) -> Result<(), AllocError>
+    ensures { OnOk result (buffer.new ≡ buffer.old ++ read_text path.now text.now) }
+{
+    push_keyed(buffer, b"cargo::rerun-if-changed=", path.as_bytes())?;
+    match text {
+        Some(text) => {
+            let line = first_line(text.as_str());
+            push_keyed(buffer, b"cargo::rustc-env=READ=", line.as_bytes())?;
+            Ok(())
+        }
+        None => Ok(()),
+    }
+}
+
 /// Does `read PATH` of a file with this text.
 fn read(output: &mut Output, path: &str, text: &Option<Text>) -> Result<(), AllocError>
     ensures { OnOk result (Wrote output.new output.old (was_read path.now text.now)) }
 {
-    output.stdout.push(b"cargo::rerun-if-changed=")?;
-    push_line(&mut output.stdout, path.as_bytes())?;
-    if let Some(text) = text {
-        output.stdout.push(b"cargo::rustc-env=READ=")?;
-        push_line(&mut output.stdout, first_line(text.as_str()).as_bytes())?;
-    }
-    Ok(())
+    push_read(&mut output.stdout, path, text)
 }
 
 /// Whether a text begins with `/`.
@@ -110,36 +142,31 @@ fn is_absolute(text: &str) -> bool
 }
 
 /// A path below a folder that is a text, which is empty where there is none.
-fn below_text(alloc: Global, folder: &Option<Text>, path: &str) -> Result<String, AllocError>
-    ensures { IfOk result (λ text. string_bytes text ≡ unwrap_or folder.now [] ++ 47 ∷ path.now) }
+fn below_text(alloc: Global, folder: &Option<Text>, path: &str) -> Result<Text, AllocError>
+    ensures { IfOk result (λ text. text ≡ below_text folder.now path.now) }
 {
-    let mut text = String::new(alloc);
-    if let Some(folder) = folder {
-        text.push_str(folder.as_str())?;
-    }
-    text.push_str("/")?;
-    text.push_str(path)?;
-    Ok(text)
+    let folder = or_empty(folder);
+    let text = format!(in alloc; "{folder}/{path}")?;
+    Ok(Text::new(text))
 }
 
-/// Where a file lies that is read: a relative path begins at `CARGO_MANIFEST_DIR`.
-fn read_path<V: View>(
+/// The path of a file that is read, as a text: a relative one begins at `CARGO_MANIFEST_DIR`.
+fn full_path<V: View>(
     alloc: Global,
     pairs: &Table<Text>,
     view: &V,
     path: &str,
-) -> Result<Option<PathText>, ViewFault>
-    ensures path { IsTrue V.tells → IfOk result (λ found. found ≡ read_path pairs.now (V.shown view.now) path.now) }
+) -> Result<Text, ViewFault>
+    ensures text { IsTrue V.tells → IfOk result (λ text. text ≡ full_path pairs.now (V.shown view.now) path.now) }
     ensures failed { IfErr result (λ e. e ≡ ViewFault.Failed → V.fails view.now) }
 {
     if is_absolute(path) {
-        let path = path_of(alloc, path)?;
-        return Ok(path);
+        let text = Text::from_str(alloc, path)?;
+        return Ok(text);
     }
     let folder = value_of(alloc, pairs, view, "CARGO_MANIFEST_DIR")?;
     let text = below_text(alloc, &folder, path)?;
-    let path = path_of(alloc, text.as_str())?;
-    Ok(path)
+    Ok(text)
 }
 
 /// The text of a file that is read.
@@ -152,7 +179,8 @@ fn text_read<V: View>(
     ensures text { IsTrue V.tells → IfOk result (λ text. text ≡ text_read pairs.now (V.shown view.now) path.now) }
     ensures failed { IfErr result (λ e. e ≡ ViewFault.Failed → V.fails view.now) }
 {
-    let path = read_path(alloc, pairs, view, path)?;
+    let text = full_path(alloc, pairs, view, path)?;
+    let path = path_of(alloc, text.as_str())?;
     let text = text_at(alloc, view, &path)?;
     Ok(text)
 }

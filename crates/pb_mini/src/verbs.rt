@@ -1,14 +1,14 @@
 //! What each line of a source does.
 
-ghost use Rattle.std.specs.Prelude.{◌≡◌, ◌<◌, map, IfOk, OnOk, IfErr, IfSome, IsTrue, length, ℕ, List};
+ghost use Rattle.std.specs.Prelude.{◌≡◌, ◌<◌, ◌++◌, codes, map, IfOk, OnOk, IfErr, IfSome, IsTrue, length, ℕ, List};
 ghost use Rattle.std.specs.Option.{option_map};
 ghost use Rattle.pb_data.specs.Mentions.{is_mentioned};
-ghost use Rattle.pb_mini.specs.Effects.{Does, followed_by, diagnosed};
+ghost use Rattle.pb_mini.specs.Effects.{Does, followed_by, joined, copied, copied_file, diagnosed};
 ghost use Rattle.pb_mini.specs.Lines.{word_in};
-ghost use Rattle.pb_mini.specs.Verbs.{line_meant, meant_at, library_path, used, use_effect, told, env_effect, verb_of, is_passed_over, effect_by, effect_of, effects_from};
+ghost use Rattle.pb_mini.specs.Verbs.{line_meant, meant_at, library_path, used, use_effect, env_line, told, env_effect, verb_of, is_passed_over, effect_by, effect_of, effects_from};
 
 use crate::diagnostic::Level;
-use crate::effects::{Effects, add_copied, add_diagnostic, add_file, add_variable};
+use crate::effects::{Effects, add_copied, add_diagnostic, add_file, add_said, add_variable};
 use crate::include::add_include;
 use crate::lines::word_and_rest;
 use crate::lookups::{file_at, path_of, value_of};
@@ -80,7 +80,7 @@ fn is_given(alloc: Global, given: &Mentions, condition: &str) -> Result<bool, Al
 }
 
 /// The condition of a line `when COND LINE` and its line; none for any other line.
-#[tactic(auto, using(crate::proofs::ConditionLemmas::when_laws))]
+
 fn condition_of(line: &str) -> Option<(&str, &str)>
     ensures line { (given : List (List ℕ)) → line_meant given line.now ≡ meant_at given line.now (option_map (λ p. (p.0.now, p.1.now)) result) }
     ensures shorter { IfSome result (λ p. length p.1.now < length line.now) }
@@ -126,27 +126,56 @@ fn library_path(
     }
 }
 
+/// The message that there is no library.
+fn no_library(alloc: Global, name: &str) -> Result<Text, AllocError>
+    ensures { IfOk result (λ message. message ≡ codes "no library " ++ name.now) }
+{
+    let message = format!(in alloc; "no library {name}")?;
+    Ok(Text::new(message))
+}
+
+/// Says that there is no library.
+fn add_no_library(
+    alloc: Global,
+    effects: &mut Effects,
+    number: u64,
+    name: &str,
+) -> Result<(), AllocError>
+    ensures { OnOk result (Does effects.new effects.old (diagnosed Level.Error (codes "no library " ++ name.now) number)) }
+{
+    let message = no_library(alloc, name)?;
+    add_diagnostic(effects, Level::Error, message, number)
+}
+
+/// Adds the line and each line of the library's file.
+fn add_library(
+    alloc: Global,
+    effects: &mut Effects,
+    line: &str,
+    file: &[u8],
+) -> Result<(), AllocError>
+    ensures { OnOk result (Does effects.new effects.old (joined (copied line.now) (copied_file (codes "> ") file.now))) }
+{
+    add_copied(effects, line)?;
+    add_file(alloc, effects, b"> ", file)?;
+    Ok(())
+}
+
 /// Adds the line and each line of the library's file, or says that there is no library.
-#[tactic(auto, using(crate::proofs::DoingLemmas::doing_laws))]
+
 fn add_used(
     alloc: Global,
     effects: &mut Effects,
     number: u64,
     line: &str,
+    name: &str,
     file: &Option<Bytes>,
 ) -> Result<(), AllocError>
-    ensures { OnOk result (Does effects.new effects.old (used number line.now file.now)) }
+    ensures { OnOk result (Does effects.new effects.old (used number line.now name.now file.now)) }
 {
     match file {
-        Some(bytes) => {
-            add_copied(effects, line)?;
-            add_file(alloc, effects, b"> ", bytes.as_slice())
-        }
-        None => {
-            let name = word_and_rest(line).1;
-            let message = format!(in alloc; "no library {name}")?;
-            add_diagnostic(effects, Level::Error, Text::new(message), number)
-        }
+        Some(bytes) => add_library(alloc, effects, line, bytes.as_slice()),
+        None => add_no_library(alloc, effects, number, name),
     }
 }
 
@@ -158,18 +187,32 @@ fn add_use<V: View>(
     view: &V,
     number: u64,
     line: &str,
+    name: &str,
 ) -> Result<(), ViewFault>
-    ensures done { IsTrue V.tells → OnOk result (Does effects.new effects.old (use_effect scope.now (V.shown view.now) number line.now)) }
+    ensures done { IsTrue V.tells → OnOk result (Does effects.new effects.old (use_effect scope.now (V.shown view.now) number line.now name.now)) }
     ensures failed { IfErr result (λ e. e ≡ ViewFault.Failed → V.fails view.now) }
 {
-    let path = library_path(alloc, scope, word_and_rest(line).1)?;
+    let path = library_path(alloc, scope, name)?;
     let file = file_at(alloc, view, &path)?;
-    add_used(alloc, effects, number, line, &file)?;
+    add_used(alloc, effects, number, line, name, &file)?;
     Ok(())
 }
 
+/// The line `env NAME=VALUE`, or `env NAME` where the variable is not set.
+fn env_line(alloc: Global, name: &str, value: &Option<Text>) -> Result<Text, AllocError>
+    ensures { IfOk result (λ line. line ≡ env_line name.now value.now) }
+{
+    let mut line = String::from_str(alloc, "env ")?;
+    line.push_str(name)?;
+    if let Some(value) = value {
+        line.push_str("=")?;
+        line.push_str(value.as_str())?;
+    }
+    Ok(Text::new(line))
+}
+
 /// Names a variable, and adds a line with its value.
-#[tactic(auto, using(crate::proofs::DoingLemmas::doing_laws))]
+
 fn add_told(
     alloc: Global,
     effects: &mut Effects,
@@ -178,11 +221,9 @@ fn add_told(
 ) -> Result<(), AllocError>
     ensures { OnOk result (Does effects.new effects.old (told name.now value)) }
 {
-    let line = match &value {
-        Some(value) => format!(in alloc; "env {name}={value}", value = value.as_str())?,
-        None => format!(in alloc; "env {name}")?,
-    };
-    add_variable(effects, Text::from_str(alloc, name)?, value)?;
+    let line = env_line(alloc, name, &value)?;
+    let name = Text::from_str(alloc, name)?;
+    add_variable(effects, name, value)?;
     add_copied(effects, line.as_str())?;
     Ok(())
 }
@@ -203,36 +244,24 @@ fn add_env<V: View>(
     Ok(())
 }
 
-/// Gives a diagnostic of a line.
-fn add_said(
-    alloc: Global,
-    effects: &mut Effects,
-    level: Level,
-    message: &str,
-    number: u64,
-) -> Result<(), AllocError>
-    ensures { OnOk result (Does effects.new effects.old (diagnosed level message.now number)) }
-{
-    add_diagnostic(effects, level, Text::from_str(alloc, message)?, number)
-}
-
-/// Does a line by its verb.
+/// Does a line by its verb and the rest of it.
 fn add_by<V: View>(
     alloc: Global,
     effects: &mut Effects,
     scope: &Scope,
     view: &V,
+    verb: Verb,
     number: u64,
     line: &str,
+    rest: &str,
 ) -> Result<(), ViewFault>
-    ensures done { IsTrue V.tells → OnOk result (Does effects.new effects.old (effect_by (verb_of (word_in line.now)) scope.now (V.shown view.now) number line.now)) }
+    ensures done { IsTrue V.tells → OnOk result (Does effects.new effects.old (effect_by verb scope.now (V.shown view.now) number line.now rest.now)) }
     ensures failed { IfErr result (λ e. e ≡ ViewFault.Failed → V.fails view.now) }
 {
-    let (word, rest) = word_and_rest(line);
-    match verb_of(word) {
-        Verb::Use => return add_use(alloc, effects, scope, view, number, line),
-        Verb::Include => return add_include(alloc, effects, scope, view, number, rest),
-        Verb::Env => return add_env(alloc, effects, scope, view, rest),
+    match verb {
+        Verb::Use => add_use(alloc, effects, scope, view, number, line, rest)?,
+        Verb::Include => add_include(alloc, effects, scope, view, number, rest)?,
+        Verb::Env => add_env(alloc, effects, scope, view, rest)?,
         Verb::Warn => add_said(alloc, effects, Level::Warning, rest, number)?,
         Verb::Fail => add_said(alloc, effects, Level::Error, rest, number)?,
         Verb::Copied => add_copied(effects, line)?,
@@ -257,10 +286,14 @@ fn add_line<V: View>(
     if is_passed_over(meant) {
         return Ok(());
     }
-    add_by(alloc, effects, scope, view, number, meant)
+    let (word, rest) = word_and_rest(meant);
+    let verb = verb_of(word);
+    add_by(alloc, effects, scope, view, verb, number, meant, rest)?;
+    Ok(())
 }
 
 /// Does lines in turn, of which the first has the number 1.
+#[tactic(auto, using(crate::proofs::DoingLemmas::followed_nothing))]
 pub(crate) fn add_lines<V: View>(
     alloc: Global,
     effects: &mut Effects,
