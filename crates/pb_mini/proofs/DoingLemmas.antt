@@ -27,6 +27,10 @@ does_thrice old one two new a b c first second third = does_both old one new a (
 pub followed_nothing : (e : Effects) → followed_by e no_effects ≡ e
 followed_nothing e = simp append-nil
 
+-- all that was done
+pub done_whole : (old new done : Effects) → Does new old done → new ≡ followed_by old done
+done_whole old new done does = sym (followed_nothing new) ∙ does no_effects ∙ ap (followed_by old) (joined_nothing done)
+
 -- a variable was named, and its line put in
 pub told_done : (old one new : Effects) (name n line l : List ℕ) (value : Option (List ℕ)) → Does one old (asks n value) → n ≡ name → Does new one (copied l) → l ≡ line → line ≡ env_line name value → Does new old (told name value)
 told_done old one new name n line l value first is_n second is_l is_line =

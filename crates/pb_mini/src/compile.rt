@@ -2,7 +2,9 @@
 
 ghost use Rattle.std.specs.Prelude.{◌≡◌, ◌++◌, [], IfOk, OnOk, IfErr, IsTrue, ℕ, List};
 ghost use Rattle.pb_mini.specs.Effects.{followed_by, names_once};
-ghost use Rattle.pb_mini.specs.Compile.{text_of, text_at, source_effects, effects_of, title, image_text, replied, files_of, compiled};
+ghost use Rattle.pb_mini.specs.Lines.{lines_of};
+ghost use Rattle.pb_mini.specs.Verbs.{effects_from};
+ghost use Rattle.pb_mini.specs.Compile.{text_of, text_at, no_source, source_effects, effects_of, title, image_text, replied, files_of, compiled};
 ghost use Rattle.pb_place.specs.declared.child.ViewFault.TheVariants as view_fault;
 
 use crate::buffer::Buffer;
@@ -48,6 +50,30 @@ pub(crate) fn text_at<V: View>(
     Ok(text)
 }
 
+/// Says that there is no source.
+fn add_no_source(alloc: Global, effects: &mut Effects) -> Result<(), AllocError>
+    ensures { OnOk result (effects.new ≡ followed_by effects.old no_source) }
+{
+    add_said(alloc, effects, Level::Error, "no source", 0)?;
+    Ok(())
+}
+
+/// Does the lines of a source with this text.
+fn add_text<V: View>(
+    alloc: Global,
+    effects: &mut Effects,
+    scope: &Scope,
+    view: &V,
+    text: &str,
+) -> Result<(), ViewFault>
+    ensures done { IsTrue V.tells → OnOk result (effects.new ≡ followed_by effects.old (effects_from scope.now (V.shown view.now) 0 (lines_of text.now))) }
+    ensures failed { IfErr result (λ e. e ≡ ViewFault.Failed → V.fails view.now) }
+{
+    let lines = text_lines(alloc, text)?;
+    add_lines(alloc, effects, scope, view, lines.as_slice())?;
+    Ok(())
+}
+
 /// Does the lines of a source with this path and this text, or says that there is none.
 fn add_source<V: View>(
     alloc: Global,
@@ -61,14 +87,16 @@ fn add_source<V: View>(
     ensures done { IsTrue V.tells → OnOk result (effects.new ≡ followed_by effects.old (source_effects line.now pairs (V.shown view.now) source.now text.now)) }
     ensures failed { IfErr result (λ e. e ≡ ViewFault.Failed → V.fails view.now) }
 {
-    let (Some(source), Some(text)) = (source, text) else {
-        add_said(alloc, effects, Level::Error, "no source", 0)?;
+    let Some(source) = source else {
+        add_no_source(alloc, effects)?;
+        return Ok(());
+    };
+    let Some(text) = text else {
+        add_no_source(alloc, effects)?;
         return Ok(());
     };
     let scope = Scope::new(alloc, line, pairs, source)?;
-    let lines = text_lines(alloc, text.as_str())?;
-    add_lines(alloc, effects, &scope, view, lines.as_slice())?;
-    Ok(())
+    add_text(alloc, effects, &scope, view, text.as_str())
 }
 
 /// All that a compile does, each name once.
