@@ -1,5 +1,6 @@
 pub mod ConditionLemmas
 pub mod DoingLemmas
+pub mod HonestyLemmas
 pub mod LineLemmas
 pub mod MentionLemmas
 pub mod ScriptLemmas

@@ -4,6 +4,7 @@ pub mod Compile
 pub mod DepInfo
 pub mod Diagnostics
 pub mod Effects
+pub mod Honesty
 pub mod Lines
 pub mod Lookups
 pub mod Scope

@@ -62,9 +62,12 @@ abbrev pub variable_in : List ℕ → Option (List ℕ)
 variable_in [] = None
 variable_in (b ∷ path) = if b == 36 then Some (before_first (λ c. c == 47) path) else None
 
--- the same with its value
+-- a variable with its value
+abbrev pub variable_at : List (List ℕ × List ℕ) → World → List ℕ → List ℕ × Option (List ℕ)
+variable_at pairs w name = (name, value_of pairs w name)
+
 abbrev pub variable_of : List (List ℕ × List ℕ) → World → List ℕ → Option (List ℕ × Option (List ℕ))
-variable_of pairs w path = option_map (λ name. (name, value_of pairs w name)) (variable_in path)
+variable_of pairs w path = option_map (variable_at pairs w) (variable_in path)
 
 -- the path with the value in place of its first part; a variable that is not set is empty
 abbrev pub expanded : List ℕ → Option (List ℕ × Option (List ℕ)) → List ℕ

@@ -9,6 +9,7 @@ pub mod dep_info;
 pub mod diagnostic;
 pub mod effects;
 pub mod include;
+pub mod laws;
 pub mod lines;
 pub mod lookups;
 pub mod mini;
