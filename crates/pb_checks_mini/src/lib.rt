@@ -7,4 +7,10 @@ mod command_lines;
 #[cfg(test)]
 mod compiles;
 #[cfg(test)]
+mod runs;
+#[cfg(test)]
+mod verbs;
+#[cfg(test)]
 mod views;
+#[cfg(test)]
+mod worlds;

@@ -21,7 +21,7 @@ use Rattle.pb_mini.specs.Lines.{lines_of, word_in, rest_of}
 use Rattle.pb_mini.specs.Lookups.{path_of, path_from, file_at, value_of}
 use Rattle.pb_mini.specs.Scope.{scope_of, libraries_of}
 use Rattle.pb_mini.specs.Script.{Step, Writes, Ends, below_text, full_path, text_read, was_read, shown, deed_of, step_by, step_in, step_of, before, after_step, lines_run, image_run}
-use Rattle.pb_mini.specs.Verbs.{library_path, used, use_effect, variable_in, variable_at, variable_of, expanded, include_path, asks_for, included_lines, included, include_effect, told, verb_of, is_passed_over, line_meant, effect_by, effect_meant, effect_of, effects_from}
+use Rattle.pb_mini.specs.Verbs.{library_path, used, variable_in, variable_at, variable_of, expanded, include_path, asks_for, included_lines, included, include_effect, told, verb_of, is_passed_over, line_meant, effect_by, effect_meant, effect_of, effects_from}
 use Rattle.pb_mini.specs.declared.command_line.CommandLine.{CommandLine}
 use Rattle.pb_mini.specs.declared.command_line.CommandLineFault.{CommandLineFault}
 use Rattle.pb_mini.specs.declared.dep_info.Names.{Names}
@@ -132,9 +132,9 @@ module _ (line : CommandLine) (pairs : List (List ℕ × List ℕ)) (v w : World
       → SameAt (effects_of line pairs v).names pairs v w → effects_of line pairs w ≡ effects_of line pairs v
   same_effects given same =
       let here : text_at w (path_of line.source) ≡ text_at v (path_of line.source) = ap (option_and_then text_of) (same_file pairs v w (path_of line.source)
-          (same_first (reads (path_of line.source)).names (source_effects line pairs v (path_of line.source) (text_at v (path_of line.source))).names pairs v w same)) in
+      (same_first (reads (path_of line.source)).names (source_effects line pairs v (path_of line.source) (text_at v (path_of line.source))).names pairs v w same)) in
       let later = same_source given (path_of line.source) (text_at v (path_of line.source))
-          (same_second (reads (path_of line.source)).names (source_effects line pairs v (path_of line.source) (text_at v (path_of line.source))).names pairs v w same) in
+      (same_second (reads (path_of line.source)).names (source_effects line pairs v (path_of line.source) (text_at v (path_of line.source))).names pairs v w same) in
       ap (λ text. joined (reads (path_of line.source)) (source_effects line pairs w (path_of line.source) text)) here ∙ ap (joined (reads (path_of line.source))) later
 
 -- ---- a run
@@ -174,7 +174,7 @@ module _ (pairs : List (List ℕ × List ℕ)) (v w : World) where
   same_run (line ∷ lines) same =
       ap (λ step. after_step step (lines_run pairs w lines)) (same_step (text_of line) (same_first (names_in pairs v (text_of line)) (names_after (step_of pairs v line) (names_of_lines pairs v lines)) pairs v w same))
       ∙ same_after (step_of pairs v line) (names_of_lines pairs v lines) (lines_run pairs w lines) (lines_run pairs v lines) (same_run lines)
-        (same_second (names_in pairs v (text_of line)) (names_after (step_of pairs v line) (names_of_lines pairs v lines)) pairs v w same)
+      (same_second (names_in pairs v (text_of line)) (names_after (step_of pairs v line) (names_of_lines pairs v lines)) pairs v w same)
 
   same_image : (image : Option (List ℕ)) → SameAt (names_of_image pairs v image) pairs v w → image_run pairs w image ≡ image_run pairs v image
   same_image None same = refl

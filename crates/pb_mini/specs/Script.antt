@@ -1,7 +1,7 @@
 -- A script: the run of an image.
-use Rattle.std.specs.Prelude.{◌≡◌, ℕ, pos, ◌==◌, ◌*◌, ◌+◌, ◌-◌, nat_lt, Bool, not, ◌||◌, ◌&&◌, if◌then◌else◌, codes, List, [], ◌∷◌, ◌++◌, Option, Some, None, option_and_then, unwrap_or}
+use Rattle.std.specs.Prelude.{◌≡◌, ℕ, pos, ◌==◌, ◌*◌, ◌+◌, ◌-◌, nat_lt, Bool, not, ◌&&◌, if◌then◌else◌, codes, List, [], ◌∷◌, ◌++◌, Option, Some, None, unwrap_or}
 use Rattle.std.specs.List.{list_any, before_first}
-use Rattle.std.specs.Str.{bytes_eq, is_utf8}
+use Rattle.std.specs.Str.{bytes_eq}
 use Rattle.pb_place.specs.Paths.{is_absolute, is_relative}
 use Rattle.pb_place.specs.World.{World}
 use Rattle.pb_place.specs.declared.child.Reply.{Reply}

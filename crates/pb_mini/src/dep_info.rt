@@ -56,10 +56,7 @@ fn push_variable(text: &mut Vec<u8>, variable: &(Text, Option<Text>)) -> Result<
 }
 
 /// Adds the lines of variables at the end.
-fn push_variables(
-    text: &mut Vec<u8>,
-    variables: &[(Text, Option<Text>)],
-) -> Result<(), AllocError>
+fn push_variables(text: &mut Vec<u8>, variables: &[(Text, Option<Text>)]) -> Result<(), AllocError>
     ensures { OnOk result (text.new.items ≡ text.old.items ++ variables_text variables.now) }
 {
     for variable in variables {

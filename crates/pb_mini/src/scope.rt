@@ -24,11 +24,7 @@ pub struct Scope {
 }
 
 /// Adds a library with its file, unless there is one of this name.
-fn add_library(
-    alloc: Global,
-    libraries: &mut Table<Text>,
-    written: &str,
-) -> Result<(), AllocError>
+fn add_library(alloc: Global, libraries: &mut Table<Text>, written: &str) -> Result<(), AllocError>
     ensures { OnOk result (libraries.new ≡ with_first libraries.old (library_of written.now)) }
 {
     let (name, path) = name_and_value(written);

@@ -204,12 +204,7 @@ fn file_named(alloc: Global, name: &str) -> Result<Option<RelativePath>, AllocEr
 }
 
 /// Does `put NAME TEXT`. Where that is no name of a file, the status with which the script ends.
-fn put(
-    alloc: Global,
-    output: &mut Output,
-    name: &str,
-    text: &str,
-) -> Result<Option<u8>, AllocError>
+fn put(alloc: Global, output: &mut Output, name: &str, text: &str) -> Result<Option<u8>, AllocError>
     ensures { IfOk result (λ ends. Goes ends output.new output.old (was_put name.now text.now)) }
 {
     let Some(path) = file_named(alloc, name)? else {

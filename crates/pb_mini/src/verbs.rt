@@ -94,11 +94,7 @@ fn condition_of(line: &str) -> Option<(&str, &str)>
 
 /// The line that a line stands for where these conditions are given: each `when COND` in front is taken away. It is
 /// empty where one is not given.
-fn line_meant<'a>(
-    alloc: Global,
-    given: &Mentions,
-    line: &'a str,
-) -> Result<&'a str, AllocError>
+fn line_meant<'a>(alloc: Global, given: &Mentions, line: &'a str) -> Result<&'a str, AllocError>
     ensures { IfOk result (λ meant. meant.now ≡ line_meant given.now line.now) }
 {
     let mut left = line;
@@ -112,11 +108,7 @@ fn line_meant<'a>(
 }
 
 /// The path of a library's file, as the command line says it.
-fn library_path(
-    alloc: Global,
-    scope: &Scope,
-    name: &str,
-) -> Result<Option<PathText>, AllocError>
+fn library_path(alloc: Global, scope: &Scope, name: &str) -> Result<Option<PathText>, AllocError>
     ensures { IfOk result (λ path. path ≡ library_path scope.now name.now) }
 {
     let name = Text::from_str(alloc, name)?;

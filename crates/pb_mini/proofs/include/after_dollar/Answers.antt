@@ -1,5 +1,3 @@
-use Rattle.std.proofs.Common.{lit<}
-use Rattle.std.proofs.lemmas.Str.Pattern.{strip_prefix_char}
 use Rattle.pb_mini.proofs.SlashLemmas.{dollar_cases}
 use Rattle.pb_mini.proofs.include.after_dollar.Goals as goal
 

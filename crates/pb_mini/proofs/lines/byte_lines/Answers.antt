@@ -1,4 +1,4 @@
-use Rattle.std.proofs.Common.{◌≡◌, ◌==◌, List, map, IfOk, subst, sym, ap, ◌∙◌, rules}
+use Rattle.std.proofs.Common.{◌≡◌, ◌==◌, map, IfOk, subst, sym, ap, ◌∙◌, rules}
 use Rattle.std.specs.List.{slice_split}
 use Rattle.pb_mini.proofs.LineLemmas.{lines_without_feed}
 use Rattle.pb_mini.proofs.lines.byte_lines.Goals as goal

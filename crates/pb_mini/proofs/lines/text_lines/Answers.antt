@@ -1,5 +1,4 @@
-use Rattle.std.proofs.Common.{◌≡◌, ◌==◌, List, map, IfOk, subst, sym, ap, ◌∙◌, rules}
-use Rattle.std.specs.List.{slice_split}
+use Rattle.std.proofs.Common.{◌≡◌, map, IfOk, subst, sym, ap, ◌∙◌, rules}
 use Rattle.pb_mini.specs.Lines.{lines_of}
 use Rattle.pb_mini.proofs.LineLemmas.{lines_ended, lines_open}
 use Rattle.pb_mini.proofs.lines.text_lines.Goals as goal
