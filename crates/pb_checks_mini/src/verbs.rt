@@ -35,10 +35,10 @@ const USES: [Case; 15] = [
         b"libc.rlib=mini lib c\nuse q\n> mini lib q\n> print q\n|c.d=/o/libc.rlib: /w/s\n|",
     ),
     (
-        b"use q\nprint x\nuse p",
+        b"use q\nprint x\nuse eq",
         0,
         b"",
-        b"libc.rlib=mini lib c\nuse q\n> mini lib q\n> print q\nprint x\nuse p\n> p\n|c.d=/o/libc.rlib: /w/s\n|",
+        b"libc.rlib=mini lib c\nuse q\n> mini lib q\n> print q\nprint x\nuse eq\n> e\n|c.d=/o/libc.rlib: /w/s\n|",
     ),
     (
         b"use q\nuse q",
