@@ -10,7 +10,7 @@ trap 'rm -rf "$work"' EXIT
 mkdir "$work/crates"
 for name in pb_data pb_json pb_place pb_mini; do
   cp -r "$root/crates/$name" "$work/crates/$name"
-  rm -rf "$work/crates/$name/must-fail" "$work/crates/$name/out"
+  rm -rf "$work/crates/$name/must-fail"
 done
 printf 'pb_data: indexmap\npb_json: serde_json\npb_place: pb_data thiserror\npb_mini: pb_data pb_json pb_place thiserror\nmeasure: pb_data pb_mini pb_place\n' > "$work/crates.txt"
 mkdir -p "$work/crates/measure/src"
@@ -154,4 +154,4 @@ fn main(rt: HostRuntime) -> io::Result<()> {
 }
 RATTLE
 cd "$work/crates/measure"
-${TRY:-} rt try
+${TRY:-} rt run
