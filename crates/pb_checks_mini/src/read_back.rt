@@ -8,8 +8,7 @@ use std::process::Abort;
 use std::test::Fail;
 
 /// Words of a compile into a folder whose name needs care.
-const WORDS: &str =
-    "--crate-name|c|--crate-type|lib|--out-dir|/o: p/q #$|--cfg|x|/w/s";
+const WORDS: &str = "--crate-name|c|--crate-type|lib|--out-dir|/o: p/q #$|--cfg|x|/w/s";
 
 /// A source, and the names that are read back from its dep-info: the paths and the variables, each with a bar after it.
 const SOURCES: [(&[u8], &str, &str); 16] = [

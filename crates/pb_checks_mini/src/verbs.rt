@@ -6,7 +6,8 @@ use std::process::Abort;
 use std::test::Fail;
 
 /// Words of a compile of `/w/s`, with a bar between them.
-const WORDS: &str = "--crate-name|c|--crate-type|lib|--out-dir|/o|--cfg|on|--cfg|feature=\"f\"|--cfg||--extern|q=/l/q|--extern|q=/l/p|--extern|gone=/l/gone|--extern|bare|--extern|bare=/l/p|--extern|rel=l/q|--extern|=/l/p|--extern|eq=/l/a=b|/w/s";
+const WORDS: &str =
+    "--crate-name|c|--crate-type|lib|--out-dir|/o|--cfg|on|--cfg|feature=\"f\"|--cfg||--extern|q=/l/q|--extern|q=/l/p|--extern|gone=/l/gone|--extern|bare|--extern|bare=/l/p|--extern|rel=l/q|--extern|=/l/p|--extern|eq=/l/a=b|/w/s";
 
 /// A source, the status of its compile, its standard error, and its files.
 type Case = (&'static [u8], i32, &'static [u8], &'static [u8]);

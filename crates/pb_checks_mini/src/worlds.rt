@@ -75,12 +75,7 @@ fn texts(alloc: Global, entries: &[(&str, &str)]) -> Result<Items<(Text, Text)>,
 }
 
 /// The answer to words in the world with one file more.
-pub fn answer_in(
-    alloc: Global,
-    words: &str,
-    path: &str,
-    bytes: &[u8],
-) -> Result<Reply, ViewFault> {
+pub fn answer_in(alloc: Global, words: &str, path: &str, bytes: &[u8]) -> Result<Reply, ViewFault> {
     let words = words_of(alloc, words)?;
     let pairs = texts(alloc, &PAIRS)?;
     let view = world(alloc, path, bytes)?;

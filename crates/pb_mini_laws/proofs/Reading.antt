@@ -332,9 +332,9 @@ ends_paths (path ∷ paths) = refl
 rule_line : (output : List ℕ) (paths : List (List ℕ)) (info : DepInfo) → AllByRecursion CanBeTold paths → line_info (spelled (47 ∷ output) ++ 58 ∷ paths_text paths) ≡ Ok info → paths ≡ info.words
 rule_line output paths info told is =
     let whole : strip_carriage_return (spelled (47 ∷ output) ++ 58 ∷ paths_text paths) ≡ spelled (47 ∷ output) ++ 58 ∷ paths_text paths =
-        strip_open (spelled (47 ∷ output) ++ 58 ∷ paths_text paths) (open_append (spelled (47 ∷ output)) 58 (paths_text paths) ∙ paths_open paths told) in
+    strip_open (spelled (47 ∷ output) ++ 58 ∷ paths_text paths) (open_append (spelled (47 ∷ output)) 58 (paths_text paths) ∙ paths_open paths told) in
     let full : full_line (spelled (47 ∷ output) ++ 58 ∷ paths_text paths) ≡ Ok info =
-        is_full info 47 (spelled output ++ 58 ∷ paths_text paths) (is_read info (spelled (47 ∷ output) ++ 58 ∷ paths_text paths) (is_utf8 (spelled (47 ∷ output) ++ 58 ∷ paths_text paths)) (ap (λ t. text_info (text_of t)) (sym whole) ∙ is)) in
+    is_full info 47 (spelled output ++ 58 ∷ paths_text paths) (is_read info (spelled (47 ∷ output) ++ 58 ∷ paths_text paths) (is_utf8 (spelled (47 ∷ output) ++ 58 ∷ paths_text paths)) (ap (λ t. text_info (text_of t)) (sym whole) ∙ is)) in
     sym (words_told paths told) ∙ rule_named info (paths_text paths) (ap rule_info (sym (outputs_at (47 ∷ output) (paths_text paths) (ends_paths paths))) ∙ full)
 
 rule_read : (output : List ℕ) (paths : List (List ℕ)) (all : DepInfo) → has_byte 10 (47 ∷ output) ≡ false → AllByRecursion CanBeTold paths → all_names_of (spelled (47 ∷ output) ++ 58 ∷ paths_text paths) ≡ Ok all
@@ -449,12 +449,13 @@ slash_read : (output : List ℕ) (names : Names) (info : DepInfo) → has_byte 1
 slash_read output names info line paths variables is =
     let read = read_of (dep_info_text (47 ∷ output) names) info is in
     let made = both (line_count (spelled (47 ∷ output) ++ 58 ∷ paths_text names.paths)) (all_names_of (spelled (47 ∷ output) ++ 58 ∷ paths_text names.paths)) (all_names_of (variables_text names.variables)) read.all
-        (sym (names-followed_by (spelled (47 ∷ output) ++ 58 ∷ paths_text names.paths) (variables_text names.variables)) ∙ read.named) in
+    (sym (names-followed_by (spelled (47 ∷ output) ++ 58 ∷ paths_text names.paths) (variables_text names.variables)) ∙ read.named) in
     subst (λ (found : DepInfo). AreAmong names.paths found.words × AreAmong (names_of names.variables) found.variables) read.is
-    (subst (λ (found : DepInfo). AreAmong names.paths (once found.words) × AreAmong (names_of names.variables) (once found.variables)) made.is
-    ( among_once names.paths (made.here.words ++ made.more.words) (among_through names.paths made.here.words made.more.words (rule_read output names.paths made.here line paths made.is_here))
-    , among_once (names_of names.variables) (made.here.variables ++ made.more.variables)
-      (among_second (names_of names.variables) made.here.variables made.more.variables (variables_read names.variables made.more variables made.is_more))))
+    (subst (λ (found : DepInfo). AreAmong names.paths (once found.words) × AreAmong (names_of names.variables) (once found.variables)) made.is (
+      among_once names.paths (made.here.words ++ made.more.words) (among_through names.paths made.here.words made.more.words (rule_read output names.paths made.here line paths made.is_here)),
+      among_once (names_of names.variables) (made.here.variables ++ made.more.variables)
+          (among_second (names_of names.variables) made.here.variables made.more.variables (variables_read names.variables made.more variables made.is_more)),
+    ))
 
 pub reads_back : (output : List ℕ) (names : Names) (info : DepInfo) → ReadsBack output names info
 reads_back [] names info absolute line paths variables is = absurd (cc)
