@@ -18,7 +18,7 @@ const WORDS: &str =
 const DEP_INFO: &str = "/w/target/debug/a.target.lib/liba.rlib: /w/src/lib.rs\n";
 
 /// The words between the bars of a text; the empty text has none.
-pub fn words_of(alloc: Global, text: &str) -> Result<Items<Text>, AllocError> {
+fn words_of(alloc: Global, text: &str) -> Result<Items<Text>, AllocError> {
     let mut words = Items::new(alloc);
     if text.is_empty() {
         return Ok(words);
@@ -36,10 +36,7 @@ fn one_file(alloc: Global, path: &str, bytes: &[u8]) -> Result<Files, AllocError
         Text::from_str(alloc, path)?,
         Bytes::from_slice(alloc, bytes)?,
     ))?;
-    Ok(Files {
-        inside,
-        variables: Items::new(alloc),
-    })
+    Ok(Files { inside })
 }
 
 /// The answer to words where one file is shown.

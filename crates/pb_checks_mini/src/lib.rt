@@ -1,4 +1,4 @@
-//! Tests of the small compiler: worked compiles and runs with their bytes. The crate holds nothing else: a crate with tests is
+//! Tests of the small compiler: worked compiles with their bytes. The crate holds nothing else: a crate with tests is
 //! proved twice, so none that others stand on has any.
 #![tactic(auto)]
 
@@ -7,12 +7,4 @@ mod command_lines;
 #[cfg(test)]
 mod compiles;
 #[cfg(test)]
-mod read_back;
-#[cfg(test)]
-mod runs;
-#[cfg(test)]
-mod verbs;
-#[cfg(test)]
 mod views;
-#[cfg(test)]
-mod worlds;

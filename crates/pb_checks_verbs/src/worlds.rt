@@ -1,12 +1,12 @@
 //! One world of files, variables and pairs, in which compiles and runs are asked for.
 
-use super::compiles::words_of;
 use super::views::Files;
 use pb_data::{Bytes, Items, Text};
 use pb_mini::answer;
 use pb_place::{Reply, ViewFault};
 use std::alloc::{AllocError, Global};
 use std::process::Abort;
+use std::test::Fail;
 
 /// Files by their paths. `/s` and `/i` are put in beside them.
 const FILES: [(&str, &[u8]); 13] = [
@@ -44,6 +44,15 @@ const PAIRS: [(&str, &str); 6] = [
     ("ROOT", "/v"),
     ("CARGO_MANIFEST_DIR", "/w"),
 ];
+
+/// The words between the bars of a text.
+fn words_of(alloc: Global, text: &str) -> Result<Items<Text>, AllocError> {
+    let mut words = Items::new(alloc);
+    for word in text.split('|') {
+        words.push(Text::from_str(alloc, word)?)?;
+    }
+    Ok(words)
+}
 
 /// The world with one file more.
 fn world(alloc: Global, path: &str, bytes: &[u8]) -> Result<Files, AllocError> {
@@ -109,5 +118,21 @@ pub fn assert_answer(
     assert_eq!(rt; reply.stdout.as_slice(), stdout);
     assert_eq!(rt; reply.stderr.as_slice(), stderr);
     assert_eq!(rt; found.as_slice(), files);
+    Ok(())
+}
+
+/// Words of a compile of `/w/s`, with a bar between them.
+pub const WORDS: &str =
+    "--crate-name|c|--crate-type|lib|--out-dir|/o|--cfg|on|--cfg|feature=\"f\"|--cfg||--extern|q=/l/q|--extern|q=/l/p|--extern|gone=/l/gone|--extern|bare|--extern|bare=/l/p|--extern|rel=l/q|--extern|=/l/p|--extern|eq=/l/a=b|/w/s";
+
+/// A source, the status of its compile, its standard error, and its files.
+pub type Case = (&'static [u8], i32, &'static [u8], &'static [u8]);
+
+/// Asserts what the compile of each source answers.
+pub fn assert_cases(rt: &impl Abort, alloc: Global, cases: &[Case]) -> Result<(), Fail> {
+    for case in cases {
+        let reply = answer_in(alloc, WORDS, "/w/s", case.0)?;
+        assert_answer(rt, alloc, &reply, case.1, b"", case.2, case.3)?;
+    }
     Ok(())
 }
