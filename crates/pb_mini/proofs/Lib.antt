@@ -1,4 +1,9 @@
-pub mod Honesty
-pub mod Lines
+pub mod ConditionLemmas
+pub mod DoingLemmas
+pub mod HonestyLemmas
+pub mod LineLemmas
+pub mod MentionLemmas
+pub mod ScriptLemmas
+pub mod SlashLemmas
 pub mod Texts
 pub mod Words

@@ -1,18 +1,26 @@
 -- What the small compiler answers to any words.
-use Rattle.std.specs.Prelude.{ℕ, pos, Bool, false, if◌then◌else◌, codes, List, [], ◌∷◌, Result, Ok, Err}
+use Rattle.std.specs.Prelude.{ℕ, pos, if◌then◌else◌, codes, List, [], ◌∷◌, Result, Ok, Err}
 use Rattle.std.specs.Str.{bytes_eq}
+use Rattle.pb_data.specs.Gives.{◌>>=◌}
+use Rattle.pb_data.specs.Table.{table_of}
 use Rattle.pb_place.specs.World.{World}
 use Rattle.pb_place.specs.declared.child.Reply.{Reply}
 use Rattle.pb_mini.specs.CommandLine.{command_line_of}
 use Rattle.pb_mini.specs.Compile.{compiled}
-use Rattle.pb_mini.specs.declared.command_line.CommandLine.{CommandLine}
+use Rattle.pb_mini.specs.Script.{ran}
 use Rattle.pb_mini.specs.declared.command_line.CommandLineFault.{CommandLineFault}
+use Rattle.pb_mini.specs.declared.request.Request.{Request}
+use Rattle.pb_mini.specs.declared.request.Request.TheVariants.{Version, Run, Compile}
 
--- `-vV` alone
-abbrev pub asks_version : List (List ℕ) → Bool
-asks_version [] = false
-asks_version (word ∷ []) = bytes_eq word (codes "-vV")
-asks_version (word ∷ other ∷ words) = false
+abbrev pub compile_in : List (List ℕ) → Result Request CommandLineFault
+compile_in words = command_line_of words >>= (λ line. Ok (Compile line))
+
+-- what words ask for: `-vV` alone the version, `--run` and one word the run of an image, and others a compile, if they say one
+abbrev pub request_of : List (List ℕ) → Result Request CommandLineFault
+request_of [] = compile_in []
+request_of (word ∷ []) = if bytes_eq word (codes "-vV") then Ok Version else compile_in (word ∷ [])
+request_of (word ∷ path ∷ []) = if bytes_eq word (codes "--run") then Ok (Run path) else compile_in (word ∷ path ∷ [])
+request_of (word ∷ other ∷ next ∷ words) = compile_in (word ∷ other ∷ next ∷ words)
 
 abbrev pub version : Reply
 version = record { status = pos 0; stdout = codes "mini 0.1.0\nhost: mini-unknown-none\n"; stderr = []; files = [] }
@@ -20,10 +28,15 @@ version = record { status = pos 0; stdout = codes "mini 0.1.0\nhost: mini-unknow
 abbrev pub bad_command_line : Reply
 bad_command_line = record { status = pos 2; stdout = []; stderr = codes "mini: bad command line\n"; files = [] }
 
--- the compile that words say, if they say one
-abbrev pub answered_line : Result CommandLine CommandLineFault → World → Reply
-answered_line (Ok line) w = compiled line w
-answered_line (Err e) w = bad_command_line
+abbrev pub replied_to : Request → List (List ℕ × List ℕ) → World → Reply
+replied_to Version pairs w = version
+replied_to (Run path) pairs w = ran path pairs w
+replied_to (Compile line) pairs w = compiled line pairs w
 
+abbrev pub replied_if : Result Request CommandLineFault → List (List ℕ × List ℕ) → World → Reply
+replied_if (Ok request) pairs w = replied_to request pairs w
+replied_if (Err e) pairs w = bad_command_line
+
+-- of pairs with one name the last counts
 abbrev pub answered : List (List ℕ) → List (List ℕ × List ℕ) → World → Reply
-answered words pairs w = if asks_version words then version else answered_line (command_line_of words) w
+answered words pairs w = replied_if (request_of words) (table_of pairs) w

@@ -5,7 +5,7 @@ use Rattle.std.specs.Str.{bytes_eq}
 use Rattle.pb_data.specs.Gives.{◌>>=◌}
 use Rattle.pb_place.specs.Paths.{is_relative, parsed}
 use Rattle.pb_mini.specs.declared.command_line.Role.{Role}
-use Rattle.pb_mini.specs.declared.command_line.Role.TheVariants.{CrateName, CrateType, OutDir, Source, Unused}
+use Rattle.pb_mini.specs.declared.command_line.Role.TheVariants.{CrateName, CrateType, OutDir, Source, Extern, Condition, Unused}
 use Rattle.pb_mini.specs.declared.command_line.CrateType as kind
 use Rattle.pb_mini.specs.declared.command_line.CrateType.TheVariants.{Bin, Lib}
 use Rattle.pb_mini.specs.declared.command_line.Arguments.{Arguments}
@@ -27,6 +27,8 @@ role_of option =
     if bytes_eq option (codes "--crate-name") then CrateName
     else if bytes_eq option (codes "--crate-type") then CrateType
     else if bytes_eq option (codes "--out-dir") then OutDir
+    else if bytes_eq option (codes "--extern") then Extern
+    else if bytes_eq option (codes "--cfg") then Condition
     else Unused
 
 -- a word that says all by itself, and is passed over
@@ -38,7 +40,7 @@ abbrev pub role_alone : List ℕ → Role
 role_alone word = if is_setting word then Unused else Source
 
 abbrev pub no_arguments : Arguments
-no_arguments = record { crate_names = []; crate_types = []; out_dirs = []; sources = [] }
+no_arguments = record { crate_names = []; crate_types = []; out_dirs = []; sources = []; externs = []; conditions = [] }
 
 -- one value more, before the others
 abbrev pub with_value : Role → List ℕ → Arguments → Arguments
@@ -46,11 +48,20 @@ with_value CrateName value said = record said { crate_names = value ∷ said.cra
 with_value CrateType value said = record said { crate_types = value ∷ said.crate_types }
 with_value OutDir value said = record said { out_dirs = value ∷ said.out_dirs }
 with_value Source value said = record said { sources = value ∷ said.sources }
+with_value Extern value said = record said { externs = value ∷ said.externs }
+with_value Condition value said = record said { conditions = value ∷ said.conditions }
 with_value Unused value said = said
 
 -- those of some words, and then those of the words after them
 abbrev pub joined : Arguments → Arguments → Arguments
-joined a b = record { crate_names = a.crate_names ++ b.crate_names; crate_types = a.crate_types ++ b.crate_types; out_dirs = a.out_dirs ++ b.out_dirs; sources = a.sources ++ b.sources }
+joined a b = record {
+  crate_names = a.crate_names ++ b.crate_names;
+  crate_types = a.crate_types ++ b.crate_types;
+  out_dirs = a.out_dirs ++ b.out_dirs;
+  sources = a.sources ++ b.sources;
+  externs = a.externs ++ b.externs;
+  conditions = a.conditions ++ b.conditions;
+}
 
 abbrev pub after : Arguments → Result Arguments CommandLineFault → Result Arguments CommandLineFault
 after said more = more >>= (λ rest. Ok (joined said rest))
@@ -109,4 +120,13 @@ command_line_of words =
     file_named (image_name (crate_type_of type) name) >>= (λ image.
     file_named (dep_info_name name) >>= (λ dep_info.
     folder_of folder >>= (λ out_dir.
-    Ok record { crate_type = crate_type_of type; crate_name = name; image = image; dep_info = dep_info; out_dir = out_dir; source = source }))))))))
+    Ok record {
+      crate_type = crate_type_of type;
+      crate_name = name;
+      image = image;
+      dep_info = dep_info;
+      out_dir = out_dir;
+      source = source;
+      externs = said.externs;
+      conditions = said.conditions;
+    }))))))))

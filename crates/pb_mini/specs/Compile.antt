@@ -1,69 +1,71 @@
 -- A compile: its source, its image and its reply.
-use Rattle.std.specs.Prelude.{ℕ, ℤ, pos, if◌then◌else◌, codes, List, [], ◌∷◌, ◌++◌, Option, Some, None, option_and_then, Result, Ok, Err}
+use Rattle.std.specs.Prelude.{ℕ, ℤ, pos, Bool, if◌then◌else◌, codes, List, [], ◌∷◌, ◌++◌, Option, Some, None, option_and_then}
 use Rattle.std.specs.Str.{is_utf8}
-use Rattle.std.specs.FinMap as map
-use Rattle.pb_place.specs.Paths.{parsed, below}
+use Rattle.pb_place.specs.Paths.{below}
 use Rattle.pb_place.specs.World.{World}
-use Rattle.pb_place.specs.declared.path.PathFault.{PathFault}
 use Rattle.pb_place.specs.declared.child.Reply.{Reply}
 use Rattle.pb_mini.specs.Diagnostics.{has_error, diagnostics_text}
 use Rattle.pb_mini.specs.DepInfo.{dep_info_text}
-use Rattle.pb_mini.specs.Effects.{no_effects, joined, reads, effects_in}
+use Rattle.pb_mini.specs.Effects.{joined, diagnosed, reads, names_once}
+use Rattle.pb_mini.specs.Lines.{lines_of, ended}
+use Rattle.pb_mini.specs.Lookups.{path_of, file_at}
+use Rattle.pb_mini.specs.Scope.{scope_of}
+use Rattle.pb_mini.specs.Verbs.{effects_from}
 use Rattle.pb_mini.specs.declared.command_line.CrateType.{CrateType}
 use Rattle.pb_mini.specs.declared.command_line.CrateType.TheVariants.{Bin, Lib}
 use Rattle.pb_mini.specs.declared.command_line.CommandLine.{CommandLine}
-use Rattle.pb_mini.specs.declared.diagnostic.Diagnostic.{Diagnostic}
+use Rattle.pb_mini.specs.declared.dep_info.Names.{Names}
+use Rattle.pb_mini.specs.declared.diagnostic.Level.TheVariants.{Error}
 use Rattle.pb_mini.specs.declared.effects.Effects.{Effects}
 
 -- the text that bytes are, if they are one
 abbrev pub text_of : List ℕ → Option (List ℕ)
 text_of bytes = if is_utf8 bytes then Some bytes else None
 
-abbrev pub path_said : Result (List ℕ) PathFault → Option (List ℕ)
-path_said (Ok path) = Some path
-path_said (Err e) = None
+-- the text of the file at a path, if there is a path and a file, and it is UTF-8
+abbrev pub text_at : World → Option (List ℕ) → Option (List ℕ)
+text_at w path = option_and_then text_of (file_at w path)
 
--- the path of a source, if the text is one
-abbrev pub source_path : List ℕ → Option (List ℕ)
-source_path source = path_said (parsed source)
+-- a source that has no path, is not there or is no text is told of line 0
+abbrev pub no_source : Effects
+no_source = diagnosed Error (codes "no source") 0
 
--- the text of a source, if it has a path, is there and is UTF-8
-abbrev pub source_text : Option (List ℕ) → World → Option (List ℕ)
-source_text path w = option_and_then (λ p. option_and_then text_of (map.get w.files p)) path
-
-abbrev pub reads_of : Option (List ℕ) → Effects
-reads_of None = no_effects
-reads_of (Some path) = reads path
+-- what the lines of a source with this path and this text do
+abbrev pub source_effects : CommandLine → List (List ℕ × List ℕ) → World → Option (List ℕ) → Option (List ℕ) → Effects
+source_effects line pairs w None text = no_source
+source_effects line pairs w (Some source) None = no_source
+source_effects line pairs w (Some source) (Some text) = effects_from (scope_of line pairs source) w 0 (lines_of text)
 
 -- all that a compile does: it reads the source, and does its lines
-abbrev pub effects_of : CommandLine → World → Effects
-effects_of line w = joined (reads_of (source_path line.source)) (effects_in (source_text (source_path line.source) w))
+abbrev pub effects_of : CommandLine → List (List ℕ × List ℕ) → World → Effects
+effects_of line pairs w = joined (reads (path_of line.source)) (source_effects line pairs w (path_of line.source) (text_at w (path_of line.source)))
 
 abbrev pub title : CrateType → List ℕ
 title Bin = codes "mini bin "
 title Lib = codes "mini lib "
 
--- each line with a line feed
-abbrev pub lines_text : List (List ℕ) → List ℕ
-lines_text [] = []
-lines_text (line ∷ lines) = line ++ 10 ∷ lines_text lines
-
 -- `mini bin NAME` or `mini lib NAME`, and then the lines
-abbrev pub image_text : CommandLine → List (List ℕ) → List ℕ
-image_text line lines = lines_text ((title line.crate_type ++ line.crate_name) ∷ lines)
+abbrev pub image_text : CommandLine → List ℕ → List ℕ
+image_text line lines = ended (title line.crate_type ++ line.crate_name) ++ lines
 
 -- with an error the status is 1, and there is no image
-abbrev pub status_of : List Diagnostic → ℤ
-status_of diagnostics = if has_error diagnostics then pos 1 else pos 0
+abbrev pub status_of : Bool → ℤ
+status_of is_bad = if is_bad then pos 1 else pos 0
 
-abbrev pub image_file : CommandLine → Effects → List (List ℕ × List ℕ)
-image_file line effects = if has_error effects.diagnostics then [] else (line.image, image_text line effects.image) ∷ []
+abbrev pub image_file : CommandLine → Bool → List ℕ → List (List ℕ × List ℕ)
+image_file line is_bad lines = if is_bad then [] else (line.image, image_text line lines) ∷ []
 
-abbrev pub files_of : CommandLine → Effects → List (List ℕ × List ℕ)
-files_of line effects = image_file line effects ++ (line.dep_info, dep_info_text (below line.out_dir line.image) effects.names) ∷ []
+abbrev pub files_of : CommandLine → Bool → List ℕ → Names → List (List ℕ × List ℕ)
+files_of line is_bad lines names = image_file line is_bad lines ++ (line.dep_info, dep_info_text (below line.out_dir line.image) names) ∷ []
 
 abbrev pub replied : CommandLine → Effects → Reply
-replied line effects = record { status = status_of effects.diagnostics; stdout = []; stderr = diagnostics_text effects.diagnostics; files = files_of line effects }
+replied line effects = record {
+  status = status_of (has_error effects.diagnostics);
+  stdout = [];
+  stderr = diagnostics_text effects.diagnostics;
+  files = files_of line (has_error effects.diagnostics) effects.image effects.names;
+}
 
-abbrev pub compiled : CommandLine → World → Reply
-compiled line w = replied line (effects_of line w)
+-- each name that was read stands once in the dep-info
+abbrev pub compiled : CommandLine → List (List ℕ × List ℕ) → World → Reply
+compiled line pairs w = replied line (names_once (effects_of line pairs w))

@@ -1,6 +1,5 @@
 -- The dep-info file: what a compile read, spelled.
 use Rattle.std.specs.Prelude.{ℕ, ◌==◌, if◌then◌else◌, codes, List, [], ◌∷◌, ◌++◌, Option, Some, None}
-use Rattle.pb_mini.specs.declared.dep_info.Variable.{Variable}
 use Rattle.pb_mini.specs.declared.dep_info.Names.{Names}
 
 -- a path, with `\ ` for each space
@@ -19,12 +18,12 @@ value_text None = []
 value_text (Some value) = 61 ∷ value
 
 -- `# env-dep:NAME` or `# env-dep:NAME=VALUE`, and a line feed
-abbrev pub variable_text : Variable → List ℕ
-variable_text v = codes "# env-dep:" ++ v.name ++ value_text v.value ++ 10 ∷ []
+abbrev pub variable_text : List ℕ × Option (List ℕ) → List ℕ
+variable_text variable = codes "# env-dep:" ++ variable.0 ++ value_text variable.1 ++ 10 ∷ []
 
-abbrev pub variables_text : List Variable → List ℕ
+abbrev pub variables_text : List (List ℕ × Option (List ℕ)) → List ℕ
 variables_text [] = []
-variables_text (v ∷ vs) = variable_text v ++ variables_text vs
+variables_text (variable ∷ variables) = variable_text variable ++ variables_text variables
 
 -- `OUTPUT: PATHS` and a line feed, then the variables
 abbrev pub dep_info_text : List ℕ → Names → List ℕ

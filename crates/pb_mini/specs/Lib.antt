@@ -5,3 +5,8 @@ pub mod DepInfo
 pub mod Diagnostics
 pub mod Effects
 pub mod Honesty
+pub mod Lines
+pub mod Lookups
+pub mod Scope
+pub mod Script
+pub mod Verbs

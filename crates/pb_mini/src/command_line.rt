@@ -49,6 +49,10 @@ pub enum Role {
     OutDir,
     /// The file that is compiled.
     Source,
+    /// A library with its file, as `NAME=PATH`.
+    Extern,
+    /// A condition that holds.
+    Condition,
     /// Nothing: the small compiler passes it over.
     Unused,
 }
@@ -73,6 +77,10 @@ pub struct Arguments {
     pub out_dirs: Items<Text>,
     /// The words that are no option and no value of one.
     pub sources: Items<Text>,
+    /// Those after `--extern`.
+    pub externs: Items<Text>,
+    /// Those after `--cfg`.
+    pub conditions: Items<Text>,
 }
 
 /// A compile, as its words say it.
@@ -91,6 +99,10 @@ pub struct CommandLine {
     pub out_dir: PathText,
     /// The source, as written.
     pub source: Text,
+    /// The libraries with their files, each as `NAME=PATH`.
+    pub externs: Items<Text>,
+    /// The conditions that are given.
+    pub conditions: Items<Text>,
 }
 
 /// Whether the next word is the value of this one.
@@ -121,6 +133,12 @@ fn role_of(option: &str) -> Role
     if option == "--out-dir" {
         return Role::OutDir;
     }
+    if option == "--extern" {
+        return Role::Extern;
+    }
+    if option == "--cfg" {
+        return Role::Condition;
+    }
     Role::Unused
 }
 
@@ -146,6 +164,8 @@ fn add_value(said: &mut Arguments, role: Role, value: Text) -> Result<(), AllocE
         Role::CrateType => said.crate_types.push(value)?,
         Role::OutDir => said.out_dirs.push(value)?,
         Role::Source => said.sources.push(value)?,
+        Role::Extern => said.externs.push(value)?,
+        Role::Condition => said.conditions.push(value)?,
         Role::Unused => {}
     }
     Ok(())
@@ -182,6 +202,8 @@ fn arguments_of(alloc: Global, words: &[Text]) -> Result<Arguments, CommandLineF
         crate_types: Items::new(alloc),
         out_dirs: Items::new(alloc),
         sources: Items::new(alloc),
+        externs: Items::new(alloc),
+        conditions: Items::new(alloc),
     };
     let mut waiting = None;
     for word in words {
@@ -292,5 +314,7 @@ pub(crate) fn command_line_of(
         dep_info,
         out_dir,
         source,
+        externs: said.externs,
+        conditions: said.conditions,
     })
 }

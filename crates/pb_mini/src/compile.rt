@@ -1,33 +1,28 @@
 //! A compile: its source, its image and its reply.
 
-ghost use Rattle.std.specs.Prelude.{◌≡◌, ◌++◌, ◌∷◌, [], IfOk, OnOk, IfErr, IsTrue, ℕ, List};
-ghost use Rattle.pb_mini.specs.Effects.{joined, effects_in};
-ghost use Rattle.pb_mini.specs.Compile.{text_of, source_path, source_text, reads_of, effects_of, title, lines_text, image_text, status_of, files_of, replied, compiled};
-ghost use Rattle.pb_mini.specs.declared.effects.Effects.{Effects};
+ghost use Rattle.std.specs.Prelude.{◌≡◌, ◌++◌, [], IfOk, OnOk, IfErr, IsTrue, ℕ, List};
+ghost use Rattle.pb_mini.specs.Effects.{followed_by, names_once};
+ghost use Rattle.pb_mini.specs.Lines.{lines_of};
+ghost use Rattle.pb_mini.specs.Verbs.{effects_from};
+ghost use Rattle.pb_mini.specs.Compile.{text_of, text_at, no_source, source_effects, effects_of, title, image_text, replied, files_of, compiled};
 ghost use Rattle.pb_place.specs.declared.child.ViewFault.TheVariants as view_fault;
 
+use crate::buffer::Buffer;
 use crate::command_line::{CommandLine, CrateType};
-use crate::dep_info::dep_info_text;
+use crate::dep_info::{Names, dep_info_text};
 use crate::diagnostic::{Level, diagnostics_text, has_error};
-use crate::effects::{Effects, add_diagnostic, add_lines};
-use pb_data::{Bytes, Items, Text, TryCopy};
-use pb_place::{PathFault, PathText, RelativePath, Reply, View, ViewFault};
+use crate::effects::{Effects, add_path, add_said};
+use crate::lines::{push_line, text_lines};
+use crate::lookups::{file_at, path_of};
+use crate::scope::Scope;
+use crate::verbs::add_lines;
+use pb_data::{Bytes, Items, Table, Text, TryCopy};
+use pb_place::{PathText, RelativePath, Reply, View, ViewFault};
 use std::alloc::{AllocError, Global};
-
-/// The path of a source, or none where the text is no absolute path.
-fn source_path(alloc: Global, source: &str) -> Result<Option<PathText>, AllocError>
-    ensures { IfOk result (λ path. path ≡ source_path source.now) }
-{
-    match PathText::parse(alloc, source) {
-        Ok(path) => Ok(Some(path)),
-        Err(PathFault::OutOfMemory) => Err(AllocError),
-        Err(_) => Ok(None),
-    }
-}
 
 /// The text that bytes are, or none where they are not UTF-8.
 #[tactic(auto, using(crate::proofs::Texts::text_laws))]
-fn text_of(alloc: Global, bytes: &[u8]) -> Result<Option<Text>, AllocError>
+pub(crate) fn text_of(alloc: Global, bytes: &[u8]) -> Result<Option<Text>, AllocError>
     ensures { IfOk result (λ text. text ≡ text_of bytes.now) }
 {
     match str::from_utf8(bytes) {
@@ -39,56 +34,86 @@ fn text_of(alloc: Global, bytes: &[u8]) -> Result<Option<Text>, AllocError>
     }
 }
 
-/// The text of the source, or none where it has no path, is not there or is not UTF-8.
-fn source_text<V: View>(
+/// The text of the file at a path, or none where there is no path or no file, or it is not UTF-8.
+pub(crate) fn text_at<V: View>(
     alloc: Global,
-    path: &Option<PathText>,
     view: &V,
+    path: &Option<PathText>,
 ) -> Result<Option<Text>, ViewFault>
-    ensures text { IsTrue V.tells → IfOk result (λ text. text ≡ source_text path.now (V.shown view.now)) }
+    ensures text { IsTrue V.tells → IfOk result (λ text. text ≡ text_at (V.shown view.now) path.now) }
     ensures failed { IfErr result (λ e. e ≡ ViewFault.Failed → V.fails view.now) }
 {
-    let Some(path) = path else {
-        return Ok(None);
-    };
-    let Some(bytes) = view.file(alloc, path)? else {
+    let Some(bytes) = file_at(alloc, view, path)? else {
         return Ok(None);
     };
     let text = text_of(alloc, bytes.as_slice())?;
     Ok(text)
 }
 
-/// What reading the source does: its path, where it has one, is a name that is read.
-fn reads_of(alloc: Global, path: Option<PathText>) -> Result<Effects, AllocError>
-    ensures { IfOk result (λ effects. effects ≡ reads_of path) }
+/// Says that there is no source.
+fn add_no_source(alloc: Global, effects: &mut Effects) -> Result<(), AllocError>
+    ensures { OnOk result (effects.new ≡ followed_by effects.old no_source) }
 {
-    let mut effects = Effects::new(alloc);
-    if let Some(path) = path {
-        effects.names.paths.push(path)?;
-    }
-    Ok(effects)
-}
-
-/// Does the lines of the source, or says that there is none.
-fn add_source(alloc: Global, effects: &mut Effects, text: &Option<Text>) -> Result<(), AllocError>
-    ensures { OnOk result (effects.new ≡ joined effects.old (effects_in text.now)) }
-{
-    match text {
-        Some(text) => add_lines(alloc, effects, text.as_str())?,
-        None => add_diagnostic(alloc, effects, Level::Error, "no source", 0)?,
-    }
+    add_said(alloc, effects, Level::Error, "no source", 0)?;
     Ok(())
 }
 
-/// All that a compile does.
-fn effects_of<V: View>(alloc: Global, line: &CommandLine, view: &V) -> Result<Effects, ViewFault>
-    ensures effects { IsTrue V.tells → IfOk result (λ effects. effects ≡ effects_of line.now (V.shown view.now)) }
+/// Does the lines of a source with this text.
+fn add_text<V: View>(
+    alloc: Global,
+    effects: &mut Effects,
+    scope: &Scope,
+    view: &V,
+    text: &str,
+) -> Result<(), ViewFault>
+    ensures done { IsTrue V.tells → OnOk result (effects.new ≡ followed_by effects.old (effects_from scope.now (V.shown view.now) 0 (lines_of text.now))) }
     ensures failed { IfErr result (λ e. e ≡ ViewFault.Failed → V.fails view.now) }
 {
-    let path = source_path(alloc, line.source.as_str())?;
-    let text = source_text(alloc, &path, view)?;
-    let mut effects = reads_of(alloc, path)?;
-    add_source(alloc, &mut effects, &text)?;
+    let lines = text_lines(alloc, text)?;
+    add_lines(alloc, effects, scope, view, lines.as_slice())?;
+    Ok(())
+}
+
+/// Does the lines of a source with this path and this text, or says that there is none.
+fn add_source<V: View>(
+    alloc: Global,
+    effects: &mut Effects,
+    line: &CommandLine,
+    pairs: Table<Text>,
+    view: &V,
+    source: &Option<PathText>,
+    text: &Option<Text>,
+) -> Result<(), ViewFault>
+    ensures done { IsTrue V.tells → OnOk result (effects.new ≡ followed_by effects.old (source_effects line.now pairs (V.shown view.now) source.now text.now)) }
+    ensures failed { IfErr result (λ e. e ≡ ViewFault.Failed → V.fails view.now) }
+{
+    let Some(source) = source else {
+        add_no_source(alloc, effects)?;
+        return Ok(());
+    };
+    let Some(text) = text else {
+        add_no_source(alloc, effects)?;
+        return Ok(());
+    };
+    let scope = Scope::new(alloc, line, pairs, source)?;
+    add_text(alloc, effects, &scope, view, text.as_str())
+}
+
+/// All that a compile does, each name once.
+fn effects_of<V: View>(
+    alloc: Global,
+    line: &CommandLine,
+    pairs: Table<Text>,
+    view: &V,
+) -> Result<Effects, ViewFault>
+    ensures effects { IsTrue V.tells → IfOk result (λ effects. effects ≡ names_once (effects_of line.now pairs (V.shown view.now))) }
+    ensures failed { IfErr result (λ e. e ≡ ViewFault.Failed → V.fails view.now) }
+{
+    let source = path_of(alloc, line.source.as_str())?;
+    let text = text_at(alloc, view, &source)?;
+    let mut effects = Effects::new(alloc);
+    add_path(&mut effects, source.copy(alloc)?)?;
+    add_source(alloc, &mut effects, line, pairs, view, &source, &text)?;
     Ok(effects)
 }
 
@@ -102,60 +127,52 @@ fn title(crate_type: CrateType) -> &'static str
     }
 }
 
-/// Adds lines at the end, each with a line feed.
-fn push_lines(text: &mut Vec<u8>, lines: &[Text]) -> Result<(), AllocError>
-    ensures { OnOk result (text.new.items ≡ text.old.items ++ lines_text lines.now) }
-{
-    for line in lines {
-        text.extend_from_slice(line.as_bytes())?;
-        text.push(b'\n')?;
-    }
-    Ok(())
-}
-
 /// The image: what it is and the crate's name, and then its lines.
-fn image_text(alloc: Global, line: &CommandLine, lines: &[Text]) -> Result<Vec<u8>, AllocError>
-    ensures { IfOk result (λ text. text.items ≡ image_text line.now lines.now) }
+fn image_text(alloc: Global, line: &CommandLine, lines: &[u8]) -> Result<Bytes, AllocError>
+    ensures { IfOk result (λ text. text ≡ image_text line.now lines.now) }
 {
-    let mut text = Vec::new(alloc);
-    text.extend_from_slice(title(line.crate_type).as_bytes())?;
-    text.extend_from_slice(line.crate_name.as_bytes())?;
-    text.push(b'\n')?;
-    push_lines(&mut text, lines)?;
-    Ok(text)
+    let mut text = Buffer::new(alloc);
+    text.push(title(line.crate_type).as_bytes())?;
+    push_line(&mut text, line.crate_name.as_bytes())?;
+    text.push(lines)?;
+    Ok(text.into_bytes())
 }
 
-/// The files of a compile: the image where there is no error, and the dep-info.
+/// The files of a compile: the image where it is good, and the dep-info.
 fn files_of(
     alloc: Global,
     line: &CommandLine,
-    effects: &Effects,
+    is_bad: bool,
+    lines: &[u8],
+    names: Names,
 ) -> Result<Items<(RelativePath, Bytes)>, AllocError>
-    ensures { IfOk result (λ files. files ≡ files_of line.now effects.now) }
+    ensures { IfOk result (λ files. files ≡ files_of line.now is_bad lines.now names) }
 {
     let mut files = Items::new(alloc);
-    if !has_error(effects.diagnostics.as_slice()) {
-        let image = image_text(alloc, line, effects.image.as_slice())?;
-        files.push((line.image.copy(alloc)?, Bytes::new(image)))?;
+    if !is_bad {
+        let image = image_text(alloc, line, lines)?;
+        files.push((line.image.copy(alloc)?, image))?;
     }
     let output = line.out_dir.below(alloc, &line.image)?;
-    let dep_info = dep_info_text(alloc, &output, &effects.names)?;
+    let dep_info = dep_info_text(alloc, &output, names)?;
     files.push((line.dep_info.copy(alloc)?, Bytes::new(dep_info)))?;
     Ok(files)
 }
 
 /// The reply of a compile that does this.
-fn replied(alloc: Global, line: &CommandLine, effects: &Effects) -> Result<Reply, AllocError>
-    ensures { IfOk result (λ reply. reply ≡ replied line.now effects.now) }
+fn replied(alloc: Global, line: &CommandLine, effects: Effects) -> Result<Reply, AllocError>
+    ensures { IfOk result (λ reply. reply ≡ replied line.now effects) }
 {
-    let diagnostics = diagnostics_text(alloc, effects.diagnostics.as_slice())?;
-    let stderr = Bytes::from_slice(alloc, diagnostics.as_bytes())?;
-    let files = files_of(alloc, line, effects)?;
-    let status = if has_error(effects.diagnostics.as_slice()) {
-        1
-    } else {
-        0
-    };
+    let Effects {
+        image,
+        diagnostics,
+        names,
+    } = effects;
+    let text = diagnostics_text(alloc, diagnostics.as_slice())?;
+    let stderr = Bytes::from_slice(alloc, text.as_bytes())?;
+    let is_bad = has_error(diagnostics.as_slice());
+    let files = files_of(alloc, line, is_bad, image.as_slice(), names)?;
+    let status = if is_bad { 1 } else { 0 };
     Ok(Reply {
         status,
         stdout: Bytes::new(Vec::new(alloc)),
@@ -170,12 +187,13 @@ fn replied(alloc: Global, line: &CommandLine, effects: &Effects) -> Result<Reply
 pub(crate) fn compile<V: View>(
     alloc: Global,
     line: &CommandLine,
+    pairs: Table<Text>,
     view: &V,
 ) -> Result<Reply, ViewFault>
-    ensures reply { IsTrue V.tells → IfOk result (λ reply. reply ≡ compiled line.now (V.shown view.now)) }
+    ensures reply { IsTrue V.tells → IfOk result (λ reply. reply ≡ compiled line.now pairs (V.shown view.now)) }
     ensures failed { IfErr result (λ e. e ≡ ViewFault.Failed → V.fails view.now) }
 {
-    let effects = effects_of(alloc, line, view)?;
-    let reply = replied(alloc, line, &effects)?;
+    let effects = effects_of(alloc, line, pairs, view)?;
+    let reply = replied(alloc, line, effects)?;
     Ok(reply)
 }

@@ -3,27 +3,18 @@
 ghost use Rattle.std.specs.Prelude.{◌≡◌, ◌++◌, IfOk, OnOk, ℕ, List};
 ghost use Rattle.pb_mini.specs.DepInfo.{spelled, paths_text, value_text, variable_text, variables_text, dep_info_text};
 
-use pb_data::{Items, Text};
+use pb_data::{Mentions, Table, Text};
 use pb_place::PathText;
 use std::alloc::{AllocError, Global};
 
-/// A variable that a compile declared.
-#[derive(Debug, Drop)]
-pub struct Variable {
-    /// The variable's name.
-    pub name: Text,
-    /// The value that the compile saw, or none where it was not set.
-    pub value: Option<Text>,
-}
-
-/// The names of all that a compile read, in order of first mention. The small compiler's reply rests on nothing
-/// else that may change, but for the files of other units.
+/// The names of all that a compile read, each once, in order of first mention. The small compiler's reply rests on
+/// nothing else that may change, but for the files of other units.
 #[derive(Debug, Drop)]
 pub struct Names {
     /// Files, also those that were not there.
-    pub paths: Items<PathText>,
-    /// Variables.
-    pub variables: Items<Variable>,
+    pub paths: Mentions,
+    /// Variables, each with the value that the compile saw, or none where it was not set.
+    pub variables: Table<Option<Text>>,
 }
 
 /// Adds a path at the end, with `\ ` for each space.
@@ -40,7 +31,7 @@ fn push_spelled(text: &mut Vec<u8>, path: &str) -> Result<(), AllocError>
 }
 
 /// Adds each path at the end, after a space.
-fn push_paths(text: &mut Vec<u8>, paths: &[PathText]) -> Result<(), AllocError>
+fn push_paths(text: &mut Vec<u8>, paths: &[Text]) -> Result<(), AllocError>
     ensures { OnOk result (text.new.items ≡ text.old.items ++ paths_text paths.now) }
 {
     for path in paths {
@@ -51,12 +42,12 @@ fn push_paths(text: &mut Vec<u8>, paths: &[PathText]) -> Result<(), AllocError>
 }
 
 /// Adds the line of a variable at the end.
-fn push_variable(text: &mut Vec<u8>, variable: &Variable) -> Result<(), AllocError>
+fn push_variable(text: &mut Vec<u8>, variable: &(Text, Option<Text>)) -> Result<(), AllocError>
     ensures { OnOk result (text.new.items ≡ text.old.items ++ variable_text variable.now) }
 {
     text.extend_from_slice(b"# env-dep:")?;
-    text.extend_from_slice(variable.name.as_bytes())?;
-    if let Some(value) = &variable.value {
+    text.extend_from_slice(variable.0.as_bytes())?;
+    if let Some(value) = &variable.1 {
         text.push(b'=')?;
         text.extend_from_slice(value.as_bytes())?;
     }
@@ -65,7 +56,7 @@ fn push_variable(text: &mut Vec<u8>, variable: &Variable) -> Result<(), AllocErr
 }
 
 /// Adds the lines of variables at the end.
-fn push_variables(text: &mut Vec<u8>, variables: &[Variable]) -> Result<(), AllocError>
+fn push_variables(text: &mut Vec<u8>, variables: &[(Text, Option<Text>)]) -> Result<(), AllocError>
     ensures { OnOk result (text.new.items ≡ text.old.items ++ variables_text variables.now) }
 {
     for variable in variables {
@@ -80,15 +71,16 @@ fn push_variables(text: &mut Vec<u8>, variables: &[Variable]) -> Result<(), Allo
 pub(crate) fn dep_info_text(
     alloc: Global,
     output: &PathText,
-    names: &Names,
+    names: Names,
 ) -> Result<Vec<u8>, AllocError>
-    ensures { IfOk result (λ text. text.items ≡ dep_info_text output.now names.now) }
+    ensures { IfOk result (λ text. text.items ≡ dep_info_text output.now names) }
 {
     let mut text = Vec::new(alloc);
     push_spelled(&mut text, output.as_str())?;
     text.push(b':')?;
     push_paths(&mut text, names.paths.as_slice())?;
     text.push(b'\n')?;
-    push_variables(&mut text, names.variables.as_slice())?;
+    let variables = names.variables.into_items(alloc)?;
+    push_variables(&mut text, variables.as_slice())?;
     Ok(text)
 }

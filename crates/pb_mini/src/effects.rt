@@ -1,74 +1,25 @@
-//! What the lines of a source do.
+//! What lines do: they put bytes in the image, give diagnostics, and name what they read.
 
-ghost use Rattle.std.specs.Prelude.{◌≡◌, ◌==◌, map, IfOk, OnOk, ℕ, List};
-ghost use Rattle.std.specs.List.{before_first, after_first, slice_split};
-ghost use Rattle.pb_mini.specs.Effects.{no_effects, joined, copied, diagnosed, verb_of, is_passed_over, effect_of, effects_from, lines_of};
+ghost use Rattle.std.specs.Prelude.{◌≡◌, IfOk, OnOk, Some};
+ghost use Rattle.pb_mini.specs.Effects.{no_effects, joined, followed_by, Does, copied, copied_file, diagnosed, reads, asks};
 
+use crate::buffer::Buffer;
 use crate::dep_info::Names;
 use crate::diagnostic::{Diagnostic, Level};
-use pb_data::{Items, Text};
+use crate::lines::{push_line, push_quoted};
+use pb_data::{Items, Mentions, Table, Text};
+use pb_place::PathText;
 use std::alloc::{AllocError, Global};
 
 /// What the lines of a source do together.
 #[derive(Debug, Drop)]
 pub struct Effects {
-    /// Lines of the image, after its first.
-    pub image: Items<Text>,
+    /// The lines of the image after its first, each with its line feed.
+    pub image: Buffer,
     /// What is said of the lines.
     pub diagnostics: Items<Diagnostic>,
     /// The names of what they read.
     pub names: Names,
-}
-
-/// The first word of a line.
-#[derive(Clone, Copy, Debug)]
-pub enum Verb {
-    /// A warning with the rest as its message.
-    Warn,
-    /// An error with the rest as its message.
-    Fail,
-    /// The line goes into the image as it is, for a program that runs it.
-    Copied,
-    /// No verb of the language.
-    Unknown,
-}
-
-/// The verb that a text is.
-fn verb_of(text: &str) -> Verb
-    ensures { result ≡ verb_of text.now }
-{
-    if text == "warn" {
-        return Verb::Warn;
-    }
-    if text == "fail" {
-        return Verb::Fail;
-    }
-    if text == "print" || text == "show" || text == "read" || text == "put" || text == "exit" {
-        return Verb::Copied;
-    }
-    Verb::Unknown
-}
-
-/// Whether a line is empty or a comment.
-fn is_passed_over(line: &str) -> bool
-    ensures { result ≡ is_passed_over line.now }
-{
-    match line.as_bytes() {
-        [] => true,
-        [first, ..] => *first == b'#',
-    }
-}
-
-/// A line's verb and the rest of it: the verb ends at the first space. Where there is none, the line is the verb
-/// and the rest is empty.
-fn verb_and_rest(line: &str) -> (&str, &str)
-    ensures verb { result.0.now ≡ before_first (λ b. b == 32) line.now }
-    ensures rest { result.1.now ≡ after_first (λ b. b == 32) line.now }
-{
-    match line.split_once(' ') {
-        Some((verb, rest)) => (verb, rest),
-        None => (line, ""),
-    }
 }
 
 impl Effects {
@@ -77,11 +28,11 @@ impl Effects {
         ensures { result ≡ no_effects }
     {
         Effects {
-            image: Items::new(alloc),
+            image: Buffer::new(alloc),
             diagnostics: Items::new(alloc),
             names: Names {
-                paths: Items::new(alloc),
-                variables: Items::new(alloc),
+                paths: Mentions::new(alloc),
+                variables: Table::new(alloc),
             },
         }
     }
@@ -89,15 +40,13 @@ impl Effects {
 
 /// Adds a diagnostic.
 pub(crate) fn add_diagnostic(
-    alloc: Global,
     effects: &mut Effects,
     level: Level,
-    message: &str,
+    message: Text,
     number: u64,
 ) -> Result<(), AllocError>
-    ensures { OnOk result ((rest : Effects) → joined effects.new rest ≡ joined effects.old (joined (diagnosed level message.now number) rest)) }
+    ensures { OnOk result (Does effects.new effects.old (diagnosed level message number)) }
 {
-    let message = Text::from_str(alloc, message)?;
     effects.diagnostics.push(Diagnostic {
         level,
         message,
@@ -106,45 +55,58 @@ pub(crate) fn add_diagnostic(
     Ok(())
 }
 
-/// Adds a line of the image.
-fn add_copied(alloc: Global, effects: &mut Effects, line: &str) -> Result<(), AllocError>
-    ensures { OnOk result ((rest : Effects) → joined effects.new rest ≡ joined effects.old (joined (copied line.now) rest)) }
+/// Adds a diagnostic with a message that is copied.
+pub(crate) fn add_said(
+    alloc: Global,
+    effects: &mut Effects,
+    level: Level,
+    message: &str,
+    number: u64,
+) -> Result<(), AllocError>
+    ensures { OnOk result (Does effects.new effects.old (diagnosed level message.now number)) }
 {
-    effects.image.push(Text::from_str(alloc, line)?)?;
+    add_diagnostic(effects, level, Text::from_str(alloc, message)?, number)
+}
+
+/// Adds a line of the image.
+pub(crate) fn add_copied(effects: &mut Effects, line: &str) -> Result<(), AllocError>
+    ensures { OnOk result (Does effects.new effects.old (copied line.now)) }
+{
+    push_line(&mut effects.image, line.as_bytes())?;
     Ok(())
 }
 
-/// Does one line, of this number from 1.
-fn add_line(alloc: Global, effects: &mut Effects, number: u64, line: &str) -> Result<(), AllocError>
-    ensures { OnOk result ((rest : Effects) → joined effects.new rest ≡ joined effects.old (joined (effect_of number line.now) rest)) }
+/// Adds each line of a file to the image, after a mark.
+pub(crate) fn add_file(
+    alloc: Global,
+    effects: &mut Effects,
+    mark: &[u8],
+    bytes: &[u8],
+) -> Result<(), AllocError>
+    ensures { OnOk result (Does effects.new effects.old (copied_file mark.now bytes.now)) }
 {
-    if is_passed_over(line) {
-        return Ok(());
-    }
-    let (verb, rest) = verb_and_rest(line);
-    match verb_of(verb) {
-        Verb::Warn => add_diagnostic(alloc, effects, Level::Warning, rest, number),
-        Verb::Fail => add_diagnostic(alloc, effects, Level::Error, rest, number),
-        Verb::Copied => add_copied(alloc, effects, line),
-        Verb::Unknown => add_diagnostic(alloc, effects, Level::Error, "unknown line", number),
-    }
+    push_quoted(alloc, &mut effects.image, mark, bytes)?;
+    Ok(())
 }
 
-/// The lines of a source: what stands before, between and after its line feeds.
-fn lines_of(alloc: Global, text: &str) -> Result<Vec<&str>, AllocError>
-    ensures { IfOk result (λ lines. map (λ line. line.now) lines.items ≡ lines_of text.now) }
+/// Names a file that is read, if there is a path for it.
+pub(crate) fn add_path(effects: &mut Effects, path: Option<PathText>) -> Result<(), AllocError>
+    ensures { OnOk result (Does effects.new effects.old (reads path)) }
 {
-    text.split('\n').collect(alloc)
+    if let Some(path) = path {
+        effects.names.paths.insert(path.into_text())?;
+    }
+    Ok(())
 }
 
-/// Does the lines of a source in turn.
-#[tactic(auto, using(crate::proofs::Lines::joined_nothing))]
-pub(crate) fn add_lines(alloc: Global, effects: &mut Effects, text: &str) -> Result<(), AllocError>
-    ensures { OnOk result (effects.new ≡ joined effects.old (effects_from 0 (lines_of text.now))) }
+/// Names a variable that is read, with the value that it has.
+pub(crate) fn add_variable(
+    effects: &mut Effects,
+    name: Text,
+    value: Option<Text>,
+) -> Result<(), AllocError>
+    ensures { OnOk result (Does effects.new effects.old (asks name value)) }
 {
-    let lines = lines_of(alloc, text)?;
-    for (index, line) in lines.iter().enumerate() {
-        add_line(alloc, effects, index as u64 + 1, *line)?;
-    }
+    effects.names.variables.insert(name, value)?;
     Ok(())
 }

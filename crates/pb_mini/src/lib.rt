@@ -2,12 +2,21 @@
 //! child like any other, so what it answers says that a child can be honest. Its language is our own.
 #![tactic(auto)]
 
+pub mod buffer;
 pub mod command_line;
 pub mod compile;
 pub mod dep_info;
 pub mod diagnostic;
 pub mod effects;
+pub mod include;
 pub mod laws;
+pub mod lines;
+pub mod lookups;
 pub mod mini;
+pub mod output;
+pub mod request;
+pub mod scope;
+pub mod script;
+pub mod verbs;
 
 pub use mini::{Mini, answer};

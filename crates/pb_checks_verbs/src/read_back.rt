@@ -1,0 +1,97 @@
+//! What the small compiler tells of its files and variables, read as the builder reads it.
+
+use super::worlds::answer_in;
+use pb_data::Text;
+use pb_directive::read_dep_info;
+use std::alloc::Global;
+use std::process::Abort;
+use std::test::Fail;
+
+/// Words of a compile into a folder whose name needs care.
+const WORDS: &str = "--crate-name|c|--crate-type|lib|--out-dir|/o: p/q #$|--cfg|x|/w/s";
+
+/// A source, and the names that are read back from its dep-info: the paths and the variables, each with a bar after it.
+const SOURCES: [(&[u8], &str, &str); 16] = [
+    (b"print x", "/w/s|", ""),
+    (b"include a b", "/w/s|/w/a b|", ""),
+    (b"include /w/a: b", "/w/s|/w/a: b|", ""),
+    (b"include a:", "/w/s|/w/a:|", ""),
+    (b"include a\\b", "/w/s|/w/a\\b|", ""),
+    (b"include a\\ b", "/w/s|/w/a\\ b|", ""),
+    (b"include a\\\\  b", "/w/s|/w/a\\\\  b|", ""),
+    (b"include a\tb", "/w/s|/w/a\tb|", ""),
+    (b"include #a", "/w/s|/w/#a|", ""),
+    (b"include # env-dep:X", "/w/s|/w/# env-dep:X|", ""),
+    (b"include $VAR/x y", "/w/s|/v/x y|", "VAR|"),
+    (b"include $PLACE/$: x", "/w/s|/w/w/$: x|", "PLACE|"),
+    (b"include a\rb", "/w/s|/w/a\rb|", ""),
+    (
+        b"include one\ninclude two\ninclude one\ninclude a b",
+        "/w/s|/w/one|/w/two|/w/a b|",
+        "",
+    ),
+    (
+        b"env VAR\nenv NONE\nenv VAR\nenv EMPTY\nenv A B\nenv #",
+        "/w/s|",
+        "VAR|NONE|EMPTY|A B|#|",
+    ),
+    (
+        b"include $VAR/x\nenv a: b\nenv a\\b\nenv a\tb",
+        "/w/s|/v/x|",
+        "VAR|a: b|a\\b|a\tb|",
+    ),
+];
+
+/// Texts, each with a bar after it.
+fn barred(alloc: Global, texts: &[Text]) -> Result<String, Fail> {
+    let mut all = String::new(alloc);
+    for text in texts {
+        all.push_str(text.as_str())?;
+        all.push_str("|")?;
+    }
+    Ok(all)
+}
+
+/// Asserts what is read in the dep-info of a source, which is its reply's last file.
+fn assert_read(
+    rt: &impl Abort,
+    alloc: Global,
+    source: &[u8],
+    paths: &str,
+    variables: &str,
+) -> Result<(), Fail> {
+    let reply = answer_in(alloc, WORDS, "/w/s", source)?;
+    let Some(file) = reply.files.as_slice().last() else {
+        return Err("no file")?;
+    };
+    assert_eq!(rt; file.0.as_str(), "c.d");
+    let info = read_dep_info(alloc, file.1.as_slice())?;
+    let found = barred(alloc, info.words.as_slice())?;
+    assert_eq!(rt; found.as_str(), paths);
+    let found = barred(alloc, info.variables.as_slice())?;
+    assert_eq!(rt; found.as_str(), variables);
+    Ok(())
+}
+
+#[test]
+fn names_are_read_back(rt: HostRuntime) -> Result<(), Fail> {
+    for (source, paths, variables) in SOURCES {
+        assert_read(&rt, rt.alloc(), source, paths, variables)?;
+    }
+    Ok(())
+}
+
+/// Sources whose dep-info no reader takes: a nameless variable, a value with a line feed.
+const FAULTY: [&[u8]; 3] = [b"env", b"include $/x", b"env FEED"];
+
+#[test]
+fn faulty_names_are_refused(rt: HostRuntime) -> Result<(), Fail> {
+    for source in FAULTY {
+        let reply = answer_in(rt.alloc(), WORDS, "/w/s", source)?;
+        let Some(file) = reply.files.as_slice().last() else {
+            return Err("no file")?;
+        };
+        assert!(rt; read_dep_info(rt.alloc(), file.1.as_slice()).is_err());
+    }
+    Ok(())
+}

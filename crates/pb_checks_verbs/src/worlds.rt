@@ -1,0 +1,138 @@
+//! One world of files, variables and pairs, in which compiles and runs are asked for.
+
+use super::views::Files;
+use pb_data::{Bytes, Items, Text};
+use pb_mini::answer;
+use pb_place::{Reply, ViewFault};
+use std::alloc::{AllocError, Global};
+use std::process::Abort;
+use std::test::Fail;
+
+/// Files by their paths. `/s` and `/i` are put in beside them.
+const FILES: [(&str, &[u8]); 13] = [
+    ("/w/one", b"a\nb"),
+    ("/w/two", b"a\nb\n"),
+    ("/w/empty", b""),
+    ("/w/feeds", b"\n\n"),
+    ("/w/sub/x", b"sub x\n"),
+    ("/w/a b", b"spaced\n"),
+    ("/w/cr", b"c\r\n"),
+    ("/w/raw", b"\xff\nr\n"),
+    ("/w/x$VAR", b"dollar\n"),
+    ("/v/x", b"v x\n"),
+    ("/l/q", b"mini lib q\nprint q\n"),
+    ("/l/p", b"p"),
+    ("/l/a=b", b"e\n"),
+];
+
+/// Inherited variables.
+const VARIABLES: [(&str, &str); 6] = [
+    ("VAR", "/v"),
+    ("SUB", "sub"),
+    ("EMPTY", ""),
+    ("FEED", "x\ny"),
+    ("BOTH", "inherited"),
+    ("PLACE", "w"),
+];
+
+/// Pairs.
+const PAIRS: [(&str, &str); 6] = [
+    ("PAIR", "p"),
+    ("BOTH", "composed"),
+    ("DUP", "first"),
+    ("DUP", "last"),
+    ("ROOT", "/v"),
+    ("CARGO_MANIFEST_DIR", "/w"),
+];
+
+/// The words between the bars of a text.
+fn words_of(alloc: Global, text: &str) -> Result<Items<Text>, AllocError> {
+    let mut words = Items::new(alloc);
+    for word in text.split('|') {
+        words.push(Text::from_str(alloc, word)?)?;
+    }
+    Ok(words)
+}
+
+/// The world with one file more.
+fn world(alloc: Global, path: &str, bytes: &[u8]) -> Result<Files, AllocError> {
+    let mut inside = Items::new(alloc);
+    inside.push((
+        Text::from_str(alloc, path)?,
+        Bytes::from_slice(alloc, bytes)?,
+    ))?;
+    for (name, content) in FILES {
+        inside.push((
+            Text::from_str(alloc, name)?,
+            Bytes::from_slice(alloc, content)?,
+        ))?;
+    }
+    let variables = texts(alloc, &VARIABLES)?;
+    Ok(Files { inside, variables })
+}
+
+/// Names and values as texts.
+fn texts(alloc: Global, entries: &[(&str, &str)]) -> Result<Items<(Text, Text)>, AllocError> {
+    let mut made = Items::new(alloc);
+    for entry in entries {
+        made.push((
+            Text::from_str(alloc, entry.0)?,
+            Text::from_str(alloc, entry.1)?,
+        ))?;
+    }
+    Ok(made)
+}
+
+/// The answer to words in the world with one file more.
+pub fn answer_in(alloc: Global, words: &str, path: &str, bytes: &[u8]) -> Result<Reply, ViewFault> {
+    let words = words_of(alloc, words)?;
+    let pairs = texts(alloc, &PAIRS)?;
+    let view = world(alloc, path, bytes)?;
+    answer(alloc, words.as_slice(), pairs.as_slice(), &view)
+}
+
+/// The files of a reply: of each its name, `=`, its bytes and a bar.
+pub fn files_text(alloc: Global, reply: &Reply) -> Result<Vec<u8>, AllocError> {
+    let mut text = Vec::new(alloc);
+    for file in reply.files.as_slice() {
+        text.extend_from_slice(file.0.as_str().as_bytes())?;
+        text.extend_from_slice(b"=")?;
+        text.extend_from_slice(file.1.as_slice())?;
+        text.extend_from_slice(b"|")?;
+    }
+    Ok(text)
+}
+
+/// Asserts what a reply has; the files as `files_text` writes them.
+pub fn assert_answer(
+    rt: &impl Abort,
+    alloc: Global,
+    reply: &Reply,
+    status: i32,
+    stdout: &[u8],
+    stderr: &[u8],
+    files: &[u8],
+) -> Result<(), AllocError> {
+    let found = files_text(alloc, reply)?;
+    assert_eq!(rt; reply.status, status);
+    assert_eq!(rt; reply.stdout.as_slice(), stdout);
+    assert_eq!(rt; reply.stderr.as_slice(), stderr);
+    assert_eq!(rt; found.as_slice(), files);
+    Ok(())
+}
+
+/// Words of a compile of `/w/s`, with a bar between them.
+pub const WORDS: &str =
+    "--crate-name|c|--crate-type|lib|--out-dir|/o|--cfg|on|--cfg|feature=\"f\"|--cfg||--extern|q=/l/q|--extern|q=/l/p|--extern|gone=/l/gone|--extern|bare|--extern|bare=/l/p|--extern|rel=l/q|--extern|=/l/p|--extern|eq=/l/a=b|/w/s";
+
+/// A source, the status of its compile, its standard error, and its files.
+pub type Case = (&'static [u8], i32, &'static [u8], &'static [u8]);
+
+/// Asserts what the compile of each source answers.
+pub fn assert_cases(rt: &impl Abort, alloc: Global, cases: &[Case]) -> Result<(), Fail> {
+    for case in cases {
+        let reply = answer_in(alloc, WORDS, "/w/s", case.0)?;
+        assert_answer(rt, alloc, &reply, case.1, b"", case.2, case.3)?;
+    }
+    Ok(())
+}

@@ -1,0 +1,42 @@
+-- The lines of a text, and the words in front of a line.
+use Rattle.std.specs.Prelude.{ℕ, ◌==◌, ◌-◌, if◌then◌else◌, List, [], ◌∷◌, ◌++◌, length, take, slice_index}
+use Rattle.std.specs.List.{onto_first, before_first, after_first}
+
+-- A text is cut at line feeds alone. Each line feed ends a line; what follows the last one is a line, unless it is empty.
+abbrev pub lines_of : List ℕ → List (List ℕ)
+lines_of [] = []
+lines_of (b ∷ bytes) = if b == 10 then [] ∷ lines_of bytes else onto_first b (lines_of bytes)
+
+-- what stands before the first space, or all where there is none
+abbrev pub word_in : List ℕ → List ℕ
+word_in line = before_first (λ b. b == 32) line
+
+-- what stands after the first space, if anything does
+abbrev pub rest_of : List ℕ → List ℕ
+rest_of line = after_first (λ b. b == 32) line
+
+-- what stands before and after the first `=`
+abbrev pub name_in : List ℕ → List ℕ
+name_in text = before_first (λ b. b == 61) text
+
+abbrev pub value_in : List ℕ → List ℕ
+value_in text = after_first (λ b. b == 61) text
+
+-- a line with its line feed
+abbrev pub ended : List ℕ → List ℕ
+ended line = line ++ 10 ∷ []
+
+-- each line after a mark, with a line feed
+abbrev pub marked : List ℕ → List (List ℕ) → List ℕ
+marked mark [] = []
+marked mark (line ∷ lines) = mark ++ ended line ++ marked mark lines
+
+-- each line of a file after a mark
+abbrev pub quoted : List ℕ → List ℕ → List ℕ
+quoted mark bytes = marked mark (lines_of bytes)
+
+-- ---- for private functions
+
+-- bytes without the line feed at their end, where there is one
+abbrev pub without_feed : List ℕ → List ℕ
+without_feed bytes = if slice_index bytes (length bytes - 1) == 10 then take (length bytes - 1) bytes else bytes

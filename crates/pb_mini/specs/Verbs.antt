@@ -1,0 +1,146 @@
+-- What each line of a source does.
+use Rattle.std.specs.Prelude.{ℕ, ◌==◌, ◌+◌, Bool, true, ◌||◌, if◌then◌else◌, codes, List, [], ◌∷◌, ◌++◌, Option, Some, None, unwrap_or}
+use Rattle.std.specs.List.{before_first, slice_split}
+use Rattle.std.specs.Option.{option_map, option_and_then}
+use Rattle.std.specs.Str.{bytes_eq}
+use Rattle.std.specs.List.{join_with_byte}
+use Rattle.pb_data.specs.Mentions.{is_mentioned}
+use Rattle.pb_data.specs.Table.{value_at}
+use Rattle.pb_place.specs.World.{World}
+use Rattle.pb_mini.specs.DepInfo.{value_text}
+use Rattle.pb_mini.specs.Effects.{no_effects, joined, copied, copied_file, diagnosed, reads, asks}
+use Rattle.pb_mini.specs.Lines.{word_in, rest_of}
+use Rattle.pb_mini.specs.Lookups.{path_of, path_from, file_at, value_of}
+use Rattle.pb_mini.specs.declared.diagnostic.Level.TheVariants.{Warning, Error}
+use Rattle.pb_mini.specs.declared.effects.Effects.{Effects}
+use Rattle.pb_mini.specs.declared.scope.Scope.{Scope}
+use Rattle.pb_mini.specs.declared.verbs.Verb.{Verb}
+use Rattle.pb_mini.specs.declared.verbs.Verb.TheVariants.{Use, Include, Env, Warn, Fail, Copied, Unknown}
+
+-- ---- `when COND LINE`
+
+-- The words of a line, without each `when COND` in front whose condition is given; where one is not given, nothing is left.
+abbrev pub without_conditions : List (List ℕ) → List (List ℕ) → List (List ℕ)
+without_conditions given [] = []
+without_conditions given (word ∷ []) = if bytes_eq word (codes "when") then [] else word ∷ []
+without_conditions given (word ∷ condition ∷ words) =
+    if bytes_eq word (codes "when") then (if is_mentioned given condition then without_conditions given words else [])
+    else word ∷ condition ∷ words
+
+-- the line that a line stands for where these conditions are given
+abbrev pub line_meant : List (List ℕ) → List ℕ → List ℕ
+line_meant given line = join_with_byte 32 (without_conditions given (slice_split (λ b. b == 32) line))
+
+-- the line meant by a line that is `when` with this condition and this rest, or by another
+abbrev pub meant_at : List (List ℕ) → List ℕ → Option (List ℕ × List ℕ) → List ℕ
+meant_at given line None = line
+meant_at given line (Some found) = if is_mentioned given found.0 then line_meant given found.1 else []
+
+-- ---- `use NAME`
+
+-- the path of a library's file, as the command line says it
+abbrev pub library_path : Scope → List ℕ → Option (List ℕ)
+library_path scope name = option_and_then path_of (value_at name scope.libraries)
+
+-- the line, and then each line of the library's file
+abbrev pub used : ℕ → List ℕ → List ℕ → Option (List ℕ) → Effects
+used number line name None = diagnosed Error (codes "no library " ++ name) number
+used number line name (Some bytes) = joined (copied line) (copied_file (codes "> ") bytes)
+
+abbrev pub use_effect : Scope → World → ℕ → List ℕ → List ℕ → Effects
+use_effect scope w number line name = used number line name (file_at w (library_path scope name))
+
+-- ---- `include PATH`
+
+-- what stands from the first slash on
+abbrev pub from_slash : List ℕ → List ℕ
+from_slash [] = []
+from_slash (b ∷ bytes) = if b == 47 then b ∷ bytes else from_slash bytes
+
+-- the variable that stands for the first part of a path, as in `$NAME/x`
+abbrev pub variable_in : List ℕ → Option (List ℕ)
+variable_in [] = None
+variable_in (b ∷ path) = if b == 36 then Some (before_first (λ c. c == 47) path) else None
+
+-- a variable with its value
+abbrev pub variable_at : List (List ℕ × List ℕ) → World → List ℕ → List ℕ × Option (List ℕ)
+variable_at pairs w name = (name, value_of pairs w name)
+
+abbrev pub variable_of : List (List ℕ × List ℕ) → World → List ℕ → Option (List ℕ × Option (List ℕ))
+variable_of pairs w path = option_map (variable_at pairs w) (variable_in path)
+
+-- the path with the value in place of its first part; a variable that is not set is empty
+abbrev pub expanded : List ℕ → Option (List ℕ × Option (List ℕ)) → List ℕ
+expanded path None = path
+expanded path (Some variable) = unwrap_or variable.1 [] ++ from_slash path
+
+-- where an included file lies, if its path has no byte 0
+abbrev pub include_path : Scope → World → List ℕ → Option (List ℕ)
+include_path scope w path = path_from scope.folder (expanded path (variable_of scope.pairs w path))
+
+abbrev pub asks_for : Option (List ℕ × Option (List ℕ)) → Effects
+asks_for None = no_effects
+asks_for (Some variable) = asks variable.0 variable.1
+
+-- each line of the file; where there is none, the path is told as it was written
+abbrev pub included_lines : ℕ → List ℕ → Option (List ℕ) → Effects
+included_lines number path None = diagnosed Error (codes "no file " ++ path) number
+included_lines number path (Some bytes) = copied_file (codes "| ") bytes
+
+-- the variable and the file are read, and the file's lines are put in
+abbrev pub included : ℕ → List ℕ → Option (List ℕ × Option (List ℕ)) → Option (List ℕ) → Option (List ℕ) → Effects
+included number written variable path found = joined (asks_for variable) (joined (reads path) (included_lines number written found))
+
+abbrev pub include_effect : Scope → World → ℕ → List ℕ → Effects
+include_effect scope w number path = included number path (variable_of scope.pairs w path) (include_path scope w path) (file_at w (include_path scope w path))
+
+-- ---- `env NAME`
+
+-- `env NAME=VALUE`, or `env NAME` where it is not set
+abbrev pub env_line : List ℕ → Option (List ℕ) → List ℕ
+env_line name value = codes "env " ++ name ++ value_text value
+
+-- the variable is read, and its line put in
+abbrev pub told : List ℕ → Option (List ℕ) → Effects
+told name value = joined (asks name value) (copied (env_line name value))
+
+abbrev pub env_effect : Scope → World → List ℕ → Effects
+env_effect scope w name = told name (value_of scope.pairs w name)
+
+-- ---- any line
+
+abbrev pub verb_of : List ℕ → Verb
+verb_of word =
+    if bytes_eq word (codes "use") then Use
+    else if bytes_eq word (codes "include") then Include
+    else if bytes_eq word (codes "env") then Env
+    else if bytes_eq word (codes "warn") then Warn
+    else if bytes_eq word (codes "fail") then Fail
+    else if bytes_eq word (codes "print") || bytes_eq word (codes "show") || bytes_eq word (codes "read") || bytes_eq word (codes "put") || bytes_eq word (codes "exit") then Copied
+    else Unknown
+
+-- a line that does nothing: it is empty, or begins with `#`
+abbrev pub is_passed_over : List ℕ → Bool
+is_passed_over [] = true
+is_passed_over (b ∷ bytes) = b == 35
+
+-- what a line of this number does, by its verb, which is its first word, and by the rest of it
+abbrev pub effect_by : Verb → Scope → World → ℕ → List ℕ → List ℕ → Effects
+effect_by Use scope w number line rest = use_effect scope w number line rest
+effect_by Include scope w number line rest = include_effect scope w number rest
+effect_by Env scope w number line rest = env_effect scope w rest
+effect_by Warn scope w number line rest = diagnosed Warning rest number
+effect_by Fail scope w number line rest = diagnosed Error rest number
+effect_by Copied scope w number line rest = copied line
+effect_by Unknown scope w number line rest = diagnosed Error (codes "unknown line") number
+
+abbrev pub effect_meant : Scope → World → ℕ → List ℕ → Effects
+effect_meant scope w number line = if is_passed_over line then no_effects else effect_by (verb_of (word_in line)) scope w number line (rest_of line)
+
+abbrev pub effect_of : Scope → World → ℕ → List ℕ → Effects
+effect_of scope w number line = effect_meant scope w number (line_meant scope.conditions line)
+
+-- what lines do in turn, after a number of other lines
+abbrev pub effects_from : Scope → World → ℕ → List (List ℕ) → Effects
+effects_from scope w before [] = no_effects
+effects_from scope w before (line ∷ lines) = joined (effect_of scope w (before + 1) line) (effects_from scope w (before + 1) lines)

@@ -1,0 +1,54 @@
+//! Bytes that grow at their end.
+
+ghost use Rattle.std.specs.Prelude.{◌≡◌, [], ◌++◌, OnOk};
+
+use pb_data::Bytes;
+use std::alloc::{AllocError, Global};
+use std::marker::Model;
+
+/// Bytes that grow at their end. Contracts see the list of them.
+#[derive(Debug, Drop)]
+pub struct Buffer {
+    inside: Vec<u8>,
+}
+
+impl Model for Buffer {
+    ghost use Rattle.std.specs.Prelude.{ℕ, List};
+
+    ghost Value = { List ℕ };
+
+    ghost view = { λ a. a.inside.items };
+}
+
+impl Buffer {
+    /// No bytes, which takes no memory.
+    pub(crate) fn new(alloc: Global) -> Buffer
+        ensures { result ≡ [] }
+    {
+        Buffer {
+            inside: Vec::new(alloc),
+        }
+    }
+
+    /// Adds bytes at the end.
+    pub(crate) fn push(&mut self, bytes: &[u8]) -> Result<(), AllocError>
+        ensures { OnOk result (self.new ≡ self.old ++ bytes.now) }
+    {
+        self.inside.extend_from_slice(bytes)?;
+        Ok(())
+    }
+
+    /// The bytes themselves.
+    pub(crate) fn as_slice(&self) -> &[u8]
+        ensures { result.now ≡ self.now }
+    {
+        self.inside.as_slice()
+    }
+
+    /// The bytes, which takes no memory.
+    pub(crate) fn into_bytes(self) -> Bytes
+        ensures { result ≡ self }
+    {
+        Bytes::new(self.inside)
+    }
+}

@@ -1,0 +1,182 @@
+//! The line `include PATH`.
+
+ghost use Rattle.std.specs.Prelude.{◌≡◌, ◌≢◌, ◌==◌, ℕ, List, MatchOption, ◌∷◌, ◌++◌, [], codes, IfOk, OnOk, IfErr, IsTrue, string_bytes};
+ghost use Rattle.std.specs.List.{before_first};
+ghost use Rattle.std.specs.Option.{option_map, option_map_or};
+ghost use Rattle.pb_mini.specs.Effects.{Does, diagnosed};
+ghost use Rattle.pb_mini.specs.Lookups.{path_from, file_at};
+ghost use Rattle.pb_mini.specs.Verbs.{from_slash, variable_in, variable_of, expanded, asks_for, included_lines, included, include_effect};
+
+use crate::diagnostic::Level;
+use crate::effects::{Effects, add_diagnostic, add_file, add_path, add_variable};
+use crate::lookups::{file_at, path_from, value_of};
+use crate::scope::Scope;
+use pb_data::{Bytes, Table, Text};
+use pb_place::{PathText, View, ViewFault};
+use std::alloc::{AllocError, Global};
+
+/// What stands before the first slash, and what follows it, where there is one.
+#[tactic(auto, using(crate::proofs::SlashLemmas::slash_laws))]
+fn first_part(text: &str) -> (&str, Option<&str>)
+    ensures part { result.0.now ≡ before_first (λ b. b == 47) text.now }
+    ensures rest { from_slash text.now ≡ option_map_or (λ rest. 47 ∷ rest.now) result.1 [] }
+{
+    match text.split_once('/') {
+        Some((part, rest)) => (part, Some(rest)),
+        None => (text, None),
+    }
+}
+
+/// What follows a `$` in front, where there is one.
+fn after_dollar(path: &str) -> Option<&str>
+    ensures { MatchOption result ((rest : List ℕ) → path.now ≢ 36 ∷ rest) (λ rest. path.now ≡ 36 ∷ rest.now) }
+{
+    path.strip_prefix('$')
+}
+
+/// The name of the variable that stands for the first part of a path, as in `$NAME/x`.
+#[tactic(auto, using(crate::proofs::SlashLemmas::variable_laws))]
+fn variable_in(path: &str) -> Option<&str>
+    ensures { option_map (λ name. name.now) result ≡ variable_in path.now }
+{
+    match after_dollar(path) {
+        Some(rest) => Some(first_part(rest).0),
+        None => None,
+    }
+}
+
+/// The variable that stands for the first part of a path, with its value.
+fn variable_of<V: View>(
+    alloc: Global,
+    pairs: &Table<Text>,
+    view: &V,
+    path: &str,
+) -> Result<Option<(Text, Option<Text>)>, ViewFault>
+    ensures variable { IsTrue V.tells → IfOk result (λ variable. variable ≡ variable_of pairs.now (V.shown view.now) path.now) }
+    ensures failed { IfErr result (λ e. e ≡ ViewFault.Failed → V.fails view.now) }
+{
+    match variable_in(path) {
+        Some(name) => {
+            let value = value_of(alloc, pairs, view, name)?;
+            let name = Text::from_str(alloc, name)?;
+            Ok(Some((name, value)))
+        }
+        None => Ok(None),
+    }
+}
+
+/// The path with a value in place of its first part.
+fn with_first_part(alloc: Global, value: &str, path: &str) -> Result<String, AllocError>
+    ensures { IfOk result (λ text. string_bytes text ≡ value.now ++ from_slash path.now) }
+{
+    let mut text = String::from_str(alloc, value)?;
+    if let Some(rest) = first_part(path).1 {
+        text.push_str("/")?;
+        text.push_str(rest)?;
+    }
+    Ok(text)
+}
+
+/// The path with the variable's value in place of its first part, which is empty where it is not set.
+fn expanded(
+    alloc: Global,
+    path: &str,
+    variable: &Option<(Text, Option<Text>)>,
+) -> Result<String, AllocError>
+    ensures { IfOk result (λ text. string_bytes text ≡ expanded path.now variable.now) }
+{
+    match variable {
+        None => String::from_str(alloc, path),
+        Some((_, None)) => with_first_part(alloc, "", path),
+        Some((_, Some(value))) => with_first_part(alloc, value.as_str(), path),
+    }
+}
+
+/// Names the variable of a path, if it has one.
+fn add_variable_of(
+    effects: &mut Effects,
+    variable: Option<(Text, Option<Text>)>,
+) -> Result<(), AllocError>
+    ensures { OnOk result (Does effects.new effects.old (asks_for variable)) }
+{
+    if let Some((name, value)) = variable {
+        add_variable(effects, name, value)?;
+    }
+    Ok(())
+}
+
+/// The message that there is no file.
+fn no_file(alloc: Global, written: &str) -> Result<Text, AllocError>
+    ensures { IfOk result (λ message. message ≡ codes "no file " ++ written.now) }
+{
+    let message = format!(in alloc; "no file {written}")?;
+    Ok(Text::new(message))
+}
+
+/// Says that there is no file.
+fn add_no_file(
+    alloc: Global,
+    effects: &mut Effects,
+    number: u64,
+    written: &str,
+) -> Result<(), AllocError>
+    ensures { OnOk result (Does effects.new effects.old (diagnosed Level.Error (codes "no file " ++ written.now) number)) }
+{
+    let message = no_file(alloc, written)?;
+    add_diagnostic(effects, Level::Error, message, number)
+}
+
+/// Adds each line of the file, or says that there is none.
+fn add_lines_of(
+    alloc: Global,
+    effects: &mut Effects,
+    number: u64,
+    written: &str,
+    found: &Option<Bytes>,
+) -> Result<(), AllocError>
+    ensures { OnOk result (Does effects.new effects.old (included_lines number written.now found.now)) }
+{
+    match found {
+        Some(bytes) => add_file(alloc, effects, b"| ", bytes.as_slice()),
+        None => add_no_file(alloc, effects, number, written),
+    }
+}
+
+/// Names the variable and the file, and adds the file's lines.
+
+fn add_included(
+    alloc: Global,
+    effects: &mut Effects,
+    number: u64,
+    written: &str,
+    variable: Option<(Text, Option<Text>)>,
+    path: Option<PathText>,
+    found: &Option<Bytes>,
+) -> Result<(), AllocError>
+    ensures { OnOk result (Does effects.new effects.old (included number written.now variable path found.now)) }
+{
+    add_variable_of(effects, variable)?;
+    add_path(effects, path)?;
+    add_lines_of(alloc, effects, number, written, found)?;
+    Ok(())
+}
+
+/// Does the line `include PATH`.
+pub(crate) fn add_include<V: View>(
+    alloc: Global,
+    effects: &mut Effects,
+    scope: &Scope,
+    view: &V,
+    number: u64,
+    written: &str,
+) -> Result<(), ViewFault>
+    ensures done { IsTrue V.tells → OnOk result (Does effects.new effects.old (include_effect scope.now (V.shown view.now) number written.now)) }
+    ensures failed { IfErr result (λ e. e ≡ ViewFault.Failed → V.fails view.now) }
+{
+    let variable = variable_of(alloc, &scope.pairs, view, written)?;
+    let text = expanded(alloc, written, &variable)?;
+    let path = path_from(alloc, &scope.folder, text.as_str())?;
+    let found = file_at(alloc, view, &path)?;
+    add_included(alloc, effects, number, written, variable, path, &found)?;
+    Ok(())
+}

@@ -1,0 +1,82 @@
+//! What a command line and a source ask of the world: files by their paths, and the values of variables.
+
+ghost use Rattle.std.specs.Prelude.{◌≡◌, IfOk, IfErr, IsTrue, ℕ, List};
+ghost use Rattle.pb_data.specs.Table.{with_entries, table_of};
+ghost use Rattle.pb_mini.specs.Lookups.{path_of, path_from, file_at, value_of};
+ghost use Rattle.pb_place.specs.declared.child.ViewFault.TheVariants as view_fault;
+
+use pb_data::{Bytes, Table, Text, TryCopy};
+use pb_place::{PathFault, PathText, View, ViewFault};
+use std::alloc::{AllocError, Global};
+
+/// The path that a text is, or none where it is no absolute path.
+pub(crate) fn path_of(alloc: Global, text: &str) -> Result<Option<PathText>, AllocError>
+    ensures { IfOk result (λ path. path ≡ path_of text.now) }
+{
+    match PathText::parse(alloc, text) {
+        Ok(path) => Ok(Some(path)),
+        Err(PathFault::OutOfMemory) => Err(AllocError),
+        Err(_) => Ok(None),
+    }
+}
+
+/// The path that a text is from a folder, or none where it has byte 0.
+pub(crate) fn path_from(
+    alloc: Global,
+    folder: &PathText,
+    text: &str,
+) -> Result<Option<PathText>, AllocError>
+    ensures { IfOk result (λ path. path ≡ path_from folder.now text.now) }
+{
+    match folder.join(alloc, text) {
+        Ok(path) => Ok(Some(path)),
+        Err(PathFault::OutOfMemory) => Err(AllocError),
+        Err(_) => Ok(None),
+    }
+}
+
+/// The bytes of the file at a path, or none where there is no path or no file.
+pub(crate) fn file_at<V: View>(
+    alloc: Global,
+    view: &V,
+    path: &Option<PathText>,
+) -> Result<Option<Bytes>, ViewFault>
+    ensures file { IsTrue V.tells → IfOk result (λ file. file ≡ file_at (V.shown view.now) path.now) }
+    ensures failed { IfErr result (λ e. e ≡ ViewFault.Failed → V.fails view.now) }
+{
+    match path {
+        Some(path) => view.file(alloc, path),
+        None => Ok(None),
+    }
+}
+
+/// The value of a variable: that of the pairs, else the inherited one, or none where it is not set.
+pub(crate) fn value_of<V: View>(
+    alloc: Global,
+    pairs: &Table<Text>,
+    view: &V,
+    name: &str,
+) -> Result<Option<Text>, ViewFault>
+    ensures value { IsTrue V.tells → IfOk result (λ value. value ≡ value_of pairs.now (V.shown view.now) name.now) }
+    ensures failed { IfErr result (λ e. e ≡ ViewFault.Failed → V.fails view.now) }
+{
+    let key = Text::from_str(alloc, name)?;
+    match pairs.get(&key) {
+        Some(value) => {
+            let value = value.copy(alloc)?;
+            Ok(Some(value))
+        }
+        None => view.variable(alloc, name),
+    }
+}
+
+/// Pairs as a table, in which of several with one name the last counts.
+pub(crate) fn table_of(alloc: Global, pairs: &[(Text, Text)]) -> Result<Table<Text>, AllocError>
+    ensures { IfOk result (λ table. table ≡ table_of pairs.now) }
+{
+    let mut table = Table::new(alloc);
+    for pair in pairs {
+        table.insert(pair.0.copy(alloc)?, pair.1.copy(alloc)?)?;
+    }
+    Ok(table)
+}

@@ -1,0 +1,42 @@
+//! What a script has written.
+
+ghost use Rattle.std.specs.Prelude.{◌≡◌, IfOk};
+ghost use Rattle.pb_mini.specs.Script.{no_output, before, ending};
+
+use crate::buffer::Buffer;
+use pb_data::{Bytes, Items};
+use pb_place::{RelativePath, Reply};
+use std::alloc::Global;
+
+/// What a script has written so far.
+#[derive(Debug, Drop)]
+pub struct Output {
+    /// All that it wrote to standard output.
+    pub stdout: Buffer,
+    /// The files that it put in its folder, by their names. Of two with one name the later stands.
+    pub files: Items<(RelativePath, Bytes)>,
+}
+
+impl Output {
+    /// Nothing, which takes no memory.
+    pub(crate) fn new(alloc: Global) -> Output
+        ensures { result ≡ no_output }
+    {
+        Output {
+            stdout: Buffer::new(alloc),
+            files: Items::new(alloc),
+        }
+    }
+
+    /// The reply of a script that ends so with a status.
+    pub(crate) fn into_reply(self, alloc: Global, status: u8) -> Reply
+        ensures { result ≡ before self (ending status) }
+    {
+        Reply {
+            status: i32::from(status),
+            stdout: self.stdout.into_bytes(),
+            stderr: Bytes::new(Vec::new(alloc)),
+            files: self.files,
+        }
+    }
+}

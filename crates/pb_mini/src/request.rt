@@ -1,0 +1,44 @@
+//! What words ask for.
+
+ghost use Rattle.std.specs.Prelude.{◌≡◌};
+ghost use Rattle.pb_data.specs.Gives.{Gives};
+ghost use Rattle.pb_mini.specs.Answer.{compile_in, request_of};
+ghost use Rattle.pb_mini.specs.declared.command_line.CommandLineFault.TheVariants as fault;
+
+use crate::command_line::{CommandLine, CommandLineFault, command_line_of};
+use pb_data::{Text, TryCopy};
+use std::alloc::Global;
+
+/// What words ask for.
+#[derive(Debug, Drop)]
+pub enum Request {
+    /// The version of the compiler.
+    Version,
+    /// The run of the image at a path.
+    Run(Text),
+    /// A compile.
+    Compile(CommandLine),
+}
+
+/// The compile that words ask for.
+fn compile_in(alloc: Global, words: &[Text]) -> Result<Request, CommandLineFault>
+    ensures { Gives fault.OutOfMemory (λ request. request) result (compile_in words.now) }
+{
+    let line = command_line_of(alloc, words)?;
+    Ok(Request::Compile(line))
+}
+
+/// What words ask for: `-vV` alone the version, `--run` and one word more the run of an image, and others a compile.
+/// Bad where they say none.
+pub(crate) fn request_of(alloc: Global, words: &[Text]) -> Result<Request, CommandLineFault>
+    ensures { Gives fault.OutOfMemory (λ request. request) result (request_of words.now) }
+{
+    match words {
+        [word] if word.as_str() == "-vV" => Ok(Request::Version),
+        [word, path] if word.as_str() == "--run" => {
+            let path = path.copy(alloc)?;
+            Ok(Request::Run(path))
+        }
+        _ => compile_in(alloc, words),
+    }
+}

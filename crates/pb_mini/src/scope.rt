@@ -1,0 +1,82 @@
+//! What the lines of a source may name.
+
+ghost use Rattle.std.specs.Prelude.{◌≡◌, IfOk, OnOk, map};
+ghost use Rattle.pb_data.specs.Mentions.{mentioned_all, once};
+ghost use Rattle.pb_mini.specs.Scope.{library_of, with_first, with_firsts, libraries_of, scope_of};
+
+use crate::command_line::CommandLine;
+use crate::lines::name_and_value;
+use pb_data::{Mentions, Table, Text, TryCopy};
+use pb_place::PathText;
+use std::alloc::{AllocError, Global};
+
+/// What the lines of a source may name: libraries, conditions and variables, and the folder at which paths begin.
+#[derive(Debug, Drop)]
+pub struct Scope {
+    /// The folder of the source.
+    pub folder: PathText,
+    /// The file of each library by its name, as the words say it.
+    pub libraries: Table<Text>,
+    /// The conditions that are given.
+    pub conditions: Mentions,
+    /// The values that go over those of the inherited variables.
+    pub pairs: Table<Text>,
+}
+
+/// Adds a library with its file, unless there is one of this name.
+fn add_library(alloc: Global, libraries: &mut Table<Text>, written: &str) -> Result<(), AllocError>
+    ensures { OnOk result (libraries.new ≡ with_first libraries.old (library_of written.now)) }
+{
+    let (name, path) = name_and_value(written);
+    let name = Text::from_str(alloc, name)?;
+    if libraries.contains(&name) {
+        return Ok(());
+    }
+    libraries.insert(name, Text::from_str(alloc, path)?)?;
+    Ok(())
+}
+
+/// The libraries with their files, of which of several with one name the first counts.
+fn libraries_of(alloc: Global, externs: &[Text]) -> Result<Table<Text>, AllocError>
+    ensures { IfOk result (λ libraries. libraries ≡ libraries_of externs.now) }
+{
+    let mut libraries = Table::new(alloc);
+    for written in externs {
+        add_library(alloc, &mut libraries, written.as_str())?;
+    }
+    Ok(libraries)
+}
+
+/// Conditions, each once.
+#[tactic(auto, using(crate::proofs::MentionLemmas::mention_laws))]
+fn conditions_of(alloc: Global, given: &[Text]) -> Result<Mentions, AllocError>
+    ensures { IfOk result (λ conditions. conditions ≡ once given.now) }
+{
+    let mut conditions = Mentions::new(alloc);
+    for condition in given {
+        conditions.insert(condition.copy(alloc)?)?;
+    }
+    Ok(conditions)
+}
+
+impl Scope {
+    /// The scope of a source at this path.
+    pub(crate) fn new(
+        alloc: Global,
+        line: &CommandLine,
+        pairs: Table<Text>,
+        source: &PathText,
+    ) -> Result<Scope, AllocError>
+        ensures { IfOk result (λ scope. scope ≡ scope_of line.now pairs source.now) }
+    {
+        let folder = source.folder(alloc)?;
+        let libraries = libraries_of(alloc, line.externs.as_slice())?;
+        let conditions = conditions_of(alloc, line.conditions.as_slice())?;
+        Ok(Scope {
+            folder,
+            libraries,
+            conditions,
+            pairs,
+        })
+    }
+}
