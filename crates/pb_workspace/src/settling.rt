@@ -12,10 +12,11 @@ use crate::binaries::{binaries_of, written_binaries};
 use crate::fault::LoadFault;
 use crate::found::{found_readme, library_of, script_of};
 use crate::found_binaries::found_binaries;
+use crate::keys::Keys;
 use crate::package::{Binary, DependencyKind, Library};
 use crate::wanted::{Standing, Wanted, each_wanted};
 use pb_data::{Items, Mentions, Text, TryCopy};
-use pb_manifest::{Build, Dependency, Inheritable, Readme, WorkspaceDependency, WorkspacePackage};
+use pb_manifest::{Dependency, Inheritable, Readme, WorkspaceDependency, WorkspacePackage};
 use pb_place::{PathText, Place};
 use std::alloc::{AllocError, Global};
 
@@ -113,39 +114,28 @@ fn discovered<P: Place>(
     Ok(found)
 }
 
-/// What the targets of a package are made of.
-#[derive(Debug, Drop)]
-pub struct TargetTables {
-    /// `autobins`.
-    pub autobins: bool,
-    /// `build`.
-    pub build: Build,
-    /// `[lib]`.
-    pub library: Option<pb_manifest::Library>,
-    /// `[[bin]]`, in the manifest's order.
-    pub binaries: Items<pb_manifest::Binary>,
-}
-
-/// What a package of this name is built to: its library, its binaries and its build script, each where it is
+/// What a package of these keys is built to: its library, its binaries and its build script, each where it is
 /// written or found (The Cargo Book, Cargo Targets and Build Scripts).
 pub fn targets_of<P: Place>(
     place: &mut P,
     alloc: Global,
     target: &PathText,
     folder: &PathText,
-    name: &Text,
-    tables: TargetTables,
+    keys: &Keys,
+    library: Option<pb_manifest::Library>,
+    binaries: Items<pb_manifest::Binary>,
 ) -> Result<Targets, LoadFault>
-    requires { All (λ b. is_name b.name ≡ true) tables.binaries }
-    ensures ok { IsTrue P.tells → IfOk result (λ targets. targets ≡ targets_of folder.now (from_nothing target.now (P.world place.old)) name.now tables.autobins tables.build tables.library tables.binaries) }
+    requires { All (λ b. is_name b.name ≡ true) binaries }
+    ensures ok { IsTrue P.tells → IfOk result (λ targets. targets ≡ targets_of folder.now (from_nothing target.now (P.world place.old)) keys.now.name keys.now.autobins keys.now.build library binaries) }
     ensures same { IsTrue P.tells → P.world place.new ≡ P.world place.old }
     ensures outside { IfErr result (λ e. is_outside e ≡ true) }
     ensures reads { Reads result (P.counts place.old) (P.counts place.new) }
 {
-    let library = library_of(place, alloc, target, folder, name.as_str(), tables.library)?;
-    let script = script_of(place, alloc, target, folder, &tables.build)?;
-    let found = discovered(place, alloc, target, folder, name, tables.autobins)?;
-    let written = written_binaries(place, alloc, target, folder, name, tables.binaries)?;
+    let name = &keys.name;
+    let library = library_of(place, alloc, target, folder, name.as_str(), library)?;
+    let script = script_of(place, alloc, target, folder, &keys.build)?;
+    let found = discovered(place, alloc, target, folder, name, keys.autobins)?;
+    let written = written_binaries(place, alloc, target, folder, name, binaries)?;
     let binaries = binaries_of(alloc, found, written)?;
     Ok(Targets {
         library,
