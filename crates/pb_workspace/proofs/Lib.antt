@@ -4,3 +4,6 @@ pub mod SourceLemmas
 pub mod BinPaths
 pub mod Promised
 pub mod Steps
+pub mod Puttings
+pub mod Naming
+pub mod Keeping

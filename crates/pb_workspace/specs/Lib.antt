@@ -24,3 +24,4 @@ pub mod Places
 pub mod Checks
 pub mod Assembled
 pub mod Loaded
+pub mod Drafted

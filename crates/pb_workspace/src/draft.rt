@@ -1,12 +1,14 @@
 //! A package as one whole, whose entries' packages are not looked for yet.
 
-ghost use Rattle.std.specs.Prelude.{◌≡◌, All, IfErr, IsTrue, false, true};
+ghost use Rattle.std.specs.Prelude.{◌≡◌, All, IfErr, IsTrue, false, true, IfOk};
 ghost use Rattle.pb_data.specs.Gives.{Gives};
 ghost use Rattle.pb_place.specs.World.{from_nothing};
 ghost use Rattle.pb_manifest.specs.Letters.{is_name};
 ghost use Rattle.pb_workspace.specs.Causes.{is_failure, Told, Reads};
 ghost use Rattle.pb_workspace.specs.Drafts.{lists_of, draft_from, draft_with, draft_of};
 ghost use Rattle.pb_workspace.specs.declared.fault.LoadFault.TheVariants as load_fault;
+ghost use Rattle.std.specs.List.{AllByRecursion};
+ghost use Rattle.pb_workspace.specs.Drafted.{AreFeatures, ArePromised, IsDraft, IsKeyed, IsWrittenFeature};
 
 use crate::fault::LoadFault;
 use crate::features::features_of;
@@ -92,7 +94,11 @@ fn lists_of(
     features: Items<Feature>,
     binaries: &[pb_manifest::Binary],
 ) -> Result<Lists, LoadFault>
+    requires features { AllByRecursion IsWrittenFeature features }
+    requires normal { AllByRecursion IsKeyed dependencies.now }
+    requires build { AllByRecursion IsKeyed build.now }
     ensures told { Gives load_fault.OutOfMemory (λ lists. lists) result (lists_of at.now given.now dependencies.now build.now features binaries.now) }
+    ensures kept { IfOk result (λ lists. AreFeatures lists.features) }
     ensures here { IfErr result (λ e. is_failure e ≡ false) }
 {
     let wanted = wanted_in(alloc, at, given, dependencies, build)?;
@@ -147,8 +153,12 @@ fn draft_with<P: Place>(
     tables: Tables,
     keys: Keys,
 ) -> Result<Draft, LoadFault>
-    requires { All (λ b. is_name b.name ≡ true) tables.binaries }
+    requires binaries { All (λ b. is_name b.name ≡ true) tables.binaries }
+    requires name { is_name keys.name ≡ true }
+    requires promised { ArePromised tables }
     ensures ok { IsTrue P.tells → Told result (draft_with (from_nothing target.now (P.world place.old)) at is_member given.now tables keys) }
+    ensures draft { IfOk result IsDraft }
+    ensures folder { IfOk result (λ draft. draft.folder ≡ at.folder) }
     ensures same { IsTrue P.tells → P.world place.new ≡ P.world place.old }
     ensures reads { Reads result (P.counts place.old) (P.counts place.new) }
 {
@@ -188,8 +198,12 @@ pub fn draft_of<P: Place>(
     found: Package,
     tables: Tables,
 ) -> Result<Draft, LoadFault>
-    requires { All (λ b. is_name b.name ≡ true) tables.binaries }
+    requires binaries { All (λ b. is_name b.name ≡ true) tables.binaries }
+    requires name { is_name found.name ≡ true }
+    requires promised { ArePromised tables }
     ensures ok { IsTrue P.tells → Told result (draft_of (from_nothing target.now (P.world place.old)) at is_member given.now found tables) }
+    ensures draft { IfOk result IsDraft }
+    ensures folder { IfOk result (λ draft. draft.folder ≡ at.folder) }
     ensures same { IsTrue P.tells → P.world place.new ≡ P.world place.old }
     ensures reads { Reads result (P.counts place.old) (P.counts place.new) }
 {

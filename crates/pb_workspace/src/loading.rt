@@ -1,6 +1,6 @@
 //! The workspace of a manifest.
 
-ghost use Rattle.std.specs.Prelude.{◌≡◌, All, IfErr, IfOk, IsTrue, false, true};
+ghost use Rattle.std.specs.Prelude.{◌≡◌, All, IfErr, IfOk, IsTrue, false, true, IfSome};
 ghost use Rattle.pb_place.specs.Paths.{folder_of};
 ghost use Rattle.pb_place.specs.World.{from_nothing};
 ghost use Rattle.pb_manifest.specs.Letters.{is_name};
@@ -10,6 +10,8 @@ ghost use Rattle.pb_workspace.specs.declared.fault.LoadFault.TheVariants as load
 ghost use Rattle.pb_workspace.specs.Causes.{is_failure, Told, Reads};
 ghost use Rattle.pb_workspace.specs.Frames.{frame_of};
 ghost use Rattle.pb_workspace.specs.Loaded.{root_parts, at_root, nothing_read, root_read, others_read, packages_read, workspace_from, workspace_in, workspace_of};
+ghost use Rattle.pb_workspace.specs.Drafted.{ArePromised, IsReading};
+ghost use Rattle.pb_workspace.specs.Settled.{IsSettled};
 
 use crate::assembled::assembled;
 use crate::by_folder::ByFolder;
@@ -38,6 +40,8 @@ fn root_parts<P: Place>(
     path: &PathText,
 ) -> Result<Parts, LoadFault>
     ensures ok { IsTrue P.tells → Told result (root_parts (from_nothing target.now (P.world place.old)) path.now) }
+    ensures promised { IfOk result (λ parts. ArePromised parts.tables) }
+    ensures named { IfOk result (λ parts. IfSome parts.found (λ p. is_name p.name ≡ true)) }
     ensures names { IfOk result (λ parts. All (λ b. is_name b.name ≡ true) parts.tables.binaries) }
     ensures same { IsTrue P.tells → P.world place.new ≡ P.world place.old }
     ensures reads { Reads result (P.counts place.old) (P.counts place.new) }
@@ -74,7 +78,7 @@ fn nothing_read(alloc: Global) -> Reading
 }
 
 /// The root package read, where there is one.
-#[tactic(auto, unfolding(crate::specs::Loaded::root_read))]
+#[tactic(auto, using(crate::proofs::Keeping::draft_laws), unfolding(crate::specs::Loaded::root_read))]
 fn root_read<P: Place>(
     place: &mut P,
     alloc: Global,
@@ -83,8 +87,11 @@ fn root_read<P: Place>(
     tables: Tables,
     found: Option<Package>,
 ) -> Result<Reading, LoadFault>
-    requires { All (λ b. is_name b.name ≡ true) tables.binaries }
+    requires binaries { All (λ b. is_name b.name ≡ true) tables.binaries }
+    requires promised { ArePromised tables }
+    requires found_name { IfSome found (λ p. is_name p.name ≡ true) }
     ensures ok { IsTrue P.tells → Told result (root_read (from_nothing target.now (P.world place.old)) frame.now tables found) }
+    ensures kept { IfOk result IsReading }
     ensures same { IsTrue P.tells → P.world place.new ≡ P.world place.old }
     ensures reads { Reads result (P.counts place.old) (P.counts place.new) }
 {
@@ -108,7 +115,9 @@ fn others_read<P: Place>(
     frame: &Frame,
     begun: Reading,
 ) -> Result<Reading, LoadFault>
+    requires { IsReading begun }
     ensures ok { IsTrue P.tells → Told result (others_read (from_nothing target.now (P.world place.old)) frame.now begun) }
+    ensures kept { IfOk result IsReading }
     ensures same { IsTrue P.tells → P.world place.new ≡ P.world place.old }
     ensures reads { Reads result (P.counts place.old) (P.counts place.new) }
 {
@@ -129,8 +138,11 @@ fn packages_read<P: Place>(
     tables: Tables,
     found: Option<Package>,
 ) -> Result<Reading, LoadFault>
-    requires { All (λ b. is_name b.name ≡ true) tables.binaries }
+    requires binaries { All (λ b. is_name b.name ≡ true) tables.binaries }
+    requires promised { ArePromised tables }
+    requires found_name { IfSome found (λ p. is_name p.name ≡ true) }
     ensures ok { IsTrue P.tells → Told result (packages_read (from_nothing target.now (P.world place.old)) frame.now tables found) }
+    ensures kept { IfOk result IsReading }
     ensures same { IsTrue P.tells → P.world place.new ≡ P.world place.old }
     ensures reads { Reads result (P.counts place.old) (P.counts place.new) }
 {
@@ -180,7 +192,9 @@ fn finished(
     profiles: Items<Profile>,
     read: Reading,
 ) -> Result<Workspace, LoadFault>
+    requires { IsReading read }
     ensures told { Gives load_fault.OutOfMemory (λ ws. ws) result (workspace_from target.now frame profiles (values_of read.found)) }
+    ensures settled { IfOk result IsSettled }
     ensures here { IfErr result (λ e. is_failure e ≡ false) }
 {
     let drafts = read.found.into_values(alloc)?;
@@ -199,8 +213,11 @@ fn workspace_in<P: Place>(
     tables: Tables,
     found: Option<Package>,
 ) -> Result<Workspace, LoadFault>
-    requires { All (λ b. is_name b.name ≡ true) tables.binaries }
+    requires binaries { All (λ b. is_name b.name ≡ true) tables.binaries }
+    requires promised { ArePromised tables }
+    requires found_name { IfSome found (λ p. is_name p.name ≡ true) }
     ensures ok { IsTrue P.tells → Told result (workspace_in (from_nothing target.now (P.world place.old)) target.now frame profiles tables found) }
+    ensures settled { IfOk result IsSettled }
     ensures same { IsTrue P.tells → P.world place.new ≡ P.world place.old }
     ensures reads { Reads result (P.counts place.old) (P.counts place.new) }
 {
@@ -228,6 +245,7 @@ pub fn load<P: Place>(
     target: &PathText,
 ) -> Result<Workspace, LoadFault>
     ensures ok { IsTrue P.tells → Told result (workspace_of manifest.now target.now (P.world place.old)) }
+    ensures settled { IfOk result IsSettled }
     ensures same { IsTrue P.tells → P.world place.new ≡ P.world place.old }
     ensures reads { Reads result (P.counts place.old) (P.counts place.new) }
 {

@@ -1,6 +1,6 @@
 //! The packages of a workspace, read folder by folder.
 
-ghost use Rattle.std.specs.Prelude.{◌≡◌, All, IfErr, IfOk, IsTrue, false, true};
+ghost use Rattle.std.specs.Prelude.{◌≡◌, All, IfErr, IfOk, IsTrue, false, true, IfSome};
 ghost use Rattle.pb_place.specs.World.{from_nothing};
 ghost use Rattle.pb_place.specs.Paths.{below};
 ghost use Rattle.pb_manifest.specs.Letters.{is_name};
@@ -10,6 +10,7 @@ ghost use Rattle.pb_workspace.specs.Causes.{is_failure, is_outside, Told, Reads}
 ghost use Rattle.pb_workspace.specs.Frames.{given_to};
 ghost use Rattle.pb_workspace.specs.declared.fault.LoadFault.TheVariants as load_fault;
 ghost use Rattle.pb_workspace.specs.Rounds.{read_found, manifest_at, tables_in, parts_in, parts_at, no_package, draft_if, standing_in, draft_in_file, draft_at, leads_to, with_draft, one_read, all_read, round, rounds};
+ghost use Rattle.pb_workspace.specs.Drafted.{ArePromised, IsDraft, IsReading};
 
 use crate::by_folder::{ByFolder, put_folders};
 use crate::draft::{Draft, Tables, draft_of};
@@ -106,8 +107,12 @@ pub fn draft_if<P: Place>(
     tables: Tables,
     found: Option<Package>,
 ) -> Result<Draft, LoadFault>
-    requires { All (λ b. is_name b.name ≡ true) tables.binaries }
+    requires binaries { All (λ b. is_name b.name ≡ true) tables.binaries }
+    requires promised { ArePromised tables }
+    requires found_name { IfSome found (λ p. is_name p.name ≡ true) }
     ensures ok { IsTrue P.tells → Told result (draft_if (from_nothing target.now (P.world place.old)) frame.now is_member at tables found) }
+    ensures draft { IfOk result IsDraft }
+    ensures folder { IfOk result (λ draft. draft.folder ≡ at.folder) }
     ensures same { IsTrue P.tells → P.world place.new ≡ P.world place.old }
     ensures reads { Reads result (P.counts place.old) (P.counts place.new) }
 {
@@ -158,6 +163,8 @@ pub struct Parts {
 pub fn parts_of(read: Manifest) -> Parts
     requires { IsManifest read }
     ensures parts { result ≡ parts_in read }
+    ensures promised { ArePromised result.tables }
+    ensures named { IfSome result.found (λ p. is_name p.name ≡ true) }
     ensures names { All (λ b. is_name b.name ≡ true) result.tables.binaries }
 {
     Parts {
@@ -183,6 +190,8 @@ pub fn parts_at<P: Place>(
     path: &PathText,
 ) -> Result<Parts, LoadFault>
     ensures ok { IsTrue P.tells → Told result (parts_at (from_nothing target.now (P.world place.old)) path.now) }
+    ensures promised { IfOk result (λ parts. ArePromised parts.tables) }
+    ensures named { IfOk result (λ parts. IfSome parts.found (λ p. is_name p.name ≡ true)) }
     ensures names { IfOk result (λ parts. All (λ b. is_name b.name ≡ true) parts.tables.binaries) }
     ensures same { IsTrue P.tells → P.world place.new ≡ P.world place.old }
     ensures reads { Reads result (P.counts place.old) (P.counts place.new) }
@@ -202,6 +211,8 @@ fn draft_in_file<P: Place>(
     at: Standing,
 ) -> Result<Draft, LoadFault>
     ensures ok { IsTrue P.tells → Told result (draft_in_file (from_nothing target.now (P.world place.old)) frame.now is_member at) }
+    ensures draft { IfOk result IsDraft }
+    ensures folder { IfOk result (λ draft. draft.folder ≡ at.folder) }
     ensures same { IsTrue P.tells → P.world place.new ≡ P.world place.old }
     ensures reads { Reads result (P.counts place.old) (P.counts place.new) }
 {
@@ -230,6 +241,8 @@ fn draft_at<P: Place>(
     folder: &PathText,
 ) -> Result<Draft, LoadFault>
     ensures ok { IsTrue P.tells → Told result (draft_at (from_nothing target.now (P.world place.old)) frame.now meant.now folder.now) }
+    ensures draft { IfOk result IsDraft }
+    ensures folder { IfOk result (λ draft. draft.folder ≡ folder.now) }
     ensures same { IsTrue P.tells → P.world place.new ≡ P.world place.old }
     ensures reads { Reads result (P.counts place.old) (P.counts place.new) }
 {
@@ -282,7 +295,9 @@ fn one_read<P: Place>(
     reading: Reading,
     folder: PathText,
 ) -> Result<Reading, LoadFault>
+    requires { IsReading reading }
     ensures ok { IsTrue P.tells → Told result (one_read (draft_at (from_nothing target.now (P.world place.old)) frame.now meant.now) reading folder) }
+    ensures kept { IfOk result IsReading }
     ensures same { IsTrue P.tells → P.world place.new ≡ P.world place.old }
     ensures reads { Reads result (P.counts place.old) (P.counts place.new) }
 {
@@ -307,7 +322,9 @@ pub fn all_read<P: Place>(
     reading: Reading,
     folders: Items<PathText>,
 ) -> Result<Reading, LoadFault>
+    requires { IsReading reading }
     ensures ok { IsTrue P.tells → Told result (all_read (draft_at (from_nothing target.now (P.world place.old)) frame.now meant.now) reading folders) }
+    ensures kept { IfOk result IsReading }
     ensures same { IsTrue P.tells → P.world place.new ≡ P.world place.old }
     ensures reads { Reads result (P.counts place.old) (P.counts place.new) }
 {
@@ -327,7 +344,9 @@ fn round<P: Place>(
     meant: &ByFolder<()>,
     reading: Reading,
 ) -> Result<Reading, LoadFault>
+    requires { IsReading reading }
     ensures ok { IsTrue P.tells → Told result (round (draft_at (from_nothing target.now (P.world place.old)) frame.now meant.now) reading) }
+    ensures kept { IfOk result IsReading }
     ensures same { IsTrue P.tells → P.world place.new ≡ P.world place.old }
     ensures reads { Reads result (P.counts place.old) (P.counts place.new) }
 {
@@ -352,7 +371,9 @@ pub fn rounds<P: Place>(
     reading: Reading,
     count: usize,
 ) -> Result<Reading, LoadFault>
+    requires { IsReading reading }
     ensures ok { IsTrue P.tells → Told result (rounds count (draft_at (from_nothing target.now (P.world place.old)) frame.now meant.now) reading) }
+    ensures kept { IfOk result IsReading }
     ensures same { IsTrue P.tells → P.world place.new ≡ P.world place.old }
     ensures reads { Reads result (P.counts place.old) (P.counts place.new) }
 {

@@ -1,12 +1,14 @@
 //! A package, settled from its manifest, its folder and what its workspace gives.
 
-ghost use Rattle.std.specs.Prelude.{◌≡◌, ◌++◌, All, Bool, IfOk, IfErr, OnOk, IsTrue, true, false, map};
+ghost use Rattle.std.specs.Prelude.{◌≡◌, ◌++◌, All, Bool, IfOk, IfErr, OnOk, IsTrue, true, false, map, IfSome};
 ghost use Rattle.pb_data.specs.Gives.{Gives};
 ghost use Rattle.pb_place.specs.World.{from_nothing};
 ghost use Rattle.pb_manifest.specs.Letters.{is_name};
 ghost use Rattle.pb_workspace.specs.Causes.{is_outside, is_failure, Reads};
 ghost use Rattle.pb_workspace.specs.Settling.{readme_found, wanted_in, discovered, targets_of, comes_again, has_same_binaries};
 ghost use Rattle.pb_workspace.specs.declared.fault.LoadFault.TheVariants as load_fault;
+ghost use Rattle.std.specs.List.{AllByRecursion};
+ghost use Rattle.pb_workspace.specs.Drafted.{IsBinaryNamed, IsWrittenLibrary, AreTargets};
 
 use crate::binaries::{binaries_of, written_binaries};
 use crate::fault::LoadFault;
@@ -102,7 +104,9 @@ fn discovered<P: Place>(
     name: &Text,
     autobins: bool,
 ) -> Result<Items<Binary>, LoadFault>
+    requires { is_name name.now ≡ true }
     ensures ok { IsTrue P.tells → IfOk result (λ binaries. binaries ≡ discovered folder.now (from_nothing target.now (P.world place.old)) name.now autobins) }
+    ensures named { IfOk result (AllByRecursion IsBinaryNamed) }
     ensures same { IsTrue P.tells → P.world place.new ≡ P.world place.old }
     ensures outside { IfErr result (λ e. is_outside e ≡ true) }
     ensures reads { Reads result (P.counts place.old) (P.counts place.new) }
@@ -125,8 +129,11 @@ pub fn targets_of<P: Place>(
     library: Option<pb_manifest::Library>,
     binaries: Items<pb_manifest::Binary>,
 ) -> Result<Targets, LoadFault>
-    requires { All (λ b. is_name b.name ≡ true) binaries }
+    requires binaries { All (λ b. is_name b.name ≡ true) binaries }
+    requires name { is_name keys.now.name ≡ true }
+    requires library { IfSome library IsWrittenLibrary }
     ensures ok { IsTrue P.tells → IfOk result (λ targets. targets ≡ targets_of folder.now (from_nothing target.now (P.world place.old)) keys.now.name keys.now.autobins keys.now.build library binaries) }
+    ensures targets { IfOk result AreTargets }
     ensures same { IsTrue P.tells → P.world place.new ≡ P.world place.old }
     ensures outside { IfErr result (λ e. is_outside e ≡ true) }
     ensures reads { Reads result (P.counts place.old) (P.counts place.new) }
