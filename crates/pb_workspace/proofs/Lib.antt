@@ -2,3 +2,8 @@ pub mod RowLemmas
 pub mod Resolving
 pub mod SourceLemmas
 pub mod BinPaths
+pub mod Promised
+pub mod Steps
+pub mod Puttings
+pub mod Naming
+pub mod Keeping

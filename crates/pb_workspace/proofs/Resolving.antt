@@ -1,6 +1,6 @@
 -- The path that a written path says.
 use Rattle.std.proofs.Common.{◌≡◌, ℕ, List, Bool, true, false, Ok, Err, Result, if◌then◌else◌}
-use Rattle.pb_place.specs.Paths.{joined}
+use Rattle.pb_place.specs.Paths.{joined, names_of, parsed, path_of}
 use Rattle.pb_place.specs.declared.path.PathFault.{PathFault}
 use Rattle.pb_place.specs.declared.path.PathFault.TheVariants.{NotAbsolute, BadByte}
 use Rattle.pb_workspace.specs.Sources.{resolved}
@@ -18,3 +18,9 @@ pub joined_is_resolved : (folder text made : List ℕ) → joined folder text �
 joined_is_resolved folder text made h = one_path _ _ _ made h
 
 pub ruleset resolving_laws = (joined_is_resolved)
+
+-- where a text says a path of its own, it says this one
+pub parsed_is_path : (text made : List ℕ) → parsed text ≡ Ok made → made ≡ path_of (names_of text)
+parsed_is_path text made h = one_path _ _ _ made h
+
+pub ruleset parsing_laws = (parsed_is_path)

@@ -51,8 +51,9 @@ abbrev pub with_binaries : List (List ℕ × Binary) → List Binary → List (L
 with_binaries entries [] = entries
 with_binaries entries (b ∷ bs) = with_binaries (placed entries b.name b) bs
 
+-- the binary of an entry, under the entry's name
 abbrev pub binary_of : List ℕ × Binary → Binary
-binary_of entry = entry.1
+binary_of entry = record { name = entry.0; source = entry.1.source; required_features = entry.1.required_features }
 
 -- the found binaries, those that count last first, and then the written ones, which replace them
 abbrev pub binaries_of : List Binary → List Binary → List Binary

@@ -15,3 +15,13 @@ pub mod Binaries
 pub mod FoundBinaries
 pub mod Settling
 pub mod Keys
+pub mod Drafts
+pub mod ByFolder
+pub mod Frames
+pub mod MemberFolders
+pub mod Rounds
+pub mod Places
+pub mod Checks
+pub mod Assembled
+pub mod Loaded
+pub mod Drafted

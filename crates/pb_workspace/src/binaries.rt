@@ -6,6 +6,8 @@ ghost use Rattle.pb_place.specs.World.{from_nothing};
 ghost use Rattle.pb_manifest.specs.Letters.{is_name};
 ghost use Rattle.pb_workspace.specs.Binaries.{main_source, flat_source, nested_source, looked_in_bin, looked_for, binary_source, written_binary, with_binaries, binary_of, binaries_of};
 ghost use Rattle.pb_workspace.specs.Causes.{is_outside, Reads};
+ghost use Rattle.std.specs.List.{AllByRecursion};
+ghost use Rattle.pb_workspace.specs.Drafted.{IsBinaryNamed, AreBinaries};
 
 use crate::fault::LoadFault;
 use crate::found::own_source;
@@ -146,6 +148,7 @@ pub fn written_binary<P: Place>(
 ) -> Result<Binary, LoadFault>
     requires { is_name written.name ≡ true }
     ensures ok { IsTrue P.tells → IfOk result (λ binary. binary ≡ written_binary folder.now (from_nothing target.now (P.world place.old)) package_name.now written) }
+    ensures named { IfOk result IsBinaryNamed }
     ensures same { IsTrue P.tells → P.world place.new ≡ P.world place.old }
     ensures outside { IfErr result (λ e. is_outside e ≡ true) }
     ensures reads { Reads result (P.counts place.old) (P.counts place.new) }
@@ -177,6 +180,7 @@ pub fn written_binaries<P: Place>(
 ) -> Result<Items<Binary>, LoadFault>
     requires { All (λ b. is_name b.name ≡ true) written }
     ensures ok { IsTrue P.tells → IfOk result (λ binaries. binaries ≡ map (written_binary folder.now (from_nothing target.now (P.world place.old)) package_name.now) written) }
+    ensures named { IfOk result (AllByRecursion IsBinaryNamed) }
     ensures same { IsTrue P.tells → P.world place.new ≡ P.world place.old }
     ensures outside { IfErr result (λ e. is_outside e ≡ true) }
     ensures reads { Reads result (P.counts place.old) (P.counts place.new) }
@@ -209,8 +213,12 @@ fn values_of(alloc: Global, entries: Items<(Text, Binary)>) -> Result<Items<Bina
     ensures { IfOk result (λ binaries. binaries ≡ map binary_of entries) }
 {
     let mut binaries = Items::new(alloc);
-    for (_name, binary) in entries.into_vec() {
-        binaries.push(binary)?;
+    for (name, binary) in entries.into_vec() {
+        binaries.push(Binary {
+            name,
+            source: binary.source,
+            required_features: binary.required_features,
+        })?;
     }
     Ok(binaries)
 }
@@ -223,10 +231,15 @@ pub fn binaries_of(
     found: Items<Binary>,
     written: Items<Binary>,
 ) -> Result<Items<Binary>, AllocError>
-    ensures { IfOk result (λ binaries. binaries ≡ binaries_of found written) }
+    requires found { AllByRecursion IsBinaryNamed found }
+    requires written { AllByRecursion IsBinaryNamed written }
+    ensures binaries { IfOk result (λ binaries. binaries ≡ binaries_of found written) }
+    ensures kept { IfOk result AreBinaries }
 {
     let mut entries = Sorted::new(alloc);
     put_binaries(alloc, &mut entries, found)?;
     put_binaries(alloc, &mut entries, written)?;
-    values_of(alloc, entries.into_items(alloc)?)
+    let items = entries.into_items(alloc)?;
+    let made = values_of(alloc, items)?;
+    Ok(made)
 }

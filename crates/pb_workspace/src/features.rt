@@ -1,10 +1,11 @@
 //! The features of a package, with those that its optional dependencies make.
 
 ghost use Rattle.std.specs.Prelude.{◌≡◌, ◌∷◌, [], IfOk, OnOk, map};
-ghost use Rattle.std.specs.List.{list_any};
+ghost use Rattle.std.specs.List.{AllByRecursion, list_any};
 ghost use Rattle.pb_manifest.specs.declared.feature.FeatureItem.TheVariants as item;
 ghost use Rattle.pb_workspace.specs.Sorted.{placed};
 ghost use Rattle.pb_workspace.specs.Features.{enables, is_enabled_by_name, makes_feature, with_made, with_written, feature_of, features_of};
+ghost use Rattle.pb_workspace.specs.Drafted.{AreFeatures, IsKeyed, IsWrittenFeature};
 
 use crate::sorted::Sorted;
 use pb_data::{Items, Text, TryCopy};
@@ -117,11 +118,17 @@ pub fn features_of(
     dependencies: &[Dependency],
     build: &[Dependency],
 ) -> Result<Items<Feature>, AllocError>
-    ensures { IfOk result (λ features. features ≡ features_of written dependencies.now build.now) }
+    requires features { AllByRecursion IsWrittenFeature written }
+    requires normal { AllByRecursion IsKeyed dependencies.now }
+    requires build { AllByRecursion IsKeyed build.now }
+    ensures features { IfOk result (λ features. features ≡ features_of written dependencies.now build.now) }
+    ensures kept { IfOk result AreFeatures }
 {
     let mut made = Sorted::new(alloc);
     add_made(alloc, written.as_slice(), &mut made, dependencies)?;
     add_made(alloc, written.as_slice(), &mut made, build)?;
     add_written(&mut made, written)?;
-    listed(alloc, made.into_items(alloc)?)
+    let items = made.into_items(alloc)?;
+    let features = listed(alloc, items)?;
+    Ok(features)
 }

@@ -1,10 +1,12 @@
 //! What is found in the folder of a package: its README, its library and its build script.
 
-ghost use Rattle.std.specs.Prelude.{◌≡◌, IfOk, IfErr, IsTrue, true, []};
+ghost use Rattle.std.specs.Prelude.{◌≡◌, IfOk, IfErr, IsTrue, true, [], IfSome};
 ghost use Rattle.pb_place.specs.Paths.{is_relative};
 ghost use Rattle.pb_place.specs.World.{from_nothing};
 ghost use Rattle.pb_workspace.specs.Causes.{is_outside, Reads};
 ghost use Rattle.pb_workspace.specs.Sources.{own_source, found_readme, script_of, library_source, served_types, written_library, found_library, library_of};
+ghost use Rattle.pb_manifest.specs.Letters.{is_crate_name, is_name};
+ghost use Rattle.pb_workspace.specs.Drafted.{IsWrittenLibrary, IsLibraryNamed};
 
 use crate::fault::LoadFault;
 use crate::package::Library;
@@ -150,7 +152,9 @@ fn found_library<P: Place>(
     folder: &PathText,
     name: Text,
 ) -> Result<Option<Library>, LoadFault>
+    requires { is_crate_name name ≡ true }
     ensures ok { IsTrue P.tells → IfOk result (λ library. library ≡ found_library folder.now (from_nothing target.now (P.world place.old)) name) }
+    ensures named { IfOk result (λ library. IfSome library IsLibraryNamed) }
     ensures same { IsTrue P.tells → P.world place.new ≡ P.world place.old }
     ensures outside { IfErr result (λ e. is_outside e ≡ true) }
     ensures reads { Reads result (P.counts place.old) (P.counts place.new) }
@@ -169,6 +173,7 @@ fn found_library<P: Place>(
 
 /// The library of a package of this name, where it has one (The Cargo Book, Cargo Targets): that of `[lib]`,
 /// else `src/lib.rs` where that is a file.
+#[tactic(auto, using(crate::proofs::Naming::library_laws))]
 pub fn library_of<P: Place>(
     place: &mut P,
     alloc: Global,
@@ -177,7 +182,10 @@ pub fn library_of<P: Place>(
     package_name: &str,
     written: Option<pb_manifest::Library>,
 ) -> Result<Option<Library>, LoadFault>
+    requires name { is_name package_name.now ≡ true }
+    requires library { IfSome written IsWrittenLibrary }
     ensures ok { IsTrue P.tells → IfOk result (λ library. library ≡ library_of folder.now (from_nothing target.now (P.world place.old)) package_name.now written) }
+    ensures named { IfOk result (λ library. IfSome library IsLibraryNamed) }
     ensures same { IsTrue P.tells → P.world place.new ≡ P.world place.old }
     ensures outside { IfErr result (λ e. is_outside e ≡ true) }
     ensures reads { Reads result (P.counts place.old) (P.counts place.new) }

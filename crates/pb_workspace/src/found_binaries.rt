@@ -1,7 +1,7 @@
 //! The binaries that a package's folder has.
 
 ghost use Rattle.std.specs.Prelude.{◌≡◌, ◌++◌, Bool, not, IfOk, IfErr, OnOk, IsTrue, true, false, filter, map, option_map};
-ghost use Rattle.std.specs.List.{filter_map};
+ghost use Rattle.std.specs.List.{AllByRecursion, filter_map};
 ghost use Rattle.pb_place.specs.Paths.{inside, is_at_or_below};
 ghost use Rattle.pb_place.specs.World.{from_nothing, listed};
 ghost use Rattle.pb_manifest.specs.Features.{parted};
@@ -9,6 +9,8 @@ ghost use Rattle.pb_workspace.specs.Between.{names_in};
 ghost use Rattle.pb_workspace.specs.Causes.{is_outside, bears, Reads};
 ghost use Rattle.pb_workspace.specs.FoundBinaries.{stem_in, flat_name, nested_name, name_by, name_inside, binary_at, main_binary, bin_folder, found_binaries};
 ghost use Rattle.pb_workspace.specs.Sources.{own_source};
+ghost use Rattle.pb_manifest.specs.Letters.{is_name};
+ghost use Rattle.pb_workspace.specs.Drafted.{IsBinaryNamed};
 
 use crate::between::names_in;
 use crate::fault::LoadFault;
@@ -223,7 +225,9 @@ pub fn found_binaries<P: Place>(
     folder: &PathText,
     name: &Text,
 ) -> Result<Items<Binary>, LoadFault>
+    requires { is_name name.now ≡ true }
     ensures ok { IsTrue P.tells → IfOk result (λ binaries. binaries ≡ found_binaries folder.now (from_nothing target.now (P.world place.old)) name.now) }
+    ensures named { IfOk result (AllByRecursion IsBinaryNamed) }
     ensures same { IsTrue P.tells → P.world place.new ≡ P.world place.old }
     ensures outside { IfErr result (λ e. is_outside e ≡ true) }
     ensures reads { Reads result (P.counts place.old) (P.counts place.new) }

@@ -1,6 +1,6 @@
 //! The keys of a package, each settled.
 
-ghost use Rattle.std.specs.Prelude.{◌≡◌, IfErr, IsTrue, false};
+ghost use Rattle.std.specs.Prelude.{◌≡◌, IfErr, IsTrue, false, IfOk};
 ghost use Rattle.pb_data.specs.Gives.{Gives};
 ghost use Rattle.pb_place.specs.World.{from_nothing};
 ghost use Rattle.pb_workspace.specs.Causes.{is_failure, Told, Reads};
@@ -100,6 +100,7 @@ fn keys_from(
     rest: Rest,
 ) -> Result<Keys, LoadFault>
     ensures told { Gives load_fault.OutOfMemory (λ keys. keys) result (keys_from at.now given.now readme said rest) }
+    ensures name { IfOk result (λ keys. keys.name ≡ rest.name) }
     ensures here { IfErr result (λ e. is_failure e ≡ false) }
 {
     let version = version_of(alloc, rest.version, &given.version)?;
@@ -127,6 +128,7 @@ pub fn keys_of<P: Place>(
     found: Package,
 ) -> Result<Keys, LoadFault>
     ensures ok { IsTrue P.tells → Told result (keys_of (from_nothing target.now (P.world place.old)) at.now given.now found) }
+    ensures name { IfOk result (λ keys. keys.name ≡ found.name) }
     ensures same { IsTrue P.tells → P.world place.new ≡ P.world place.old }
     ensures reads { Reads result (P.counts place.old) (P.counts place.new) }
 {

@@ -3,17 +3,26 @@
 //! Specifying Dependencies).
 #![tactic(auto)]
 
+pub mod assembled;
 pub mod between;
 pub mod binaries;
+pub mod by_folder;
+pub mod checks;
+pub mod draft;
 pub mod fault;
 pub mod features;
 pub mod found;
 pub mod found_binaries;
+pub mod frame;
 pub mod glob;
 pub mod keys;
+pub mod loading;
 pub mod member;
+pub mod member_folders;
 pub mod options;
 pub mod package;
+pub mod places;
+pub mod rounds;
 pub mod selecting;
 pub mod settling;
 pub mod sorted;
@@ -23,6 +32,7 @@ pub mod wanted;
 pub mod workspace;
 
 pub use fault::LoadFault;
+pub use loading::load;
 pub use options::{Options, Selection};
 pub use package::{About, Binary, DependencyKind, Entry, Library, Package, Side};
 pub use selecting::selected;

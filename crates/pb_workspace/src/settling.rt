@@ -1,21 +1,24 @@
 //! A package, settled from its manifest, its folder and what its workspace gives.
 
-ghost use Rattle.std.specs.Prelude.{◌≡◌, ◌++◌, All, Bool, IfOk, IfErr, OnOk, IsTrue, true, false, map};
+ghost use Rattle.std.specs.Prelude.{◌≡◌, ◌++◌, All, Bool, IfOk, IfErr, OnOk, IsTrue, true, false, map, IfSome};
 ghost use Rattle.pb_data.specs.Gives.{Gives};
 ghost use Rattle.pb_place.specs.World.{from_nothing};
 ghost use Rattle.pb_manifest.specs.Letters.{is_name};
 ghost use Rattle.pb_workspace.specs.Causes.{is_outside, is_failure, Reads};
 ghost use Rattle.pb_workspace.specs.Settling.{readme_found, wanted_in, discovered, targets_of, comes_again, has_same_binaries};
 ghost use Rattle.pb_workspace.specs.declared.fault.LoadFault.TheVariants as load_fault;
+ghost use Rattle.std.specs.List.{AllByRecursion};
+ghost use Rattle.pb_workspace.specs.Drafted.{IsBinaryNamed, IsWrittenLibrary, AreTargets};
 
 use crate::binaries::{binaries_of, written_binaries};
 use crate::fault::LoadFault;
 use crate::found::{found_readme, library_of, script_of};
 use crate::found_binaries::found_binaries;
+use crate::keys::Keys;
 use crate::package::{Binary, DependencyKind, Library};
 use crate::wanted::{Standing, Wanted, each_wanted};
 use pb_data::{Items, Mentions, Text, TryCopy};
-use pb_manifest::{Build, Dependency, Inheritable, Readme, WorkspaceDependency, WorkspacePackage};
+use pb_manifest::{Dependency, Inheritable, Readme, WorkspaceDependency, WorkspacePackage};
 use pb_place::{PathText, Place};
 use std::alloc::{AllocError, Global};
 
@@ -101,7 +104,9 @@ fn discovered<P: Place>(
     name: &Text,
     autobins: bool,
 ) -> Result<Items<Binary>, LoadFault>
+    requires { is_name name.now ≡ true }
     ensures ok { IsTrue P.tells → IfOk result (λ binaries. binaries ≡ discovered folder.now (from_nothing target.now (P.world place.old)) name.now autobins) }
+    ensures named { IfOk result (AllByRecursion IsBinaryNamed) }
     ensures same { IsTrue P.tells → P.world place.new ≡ P.world place.old }
     ensures outside { IfErr result (λ e. is_outside e ≡ true) }
     ensures reads { Reads result (P.counts place.old) (P.counts place.new) }
@@ -113,39 +118,31 @@ fn discovered<P: Place>(
     Ok(found)
 }
 
-/// What the targets of a package are made of.
-#[derive(Debug, Drop)]
-pub struct TargetTables {
-    /// `autobins`.
-    pub autobins: bool,
-    /// `build`.
-    pub build: Build,
-    /// `[lib]`.
-    pub library: Option<pb_manifest::Library>,
-    /// `[[bin]]`, in the manifest's order.
-    pub binaries: Items<pb_manifest::Binary>,
-}
-
-/// What a package of this name is built to: its library, its binaries and its build script, each where it is
+/// What a package of these keys is built to: its library, its binaries and its build script, each where it is
 /// written or found (The Cargo Book, Cargo Targets and Build Scripts).
 pub fn targets_of<P: Place>(
     place: &mut P,
     alloc: Global,
     target: &PathText,
     folder: &PathText,
-    name: &Text,
-    tables: TargetTables,
+    keys: &Keys,
+    library: Option<pb_manifest::Library>,
+    binaries: Items<pb_manifest::Binary>,
 ) -> Result<Targets, LoadFault>
-    requires { All (λ b. is_name b.name ≡ true) tables.binaries }
-    ensures ok { IsTrue P.tells → IfOk result (λ targets. targets ≡ targets_of folder.now (from_nothing target.now (P.world place.old)) name.now tables.autobins tables.build tables.library tables.binaries) }
+    requires binaries { All (λ b. is_name b.name ≡ true) binaries }
+    requires name { is_name keys.now.name ≡ true }
+    requires library { IfSome library IsWrittenLibrary }
+    ensures ok { IsTrue P.tells → IfOk result (λ targets. targets ≡ targets_of folder.now (from_nothing target.now (P.world place.old)) keys.now.name keys.now.autobins keys.now.build library binaries) }
+    ensures targets { IfOk result AreTargets }
     ensures same { IsTrue P.tells → P.world place.new ≡ P.world place.old }
     ensures outside { IfErr result (λ e. is_outside e ≡ true) }
     ensures reads { Reads result (P.counts place.old) (P.counts place.new) }
 {
-    let library = library_of(place, alloc, target, folder, name.as_str(), tables.library)?;
-    let script = script_of(place, alloc, target, folder, &tables.build)?;
-    let found = discovered(place, alloc, target, folder, name, tables.autobins)?;
-    let written = written_binaries(place, alloc, target, folder, name, tables.binaries)?;
+    let name = &keys.name;
+    let library = library_of(place, alloc, target, folder, name.as_str(), library)?;
+    let script = script_of(place, alloc, target, folder, &keys.build)?;
+    let found = discovered(place, alloc, target, folder, name, keys.autobins)?;
+    let written = written_binaries(place, alloc, target, folder, name, binaries)?;
     let binaries = binaries_of(alloc, found, written)?;
     Ok(Targets {
         library,

@@ -1,7 +1,8 @@
 //! Values by names, in byte order of the names.
 
-ghost use Rattle.std.specs.Prelude.{◌≡◌, List, ℕ, [], IfOk, OnOk, OnErr};
+ghost use Rattle.std.specs.Prelude.{◌≡◌, List, ℕ, [], IfOk, OnOk, OnErr, map};
 ghost use Rattle.pb_workspace.specs.Sorted.{placed};
+ghost use Rattle.pb_workspace.specs.Settled.{IsAscending};
 
 use pb_data::{Items, Text};
 use std::alloc::{AllocError, Global};
@@ -42,7 +43,8 @@ impl<V: Drop> Sorted<V> {
 
     /// The entries as items. The one fault is want of memory.
     pub fn into_items(self, alloc: Global) -> Result<Items<(Text, V)>, AllocError>
-        ensures { IfOk result (λ items. items ≡ self) }
+        ensures same { IfOk result (λ items. items ≡ self) }
+        ensures order { IfOk result (λ items. IsAscending (map (λ e. e.0) items)) }
     {
         let entries: Vec<(Text, V)> = self.inside.into_iter().collect(alloc)?;
         Ok(Items::from_vec(entries))

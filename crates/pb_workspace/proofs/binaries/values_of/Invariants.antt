@@ -4,4 +4,4 @@ use Rattle.pb_workspace.specs.Binaries.{binary_of}
 use Rattle.pb_workspace.proofs.binaries.values_of.Given as goal
 
 abbrev pub invariant-loop-name : goal.invariant-loop-name
-invariant-loop-name l = l.binaries ++ map binary_of (into_iter_items l._name-iterator) ≡ map binary_of l.fn.entries
+invariant-loop-name l = l.binaries ++ map binary_of (into_iter_items l.name-iterator) ≡ map binary_of l.fn.entries

@@ -1,0 +1,189 @@
+//! A workspace as lines of text: what is there, defaults left out.
+
+use pb_data::{Items, Text};
+use pb_manifest::{Edition, Feature, FeatureItem};
+use pb_workspace::{
+    About, DefaultMembers, DependencyKind, Entry, LoadFault, Package, Workspace,
+};
+use std::alloc::Global;
+use std::fmt::Write;
+use std::test::Fail;
+
+/// The answer of the loader in lines.
+pub fn shown(alloc: Global, answer: &Result<Workspace, LoadFault>) -> Result<String, Fail> {
+    let mut out = String::new(alloc);
+    match answer {
+        Ok(workspace) => put_workspace(&mut out, workspace)?,
+        Err(fault) => put_fault(&mut out, fault)?,
+    }
+    Ok(out)
+}
+
+fn put_fault(out: &mut String, fault: &LoadFault) -> Result<(), Fail> {
+    match fault {
+        LoadFault::NoManifest(path) => writeln!(out, "NoManifest {}", path.as_str())?,
+        LoadFault::Manifest(path, fault) => {
+            writeln!(out, "Manifest {} {fault:?}", path.as_str())?
+        }
+        LoadFault::Place(path, fault) => writeln!(out, "Place {} {fault:?}", path.as_str())?,
+        other => writeln!(out, "{other:?}")?,
+    }
+    Ok(())
+}
+
+fn put_workspace(out: &mut String, workspace: &Workspace) -> Result<(), Fail> {
+    for found in workspace.packages.as_slice() {
+        put_package(out, found)?;
+    }
+    if let Some(place) = workspace.root_package {
+        writeln!(out, "root {place}")?;
+    }
+    match &workspace.default_members {
+        DefaultMembers::Unwritten => {}
+        DefaultMembers::Unknown => writeln!(out, "default unknown")?,
+        DefaultMembers::Named(places) => {
+            write!(out, "default")?;
+            for place in places.as_slice() {
+                write!(out, " {place}")?;
+            }
+            writeln!(out, "")?;
+        }
+    }
+    for profile in workspace.profiles.as_slice() {
+        writeln!(out, "profile {}", profile.name.as_str())?;
+    }
+    Ok(())
+}
+
+fn edition_text(edition: Edition) -> &'static str {
+    match edition {
+        Edition::E2015 => "2015",
+        Edition::E2018 => "2018",
+        Edition::E2021 => "2021",
+        Edition::E2024 => "2024",
+    }
+}
+
+fn put_package(out: &mut String, found: &Package) -> Result<(), Fail> {
+    let version = found.version.text().as_str();
+    let edition = edition_text(found.edition);
+    write!(
+        out,
+        "{} {} {version} {edition}",
+        found.folder.as_str(),
+        found.name.as_str()
+    )?;
+    if !found.is_member {
+        write!(out, " other")?;
+    }
+    writeln!(out, "")?;
+    put_about(out, &found.about)?;
+    if let Some(links) = &found.links {
+        writeln!(out, "  links {}", links.as_str())?;
+    }
+    put_targets(out, found)?;
+    for entry in found.entries.as_slice() {
+        put_entry(out, entry)?;
+    }
+    for feature in found.features.as_slice() {
+        put_feature(out, feature)?;
+    }
+    for key in found.development.as_slice() {
+        writeln!(out, "  dev {}", key.as_str())?;
+    }
+    Ok(())
+}
+
+fn put_said(out: &mut String, name: &str, text: &Text) -> Result<(), Fail> {
+    if text.as_str() != "" {
+        writeln!(out, "  {name} {}", text.as_str())?;
+    }
+    Ok(())
+}
+
+fn put_about(out: &mut String, about: &About) -> Result<(), Fail> {
+    put_said(out, "authors", &about.authors)?;
+    put_said(out, "description", &about.description)?;
+    put_said(out, "homepage", &about.homepage)?;
+    put_said(out, "license", &about.license)?;
+    put_said(out, "license-file", &about.license_file)?;
+    put_said(out, "readme", &about.readme)?;
+    put_said(out, "repository", &about.repository)?;
+    put_said(out, "rust-version", &about.rust_version)
+}
+
+fn put_targets(out: &mut String, found: &Package) -> Result<(), Fail> {
+    if let Some(library) = &found.library {
+        write!(
+            out,
+            "  lib {} {}",
+            library.name.as_str(),
+            library.source.as_str()
+        )?;
+        for crate_type in library.crate_types.as_slice() {
+            write!(out, " {crate_type:?}")?;
+        }
+        writeln!(out, "")?;
+    }
+    for binary in found.binaries.as_slice() {
+        write!(
+            out,
+            "  bin {} {}",
+            binary.name.as_str(),
+            binary.source.as_str()
+        )?;
+        put_texts(out, &binary.required_features)?;
+        writeln!(out, "")?;
+    }
+    if let Some(script) = &found.script {
+        writeln!(out, "  script {}", script.as_str())?;
+    }
+    Ok(())
+}
+
+fn put_texts(out: &mut String, texts: &Items<Text>) -> Result<(), Fail> {
+    for text in texts.as_slice() {
+        write!(out, " {}", text.as_str())?;
+    }
+    Ok(())
+}
+
+fn put_entry(out: &mut String, entry: &Entry) -> Result<(), Fail> {
+    let table = match entry.kind {
+        DependencyKind::Normal => "dep",
+        DependencyKind::Build => "build-dep",
+    };
+    write!(out, "  {table} {} {}", entry.key.as_str(), entry.to)?;
+    if entry.renamed {
+        write!(out, " renamed")?;
+    }
+    if entry.optional {
+        write!(out, " optional")?;
+    }
+    if !entry.default_features {
+        write!(out, " no-default")?;
+    }
+    put_texts(out, &entry.features)?;
+    writeln!(out, "")?;
+    Ok(())
+}
+
+fn put_feature(out: &mut String, feature: &Feature) -> Result<(), Fail> {
+    write!(out, "  feature {}", feature.name.as_str())?;
+    for item in feature.items.as_slice() {
+        match item {
+            FeatureItem::Own(name) => write!(out, " {}", name.as_str())?,
+            FeatureItem::Dependency(name) => write!(out, " dep:{}", name.as_str())?,
+            FeatureItem::Of {
+                dependency,
+                feature,
+            } => write!(out, " {}/{}", dependency.as_str(), feature.as_str())?,
+            FeatureItem::OfEnabled {
+                dependency,
+                feature,
+            } => write!(out, " {}?/{}", dependency.as_str(), feature.as_str())?,
+        }
+    }
+    writeln!(out, "")?;
+    Ok(())
+}

@@ -1,0 +1,168 @@
+//! Workspaces, by a table of files with the packages that are loaded or the refusal.
+
+use crate::cases::CASES;
+use crate::child::Silent;
+use crate::show::shown;
+use pb_data::{Items, Text};
+use pb_place::{Memory, PathText, Place};
+use pb_workspace::{LoadFault, Options, Workspace, load, selected};
+use std::alloc::Global;
+use std::process::Abort;
+use std::test::Fail;
+
+/// Puts the files of a case, each behind a line `@ PATH`.
+fn put_files(alloc: Global, memory: &mut Memory<Silent>, files: &str) -> Result<(), Fail> {
+    for file in files.split("@ ") {
+        if let Some((path, text)) = file.split_once('\n') {
+            let path = PathText::parse(alloc, path)?;
+            memory.put(alloc, &path, text.as_bytes())?;
+        }
+    }
+    Ok(())
+}
+
+/// The options of a build of `-p NAME`, of all members for `*`, or of nothing named for `-`.
+fn options_of(alloc: Global, word: &str) -> Result<Options, Fail> {
+    let mut packages = Items::new(alloc);
+    if word != "-" && word != "*" {
+        packages.push(Text::from_str(alloc, word)?)?;
+    }
+    Ok(Options {
+        manifest: PathText::parse(alloc, "/w/Cargo.toml")?,
+        packages,
+        workspace: word == "*",
+        features: Items::new(alloc),
+        all_features: false,
+        no_default_features: false,
+        profile: Text::from_str(alloc, "dev")?,
+        lib: false,
+        bins: false,
+        bin: Items::new(alloc),
+        target_dir: None,
+        runner: Items::new(alloc),
+        tool: Text::from_str(alloc, "tool")?,
+    })
+}
+
+/// Adds the selection of a word to what is shown: a line `WORD =` and the places, or the refusal.
+fn put_selection(
+    alloc: Global,
+    workspace: &Workspace,
+    word: &str,
+    out: &mut String,
+) -> Result<(), Fail> {
+    let options = options_of(alloc, word)?;
+    out.push_str(word)?;
+    out.push_str(" =")?;
+    match selected(alloc, workspace, &options) {
+        Ok(selection) => {
+            for place in selection.packages.as_slice() {
+                out.push_str(format!(in alloc; " {place}")?.as_str())?;
+            }
+        }
+        Err(fault) => out.push_str(format!(in alloc; " {fault:?}")?.as_str())?,
+    }
+    out.push_str("\n")?;
+    Ok(())
+}
+
+/// What a case answers: the workspace, and a line for each word that stands for a selection.
+fn answered(
+    alloc: Global,
+    memory: &mut Memory<Silent>,
+    words: &str,
+) -> Result<String, Fail> {
+    let manifest = PathText::parse(alloc, "/w/Cargo.toml")?;
+    let target = PathText::parse(alloc, "/w/target")?;
+    let answer = load(memory, alloc, &manifest, &target);
+    let mut out = shown(alloc, &answer)?;
+    if let Ok(workspace) = &answer {
+        for word in words.split(' ') {
+            if word != "" {
+                put_selection(alloc, workspace, word, &mut out)?;
+            }
+        }
+    }
+    Ok(out)
+}
+
+/// Tries one case: a name and words of selections, files, and after a line `---` the answer.
+fn try_case(rt: &impl Abort, alloc: Global, case: &str) -> Result<bool, Fail> {
+    let Some((head, rest)) = case.split_once('\n') else {
+        return Ok(false);
+    };
+    let Some((files, want)) = rest.split_once("---\n") else {
+        return Ok(false);
+    };
+    let words = match head.split_once(": ") {
+        Some((_, words)) => words,
+        None => "",
+    };
+    let mut memory = Memory::new(alloc, Silent);
+    put_files(alloc, &mut memory, files)?;
+    let answer = answered(alloc, &mut memory, words)?;
+    assert_eq!(rt; answer.as_str(), want);
+    Ok(true)
+}
+
+#[test]
+fn workspaces(rt: HostRuntime) -> Result<(), Fail> {
+    let mut count = 0usize;
+    for case in CASES.split("=== ") {
+        if try_case(&rt, rt.alloc(), case)? {
+            count = count.saturating_add(1);
+        }
+    }
+    assert!(rt; count >= 60);
+    Ok(())
+}
+
+/// A root manifest, and so many members, each with the shortest manifest.
+fn many(alloc: Global, count: usize) -> Result<Memory<Silent>, Fail> {
+    let mut memory = Memory::new(alloc, Silent);
+    let root = PathText::parse(alloc, "/w/Cargo.toml")?;
+    memory.put(alloc, &root, b"[workspace]\nmembers = [\"m*\"]\n")?;
+    for number in 0..count {
+        let path = format!(in alloc; "/w/m{number}/Cargo.toml")?;
+        let path = PathText::parse(alloc, path.as_str())?;
+        let text = format!(in alloc; "package.name = \"p{number}\"\n")?;
+        memory.put(alloc, &path, text.as_bytes())?;
+    }
+    Ok(memory)
+}
+
+#[test]
+fn greatest_number_of_packages(rt: HostRuntime) -> Result<(), Fail> {
+    let alloc = rt.alloc();
+    let manifest = PathText::parse(alloc, "/w/Cargo.toml")?;
+    let target = PathText::parse(alloc, "/w/target")?;
+    let mut memory = many(alloc, 256)?;
+    let found = load(&mut memory, alloc, &manifest, &target)?;
+    assert_eq!(rt; found.packages.len(), 256);
+    let mut memory = many(alloc, 257)?;
+    let answer = load(&mut memory, alloc, &manifest, &target);
+    assert!(rt; matches!(answer, Err(LoadFault::TooMany)));
+    assert_eq!(rt; memory.failures(), 0);
+    assert_eq!(rt; memory.starts(), 0);
+    Ok(())
+}
+
+#[test]
+fn roots_that_are_no_manifest(rt: HostRuntime) -> Result<(), Fail> {
+    let alloc = rt.alloc();
+    let mut memory = Memory::new(alloc, Silent);
+    let path = PathText::parse(alloc, "/w/Cargo.toml")?;
+    let named = PathText::parse(alloc, "/w/other.toml")?;
+    memory.put(alloc, &path, b"package.name = \"a\"\n")?;
+    memory.put(alloc, &named, b"package.name = \"a\"\n")?;
+    let target = PathText::parse(alloc, "/w/target")?;
+    let whole = PathText::parse(alloc, "/w")?;
+    let absent = PathText::parse(alloc, "/v/Cargo.toml")?;
+    let good = load(&mut memory, alloc, &path, &target)?;
+    assert_eq!(rt; good.packages.len(), 1);
+    for (manifest, target) in [(&named, &target), (&path, &whole), (&path, &path), (&absent, &target)] {
+        let answer = load(&mut memory, alloc, manifest, target);
+        assert!(rt; matches!(answer, Err(LoadFault::NoManifest(_))));
+    }
+    Ok(())
+}

@@ -1,0 +1,196 @@
+-- What is put together keeps its names and its order.
+use Rattle.std.proofs.Common.{◌≡◌, ◌≤◌, ◌<◌, ℕ, zero, suc, ◌+◌, not, List, [], ◌∷◌, ◌++◌, length, map, Bool, true, false, ◌&&◌, ◌||◌, Option, Some, None, IfSome, All, Result, Ok, Err, cond, refl, sym, ap, ◌∙◌, subst, arith, if◌then◌else◌}
+use Rattle.std.proofs.lemmas.Bool.{or_cases}
+use Rattle.std.proofs.lemmas.List.{length-map}
+use Rattle.std.proofs.lemmas.List.Elements.{All-from_recursion}
+use Rattle.std.proofs.lemmas.List.Folds.{list_any-append}
+use Rattle.std.specs.List.{AllByRecursion, IsDistinct, filter_map, list_any}
+use Rattle.std.specs.Map.{lookup}
+use Rattle.std.specs.Option.{unwrap_or}
+use Rattle.std.specs.BTreeMap.{is_at}
+use Rattle.std.specs.Cmp.Lexicographic.{slice_cmp}
+use Rattle.std.specs.Ordering.{nat_cmp}
+use Rattle.std.specs.Str.{bytes_eq}
+use Rattle.pb_data.specs.Mentions.{is_mentioned, mentioned}
+use Rattle.pb_data.proofs.MentionLemmas.{bytes_eq_comm}
+use Rattle.pb_manifest.specs.Letters.{is_name, is_feature_name}
+use Rattle.pb_manifest.specs.declared.dependency.Dependency.{Dependency}
+use Rattle.pb_manifest.specs.declared.feature.Feature.{Feature}
+use Rattle.pb_manifest.specs.declared.feature.FeatureItem.{FeatureItem}
+use Rattle.pb_manifest.specs.declared.feature.FeatureItem.TheVariants as item
+use Rattle.pb_manifest.specs.declared.profile.Profile.{Profile}
+use Rattle.pb_workspace.specs.declared.draft.Draft.{Draft}
+use Rattle.pb_workspace.specs.declared.fault.LoadFault.{LoadFault}
+use Rattle.pb_workspace.specs.declared.fault.LoadFault.TheVariants.{SameName}
+use Rattle.pb_workspace.specs.declared.frame.Frame.{Frame}
+use Rattle.pb_workspace.specs.declared.package.Binary.{Binary}
+use Rattle.pb_workspace.specs.declared.package.Entry.{Entry}
+use Rattle.pb_workspace.specs.declared.package.Package.{Package}
+use Rattle.pb_workspace.specs.declared.rounds.Reading.{Reading}
+use Rattle.pb_workspace.specs.declared.wanted.Wanted.{Wanted}
+use Rattle.pb_workspace.specs.declared.workspace.Workspace.{Workspace}
+use Rattle.pb_workspace.specs.Assembled.{assembled, entry_at, package_at}
+use Rattle.pb_workspace.specs.Binaries.{binary_of, with_binaries}
+use Rattle.pb_workspace.specs.ByFolder.{folders_of, value_of, values_of}
+use Rattle.pb_workspace.specs.Checks.{fault_of, has_same_names}
+use Rattle.pb_workspace.specs.Drafted.{AreBinaries, AreFeatures, IsBinaryNamed, IsDraft, IsFeatureNamed, IsKeyed, IsPut, IsReading, IsWrittenFeature}
+use Rattle.pb_workspace.specs.Features.{feature_of, makes_feature, with_made, with_written}
+use Rattle.pb_workspace.specs.Loaded.{unless, workspace_from}
+use Rattle.pb_workspace.specs.Places.{numbered, places_of}
+use Rattle.pb_workspace.specs.Rounds.{with_draft}
+use Rattle.pb_workspace.specs.Settled.{IsAscending, IsPackage, IsSettled}
+use Rattle.pb_workspace.specs.Settling.{comes_again}
+use Rattle.pb_workspace.specs.Sorted.{placed}
+use Rattle.pb_workspace.proofs.Puttings.{placed_all, placed_length, all_map, all_given, map_twice}
+
+-- binaries
+abbrev NamedEntry : List ℕ × Binary → Type 0
+NamedEntry e = is_name e.0 ≡ true
+
+with_named : (es : List (List ℕ × Binary)) (bs : List Binary) → AllByRecursion NamedEntry es → AllByRecursion IsBinaryNamed bs → AllByRecursion NamedEntry (with_binaries es bs)
+with_named es [] all named = all
+with_named es (b ∷ bs) all named = with_named (placed es b.name b) bs (placed_all NamedEntry es b.name b all named.0) named.1
+
+pub binaries_kept : (found written made : List Binary) (es : List (List ℕ × Binary)) → AllByRecursion IsBinaryNamed found → AllByRecursion IsBinaryNamed written
+    → es ≡ with_binaries (with_binaries [] found) written → IsAscending (map (λ e. e.0) es) → made ≡ map binary_of es → AreBinaries made
+binaries_kept found written made es one two put order is = record {
+  named = subst (AllByRecursion IsBinaryNamed) (sym is) (all_map IsBinaryNamed binary_of es (subst (AllByRecursion NamedEntry) (sym put) (with_named _ written (with_named [] found tt one) two)));
+  order = subst IsAscending (sym (ap (map (λ (b : Binary). b.name)) is ∙ map_twice (λ (b : Binary). b.name) binary_of es)) order;
+}
+
+-- features
+abbrev FeatureEntry : List ℕ × List FeatureItem → Type 0
+FeatureEntry e = is_feature_name e.0 || is_name e.0 ≡ true
+
+or_right : (a b : Bool) → b ≡ true → (a || b) ≡ true
+or_right true b on = refl
+or_right false b on = on
+
+made_named : (written : List Feature) (es : List (List ℕ × List FeatureItem)) (ds : List Dependency) → AllByRecursion FeatureEntry es → AllByRecursion IsKeyed ds → AllByRecursion FeatureEntry (with_made written es ds)
+made_named written es [] all named = all
+made_named written es (d ∷ ds) all named = by (makes_feature written d) (λ next keeps. made_named written next ds keeps named.1)
+  where
+    by : (b : Bool) → ((next : List (List ℕ × List FeatureItem)) → AllByRecursion FeatureEntry next → AllByRecursion FeatureEntry (with_made written next ds))
+        → AllByRecursion FeatureEntry (with_made written (if b then placed es d.key (item.Dependency d.key ∷ []) else es) ds)
+    by true rest = rest _ (placed_all FeatureEntry es d.key _ all (or_right (is_feature_name d.key) (is_name d.key) named.0))
+    by false rest = rest es all
+
+written_named : (es : List (List ℕ × List FeatureItem)) (fs : List Feature) → AllByRecursion FeatureEntry es → AllByRecursion IsWrittenFeature fs → AllByRecursion FeatureEntry (with_written es fs)
+written_named es [] all named = all
+written_named es (f ∷ fs) all named = written_named (placed es f.name f.items) fs (placed_all FeatureEntry es f.name f.items all (ap (λ b. b || is_name f.name) named.0)) named.1
+
+pub features_kept : (written made : List Feature) (ds bs : List Dependency) (es : List (List ℕ × List FeatureItem)) → AllByRecursion IsWrittenFeature written → AllByRecursion IsKeyed ds → AllByRecursion IsKeyed bs
+    → es ≡ with_written (with_made written (with_made written [] ds) bs) written → IsAscending (map (λ e. e.0) es) → made ≡ map feature_of es → AreFeatures made
+features_kept written made ds bs es one two three put order is = record {
+  named = subst (AllByRecursion IsFeatureNamed) (sym is)
+      (all_map IsFeatureNamed feature_of es (subst (AllByRecursion FeatureEntry) (sym put) (written_named _ written (made_named written _ bs (made_named written [] ds tt two) three) one)));
+  order = subst IsAscending (sym (ap (map (λ (f : Feature). f.name)) is ∙ map_twice (λ (f : Feature). f.name) feature_of es)) order;
+}
+
+-- packages that are read
+pub few_kept : (r made : Reading) (folder : List ℕ) (d : Draft) → length r.found < 256 → made ≡ with_draft r folder d → length made.found ≤ 256
+few_kept r made folder d few same = let h = placed_length r.found folder d in let found : made.found ≡ placed r.found folder d = ap (λ (x : Reading). x.found) same in subst (λ es. length es ≤ 256) (sym found) (omega arith)
+
+pub each_kept : (r made : Reading) (folder : List ℕ) (d : Draft) → AllByRecursion IsPut r.found → d.folder ≡ folder → IsDraft d → made ≡ with_draft r folder d → AllByRecursion IsPut made.found
+each_kept r made folder d all at good same = let found : made.found ≡ placed r.found folder d = ap (λ (x : Reading). x.found) same in subst (AllByRecursion IsPut) (sym found) (placed_all IsPut r.found folder d all (at, good))
+
+pub ruleset draft_laws = (few_kept, each_kept)
+
+-- names of which none comes again
+fresh : (before : List (List ℕ)) (name y : List ℕ) → is_mentioned (before ++ name ∷ []) y ≡ false → (is_mentioned before y ≡ false) × (bytes_eq name y ≡ false)
+fresh before name y is = by (is_mentioned before y) (bytes_eq y name) refl refl (sym (list_any-append (bytes_eq y) before (name ∷ [])) ∙ is)
+  where
+    by : (a b : Bool) → is_mentioned before y ≡ a → bytes_eq y name ≡ b → (a || (b || false)) ≡ false → (is_mentioned before y ≡ false) × (bytes_eq name y ≡ false)
+    by true b one two h = cc
+    by false true one two h = cc
+    by false false one two h = (one, bytes_eq_comm name y ∙ two)
+
+pub none_again : (before names : List (List ℕ)) → comes_again before names ≡ false → AllByRecursion (λ y. is_mentioned before y ≡ false) names × IsDistinct bytes_eq names
+unfolding IsDistinct
+none_again before [] is = (tt, tt)
+none_again before (name ∷ names) is = by (is_mentioned before name) refl is (none_again (before ++ name ∷ []) names)
+  where
+    by : (a : Bool) → is_mentioned before name ≡ a → (a || comes_again (if a then before else before ++ name ∷ []) names) ≡ false
+        → (comes_again (before ++ name ∷ []) names ≡ false → AllByRecursion (λ y. is_mentioned (before ++ name ∷ []) y ≡ false) names × IsDistinct bytes_eq names)
+        → ((is_mentioned before name ≡ false) × AllByRecursion (λ y. is_mentioned before y ≡ false) names) × (AllByRecursion (λ y. bytes_eq name y ≡ false) names × IsDistinct bytes_eq names)
+    by true at h rest = cc
+    by false at h rest = let more = rest h in
+        ((at, all_given _ _ (λ y out. (fresh before name y out).0) names more.0), (all_given _ _ (λ y out. (fresh before name y out).1) names more.0, more.1))
+
+-- places of folders
+abbrev Below : ℕ → List ℕ × ℕ → Type 0
+Below count e = e.1 < count
+
+numbered_below : (count : ℕ) (places : List (List ℕ × ℕ)) (n : ℕ) (ds : List Draft) → AllByRecursion (Below count) places → n + length ds ≤ count → AllByRecursion (Below count) (numbered places n ds)
+numbered_below count places n [] all fits = all
+numbered_below count places n (d ∷ ds) all fits = numbered_below count (placed places d.folder n) (n + 1) ds (placed_all (Below count) places d.folder n all (omega arith)) (omega arith)
+
+value_below : (count : ℕ) (test : List ℕ → Bool) (places : List (List ℕ × ℕ)) → 0 < count → AllByRecursion (Below count) places → unwrap_or (lookup test places) 0 < count
+value_below count test [] some all = some
+value_below count test (e ∷ es) some all = by (test e.0) (value_below count test es some all.1)
+  where
+    by : (b : Bool) → unwrap_or (lookup test es) 0 < count → unwrap_or (cond b (Some e.1) (lookup test es)) 0 < count
+    by true rest = all.0
+    by false rest = rest
+
+-- a package of a workspace
+pub package_kept : (count : ℕ) (places : List (List ℕ × ℕ)) (d : Draft) → 0 < count → AllByRecursion (Below count) places → IsDraft d → IsPackage count (package_at places d)
+package_kept count places d some below is = record {
+  name = is.0;
+  crate_name = is.1;
+  binary_names = All-from_recursion _ d.binaries is.2.named;
+  binaries = is.2.order;
+  feature_names = All-from_recursion _ d.features is.3.named;
+  features = is.3.order;
+  leads = All-from_recursion _ _ (all_map (λ (entry : Entry). entry.to < count) (entry_at places) d.wanted (each d.wanted));
+}
+  where
+    each : (ws : List Wanted) → AllByRecursion (λ (w : Wanted). unwrap_or (value_of w.folder places) 0 < count) ws
+    each [] = tt
+    each (w ∷ ws) = (value_below count (is_at (slice_cmp nat_cmp w.folder)) places some below, each ws)
+
+abbrev draft_of_entry : List ℕ × Draft → Draft
+draft_of_entry e = e.1
+
+own_folders : (es : List (List ℕ × Draft)) → AllByRecursion IsPut es → map (λ e. e.1.folder) es ≡ map (λ e. e.0) es
+own_folders [] all = refl
+own_folders (e ∷ es) all = ap (λ p. p ∷ map (λ (x : List ℕ × Draft). x.1.folder) es) all.0.0 ∙ ap (λ ps. e.0 ∷ ps) (own_folders es all.1)
+
+some_there : {A : Type 0} (P : A → Type 0) (xs : List A) → (0 < length xs → AllByRecursion P xs) → AllByRecursion P xs
+some_there P [] made = tt
+some_there P (x ∷ xs) made = made (omega arith)
+
+pub assembled_settled : (target : List ℕ) (f : Frame) (profiles : List Profile) (es : List (List ℕ × Draft)) → length es ≤ 256 → AllByRecursion IsPut es → IsAscending (folders_of es) → has_same_names (values_of es) ≡ false
+    → IsSettled (assembled target f profiles (values_of es))
+unfolding assembled
+assembled_settled target f profiles es few all order names =
+    let drafts : List Draft = values_of es in
+    let places = places_of drafts in
+    let long : length (map (package_at places) drafts) ≡ length drafts = length-map drafts (package_at places) in
+    let same : length drafts ≡ length es = length-map es draft_of_entry in
+    record {
+      few = omega arith;
+      folders = subst IsAscending (sym (map_twice (λ (p : Package). p.folder) (package_at places) drafts ∙ map_twice (λ (d : Draft). d.folder) draft_of_entry es ∙ own_folders es all)) order;
+      names = subst (IsDistinct bytes_eq) (sym (map_twice (λ (p : Package). p.name) (package_at places) drafts)) (none_again [] (map (λ (d : Draft). d.name) drafts) names).1;
+      packages = subst (λ n. All (IsPackage n) (map (package_at places) drafts)) (sym long)
+          (All-from_recursion _ _ (all_map (IsPackage (length drafts)) (package_at places) drafts
+          (some_there _ drafts (λ some. all_map (λ d. IsPackage (length drafts) (package_at places d)) draft_of_entry es
+          (all_given IsPut _ (λ e put. package_kept (length drafts) places e.1 some (numbered_below (length drafts) [] 0 drafts tt (omega arith)) put.1) es all)))));
+    }
+
+no_fault : (drafts : List Draft) → fault_of drafts ≡ None → has_same_names drafts ≡ false
+unfolding fault_of
+no_fault drafts is = by _ (has_same_names drafts) refl is
+  where
+    by : (X : Option LoadFault) (b : Bool) → has_same_names drafts ≡ b → (if b then Some SameName else X) ≡ None → has_same_names drafts ≡ false
+    by X true at h = cc
+    by X false at h = at
+
+pub workspace_settled : (target : List ℕ) (f : Frame) (profiles : List Profile) (r : Reading) (ws : Workspace) → IsReading r → IsAscending (folders_of r.found)
+    → workspace_from target f profiles (values_of r.found) ≡ Ok ws → IsSettled ws
+unfolding workspace_from
+workspace_settled target f profiles r ws is order made = by (fault_of (values_of r.found)) refl made
+  where
+    by : (o : Option LoadFault) → fault_of (values_of r.found) ≡ o → unless o (assembled target f profiles (values_of r.found)) ≡ Ok ws → IsSettled ws
+    by None at h = let same : assembled target f profiles (values_of r.found) ≡ ws = cc in subst IsSettled same (assembled_settled target f profiles r.found is.0 is.1 order (no_fault _ at))
+    by (Some fault) at h = cc

@@ -1,0 +1,38 @@
+-- Two steps that read files, one after the other.
+use Rattle.std.proofs.Common.{◌≡◌, ◌<◌, ◌+◌, ◌-◌, ℕ, suc, List, Bool, true, false, Result, Ok, Err, MatchResult, sym, ap, ◌∙◌, subst, arith}
+use Rattle.pb_data.specs.Gives.{◌>>=◌}
+use Rattle.pb_place.specs.Counts.{Counts, up}
+use Rattle.pb_place.specs.World.{World, from_nothing}
+use Rattle.pb_workspace.specs.Causes.{Told, Reads}
+use Rattle.pb_workspace.specs.declared.fault.LoadFault.{LoadFault}
+use Rattle.pb_workspace.specs.declared.frame.Frame.{Frame}
+use Rattle.pb_workspace.specs.declared.rounds.Reading.{Reading}
+use Rattle.pb_workspace.specs.Rounds.{draft_at, round, rounds}
+
+-- what the second step tells is told, where the first gave a value and changed nothing
+pub told_step : {A B : Type 0} (next : World → A → Result B LoadFault) (first : Result A LoadFault) (w now : World) (x : A) (result : Result B LoadFault)
+    → first ≡ Ok x → now ≡ w → Told result (next now x) → Told result (first >>= next w)
+told_step next first w now x result is same told = subst (λ v. Told result (v >>= next w)) (sym is) (subst (λ v. Told result (next v x)) same told)
+
+-- how the counters move over both
+pub reads_step : {T : Type 0} (result : Result T LoadFault) (old mid new : Counts) → mid.failures ≡ old.failures → mid.starts ≡ old.starts → Reads result mid new → Reads result old new
+reads_step (Ok x) old mid new f s r = (r.0 ∙ f, r.1 ∙ s)
+reads_step (Err e) old mid new f s r = (r.0 ∙ s, (λ n. r.1 n ∙ f), (λ y. r.2 y ∙ ap up f), r.3, r.4, r.5)
+
+module _ (target : List ℕ) (f : Frame) (meant : List (List ℕ × Unit {0})) (w now : World) (count done : ℕ) (r : Reading) (whole : Result Reading LoadFault) where
+  -- one round of those that are left
+  pub round_gives : (next : Reading) → now ≡ w → done < count → round (draft_at (from_nothing target now) f meant) r ≡ Ok next
+      → rounds (count - done) (draft_at (from_nothing target w) f meant) r ≡ whole → rounds (count - (done + 1)) (draft_at (from_nothing target w) f meant) next ≡ whole
+  unfolding rounds
+  round_gives next same lt is before =
+      let left : count - done ≡ suc (count - (done + 1)) = omega arith in
+      let here : round (draft_at (from_nothing target w) f meant) r ≡ Ok next = subst (λ v. round (draft_at (from_nothing target v) f meant) r ≡ Ok next) same is in
+      sym (ap (λ x. x >>= (λ n. rounds (count - (done + 1)) (draft_at (from_nothing target w) f meant) n)) here) ∙ sym (ap (λ n. rounds n (draft_at (from_nothing target w) f meant) r) left) ∙ before
+
+  pub round_fails : (e : LoadFault) → now ≡ w → done < count → round (draft_at (from_nothing target now) f meant) r ≡ Err e
+      → rounds (count - done) (draft_at (from_nothing target w) f meant) r ≡ whole → whole ≡ Err e
+  unfolding rounds
+  round_fails e same lt is before =
+      let left : count - done ≡ suc (count - (done + 1)) = omega arith in
+      let here : round (draft_at (from_nothing target w) f meant) r ≡ Err e = subst (λ v. round (draft_at (from_nothing target v) f meant) r ≡ Err e) same is in
+      sym before ∙ ap (λ n. rounds n (draft_at (from_nothing target w) f meant) r) left ∙ ap (λ x. x >>= (λ n. rounds (count - (done + 1)) (draft_at (from_nothing target w) f meant) n)) here

@@ -1,0 +1,7 @@
+use Rattle.std.proofs.Common.{◌≡◌, rules}
+use Rattle.pb_workspace.proofs.Keeping.{binaries_kept}
+use Rattle.pb_workspace.proofs.binaries.binaries_of.Goals as goal
+
+pub returns-clause-kept : goal.returns-clause-kept
+returns-clause-kept c =
+    binaries_kept c.args.found c.args.written c.in_ok-made.made c.in_ok-items.items c.requires.found c.requires.written (search rules) c.in_ok-items.ensures.order c.in_ok-made.ensures

@@ -1,0 +1,6 @@
+use Rattle.std.proofs.Common.{◌≡◌, rules}
+use Rattle.pb_workspace.proofs.Keeping.{workspace_settled}
+use Rattle.pb_workspace.proofs.loading.finished.Goals as goal
+
+pub returns-clause-settled : goal.returns-clause-settled
+returns-clause-settled c = workspace_settled c.args.target.now c.args.frame c.args.profiles c.args.read _ c.requires c.in_ok-drafts.ensures.order (search rules)

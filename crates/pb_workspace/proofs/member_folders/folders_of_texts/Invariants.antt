@@ -1,0 +1,14 @@
+use Rattle.std.proofs.Common.{◌≡◌, ◌++◌, drop}
+use Rattle.std.specs.Prelude.{IsTrue}
+use Rattle.pb_place.specs.World.{from_nothing}
+use Rattle.std.specs.List.{flat_map}
+use Rattle.pb_workspace.specs.MemberFolders.{folders_meant}
+use Rattle.pb_workspace.proofs.member_folders.folders_of_texts.Given as goal
+
+abbrev pub invariant-loop-text : goal.invariant-loop-text
+invariant-loop-text g l = record {
+  made : IsTrue g.P.Place.tells → l.made ++ flat_map (folders_meant (from_nothing l.target (g.P.Place.world l.fn.place)) l.frame) (drop l.text-index l.texts) ≡ flat_map (folders_meant (from_nothing l.target (g.P.Place.world l.fn.place)) l.frame) l.texts;
+  same : IsTrue g.P.Place.tells → g.P.Place.world l.place ≡ g.P.Place.world l.fn.place;
+  failures : (g.P.Place.counts l.place).failures ≡ (g.P.Place.counts l.fn.place).failures;
+  starts : (g.P.Place.counts l.place).starts ≡ (g.P.Place.counts l.fn.place).starts;
+}

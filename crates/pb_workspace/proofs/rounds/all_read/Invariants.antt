@@ -1,0 +1,16 @@
+use Rattle.std.proofs.Common.{◌≡◌}
+use Rattle.std.specs.Prelude.{IsTrue}
+use Rattle.std.specs.Vec.Iter.{into_iter_items}
+use Rattle.pb_place.specs.World.{from_nothing}
+use Rattle.pb_workspace.specs.Drafted.{IsReading}
+use Rattle.pb_workspace.specs.Rounds.{all_read, draft_at}
+use Rattle.pb_workspace.proofs.rounds.all_read.Given as goal
+
+abbrev pub invariant-loop-folder : goal.invariant-loop-folder
+invariant-loop-folder g l = record {
+  read : IsTrue g.P.Place.tells → all_read (draft_at (from_nothing l.target (g.P.Place.world l.fn.place)) l.frame l.meant) l.reading (into_iter_items l.folder-iterator) ≡ all_read (draft_at (from_nothing l.target (g.P.Place.world l.fn.place)) l.frame l.meant) l.fn.reading l.fn.folders;
+  kept : IsReading l.reading;
+  same : IsTrue g.P.Place.tells → g.P.Place.world l.place ≡ g.P.Place.world l.fn.place;
+  failures : (g.P.Place.counts l.place).failures ≡ (g.P.Place.counts l.fn.place).failures;
+  starts : (g.P.Place.counts l.place).starts ≡ (g.P.Place.counts l.fn.place).starts;
+}

@@ -1,0 +1,14 @@
+use Rattle.std.proofs.Common.{◌≡◌}
+use Rattle.pb_place.specs.World.{from_nothing}
+use Rattle.pb_workspace.proofs.Steps.{told_step, reads_step}
+use Rattle.pb_workspace.specs.Rounds.{draft_if, draft_in_file}
+use Rattle.pb_workspace.proofs.rounds.draft_in_file.Goals as goal
+
+pub returns-clause-ok : goal.returns-clause-ok
+unfolding draft_in_file
+returns-clause-ok g c told =
+    told_step (λ w parts. draft_if (from_nothing c.args.target.now w) c.args.frame.now c.args.is_member c.args.at parts.tables parts.found) _ _ _ _ _
+    (c.in_ok-parts.ensures.ok told) (c.in_ok-parts.ensures.same told) (c.draft_if.ensures.ok told)
+
+pub returns-clause-reads : goal.returns-clause-reads
+returns-clause-reads g c = reads_step c.draft_if.result (g.P.Place.counts c.args.place.now) (g.P.Place.counts c.parts_at.new.place) (g.P.Place.counts c.draft_if.new.place) c.in_ok-parts.ensures.reads.0 c.in_ok-parts.ensures.reads.1 c.draft_if.ensures.reads

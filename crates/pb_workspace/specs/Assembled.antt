@@ -1,0 +1,80 @@
+-- A workspace made of the packages that were read (The Cargo Book, Workspaces).
+use Rattle.std.specs.Prelude.{ℕ, Bool, ◌&&◌, ◌||◌, if◌then◌else◌, List, map, Option, Some, None, unwrap_or}
+use Rattle.std.specs.List.{list_all, list_any}
+use Rattle.pb_manifest.specs.declared.profile.Profile.{Profile}
+use Rattle.pb_workspace.specs.declared.draft.Draft.{Draft}
+use Rattle.pb_workspace.specs.declared.frame.Frame.{Frame}
+use Rattle.pb_workspace.specs.declared.package.Entry.{Entry}
+use Rattle.pb_workspace.specs.declared.package.Package.{Package}
+use Rattle.pb_workspace.specs.declared.wanted.Wanted.{Wanted}
+use Rattle.pb_workspace.specs.declared.workspace.DefaultMembers.{DefaultMembers}
+use Rattle.pb_workspace.specs.declared.workspace.DefaultMembers.TheVariants.{Unwritten, Named, Unknown}
+use Rattle.pb_workspace.specs.declared.workspace.Workspace.{Workspace}
+use Rattle.pb_workspace.specs.ByFolder.{value_of}
+use Rattle.pb_workspace.specs.Globs.{is_glob}
+use Rattle.pb_workspace.specs.Members.{means}
+use Rattle.pb_workspace.specs.Places.{places_of}
+use Rattle.pb_workspace.specs.Selected.{places_where}
+
+-- an entry with the place of its package
+abbrev pub entry_at : List (List ℕ × ℕ) → Wanted → Entry
+entry_at places w = record {
+  key = w.key;
+  kind = w.kind;
+  to = unwrap_or (value_of w.folder places) 0;
+  renamed = w.renamed;
+  optional = w.optional;
+  default_features = w.default_features;
+  features = w.features;
+}
+
+-- a package with the places to which its entries lead
+abbrev pub package_at : List (List ℕ × ℕ) → Draft → Package
+package_at places d = record {
+  name = d.name;
+  version = d.version;
+  edition = d.edition;
+  folder = d.folder;
+  manifest = d.manifest;
+  is_member = d.is_member;
+  about = d.about;
+  links = d.links;
+  library = d.library;
+  binaries = d.binaries;
+  script = d.script;
+  entries = map (entry_at places) d.wanted;
+  features = d.features;
+  development = d.development;
+}
+
+abbrev pub packages_of : List Draft → List Package
+packages_of drafts = map (package_at (places_of drafts)) drafts
+
+-- a member that this text means
+abbrev pub is_meant_member : List ℕ → Package → List ℕ → Bool
+is_meant_member root p text = p.is_member && means root text p.folder
+
+-- a folder that is written out has to be a member's; a glob picks among the members
+abbrev pub is_known : List ℕ → List Package → List ℕ → Bool
+is_known root packages text = is_glob text || list_any (λ p. is_meant_member root p text) packages
+
+-- a member that one of the texts means
+abbrev pub is_default : List ℕ → List (List ℕ) → Package → Bool
+is_default root texts p = list_any (is_meant_member root p) texts
+
+-- what `default-members` says of these packages
+abbrev pub default_members_of : List ℕ → List Package → Option (List (List ℕ)) → DefaultMembers
+default_members_of root packages None = Unwritten
+default_members_of root packages (Some texts) =
+    if list_all (is_known root packages) texts then Named (places_where (is_default root texts) packages) else Unknown
+
+-- the workspace of these packages
+unfoldable pub assembled : List ℕ → Frame → List Profile → List Draft → Workspace
+assembled target f profiles drafts = record {
+  root = f.root;
+  target = target;
+  packages = packages_of drafts;
+  root_package = value_of f.root (places_of drafts);
+  default_members = default_members_of f.root (packages_of drafts) f.default_members;
+  profiles = profiles;
+}

@@ -1,0 +1,51 @@
+-- What is refused once all packages are read, in this order (our own choice where The Cargo Book is silent).
+use Rattle.std.specs.Prelude.{ℕ, Bool, true, not, is_some, ◌&&◌, if◌then◌else◌, List, [], map, slice_get, Option, Some, None}
+use Rattle.std.specs.List.{filter_map, list_any}
+use Rattle.std.specs.Str.{bytes_eq}
+use Rattle.pb_manifest.specs.Versions.{matches}
+use Rattle.pb_workspace.specs.declared.draft.Draft.{Draft}
+use Rattle.pb_workspace.specs.declared.fault.LoadFault.{LoadFault}
+use Rattle.pb_workspace.specs.declared.fault.LoadFault.TheVariants.{SameName, NameMismatch, VersionMismatch, LinksTwice, LinksWithoutScript, SameBinary}
+use Rattle.pb_workspace.specs.declared.wanted.Wanted.{Wanted}
+use Rattle.pb_workspace.specs.Places.{draft_in}
+use Rattle.pb_workspace.specs.Settling.{comes_again}
+
+-- two packages have one name
+abbrev pub has_same_names : List Draft → Bool
+has_same_names drafts = comes_again [] (map (λ (d : Draft). d.name) drafts)
+
+-- the package that was found has another name than the entry asks for
+abbrev pub has_other_name : Wanted → Option Draft → Bool
+has_other_name w None = true
+has_other_name w (Some d) = not (bytes_eq w.name d.name)
+
+abbrev pub matches_if : Option (List ℕ) → List ℕ → Bool
+matches_if None version = true
+matches_if (Some requirement) version = matches requirement version
+
+-- its version does not match what the entry asks for
+abbrev pub has_other_version : Wanted → Option Draft → Bool
+has_other_version w None = true
+has_other_version w (Some d) = not (matches_if w.version d.version)
+
+-- an entry of some package leads to one that fails a test
+abbrev pub some_leads : (Wanted → Option Draft → Bool) → List Draft → Bool
+some_leads test drafts = list_any (λ (d : Draft). list_any (λ (w : Wanted). test w (draft_in drafts w.folder)) d.wanted) drafts
+
+-- two packages link one native library
+abbrev pub links_twice : List Draft → Bool
+links_twice drafts = comes_again [] (filter_map (λ (d : Draft). d.links) drafts)
+
+-- it links a native library and has no build script
+abbrev pub links_without_script : Draft → Bool
+links_without_script d = is_some d.links && not (is_some d.script)
+
+-- the first of these that holds of some package
+unfoldable pub fault_of : List Draft → Option LoadFault
+fault_of drafts =
+    if has_same_names drafts then Some SameName
+    else (if some_leads has_other_name drafts then Some NameMismatch
+    else (if some_leads has_other_version drafts then Some VersionMismatch
+    else (if links_twice drafts then Some LinksTwice
+    else (if list_any links_without_script drafts then Some LinksWithoutScript
+    else (if list_any (λ (d : Draft). d.has_same_binaries) drafts then Some SameBinary else None)))))

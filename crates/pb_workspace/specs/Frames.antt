@@ -1,0 +1,35 @@
+-- What a root manifest says of its workspace, and which packages are its members (The Cargo Book, Workspaces).
+use Rattle.std.specs.Prelude.{ℕ, Bool, true, false, not, ◌&&◌, ◌||◌, if◌then◌else◌, List, [], Option, Some, None}
+use Rattle.std.specs.Str.{bytes_eq}
+use Rattle.pb_place.specs.Paths.{is_at_or_below}
+use Rattle.pb_manifest.specs.declared.manifest.WorkspacePackage.{WorkspacePackage}
+use Rattle.pb_manifest.specs.declared.manifest.WorkspaceTable.{WorkspaceTable}
+use Rattle.pb_workspace.specs.declared.frame.Frame.{Frame}
+use Rattle.pb_workspace.specs.declared.settling.Given.{Given}
+use Rattle.pb_workspace.specs.ByFolder.{has}
+use Rattle.pb_workspace.specs.Members.{is_excluded}
+
+-- no key of `[workspace.package]`
+abbrev pub no_keys : WorkspacePackage
+no_keys = record { authors = None; description = None; edition = None; homepage = None; license = None; license_file = None; readme = None; repository = None; rust_version = None; version = None }
+
+-- nothing to take
+abbrev pub nothing : Given
+nothing = record { «package» = no_keys; dependencies = [] }
+
+abbrev pub keys_or_none : Option WorkspacePackage → WorkspacePackage
+keys_or_none None = no_keys
+keys_or_none (Some keys) = keys
+
+-- the workspace of a root manifest: without `[workspace]` the root package alone
+abbrev pub frame_of : List ℕ → List ℕ → Option WorkspaceTable → Frame
+frame_of root manifest None = record { root = root; manifest = manifest; is_workspace = false; members = []; exclude = []; default_members = None; given = nothing }
+frame_of root manifest (Some w) = record { root = root; manifest = manifest; is_workspace = true; members = w.members; exclude = w.exclude; default_members = w.default_members; given = record { «package» = keys_or_none w.package; dependencies = w.dependencies } }
+
+-- a member: the root package; of a workspace also what `members` means, and what lies inside the root folder and is not excluded
+abbrev pub is_member : Frame → List (List ℕ × Unit {0}) → List ℕ → Bool
+is_member f meant folder = bytes_eq folder f.root || (f.is_workspace && (has folder meant || (is_at_or_below f.root folder && not (is_excluded f.root f.exclude folder))))
+
+-- members alone take from their workspace
+abbrev pub given_to : Frame → Bool → Given
+given_to f member = if member then f.given else nothing

@@ -1,0 +1,65 @@
+-- The workspace of a manifest (The Cargo Book, Workspaces).
+use Rattle.std.specs.Prelude.{ℕ, true, if◌then◌else◌, List, [], Option, Some, None, Result, Ok, Err}
+use Rattle.pb_data.specs.Gives.{◌>>=◌}
+use Rattle.pb_place.specs.Paths.{folder_of}
+use Rattle.pb_place.specs.World.{World, from_nothing}
+use Rattle.pb_manifest.specs.declared.package.Package.{Package}
+use Rattle.pb_manifest.specs.declared.profile.Profile.{Profile}
+use Rattle.pb_workspace.specs.declared.draft.Draft.{Draft}
+use Rattle.pb_workspace.specs.declared.draft.Tables.{Tables}
+use Rattle.pb_workspace.specs.declared.fault.LoadFault.{LoadFault}
+use Rattle.pb_workspace.specs.declared.fault.LoadFault.TheVariants.{NoManifest}
+use Rattle.pb_workspace.specs.declared.frame.Frame.{Frame}
+use Rattle.pb_workspace.specs.declared.rounds.Parts.{Parts}
+use Rattle.pb_workspace.specs.declared.rounds.Reading.{Reading}
+use Rattle.pb_workspace.specs.declared.wanted.Standing.{Standing}
+use Rattle.pb_workspace.specs.declared.workspace.Workspace.{Workspace}
+use Rattle.pb_workspace.specs.Assembled.{assembled}
+use Rattle.pb_workspace.specs.ByFolder.{folders_of, values_of}
+use Rattle.pb_workspace.specs.Checks.{fault_of}
+use Rattle.pb_workspace.specs.Drafts.{draft_of}
+use Rattle.pb_workspace.specs.Frames.{frame_of}
+use Rattle.pb_workspace.specs.MemberFolders.{is_manifest, member_folders}
+use Rattle.pb_workspace.specs.Rounds.{all_read, draft_at, parts_at, rounds, with_draft}
+
+-- what the root manifest says. It is named `Cargo.toml`, and no manifest is at or below the target folder
+abbrev pub root_parts : World → List ℕ → Result Parts LoadFault
+root_parts sources path = if is_manifest path then parts_at sources path else Err (NoManifest path)
+
+abbrev pub at_root : Frame → Standing
+at_root f = record { root = f.root; folder = f.root; manifest = f.manifest }
+
+abbrev pub nothing_read : Reading
+nothing_read = record { found = []; ahead = [] }
+
+-- the root package comes first, where there is one; it is a member
+unfoldable pub root_read : World → Frame → Tables → Option Package → Result Reading LoadFault
+root_read sources f tables None = Ok nothing_read
+root_read sources f tables (Some p) = draft_of sources (at_root f) true f.given p tables >>= (λ d. Ok (with_draft nothing_read f.root d))
+
+-- then the members, and then what path dependencies lead to, round for round
+unfoldable pub others_read : World → Frame → Reading → Result Reading LoadFault
+others_read sources f begun =
+    all_read (draft_at sources f (member_folders sources f)) begun (folders_of (member_folders sources f)) >>= (λ read.
+    rounds 257 (draft_at sources f (member_folders sources f)) read)
+
+unfoldable pub packages_read : World → Frame → Tables → Option Package → Result Reading LoadFault
+packages_read sources f tables p = root_read sources f tables p >>= (λ begun. others_read sources f begun)
+
+-- then they are checked together
+abbrev pub unless : Option LoadFault → Workspace → Result Workspace LoadFault
+unless None ws = Ok ws
+unless (Some fault) ws = Err fault
+
+unfoldable pub workspace_from : List ℕ → Frame → List Profile → List Draft → Result Workspace LoadFault
+workspace_from target f profiles drafts = unless (fault_of drafts) (assembled target f profiles drafts)
+
+-- the workspace of a root package and a frame
+unfoldable pub workspace_in : World → List ℕ → Frame → List Profile → Tables → Option Package → Result Workspace LoadFault
+workspace_in sources target f profiles tables p = packages_read sources f tables p >>= (λ read. workspace_from target f profiles (values_of read.found))
+
+-- the workspace of a manifest, by the sources alone: what lies at or below the target folder is no part of them
+unfoldable pub workspace_of : List ℕ → List ℕ → World → Result Workspace LoadFault
+workspace_of manifest target w =
+    root_parts (from_nothing target w) manifest >>= (λ parts.
+    workspace_in (from_nothing target w) target (frame_of (folder_of manifest) manifest parts.workspace) parts.profiles parts.tables parts.found)

@@ -1,0 +1,25 @@
+-- Packages by the places of their folders.
+use Rattle.std.specs.Prelude.{ℕ, ◌+◌, List, [], ◌∷◌, slice_get, Option, Some, None}
+use Rattle.pb_workspace.specs.declared.draft.Draft.{Draft}
+use Rattle.pb_workspace.specs.ByFolder.{value_of}
+use Rattle.pb_workspace.specs.Sorted.{placed}
+
+-- each folder with its place, where the first has this one
+abbrev pub numbered : List (List ℕ × ℕ) → ℕ → List Draft → List (List ℕ × ℕ)
+numbered places n [] = places
+numbered places n (d ∷ ds) = numbered (placed places d.folder n) (n + 1) ds
+
+abbrev pub places_of : List Draft → List (List ℕ × ℕ)
+places_of drafts = numbered [] 0 drafts
+
+-- the place of the package of a folder
+abbrev pub place_of : List Draft → List ℕ → Option ℕ
+place_of drafts folder = value_of folder (places_of drafts)
+
+abbrev pub at_place : List Draft → Option ℕ → Option Draft
+at_place drafts None = None
+at_place drafts (Some n) = slice_get drafts n
+
+-- the package of a folder
+abbrev pub draft_in : List Draft → List ℕ → Option Draft
+draft_in drafts folder = at_place drafts (place_of drafts folder)

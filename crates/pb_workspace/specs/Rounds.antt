@@ -1,0 +1,92 @@
+-- Which packages are read, in which order, and what stops it (The Cargo Book, Workspaces and Specifying Dependencies; the order is our own choice). `sources` is the world without what lies at or below the target folder.
+use Rattle.std.specs.Prelude.{ℕ, zero, suc, Bool, nat_le, if◌then◌else◌, codes, List, [], ◌∷◌, length, map, Option, Some, None, Result, Ok, Err}
+use Rattle.std.specs.FinMap as finite
+use Rattle.std.specs.Str.{bytes_eq}
+use Rattle.pb_data.specs.Gives.{◌>>=◌, lifted}
+use Rattle.pb_place.specs.Paths.{below}
+use Rattle.pb_place.specs.World.{World}
+use Rattle.pb_manifest.specs.Document.{manifest_of}
+use Rattle.pb_manifest.specs.declared.fault.ManifestFault.TheVariants.{BadKind}
+use Rattle.pb_manifest.specs.declared.key.Key.TheVariants as key
+use Rattle.pb_manifest.specs.declared.manifest.Manifest.{Manifest as ManifestRead}
+use Rattle.pb_manifest.specs.declared.package.Package.{Package}
+use Rattle.pb_workspace.specs.declared.draft.Draft.{Draft}
+use Rattle.pb_workspace.specs.declared.draft.Tables.{Tables}
+use Rattle.pb_workspace.specs.declared.fault.LoadFault.{LoadFault}
+use Rattle.pb_workspace.specs.declared.fault.LoadFault.TheVariants.{NoManifest, Manifest, TooMany}
+use Rattle.pb_workspace.specs.declared.frame.Frame.{Frame}
+use Rattle.pb_workspace.specs.declared.rounds.Parts.{Parts}
+use Rattle.pb_workspace.specs.declared.rounds.Reading.{Reading}
+use Rattle.pb_workspace.specs.declared.wanted.Standing.{Standing}
+use Rattle.pb_workspace.specs.declared.wanted.Wanted.{Wanted}
+use Rattle.pb_workspace.specs.ByFolder.{folders_of, has, with_folders}
+use Rattle.pb_workspace.specs.Drafts.{draft_of}
+use Rattle.pb_workspace.specs.Frames.{given_to, is_member}
+use Rattle.pb_workspace.specs.Sorted.{placed}
+
+-- what the file at a manifest's path says
+abbrev pub read_found : List ℕ → Option (List ℕ) → Result ManifestRead LoadFault
+read_found path None = Err (NoManifest path)
+read_found path (Some bytes) = lifted (Manifest path) (manifest_of bytes)
+
+abbrev pub manifest_at : World → List ℕ → Result ManifestRead LoadFault
+manifest_at sources path = read_found path (finite.get sources.files path)
+
+abbrev pub tables_in : ManifestRead → Tables
+tables_in m = record { library = m.library; binaries = m.binaries; dependencies = m.dependencies; build_dependencies = m.build_dependencies; dev_dependencies = m.dev_dependencies; features = m.features }
+
+abbrev pub parts_in : ManifestRead → Parts
+parts_in m = record { found = m.package; tables = tables_in m; workspace = m.workspace; profiles = m.profiles }
+
+abbrev pub parts_at : World → List ℕ → Result Parts LoadFault
+parts_at sources path = manifest_at sources path >>= (λ m. Ok (parts_in m))
+
+-- where a package is looked for and the manifest has no `[package]`
+abbrev pub no_package : List ℕ → LoadFault
+no_package manifest = Manifest manifest (BadKind key.Package)
+
+-- the package of a manifest that was read
+unfoldable pub draft_if : World → Frame → Bool → Standing → Tables → Option Package → Result Draft LoadFault
+draft_if sources f member at tables None = Err (no_package at.manifest)
+draft_if sources f member at tables (Some p) = draft_of sources at member (given_to f member) p tables
+
+abbrev pub standing_in : Frame → List ℕ → Standing
+standing_in f folder = record { root = f.root; folder = folder; manifest = below folder (codes "Cargo.toml") }
+
+-- the package of the manifest that stands here
+unfoldable pub draft_in_file : World → Frame → Bool → Standing → Result Draft LoadFault
+draft_in_file sources f member at = parts_at sources at.manifest >>= (λ parts. draft_if sources f member at parts.tables parts.found)
+
+-- the package of a folder. The root's manifest is not read again: where its package is looked for and not there, it has none
+unfoldable pub draft_at : World → Frame → List (List ℕ × Unit {0}) → List ℕ → Result Draft LoadFault
+draft_at sources f meant folder =
+    if bytes_eq folder f.root then Err (no_package f.manifest)
+    else draft_in_file sources f (is_member f meant folder) (standing_in f folder)
+
+-- the folders to which entries lead
+abbrev pub leads_to : List Wanted → List (List ℕ)
+leads_to wanted = map (λ (w : Wanted). w.folder) wanted
+
+-- with a package that was read: the folders to which its entries lead are read in the next round
+abbrev pub with_draft : Reading → List ℕ → Draft → Reading
+with_draft r folder d = record { found = placed r.found folder d; ahead = with_folders r.ahead (leads_to d.wanted) }
+
+-- one folder: nothing where it was read before, and no more than 256
+abbrev pub one_read : (List ℕ → Result Draft LoadFault) → Reading → List ℕ → Result Reading LoadFault
+one_read read r folder =
+    if has folder r.found then Ok r
+    else (if nat_le 256 (length r.found) then Err TooMany else read folder >>= (λ d. Ok (with_draft r folder d)))
+
+-- folders in turn, up to the first fault
+abbrev pub all_read : (List ℕ → Result Draft LoadFault) → Reading → List (List ℕ) → Result Reading LoadFault
+all_read read r [] = Ok r
+all_read read r (folder ∷ folders) = one_read read r folder >>= (λ now. all_read read now folders)
+
+-- one round: the folders to which the packages of the last one lead, in byte order
+abbrev pub round : (List ℕ → Result Draft LoadFault) → Reading → Result Reading LoadFault
+round read r = all_read read (record { found = r.found; ahead = [] }) (folders_of r.ahead)
+
+-- so many rounds. A round that reads nothing leaves nothing ahead, so 257 are enough for 256 packages
+unfoldable pub rounds : ℕ → (List ℕ → Result Draft LoadFault) → Reading → Result Reading LoadFault
+rounds zero read r = Ok r
+rounds (suc n) read r = round read r >>= (λ now. rounds n read now)

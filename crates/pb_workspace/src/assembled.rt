@@ -1,0 +1,239 @@
+//! A workspace made of the packages that were read.
+
+ghost use Rattle.std.specs.Prelude.{◌≡◌, ◌++◌, Bool, IfOk, OnOk, map, unwrap_or};
+ghost use Rattle.std.specs.List.{list_all, list_any};
+ghost use Rattle.pb_workspace.specs.Assembled.{entry_at, package_at, is_meant_member, is_known, is_default, default_members_of, assembled};
+ghost use Rattle.pb_workspace.specs.Members.{means, parts_match, parts_meant};
+ghost use Rattle.pb_workspace.specs.Between.{names_in};
+ghost use Rattle.pb_workspace.specs.ByFolder.{value_of};
+ghost use Rattle.pb_workspace.specs.Places.{places_of};
+ghost use Rattle.pb_workspace.specs.Selected.{places_where};
+
+use crate::by_folder::ByFolder;
+use crate::draft::Draft;
+use crate::frame::Frame;
+use crate::glob::is_glob;
+use crate::member::{is_meant, parts_meant};
+use crate::package::{Entry, Package};
+use crate::wanted::Wanted;
+use crate::workspace::{DefaultMembers, Workspace};
+use pb_data::{Items, TryCopy};
+use pb_manifest::{Profile, WrittenPath};
+use pb_place::PathText;
+use std::alloc::{AllocError, Global};
+
+/// The place of the package of a folder.
+fn place_in(places: &ByFolder<usize>, folder: &PathText) -> Option<usize>
+    ensures { result ≡ value_of folder.now places.now }
+{
+    match places.get(folder) {
+        Some(place) => Some(*place),
+        None => None,
+    }
+}
+
+/// An entry with the place of its package.
+fn entry_at(places: &ByFolder<usize>, wanted: Wanted) -> Entry
+    ensures { result ≡ entry_at places.now wanted }
+{
+    let to = place_in(places, &wanted.folder).unwrap_or(0);
+    Entry {
+        key: wanted.key,
+        kind: wanted.kind,
+        to,
+        renamed: wanted.renamed,
+        optional: wanted.optional,
+        default_features: wanted.default_features,
+        features: wanted.features,
+    }
+}
+
+/// Entries with the places of their packages.
+fn entries_of(
+    alloc: Global,
+    places: &ByFolder<usize>,
+    wanted: Items<Wanted>,
+) -> Result<Items<Entry>, AllocError>
+    ensures { IfOk result (λ entries. entries ≡ map (entry_at places.now) wanted) }
+{
+    let mut entries = Items::new(alloc);
+    for one in wanted.into_vec() {
+        entries.push(entry_at(places, one))?;
+    }
+    Ok(entries)
+}
+
+/// A package with the places to which its entries lead.
+fn package_at(alloc: Global, places: &ByFolder<usize>, draft: Draft) -> Result<Package, AllocError>
+    ensures { IfOk result (λ made. made ≡ package_at places.now draft) }
+{
+    let entries = entries_of(alloc, places, draft.wanted)?;
+    Ok(Package {
+        name: draft.name,
+        version: draft.version,
+        edition: draft.edition,
+        folder: draft.folder,
+        manifest: draft.manifest,
+        is_member: draft.is_member,
+        about: draft.about,
+        links: draft.links,
+        library: draft.library,
+        binaries: draft.binaries,
+        script: draft.script,
+        entries,
+        features: draft.features,
+        development: draft.development,
+    })
+}
+
+/// Packages with the places to which their entries lead.
+fn packages_of(
+    alloc: Global,
+    places: &ByFolder<usize>,
+    drafts: Items<Draft>,
+) -> Result<Items<Package>, AllocError>
+    ensures { IfOk result (λ made. made ≡ map (package_at places.now) drafts) }
+{
+    let mut made = Items::new(alloc);
+    for draft in drafts.into_vec() {
+        made.push(package_at(alloc, places, draft)?)?;
+    }
+    Ok(made)
+}
+
+/// Whether a text means a member.
+fn is_meant_member(
+    alloc: Global,
+    root: &PathText,
+    member: &Package,
+    text: &WrittenPath,
+) -> Result<bool, AllocError>
+    ensures { IfOk result (λ answer. answer ≡ is_meant_member root.now member.now text.now) }
+{
+    if !member.is_member {
+        return Ok(false);
+    }
+    let parts = parts_meant(alloc, root, text)?;
+    is_meant(alloc, parts.as_slice(), &member.folder)
+}
+
+/// Whether a text means some member.
+fn means_some(
+    alloc: Global,
+    root: &PathText,
+    packages: &[Package],
+    text: &WrittenPath,
+) -> Result<bool, AllocError>
+    ensures { IfOk result (λ answer. answer ≡ list_any (λ p. is_meant_member root.now p text.now) packages.now) }
+{
+    for member in packages {
+        if is_meant_member(alloc, root, member, text)? {
+            return Ok(true);
+        }
+    }
+    Ok(false)
+}
+
+/// Whether each text is a glob or means some member.
+fn all_known(
+    alloc: Global,
+    root: &PathText,
+    packages: &[Package],
+    texts: &[WrittenPath],
+) -> Result<bool, AllocError>
+    ensures { IfOk result (λ answer. answer ≡ list_all (is_known root.now packages.now) texts.now) }
+{
+    for text in texts {
+        if !is_glob(text.as_str()) && !means_some(alloc, root, packages, text)? {
+            return Ok(false);
+        }
+    }
+    Ok(true)
+}
+
+/// Whether one of the texts means a package that is a member.
+fn is_default(
+    alloc: Global,
+    root: &PathText,
+    texts: &[WrittenPath],
+    member: &Package,
+) -> Result<bool, AllocError>
+    ensures { IfOk result (λ answer. answer ≡ is_default root.now texts.now member.now) }
+{
+    for text in texts {
+        if is_meant_member(alloc, root, member, text)? {
+            return Ok(true);
+        }
+    }
+    Ok(false)
+}
+
+/// The places of the members that the texts mean.
+fn default_places(
+    alloc: Global,
+    root: &PathText,
+    packages: &[Package],
+    texts: &[WrittenPath],
+) -> Result<Items<usize>, AllocError>
+    ensures { IfOk result (λ places. places ≡ places_where (is_default root.now texts.now) packages.now) }
+{
+    let mut places = Items::new(alloc);
+    for (place, member) in packages.iter().enumerate() {
+        if is_default(alloc, root, texts, member)? {
+            places.push(place)?;
+        }
+    }
+    Ok(places)
+}
+
+/// What `default-members` says of these packages.
+fn default_members_of(
+    alloc: Global,
+    root: &PathText,
+    packages: &[Package],
+    texts: &Option<Items<WrittenPath>>,
+) -> Result<DefaultMembers, AllocError>
+    ensures { IfOk result (λ members. members ≡ default_members_of root.now packages.now texts.now) }
+{
+    let texts = match texts {
+        Some(texts) => texts.as_slice(),
+        None => return Ok(DefaultMembers::Unwritten),
+    };
+    if !all_known(alloc, root, packages, texts)? {
+        return Ok(DefaultMembers::Unknown);
+    }
+    let places = default_places(alloc, root, packages, texts)?;
+    Ok(DefaultMembers::Named(places))
+}
+
+/// The workspace of these packages. The one fault is want of memory.
+#[tactic(auto, unfolding(crate::specs::Assembled::assembled))]
+pub fn assembled(
+    alloc: Global,
+    target: &PathText,
+    frame: Frame,
+    profiles: Items<Profile>,
+    places: &ByFolder<usize>,
+    drafts: Items<Draft>,
+) -> Result<Workspace, AllocError>
+    requires { places.now ≡ places_of drafts }
+    ensures { IfOk result (λ made. made ≡ assembled target.now frame profiles drafts) }
+{
+    let target = target.copy(alloc)?;
+    let packages = packages_of(alloc, places, drafts)?;
+    let default_members = default_members_of(
+        alloc,
+        &frame.root,
+        packages.as_slice(),
+        &frame.default_members,
+    )?;
+    let root_package = place_in(places, &frame.root);
+    Ok(Workspace {
+        root: frame.root,
+        target,
+        packages,
+        root_package,
+        default_members,
+        profiles,
+    })
+}

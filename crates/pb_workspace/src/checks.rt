@@ -1,0 +1,187 @@
+//! What is refused once all packages are read.
+
+ghost use Rattle.std.specs.Prelude.{◌≡◌, IfOk, IfSome, false};
+ghost use Rattle.std.specs.List.{list_any};
+ghost use Rattle.pb_workspace.specs.Causes.{is_failure};
+ghost use Rattle.pb_workspace.specs.declared.draft.Draft.{Draft};
+ghost use Rattle.pb_workspace.specs.Checks.{has_same_names, has_other_name, matches_if, has_other_version, some_leads, links_twice, links_without_script, fault_of};
+ghost use Rattle.pb_workspace.specs.Places.{places_of, draft_in};
+ghost use Rattle.pb_workspace.specs.declared.wanted.Wanted.{Wanted};
+
+use crate::by_folder::ByFolder;
+use crate::draft::Draft;
+use crate::fault::LoadFault;
+use crate::places::draft_in;
+use crate::wanted::Wanted;
+use pb_data::{Mentions, TryCopy};
+use pb_manifest::{Requirement, Version};
+use std::alloc::{AllocError, Global};
+
+/// Whether two packages have one name.
+fn has_same_names(alloc: Global, drafts: &[Draft]) -> Result<bool, AllocError>
+    ensures { IfOk result (λ answer. answer ≡ has_same_names drafts.now) }
+{
+    let mut seen = Mentions::new(alloc);
+    for draft in drafts {
+        if seen.contains(&draft.name) {
+            return Ok(true);
+        }
+        seen.insert(draft.name.copy(alloc)?)?;
+    }
+    Ok(false)
+}
+
+/// Whether two packages link one native library.
+fn links_twice(alloc: Global, drafts: &[Draft]) -> Result<bool, AllocError>
+    ensures { IfOk result (λ answer. answer ≡ links_twice drafts.now) }
+{
+    let mut seen = Mentions::new(alloc);
+    for draft in drafts {
+        if let Some(links) = &draft.links {
+            if seen.contains(links) {
+                return Ok(true);
+            }
+            seen.insert(links.copy(alloc)?)?;
+        }
+    }
+    Ok(false)
+}
+
+/// Whether a version matches what is asked for, if anything is.
+fn matches_if(requirement: &Option<Requirement>, version: &Version) -> bool
+    ensures { result ≡ matches_if requirement.now version.now }
+{
+    match requirement {
+        Some(requirement) => requirement.matches(version),
+        None => true,
+    }
+}
+
+/// Whether an entry leads to a package of another name.
+fn leads_to_other_name(drafts: &[Draft], places: &ByFolder<usize>, wanted: &Wanted) -> bool
+    requires { places.now ≡ places_of drafts.now }
+    ensures { result ≡ has_other_name wanted.now (draft_in drafts.now wanted.now.folder) }
+{
+    match draft_in(drafts, places, &wanted.folder) {
+        Some(draft) => wanted.name != draft.name,
+        None => true,
+    }
+}
+
+/// Whether an entry leads to a package whose version does not match what it asks for.
+fn leads_to_other_version(drafts: &[Draft], places: &ByFolder<usize>, wanted: &Wanted) -> bool
+    requires { places.now ≡ places_of drafts.now }
+    ensures { result ≡ has_other_version wanted.now (draft_in drafts.now wanted.now.folder) }
+{
+    match draft_in(drafts, places, &wanted.folder) {
+        Some(draft) => !matches_if(&wanted.version, &draft.version),
+        None => true,
+    }
+}
+
+/// Whether one of some entries leads to a package of another name.
+fn one_other_name(drafts: &[Draft], places: &ByFolder<usize>, wanted: &[Wanted]) -> bool
+    requires { places.now ≡ places_of drafts.now }
+    ensures { result ≡ list_any (λ (w : Wanted). has_other_name w (draft_in drafts.now w.folder)) wanted.now }
+{
+    for one in wanted {
+        if leads_to_other_name(drafts, places, one) {
+            return true;
+        }
+    }
+    false
+}
+
+/// Whether an entry of some package leads to a package of another name.
+fn some_other_name(drafts: &[Draft], places: &ByFolder<usize>) -> bool
+    requires { places.now ≡ places_of drafts.now }
+    ensures { result ≡ some_leads has_other_name drafts.now }
+{
+    for draft in drafts {
+        if one_other_name(drafts, places, draft.wanted.as_slice()) {
+            return true;
+        }
+    }
+    false
+}
+
+/// Whether one of some entries leads to a package whose version does not match.
+fn one_other_version(drafts: &[Draft], places: &ByFolder<usize>, wanted: &[Wanted]) -> bool
+    requires { places.now ≡ places_of drafts.now }
+    ensures { result ≡ list_any (λ (w : Wanted). has_other_version w (draft_in drafts.now w.folder)) wanted.now }
+{
+    for one in wanted {
+        if leads_to_other_version(drafts, places, one) {
+            return true;
+        }
+    }
+    false
+}
+
+/// Whether an entry of some package leads to a package whose version does not match.
+fn some_other_version(drafts: &[Draft], places: &ByFolder<usize>) -> bool
+    requires { places.now ≡ places_of drafts.now }
+    ensures { result ≡ some_leads has_other_version drafts.now }
+{
+    for draft in drafts {
+        if one_other_version(drafts, places, draft.wanted.as_slice()) {
+            return true;
+        }
+    }
+    false
+}
+
+/// Whether a package links a native library and has no build script.
+fn links_without_script(draft: &Draft) -> bool
+    ensures { result ≡ links_without_script draft.now }
+{
+    draft.links.is_some() && !draft.script.is_some()
+}
+
+/// Whether some package links a native library and has no build script.
+fn some_without_script(drafts: &[Draft]) -> bool
+    ensures { result ≡ list_any links_without_script drafts.now }
+{
+    drafts.iter().any(|draft| links_without_script(draft))
+}
+
+/// Whether some package has two `[[bin]]` of one name.
+fn some_same_binaries(drafts: &[Draft]) -> bool
+    ensures { result ≡ list_any (λ (d : Draft). d.has_same_binaries) drafts.now }
+{
+    drafts.iter().any(|draft| draft.has_same_binaries)
+}
+
+/// What is refused of these packages together: SameName, NameMismatch, VersionMismatch, LinksTwice,
+/// LinksWithoutScript, SameBinary, the first of these that holds of some package. The one fault is want of
+/// memory.
+#[tactic(auto, unfolding(crate::specs::Checks::fault_of))]
+pub fn fault_of(
+    alloc: Global,
+    drafts: &[Draft],
+    places: &ByFolder<usize>,
+) -> Result<Option<LoadFault>, AllocError>
+    requires { places.now ≡ places_of drafts.now }
+    ensures fault { IfOk result (λ fault. fault ≡ fault_of drafts.now) }
+    ensures here { IfOk result (λ fault. IfSome fault (λ e. is_failure e ≡ false)) }
+{
+    if has_same_names(alloc, drafts)? {
+        return Ok(Some(LoadFault::SameName));
+    }
+    if some_other_name(drafts, places) {
+        return Ok(Some(LoadFault::NameMismatch));
+    }
+    if some_other_version(drafts, places) {
+        return Ok(Some(LoadFault::VersionMismatch));
+    }
+    if links_twice(alloc, drafts)? {
+        return Ok(Some(LoadFault::LinksTwice));
+    }
+    if some_without_script(drafts) {
+        return Ok(Some(LoadFault::LinksWithoutScript));
+    }
+    if some_same_binaries(drafts) {
+        return Ok(Some(LoadFault::SameBinary));
+    }
+    Ok(None)
+}

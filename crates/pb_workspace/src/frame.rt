@@ -1,0 +1,131 @@
+//! What a root manifest says of its workspace.
+
+ghost use Rattle.std.specs.Prelude.{◌≡◌, IfOk};
+ghost use Rattle.pb_workspace.specs.Frames.{no_keys, nothing, keys_or_none, frame_of, is_member};
+
+use crate::by_folder::ByFolder;
+use crate::member::is_excluded;
+use crate::settling::Given;
+use pb_data::Items;
+use pb_manifest::{WorkspacePackage, WorkspaceTable, WrittenPath};
+use pb_place::PathText;
+use std::alloc::{AllocError, Global};
+
+/// What a root manifest says of its workspace.
+#[derive(Debug, Drop)]
+pub struct Frame {
+    /// The folder of the root manifest.
+    pub root: PathText,
+    /// The path of the root manifest.
+    pub manifest: PathText,
+    /// Whether `[workspace]` is written.
+    pub is_workspace: bool,
+    /// `members`.
+    pub members: Items<WrittenPath>,
+    /// `exclude`.
+    pub exclude: Items<WrittenPath>,
+    /// `default-members`, where it is written.
+    pub default_members: Option<Items<WrittenPath>>,
+    /// What members may take.
+    pub given: Given,
+}
+
+/// No keys of `[workspace.package]`.
+fn no_keys() -> WorkspacePackage
+    ensures { result ≡ no_keys }
+{
+    WorkspacePackage {
+        authors: None,
+        description: None,
+        edition: None,
+        homepage: None,
+        license: None,
+        license_file: None,
+        readme: None,
+        repository: None,
+        rust_version: None,
+        version: None,
+    }
+}
+
+/// Nothing to take, which takes no memory.
+pub fn nothing(alloc: Global) -> Given
+    ensures { result ≡ nothing }
+{
+    Given {
+        package: no_keys(),
+        dependencies: Items::new(alloc),
+    }
+}
+
+/// The keys of `[workspace.package]`, none where that table is not written.
+fn keys_or_none(written: Option<WorkspacePackage>) -> WorkspacePackage
+    ensures { result ≡ keys_or_none written }
+{
+    match written {
+        Some(keys) => keys,
+        None => no_keys(),
+    }
+}
+
+/// The workspace of a root manifest: without `[workspace]` the root package alone (The Cargo Book, Workspaces).
+/// It takes no memory.
+pub fn frame_of(
+    alloc: Global,
+    root: PathText,
+    manifest: PathText,
+    written: Option<WorkspaceTable>,
+) -> Frame
+    ensures { result ≡ frame_of root manifest written }
+{
+    match written {
+        None => Frame {
+            root,
+            manifest,
+            is_workspace: false,
+            members: Items::new(alloc),
+            exclude: Items::new(alloc),
+            default_members: None,
+            given: nothing(alloc),
+        },
+        Some(table) => Frame {
+            root,
+            manifest,
+            is_workspace: true,
+            members: table.members,
+            exclude: table.exclude,
+            default_members: table.default_members,
+            given: Given {
+                package: keys_or_none(table.package),
+                dependencies: table.dependencies,
+            },
+        },
+    }
+}
+
+/// Whether the package of a folder is a member: the root package is; of a workspace also what `members` means,
+/// and what lies inside the root folder and is not excluded (The Cargo Book, Workspaces; our own choice that it
+/// does not matter whose path dependency leads there). The one fault is want of memory.
+pub fn is_member(
+    alloc: Global,
+    frame: &Frame,
+    meant: &ByFolder<()>,
+    folder: &PathText,
+) -> Result<bool, AllocError>
+    ensures { IfOk result (λ answer. answer ≡ is_member frame.now meant.now folder.now) }
+{
+    if *folder == frame.root {
+        return Ok(true);
+    }
+    if !frame.is_workspace {
+        return Ok(false);
+    }
+    if meant.contains(folder) {
+        return Ok(true);
+    }
+    if !folder.starts_with(&frame.root) {
+        return Ok(false);
+    }
+    let excluded = is_excluded(alloc, &frame.root, frame.exclude.as_slice(), folder)?;
+    Ok(!excluded)
+}

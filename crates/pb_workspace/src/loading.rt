@@ -1,0 +1,263 @@
+//! The workspace of a manifest.
+
+ghost use Rattle.std.specs.Prelude.{◌≡◌, All, IfErr, IfOk, IsTrue, false, true, IfSome};
+ghost use Rattle.pb_place.specs.Paths.{folder_of};
+ghost use Rattle.pb_place.specs.World.{from_nothing};
+ghost use Rattle.pb_manifest.specs.Letters.{is_name};
+ghost use Rattle.pb_workspace.specs.ByFolder.{values_of};
+ghost use Rattle.pb_data.specs.Gives.{Gives};
+ghost use Rattle.pb_workspace.specs.declared.fault.LoadFault.TheVariants as load_fault;
+ghost use Rattle.pb_workspace.specs.Causes.{is_failure, Told, Reads};
+ghost use Rattle.pb_workspace.specs.Frames.{frame_of};
+ghost use Rattle.pb_workspace.specs.Loaded.{root_parts, at_root, nothing_read, root_read, others_read, packages_read, workspace_from, workspace_in, workspace_of};
+ghost use Rattle.pb_workspace.specs.Drafted.{ArePromised, IsReading};
+ghost use Rattle.pb_workspace.specs.Settled.{IsSettled};
+
+use crate::assembled::assembled;
+use crate::by_folder::ByFolder;
+use crate::checks::fault_of;
+use crate::draft::{Draft, Tables, draft_of};
+use crate::fault::LoadFault;
+use crate::frame::{Frame, frame_of};
+use crate::member_folders::{is_manifest, member_folders};
+use crate::places::places_of;
+use crate::rounds::{
+    ENOUGH_ROUNDS, Parts, Reading, all_read, no_manifest, parts_at, rounds, with_draft,
+};
+use crate::wanted::Standing;
+use crate::workspace::Workspace;
+use pb_data::{Items, TryCopy};
+use pb_manifest::{Package, Profile, WorkspaceTable};
+use pb_place::{PathText, Place};
+use std::alloc::{AllocError, Global};
+
+/// What the root manifest says. NoManifest where it is not named `Cargo.toml` or no file of the sources is
+/// there.
+fn root_parts<P: Place>(
+    place: &mut P,
+    alloc: Global,
+    target: &PathText,
+    path: &PathText,
+) -> Result<Parts, LoadFault>
+    ensures ok { IsTrue P.tells → Told result (root_parts (from_nothing target.now (P.world place.old)) path.now) }
+    ensures promised { IfOk result (λ parts. ArePromised parts.tables) }
+    ensures named { IfOk result (λ parts. IfSome parts.found (λ p. is_name p.name ≡ true)) }
+    ensures names { IfOk result (λ parts. All (λ b. is_name b.name ≡ true) parts.tables.binaries) }
+    ensures same { IsTrue P.tells → P.world place.new ≡ P.world place.old }
+    ensures reads { Reads result (P.counts place.old) (P.counts place.new) }
+{
+    if !is_manifest(path) {
+        return Err(no_manifest(alloc, path));
+    }
+    let parts = parts_at(place, alloc, target, path)?;
+    Ok(parts)
+}
+
+/// Where the root package stands.
+fn at_root(alloc: Global, frame: &Frame) -> Result<Standing, AllocError>
+    ensures { IfOk result (λ at. at ≡ at_root frame.now) }
+{
+    let root = frame.root.copy(alloc)?;
+    let folder = frame.root.copy(alloc)?;
+    let manifest = frame.manifest.copy(alloc)?;
+    Ok(Standing {
+        root,
+        folder,
+        manifest,
+    })
+}
+
+/// Nothing read yet, which takes no memory.
+fn nothing_read(alloc: Global) -> Reading
+    ensures { result ≡ nothing_read }
+{
+    Reading {
+        found: ByFolder::new(alloc),
+        ahead: ByFolder::new(alloc),
+    }
+}
+
+/// The root package read, where there is one.
+#[tactic(auto, using(crate::proofs::Keeping::draft_laws), unfolding(crate::specs::Loaded::root_read))]
+fn root_read<P: Place>(
+    place: &mut P,
+    alloc: Global,
+    target: &PathText,
+    frame: &Frame,
+    tables: Tables,
+    found: Option<Package>,
+) -> Result<Reading, LoadFault>
+    requires binaries { All (λ b. is_name b.name ≡ true) tables.binaries }
+    requires promised { ArePromised tables }
+    requires found_name { IfSome found (λ p. is_name p.name ≡ true) }
+    ensures ok { IsTrue P.tells → Told result (root_read (from_nothing target.now (P.world place.old)) frame.now tables found) }
+    ensures kept { IfOk result IsReading }
+    ensures same { IsTrue P.tells → P.world place.new ≡ P.world place.old }
+    ensures reads { Reads result (P.counts place.old) (P.counts place.new) }
+{
+    let found = match found {
+        Some(found) => found,
+        None => return Ok(nothing_read(alloc)),
+    };
+    let at = at_root(alloc, frame)?;
+    let folder = frame.root.copy(alloc)?;
+    let draft = draft_of(place, alloc, target, at, true, &frame.given, found, tables)?;
+    let made = with_draft(alloc, nothing_read(alloc), folder, draft)?;
+    Ok(made)
+}
+
+/// The members read, and then what path dependencies lead to, round for round.
+#[tactic(auto, unfolding(crate::specs::Loaded::others_read))]
+fn others_read<P: Place>(
+    place: &mut P,
+    alloc: Global,
+    target: &PathText,
+    frame: &Frame,
+    begun: Reading,
+) -> Result<Reading, LoadFault>
+    requires { IsReading begun }
+    ensures ok { IsTrue P.tells → Told result (others_read (from_nothing target.now (P.world place.old)) frame.now begun) }
+    ensures kept { IfOk result IsReading }
+    ensures same { IsTrue P.tells → P.world place.new ≡ P.world place.old }
+    ensures reads { Reads result (P.counts place.old) (P.counts place.new) }
+{
+    let meant = member_folders(place, alloc, target, frame)?;
+    let folders = meant.folders(alloc)?;
+    let read = all_read(place, alloc, target, frame, &meant, begun, folders)?;
+    let read = rounds(place, alloc, target, frame, &meant, read, ENOUGH_ROUNDS)?;
+    Ok(read)
+}
+
+/// The packages of a workspace, by their folders.
+#[tactic(auto, unfolding(crate::specs::Loaded::packages_read))]
+fn packages_read<P: Place>(
+    place: &mut P,
+    alloc: Global,
+    target: &PathText,
+    frame: &Frame,
+    tables: Tables,
+    found: Option<Package>,
+) -> Result<Reading, LoadFault>
+    requires binaries { All (λ b. is_name b.name ≡ true) tables.binaries }
+    requires promised { ArePromised tables }
+    requires found_name { IfSome found (λ p. is_name p.name ≡ true) }
+    ensures ok { IsTrue P.tells → Told result (packages_read (from_nothing target.now (P.world place.old)) frame.now tables found) }
+    ensures kept { IfOk result IsReading }
+    ensures same { IsTrue P.tells → P.world place.new ≡ P.world place.old }
+    ensures reads { Reads result (P.counts place.old) (P.counts place.new) }
+{
+    let begun = root_read(place, alloc, target, frame, tables, found)?;
+    let read = others_read(place, alloc, target, frame, begun)?;
+    Ok(read)
+}
+
+/// The workspace of packages that were read, refused where they do not go together.
+#[tactic(auto, unfolding(crate::specs::Loaded::workspace_from))]
+fn workspace_from(
+    alloc: Global,
+    target: &PathText,
+    frame: Frame,
+    profiles: Items<Profile>,
+    drafts: Items<Draft>,
+) -> Result<Workspace, LoadFault>
+    ensures told { Gives load_fault.OutOfMemory (λ ws. ws) result (workspace_from target.now frame profiles drafts) }
+    ensures here { IfErr result (λ e. is_failure e ≡ false) }
+{
+    let places = places_of(alloc, drafts.as_slice())?;
+    if let Some(fault) = fault_of(alloc, drafts.as_slice(), &places)? {
+        return Err(fault);
+    }
+    let made = assembled(alloc, target, frame, profiles, &places, drafts)?;
+    Ok(made)
+}
+
+/// The frame of a workspace.
+fn framed(
+    alloc: Global,
+    manifest: &PathText,
+    written: Option<WorkspaceTable>,
+) -> Result<Frame, AllocError>
+    ensures { IfOk result (λ frame. frame ≡ frame_of (folder_of manifest.now) manifest.now written) }
+{
+    let root = manifest.folder(alloc)?;
+    let path = manifest.copy(alloc)?;
+    Ok(frame_of(alloc, root, path, written))
+}
+
+/// The workspace of what was read.
+fn finished(
+    alloc: Global,
+    target: &PathText,
+    frame: Frame,
+    profiles: Items<Profile>,
+    read: Reading,
+) -> Result<Workspace, LoadFault>
+    requires { IsReading read }
+    ensures told { Gives load_fault.OutOfMemory (λ ws. ws) result (workspace_from target.now frame profiles (values_of read.found)) }
+    ensures settled { IfOk result IsSettled }
+    ensures here { IfErr result (λ e. is_failure e ≡ false) }
+{
+    let drafts = read.found.into_values(alloc)?;
+    let made = workspace_from(alloc, target, frame, profiles, drafts)?;
+    Ok(made)
+}
+
+/// The workspace of a root package and a frame.
+#[tactic(auto, unfolding(crate::specs::Loaded::workspace_in))]
+fn workspace_in<P: Place>(
+    place: &mut P,
+    alloc: Global,
+    target: &PathText,
+    frame: Frame,
+    profiles: Items<Profile>,
+    tables: Tables,
+    found: Option<Package>,
+) -> Result<Workspace, LoadFault>
+    requires binaries { All (λ b. is_name b.name ≡ true) tables.binaries }
+    requires promised { ArePromised tables }
+    requires found_name { IfSome found (λ p. is_name p.name ≡ true) }
+    ensures ok { IsTrue P.tells → Told result (workspace_in (from_nothing target.now (P.world place.old)) target.now frame profiles tables found) }
+    ensures settled { IfOk result IsSettled }
+    ensures same { IsTrue P.tells → P.world place.new ≡ P.world place.old }
+    ensures reads { Reads result (P.counts place.old) (P.counts place.new) }
+{
+    let read = packages_read(place, alloc, target, &frame, tables, found)?;
+    let made = finished(alloc, target, frame, profiles, read)?;
+    Ok(made)
+}
+
+/// Reads the workspace of a root manifest (The Cargo Book, Workspaces, Manifest Format, Specifying Dependencies):
+/// the root package, then the members in byte order of their folders, then what path dependencies lead to, in
+/// rounds, each in that order. Nothing at or below the target folder is looked at. A package is read once.
+///
+/// The reading stops at the first of these: NoManifest, where no file is there, it is not named `Cargo.toml`, or it
+/// lies at or below the target folder; Manifest, with what the manifest reader refuses, with BadKind of `package`
+/// where a package is looked for and the manifest has none, or with UnsupportedSource where an entry of the
+/// workspace is taken that has no path, or `git` or `registry`; NoInherited, where a key or an entry is taken that
+/// the workspace has not, or by a package that is no member; TooMany, where a 257th package would be read; Place,
+/// where a call failed, with its path. Then come SameName, NameMismatch, VersionMismatch, LinksTwice,
+/// LinksWithoutScript and SameBinary, in this order. It starts no child and changes no file.
+#[tactic(auto, unfolding(crate::specs::Loaded::workspace_of))]
+pub fn load<P: Place>(
+    place: &mut P,
+    alloc: Global,
+    manifest: &PathText,
+    target: &PathText,
+) -> Result<Workspace, LoadFault>
+    ensures ok { IsTrue P.tells → Told result (workspace_of manifest.now target.now (P.world place.old)) }
+    ensures settled { IfOk result IsSettled }
+    ensures same { IsTrue P.tells → P.world place.new ≡ P.world place.old }
+    ensures reads { Reads result (P.counts place.old) (P.counts place.new) }
+{
+    let parts = root_parts(place, alloc, target, manifest)?;
+    let frame = framed(alloc, manifest, parts.workspace)?;
+    workspace_in(
+        place,
+        alloc,
+        target,
+        frame,
+        parts.profiles,
+        parts.tables,
+        parts.found,
+    )
+}

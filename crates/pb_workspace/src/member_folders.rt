@@ -1,0 +1,215 @@
+//! The folders that `members` means.
+
+ghost use Rattle.std.specs.Prelude.{◌≡◌, ◌++◌, [], ◌∷◌, IfOk, IfErr, OnOk, IsTrue, true, map, filter, string_bytes};
+ghost use Rattle.std.specs.List.{flat_map};
+ghost use Rattle.pb_place.specs.Paths.{folder_of};
+ghost use Rattle.pb_place.specs.World.{from_nothing, listed};
+ghost use Rattle.pb_workspace.specs.Causes.{is_outside, Reads};
+ghost use Rattle.pb_workspace.specs.Sources.{resolved};
+ghost use Rattle.pb_workspace.specs.MemberFolders.{is_fixed, fixed_text, base_of, is_manifest, is_taken, folders_taken, folders_meant, member_folders};
+
+use crate::by_folder::{ByFolder, put_folders};
+use crate::fault::LoadFault;
+use crate::found_binaries::listed_sources;
+use crate::frame::Frame;
+use crate::glob::is_glob;
+use crate::member::{Part, is_excluded, is_meant, parts_meant};
+use crate::source::resolved;
+use pb_data::Items;
+use pb_manifest::WrittenPath;
+use pb_place::{PathText, Place};
+use std::alloc::{AllocError, Global};
+
+/// Whether only one name matches a part.
+fn is_fixed(part: &Part) -> bool
+    ensures { result ≡ is_fixed part.now }
+{
+    !(part.is_pattern && is_glob(part.text.as_str()))
+}
+
+/// A slash and the parts before the first with `*` or `?`, each with a slash behind it.
+fn fixed_text(alloc: Global, parts: &[Part]) -> Result<String, AllocError>
+    ensures { IfOk result (λ text. string_bytes text ≡ 47 ∷ fixed_text parts.now) }
+{
+    let mut text = String::from_str(alloc, "/")?;
+    for part in parts {
+        if !is_fixed(part) {
+            return Ok(text);
+        }
+        text.push_str(part.text.as_str())?;
+        text.push_str("/")?;
+    }
+    Ok(text)
+}
+
+/// The folder at or below which all folders lie that these parts mean. Its text holds no byte 0, so it is one.
+#[tactic(auto, using(crate::proofs::Resolving::parsing_laws))]
+fn base_of(alloc: Global, parts: &[Part]) -> Result<PathText, AllocError>
+    ensures { IfOk result (λ base. base ≡ base_of parts.now) }
+{
+    let text = fixed_text(alloc, parts)?;
+    match PathText::parse(alloc, text.as_str()) {
+        Ok(base) => Ok(base),
+        Err(_) => Err(AllocError),
+    }
+}
+
+/// Whether a path is named `Cargo.toml`.
+pub fn is_manifest(path: &PathText) -> bool
+    ensures { result ≡ is_manifest path.now }
+{
+    path.last_part() == "Cargo.toml"
+}
+
+/// The folders of the manifests among some files.
+fn manifest_folders(alloc: Global, paths: &[PathText]) -> Result<Items<PathText>, AllocError>
+    ensures { IfOk result (λ folders. folders ≡ map folder_of (filter is_manifest paths.now)) }
+{
+    let mut folders = Items::new(alloc);
+    for path in paths {
+        if is_manifest(path) {
+            folders.push(path.folder(alloc)?)?;
+        }
+    }
+    Ok(folders)
+}
+
+/// Whether a glob takes a folder.
+fn is_taken(
+    alloc: Global,
+    frame: &Frame,
+    parts: &[Part],
+    folder: &PathText,
+) -> Result<bool, AllocError>
+    ensures { IfOk result (λ answer. answer ≡ is_taken frame.now parts.now folder.now) }
+{
+    if !is_meant(alloc, parts, folder)? {
+        return Ok(false);
+    }
+    let excluded = is_excluded(alloc, &frame.root, frame.exclude.as_slice(), folder)?;
+    Ok(!excluded)
+}
+
+/// Those of some folders that a glob takes.
+fn taken_among(
+    alloc: Global,
+    frame: &Frame,
+    parts: &[Part],
+    folders: Items<PathText>,
+) -> Result<Items<PathText>, AllocError>
+    ensures { IfOk result (λ taken. taken ≡ filter (is_taken frame.now parts.now) folders) }
+{
+    let mut taken = Items::new(alloc);
+    for folder in folders.into_vec() {
+        if is_taken(alloc, frame, parts, &folder)? {
+            taken.push(folder)?;
+        }
+    }
+    Ok(taken)
+}
+
+/// The folders with a manifest that a glob takes. It lists the files below the glob's base once.
+fn folders_taken<P: Place>(
+    place: &mut P,
+    alloc: Global,
+    target: &PathText,
+    frame: &Frame,
+    parts: &[Part],
+) -> Result<Items<PathText>, LoadFault>
+    ensures ok { IsTrue P.tells → IfOk result (λ folders. folders ≡ folders_taken (from_nothing target.now (P.world place.old)) frame.now parts.now) }
+    ensures same { IsTrue P.tells → P.world place.new ≡ P.world place.old }
+    ensures outside { IfErr result (λ e. is_outside e ≡ true) }
+    ensures reads { Reads result (P.counts place.old) (P.counts place.new) }
+{
+    let base = base_of(alloc, parts)?;
+    let paths = listed_sources(place, alloc, target, &base)?;
+    let folders = manifest_folders(alloc, paths.as_slice())?;
+    let taken = taken_among(alloc, frame, parts, folders)?;
+    Ok(taken)
+}
+
+/// The folder that a text writes out.
+fn folder_written(
+    alloc: Global,
+    root: &PathText,
+    text: &WrittenPath,
+) -> Result<Items<PathText>, AllocError>
+    ensures { IfOk result (λ folders. folders ≡ resolved root.now text.now ∷ []) }
+{
+    let mut folders = Items::new(alloc);
+    folders.push(resolved(alloc, root, text)?)?;
+    Ok(folders)
+}
+
+/// The folders that one text of `members` means.
+fn folders_meant<P: Place>(
+    place: &mut P,
+    alloc: Global,
+    target: &PathText,
+    frame: &Frame,
+    text: &WrittenPath,
+) -> Result<Items<PathText>, LoadFault>
+    ensures ok { IsTrue P.tells → IfOk result (λ folders. folders ≡ folders_meant (from_nothing target.now (P.world place.old)) frame.now text.now) }
+    ensures same { IsTrue P.tells → P.world place.new ≡ P.world place.old }
+    ensures outside { IfErr result (λ e. is_outside e ≡ true) }
+    ensures reads { Reads result (P.counts place.old) (P.counts place.new) }
+{
+    if is_glob(text.as_str()) {
+        let parts = parts_meant(alloc, &frame.root, text)?;
+        let folders = folders_taken(place, alloc, target, frame, parts.as_slice())?;
+        return Ok(folders);
+    }
+    let folders = folder_written(alloc, &frame.root, text)?;
+    Ok(folders)
+}
+
+/// Adds folders at the end.
+fn add_folders(made: &mut Items<PathText>, folders: Items<PathText>) -> Result<(), AllocError>
+    ensures { OnOk result (made.new ≡ made.old ++ folders) }
+{
+    for folder in folders.into_vec() {
+        made.push(folder)?;
+    }
+    Ok(())
+}
+
+/// The folders that texts of `members` mean, text for text.
+fn folders_of_texts<P: Place>(
+    place: &mut P,
+    alloc: Global,
+    target: &PathText,
+    frame: &Frame,
+    texts: &[WrittenPath],
+) -> Result<Items<PathText>, LoadFault>
+    ensures ok { IsTrue P.tells → IfOk result (λ folders. folders ≡ flat_map (folders_meant (from_nothing target.now (P.world place.old)) frame.now) texts.now) }
+    ensures same { IsTrue P.tells → P.world place.new ≡ P.world place.old }
+    ensures outside { IfErr result (λ e. is_outside e ≡ true) }
+    ensures reads { Reads result (P.counts place.old) (P.counts place.new) }
+{
+    let mut made = Items::new(alloc);
+    for text in texts {
+        let folders = folders_meant(place, alloc, target, frame, text)?;
+        add_folders(&mut made, folders)?;
+    }
+    Ok(made)
+}
+
+/// The folders that `members` means, each once, in byte order (The Cargo Book, Workspaces): those that are
+/// written out, and those with a manifest that a glob means and `exclude` does not leave out. What lies at or
+/// below the target folder is left out.
+pub fn member_folders<P: Place>(
+    place: &mut P,
+    alloc: Global,
+    target: &PathText,
+    frame: &Frame,
+) -> Result<ByFolder<()>, LoadFault>
+    ensures ok { IsTrue P.tells → IfOk result (λ folders. folders ≡ member_folders (from_nothing target.now (P.world place.old)) frame.now) }
+    ensures same { IsTrue P.tells → P.world place.new ≡ P.world place.old }
+    ensures outside { IfErr result (λ e. is_outside e ≡ true) }
+    ensures reads { Reads result (P.counts place.old) (P.counts place.new) }
+{
+    let folders = folders_of_texts(place, alloc, target, frame, frame.members.as_slice())?;
+    let mut made = ByFolder::new(alloc);
+    put_folders(&mut made, folders)?;
+    Ok(made)
+}

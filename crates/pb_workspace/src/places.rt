@@ -1,0 +1,37 @@
+//! Packages by the places of their folders.
+
+ghost use Rattle.std.specs.Prelude.{◌≡◌, IfOk};
+ghost use Rattle.std.specs.Option.{option_copied};
+ghost use Rattle.pb_workspace.specs.Places.{places_of, draft_in};
+
+use crate::by_folder::ByFolder;
+use crate::draft::Draft;
+use pb_data::TryCopy;
+use pb_place::PathText;
+use std::alloc::{AllocError, Global};
+
+/// Each folder with the place of its package. The one fault is want of memory.
+pub fn places_of(alloc: Global, drafts: &[Draft]) -> Result<ByFolder<usize>, AllocError>
+    ensures { IfOk result (λ places. places ≡ places_of drafts.now) }
+{
+    let mut places = ByFolder::new(alloc);
+    for (place, draft) in drafts.iter().enumerate() {
+        places.insert(draft.folder.copy(alloc)?, place)?;
+    }
+    Ok(places)
+}
+
+/// The package of a folder.
+pub fn draft_in<'a>(
+    drafts: &'a [Draft],
+    places: &ByFolder<usize>,
+    folder: &PathText,
+) -> Option<&'a Draft>
+    requires { places.now ≡ places_of drafts.now }
+    ensures { option_copied result ≡ draft_in drafts.now folder.now }
+{
+    match places.get(folder) {
+        Some(place) => drafts.get(*place),
+        None => None,
+    }
+}

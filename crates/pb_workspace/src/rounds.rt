@@ -1,0 +1,388 @@
+//! The packages of a workspace, read folder by folder.
+
+ghost use Rattle.std.specs.Prelude.{◌≡◌, All, IfErr, IfOk, IsTrue, false, true, IfSome};
+ghost use Rattle.pb_place.specs.World.{from_nothing};
+ghost use Rattle.pb_place.specs.Paths.{below};
+ghost use Rattle.pb_manifest.specs.Letters.{is_name};
+ghost use Rattle.pb_manifest.specs.Promises.{IsManifest};
+ghost use Rattle.pb_workspace.specs.ByFolder.{folders_of};
+ghost use Rattle.pb_workspace.specs.Causes.{is_failure, is_outside, Told, Reads};
+ghost use Rattle.pb_workspace.specs.Frames.{given_to};
+ghost use Rattle.pb_workspace.specs.declared.fault.LoadFault.TheVariants as load_fault;
+ghost use Rattle.pb_workspace.specs.Rounds.{read_found, manifest_at, tables_in, parts_in, parts_at, no_package, draft_if, standing_in, draft_in_file, draft_at, leads_to, with_draft, one_read, all_read, round, rounds};
+ghost use Rattle.pb_workspace.specs.Drafted.{ArePromised, IsDraft, IsReading};
+
+use crate::by_folder::{ByFolder, put_folders};
+use crate::draft::{Draft, Tables, draft_of};
+use crate::fault::LoadFault;
+use crate::frame::{Frame, is_member, nothing};
+use crate::source::{own_path, source};
+use crate::wanted::{Standing, Wanted};
+use pb_data::{Bytes, Items, TryCopy};
+use pb_manifest::{Key, Manifest, ManifestFault, Package, Profile, WorkspaceTable, read_manifest};
+use pb_place::{PathText, Place};
+use std::alloc::{AllocError, Global};
+
+/// The greatest number of packages.
+pub const GREATEST_NUMBER: usize = 256;
+
+/// How many rounds are enough for that number of packages: a round that reads nothing leaves nothing ahead.
+pub const ENOUGH_ROUNDS: usize = 257;
+
+/// Packages that were read, and the folders of the next round.
+#[derive(Debug, Drop)]
+pub struct Reading {
+    /// The packages by their folders.
+    pub found: ByFolder<Draft>,
+    /// The folders to which the entries of the packages of this round lead.
+    pub ahead: ByFolder<()>,
+}
+
+/// The refusal of a path at which no manifest may be read.
+pub fn no_manifest(alloc: Global, path: &PathText) -> LoadFault
+    ensures refusal { is_outside result ≡ false → result ≡ load_fault.NoManifest path.now }
+    ensures here { is_failure result ≡ false }
+{
+    match path.copy(alloc) {
+        Ok(path) => LoadFault::NoManifest(path),
+        Err(_) => LoadFault::OutOfMemory,
+    }
+}
+
+/// The refusal of a manifest.
+fn refused(alloc: Global, path: &PathText, fault: ManifestFault) -> LoadFault
+    ensures refusal { is_outside result ≡ false → result ≡ load_fault.Manifest path.now fault }
+    ensures here { is_failure result ≡ false }
+{
+    match path.copy(alloc) {
+        Ok(path) => LoadFault::Manifest(path, fault),
+        Err(_) => LoadFault::OutOfMemory,
+    }
+}
+
+/// What the bytes of a manifest say.
+
+fn read_found(alloc: Global, path: &PathText, found: Option<Bytes>) -> Result<Manifest, LoadFault>
+    ensures told { Told result (read_found path.now found) }
+    ensures promised { IfOk result IsManifest }
+    ensures here { IfErr result (λ e. is_failure e ≡ false) }
+{
+    let bytes = match found {
+        Some(bytes) => bytes,
+        None => return Err(no_manifest(alloc, path)),
+    };
+    match read_manifest(alloc, bytes.as_slice()) {
+        Ok(manifest) => Ok(manifest),
+        Err(ManifestFault::OutOfMemory) => Err(LoadFault::OutOfMemory),
+        Err(fault) => Err(refused(alloc, path, fault)),
+    }
+}
+
+/// What the manifest at a path says. NoManifest where no file of the sources is there.
+fn manifest_at<P: Place>(
+    place: &mut P,
+    alloc: Global,
+    target: &PathText,
+    path: &PathText,
+) -> Result<Manifest, LoadFault>
+    ensures ok { IsTrue P.tells → Told result (manifest_at (from_nothing target.now (P.world place.old)) path.now) }
+    ensures promised { IfOk result IsManifest }
+    ensures same { IsTrue P.tells → P.world place.new ≡ P.world place.old }
+    ensures reads { Reads result (P.counts place.old) (P.counts place.new) }
+{
+    let found = source(place, alloc, target, path)?;
+    let manifest = read_found(alloc, path, found)?;
+    Ok(manifest)
+}
+
+/// The package of a manifest that was read; the manifest with BadKind of `package` where it has none.
+#[tactic(auto, unfolding(crate::specs::Rounds::draft_if))]
+pub fn draft_if<P: Place>(
+    place: &mut P,
+    alloc: Global,
+    target: &PathText,
+    frame: &Frame,
+    is_member: bool,
+    at: Standing,
+    tables: Tables,
+    found: Option<Package>,
+) -> Result<Draft, LoadFault>
+    requires binaries { All (λ b. is_name b.name ≡ true) tables.binaries }
+    requires promised { ArePromised tables }
+    requires found_name { IfSome found (λ p. is_name p.name ≡ true) }
+    ensures ok { IsTrue P.tells → Told result (draft_if (from_nothing target.now (P.world place.old)) frame.now is_member at tables found) }
+    ensures draft { IfOk result IsDraft }
+    ensures folder { IfOk result (λ draft. draft.folder ≡ at.folder) }
+    ensures same { IsTrue P.tells → P.world place.new ≡ P.world place.old }
+    ensures reads { Reads result (P.counts place.old) (P.counts place.new) }
+{
+    let found = match found {
+        Some(found) => found,
+        None => {
+            return Err(refused(alloc, &at.manifest, ManifestFault::BadKind(Key::Package)));
+        }
+    };
+    if is_member {
+        let draft = draft_of(place, alloc, target, at, true, &frame.given, found, tables)?;
+        return Ok(draft);
+    }
+    let none = nothing(alloc);
+    let draft = draft_of(place, alloc, target, at, false, &none, found, tables)?;
+    Ok(draft)
+}
+
+/// Where the package of a folder stands.
+fn standing_in(alloc: Global, frame: &Frame, folder: &PathText) -> Result<Standing, AllocError>
+    ensures { IfOk result (λ at. at ≡ standing_in frame.now folder.now) }
+{
+    let manifest = own_path(alloc, folder, "Cargo.toml")?;
+    let root = frame.root.copy(alloc)?;
+    let folder = folder.copy(alloc)?;
+    Ok(Standing {
+        root,
+        folder,
+        manifest,
+    })
+}
+
+/// A manifest, taken apart.
+#[derive(Drop)]
+pub struct Parts {
+    /// `[package]`, where it is written.
+    pub found: Option<Package>,
+    /// The other tables that say something of it.
+    pub tables: Tables,
+    /// `[workspace]`, where it is written.
+    pub workspace: Option<WorkspaceTable>,
+    /// `[profile]`.
+    pub profiles: Items<Profile>,
+}
+
+/// A manifest, taken apart.
+#[tactic(auto, using(crate::proofs::Promised::binary_laws))]
+pub fn parts_of(read: Manifest) -> Parts
+    requires { IsManifest read }
+    ensures parts { result ≡ parts_in read }
+    ensures promised { ArePromised result.tables }
+    ensures named { IfSome result.found (λ p. is_name p.name ≡ true) }
+    ensures names { All (λ b. is_name b.name ≡ true) result.tables.binaries }
+{
+    Parts {
+        found: read.package,
+        tables: Tables {
+            library: read.library,
+            binaries: read.binaries,
+            dependencies: read.dependencies,
+            build_dependencies: read.build_dependencies,
+            dev_dependencies: read.dev_dependencies,
+            features: read.features,
+        },
+        workspace: read.workspace,
+        profiles: read.profiles,
+    }
+}
+
+/// What the manifest at a path says, taken apart. NoManifest where no file of the sources is there.
+pub fn parts_at<P: Place>(
+    place: &mut P,
+    alloc: Global,
+    target: &PathText,
+    path: &PathText,
+) -> Result<Parts, LoadFault>
+    ensures ok { IsTrue P.tells → Told result (parts_at (from_nothing target.now (P.world place.old)) path.now) }
+    ensures promised { IfOk result (λ parts. ArePromised parts.tables) }
+    ensures named { IfOk result (λ parts. IfSome parts.found (λ p. is_name p.name ≡ true)) }
+    ensures names { IfOk result (λ parts. All (λ b. is_name b.name ≡ true) parts.tables.binaries) }
+    ensures same { IsTrue P.tells → P.world place.new ≡ P.world place.old }
+    ensures reads { Reads result (P.counts place.old) (P.counts place.new) }
+{
+    let found = manifest_at(place, alloc, target, path)?;
+    Ok(parts_of(found))
+}
+
+/// The package of the manifest that stands here.
+#[tactic(auto, unfolding(crate::specs::Rounds::draft_in_file))]
+fn draft_in_file<P: Place>(
+    place: &mut P,
+    alloc: Global,
+    target: &PathText,
+    frame: &Frame,
+    is_member: bool,
+    at: Standing,
+) -> Result<Draft, LoadFault>
+    ensures ok { IsTrue P.tells → Told result (draft_in_file (from_nothing target.now (P.world place.old)) frame.now is_member at) }
+    ensures draft { IfOk result IsDraft }
+    ensures folder { IfOk result (λ draft. draft.folder ≡ at.folder) }
+    ensures same { IsTrue P.tells → P.world place.new ≡ P.world place.old }
+    ensures reads { Reads result (P.counts place.old) (P.counts place.new) }
+{
+    let parts = parts_at(place, alloc, target, &at.manifest)?;
+    draft_if(
+        place,
+        alloc,
+        target,
+        frame,
+        is_member,
+        at,
+        parts.tables,
+        parts.found,
+    )
+}
+
+/// The package of a folder: what its manifest and it say. NoManifest where no file of the sources is there;
+/// the manifest with its fault, which is BadKind of `package` where it has no `[package]`.
+#[tactic(auto, unfolding(crate::specs::Rounds::draft_at))]
+fn draft_at<P: Place>(
+    place: &mut P,
+    alloc: Global,
+    target: &PathText,
+    frame: &Frame,
+    meant: &ByFolder<()>,
+    folder: &PathText,
+) -> Result<Draft, LoadFault>
+    ensures ok { IsTrue P.tells → Told result (draft_at (from_nothing target.now (P.world place.old)) frame.now meant.now folder.now) }
+    ensures draft { IfOk result IsDraft }
+    ensures folder { IfOk result (λ draft. draft.folder ≡ folder.now) }
+    ensures same { IsTrue P.tells → P.world place.new ≡ P.world place.old }
+    ensures reads { Reads result (P.counts place.old) (P.counts place.new) }
+{
+    if *folder == frame.root {
+        return Err(refused(alloc, &frame.manifest, ManifestFault::BadKind(Key::Package)));
+    }
+    let at = standing_in(alloc, frame, folder)?;
+    let member = is_member(alloc, frame, meant, folder)?;
+    let draft = draft_in_file(place, alloc, target, frame, member, at)?;
+    Ok(draft)
+}
+
+/// The folders to which entries lead.
+fn leads_to(alloc: Global, wanted: &[Wanted]) -> Result<Items<PathText>, AllocError>
+    ensures { IfOk result (λ folders. folders ≡ leads_to wanted.now) }
+{
+    let mut folders = Items::new(alloc);
+    for one in wanted {
+        folders.push(one.folder.copy(alloc)?)?;
+    }
+    Ok(folders)
+}
+
+/// With a package that was read.
+pub fn with_draft(
+    alloc: Global,
+    reading: Reading,
+    folder: PathText,
+    draft: Draft,
+) -> Result<Reading, AllocError>
+    ensures { IfOk result (λ made. made ≡ with_draft reading folder draft) }
+{
+    let Reading {
+        mut found,
+        mut ahead,
+    } = reading;
+    let folders = leads_to(alloc, draft.wanted.as_slice())?;
+    put_folders(&mut ahead, folders)?;
+    found.insert(folder, draft)?;
+    Ok(Reading { found, ahead })
+}
+
+/// Reads one folder, unless it was read before. TooMany where it would be one of more than 256.
+fn one_read<P: Place>(
+    place: &mut P,
+    alloc: Global,
+    target: &PathText,
+    frame: &Frame,
+    meant: &ByFolder<()>,
+    reading: Reading,
+    folder: PathText,
+) -> Result<Reading, LoadFault>
+    requires { IsReading reading }
+    ensures ok { IsTrue P.tells → Told result (one_read (draft_at (from_nothing target.now (P.world place.old)) frame.now meant.now) reading folder) }
+    ensures kept { IfOk result IsReading }
+    ensures same { IsTrue P.tells → P.world place.new ≡ P.world place.old }
+    ensures reads { Reads result (P.counts place.old) (P.counts place.new) }
+{
+    if reading.found.contains(&folder) {
+        return Ok(reading);
+    }
+    if GREATEST_NUMBER <= reading.found.len() {
+        return Err(LoadFault::TooMany);
+    }
+    let draft = draft_at(place, alloc, target, frame, meant, &folder)?;
+    let made = with_draft(alloc, reading, folder, draft)?;
+    Ok(made)
+}
+
+/// Reads folders in turn, up to the first fault.
+pub fn all_read<P: Place>(
+    place: &mut P,
+    alloc: Global,
+    target: &PathText,
+    frame: &Frame,
+    meant: &ByFolder<()>,
+    reading: Reading,
+    folders: Items<PathText>,
+) -> Result<Reading, LoadFault>
+    requires { IsReading reading }
+    ensures ok { IsTrue P.tells → Told result (all_read (draft_at (from_nothing target.now (P.world place.old)) frame.now meant.now) reading folders) }
+    ensures kept { IfOk result IsReading }
+    ensures same { IsTrue P.tells → P.world place.new ≡ P.world place.old }
+    ensures reads { Reads result (P.counts place.old) (P.counts place.new) }
+{
+    let mut reading = reading;
+    for folder in folders.into_vec() {
+        reading = one_read(place, alloc, target, frame, meant, reading, folder)?;
+    }
+    Ok(reading)
+}
+
+/// One round: the folders to which the packages of the last one lead, in byte order.
+fn round<P: Place>(
+    place: &mut P,
+    alloc: Global,
+    target: &PathText,
+    frame: &Frame,
+    meant: &ByFolder<()>,
+    reading: Reading,
+) -> Result<Reading, LoadFault>
+    requires { IsReading reading }
+    ensures ok { IsTrue P.tells → Told result (round (draft_at (from_nothing target.now (P.world place.old)) frame.now meant.now) reading) }
+    ensures kept { IfOk result IsReading }
+    ensures same { IsTrue P.tells → P.world place.new ≡ P.world place.old }
+    ensures reads { Reads result (P.counts place.old) (P.counts place.new) }
+{
+    let Reading { found, ahead } = reading;
+    let folders = ahead.folders(alloc)?;
+    let begun = Reading {
+        found,
+        ahead: ByFolder::new(alloc),
+    };
+    let made = all_read(place, alloc, target, frame, meant, begun, folders)?;
+    Ok(made)
+}
+
+/// So many rounds.
+#[tactic(auto, unfolding(crate::specs::Rounds::rounds))]
+pub fn rounds<P: Place>(
+    place: &mut P,
+    alloc: Global,
+    target: &PathText,
+    frame: &Frame,
+    meant: &ByFolder<()>,
+    reading: Reading,
+    count: usize,
+) -> Result<Reading, LoadFault>
+    requires { IsReading reading }
+    ensures ok { IsTrue P.tells → Told result (rounds count (draft_at (from_nothing target.now (P.world place.old)) frame.now meant.now) reading) }
+    ensures kept { IfOk result IsReading }
+    ensures same { IsTrue P.tells → P.world place.new ≡ P.world place.old }
+    ensures reads { Reads result (P.counts place.old) (P.counts place.new) }
+{
+    let mut reading = reading;
+    for done in 0..count {
+        match round(place, alloc, target, frame, meant, reading) {
+            Ok(next) => reading = next,
+            Err(fault) => return Err(fault),
+        }
+    }
+    Ok(reading)
+}
