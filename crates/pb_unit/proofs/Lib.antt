@@ -1,0 +1,4 @@
+pub mod Numbering
+pub mod Sixes
+pub mod Keys
+pub mod Graphs
