@@ -6,3 +6,4 @@ pub mod Graphs
 pub mod Drafting
 pub mod Missing
 pub mod Planning
+pub mod Making

@@ -1,8 +1,8 @@
 //! The plan of a build.
 
-ghost use Rattle.std.specs.Prelude.{◌≡◌, ◌⊎◌, ◌<◌, ◌≤◌, ℕ, true, IfOk, IfErr, OnOk, All, AllPairs, Contains, map, length, slice_get, if◌then◌else◌, Option, Some, None, Result, Ok, Err};
+ghost use Rattle.std.specs.Prelude.{◌≡◌, ◌⊎◌, ◌<◌, ◌≤◌, ℕ, true, IfOk, IfErr, IfSome, OnOk, All, AllPairs, Contains, map, length, slice_get, if◌then◌else◌, Option, Some, None, Result, Ok, Err};
 ghost use Rattle.std.specs.List.{AllZip};
-ghost use Rattle.pb_place.specs.Paths.{below, is_relative};
+ghost use Rattle.pb_place.specs.Paths.{below, is_relative, is_path};
 ghost use Rattle.pb_order.specs.Order.{IsOrder};
 ghost use Rattle.pb_workspace.specs.Settled.{IsSettled};
 ghost use Rattle.pb_profile.specs.Line.{seen, folder_of};
@@ -71,7 +71,8 @@ fn folder_in(
     workspace: &Workspace,
     profile: &str,
 ) -> Result<Option<PathText>, AllocError>
-    ensures { IfOk result (λ found. found ≡ (if is_relative (folder_of profile.now) then Some (profile_folder workspace.now profile.now) else None)) }
+    ensures found { IfOk result (λ found. found ≡ (if is_relative (folder_of profile.now) then Some (profile_folder workspace.now profile.now) else None)) }
+    ensures path { IfOk result (λ found. IfSome found (λ folder. is_path folder ≡ true)) }
 {
     let name = Text::from_str(alloc, folder_of(profile))?;
     match RelativePath::of(name) {
@@ -91,6 +92,7 @@ fn framed<'a>(
 ) -> Result<Frame<'a>, PlanFault>
     ensures line { IfOk result (λ frame. profile_line workspace.now profile.now ≡ Ok (map seen frame.line.items)) }
     ensures folder { IfOk result (λ frame. frame.folder ≡ profile_folder workspace.now profile.now) }
+    ensures path { IfOk result (λ frame. is_path frame.folder ≡ true) }
     ensures refused { IfErr result (λ e. (e ≡ OutOfMemory) ⊎ ((fault : ProfileFault) × (e ≡ Profile fault) × (profile_line workspace.now profile.now ≡ Err fault))) }
 {
     let line = match line_of(alloc, workspace.profiles.as_slice(), profile) {
