@@ -1,6 +1,5 @@
 -- Too many nodes, and the nodes of a list in the order of their keys.
 use Rattle.std.proofs.Common.{◌≡◌, ◌⊎◌, inl, inr, ◌↔◌, ℕ, ◌<◌, ◌≤◌, List, map, length, sym, ap, subst, ◌∙◌, arith, Contains, All}
-use Rattle.std.specs.List.{AllZip}
 use Rattle.std.proofs.lemmas.Slice.Zip.{AllZip-long}
 use Rattle.pb_order.specs.declared.graph.Node.{Node}
 use Rattle.pb_order.specs.declared.graph.Step.{Step}

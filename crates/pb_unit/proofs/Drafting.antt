@@ -1,27 +1,24 @@
 -- The candidates: which binaries and roots are among them, each once, each of a package that is there.
-use Rattle.std.proofs.Common.{◌≡◌, ◌≢◌, ◌⊎◌, ◌↔◌, inl, inr, ◌+◌, ℕ, zero, suc, ◌<◌, ◌≤◌, Bool, true, false, ◌&&◌, eqb, List, [], ◌∷◌, ◌++◌, length, get_or, map, refl, sym, ap, subst, ◌∙◌, arith, Option, Some, None, slice_get, Contains, All, Any}
-use Rattle.std.specs.Prelude.{if◌then◌else◌, ◌||◌}
+use Rattle.std.proofs.Common.{◌≡◌, ◌⊎◌, ◌↔◌, inl, inr, ◌+◌, ℕ, zero, suc, ◌<◌, Bool, true, false, ◌&&◌, eqb, List, [], ◌∷◌, ◌++◌, length, get_or, map, refl, sym, ap, subst, ◌∙◌, arith, Option, Some, None, slice_get, Contains, All}
+use Rattle.std.specs.Prelude.{◌||◌}
 use Rattle.std.specs.List.{list_all}
 use Rattle.std.specs.List.Sorted.{IsStrictlySortedBy}
-use Rattle.std.specs.Ordering.{nat_cmp, ordering_then}
+use Rattle.std.specs.Ordering.{ordering_then}
 use Rattle.std.specs.declared.cmp.Ordering.{Ordering}
 use Rattle.std.specs.declared.cmp.Ordering.TheVariants.{Less, Equal, Greater}
-use Rattle.std.specs.Cmp.Lexicographic.{slice_cmp}
 use Rattle.std.specs.Str.{bytes_eq}
 use Rattle.std.proofs.lemmas.Bool.{false≢true, and_parts}
 use Rattle.std.proofs.lemmas.Bool.Decides.{Decides-eqb}
 use Rattle.std.proofs.lemmas.Cmp.{ranked, tied_itself, nat_list_cmp_total}
 use Rattle.std.proofs.lemmas.Slice.Eq.{bytes_eq-Decides}
-use Rattle.std.proofs.lemmas.Option.{slice_get_within, slice_get-get_or, get_or_from_slice_get}
+use Rattle.std.proofs.lemmas.Option.{slice_get_within, get_or_from_slice_get}
 use Rattle.std.proofs.lemmas.Map.Keys.{Less-from_sorted}
 use Rattle.std.proofs.lemmas.Map.Views.{Contains-from_any}
 use Rattle.pb_data.specs.Mentions.{is_mentioned}
 use Rattle.pb_data.proofs.MentionLemmas.{bytes_eq_same}
-use Rattle.pb_closure.specs.Closure.{is_on}
-use Rattle.pb_closure.specs.Placed.{placed}
 use Rattle.pb_closure.proofs.Placed.{placed_from, placed_to, where_true, at_true}
 use Rattle.pb_closure.proofs.Membership.{none, single, head}
-use Rattle.pb_order.proofs.Elements.{contains_map, map_contains, at_from_contains, contains_from_at, all_from_at, all_at, contains_cases}
+use Rattle.pb_order.proofs.Elements.{at_from_contains, contains_from_at, all_from_at, all_at, contains_cases}
 use Rattle.pb_workspace.specs.Settled.{IsSettled, IsPackage}
 use Rattle.pb_workspace.specs.declared.package.Side.{Side}
 use Rattle.pb_workspace.specs.declared.package.Side.TheVariants.{Target, Host}
@@ -36,11 +33,11 @@ use Rattle.pb_unit.specs.declared.unit.Unit.{Unit}
 use Rattle.pb_unit.specs.declared.unit.What.{What}
 use Rattle.pb_unit.specs.declared.unit.What.TheVariants.{Lib, Bin, Script, Run}
 use Rattle.pb_unit.specs.declared.candidates.Named.{Named}
-use Rattle.pb_unit.specs.Units.{unit, has_library, asks_libraries, asks_binary, IsRoot, library, binary}
+use Rattle.pb_unit.specs.Units.{unit, asks_libraries, asks_binary, IsRoot, library, binary}
 use Rattle.pb_unit.specs.Drawing.{number, fixed, binaries_of, named_by, named_at, all_named, named_cmp, unit_named, AreCandidates, AreRoots, is_target, root_of, is_root, root_at}
 use Rattle.pb_unit.proofs.Sixes.{is_fixed, get_left, get_right, get_cases, fixed_at, fixed_is}
 use Rattle.pb_unit.proofs.Keys.{IsNamedWell}
-use Rattle.pb_unit.proofs.Graphs.{IsThere, AreNumbered, get_map, get_map_back, inside_get}
+use Rattle.pb_unit.proofs.Graphs.{AreNumbered, get_map, get_map_back}
 
 -- Texts that are mentioned.
 
@@ -159,15 +156,15 @@ module _ (ws : Workspace) (features : Features) (selection : Selection) where
       let (owner, package_at, there) = binary_there p j made place in
       let tests = and_parts _ _ test in
       subst IsNamed same (record {
-          owner = owner;
-          made = made;
-          selected = contains_from_at selection.packages k p at;
-          package_at = package_at;
-          there = there;
-          name = refl;
-          asked = tests.0;
-          on = mentions_all (features_at features p Target) made.required_features tests.1;
-        })
+        owner = owner;
+        made = made;
+        selected = contains_from_at selection.packages k p at;
+        package_at = package_at;
+        there = there;
+        name = refl;
+        asked = tests.0;
+        on = mentions_all (features_at features p Target) made.required_features tests.1;
+      })
 
   pub named_from : (b : Named) → IsNamed b → Contains (all_named ws features selection) b
   named_from b h =

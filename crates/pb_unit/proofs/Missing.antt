@@ -1,8 +1,7 @@
 -- The packages without a library to which enabled entries lead.
-use Rattle.std.proofs.Common.{◌≡◌, ◌⊎◌, ◌↔◌, inl, inr, ℕ, Bool, true, false, not, ◌&&◌, List, [], ◌∷◌, refl, sym, ap, subst, ◌∙◌, Some, slice_get, Contains}
-use Rattle.std.specs.Prelude.{if◌then◌else◌, ◌||◌}
+use Rattle.std.proofs.Common.{◌≡◌, ◌⊎◌, inl, inr, ℕ, Bool, true, false, not, ◌&&◌, List, [], ◌∷◌, refl, sym, subst, slice_get, Contains}
+use Rattle.std.specs.Prelude.{◌||◌}
 use Rattle.std.proofs.lemmas.Bool.{false≢true, and_parts}
-use Rattle.pb_closure.specs.Placed.{placed}
 use Rattle.pb_closure.proofs.Placed.{placed_from, placed_to, where_true, at_true}
 use Rattle.pb_closure.proofs.Membership.{single, head}
 use Rattle.pb_workspace.specs.Workspace.{HasEntry}

@@ -1,5 +1,5 @@
 -- What units need, as numbers.
-use Rattle.std.proofs.Common.{◌≡◌, ℕ, suc, ◌+◌, List, [], ◌∷◌, ◌++◌, map, refl, sym, ap, subst, ◌∙◌, append_assoc}
+use Rattle.std.proofs.Common.{◌≡◌, ℕ, ◌+◌, List, [], ◌∷◌, ◌++◌, map, refl, sym, ap, ◌∙◌, append_assoc}
 use Rattle.std.proofs.lemmas.List.{map-append}
 use Rattle.pb_closure.specs.Placed.{placed}
 use Rattle.pb_workspace.specs.declared.package.Side.{Side}
@@ -7,7 +7,7 @@ use Rattle.pb_workspace.specs.declared.package.Entry.{Entry}
 use Rattle.pb_workspace.specs.declared.workspace.Workspace.{Workspace}
 use Rattle.pb_feature.specs.declared.resolved.Features.{Features}
 use Rattle.pb_unit.specs.declared.unit.What.TheVariants.{Lib, Bin, Script, Run}
-use Rattle.pb_unit.specs.Units.{unit, entries_at, library_by, tool_by, run_by, libraries, tools, runs, own_library, own_run, needs_of}
+use Rattle.pb_unit.specs.Units.{unit, entries_at, library_by, tool_by, run_by, libraries, own_library, own_run, needs_of}
 use Rattle.pb_unit.specs.Drawing.{number, library_numbers, tool_numbers, run_numbers}
 
 -- each of what is placed, mapped

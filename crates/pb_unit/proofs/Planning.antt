@@ -1,5 +1,5 @@
 -- The plan of the units, from the order of their numbers.
-use Rattle.std.proofs.Common.{◌≡◌, ◌≢◌, ◌⊎◌, ◌↔◌, inl, inr, ◌+◌, ℕ, zero, suc, ◌<◌, ◌≤◌, max, Bool, true, false, List, [], ◌∷◌, ◌++◌, length, get_or, map, refl, sym, ap, subst, ◌∙◌, arith, Option, Some, None, slice_get, Contains, All, AllPairs}
+use Rattle.std.proofs.Common.{◌≡◌, ◌≢◌, ◌⊎◌, ◌↔◌, inl, inr, ◌+◌, ℕ, suc, ◌<◌, ◌≤◌, max, true, false, List, [], ◌∷◌, length, get_or, map, refl, sym, ap, subst, ◌∙◌, arith, Option, Some, None, slice_get, Contains, All, AllPairs}
 use Rattle.std.specs.Prelude.{◌==◌, Ok}
 use Rattle.std.specs.List.{AllZip, list_any}
 use Rattle.std.specs.List.Sorted.{IsStrictlyIncreasing}
@@ -26,19 +26,17 @@ use Rattle.pb_workspace.specs.declared.workspace.Workspace.{Workspace}
 use Rattle.pb_feature.specs.declared.resolved.Features.{Features}
 use Rattle.pb_profile.specs.Line.{Seen}
 use Rattle.pb_place.specs.Paths.{below, is_relative, is_path, is_name, is_at_or_below}
-use Rattle.pb_place.specs.Folders as folders
 use Rattle.pb_place.proofs.Folders.{named_folders_lie_apart}
 use Rattle.pb_place.proofs.Within.{share_no_path}
 use Rattle.pb_unit.specs.declared.unit.Unit.{Unit}
 use Rattle.pb_unit.specs.declared.plan.Planned.{Planned}
-use Rattle.pb_unit.specs.declared.plan.Plan.{Plan}
 use Rattle.pb_unit.specs.declared.fault.PlanFault.{PlanFault}
 use Rattle.pb_unit.specs.declared.fault.PlanFault.TheVariants.{OutOfMemory}
 use Rattle.pb_unit.specs.Units.{name_at, key_of, needs, Reaches, IsRoot, IsPlanned}
-use Rattle.pb_unit.specs.Drawing.{number, node_of, IsDrawn, IsMade, IsRefusal, owner_of, name_behind}
-use Rattle.pb_unit.specs.Plan.{IsBelow, ComesBefore, above, level_of, level_at, ArePlaces, profile_line, profile_folder, HasSettings, AreWithoutLibrary, IsCycle, IsStraight, IsPlan, IsCrowd, Stops, by_cycle, by_number, by_nothing, LieApart}
+use Rattle.pb_unit.specs.Drawing.{node_of, IsDrawn, IsMade, IsRefusal, owner_of, name_behind}
+use Rattle.pb_unit.specs.Plan.{IsBelow, ComesBefore, above, level_of, level_at, ArePlaces, profile_line, profile_folder, HasSettings, AreWithoutLibrary, IsCycle, IsStraight, IsPlan, IsCrowd, Stops, by_cycle, by_number, LieApart}
 use Rattle.pb_unit.proofs.Keys.{key_named, name_is, one_unit}
-use Rattle.pb_unit.proofs.Graphs.{AreNumbered, get_map, is_graph, need_to, need_from, reach_to, reach_at, reached_to, reached_from, reached_at, roots_within, key_behind}
+use Rattle.pb_unit.proofs.Graphs.{AreNumbered, is_graph, need_to, need_from, reach_to, reach_at, reached_to, reached_from, roots_within, key_behind}
 use Rattle.pb_unit.proofs.Drafting.{numbered, well, root_there, roots_are}
 
 -- levels are the same on both sides
@@ -108,17 +106,17 @@ module _ (ws : Workspace) (features : Features) (selection : Selection) (settled
         omega (arith, lt));
     order = rises;
     same = λ name. (
-        λ has.
-            let (i, in', e) = map_contains (name_behind ws units) circle name ((same name).0 has) in
-            let both = (h.nodes_are i).0 in' in
-            let (u, at, planned) = to_unit i both.0 in
-            (u, planned, reach_back i u at both.1, sym e ∙ behind_is i u at),
-        λ some.
-            let (u, planned, way, e) = some in
-            let (i, at, reached) = from_unit u planned in
-            let in' = (h.nodes_are i).1 (reached, reach_on i u at way) in
-            (same name).1 (subst (Contains (map (name_behind ws units) circle)) (behind_is i u at ∙ sym e) (contains_map (name_behind ws units) circle i in')),
-      );
+      λ has.
+          let (i, in', e) = map_contains (name_behind ws units) circle name ((same name).0 has) in
+          let both = (h.nodes_are i).0 in' in
+          let (u, at, planned) = to_unit i both.0 in
+          (u, planned, reach_back i u at both.1, sym e ∙ behind_is i u at),
+      λ some.
+          let (u, planned, way, e) = some in
+          let (i, at, reached) = from_unit u planned in
+          let in' = (h.nodes_are i).1 (reached, reach_on i u at way) in
+          (same name).1 (subst (Contains (map (name_behind ws units) circle)) (behind_is i u at ∙ sym e) (contains_map (name_behind ws units) circle i in')),
+    );
   }
 
   -- the units behind some reached numbers
@@ -244,15 +242,15 @@ module _ (ws : Workspace) (features : Features) (selection : Selection) (settled
       places_are Wanted Asked places given are same to from = record {
         rises = subst IsStrictlyIncreasing (sym same) are.rises;
         same = λ place. (
-            λ has.
-                let (s, at, wanted) = (are.same place).0 (subst (λ (l : List ℕ). Contains l place) same has) in
-                let (p, there, m) = zip_left (IsMade ws line folder units) steps planned made place s at in
-                (p, there, to s.node p.unit m.unit_at wanted),
-            λ some.
-                let (p, at, asked) = some in
-                let m = step_of place p at in
-                subst (λ (l : List ℕ). Contains l place) (sym same) ((are.same place).1 (m.step, m.at, from m.step.node p.unit m.is.unit_at asked)),
-          );
+          λ has.
+              let (s, at, wanted) = (are.same place).0 (subst (λ (l : List ℕ). Contains l place) same has) in
+              let (p, there, m) = zip_left (IsMade ws line folder units) steps planned made place s at in
+              (p, there, to s.node p.unit m.unit_at wanted),
+          λ some.
+              let (p, at, asked) = some in
+              let m = step_of place p at in
+              subst (λ (l : List ℕ). Contains l place) (sym same) ((are.same place).1 (m.step, m.at, from m.step.node p.unit m.is.unit_at asked)),
+        );
       }
 
       needs_are : (k : ℕ) (p : Planned) → slice_get planned k ≡ Some p → ArePlaces planned (Contains (needs ws features p.unit)) p.needs
@@ -261,8 +259,8 @@ module _ (ws : Workspace) (features : Features) (selection : Selection) (settled
           let i = m.step.node in
           places_are (Contains (graph.needs_at nodes i)) (Contains (needs ws features p.unit)) m.step.needs p.needs (all_at (λ (s : Step). order.ArePlaces steps (Contains (graph.needs_at nodes s.node)) s.needs) steps h.needs k m.step m.at) m.is.needs
           (λ j v there has.
-              let (w, found, need) = need_to ws features units settled numbers i j p.unit m.is.unit_at (subst (λ (l : List Node). Contains (graph.needs_at l i) j) drawn.nodes_are has) in
-              subst (Contains (needs ws features p.unit)) (some_eq w v (sym found ∙ there)) need)
+          let (w, found, need) = need_to ws features units settled numbers i j p.unit m.is.unit_at (subst (λ (l : List Node). Contains (graph.needs_at l i) j) drawn.nodes_are has) in
+          subst (Contains (needs ws features p.unit)) (some_eq w v (sym found ∙ there)) need)
           (λ j v there need. subst (λ (l : List Node). Contains (graph.needs_at l i) j) (sym drawn.nodes_are) (need_from ws features units settled numbers i j p.unit v m.is.unit_at there need))
 
       reaches_are : (k : ℕ) (p : Planned) → slice_get planned k ≡ Some p → ArePlaces planned (Reaches ws features p.unit) p.reaches
@@ -271,8 +269,8 @@ module _ (ws : Workspace) (features : Features) (selection : Selection) (settled
           let i = m.step.node in
           places_are (graph.Reaches nodes i) (Reaches ws features p.unit) m.step.reaches p.reaches (all_at (λ (s : Step). order.ArePlaces steps (graph.Reaches nodes s.node) s.reaches) steps h.reaches k m.step m.at) m.is.reaches
           (λ j v there way.
-              let (w, found, more) = reach_to ws features units settled numbers i j p.unit m.is.unit_at (subst (λ (l : List Node). graph.Reaches l i j) drawn.nodes_are way) in
-              subst (Reaches ws features p.unit) (some_eq w v (sym found ∙ there)) more)
+          let (w, found, more) = reach_to ws features units settled numbers i j p.unit m.is.unit_at (subst (λ (l : List Node). graph.Reaches l i j) drawn.nodes_are way) in
+          subst (Reaches ws features p.unit) (some_eq w v (sym found ∙ there)) more)
           (λ j v there way. subst (λ (l : List Node). graph.Reaches l i j) (sym drawn.nodes_are) (reach_at ws features units settled numbers i j p.unit v m.is.unit_at there way))
 
       keys_are : (k : ℕ) (p : Planned) → slice_get planned k ≡ Some p → p.key ≡ key_of ws p.unit
@@ -293,9 +291,9 @@ module _ (ws : Workspace) (features : Features) (selection : Selection) (settled
       comes_before : (a b : Step) (p q : Planned) → IsMade ws line folder units a p → IsMade ws line folder units b q → order.ComesBefore a b → ComesBefore p q
       comes_before a b p q ma mb before = record {
         order = elim before.order [
-            | inl lt ↦ inl (omega (arith, lt, ma.level, mb.level))
-            | inr both ↦ inr (ma.level ∙ both.0 ∙ sym mb.level, subst (λ (x : List ℕ). IsBelow x q.key) (sym ma.key) (subst (λ (y : List ℕ). IsBelow a.key y) (sym mb.key) both.1))
-          ];
+          | inl lt ↦ inl (omega (arith, lt, ma.level, mb.level))
+          | inr both ↦ inr (ma.level ∙ both.0 ∙ sym mb.level, subst (λ (x : List ℕ). IsBelow x q.key) (sym ma.key) (subst (λ (y : List ℕ). IsBelow a.key y) (sym mb.key) both.1))
+        ];
       }
 
       order_is : AllPairs ComesBefore planned

@@ -1,7 +1,5 @@
 -- Lists with the same elements, marks of what is listed.
-use Rattle.std.proofs.Common.{◌≡◌, ◌⊎◌, ◌↔◌, inl, inr, ℕ, ◌<◌, Bool, true, false, List, [], Contains, All, Any, refl, sym, subst, ◌∙◌, arith}
-use Rattle.std.specs.Prelude.{IsTrue}
-use Rattle.std.specs.Bool.{Decides}
+use Rattle.std.proofs.Common.{◌≡◌, ◌↔◌, ℕ, Bool, true, List, [], Contains, Any, sym, subst}
 use Rattle.pb_closure.specs.Closure.{Least, seed, joined, IsLeast}
 use Rattle.pb_closure.specs.Table.{joined_by}
 use Rattle.pb_closure.proofs.Membership.{none}

@@ -1,6 +1,6 @@
 -- Units as the nodes of a graph: six for each package, by their numbers, and behind them the binaries that are roots. These words serve private functions alone.
-use Rattle.std.specs.Prelude.{◌≡◌, ◌↔◌, ℕ, ◌+◌, ◌*◌, ◌<◌, Bool, true, false, not, ◌&&◌, ◌||◌, if◌then◌else◌, List, [], ◌∷◌, ◌++◌, map, All, Contains, length, Option, Some, None, slice_get}
-use Rattle.std.specs.List.{list_all, AllZip}
+use Rattle.std.specs.Prelude.{◌≡◌, ◌↔◌, ℕ, ◌+◌, ◌*◌, Bool, true, false, not, ◌&&◌, ◌||◌, if◌then◌else◌, List, [], ◌∷◌, ◌++◌, map, Contains, Option, Some, None, slice_get}
+use Rattle.std.specs.List.{list_all}
 use Rattle.std.specs.List.Sorted.{IsStrictlySortedBy}
 use Rattle.std.specs.Ordering.{nat_cmp, ordering_then}
 use Rattle.std.specs.declared.cmp.Ordering.{Ordering}
@@ -32,7 +32,7 @@ use Rattle.pb_unit.specs.declared.unit.What.{What}
 use Rattle.pb_unit.specs.declared.unit.What.TheVariants.{Lib, Bin, Script, Run}
 use Rattle.pb_unit.specs.declared.candidates.Named.{Named}
 use Rattle.pb_unit.specs.declared.plan.Planned.{Planned}
-use Rattle.pb_unit.specs.Units.{unit, name_at, key_of, role_of, has_library, entries_at, library_by, tool_by, run_by, own_library, own_run, needs, asks_libraries, asks_binary}
+use Rattle.pb_unit.specs.Units.{unit, name_at, key_of, role_of, has_library, library_by, tool_by, run_by, needs, asks_libraries, asks_binary}
 
 -- Numbers.
 

@@ -140,7 +140,14 @@ fn all_named(
     let mut found = Vec::new(alloc);
     let places = selection.packages.as_slice();
     for index in 0..places.len() {
-        add_selected(alloc, &mut found, workspace, features, selection, places[index])?;
+        add_selected(
+            alloc,
+            &mut found,
+            workspace,
+            features,
+            selection,
+            places[index],
+        )?;
     }
     Ok(found)
 }
@@ -161,12 +168,7 @@ fn named_roots(
 }
 
 /// Adds a unit.
-fn add_unit(
-    units: &mut Vec<Unit>,
-    owner: usize,
-    side: Side,
-    what: What,
-) -> Result<(), AllocError>
+fn add_unit(units: &mut Vec<Unit>, owner: usize, side: Side, what: What) -> Result<(), AllocError>
     ensures { OnOk result (units.new.items ≡ units.old.items ++ record { owner = owner; side = side; what = what } ∷ []) }
 {
     units.push(Unit { owner, side, what })?;

@@ -4,8 +4,8 @@
 
 mod candidates;
 mod dependencies;
-pub mod fault;
 mod drawing;
+pub mod fault;
 mod names;
 mod needed;
 pub mod plan;

@@ -57,7 +57,15 @@ fn add_all_missing(
     ensures { OnOk result (names.new.items ≡ names.old.items ++ placed (missing_by workspace.now features.now place) 0 entries.now) }
 {
     for index in 0..entries.len() {
-        add_missing(alloc, names, workspace, features, place, index, &entries[index])?;
+        add_missing(
+            alloc,
+            names,
+            workspace,
+            features,
+            place,
+            index,
+            &entries[index],
+        )?;
     }
     Ok(())
 }

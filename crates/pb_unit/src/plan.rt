@@ -107,12 +107,7 @@ fn framed<'a>(
 }
 
 /// Why an order is refused, in the words of a plan.
-fn refusal(
-    alloc: Global,
-    workspace: &Workspace,
-    units: &[Unit],
-    fault: OrderFault,
-) -> PlanFault
+fn refusal(alloc: Global, workspace: &Workspace, units: &[Unit], fault: OrderFault) -> PlanFault
     ensures { (result ≡ OutOfMemory) ⊎ IsRefusal workspace.now units.now fault result }
 {
     match fault {

@@ -1,4 +1,4 @@
-use Rattle.std.proofs.Common.{◌≡◌, inr, length, sym, ◌∙◌, arith}
+use Rattle.std.proofs.Common.{◌≡◌, inr, length, sym, ◌∙◌}
 use Rattle.std.proofs.lemmas.Bool.Decides.{Decides-eqb}
 use Rattle.pb_unit.specs.Plan.{by_nothing}
 use Rattle.pb_unit.proofs.Planning.{graph_is, roots_in, stops, order_lent, nothing_is}

@@ -7,4 +7,4 @@ use Rattle.pb_unit.proofs.plan.refusal.Goals as goal
 pub returns-in-Ok : goal.returns-in-Ok
 returns-in-Ok c =
     inr (subst (λ (f : OrderFault). IsRefusal c.args.workspace.now c.args.units.now f (Cycle c.in-Ok.names)) (sym c.in-Circle.is)
-      (c.in-Ok.names, refl, c.in-Ok.ensures.order, λ name. subst (λ (l : List ℕ). Contains c.in-Ok.names name ↔ Contains (map (name_behind c.args.workspace.now c.args.units.now) l) name) c.as_slice.ensures (c.in-Ok.ensures.same name)))
+    (c.in-Ok.names, refl, c.in-Ok.ensures.order, λ name. subst (λ (l : List ℕ). Contains c.in-Ok.names name ↔ Contains (map (name_behind c.args.workspace.now c.args.units.now) l) name) c.as_slice.ensures (c.in-Ok.ensures.same name)))

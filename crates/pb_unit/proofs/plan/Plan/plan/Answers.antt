@@ -1,4 +1,4 @@
-use Rattle.std.proofs.Common.{◌≡◌, ◌⊎◌, inl, inr, List, ◌<◌, ◌≤◌, All, AllPairs, map, length, sym, ap, subst, ◌∙◌, true}
+use Rattle.std.proofs.Common.{◌≡◌, inl, inr, List, ◌<◌, All, map, length, sym, subst, true}
 use Rattle.std.specs.List.{AllZip}
 use Rattle.pb_order.specs.declared.graph.Step.{Step}
 use Rattle.pb_profile.specs.Line.{seen}
@@ -7,7 +7,7 @@ use Rattle.pb_unit.specs.declared.unit.Unit.{Unit}
 use Rattle.pb_unit.specs.declared.plan.Planned.{Planned}
 use Rattle.pb_unit.specs.declared.fault.PlanFault.{PlanFault}
 use Rattle.pb_unit.specs.Drawing.{IsMade}
-use Rattle.pb_unit.specs.Plan.{IsPlan, Refuses, by_profile, by_units, LieApart}
+use Rattle.pb_unit.specs.Plan.{Refuses, by_profile, by_units}
 use Rattle.pb_unit.proofs.Drafting.{owners_there}
 use Rattle.pb_unit.proofs.Planning.{steps_within, steps_relative, plan_is, apart_is}
 use Rattle.pb_unit.proofs.plan.Plan.plan.Goals as goal
@@ -41,7 +41,7 @@ returns-clause-plan c =
     let made : AllZip (IsMade c.args.workspace.now line c.in-Ok.frame.folder c.in_ok-drawing.drawing.units) c.in-Ok-ordered.steps c.from_vec.result =
     subst (λ (l : List Planned). AllZip (IsMade c.args.workspace.now line c.in-Ok.frame.folder c.in_ok-drawing.drawing.units) c.in-Ok-ordered.steps l) (sym c.from_vec.ensures)
     (subst (λ (s : List Step). AllZip (IsMade c.args.workspace.now line c.in-Ok.frame.folder c.in_ok-drawing.drawing.units) s c.in_ok-planned.planned.items) c.into_vec.ensures
-      (subst (λ (u : List Unit). AllZip (IsMade c.args.workspace.now line c.in-Ok.frame.folder u) c.into_vec.result.items c.in_ok-planned.planned.items) c.as_slice-units.ensures c.in_ok-planned.ensures)) in
+    (subst (λ (u : List Unit). AllZip (IsMade c.args.workspace.now line c.in-Ok.frame.folder u) c.into_vec.result.items c.in_ok-planned.planned.items) c.as_slice-units.ensures c.in_ok-planned.ensures)) in
     plan_is c.args.workspace.now c.args.features.now c.args.selection.now c.requires.settled c.requires.selected _ _ _ c.in_ok-drawing.ensures c.in-Ok-ordered.steps c.in-Ok-ordered.ensures.order line c.in-Ok.frame.folder c.from_vec.result made c.args.profile.now _ c.in-Ok.ensures.line c.in-Ok.ensures.folder c.in-Ok-ordered.ensures.some c.in-Ok-ordered.ensures.few c.in_ok-without_library.ensures
 
 pub returns-clause-apart : goal.returns-clause-apart
@@ -50,5 +50,5 @@ returns-clause-apart c =
     let made : AllZip (IsMade c.args.workspace.now line c.in-Ok.frame.folder c.in_ok-drawing.drawing.units) c.in-Ok-ordered.steps c.from_vec.result =
     subst (λ (l : List Planned). AllZip (IsMade c.args.workspace.now line c.in-Ok.frame.folder c.in_ok-drawing.drawing.units) c.in-Ok-ordered.steps l) (sym c.from_vec.ensures)
     (subst (λ (s : List Step). AllZip (IsMade c.args.workspace.now line c.in-Ok.frame.folder c.in_ok-drawing.drawing.units) s c.in_ok-planned.planned.items) c.into_vec.ensures
-      (subst (λ (u : List Unit). AllZip (IsMade c.args.workspace.now line c.in-Ok.frame.folder u) c.into_vec.result.items c.in_ok-planned.planned.items) c.as_slice-units.ensures c.in_ok-planned.ensures)) in
+    (subst (λ (u : List Unit). AllZip (IsMade c.args.workspace.now line c.in-Ok.frame.folder u) c.into_vec.result.items c.in_ok-planned.planned.items) c.as_slice-units.ensures c.in_ok-planned.ensures)) in
     apart_is c.args.workspace.now c.args.features.now c.args.selection.now c.requires.settled c.requires.selected _ _ _ c.in_ok-drawing.ensures c.in-Ok-ordered.steps c.in-Ok-ordered.ensures.order line c.in-Ok.frame.folder c.from_vec.result made c.in-Ok.ensures.path
