@@ -216,12 +216,7 @@ pub fn no_selection(alloc: Global) -> Selection {
 
 /// Adds what a word asks for: `lib`, `bins`, `bin:NAME`, `feat:NAME`, or the name of a selected package.
 /// Words that begin with `@` or `!` ask for nothing here.
-fn add_asked(
-    alloc: Global,
-    names: &[Text],
-    asked: &mut Selection,
-    word: &str,
-) -> Result<(), Fail> {
+fn add_asked(alloc: Global, names: &[Text], asked: &mut Selection, word: &str) -> Result<(), Fail> {
     if word == "lib" {
         asked.lib = true;
     } else if word == "bins" {

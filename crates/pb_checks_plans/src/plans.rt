@@ -29,9 +29,7 @@ fn plan_of(
         return Ok(None);
     }
     match resolve(alloc, workspace, asked) {
-        Ok(features) => Ok(Some(Plan::plan(
-            alloc, workspace, &features, asked, profile,
-        ))),
+        Ok(features) => Ok(Some(Plan::plan(alloc, workspace, &features, asked, profile))),
         Err(_) => Ok(None),
     }
 }

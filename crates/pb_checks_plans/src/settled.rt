@@ -1,6 +1,6 @@
 //! Whether a workspace that a test made is one that could have been read.
 
-ghost use Rattle.std.specs.Prelude.{◌≡◌, ◌<◌, ◌&&◌, ℕ, true, All, IfOk, IfSome, IsTrue, map, length, not};
+ghost use Rattle.std.specs.Prelude.{◌≡◌, ◌<◌, ◌&&◌, ℕ, true, All, IfOk, IfSome, IsTrue, map, length, not, nat_lt};
 ghost use Rattle.std.specs.List.{list_all};
 ghost use Rattle.std.specs.Ordering.{nat_cmp, is_lt};
 ghost use Rattle.std.specs.Cmp.Lexicographic.{slice_cmp};
@@ -14,10 +14,17 @@ ghost use Rattle.pb_workspace.specs.Settled.{IsSettled, IsPackage};
 ghost use Rattle.pb_checks_plans.specs.Tests.{ascending, distinct};
 
 use pb_data::{Text, TryCopy};
-use pb_manifest::letters::{is_crate_name, is_feature_name, is_name};
 use pb_manifest::Feature;
+use pb_manifest::letters::{is_crate_name, is_feature_name, is_name};
 use pb_workspace::{Binary, Entry, Library, Package, Workspace};
 use std::alloc::{AllocError, Global};
+
+/// Whether texts all come after this one.
+fn all_after(first: &Text, texts: &[Text]) -> bool
+    ensures { result ≡ list_all (λ y. is_lt (slice_cmp nat_cmp first.now y)) texts.now }
+{
+    texts.iter().all(|other| *first < *other)
+}
 
 /// Whether texts stand in byte order, each once.
 fn ascending(texts: &[Text]) -> bool
@@ -25,8 +32,19 @@ fn ascending(texts: &[Text]) -> bool
 {
     match texts {
         [] => true,
-        [first, rest @ ..] => rest.iter().all(|other| *first < *other) && ascending(rest),
+        [first, rest @ ..] => {
+            let after = all_after(first, rest);
+            let more = ascending(rest);
+            after && more
+        }
     }
+}
+
+/// Whether texts are all other ones than this.
+fn all_others(first: &Text, texts: &[Text]) -> bool
+    ensures { result ≡ list_all (λ y. not (bytes_eq first.now y)) texts.now }
+{
+    texts.iter().all(|other| !(*first == *other))
 }
 
 /// Whether no text stands twice.
@@ -35,7 +53,11 @@ fn distinct(texts: &[Text]) -> bool
 {
     match texts {
         [] => true,
-        [first, rest @ ..] => rest.iter().all(|other| !(*first == *other)) && distinct(rest),
+        [first, rest @ ..] => {
+            let others = all_others(first, rest);
+            let more = distinct(rest);
+            others && more
+        }
     }
 }
 
@@ -95,54 +117,43 @@ fn has_crate_name(library: &Option<Library>) -> bool
 
 /// Whether the names of binaries have the letters of packages.
 fn binaries_named(binaries: &[Binary]) -> bool
-    ensures { IsTrue result → All (λ (b : Binary). is_name b.name ≡ true) binaries.now }
+    ensures { result ≡ list_all (λ (b : Binary). is_name b.name) binaries.now }
 {
-    for binary in binaries {
-        if !is_name(binary.name.as_str()) {
-            return false;
-        }
-    }
-    true
+    binaries.iter().all(|binary| is_name(binary.name.as_str()))
 }
 
 /// Whether the names of features have the letters of features.
 fn features_named(features: &[Feature]) -> bool
-    ensures { IsTrue result → All (λ (f : Feature). is_feature_name f.name ≡ true) features.now }
+    ensures { result ≡ list_all (λ (f : Feature). is_feature_name f.name) features.now }
 {
-    for feature in features {
-        if !is_feature_name(feature.name.as_str()) {
-            return false;
-        }
-    }
-    true
+    features
+        .iter()
+        .all(|feature| is_feature_name(feature.name.as_str()))
 }
 
 /// Whether entries lead to packages that are there.
 fn entries_lead(entries: &[Entry], count: usize) -> bool
-    ensures { IsTrue result → All (λ (e : Entry). e.to < count) entries.now }
+    ensures { result ≡ list_all (λ (e : Entry). nat_lt e.to count) entries.now }
 {
-    for entry in entries {
-        if entry.to >= count {
-            return false;
-        }
-    }
-    true
+    entries.iter().all(|entry| entry.to < count)
 }
 
 /// Whether a package is one that could have been read.
-#[tactic(auto, using(crate::proofs::Settling::is_package))]
 fn is_package(alloc: Global, count: usize, found: &Package) -> Result<bool, AllocError>
     ensures { IfOk result (λ is. IsTrue is → IsPackage count found.now) }
 {
     let binaries = binary_names(alloc, found.binaries.as_slice())?;
     let features = feature_names(alloc, found.features.as_slice())?;
-    Ok(is_name(found.name.as_str())
-        && has_crate_name(&found.library)
-        && binaries_named(found.binaries.as_slice())
-        && ascending(binaries.as_slice())
-        && features_named(found.features.as_slice())
-        && ascending(features.as_slice())
-        && entries_lead(found.entries.as_slice(), count))
+    if !is_name(found.name.as_str()) || !has_crate_name(&found.library) {
+        return Ok(false);
+    }
+    if !binaries_named(found.binaries.as_slice()) || !ascending(binaries.as_slice()) {
+        return Ok(false);
+    }
+    if !features_named(found.features.as_slice()) || !ascending(features.as_slice()) {
+        return Ok(false);
+    }
+    Ok(entries_lead(found.entries.as_slice(), count))
 }
 
 /// Whether all packages are.
@@ -173,17 +184,14 @@ pub fn is_settled(alloc: Global, workspace: &Workspace) -> Result<bool, AllocErr
     if !distinct(names.as_slice()) {
         return Ok(false);
     }
-    are_packages(alloc, packages.len(), packages)
+    let are = are_packages(alloc, packages.len(), packages)?;
+    Ok(are)
 }
 
 /// Whether places are those of packages.
+#[tactic(auto, using(crate::proofs::Lists::all_below))]
 pub fn are_within(places: &[usize], count: usize) -> bool
     ensures { IsTrue result → All (λ p. p < count) places.now }
 {
-    for place in places {
-        if *place >= count {
-            return false;
-        }
-    }
-    true
+    places.iter().all(|place| *place < count)
 }

@@ -10,11 +10,9 @@ use Rattle.std.proofs.lemmas.List.Elements.{Contains-get_or}
 use Rattle.pb_order.specs.declared.graph.Node.{Node}
 use Rattle.pb_order.specs.declared.levels.Extent.{Extent}
 use Rattle.pb_order.specs.declared.ranks.Rank.{Rank}
-use Rattle.pb_order.specs.Graph.{IsGraph, key_at, Reaches, direct, onward, IsReached}
-use Rattle.pb_order.specs.Marks.{AreReached}
-use Rattle.pb_order.specs.Levels.{IsExtent, AreRising, node_of}
-use Rattle.pb_order.specs.Ranks.{AreRanked, IsRank, RanksBefore, rank_node, IsBelow}
-use Rattle.pb_order.specs.Order.{AreSurveyed, AreByKey, IsCircle}
+use Rattle.pb_order.specs.Graph.{IsGraph, key_at, Reaches, direct, onward, IsReached, IsBelow}
+use Rattle.pb_order.specs.Order.{IsCircle}
+use Rattle.pb_order.specs.Working.{AreReached, IsExtent, AreRising, node_of, AreRanked, IsRank, RanksBefore, rank_node, AreSurveyed, AreByKey}
 use Rattle.pb_order.proofs.Elements.{contains_map, map_contains, contains_filter, filter_contains, mapped_at, pair_at, all_at, at_from_contains}
 use Rattle.pb_order.proofs.Closing.{reached_more}
 

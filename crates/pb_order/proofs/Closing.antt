@@ -8,7 +8,7 @@ use Rattle.std.proofs.Math.ListN.{length-set}
 use Rattle.std.proofs.lemmas.List.{get_or_past, get_or-set_same, get_or-set_other}
 use Rattle.pb_order.specs.declared.graph.Node.{Node}
 use Rattle.pb_order.specs.Graph.{needs_at, Reaches, direct, onward, IsReached, IsGraph}
-use Rattle.pb_order.specs.Marks.{IsMarked, unmarked, Marked, IsFound, AreClear, Clearing}
+use Rattle.pb_order.specs.Working.{IsMarked, unmarked, Marked, IsFound, AreClear, Clearing}
 
 -- what is marked is reached; it was found, or waits, and the needs of what was found are marked
 pub record Closing (nodes : List Node) (roots : List ℕ) (marks : List Bool) (waiting found : List ℕ) : Type 0 where

@@ -8,9 +8,8 @@ use Rattle.pb_order.specs.declared.graph.OrderFault.TheVariants.{OutOfMemory, To
 use Rattle.pb_order.specs.declared.levels.Extent.{Extent}
 use Rattle.pb_order.specs.declared.ranks.Rank.{Rank}
 use Rattle.pb_order.specs.Graph.{Reaches, IsReached}
-use Rattle.pb_order.specs.Levels.{node_of}
-use Rattle.pb_order.specs.Ranks.{AreRanked}
-use Rattle.pb_order.specs.Order.{AreSurveyed, AreByKey, AreSteps, IsPlaced, IsCrowded, IsCrowd, IsWhy}
+use Rattle.pb_order.specs.Order.{IsCrowd, IsWhy}
+use Rattle.pb_order.specs.Working.{node_of, AreRanked, AreSurveyed, AreByKey, AreSteps, IsPlaced, IsCrowded}
 use Rattle.pb_order.proofs.Elements.{all_from_at, all_at, at_from_contains, contains_from_at}
 use Rattle.pb_order.proofs.Circles.{all_within, nodes_within}
 

@@ -5,7 +5,7 @@ use Rattle.std.specs.Prelude.{filter, All, AllPairs}
 use Rattle.std.proofs.lemmas.Option.{slice_get-get_or, get_or_from_slice_get, slice_get_within}
 use Rattle.std.proofs.lemmas.List.Elements.{Contains-append_right}
 use Rattle.std.proofs.lemmas.List.{take_more}
-use Rattle.pb_order.specs.Levels.{above}
+use Rattle.pb_order.specs.Graph.{above}
 
 pub contains_head : {X : Type 0} (x : X) (xs : List X) → Contains (x ∷ xs) x
 contains_head x xs = (0, omega arith, refl)

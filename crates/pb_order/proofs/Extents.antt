@@ -5,8 +5,7 @@ use Rattle.std.proofs.lemmas.Bool.{false≢true}
 use Rattle.std.proofs.lemmas.List.Elements.{Contains-get_or}
 use Rattle.pb_order.specs.declared.graph.Node.{Node}
 use Rattle.pb_order.specs.Graph.{IsGraph, needs_at, Reaches, direct, onward, IsReached}
-use Rattle.pb_order.specs.Marks.{IsMarked, unmarked, AreReached}
-use Rattle.pb_order.specs.Levels.{IsExtent}
+use Rattle.pb_order.specs.Working.{IsMarked, unmarked, AreReached, IsExtent}
 
 pub by_needs : (nodes : List Node) (u v : ℕ) → IsReached nodes (needs_at nodes u) v → Reaches nodes u v
 by_needs nodes u v (inl need) = direct u v need

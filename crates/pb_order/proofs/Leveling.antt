@@ -7,8 +7,8 @@ use Rattle.std.proofs.lemmas.List.Elements.{All-contains}
 use Rattle.std.proofs.lemmas.Option.{get_or_from_slice_get, slice_get_within}
 use Rattle.pb_order.specs.declared.graph.Node.{Node}
 use Rattle.pb_order.specs.declared.levels.Extent.{Extent}
-use Rattle.pb_order.specs.Graph.{needs_at, Reaches}
-use Rattle.pb_order.specs.Levels.{IsExtent, AreRising, AreLevels, above, node_of}
+use Rattle.pb_order.specs.Graph.{needs_at, Reaches, above}
+use Rattle.pb_order.specs.Working.{IsExtent, AreRising, AreLevels, node_of}
 use Rattle.pb_order.proofs.Elements.{contains_map, map_contains, contains_from_at, at_from_contains, map_same, above_le}
 use Rattle.pb_order.proofs.Extents.{less_below}
 

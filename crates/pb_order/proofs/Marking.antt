@@ -5,7 +5,7 @@ use Rattle.std.proofs.lemmas.Grind.{common_steps}
 use Rattle.std.proofs.lemmas.List.{get_or-set_same, get_or-set_other, get_or_default}
 use Rattle.std.proofs.lemmas.List.Elements.{Contains-append_left, Contains-push, Contains-push_cases, Contains-get_or}
 use Rattle.std.proofs.lemmas.Bool.{cases_eq, false≢true}
-use Rattle.pb_order.specs.Marks.{IsMarked, unmarked, Marked}
+use Rattle.pb_order.specs.Working.{IsMarked, unmarked, Marked}
 
 -- a mark more
 pub one_less : (marks : List Bool) (x : ℕ) → x < length marks → get_or marks x false ≡ false → unmarked (set marks x true) + 1 ≡ unmarked marks

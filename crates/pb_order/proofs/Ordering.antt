@@ -5,10 +5,9 @@ use Rattle.pb_order.specs.declared.graph.Node.{Node}
 use Rattle.pb_order.specs.declared.graph.Step.{Step}
 use Rattle.pb_order.specs.declared.levels.Extent.{Extent}
 use Rattle.pb_order.specs.declared.ranks.Rank.{Rank}
-use Rattle.pb_order.specs.Graph.{needs_at, key_at, Reaches, direct, onward, IsReached}
-use Rattle.pb_order.specs.Levels.{above, node_of}
-use Rattle.pb_order.specs.Ranks.{IsRank, RanksBefore, rank_node, IsBelow}
-use Rattle.pb_order.specs.Order.{IsOrder, IsOrdered, IsPlaced, ArePlaces, ArePlacesBy, AreSurveyed, ComesBefore, level_of, level_at}
+use Rattle.pb_order.specs.Graph.{needs_at, key_at, Reaches, direct, onward, IsReached, above, IsBelow}
+use Rattle.pb_order.specs.Order.{IsOrder, ArePlaces, ComesBefore, level_of, level_at}
+use Rattle.pb_order.specs.Working.{node_of, IsRank, RanksBefore, rank_node, IsOrdered, IsPlaced, ArePlacesBy, AreSurveyed}
 use Rattle.pb_order.proofs.Elements.{contains_map, map_contains, at_from_contains, contains_from_at, all_from_at, all_at, pair_at, pairs_from_at, zip_left, zip_right, above_same}
 use Rattle.std.proofs.lemmas.Option.{slice_get_within}
 use Rattle.pb_order.proofs.Extents.{reaches_row}

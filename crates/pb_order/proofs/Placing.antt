@@ -10,9 +10,7 @@ use Rattle.std.proofs.lemmas.Option.{get_or_from_slice_get, slice_get_within}
 use Rattle.std.proofs.lemmas.Map.Keys.{IsStrictlyIncreasing-from_sorted}
 use Rattle.pb_order.specs.declared.graph.Node.{Node}
 use Rattle.pb_order.specs.declared.ranks.Rank.{Rank}
-use Rattle.pb_order.specs.Marks.{AreReached}
-use Rattle.pb_order.specs.Ranks.{rank_node}
-use Rattle.pb_order.specs.Order.{PlacesTell, ArePlacesBy}
+use Rattle.pb_order.specs.Working.{AreReached, rank_node, PlacesTell, ArePlacesBy}
 use Rattle.pb_order.proofs.Closing.{found_within}
 
 some_same : {A : Type 0} (x y : A) → Some x ≡ Some y → x ≡ y

@@ -15,7 +15,7 @@ use Rattle.std.proofs.lemmas.Map.Keys.{Less-from_sorted}
 use Rattle.pb_order.specs.declared.graph.Node.{Node}
 use Rattle.pb_order.specs.declared.ranks.Rank.{Rank}
 use Rattle.pb_order.specs.Graph.{IsGraph}
-use Rattle.pb_order.specs.Ranks.{AreRanked, IsRank, RanksBefore, rank_node}
+use Rattle.pb_order.specs.Working.{AreRanked, IsRank, RanksBefore, rank_node}
 use Rattle.pb_order.proofs.Elements.{contains_map, map_contains}
 
 abbrev pub rank_cmp : Rank → Rank → Ordering

@@ -1,5 +1,8 @@
 -- A graph of nodes that need others, and what reaches what.
-use Rattle.std.specs.Prelude.{◌≡◌, ◌⊎◌, ℕ, ◌<◌, List, [], Contains, length, slice_get, Option, Some, None}
+use Rattle.std.specs.Prelude.{◌≡◌, ◌⊎◌, ℕ, ◌+◌, ◌<◌, max, List, [], ◌∷◌, Contains, length, slice_get, Option, Some, None}
+use Rattle.std.specs.Ordering.{nat_cmp}
+use Rattle.std.specs.declared.cmp.Ordering.TheVariants.{Less}
+use Rattle.std.specs.Cmp.Lexicographic.{slice_cmp}
 use Rattle.pb_order.specs.declared.graph.Node.{Node}
 
 abbrev pub needs_of : Option Node → List ℕ
@@ -31,3 +34,12 @@ pub data Reaches (nodes : List Node) : ℕ → ℕ → Type 0 where
 -- a root, or what a root reaches
 abbrev pub IsReached : List Node → List ℕ → ℕ → Type 0
 IsReached nodes roots v = Contains roots v ⊎ ((r : ℕ) × Contains roots r × Reaches nodes r v)
+
+-- one more than the greatest, 0 where there is none
+abbrev pub above : List ℕ → ℕ
+above [] = 0
+above (level ∷ levels) = max (level + 1) (above levels)
+
+-- one text comes before the other by its bytes
+abbrev pub IsBelow : List ℕ → List ℕ → Type 0
+IsBelow a b = slice_cmp nat_cmp a b ≡ Less

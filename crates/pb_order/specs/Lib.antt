@@ -1,5 +1,3 @@
 pub mod Graph
-pub mod Marks
-pub mod Levels
-pub mod Ranks
 pub mod Order
+pub mod Working

@@ -2,7 +2,7 @@
 
 ghost use Rattle.std.specs.Prelude.{◌≡◌, ◌<◌, ℕ, List, IfOk, OnOk, All, length, false, replicate};
 ghost use Rattle.pb_order.specs.Graph.{IsGraph, needs_at};
-ghost use Rattle.pb_order.specs.Marks.{AreClear, Clearing, AreReached, IsFound, Marked};
+ghost use Rattle.pb_order.specs.Working.{AreClear, Clearing, AreReached, IsFound, Marked};
 
 use crate::graph::Node;
 use std::alloc::{AllocError, Global};

@@ -1,9 +1,8 @@
 //! How much nodes reach, and the levels that follow.
 
 ghost use Rattle.std.specs.Prelude.{◌≡◌, ◌⊎◌, ℕ, ◌<◌, ◌^◌, IfOk, OnOk, All, AllPairs, Contains, map, filter, length, false, slice_index, replicate};
-ghost use Rattle.pb_order.specs.Graph.{IsGraph, needs_at};
-ghost use Rattle.pb_order.specs.Marks.{AreClear};
-ghost use Rattle.pb_order.specs.Levels.{AreLevels, AreRising, IsExtent, above, node_of};
+ghost use Rattle.pb_order.specs.Graph.{IsGraph, needs_at, above};
+ghost use Rattle.pb_order.specs.Working.{AreClear, AreLevels, AreRising, IsExtent, node_of};
 
 use crate::closure::{needs_at, reached_from};
 use crate::graph::Node;

@@ -3,11 +3,9 @@
 ghost use Rattle.std.specs.Prelude.{◌≡◌, ◌≢◌, ◌↔◌, ◌⊎◌, ℕ, ◌<◌, ◌≤◌, IfOk, IfErr, OnOk, All, AllPairs, Contains, map, length, slice_index, Some};
 ghost use Rattle.std.specs.List.Sorted.{IsStrictlyIncreasing};
 ghost use Rattle.pb_order.specs.Graph.{IsGraph, IsReached, Reaches, needs_at};
-ghost use Rattle.pb_order.specs.Levels.{AreRising, node_of};
-ghost use Rattle.pb_order.specs.Marks.{AreClear};
-ghost use Rattle.pb_order.specs.Ranks.{AreRanked, rank_node};
+ghost use Rattle.pb_order.specs.Order.{IsOrder, IsWhy};
+ghost use Rattle.pb_order.specs.Working.{AreRising, node_of, AreClear, AreRanked, rank_node, AreByKey, IsCrowded, ArePlacesBy, AreSteps, AreSurveyed, IsOrdered, IsPlaced, PlacesTell};
 ghost use Rattle.pb_order.specs.declared.graph.OrderFault.TheVariants.{OutOfMemory, TooMany};
-ghost use Rattle.pb_order.specs.Order.{AreByKey, IsCrowded, ArePlacesBy, AreSteps, AreSurveyed, IsOrdered, IsPlaced, IsOrder, IsWhy, PlacesTell};
 
 use crate::closure::{needs_at, no_marks, reached_from};
 use crate::graph::{Node, OrderFault, Step};

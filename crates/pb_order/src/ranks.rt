@@ -3,7 +3,7 @@
 ghost use Rattle.std.specs.Prelude.{◌≡◌, ◌≤◌, ℕ, ◌<◌, IfOk, OnOk, All, Any, Contains, length, map, true, IsPermutation};
 ghost use Rattle.std.specs.List.Sorted.{IsStrictlySortedBy};
 ghost use Rattle.pb_order.specs.Graph.{IsGraph, key_at};
-ghost use Rattle.pb_order.specs.Ranks.{AreRanked, IsRank, rank_node};
+ghost use Rattle.pb_order.specs.Working.{AreRanked, IsRank, rank_node};
 
 use crate::graph::Node;
 use pb_data::{Text, TryCopy};

@@ -16,7 +16,6 @@ use Rattle.pb_order.specs.declared.graph.Step.{Step}
 use Rattle.pb_order.specs.declared.graph.OrderFault.{OrderFault}
 use Rattle.pb_order.specs.declared.graph.OrderFault.TheVariants as order_fault
 use Rattle.pb_order.specs.Graph as graph
-use Rattle.pb_order.specs.Levels as levels
 use Rattle.pb_order.specs.Order as order
 use Rattle.pb_order.proofs.Elements as elements
 use Rattle.pb_order.proofs.Elements.{contains_map, map_contains, at_from_contains, contains_from_at, all_from_at, all_at, pair_at, pairs_from_at, zip_left, zip_right}
@@ -40,7 +39,7 @@ use Rattle.pb_unit.proofs.Graphs.{AreNumbered, is_graph, need_to, need_from, rea
 use Rattle.pb_unit.proofs.Drafting.{numbered, well, root_there, roots_are}
 
 -- levels are the same on both sides
-above_same : (xs : List ℕ) → levels.above xs ≡ above xs
+above_same : (xs : List ℕ) → graph.above xs ≡ above xs
 above_same [] = refl
 above_same (x ∷ xs) = ap (max (x + 1)) (above_same xs)
 
@@ -281,7 +280,7 @@ module _ (ws : Workspace) (features : Features) (selection : Selection) (settled
       levels_are : (k : ℕ) (p : Planned) → slice_get planned k ≡ Some p → p.level ≡ above (map (level_at planned) p.needs)
       levels_are k p at =
           let m = step_of k p at in
-          m.is.level ∙ all_at (λ (s : Step). s.level ≡ levels.above (map (order.level_at steps) s.needs)) steps h.levels k m.step m.at
+          m.is.level ∙ all_at (λ (s : Step). s.level ≡ graph.above (map (order.level_at steps) s.needs)) steps h.levels k m.step m.at
           ∙ above_same (map (order.level_at steps) m.step.needs) ∙ ap above (map_levels m.step.needs) ∙ ap (λ l. above (map (level_at planned) l)) (sym m.is.needs)
         where
           map_levels : (xs : List ℕ) → map (order.level_at steps) xs ≡ map (level_at planned) xs

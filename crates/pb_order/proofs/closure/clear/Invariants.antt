@@ -1,4 +1,4 @@
-use Rattle.pb_order.specs.Marks.{Clearing}
+use Rattle.pb_order.specs.Working.{Clearing}
 use Rattle.pb_order.proofs.closure.clear.Given as goal
 
 abbrev pub invariant-loop-v : goal.invariant-loop-v

@@ -1,6 +1,6 @@
 use Rattle.std.proofs.Common.{◌≡◌, ℕ, List, length, Contains, subst, sym, arith}
 use Rattle.std.proofs.lemmas.List.Elements.{Contains-push}
-use Rattle.pb_order.specs.Marks.{Marked}
+use Rattle.pb_order.specs.Working.{Marked}
 use Rattle.pb_order.proofs.Closing.{Closing, closing_start, closing_step, waits_within, needs_within, found_all}
 use Rattle.pb_order.proofs.closure.found_from.Goals as goal
 

@@ -1,5 +1,5 @@
 use Rattle.std.proofs.Common.{◌+◌, length}
-use Rattle.pb_order.specs.Marks.{unmarked}
+use Rattle.pb_order.specs.Working.{unmarked}
 use Rattle.pb_order.proofs.Closing.{Closing}
 use Rattle.pb_order.proofs.closure.found_from.Given as goal
 

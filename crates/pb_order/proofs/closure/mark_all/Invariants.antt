@@ -1,4 +1,4 @@
-use Rattle.pb_order.specs.Marks.{Marked}
+use Rattle.pb_order.specs.Working.{Marked}
 use Rattle.pb_order.proofs.closure.mark_all.Given as goal
 
 abbrev pub invariant-loop-v : goal.invariant-loop-v

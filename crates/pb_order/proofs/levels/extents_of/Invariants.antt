@@ -1,6 +1,5 @@
 use Rattle.std.proofs.Common.{◌≡◌, All, map, take, length}
-use Rattle.pb_order.specs.Marks.{AreClear}
-use Rattle.pb_order.specs.Levels.{IsExtent, node_of}
+use Rattle.pb_order.specs.Working.{AreClear, IsExtent, node_of}
 use Rattle.pb_order.proofs.levels.extents_of.Given as goal
 
 abbrev pub invariant-loop-node : goal.invariant-loop-node

@@ -1,5 +1,5 @@
 use Rattle.std.proofs.Common.{◌≡◌, drop, max, map, slice_index}
-use Rattle.pb_order.specs.Levels.{above}
+use Rattle.pb_order.specs.Graph.{above}
 use Rattle.pb_order.proofs.levels.level_above.Given as goal
 
 abbrev pub invariant-loop-need : goal.invariant-loop-need

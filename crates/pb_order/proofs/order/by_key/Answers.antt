@@ -1,5 +1,5 @@
 use Rattle.std.proofs.Common.{◌∙◌, ap, map}
-use Rattle.pb_order.specs.Ranks.{rank_node}
+use Rattle.pb_order.specs.Working.{rank_node}
 use Rattle.pb_order.proofs.Circles.{by_key_all}
 use Rattle.pb_order.proofs.order.by_key.Goals as goal
 

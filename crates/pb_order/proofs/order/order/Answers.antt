@@ -2,8 +2,8 @@ use Rattle.std.proofs.Common.{◌≡◌, ◌≢◌, ◌<◌, List, ℕ, map, vec
 use Rattle.std.proofs.lemmas.Bool.{false≢true}
 use Rattle.std.proofs.lemmas.Bool.Decides.{Decides-eqb}
 use Rattle.pb_order.specs.declared.levels.Extent.{Extent}
-use Rattle.pb_order.specs.Levels.{AreRising, node_of}
-use Rattle.pb_order.specs.Order.{IsOrder, IsOrdered, AreByKey}
+use Rattle.pb_order.specs.Order.{IsOrder}
+use Rattle.pb_order.specs.Working.{AreRising, node_of, IsOrdered, AreByKey}
 use Rattle.pb_order.proofs.Circles.{turning_lent, circle_within, circle_is, surveyed_within, straight_from, rising_from}
 use Rattle.pb_order.proofs.Crowds.{why_crowd}
 use Rattle.pb_order.proofs.Ordering.{plan_is, built_from}

@@ -1,7 +1,6 @@
 use Rattle.std.proofs.Common.{List, ℕ, subst}
 use Rattle.pb_order.specs.declared.ranks.Rank.{Rank}
-use Rattle.pb_order.specs.Ranks.{AreRanked}
-use Rattle.pb_order.specs.Order.{AreSteps}
+use Rattle.pb_order.specs.Working.{AreRanked, AreSteps}
 use Rattle.pb_order.proofs.Circles.{nodes_within, ranks_within, all_apart}
 use Rattle.pb_order.proofs.Crowds.{by_key_within, by_key_same, steps_few}
 use Rattle.pb_order.proofs.order.ordered.Goals as goal

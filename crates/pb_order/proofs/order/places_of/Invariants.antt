@@ -1,4 +1,4 @@
-use Rattle.pb_order.specs.Order.{PlacesTell}
+use Rattle.pb_order.specs.Working.{PlacesTell}
 use Rattle.pb_order.proofs.order.places_of.Given as goal
 
 abbrev pub invariant-loop-place : goal.invariant-loop-place

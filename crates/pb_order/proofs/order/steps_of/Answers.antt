@@ -2,7 +2,7 @@ use Rattle.std.proofs.Common.{List, ℕ, subst, sym, take, ◌+◌}
 use Rattle.std.specs.List.{AllZip}
 use Rattle.pb_order.proofs.Elements.{zip_more}
 use Rattle.pb_order.specs.declared.graph.Step.{Step}
-use Rattle.pb_order.specs.Order.{IsPlaced}
+use Rattle.pb_order.specs.Working.{IsPlaced}
 use Rattle.pb_order.proofs.order.steps_of.Goals as goal
 
 pub loop-rank-preserved : goal.loop-rank-preserved

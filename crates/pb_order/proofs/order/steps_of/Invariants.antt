@@ -1,7 +1,6 @@
 use Rattle.std.proofs.Common.{◌≡◌, take, length}
 use Rattle.std.specs.List.{AllZip}
-use Rattle.pb_order.specs.Marks.{AreClear}
-use Rattle.pb_order.specs.Order.{IsPlaced}
+use Rattle.pb_order.specs.Working.{AreClear, IsPlaced}
 use Rattle.pb_order.proofs.order.steps_of.Given as goal
 
 abbrev pub invariant-loop-rank : goal.invariant-loop-rank

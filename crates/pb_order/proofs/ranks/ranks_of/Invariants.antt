@@ -1,5 +1,5 @@
 use Rattle.std.proofs.Common.{◌≡◌, All, map, take}
-use Rattle.pb_order.specs.Ranks.{IsRank, rank_node}
+use Rattle.pb_order.specs.Working.{IsRank, rank_node}
 use Rattle.pb_order.proofs.ranks.ranks_of.Given as goal
 
 abbrev pub invariant-loop-node : goal.invariant-loop-node
