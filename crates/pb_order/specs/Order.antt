@@ -1,15 +1,11 @@
 -- The order of what some nodes of a graph reach, and the circle or the crowd that there is where there is no order.
-use Rattle.std.specs.Prelude.{◌≡◌, ◌⊎◌, ◌↔◌, ℕ, ◌<◌, List, map, All, AllPairs, Contains, length, slice_get, slice_index, Option, Some, None}
-use Rattle.std.specs.List.{AllZip}
-use Rattle.std.specs.List.Sorted.{IsStrictlyIncreasing, IsNonDecreasingBy}
+use Rattle.std.specs.Prelude.{◌≡◌, ◌⊎◌, ◌↔◌, ℕ, ◌<◌, List, map, All, AllPairs, Contains, length, slice_get, Option, Some, None}
+use Rattle.std.specs.List.Sorted.{IsStrictlyIncreasing}
 use Rattle.pb_order.specs.declared.graph.Node.{Node}
 use Rattle.pb_order.specs.declared.graph.Step.{Step}
 use Rattle.pb_order.specs.declared.graph.OrderFault.{OrderFault}
 use Rattle.pb_order.specs.declared.graph.OrderFault.TheVariants.{OutOfMemory, Circle, TooMany}
 use Rattle.pb_order.specs.Graph.{needs_at, key_at, Reaches, IsReached, above, IsBelow}
-use Rattle.pb_order.specs.Working.{node_of, IsExtent, AreLevels, AreReached, AreRanked}
-use Rattle.pb_order.specs.declared.levels.Extent.{Extent}
-use Rattle.pb_order.specs.declared.ranks.Rank.{Rank}
 
 -- by level, and then by the bytes of the key
 pub record ComesBefore (a b : Step) : Type 0 where

@@ -1,16 +1,11 @@
 -- Marks, levels, ranks and steps, as the code has them on the way. These words serve private functions alone.
-use Rattle.std.specs.Prelude.{◌≡◌, ◌⊎◌, ◌↔◌, ℕ, ◌+◌, ◌<◌, ◌≤◌, Bool, true, false, not, List, Contains, length, count_by, slice_index_or, max, IsTrue, [], ◌∷◌, map, All, slice_index, AllPairs, slice_get, Option, Some, None}
+use Rattle.std.specs.Prelude.{◌≡◌, ◌⊎◌, ◌↔◌, ℕ, ◌+◌, ◌<◌, ◌≤◌, Bool, true, false, not, List, Contains, length, count_by, slice_index_or, IsTrue, map, All, slice_index, AllPairs, slice_get, Some}
 use Rattle.pb_order.specs.declared.graph.Node.{Node}
 use Rattle.std.specs.List.Sorted.{IsNonDecreasingBy, IsStrictlyIncreasing}
 use Rattle.pb_order.specs.declared.levels.Extent.{Extent}
-use Rattle.std.specs.Ordering.{nat_cmp}
-use Rattle.std.specs.declared.cmp.Ordering.TheVariants.{Less}
-use Rattle.std.specs.Cmp.Lexicographic.{slice_cmp}
 use Rattle.pb_order.specs.declared.ranks.Rank.{Rank}
 use Rattle.std.specs.List.{AllZip}
 use Rattle.pb_order.specs.declared.graph.Step.{Step}
-use Rattle.pb_order.specs.declared.graph.OrderFault.{OrderFault}
-use Rattle.pb_order.specs.declared.graph.OrderFault.TheVariants.{OutOfMemory, Circle, TooMany}
 use Rattle.pb_order.specs.Graph.{needs_at, key_at, IsBelow, above, Reaches, IsReached}
 
 -- Nodes that are marked, as a list of tests by their numbers.
