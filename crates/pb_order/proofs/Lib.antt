@@ -1,0 +1,11 @@
+pub mod Marking
+pub mod Closing
+pub mod Elements
+pub mod Extents
+pub mod Leveling
+pub mod Deduped
+pub mod Ranking
+pub mod Placing
+pub mod Circles
+pub mod Crowds
+pub mod Ordering

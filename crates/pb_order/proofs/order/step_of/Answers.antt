@@ -1,0 +1,13 @@
+use Rattle.std.proofs.Common.{arith}
+use Rattle.pb_order.proofs.Extents.{needs_nodes}
+use Rattle.pb_order.proofs.Placing.{reached_nodes}
+use Rattle.pb_order.proofs.order.step_of.Goals as goal
+
+pub reached_from-requires-clause-roots : goal.reached_from-requires-clause-roots
+reached_from-requires-clause-roots c = needs_nodes _ _ _ c.requires.graph c.needs_at.ensures
+
+pub placed-requires : goal.placed-requires
+placed-requires c k d lt = let below = needs_nodes _ _ _ c.requires.graph c.needs_at-2.ensures k d lt in omega (arith, below, c.requires.places)
+
+pub placed-requires-2 : goal.placed-requires-2
+placed-requires-2 c = reached_nodes _ _ _ _ _ c.in_ok-reached.ensures.reached c.deref.ensures.value c.requires.places

@@ -1,0 +1,118 @@
+//! How much nodes reach, and the levels that follow.
+
+ghost use Rattle.std.specs.Prelude.{◌≡◌, ◌⊎◌, ℕ, ◌<◌, ◌^◌, IfOk, OnOk, All, AllPairs, Contains, map, filter, length, false, slice_index, replicate};
+ghost use Rattle.pb_order.specs.Graph.{IsGraph, needs_at, above};
+ghost use Rattle.pb_order.specs.Working.{AreClear, AreLevels, AreRising, IsExtent, node_of};
+
+use crate::closure::{needs_at, reached_from};
+use crate::graph::Node;
+use std::alloc::{AllocError, Global};
+
+/// How much a node reaches.
+#[derive(Clone, Copy, Debug)]
+pub struct Extent {
+    pub node: usize,
+    /// How many nodes it reaches.
+    pub count: usize,
+    /// Whether it is one of them.
+    pub turns: bool,
+}
+
+/// How much one node reaches.
+fn extent_of(
+    alloc: Global,
+    nodes: &[Node],
+    marks: &mut Vec<bool>,
+    node: usize,
+) -> Result<Extent, AllocError>
+    requires graph { IsGraph nodes.now }
+    requires node { node < length nodes.now }
+    requires long { length marks.old.items ≡ length nodes.now }
+    requires clear { AreClear marks.old.items }
+    ensures node { IfOk result (λ e. e.node ≡ node) }
+    ensures extent { IfOk result (IsExtent nodes.now) }
+    ensures long { OnOk result (length marks.new.items ≡ length nodes.now) }
+    ensures clear { OnOk result (AreClear marks.new.items) }
+{
+    let reached = reached_from(alloc, nodes, marks, needs_at(nodes, node))?;
+    Ok(Extent {
+        node,
+        count: reached.len(),
+        turns: reached.contains(&node),
+    })
+}
+
+/// How much each node of a list reaches.
+pub fn extents_of(
+    alloc: Global,
+    nodes: &[Node],
+    marks: &mut Vec<bool>,
+    list: &[usize],
+) -> Result<Vec<Extent>, AllocError>
+    requires graph { IsGraph nodes.now }
+    requires list { All (λ v. v < length nodes.now) list.now }
+    requires long { length marks.old.items ≡ length nodes.now }
+    requires clear { AreClear marks.old.items }
+    ensures nodes { IfOk result (λ extents. map node_of extents.items ≡ list.now) }
+    ensures extents { IfOk result (λ extents. All (IsExtent nodes.now) extents.items) }
+    ensures long { OnOk result (length marks.new.items ≡ length nodes.now) }
+    ensures clear { OnOk result (AreClear marks.new.items) }
+{
+    let mut extents = Vec::new(alloc);
+    for node in list {
+        let extent = extent_of(alloc, nodes, marks, *node)?;
+        extents.push(extent)?;
+    }
+    Ok(extents)
+}
+
+/// The nodes that reach themselves.
+pub fn turning(alloc: Global, extents: &[Extent]) -> Result<Vec<usize>, AllocError>
+    ensures { IfOk result (λ nodes. nodes.items ≡ map node_of (filter (λ e. e.turns) extents.now)) }
+{
+    extents
+        .iter()
+        .filter(|e| e.turns)
+        .map(|e| e.node)
+        .collect(alloc)
+}
+
+/// One more than the greatest level of a need.
+fn level_above(levels: &[usize], needs: &[usize]) -> usize
+    requires needs { All (λ v. v < length levels.now) needs.now }
+    requires small { (v : ℕ) → slice_index levels.now v < 2 ^ 63 }
+    ensures { result ≡ above (map (slice_index levels.now) needs.now) }
+{
+    let mut level = 0usize;
+    for need in needs {
+        level = level.max(levels[*need] + 1);
+    }
+    level
+}
+
+/// The levels of nodes that come in the order of how much they reach: so what a node needs comes
+/// before it.
+pub fn levels_of(
+    alloc: Global,
+    nodes: &[Node],
+    extents: &[Extent],
+) -> Result<Vec<usize>, AllocError>
+    requires graph { IsGraph nodes.now }
+    requires extents { AreRising nodes.now extents.now }
+    requires within { All (λ e. e.node < length nodes.now) extents.now }
+    ensures { IfOk result (λ levels. AreLevels nodes.now (map node_of extents.now) levels.items) }
+{
+    let mut levels = zeros(alloc, nodes.len())?;
+    for extent in extents {
+        let level = level_above(&levels, needs_at(nodes, extent.node));
+        levels[extent.node] = level;
+    }
+    Ok(levels)
+}
+
+/// No level above 0.
+pub fn zeros(alloc: Global, count: usize) -> Result<Vec<usize>, AllocError>
+    ensures { IfOk result (λ levels. levels.items ≡ replicate count 0) }
+{
+    vec![in alloc; 0; count]
+}

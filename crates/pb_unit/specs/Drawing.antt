@@ -1,0 +1,169 @@
+-- Units as the nodes of a graph: six for each package, by their numbers, and behind them the binaries that are roots. These words serve private functions alone.
+use Rattle.std.specs.Prelude.{◌≡◌, ◌↔◌, ℕ, ◌+◌, ◌*◌, Bool, true, false, not, ◌&&◌, ◌||◌, if◌then◌else◌, List, [], ◌∷◌, ◌++◌, map, Contains, Option, Some, None, slice_get}
+use Rattle.std.specs.List.{list_all}
+use Rattle.std.specs.List.Sorted.{IsStrictlySortedBy}
+use Rattle.std.specs.Ordering.{nat_cmp, ordering_then}
+use Rattle.std.specs.declared.cmp.Ordering.{Ordering}
+use Rattle.std.specs.Cmp.Lexicographic.{slice_cmp}
+use Rattle.pb_closure.specs.Closure.{is_on}
+use Rattle.pb_closure.specs.Placed.{placed}
+use Rattle.pb_data.specs.Mentions.{is_mentioned}
+use Rattle.pb_place.specs.Paths.{below}
+use Rattle.pb_order.specs.declared.graph.Node.{Node}
+use Rattle.pb_order.specs.declared.graph.Step.{Step}
+use Rattle.pb_order.specs.declared.graph.OrderFault.{OrderFault}
+use Rattle.pb_order.specs.declared.graph.OrderFault.TheVariants as order_fault
+use Rattle.pb_workspace.specs.Settled.{IsAscending}
+use Rattle.pb_unit.specs.declared.fault.PlanFault.{PlanFault}
+use Rattle.pb_unit.specs.declared.fault.PlanFault.TheVariants.{Cycle, TooManyUnits, OutOfMemory}
+use Rattle.pb_workspace.specs.declared.package.Side.{Side}
+use Rattle.pb_workspace.specs.declared.package.Side.TheVariants.{Target, Host}
+use Rattle.pb_workspace.specs.declared.package.Package.{Package}
+use Rattle.pb_workspace.specs.declared.package.Binary.{Binary}
+use Rattle.pb_workspace.specs.declared.package.Entry.{Entry}
+use Rattle.pb_workspace.specs.declared.options.Selection.{Selection}
+use Rattle.pb_workspace.specs.declared.workspace.Workspace.{Workspace}
+use Rattle.pb_feature.specs.declared.resolved.Features.{Features}
+use Rattle.pb_feature.specs.Resolved.{features_at, is_enabled}
+use Rattle.pb_profile.specs.Line.{Seen}
+use Rattle.pb_profile.specs.Settings.{settings_along}
+use Rattle.pb_unit.specs.declared.unit.Unit.{Unit}
+use Rattle.pb_unit.specs.declared.unit.What.{What}
+use Rattle.pb_unit.specs.declared.unit.What.TheVariants.{Lib, Bin, Script, Run}
+use Rattle.pb_unit.specs.declared.candidates.Named.{Named}
+use Rattle.pb_unit.specs.declared.plan.Planned.{Planned}
+use Rattle.pb_unit.specs.Units.{unit, name_at, key_of, role_of, has_library, library_by, tool_by, run_by, needs, asks_libraries, asks_binary}
+
+-- Numbers.
+
+abbrev pub slot : What → Side → ℕ
+slot Lib Target = 0
+slot Lib Host = 1
+slot Script Target = 2
+slot Script Host = 3
+slot Run Target = 4
+slot Run Host = 5
+slot (Bin name) s = 0
+
+-- the number of a unit that is no binary
+abbrev pub number : Unit → ℕ
+number u = u.owner * 6 + slot u.what u.side
+
+-- the numbers of what an entry leads to
+abbrev pub library_numbers : Workspace → Features → ℕ → Side → ℕ → Entry → List ℕ
+library_numbers ws features p s n e = map number (library_by ws features p s n e)
+
+abbrev pub tool_numbers : Workspace → Features → ℕ → Side → ℕ → Entry → List ℕ
+tool_numbers ws features p s n e = map number (tool_by ws features p s n e)
+
+abbrev pub run_numbers : Workspace → Features → ℕ → Side → ℕ → Entry → List ℕ
+run_numbers ws features p s n e = map number (run_by ws features p s n e)
+
+-- Candidates.
+
+-- the units of a package that are no binaries, whether there are such or not
+abbrev pub six : ℕ → Package → List Unit
+six p owner = unit p Target Lib ∷ unit p Host Lib ∷ unit p Target Script ∷ unit p Host Script ∷ unit p Target Run ∷ unit p Host Run ∷ []
+
+abbrev pub fixed : List Package → List Unit
+fixed packages = placed six 0 packages
+
+abbrev pub binaries_of : Option Package → List Binary
+binaries_of None = []
+binaries_of (Some p) = p.binaries
+
+-- a binary that is a root, of a selected package
+abbrev pub named_by : Selection → List (List ℕ) → ℕ → ℕ → Binary → List Named
+named_by selection names p n b = if asks_binary selection b.name && list_all (is_mentioned names) b.required_features then record { owner = p; name = b.name } ∷ [] else []
+
+abbrev pub named_at : Workspace → Features → Selection → ℕ → ℕ → List Named
+named_at ws features selection n p = placed (named_by selection (features_at features p Target) p) 0 (binaries_of (slice_get ws.packages p))
+
+abbrev pub all_named : Workspace → Features → Selection → List Named
+all_named ws features selection = placed (named_at ws features selection) 0 selection.packages
+
+abbrev pub named_cmp : Named → Named → Ordering
+named_cmp a b = ordering_then (nat_cmp a.owner b.owner) (slice_cmp nat_cmp a.name b.name)
+
+abbrev pub unit_named : Named → Unit
+unit_named b = unit b.owner Target (Bin b.name)
+
+-- all units that a plan may have: those of each package, and the binaries that are roots, each once
+pub record AreCandidates (ws : Workspace) (features : Features) (selection : Selection) (units : List Unit) : Type 0 where
+  pub named : List Named
+  pub rises : IsStrictlySortedBy named_cmp named
+  pub same : (b : Named) → Contains named b ↔ Contains (all_named ws features selection) b
+  pub is : units ≡ fixed ws.packages ++ map unit_named named
+
+-- Roots.
+
+abbrev pub is_target : Side → Bool
+is_target Target = true
+is_target Host = false
+
+-- whether a candidate is a root, where the selected packages are marked
+abbrev pub root_of : Workspace → Bool → List Bool → ℕ → Side → What → Bool
+root_of ws asked marks p s Lib = asked && is_target s && is_on marks p && has_library (slice_get ws.packages p)
+root_of ws asked marks p s (Bin name) = true
+root_of ws asked marks p s Script = false
+root_of ws asked marks p s Run = false
+
+abbrev pub is_root : Workspace → Bool → List Bool → Unit → Bool
+is_root ws asked marks u = root_of ws asked marks u.owner u.side u.what
+
+abbrev pub root_at : Workspace → Bool → List Bool → ℕ → Unit → List ℕ
+root_at ws asked marks n u = if is_root ws asked marks u then n ∷ [] else []
+
+pub record AreRoots (ws : Workspace) (selection : Selection) (units : List Unit) (roots : List ℕ) : Type 0 where
+  pub marks : List Bool
+  pub are : (p : ℕ) → (is_on marks p ≡ true) ↔ Contains selection.packages p
+  pub is : roots ≡ placed (root_at ws (asks_libraries selection) marks) 0 units
+
+-- The graph.
+
+abbrev pub node_of : Workspace → Features → Unit → Node
+node_of ws features u = record { key = key_of ws u; needs = map number (needs ws features u) }
+
+pub record IsDrawn (ws : Workspace) (features : Features) (selection : Selection) (units : List Unit) (nodes : List Node) (roots : List ℕ) : Type 0 where
+  pub candidates : AreCandidates ws features selection units
+  pub nodes_are : nodes ≡ map (node_of ws features) units
+  pub roots_are : AreRoots ws selection units roots
+
+-- Names.
+
+abbrev pub missing_by : Workspace → Features → ℕ → ℕ → Entry → List (List ℕ)
+missing_by ws features p n e = if (is_enabled features p Target n || is_enabled features p Host n) && not (has_library (slice_get ws.packages e.to)) then name_at ws e.to ∷ [] else []
+
+abbrev pub missing_at : Workspace → Features → ℕ → Package → List (List ℕ)
+missing_at ws features p owner = placed (missing_by ws features p) 0 owner.entries
+
+abbrev pub all_missing : Workspace → Features → List (List ℕ)
+all_missing ws features = placed (missing_at ws features) 0 ws.packages
+
+abbrev pub owner_of : Option Unit → ℕ
+owner_of None = 0
+owner_of (Some u) = u.owner
+
+-- the name of the package of the unit at a place
+abbrev pub name_behind : Workspace → List Unit → ℕ → List ℕ
+name_behind ws units n = name_at ws (owner_of (slice_get units n))
+
+-- why an order is refused, in the words of a plan
+abbrev pub IsRefusal : Workspace → List Unit → OrderFault → PlanFault → Type 0
+IsRefusal ws units order_fault.OutOfMemory e = e ≡ OutOfMemory
+IsRefusal ws units order_fault.TooMany e = e ≡ TooManyUnits
+IsRefusal ws units (order_fault.Circle circle) e = (names : List (List ℕ)) × (e ≡ Cycle names) × IsAscending names × ((name : List ℕ) → Contains names name ↔ Contains (map (name_behind ws units) circle) name)
+
+-- Planned units.
+
+-- a step of the order, with its unit's folder and settings
+pub record IsMade (ws : Workspace) (line : List Seen) (folder : List ℕ) (units : List Unit) (step : Step) (p : Planned) : Type 0 where
+  pub unit_at : slice_get units step.node ≡ Some p.unit
+  pub key : p.key ≡ step.key
+  pub out : p.out ≡ below folder step.key
+  pub level : p.level ≡ step.level
+  pub needs : p.needs ≡ step.needs
+  pub reaches : p.reaches ≡ step.reaches
+  pub owner : Package
+  pub package_at : slice_get ws.packages p.unit.owner ≡ Some owner
+  pub settings : p.settings ≡ settings_along owner (role_of p.unit) line

@@ -1,0 +1,145 @@
+-- The plan of a build: the roots and all that they reach, by level and then by key; and why there is none (The Cargo Book, cargo build).
+use Rattle.std.specs.Prelude.{◌≡◌, ◌≢◌, ◌⊎◌, ◌↔◌, ℕ, ◌+◌, ◌<◌, ◌≤◌, max, false, true, if◌then◌else◌, List, [], ◌∷◌, map, All, AllPairs, Contains, length, Option, Some, None, Result, Ok, Err, slice_get}
+use Rattle.std.specs.List.Sorted.{IsStrictlyIncreasing}
+use Rattle.std.specs.Ordering.{nat_cmp}
+use Rattle.std.specs.declared.cmp.Ordering.TheVariants.{Less}
+use Rattle.std.specs.Cmp.Lexicographic.{slice_cmp}
+use Rattle.pb_data.specs.Gives.{◌>>=◌}
+use Rattle.pb_place.specs.Paths.{below, is_relative, is_at_or_below}
+use Rattle.pb_workspace.specs.Settled.{IsAscending}
+use Rattle.pb_workspace.specs.Workspace.{HasEntry}
+use Rattle.pb_workspace.specs.declared.package.Side.{Side}
+use Rattle.pb_workspace.specs.declared.package.Package.{Package}
+use Rattle.pb_workspace.specs.declared.package.Entry.{Entry}
+use Rattle.pb_workspace.specs.declared.options.Selection.{Selection}
+use Rattle.pb_workspace.specs.declared.workspace.Workspace.{Workspace}
+use Rattle.pb_feature.specs.declared.resolved.Features.{Features}
+use Rattle.pb_feature.specs.Resolved.{is_enabled}
+use Rattle.pb_profile.specs.Line.{Seen, checked_line, folder_of}
+use Rattle.pb_profile.specs.Settings.{settings_along}
+use Rattle.pb_profile.specs.declared.fault.ProfileFault.{ProfileFault}
+use Rattle.pb_profile.specs.declared.fault.ProfileFault.TheVariants.{NoSuchProfile}
+use Rattle.pb_unit.specs.declared.unit.Unit.{Unit}
+use Rattle.pb_unit.specs.declared.plan.Planned.{Planned}
+use Rattle.pb_unit.specs.declared.plan.Plan.{Plan}
+use Rattle.pb_unit.specs.declared.fault.PlanFault.{PlanFault}
+use Rattle.pb_unit.specs.declared.fault.PlanFault.TheVariants.{Cycle, TooManyUnits, NothingToBuild, Profile}
+use Rattle.pb_unit.specs.Units.{name_at, key_of, role_of, has_library, needs, Reaches, IsPlanned}
+
+-- one text comes before the other by its bytes
+abbrev pub IsBelow : List ℕ → List ℕ → Type 0
+IsBelow a b = slice_cmp nat_cmp a b ≡ Less
+
+-- by level, and then by the bytes of the key
+pub record ComesBefore (a b : Planned) : Type 0 where
+  pub order : (a.level < b.level) ⊎ ((a.level ≡ b.level) × IsBelow a.key b.key)
+
+-- one more than the greatest, 0 where there is none
+abbrev pub above : List ℕ → ℕ
+above [] = 0
+above (level ∷ levels) = max (level + 1) (above levels)
+
+abbrev pub level_of : Option Planned → ℕ
+level_of None = 0
+level_of (Some p) = p.level
+
+-- the level of the unit at a place
+abbrev pub level_at : List Planned → ℕ → ℕ
+level_at units place = level_of (slice_get units place)
+
+abbrev pub needs_in : Option Planned → List ℕ
+needs_in None = []
+needs_in (Some p) = p.needs
+
+abbrev pub reaches_in : Option Planned → List ℕ
+reaches_in None = []
+reaches_in (Some p) = p.reaches
+
+-- the places of the units that are wanted, in plan order, each once
+pub record ArePlaces (units : List Planned) (Wanted : Unit → Type 0) (places : List ℕ) : Type 0 where
+  pub rises : IsStrictlyIncreasing places
+  pub same : (place : ℕ) → Contains places place ↔ ((p : Planned) × (slice_get units place ≡ Some p) × Wanted p.unit)
+
+-- Profiles.
+
+-- the line of the asked profile. A profile whose output folder would have no name is none; no manifest has one
+abbrev pub profile_line : Workspace → List ℕ → Result (List Seen) ProfileFault
+profile_line ws profile = checked_line ws.profiles profile >>= (λ line. if is_relative (folder_of profile) then Ok line else Err NoSuchProfile)
+
+-- the folder of the profile's output, in the target folder
+abbrev pub profile_folder : Workspace → List ℕ → List ℕ
+profile_folder ws profile = below ws.target (folder_of profile)
+
+-- the package at the unit's place and the unit's role have these settings along the line
+pub record HasSettings (ws : Workspace) (line : List Seen) (p : Planned) : Type 0 where
+  pub owner : Package
+  pub package_at : slice_get ws.packages p.unit.owner ≡ Some owner
+  pub settings : p.settings ≡ settings_along owner (role_of p.unit) line
+
+-- The names of packages.
+
+-- the names of the packages to which enabled entries lead and that have no library, in byte order, each once
+pub record AreWithoutLibrary (ws : Workspace) (features : Features) (names : List (List ℕ)) : Type 0 where
+  pub order : IsAscending names
+  pub same : (name : List ℕ) → Contains names name ↔ ((p : ℕ) × (s : Side) × (n : ℕ) × (e : Entry) × (is_enabled features p s n ≡ true) × HasEntry ws p n e × (has_library (slice_get ws.packages e.to) ≡ false) × (name ≡ name_at ws e.to))
+
+-- the names of the packages of the plan's units that reach themselves, in byte order, each once; there are some
+pub record IsCycle (ws : Workspace) (features : Features) (selection : Selection) (names : List (List ℕ)) : Type 0 where
+  pub some : 0 < length names
+  pub order : IsAscending names
+  pub same : (name : List ℕ) → Contains names name ↔ ((u : Unit) × IsPlanned ws features selection u × Reaches ws features u u × (name ≡ name_at ws u.owner))
+
+-- no unit of the plan reaches itself
+abbrev pub IsStraight : Workspace → Features → Selection → Type 0
+IsStraight ws features selection = (u : Unit) → IsPlanned ws features selection u → Reaches ws features u u → ⊥
+
+-- The plan.
+
+-- the roots and all that they reach, each once, in order; each with its key, its folder, the settings of its package in its role, its level, and the places of what it needs and reaches. No unit reaches itself; there is a unit, and there are at most 4,096
+pub record IsPlan (ws : Workspace) (features : Features) (selection : Selection) (profile : List ℕ) (plan : Plan) : Type 0 where
+  pub line : List Seen
+  pub profile_has : profile_line ws profile ≡ Ok line
+  pub units : (u : Unit) → Contains (map (λ (p : Planned). p.unit) plan.planned) u ↔ IsPlanned ws features selection u
+  pub keys : All (λ p. p.key ≡ key_of ws p.unit) plan.planned
+  pub folders : All (λ p. p.out ≡ below (profile_folder ws profile) p.key) plan.planned
+  pub settings : All (HasSettings ws line) plan.planned
+  pub levels : All (λ p. p.level ≡ above (map (level_at plan.planned) p.needs)) plan.planned
+  pub order : AllPairs ComesBefore plan.planned
+  pub needs : All (λ p. ArePlaces plan.planned (Contains (needs ws features p.unit)) p.needs) plan.planned
+  pub reaches : All (λ p. ArePlaces plan.planned (Reaches ws features p.unit) p.reaches) plan.planned
+  pub straight : IsStraight ws features selection
+  pub some : 0 < length plan.planned
+  pub few : length plan.planned ≤ 4096
+  pub without_library : AreWithoutLibrary ws features plan.without_library
+
+-- Refusals.
+
+-- more than 4,096 units of the plan, by their keys' bytes
+pub record IsCrowd (ws : Workspace) (features : Features) (selection : Selection) : Type 0 where
+  pub units : List Unit
+  pub planned : All (IsPlanned ws features selection) units
+  pub order : AllPairs (λ u v. IsBelow (key_of ws u) (key_of ws v)) units
+  pub many : 4096 < length units
+
+-- the profile gives settings
+pub record IsUsable (ws : Workspace) (profile : List ℕ) : Type 0 where
+  pub line : List Seen
+  pub is : profile_line ws profile ≡ Ok line
+
+-- why the units have no plan: a circle; else too many of them; else none
+pub data Stops (ws : Workspace) (features : Features) (selection : Selection) : PlanFault → Type 0 where
+  by_cycle : (names : List (List ℕ)) (cycle : IsCycle ws features selection names) → Stops ws features selection (Cycle names)
+  by_number : (straight : IsStraight ws features selection) (crowd : IsCrowd ws features selection) → Stops ws features selection TooManyUnits
+  by_nothing : (none : (u : Unit) → IsPlanned ws features selection u → ⊥) → Stops ws features selection NothingToBuild
+
+-- why there is no plan: the profile gives no settings; else the units have none
+pub data Refuses (ws : Workspace) (features : Features) (selection : Selection) (profile : List ℕ) : PlanFault → Type 0 where
+  by_profile : (fault : ProfileFault) (told : profile_line ws profile ≡ Err fault) → Refuses ws features selection profile (Profile fault)
+  by_units : (fault : PlanFault) (usable : IsUsable ws profile) (stops : Stops ws features selection fault) → Refuses ws features selection profile fault
+
+-- Laws.
+
+-- two units of a plan have two keys, and no path is at or below the folders of both
+pub record LieApart (a b : Planned) : Type 0 where
+  pub keys : a.key ≢ b.key
+  pub folders : (path : List ℕ) → is_at_or_below a.out path ≡ true → is_at_or_below b.out path ≡ false

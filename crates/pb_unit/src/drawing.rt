@@ -1,0 +1,85 @@
+//! The graph of the units that a plan may have.
+
+ghost use Rattle.std.specs.Prelude.{◌≡◌, ◌<◌, ◌≤◌, ℕ, IfOk, All, Contains, map, length};
+ghost use Rattle.pb_order.specs.Graph.{IsGraph};
+ghost use Rattle.pb_workspace.specs.Settled.{IsSettled};
+ghost use Rattle.pb_unit.specs.Drawing.{node_of, IsDrawn};
+
+use crate::candidates::candidates;
+use crate::needed::needed_by;
+use crate::roots::roots;
+use crate::unit::Unit;
+use pb_data::Items;
+use pb_feature::Features;
+use pb_order::Node;
+use pb_workspace::{Selection, Workspace};
+use std::alloc::{AllocError, Global};
+
+/// The units that a plan may have, as the nodes of a graph, and which of them are roots.
+#[derive(Debug, Drop)]
+pub(crate) struct Drawing {
+    /// The units, by their numbers.
+    pub(crate) units: Items<Unit>,
+    /// What is needed, by these numbers.
+    pub(crate) nodes: Items<Node>,
+    /// The numbers of the roots.
+    pub(crate) roots: Items<usize>,
+}
+
+/// The node of a unit.
+fn node_of(
+    alloc: Global,
+    workspace: &Workspace,
+    features: &Features,
+    unit: &Unit,
+) -> Result<Node, AllocError>
+    requires settled { IsSettled workspace.now }
+    requires owner { unit.now.owner < 256 }
+    ensures { IfOk result (λ node. node ≡ node_of workspace.now features.now unit.now) }
+{
+    let key = unit.key(alloc, workspace)?;
+    let needs = needed_by(alloc, workspace, features, unit)?;
+    Ok(Node {
+        key,
+        needs: Items::from_vec(needs),
+    })
+}
+
+/// The nodes of units.
+fn nodes_of(
+    alloc: Global,
+    workspace: &Workspace,
+    features: &Features,
+    units: &[Unit],
+) -> Result<Vec<Node>, AllocError>
+    requires settled { IsSettled workspace.now }
+    requires owners { All (λ u. u.owner < 256) units.now }
+    ensures { IfOk result (λ nodes. nodes.items ≡ map (node_of workspace.now features.now) units.now) }
+{
+    let mut nodes = Vec::new(alloc);
+    for unit in units {
+        nodes.push(node_of(alloc, workspace, features, unit)?)?;
+    }
+    Ok(nodes)
+}
+
+/// The graph of the units that a plan may have.
+pub(crate) fn drawn(
+    alloc: Global,
+    workspace: &Workspace,
+    features: &Features,
+    selection: &Selection,
+) -> Result<Drawing, AllocError>
+    requires settled { IsSettled workspace.now }
+    requires selected { All (λ p. p < length workspace.now.packages) selection.now.packages }
+    ensures { IfOk result (λ d. IsDrawn workspace.now features.now selection.now d.units d.nodes d.roots) }
+{
+    let units = candidates(alloc, workspace, features, selection)?;
+    let nodes = nodes_of(alloc, workspace, features, units.as_slice())?;
+    let roots = roots(alloc, workspace, selection, units.as_slice())?;
+    Ok(Drawing {
+        units: Items::from_vec(units),
+        nodes: Items::from_vec(nodes),
+        roots: Items::from_vec(roots),
+    })
+}

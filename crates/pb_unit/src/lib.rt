@@ -1,0 +1,17 @@
+//! Units of a build and the plan of them: what the selected packages need, each after all that it needs
+//! (The Cargo Book, Build Scripts, Features, Profiles, cargo build).
+#![tactic(auto)]
+
+mod candidates;
+mod dependencies;
+mod drawing;
+pub mod fault;
+mod names;
+mod needed;
+pub mod plan;
+mod roots;
+pub mod unit;
+
+pub use fault::PlanFault;
+pub use plan::{Plan, Planned};
+pub use unit::{Unit, What};

@@ -1,0 +1,117 @@
+//! What a unit needs, as numbers of units.
+
+ghost use Rattle.std.specs.Prelude.{◌≡◌, ◌<◌, IfOk, map, length};
+ghost use Rattle.pb_workspace.specs.Settled.{IsSettled};
+ghost use Rattle.pb_unit.specs.declared.unit.What.TheVariants.{Lib, Bin, Script, Run};
+ghost use Rattle.pb_unit.specs.Units.{needs, needs_of};
+ghost use Rattle.pb_unit.specs.Drawing.{number};
+
+use crate::dependencies::{
+    add_libraries, add_own_library, add_own_run, add_runs, add_tools, entries_at, script_number,
+};
+use crate::unit::{Unit, What};
+use pb_feature::Features;
+use pb_workspace::{Side, Workspace};
+use std::alloc::{AllocError, Global};
+
+/// What a library needs.
+fn by_library(
+    alloc: Global,
+    workspace: &Workspace,
+    features: &Features,
+    place: usize,
+    side: Side,
+) -> Result<Vec<usize>, AllocError>
+    requires settled { IsSettled workspace.now }
+    requires place { place < 256 }
+    ensures { IfOk result (λ numbers. numbers.items ≡ map number (needs_of workspace.now features.now place side Lib)) }
+{
+    let mut numbers = Vec::new(alloc);
+    let entries = entries_at(workspace, place);
+    add_libraries(&mut numbers, workspace, features, place, side, entries)?;
+    add_own_run(&mut numbers, workspace, place, side)?;
+    Ok(numbers)
+}
+
+/// What a binary needs.
+fn by_binary(
+    alloc: Global,
+    workspace: &Workspace,
+    features: &Features,
+    place: usize,
+    side: Side,
+    name: &str,
+) -> Result<Vec<usize>, AllocError>
+    requires settled { IsSettled workspace.now }
+    requires place { place < 256 }
+    ensures { IfOk result (λ numbers. numbers.items ≡ map number (needs_of workspace.now features.now place side (Bin name.now))) }
+{
+    let mut numbers = Vec::new(alloc);
+    let entries = entries_at(workspace, place);
+    add_own_library(&mut numbers, workspace, place, side)?;
+    add_libraries(&mut numbers, workspace, features, place, side, entries)?;
+    add_own_run(&mut numbers, workspace, place, side)?;
+    Ok(numbers)
+}
+
+/// What a script needs.
+fn by_script(
+    alloc: Global,
+    workspace: &Workspace,
+    features: &Features,
+    place: usize,
+    side: Side,
+) -> Result<Vec<usize>, AllocError>
+    requires settled { IsSettled workspace.now }
+    ensures { IfOk result (λ numbers. numbers.items ≡ map number (needs_of workspace.now features.now place side Script)) }
+{
+    let mut numbers = Vec::new(alloc);
+    let entries = entries_at(workspace, place);
+    add_tools(&mut numbers, workspace, features, place, side, entries)?;
+    Ok(numbers)
+}
+
+/// What a run needs.
+fn by_run(
+    alloc: Global,
+    workspace: &Workspace,
+    features: &Features,
+    place: usize,
+    side: Side,
+) -> Result<Vec<usize>, AllocError>
+    requires settled { IsSettled workspace.now }
+    requires place { place < 256 }
+    ensures { IfOk result (λ numbers. numbers.items ≡ map number (needs_of workspace.now features.now place side Run)) }
+{
+    let mut numbers = Vec::new(alloc);
+    let entries = entries_at(workspace, place);
+    numbers.push(script_number(place, side))?;
+    add_runs(&mut numbers, workspace, features, place, side, entries)?;
+    Ok(numbers)
+}
+
+/// What a unit needs: an own library, libraries, tools and runs, by what it makes.
+pub(crate) fn needed_by(
+    alloc: Global,
+    workspace: &Workspace,
+    features: &Features,
+    unit: &Unit,
+) -> Result<Vec<usize>, AllocError>
+    requires settled { IsSettled workspace.now }
+    requires owner { unit.now.owner < 256 }
+    ensures { IfOk result (λ numbers. numbers.items ≡ map number (needs workspace.now features.now unit.now)) }
+{
+    match &unit.what {
+        What::Lib => by_library(alloc, workspace, features, unit.owner, unit.side),
+        What::Bin(name) => by_binary(
+            alloc,
+            workspace,
+            features,
+            unit.owner,
+            unit.side,
+            name.as_str(),
+        ),
+        What::Script => by_script(alloc, workspace, features, unit.owner, unit.side),
+        What::Run => by_run(alloc, workspace, features, unit.owner, unit.side),
+    }
+}

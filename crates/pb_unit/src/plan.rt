@@ -1,0 +1,295 @@
+//! The plan of a build.
+
+ghost use Rattle.std.specs.Prelude.{◌≡◌, ◌⊎◌, ◌<◌, ◌≤◌, ℕ, true, IfOk, IfErr, IfSome, OnOk, All, AllPairs, Contains, map, length, slice_get, if◌then◌else◌, Option, Some, None, Result, Ok, Err};
+ghost use Rattle.std.specs.List.{AllZip};
+ghost use Rattle.pb_place.specs.Paths.{below, is_relative, is_path};
+ghost use Rattle.pb_order.specs.Order.{IsOrder};
+ghost use Rattle.pb_workspace.specs.Settled.{IsSettled};
+ghost use Rattle.pb_profile.specs.Line.{seen, folder_of};
+ghost use Rattle.pb_profile.specs.declared.fault.ProfileFault.{ProfileFault};
+ghost use Rattle.pb_order.specs.declared.graph.Step.{Step};
+ghost use Rattle.pb_unit.specs.declared.fault.PlanFault.TheVariants.{OutOfMemory, Profile};
+ghost use Rattle.pb_unit.specs.Drawing.{IsDrawn, IsMade, IsRefusal};
+ghost use Rattle.pb_unit.specs.Plan.{profile_line, profile_folder, level_at, needs_in, reaches_in, IsPlan, Refuses, Stops, LieApart};
+
+use crate::drawing::{Drawing, drawn};
+use crate::fault::PlanFault;
+use crate::names::{names_behind, without_library};
+use crate::unit::Unit;
+use pb_data::{Items, Text, TryCopy};
+use pb_feature::Features;
+use pb_order::order::order;
+use pb_order::{OrderFault, Step};
+use pb_place::{PathText, RelativePath};
+use pb_profile::{Ancestor, ProfileFault, Settings, folder_of, line_of, settings_along};
+use pb_workspace::{Selection, Workspace};
+use std::alloc::{AllocError, Global};
+
+/// How many units a plan may have.
+const MOST_UNITS: usize = 4096;
+
+/// A unit of a plan.
+#[derive(Debug, Drop)]
+pub struct Planned {
+    /// The unit.
+    pub unit: Unit,
+    /// Its key.
+    pub key: Text,
+    /// Its output folder: the one of its key's name in the folder of the profile, in the target folder.
+    pub out: PathText,
+    /// 0 where it needs nothing, else one more than the greatest level of what it needs.
+    pub level: usize,
+    /// The places in the plan of what it needs, ascending, each once.
+    pub needs: Items<usize>,
+    /// The places in the plan of what it needs, of what that needs, and so on, ascending, each once.
+    pub reaches: Items<usize>,
+    /// The settings of its package in the unit's role.
+    pub settings: Settings,
+}
+
+/// A plan: what the selected packages are built of, each unit once and after all that it needs. A unit is
+/// known by its place.
+#[derive(Debug, Drop)]
+pub struct Plan {
+    /// The units by level, and then by the bytes of their keys. There is one, and there are at most 4,096.
+    pub planned: Items<Planned>,
+    /// The names of the packages without a library to which enabled dependencies lead, in byte order,
+    /// each once.
+    pub without_library: Items<Text>,
+}
+
+/// The line of the asked profile, and its folder.
+#[derive(Debug, Drop)]
+struct Frame<'a> {
+    line: Vec<Ancestor<'a>>,
+    folder: PathText,
+}
+
+/// The folder of a profile's output in the target folder, where the profile's own folder has a name.
+fn folder_in(
+    alloc: Global,
+    workspace: &Workspace,
+    profile: &str,
+) -> Result<Option<PathText>, AllocError>
+    ensures found { IfOk result (λ found. found ≡ (if is_relative (folder_of profile.now) then Some (profile_folder workspace.now profile.now) else None)) }
+    ensures path { IfOk result (λ found. IfSome found (λ folder. is_path folder ≡ true)) }
+{
+    let name = Text::from_str(alloc, folder_of(profile))?;
+    match RelativePath::of(name) {
+        Some(name) => {
+            let folder = workspace.target.below(alloc, &name)?;
+            Ok(Some(folder))
+        }
+        None => Ok(None),
+    }
+}
+
+/// The line of the asked profile, and the folder of its output.
+fn framed<'a>(
+    alloc: Global,
+    workspace: &'a Workspace,
+    profile: &'a str,
+) -> Result<Frame<'a>, PlanFault>
+    ensures line { IfOk result (λ frame. profile_line workspace.now profile.now ≡ Ok (map seen frame.line.items)) }
+    ensures folder { IfOk result (λ frame. frame.folder ≡ profile_folder workspace.now profile.now) }
+    ensures path { IfOk result (λ frame. is_path frame.folder ≡ true) }
+    ensures refused { IfErr result (λ e. (e ≡ OutOfMemory) ⊎ ((fault : ProfileFault) × (e ≡ Profile fault) × (profile_line workspace.now profile.now ≡ Err fault))) }
+{
+    let line = match line_of(alloc, workspace.profiles.as_slice(), profile) {
+        Ok(line) => line,
+        Err(ProfileFault::OutOfMemory) => return Err(PlanFault::OutOfMemory),
+        Err(fault) => return Err(PlanFault::Profile(fault)),
+    };
+    match folder_in(alloc, workspace, profile)? {
+        Some(folder) => Ok(Frame { line, folder }),
+        None => Err(PlanFault::Profile(ProfileFault::NoSuchProfile)),
+    }
+}
+
+/// Why an order is refused, in the words of a plan.
+fn refusal(alloc: Global, workspace: &Workspace, units: &[Unit], fault: OrderFault) -> PlanFault
+    ensures { (result ≡ OutOfMemory) ⊎ IsRefusal workspace.now units.now fault result }
+{
+    match fault {
+        OrderFault::OutOfMemory => PlanFault::OutOfMemory,
+        OrderFault::TooMany => PlanFault::TooManyUnits,
+        OrderFault::Circle(circle) => {
+            match names_behind(alloc, workspace, units, circle.as_slice()) {
+                Ok(names) => PlanFault::Cycle(names),
+                Err(_) => PlanFault::OutOfMemory,
+            }
+        }
+    }
+}
+
+/// The order of the roots and all that they reach.
+fn ordered(
+    alloc: Global,
+    workspace: &Workspace,
+    features: &Features,
+    selection: &Selection,
+    drawing: &Drawing,
+) -> Result<Items<Step>, PlanFault>
+    requires settled { IsSettled workspace.now }
+    requires selected { All (λ p. p < length workspace.now.packages) selection.now.packages }
+    requires drawn { IsDrawn workspace.now features.now selection.now drawing.now.units drawing.now.nodes drawing.now.roots }
+    ensures order { IfOk result (IsOrder drawing.now.nodes drawing.now.roots) }
+    ensures some { IfOk result (λ steps. 0 < length steps) }
+    ensures few { IfOk result (λ steps. length steps ≤ 4096) }
+    ensures stopped { IfErr result (λ e. (e ≡ OutOfMemory) ⊎ Stops workspace.now features.now selection.now e) }
+{
+    let nodes = drawing.nodes.as_slice();
+    let steps = match order(alloc, nodes, drawing.roots.as_slice(), MOST_UNITS) {
+        Ok(steps) => steps,
+        Err(fault) => return Err(refusal(alloc, workspace, drawing.units.as_slice(), fault)),
+    };
+    if steps.is_empty() {
+        return Err(PlanFault::NothingToBuild);
+    }
+    Ok(steps)
+}
+
+/// A step of the order as a unit of the plan.
+fn made(
+    alloc: Global,
+    workspace: &Workspace,
+    frame: &Frame<'_>,
+    units: &[Unit],
+    step: Step,
+) -> Result<Planned, AllocError>
+    requires node { step.node < length units.now }
+    requires owners { All (λ u. u.owner < length workspace.now.packages) units.now }
+    requires name { is_relative step.key ≡ true }
+    ensures { IfOk result (IsMade workspace.now (map seen frame.now.line.items) frame.now.folder units.now step) }
+{
+    let unit = units[step.node].copy(alloc)?;
+    let name = RelativePath::name(alloc, step.key.as_str())?;
+    let out = frame.folder.below(alloc, &name)?;
+    let owner = &workspace.packages.as_slice()[unit.owner];
+    let settings = settings_along(owner, unit.role(), frame.line.as_slice());
+    Ok(Planned {
+        unit,
+        key: step.key,
+        out,
+        level: step.level,
+        needs: step.needs,
+        reaches: step.reaches,
+        settings,
+    })
+}
+
+/// The steps of the order as units of the plan.
+fn all_made(
+    alloc: Global,
+    workspace: &Workspace,
+    frame: &Frame<'_>,
+    units: &[Unit],
+    steps: Vec<Step>,
+) -> Result<Vec<Planned>, AllocError>
+    requires nodes { All (λ (s : Step). s.node < length units.now) steps.items }
+    requires owners { All (λ u. u.owner < length workspace.now.packages) units.now }
+    requires names { All (λ (s : Step). is_relative s.key ≡ true) steps.items }
+    ensures { IfOk result (λ planned. AllZip (IsMade workspace.now (map seen frame.now.line.items) frame.now.folder units.now) steps.items planned.items) }
+{
+    let mut planned = Vec::new(alloc);
+    for step in steps {
+        planned.push(made(alloc, workspace, frame, units, step)?)?;
+    }
+    Ok(planned)
+}
+
+impl Plan {
+    /// The plan of the selected packages under a profile (The Cargo Book, cargo build).
+    ///
+    /// Its roots are the libraries and binaries of the selected packages, made for the target; where
+    /// `--lib`, `--bins` or `--bin NAME` is given, those that at least one of these names. A binary whose
+    /// required features are not all on is left out. The plan is the roots and all that they reach:
+    ///
+    /// - a library needs those of its enabled dependencies that have one, and the run of its own script;
+    /// - a binary needs its own library, and what that would need;
+    /// - a script needs the host's libraries of its enabled build dependencies;
+    /// - a run needs its script, and the runs of the enabled dependencies with a library and `links`.
+    ///
+    /// The workspace is one that was read, and the selection names places of its packages. Refused, in
+    /// this order: Profile where the profile gives no settings; Cycle where units of the plan reach
+    /// themselves; TooManyUnits where there are more than 4,096; NothingToBuild where there is none. Beside
+    /// these there is want of memory alone.
+    pub fn plan(
+        alloc: Global,
+        workspace: &Workspace,
+        features: &Features,
+        selection: &Selection,
+        profile: &str,
+    ) -> Result<Plan, PlanFault>
+        requires settled { IsSettled workspace.now }
+        requires selected { All (λ p. p < length workspace.now.packages) selection.now.packages }
+        ensures plan { IfOk result (IsPlan workspace.now features.now selection.now profile.now) }
+        ensures apart { IfOk result (λ plan. AllPairs LieApart plan.planned) }
+        ensures refused { IfErr result (λ e. (e ≡ OutOfMemory) ⊎ Refuses workspace.now features.now selection.now profile.now e) }
+    {
+        let frame = match framed(alloc, workspace, profile) {
+            Ok(frame) => frame,
+            Err(fault) => return Err(fault),
+        };
+        let drawing = drawn(alloc, workspace, features, selection)?;
+        let steps = match ordered(alloc, workspace, features, selection, &drawing) {
+            Ok(steps) => steps,
+            Err(fault) => return Err(fault),
+        };
+        let units = drawing.units.as_slice();
+        let planned = all_made(alloc, workspace, &frame, units, steps.into_vec())?;
+        let without_library = without_library(alloc, workspace, features)?;
+        Ok(Plan {
+            planned: Items::from_vec(planned),
+            without_library,
+        })
+    }
+
+    /// The units in plan order. It takes no memory.
+    pub fn units(&self) -> &[Planned]
+        ensures { result.now ≡ self.now.planned }
+    {
+        self.planned.as_slice()
+    }
+
+    /// The places of what the unit at this place needs, in plan order; nothing where no unit is there. It
+    /// takes no memory.
+    pub fn needs(&self, place: usize) -> &[usize]
+        ensures { result.now ≡ needs_in (slice_get self.now.planned place) }
+    {
+        match self.planned.as_slice().get(place) {
+            Some(planned) => planned.needs.as_slice(),
+            None => &[],
+        }
+    }
+
+    /// The level of the unit at this place: 0 where it needs nothing, else one more than the greatest of
+    /// what it needs; 0 where no unit is there. It takes no memory.
+    pub fn level(&self, place: usize) -> usize
+        ensures { result ≡ level_at self.now.planned place }
+    {
+        match self.planned.as_slice().get(place) {
+            Some(planned) => planned.level,
+            None => 0,
+        }
+    }
+
+    /// The places of all that the unit at this place reaches, in plan order; nothing where no unit is there.
+    /// It takes no memory.
+    pub fn reaches(&self, place: usize) -> &[usize]
+        ensures { result.now ≡ reaches_in (slice_get self.now.planned place) }
+    {
+        match self.planned.as_slice().get(place) {
+            Some(planned) => planned.reaches.as_slice(),
+            None => &[],
+        }
+    }
+
+    /// The names of the packages without a library to which enabled dependencies lead, in byte order, each
+    /// once: nothing of them is planned. It takes no memory.
+    pub fn without_library(&self) -> &[Text]
+        ensures { result.now ≡ self.now.without_library }
+    {
+        self.without_library.as_slice()
+    }
+}

@@ -1,0 +1,95 @@
+//! Which units a build is asked for.
+
+ghost use Rattle.std.specs.Prelude.{◌≡◌, ◌↔◌, ℕ, ◌<◌, true, IfOk, All, Contains, length};
+ghost use Rattle.pb_closure.specs.Closure.{is_on};
+ghost use Rattle.pb_closure.specs.Placed.{placed};
+ghost use Rattle.pb_unit.specs.Drawing.{is_target, is_root, root_at, AreRoots};
+
+use crate::candidates::asks_libraries;
+use crate::dependencies::has_library;
+use crate::unit::{Unit, What};
+use pb_closure::derived;
+use pb_workspace::{Selection, Side, Workspace};
+use std::alloc::{AllocError, Global};
+
+/// Whether it is the target's side.
+fn is_target(side: Side) -> bool
+    ensures { result ≡ is_target side }
+{
+    match side {
+        Side::Target => true,
+        Side::Host => false,
+    }
+}
+
+/// The selected packages, marked by their places.
+fn selected_marks(alloc: Global, count: usize, places: &[usize]) -> Result<Vec<bool>, AllocError>
+    requires { All (λ p. p < count) places.now }
+    ensures { IfOk result (λ marks. (p : ℕ) → (is_on marks.items p ≡ true) ↔ Contains places.now p) }
+{
+    let marks = derived(alloc, count, places, &[])?;
+    Ok(marks)
+}
+
+/// Whether a place is marked.
+fn is_marked(marks: &[bool], place: usize) -> bool
+    ensures { result ≡ is_on marks.now place }
+{
+    match marks.get(place) {
+        Some(mark) => *mark,
+        None => false,
+    }
+}
+
+/// Whether a candidate is a root.
+fn is_root(workspace: &Workspace, asked: bool, marks: &[bool], unit: &Unit) -> bool
+    ensures { result ≡ is_root workspace.now asked marks.now unit.now }
+{
+    match unit.what {
+        What::Lib => {
+            asked
+                && is_target(unit.side)
+                && is_marked(marks, unit.owner)
+                && has_library(workspace, unit.owner)
+        }
+        What::Bin(_) => true,
+        What::Script => false,
+        What::Run => false,
+    }
+}
+
+/// The numbers of the candidates that are roots.
+fn roots_marked(
+    alloc: Global,
+    workspace: &Workspace,
+    asked: bool,
+    marks: &[bool],
+    units: &[Unit],
+) -> Result<Vec<usize>, AllocError>
+    ensures { IfOk result (λ roots. roots.items ≡ placed (root_at workspace.now asked marks.now) 0 units.now) }
+{
+    let mut roots = Vec::new(alloc);
+    for index in 0..units.len() {
+        if is_root(workspace, asked, marks, &units[index]) {
+            roots.push(index)?;
+        }
+    }
+    Ok(roots)
+}
+
+/// The numbers of the candidates that are roots.
+pub(crate) fn roots(
+    alloc: Global,
+    workspace: &Workspace,
+    selection: &Selection,
+    units: &[Unit],
+) -> Result<Vec<usize>, AllocError>
+    requires { All (λ p. p < length workspace.now.packages) selection.now.packages }
+    ensures { IfOk result (λ roots. AreRoots workspace.now selection.now units.now roots.items) }
+{
+    let count = workspace.packages.len();
+    let marks = selected_marks(alloc, count, selection.packages.as_slice())?;
+    let asked = asks_libraries(selection);
+    let roots = roots_marked(alloc, workspace, asked, marks.as_slice(), units)?;
+    Ok(roots)
+}

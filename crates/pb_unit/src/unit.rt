@@ -1,0 +1,119 @@
+//! Units, and how they are called.
+
+ghost use Rattle.std.specs.Prelude.{◌≡◌, ◌++◌, IfOk, OnOk, string_bytes, slice_get};
+ghost use Rattle.pb_unit.specs.Units.{key_of, name_at, side_name, what_name, role_of};
+
+use pb_data::{Text, TryCopy};
+use pb_workspace::{Side, Workspace};
+use std::alloc::{AllocError, Global};
+
+/// What a unit makes of its package.
+#[derive(Debug, Drop)]
+pub enum What {
+    /// The library.
+    Lib,
+    /// The binary of this name.
+    Bin(Text),
+    /// The build script, compiled.
+    Script,
+    /// The build script, run.
+    Run,
+}
+
+/// A unit of a build: one thing that is made of a package on a side (The Cargo Book, cargo build). What
+/// is made for the host is never shared with what is made for the target (our own choice).
+#[derive(Debug, Drop)]
+pub struct Unit {
+    /// The place of its package among the workspace's.
+    pub owner: usize,
+    /// The side that it is made for.
+    pub side: Side,
+    /// What is made.
+    pub what: What,
+}
+
+impl TryCopy for What {
+    fn copy(&self, alloc: Global) -> Result<What, AllocError> {
+        match self {
+            What::Lib => Ok(What::Lib),
+            What::Bin(name) => Ok(What::Bin(name.copy(alloc)?)),
+            What::Script => Ok(What::Script),
+            What::Run => Ok(What::Run),
+        }
+    }
+}
+
+impl TryCopy for Unit {
+    fn copy(&self, alloc: Global) -> Result<Unit, AllocError> {
+        let what = self.what.copy(alloc)?;
+        Ok(Unit {
+            owner: self.owner,
+            side: self.side,
+            what,
+        })
+    }
+}
+
+/// The word of a side in a key.
+fn side_name(side: Side) -> &'static str
+    ensures { result.now ≡ side_name side }
+{
+    match side {
+        Side::Target => "target",
+        Side::Host => "host",
+    }
+}
+
+/// The name of the package at a place; the empty text where none is there.
+pub(crate) fn name_at(workspace: &Workspace, place: usize) -> &str
+    ensures { result.now ≡ name_at workspace.now place }
+{
+    match workspace.packages.as_slice().get(place) {
+        Some(owner) => owner.name.as_str(),
+        None => "",
+    }
+}
+
+/// Adds the last word of a key.
+fn push_what(text: &mut String, what: &What) -> Result<(), AllocError>
+    ensures { OnOk result (string_bytes text.new ≡ string_bytes text.old ++ what_name what.now) }
+{
+    match what {
+        What::Lib => text.push_str("lib")?,
+        What::Bin(name) => {
+            text.push_str("bin-")?;
+            text.push_str(name.as_str())?;
+        }
+        What::Script => text.push_str("script")?,
+        What::Run => text.push_str("run")?,
+    }
+    Ok(())
+}
+
+impl Unit {
+    /// The key by which the unit is known in folders, records and messages: `PACKAGE.SIDE.WHAT`, where SIDE
+    /// is `host` or `target`, and WHAT is `lib`, `bin-NAME`, `script` or `run` (our own choice). The
+    /// workspace is that of the plan. The one fault is want of memory.
+    pub fn key(&self, alloc: Global, workspace: &Workspace) -> Result<Text, AllocError>
+        ensures { IfOk result (λ key. key ≡ key_of workspace.now self.now) }
+    {
+        let mut text = String::new(alloc);
+        text.push_str(name_at(workspace, self.owner))?;
+        text.push_str(".")?;
+        text.push_str(side_name(self.side))?;
+        text.push_str(".")?;
+        push_what(&mut text, &self.what)?;
+        Ok(Text::new(text))
+    }
+
+    /// The role of its settings: that of the host for a build script and for all that is made for the host,
+    /// else that of the target (The Cargo Book, Profiles). A run of a script has the role of its side.
+    pub fn role(&self) -> Side
+        ensures { result ≡ role_of self.now }
+    {
+        match self.what {
+            What::Script => Side::Host,
+            _ => self.side,
+        }
+    }
+}
