@@ -274,12 +274,7 @@ fn level_text(level: Level) -> &'static str
 
 /// Adds the line of a note, of its level and its text in JSON.
 #[tactic(auto, unfolding(crate::specs::Message::note_object))]
-fn push_note_object(
-    out: &mut String,
-    id: &str,
-    level: &str,
-    text: &str,
-) -> Result<(), AllocError>
+fn push_note_object(out: &mut String, id: &str, level: &str, text: &str) -> Result<(), AllocError>
     ensures { OnOk result (string_bytes out.new ≡ string_bytes out.old ++ note_object id.now level.now text.now) }
 {
     push_all(
