@@ -2,9 +2,7 @@
 
 use pb_data::{Items, Text};
 use pb_manifest::{Edition, Feature, FeatureItem};
-use pb_workspace::{
-    About, DefaultMembers, DependencyKind, Entry, LoadFault, Package, Workspace,
-};
+use pb_workspace::{About, DefaultMembers, DependencyKind, Entry, LoadFault, Package, Workspace};
 use std::alloc::Global;
 use std::fmt::Write;
 use std::test::Fail;

@@ -67,11 +67,7 @@ fn put_selection(
 }
 
 /// What a case answers: the workspace, and a line for each word that stands for a selection.
-fn answered(
-    alloc: Global,
-    memory: &mut Memory<Silent>,
-    words: &str,
-) -> Result<String, Fail> {
+fn answered(alloc: Global, memory: &mut Memory<Silent>, words: &str) -> Result<String, Fail> {
     let manifest = PathText::parse(alloc, "/w/Cargo.toml")?;
     let target = PathText::parse(alloc, "/w/target")?;
     let answer = load(memory, alloc, &manifest, &target);
@@ -160,7 +156,12 @@ fn roots_that_are_no_manifest(rt: HostRuntime) -> Result<(), Fail> {
     let absent = PathText::parse(alloc, "/v/Cargo.toml")?;
     let good = load(&mut memory, alloc, &path, &target)?;
     assert_eq!(rt; good.packages.len(), 1);
-    for (manifest, target) in [(&named, &target), (&path, &whole), (&path, &path), (&absent, &target)] {
+    for (manifest, target) in [
+        (&named, &target),
+        (&path, &whole),
+        (&path, &path),
+        (&absent, &target),
+    ] {
         let answer = load(&mut memory, alloc, manifest, target);
         assert!(rt; matches!(answer, Err(LoadFault::NoManifest(_))));
     }
