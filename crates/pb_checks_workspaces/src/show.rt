@@ -1,7 +1,7 @@
 //! A workspace as lines of text: what is there, defaults left out.
 
 use pb_data::{Items, Text};
-use pb_manifest::{Edition, Feature, FeatureItem};
+use pb_manifest::{Edition, Feature, FeatureItem, Profile};
 use pb_workspace::{About, DefaultMembers, DependencyKind, Entry, LoadFault, Package, Workspace};
 use std::alloc::Global;
 use std::fmt::Write;
@@ -29,28 +29,53 @@ fn put_fault(out: &mut String, fault: &LoadFault) -> Result<(), Fail> {
     Ok(())
 }
 
-fn put_workspace(out: &mut String, workspace: &Workspace) -> Result<(), Fail> {
-    for found in workspace.packages.as_slice() {
+fn put_packages(out: &mut String, packages: &[Package]) -> Result<(), Fail> {
+    for found in packages {
         put_package(out, found)?;
     }
-    if let Some(place) = workspace.root_package {
-        writeln!(out, "root {place}")?;
+    Ok(())
+}
+
+fn put_root(out: &mut String, root: Option<usize>) -> Result<(), Fail> {
+    match root {
+        Some(place) => writeln!(out, "root {place}")?,
+        None => {}
     }
-    match &workspace.default_members {
-        DefaultMembers::Unwritten => {}
-        DefaultMembers::Unknown => writeln!(out, "default unknown")?,
-        DefaultMembers::Named(places) => {
-            write!(out, "default")?;
-            for place in places.as_slice() {
-                write!(out, " {place}")?;
-            }
-            writeln!(out, "")?;
+    Ok(())
+}
+
+fn put_places(out: &mut String, places: &[usize]) -> Result<(), Fail> {
+    write!(out, "default")?;
+    for place in places {
+        write!(out, " {place}")?;
+    }
+    writeln!(out, "")?;
+    Ok(())
+}
+
+fn put_default(out: &mut String, members: &DefaultMembers) -> Result<(), Fail> {
+    match members {
+        DefaultMembers::Unwritten => Ok(()),
+        DefaultMembers::Unknown => {
+            writeln!(out, "default unknown")?;
+            Ok(())
         }
+        DefaultMembers::Named(places) => put_places(out, places.as_slice()),
     }
-    for profile in workspace.profiles.as_slice() {
+}
+
+fn put_profiles(out: &mut String, profiles: &[Profile]) -> Result<(), Fail> {
+    for profile in profiles {
         writeln!(out, "profile {}", profile.name.as_str())?;
     }
     Ok(())
+}
+
+fn put_workspace(out: &mut String, workspace: &Workspace) -> Result<(), Fail> {
+    put_packages(out, workspace.packages.as_slice())?;
+    put_root(out, workspace.root_package)?;
+    put_default(out, &workspace.default_members)?;
+    put_profiles(out, workspace.profiles.as_slice())
 }
 
 fn edition_text(edition: Edition) -> &'static str {
@@ -62,34 +87,55 @@ fn edition_text(edition: Edition) -> &'static str {
     }
 }
 
-fn put_package(out: &mut String, found: &Package) -> Result<(), Fail> {
+fn put_head(out: &mut String, found: &Package) -> Result<(), Fail> {
     let version = found.version.text().as_str();
     let edition = edition_text(found.edition);
-    write!(
-        out,
-        "{} {} {version} {edition}",
-        found.folder.as_str(),
-        found.name.as_str()
-    )?;
+    let folder = found.folder.as_str();
+    let name = found.name.as_str();
+    write!(out, "{folder} {name} {version} {edition}")?;
     if !found.is_member {
         write!(out, " other")?;
     }
     writeln!(out, "")?;
-    put_about(out, &found.about)?;
-    if let Some(links) = &found.links {
+    Ok(())
+}
+
+fn put_links(out: &mut String, links: &Option<Text>) -> Result<(), Fail> {
+    if let Some(links) = links {
         writeln!(out, "  links {}", links.as_str())?;
     }
-    put_targets(out, found)?;
-    for entry in found.entries.as_slice() {
+    Ok(())
+}
+
+fn put_entries(out: &mut String, entries: &[Entry]) -> Result<(), Fail> {
+    for entry in entries {
         put_entry(out, entry)?;
     }
-    for feature in found.features.as_slice() {
+    Ok(())
+}
+
+fn put_features(out: &mut String, features: &[Feature]) -> Result<(), Fail> {
+    for feature in features {
         put_feature(out, feature)?;
     }
-    for key in found.development.as_slice() {
+    Ok(())
+}
+
+fn put_development(out: &mut String, keys: &[Text]) -> Result<(), Fail> {
+    for key in keys {
         writeln!(out, "  dev {}", key.as_str())?;
     }
     Ok(())
+}
+
+fn put_package(out: &mut String, found: &Package) -> Result<(), Fail> {
+    put_head(out, found)?;
+    put_about(out, &found.about)?;
+    put_links(out, &found.links)?;
+    put_targets(out, found)?;
+    put_entries(out, found.entries.as_slice())?;
+    put_features(out, found.features.as_slice())?;
+    put_development(out, found.development.as_slice())
 }
 
 fn put_said(out: &mut String, name: &str, text: &Text) -> Result<(), Fail> {

@@ -66,18 +66,37 @@ fn put_selection(
     Ok(())
 }
 
-/// What a case answers: the workspace, and a line for each word that stands for a selection.
-fn answered(alloc: Global, memory: &mut Memory<Silent>, words: &str) -> Result<String, Fail> {
+/// The workspace at `/w`, whose target folder is `/w/target`.
+fn loaded(
+    alloc: Global,
+    memory: &mut Memory<Silent>,
+) -> Result<Result<Workspace, LoadFault>, Fail> {
     let manifest = PathText::parse(alloc, "/w/Cargo.toml")?;
     let target = PathText::parse(alloc, "/w/target")?;
-    let answer = load(memory, alloc, &manifest, &target);
+    Ok(load(memory, alloc, &manifest, &target))
+}
+
+/// Adds a line for each word that stands for a selection.
+fn put_selections(
+    alloc: Global,
+    workspace: &Workspace,
+    words: &str,
+    out: &mut String,
+) -> Result<(), Fail> {
+    for word in words.split(' ') {
+        if word != "" {
+            put_selection(alloc, workspace, word, out)?;
+        }
+    }
+    Ok(())
+}
+
+/// What a case answers: the workspace, and a line for each word that stands for a selection.
+fn answered(alloc: Global, memory: &mut Memory<Silent>, words: &str) -> Result<String, Fail> {
+    let answer = loaded(alloc, memory)?;
     let mut out = shown(alloc, &answer)?;
     if let Ok(workspace) = &answer {
-        for word in words.split(' ') {
-            if word != "" {
-                put_selection(alloc, workspace, word, &mut out)?;
-            }
-        }
+        put_selections(alloc, workspace, words, &mut out)?;
     }
     Ok(out)
 }
@@ -127,43 +146,48 @@ fn many(alloc: Global, count: usize) -> Result<Memory<Silent>, Fail> {
     Ok(memory)
 }
 
-#[test]
-fn greatest_number_of_packages(rt: HostRuntime) -> Result<(), Fail> {
-    let alloc = rt.alloc();
-    let manifest = PathText::parse(alloc, "/w/Cargo.toml")?;
-    let target = PathText::parse(alloc, "/w/target")?;
-    let mut memory = many(alloc, 256)?;
-    let found = load(&mut memory, alloc, &manifest, &target)?;
-    assert_eq!(rt; found.packages.len(), 256);
-    let mut memory = many(alloc, 257)?;
-    let answer = load(&mut memory, alloc, &manifest, &target);
-    assert!(rt; matches!(answer, Err(LoadFault::TooMany)));
+/// How many packages are loaded of a root and so many members; none where these are too many. No call of the
+/// place fails, and nothing is started.
+fn count_loaded(rt: &impl Abort, alloc: Global, count: usize) -> Result<usize, Fail> {
+    let mut memory = many(alloc, count)?;
+    let answer = loaded(alloc, &mut memory)?;
     assert_eq!(rt; memory.failures(), 0);
     assert_eq!(rt; memory.starts(), 0);
+    match &answer {
+        Ok(found) => Ok(found.packages.len()),
+        Err(LoadFault::TooMany) => Ok(0),
+        Err(_) => Ok(usize::MAX),
+    }
+}
+
+#[test]
+fn greatest_number_of_packages(rt: HostRuntime) -> Result<(), Fail> {
+    assert_eq!(rt; count_loaded(&rt, rt.alloc(), 256)?, 256);
+    assert_eq!(rt; count_loaded(&rt, rt.alloc(), 257)?, 0);
     Ok(())
+}
+
+/// Whether there is no manifest at a path, of a package whose manifests `/w/Cargo.toml` and `/w/other.toml`
+/// are.
+fn is_no_manifest(alloc: Global, manifest: &str, target: &str) -> Result<bool, Fail> {
+    let mut memory = Memory::new(alloc, Silent);
+    for path in ["/w/Cargo.toml", "/w/other.toml"] {
+        let path = PathText::parse(alloc, path)?;
+        memory.put(alloc, &path, b"package.name = \"a\"\n")?;
+    }
+    let manifest = PathText::parse(alloc, manifest)?;
+    let target = PathText::parse(alloc, target)?;
+    let answer = load(&mut memory, alloc, &manifest, &target);
+    Ok(matches!(answer, Err(LoadFault::NoManifest(_))))
 }
 
 #[test]
 fn roots_that_are_no_manifest(rt: HostRuntime) -> Result<(), Fail> {
     let alloc = rt.alloc();
-    let mut memory = Memory::new(alloc, Silent);
-    let path = PathText::parse(alloc, "/w/Cargo.toml")?;
-    let named = PathText::parse(alloc, "/w/other.toml")?;
-    memory.put(alloc, &path, b"package.name = \"a\"\n")?;
-    memory.put(alloc, &named, b"package.name = \"a\"\n")?;
-    let target = PathText::parse(alloc, "/w/target")?;
-    let whole = PathText::parse(alloc, "/w")?;
-    let absent = PathText::parse(alloc, "/v/Cargo.toml")?;
-    let good = load(&mut memory, alloc, &path, &target)?;
-    assert_eq!(rt; good.packages.len(), 1);
-    for (manifest, target) in [
-        (&named, &target),
-        (&path, &whole),
-        (&path, &path),
-        (&absent, &target),
-    ] {
-        let answer = load(&mut memory, alloc, manifest, target);
-        assert!(rt; matches!(answer, Err(LoadFault::NoManifest(_))));
-    }
+    assert!(rt; !is_no_manifest(alloc, "/w/Cargo.toml", "/w/target")?);
+    assert!(rt; is_no_manifest(alloc, "/w/other.toml", "/w/target")?);
+    assert!(rt; is_no_manifest(alloc, "/w/Cargo.toml", "/w")?);
+    assert!(rt; is_no_manifest(alloc, "/w/Cargo.toml", "/w/Cargo.toml")?);
+    assert!(rt; is_no_manifest(alloc, "/v/Cargo.toml", "/w/target")?);
     Ok(())
 }
