@@ -7,3 +7,5 @@ mod diagnostics;
 mod lines;
 #[cfg(test)]
 mod made;
+#[cfg(test)]
+mod wanted;
