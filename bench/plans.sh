@@ -1,119 +1,146 @@
 #!/usr/bin/env bash
-# Times the plan of three shapes, each at three sizes, and prints microseconds, the number of units, and how many places
-# the plan keeps (what each unit needs and reaches): the time is to grow no faster than these places.
+# Measures `Plan::plan` over workspaces in memory.
 #
-#   chain      packages of which each needs the next as a dependency and as a build dependency, all with scripts
-#   binaries   one package with so many binaries
-#   both       a chain of 256 whose first package has so many binaries: each of them reaches the whole chain
+#   chain        so many packages of which each needs the next as a dependency and as a build dependency, all with scripts
+#   binaries     one package with so many binaries
+#   both         such a chain of 256 whose first package has so many binaries: each of them reaches the whole chain
 #
-# The program that measures is made in a folder of its own, so it is no part of the repository.
+# Prints a line a size with how many places the plan keeps, of what each unit needs and reaches: time and memory are to
+# grow no faster than these. What is measured and how is said in `measured.sh`.
 set -euo pipefail
-root=$(cd "$(dirname "$0")/.." && pwd)
-work=$(mktemp -d)
-trap 'rm -rf "$work"' EXIT
-mkdir "$work/crates"
-for name in pb_closure pb_data pb_feature pb_manifest pb_order pb_place pb_profile pb_unit pb_workspace; do
-  cp -a "$root/crates/$name" "$work/crates/$name"
-  rm -rf "$work/crates/$name/must-fail"
-  grep "^$name:" "$root/crates.txt" >> "$work/crates.txt"
-done
-echo 'measure: pb_data pb_feature pb_manifest pb_place pb_unit pb_workspace' >> "$work/crates.txt"
-mkdir -p "$work/crates/measure/src"
-for part in specs proofs src/making.rt src/settled.rt; do
-  cp -a "$root/crates/pb_checks_plans/$part" "$work/crates/measure/$part"
-done
-find "$work/crates/measure" -type f -exec sed -i 's/pb_checks_plans/measure/g' {} +
-cat > "$work/crates/measure/src/main.rt" <<'RATTLE'
-//! Times plans.
+crates="pb_closure pb_data pb_feature pb_manifest pb_order pb_place pb_profile pb_unit pb_workspace"
+uses="pb_data pb_feature pb_place pb_unit pb_workspace"
+. "$(dirname "$0")/measured.sh"
+program <<'PROGRAM'
+//! Measures plans.
 #![tactic(auto)]
 
-mod making;
-mod settled;
+mod child;
 
-use crate::making::{bare, binary, no_selection, workspace_with};
-use crate::settled::{are_within, is_settled};
-use pb_data::Items;
-use pb_feature::{Features, Part, Sides};
-use pb_manifest::CrateType;
-use pb_place::PathText;
+ghost use Rattle.std.specs.Prelude.{IfOk};
+ghost use Rattle.pb_workspace.specs.Settled.{IsSettled};
+
+use anyhow::Result;
+use child::Silent;
+use pb_data::{Items, Text};
+use pb_feature::resolve;
+use pb_place::{Memory, PathText};
 use pb_unit::Plan;
-use pb_workspace::{DependencyKind, Entry, Library, Package, Workspace};
+use pb_workspace::{Options, Workspace, load, selected};
 use std::alloc::Global;
-use std::test::Fail;
-use std::time::Instant;
+use std::env;
+use std::time::{CpuClock, Duration};
 
-fn entry(alloc: Global, kind: DependencyKind, to: usize) -> Result<Entry, Fail> {
-    Ok(Entry {
-        key: making::text(alloc, "next")?,
-        kind,
-        to,
-        renamed: false,
-        optional: false,
-        default_features: true,
-        features: Items::new(alloc),
-    })
-}
-
-fn link(alloc: Global, place: usize, count: usize) -> Result<Package, Fail> {
-    let name = format!(in alloc; "p{place:03}")?;
-    let mut made = bare(alloc, name.as_str())?;
-    let mut crate_types = Items::new(alloc);
-    crate_types.push(CrateType::Lib)?;
-    made.library = Some(Library {
-        name: making::text(alloc, "library")?,
-        crate_types,
-        source: PathText::parse(alloc, "/w/lib.rs")?,
-    });
-    made.script = Some(PathText::parse(alloc, "/w/build.rs")?);
-    let next = place.saturating_add(1);
-    if next < count {
-        made.entries.push(entry(alloc, DependencyKind::Normal, next)?)?;
-        made.entries.push(entry(alloc, DependencyKind::Build, next)?)?;
+/// The microseconds of processor time since a start.
+fn since(rt: &HostRuntime, start: Duration) -> Result<u128> {
+    let now = rt.thread_cpu_time()?;
+    match now.checked_sub(start) {
+        Some(passed) => Ok(passed.as_micros()),
+        None => Ok(u128::MAX),
     }
-    Ok(made)
 }
 
-fn chain(alloc: Global, count: usize, binaries: usize) -> Result<Workspace, Fail> {
-    let mut packages = Items::new(alloc);
-    for place in 0..count {
-        let mut made = link(alloc, place, count)?;
-        if place == 0 {
-            for number in 0..binaries {
-                let name = format!(in alloc; "b{number:05}")?;
-                made.binaries.push(binary(alloc, name.as_str())?)?;
-            }
+/// Puts a file.
+fn put(rt: &HostRuntime, memory: &mut Memory<Silent>, path: &str, text: &str) -> Result<()> {
+    let path = PathText::parse(rt.alloc(), path)?;
+    memory.put(rt.alloc(), &path, text.as_bytes())?;
+    Ok(())
+}
+
+/// A number that a word says, or 0.
+fn number_in(words: &[String], place: usize) -> usize {
+    match words.get(place) {
+        Some(word) => word.as_str().parse::<usize>().unwrap_or(0),
+        None => 0,
+    }
+}
+
+/// The shape that the words name.
+fn shape_in(words: &[String]) -> &str {
+    match words.get(1) {
+        Some(word) => word.as_str(),
+        None => "",
+    }
+}
+
+/// Puts a package in this folder that needs the next one, if there is one.
+fn put_link(rt: &HostRuntime, memory: &mut Memory<Silent>, number: usize, folder: &str, next: &str) -> Result<()> {
+    let alloc = rt.alloc();
+    let mut text = format!(in alloc; "package.name = \"p{number:03}\"\n")?;
+    if next != "" {
+        for table in ["dependencies", "build-dependencies"] {
+            let after = number.saturating_add(1);
+            text.push_str(format!(in alloc; "[{table}]\nd = {{ path = \"{next}\", package = \"p{after:03}\" }}\n")?.as_str())?;
         }
-        packages.push(made)?;
     }
-    workspace_with(alloc, packages)
+    for name in ["src/lib.rs", "build.rs"] {
+        put(rt, memory, format!(in alloc; "{folder}/{name}")?.as_str(), "")?;
+    }
+    put(rt, memory, format!(in alloc; "{folder}/Cargo.toml")?.as_str(), text.as_str())
 }
 
-fn part(alloc: Global, count: usize) -> Result<Part, Fail> {
-    let mut enabled = Items::new(alloc);
-    for _ in 0..count {
-        enabled.push(true)?;
+/// Puts a chain of packages.
+fn put_chain(rt: &HostRuntime, memory: &mut Memory<Silent>, count: usize) -> Result<()> {
+    let alloc = rt.alloc();
+    for number in 1..count {
+        let after = number.saturating_add(1);
+        let folder = format!(in alloc; "/w/m{number}")?;
+        let next = if after < count { format!(in alloc; "../m{after}")? } else { String::new(alloc) };
+        put_link(rt, memory, number, folder.as_str(), next.as_str())?;
     }
-    Ok(Part {
-        active: true,
+    put_link(rt, memory, 0, "/w", if count < 2 { "" } else { "m1" })
+}
+
+/// Puts binaries of the first package.
+fn put_binaries(rt: &HostRuntime, memory: &mut Memory<Silent>, count: usize) -> Result<()> {
+    for number in 0..count {
+        let path = format!(in rt.alloc(); "/w/src/bin/b{number:05}.rs")?;
+        put(rt, memory, path.as_str(), "")?;
+    }
+    Ok(())
+}
+
+/// Puts the files of a shape.
+fn put_shape(rt: &HostRuntime, memory: &mut Memory<Silent>, shape: &str, count: usize) -> Result<()> {
+    if shape == "chain" {
+        return put_chain(rt, memory, count);
+    }
+    put_binaries(rt, memory, count)?;
+    put_chain(rt, memory, if shape == "both" { 256 } else { 1 })
+}
+
+/// The workspace in `/w`.
+fn workspace_in(rt: &HostRuntime, memory: &mut Memory<Silent>) -> Result<Workspace>
+    ensures { IfOk result IsSettled }
+{
+    let manifest = PathText::parse(rt.alloc(), "/w/Cargo.toml")?;
+    let target = PathText::parse(rt.alloc(), "/w/target")?;
+    let workspace = load(memory, rt.alloc(), &manifest, &target)?;
+    Ok(workspace)
+}
+
+/// The options of a build of the root package with all its features.
+fn options_of(alloc: Global) -> Result<Options> {
+    Ok(Options {
+        manifest: PathText::parse(alloc, "/w/Cargo.toml")?,
+        packages: Items::new(alloc),
+        workspace: false,
         features: Items::new(alloc),
-        enabled,
+        all_features: true,
+        no_default_features: false,
+        profile: Text::from_str(alloc, "dev")?,
+        lib: false,
+        bins: false,
+        bin: Items::new(alloc),
+        target_dir: None,
+        runner: Items::new(alloc),
+        tool: Text::from_str(alloc, "tool")?,
     })
 }
 
-fn all_enabled(alloc: Global, workspace: &Workspace) -> Result<Features, Fail> {
-    let mut packages = Items::new(alloc);
-    for found in workspace.packages.as_slice() {
-        let count = found.entries.len();
-        packages.push(Sides {
-            target: part(alloc, count)?,
-            host: part(alloc, count)?,
-        })?;
-    }
-    Ok(Features { packages })
-}
-
+/// How many places a plan keeps.
 fn kept(plan: &Plan) -> usize {
-    let mut sum = 0usize;
+    let mut sum = plan.units().len();
     for planned in plan.units() {
         sum = sum.saturating_add(planned.needs.len());
         sum = sum.saturating_add(planned.reaches.len());
@@ -121,41 +148,41 @@ fn kept(plan: &Plan) -> usize {
     sum
 }
 
-fn measure(rt: &HostRuntime, shape: &str, count: usize, binaries: usize) -> Result<(), Fail> {
-    let alloc = rt.alloc();
-    let workspace = chain(alloc, count, binaries)?;
-    let features = all_enabled(alloc, &workspace)?;
-    let mut asked = no_selection(alloc);
-    asked.packages.push(0)?;
-    if !is_settled(alloc, &workspace)? {
-        return Ok(());
+/// Plans once. The time, and how many places the plan keeps.
+fn call(rt: &HostRuntime, workspace: &Workspace, options: &Options) -> Result<(u128, usize)>
+    requires { IsSettled workspace.now }
+{
+    let selection = selected(rt.alloc(), workspace, options)?;
+    let features = resolve(rt.alloc(), workspace, &selection)?;
+    let start = rt.thread_cpu_time()?;
+    let plan = Plan::plan(rt.alloc(), workspace, &features, &selection, "dev");
+    let spent = since(rt, start)?;
+    match plan {
+        Ok(plan) => Ok((spent, kept(&plan))),
+        Err(_) => Ok((spent, 0)),
     }
-    if !are_within(asked.packages.as_slice(), workspace.packages.len()) {
-        return Ok(());
-    }
-    let start = Instant::now(rt)?;
-    let answer = Plan::plan(alloc, &workspace, &features, &asked, "dev");
-    let spent = start.elapsed(rt)?.as_micros();
-    if let Ok(plan) = answer {
-        let units = plan.units().len();
-        let places = kept(&plan);
-        println!(rt; "{shape} {count} {binaries} units {units} places {places} microseconds {spent}")?;
-    }
-    Ok(())
 }
 
-fn main(rt: HostRuntime) -> Result<(), Fail> {
-    for count in [64usize, 128, 256] {
-        measure(&rt, "chain", count, 0)?;
+fn main(rt: HostRuntime) -> Result<()> {
+    let words: Vec<String> = env::args(&rt)?.collect(rt.alloc())?;
+    let count = number_in(words.as_slice(), 2);
+    let calls = number_in(words.as_slice(), 3);
+    let shape = shape_in(words.as_slice());
+    let mut memory = Memory::new(rt.alloc(), Silent);
+    put_shape(&rt, &mut memory, shape, count)?;
+    let workspace = workspace_in(&rt, &mut memory)?;
+    let options = options_of(rt.alloc())?;
+    let mut least = u128::MAX;
+    let mut answer = 0usize;
+    for _ in 0..calls {
+        let (spent, size) = call(&rt, &workspace, &options)?;
+        least = least.min(spent);
+        answer = size;
     }
-    for binaries in [1_023usize, 2_047, 4_093] {
-        measure(&rt, "binaries", 1, binaries)?;
-    }
-    for binaries in [640usize, 1_280, 2_560] {
-        measure(&rt, "both", 256, binaries)?;
-    }
+    println!(rt; "{answer} {least}")?;
     Ok(())
 }
-RATTLE
-cd "$work/crates/measure"
-${TRY:-} rt "${1:-run}"
+PROGRAM
+measured chain 64 128 256
+measured binaries 1023 2047 4093
+measured both 640 1280 2560

@@ -1,28 +1,18 @@
 #!/usr/bin/env bash
-# Times `load` beside `read_manifest` on the same manifests: workspaces in memory of 64, 128 and 256 members, each of
-# which depends on the one before it, and one of 256 members beside 10,000 files. It builds a small program in a folder
-# of its own, over copies of the crates, and takes away the folder at the end. Prints a line a workspace: members,
-# other files, bytes of all manifests, both times (the least of nine, in microseconds of processor time) and their
-# quotient.
+# Measures `load` over workspaces in memory, and beside it the manifest reader over the same manifests.
+#
+#   members      so many members, each with 200 features, each of which depends on the one before it
+#   read         the same manifests, read one by one by the manifest reader
+#   files        256 members, and so many files beside the sources, which a glob goes over
+#   inherited    one member that takes so many entries from its workspace
+#
+# Prints a line a size, and the exponents. What is measured and how is said in `measured.sh`.
 set -euo pipefail
-top="$(cd "$(dirname "$0")/.." && pwd)"
-folder="$(mktemp -d)"
-trap 'rm -rf "$folder"' EXIT
-mkdir -p "$folder/crates/bench_workspaces/src"
-for crate in pb_closure pb_data pb_manifest pb_place pb_workspace; do
-    cp -r "$top/crates/$crate" "$folder/crates/"
-done
-cp "$top/crates/pb_checks_workspaces/src/child.rt" "$folder/crates/bench_workspaces/src/"
-cat > "$folder/crates.txt" <<'LIST'
-pb_closure: pb_data
-pb_data: indexmap
-pb_manifest: pb_data semver thiserror toml toml_parser
-pb_place: pb_data thiserror
-pb_workspace: pb_closure pb_data pb_manifest pb_place thiserror
-bench_workspaces: pb_data pb_manifest pb_place pb_workspace anyhow
-LIST
-cat > "$folder/crates/bench_workspaces/src/main.rt" <<'PROGRAM'
-//! Times the loader beside the manifest reader.
+crates="pb_closure pb_data pb_manifest pb_place pb_workspace"
+uses="pb_data pb_manifest pb_place pb_workspace"
+. "$(dirname "$0")/measured.sh"
+program <<'PROGRAM'
+//! Measures the loader.
 #![tactic(auto)]
 
 mod child;
@@ -32,7 +22,8 @@ use child::Silent;
 use pb_manifest::read_manifest;
 use pb_place::{Memory, PathText};
 use pb_workspace::load;
-use std::time::Duration;
+use std::env;
+use std::time::{CpuClock, Duration};
 
 /// The microseconds of processor time since a start.
 fn since(rt: &HostRuntime, start: Duration) -> Result<u128> {
@@ -43,7 +34,29 @@ fn since(rt: &HostRuntime, start: Duration) -> Result<u128> {
     }
 }
 
-/// The manifest of a member, with so many features.
+/// Puts a file.
+fn put(rt: &HostRuntime, memory: &mut Memory<Silent>, path: &str, text: &str) -> Result<()> {
+    let path = PathText::parse(rt.alloc(), path)?;
+    memory.put(rt.alloc(), &path, text.as_bytes())?;
+    Ok(())
+}
+
+/// A number that a word says, or 0.
+fn number_in(words: &[String], place: usize) -> usize {
+    match words.get(place) {
+        Some(word) => word.as_str().parse::<usize>().unwrap_or(0),
+        None => 0,
+    }
+}
+
+/// The shape that the words name.
+fn shape_in(words: &[String]) -> &str {
+    match words.get(1) {
+        Some(word) => word.as_str(),
+        None => "",
+    }
+}
+/// The manifest of a member, with 200 features.
 fn manifest_of(rt: &HostRuntime, number: usize) -> Result<String> {
     let alloc = rt.alloc();
     let before = number.saturating_sub(1);
@@ -54,85 +67,114 @@ fn manifest_of(rt: &HostRuntime, number: usize) -> Result<String> {
     Ok(text)
 }
 
-/// Puts a file.
-fn put(rt: &HostRuntime, memory: &mut Memory<Silent>, path: &str, text: &str) -> Result<()> {
-    let alloc = rt.alloc();
-    if let Ok(path) = PathText::parse(alloc, path) {
-        memory.put(alloc, &path, text.as_bytes())?;
+/// Puts members, and a root whose members they are.
+fn put_members(rt: &HostRuntime, memory: &mut Memory<Silent>, count: usize) -> Result<()> {
+    put(rt, memory, "/w/Cargo.toml", "[workspace]\nmembers = [\"m*\"]\n")?;
+    for number in 0..count {
+        let text = manifest_of(rt, number)?;
+        let path = format!(in rt.alloc(); "/w/m{number}/Cargo.toml")?;
+        put(rt, memory, path.as_str(), text.as_str())?;
     }
     Ok(())
 }
 
-/// The microseconds that reading all manifests takes, one by one, and their bytes.
-fn reading_time(rt: &HostRuntime, texts: &[String]) -> Result<u128> {
+/// Puts files that no package looks at.
+fn put_others(rt: &HostRuntime, memory: &mut Memory<Silent>, count: usize) -> Result<()> {
+    for number in 0..count {
+        let path = format!(in rt.alloc(); "/w/m0/data/{number}")?;
+        put(rt, memory, path.as_str(), "")?;
+    }
+    Ok(())
+}
+
+/// Puts a workspace with so many entries and a member that takes them all.
+fn put_inherited(rt: &HostRuntime, memory: &mut Memory<Silent>, count: usize) -> Result<()> {
+    let alloc = rt.alloc();
+    let mut root = String::from_str(alloc, "[workspace]\nmembers = [\"m\"]\n[workspace.dependencies]\n")?;
+    let mut member = String::from_str(alloc, "package.name = \"m\"\n[dependencies]\n")?;
+    for number in 0..count {
+        root.push_str(format!(in alloc; "d{number} = {{ path = \"m\", package = \"m\" }}\n")?.as_str())?;
+        member.push_str(format!(in alloc; "d{number}.workspace = true\n")?.as_str())?;
+    }
+    put(rt, memory, "/w/Cargo.toml", root.as_str())?;
+    put(rt, memory, "/w/m/Cargo.toml", member.as_str())
+}
+
+/// Puts the files of a shape.
+fn put_shape(rt: &HostRuntime, memory: &mut Memory<Silent>, shape: &str, count: usize) -> Result<()> {
+    if shape == "inherited" {
+        return put_inherited(rt, memory, count);
+    }
+    if shape == "files" {
+        put_members(rt, memory, 256)?;
+        return put_others(rt, memory, count);
+    }
+    put_members(rt, memory, count)
+}
+
+/// The manifests of so many members.
+fn texts_of(rt: &HostRuntime, count: usize) -> Result<Vec<String>> {
+    let mut texts = Vec::new(rt.alloc());
+    for number in 0..count {
+        texts.push(manifest_of(rt, number)?)?;
+    }
+    Ok(texts)
+}
+
+/// Reads manifests. The time, and how many are read.
+fn read_all(rt: &HostRuntime, texts: &[String]) -> Result<(u128, usize)> {
+    let mut read = 0usize;
     let start = rt.thread_cpu_time()?;
     for text in texts {
-        if read_manifest(rt.alloc(), text.as_bytes()).is_err() {
-            println!(rt; "refused")?;
+        if read_manifest(rt.alloc(), text.as_bytes()).is_ok() {
+            read = read.saturating_add(1);
         }
     }
-    since(rt, start)
+    Ok((since(rt, start)?, read))
 }
 
-/// The microseconds that loading takes.
-fn loading_time(rt: &HostRuntime, memory: &mut Memory<Silent>) -> Result<u128> {
+/// Loads the workspace. The time, and how many packages it has.
+fn load_one(rt: &HostRuntime, memory: &mut Memory<Silent>) -> Result<(u128, usize)> {
     let alloc = rt.alloc();
-    let (Ok(manifest), Ok(target)) = (
-        PathText::parse(alloc, "/w/Cargo.toml"),
-        PathText::parse(alloc, "/w/target"),
-    ) else {
-        return Ok(0);
-    };
+    let manifest = PathText::parse(alloc, "/w/Cargo.toml")?;
+    let target = PathText::parse(alloc, "/w/target")?;
     let start = rt.thread_cpu_time()?;
-    let loaded = load(memory, alloc, &manifest, &target).is_ok();
-    let passed = since(rt, start)?;
-    if !loaded {
-        println!(rt; "refused")?;
+    let loaded = load(memory, alloc, &manifest, &target);
+    let spent = since(rt, start)?;
+    match loaded {
+        Ok(workspace) => Ok((spent, workspace.packages.len())),
+        Err(_) => Ok((spent, 0)),
     }
-    Ok(passed)
 }
 
-/// Times a workspace of so many members and other files.
-fn report(rt: &HostRuntime, members: usize, others: usize) -> Result<()> {
-    let alloc = rt.alloc();
-    let mut memory = Memory::new(alloc, Silent);
-    let mut texts = Vec::new(alloc);
-    put(rt, &mut memory, "/w/Cargo.toml", "[workspace]\nmembers = [\"m*\"]\n")?;
-    for number in 0..members {
-        let text = manifest_of(rt, number)?;
-        let path = format!(in alloc; "/w/m{number}/Cargo.toml")?;
-        put(rt, &mut memory, path.as_str(), text.as_str())?;
-        texts.push(text)?;
+/// Reads or loads once.
+fn call(rt: &HostRuntime, memory: &mut Memory<Silent>, shape: &str, texts: &[String]) -> Result<(u128, usize)> {
+    if shape == "read" {
+        return read_all(rt, texts);
     }
-    for number in 0..others {
-        let path = format!(in alloc; "/w/m0/data/{number}")?;
-        put(rt, &mut memory, path.as_str(), "")?;
-    }
-    let mut bytes = 0usize;
-    for text in texts.as_slice() {
-        bytes = bytes.saturating_add(text.len());
-    }
-    let mut reading = u128::MAX;
-    let mut loading = u128::MAX;
-    for _ in 0..9u8 {
-        reading = reading.min(reading_time(rt, texts.as_slice())?);
-        loading = loading.min(loading_time(rt, &mut memory)?);
-    }
-    println!(rt; "{members} {others} {bytes} {reading} {loading}")?;
-    Ok(())
+    load_one(rt, memory)
 }
 
 fn main(rt: HostRuntime) -> Result<()> {
-    report(&rt, 64, 0)?;
-    report(&rt, 128, 0)?;
-    report(&rt, 256, 0)?;
-    report(&rt, 256, 10000)?;
+    let words: Vec<String> = env::args(&rt)?.collect(rt.alloc())?;
+    let count = number_in(words.as_slice(), 2);
+    let calls = number_in(words.as_slice(), 3);
+    let shape = shape_in(words.as_slice());
+    let mut memory = Memory::new(rt.alloc(), Silent);
+    put_shape(&rt, &mut memory, shape, count)?;
+    let texts = texts_of(&rt, if shape == "read" { count } else { 0 })?;
+    let mut least = u128::MAX;
+    let mut answer = 0usize;
+    for _ in 0..calls {
+        let (spent, size) = call(&rt, &mut memory, shape, texts.as_slice())?;
+        least = least.min(spent);
+        answer = size;
+    }
+    println!(rt; "{answer} {least}")?;
     Ok(())
 }
 PROGRAM
-cd "$folder"
-git init -q .
-cd "$folder/crates/bench_workspaces"
-${TRY:-} rt "${MODE:-run}" > "$folder/built" 2>&1 || { cat "$folder/built"; exit 1; }
-printf '%8s %8s %9s %13s %8s %9s\n' members others bytes read_manifest load quotient
-"$folder/crates/bench_workspaces/out/bench_workspaces" | awk '{ printf "%8d %8d %9d %13d %8d %9.2f\n", $1, $2, $3, $4, $5, $5 / $4 }'
+measured read 64 128 256
+measured members 64 128 256
+measured files 10000 20000 40000
+measured inherited 1000 2000 4000

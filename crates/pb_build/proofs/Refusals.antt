@@ -1,100 +1,73 @@
--- Faults of one kind that are none of another.
-use Rattle.std.proofs.Common.{◌≡◌, ◌∙◌, ◌||◌, ℕ, List, Bool, codes, sym, ap, Result, Ok, Err, IfErr, true, false, refl, subst, inl, inr}
-use Rattle.std.proofs.lemmas.Bool.{false≢true}
-use Rattle.std.specs.Str.{bytes_eq}
-use Rattle.pb_place.specs.declared.place.PlaceFault.TheVariants as place
+-- Refusals, told as faults of a build.
+use Rattle.std.proofs.Common.{◌≡◌, ◌≢◌, ◌∙◌, ◌⊎◌, ℕ, List, Bool, true, false, Ok, Err, refl, sym, ap, subst, inl, inr}
+use Rattle.pb_feature.specs.Faults as feature
+use Rattle.pb_feature.specs.Resolved.{IsResolved}
+use Rattle.pb_feature.specs.declared.fault.FeatureFault.{FeatureFault}
+use Rattle.pb_feature.specs.declared.resolved.Features.{Features}
+use Rattle.pb_place.specs.World.{World}
 use Rattle.pb_report.specs.declared.fault.BuildFault.{BuildFault}
 use Rattle.pb_report.specs.declared.fault.BuildFault.TheVariants.{Plan, Toolchain, Child, Device, Sink, OutOfMemory}
-use Rattle.pb_build.specs.declared.unit.LibraryUnit.{LibraryUnit}
-use Rattle.pb_build.specs.Unit.{key_of}
-use Rattle.pb_build.specs.Causes.{is_failure, is_sink, is_inner, is_refusal}
-use Rattle.pb_build.specs.Naming.{is_named, is_read, bears, names_unit, NamesStep}
+use Rattle.pb_report.specs.declared.fault.Refusal.{Refusal}
+use Rattle.pb_report.specs.declared.fault.Refusal.TheVariants as refusal
+use Rattle.pb_unit.specs.Plan as plan
+use Rattle.pb_unit.specs.declared.fault.PlanFault.{PlanFault}
+use Rattle.pb_workspace.specs.Causes.{is_outside}
+use Rattle.pb_workspace.specs.Loaded.{workspace_of}
+use Rattle.pb_workspace.specs.Selected.{selected}
+use Rattle.pb_workspace.specs.declared.fault.LoadFault.{LoadFault}
+use Rattle.pb_workspace.specs.declared.fault.LoadFault.TheVariants as load
+use Rattle.pb_workspace.specs.declared.options.Options.{Options}
+use Rattle.pb_workspace.specs.declared.options.Selection.{Selection}
+use Rattle.pb_workspace.specs.declared.workspace.Workspace.{Workspace}
+use Rattle.pb_build.specs.Planning.{IsRefused, by_load, by_selection, by_feature, by_plan}
+use Rattle.pb_build.specs.Private.{unread, IsToldRefusal, IsRefusedOf, HasNoProject}
+use Rattle.pb_build.specs.Private as private
 
-pub never_refused : {A : Type 0} (r : Result A BuildFault) (Q : Type 0) → IfErr r (λ e. is_refusal e ≡ false) → IfErr r (λ e. is_refusal e ≡ true → Q)
-never_refused (Ok x) Q h = tt
-never_refused (Err e) Q h = λ is. absurd (false≢true (sym h ∙ is))
+-- a workspace that cannot be read
+pub unread_told : (options : Options) (target : List ℕ) (w : World) (fault : LoadFault) → (is_outside fault ≡ false → workspace_of options.manifest target w ≡ Err fault) → IsToldRefusal options target w (unread fault)
+unread_told options target w (load.NoManifest path) told = by_load (load.NoManifest path) (told refl)
+unread_told options target w (load.Manifest path fault) told = by_load (load.Manifest path fault) (told refl)
+unread_told options target w load.SameName told = by_load load.SameName (told refl)
+unread_told options target w load.NameMismatch told = by_load load.NameMismatch (told refl)
+unread_told options target w load.VersionMismatch told = by_load load.VersionMismatch (told refl)
+unread_told options target w load.LinksTwice told = by_load load.LinksTwice (told refl)
+unread_told options target w load.LinksWithoutScript told = by_load load.LinksWithoutScript (told refl)
+unread_told options target w load.NoInherited told = by_load load.NoInherited (told refl)
+unread_told options target w load.TooMany told = by_load load.TooMany (told refl)
+unread_told options target w load.SameBinary told = by_load load.SameBinary (told refl)
+unread_told options target w (load.Place path fault) told = tt
+unread_told options target w load.NoSuchPackage told = by_load load.NoSuchPackage (told refl)
+unread_told options target w load.OutOfMemory told = tt
 
-pub inner_failed : (e : BuildFault) → is_inner e ≡ true → is_failure e ≡ false
-inner_failed (Plan r) h = refl
-inner_failed Toolchain h = refl
-inner_failed (Child unit fault) h = absurd (false≢true h)
-inner_failed (Device unit fault) h = absurd (false≢true h)
-inner_failed Sink h = refl
-inner_failed OutOfMemory h = refl
+-- a workspace that was read and has no project
+pub unselected : (options : Options) (ws : Workspace) (e : BuildFault) → (e ≡ OutOfMemory) ⊎ ((fault : LoadFault) × (e ≡ Plan (refusal.Load fault)) × (selected ws options ≡ Err fault)) → IsRefusedOf options ws e
+unselected options ws e (inl none) = subst (IsRefusedOf options ws) (sym none) tt
+unselected options ws e (inr (fault, is, told)) = subst (IsRefusedOf options ws) (sym is) (private.by_selection fault told)
 
-pub inner_named : (e : BuildFault) → is_inner e ≡ true → is_named e ≡ true
-inner_named (Plan r) h = refl
-inner_named Toolchain h = refl
-inner_named (Child unit fault) h = absurd (false≢true h)
-inner_named (Device unit fault) h = absurd (false≢true h)
-inner_named Sink h = absurd (false≢true h)
-inner_named OutOfMemory h = refl
+pub unresolved : (options : Options) (ws : Workspace) (selection : Selection) (e : BuildFault) → selected ws options ≡ Ok selection
+    → (e ≡ OutOfMemory) ⊎ ((fault : FeatureFault) × (e ≡ Plan (refusal.Feature fault)) × feature.Refuses ws selection fault) → IsRefusedOf options ws e
+unresolved options ws selection e chosen (inl none) = subst (IsRefusedOf options ws) (sym none) tt
+unresolved options ws selection e chosen (inr (fault, is, told)) = subst (IsRefusedOf options ws) (sym is) (private.by_feature fault selection chosen told)
 
--- a fault with a name is none of the sink
-pub named_unsunk : (e : BuildFault) → is_named e ≡ true → is_sink e ≡ false
-named_unsunk (Plan r) h = refl
-named_unsunk Toolchain h = refl
-named_unsunk (Child unit fault) h = refl
-named_unsunk (Device unit fault) h = refl
-named_unsunk Sink h = absurd (false≢true h)
-named_unsunk OutOfMemory h = refl
+-- why a plan was not made under a profile, as a fault of a build
+abbrev pub Stops : Workspace → Selection → Features → List ℕ → BuildFault → Type 0
+Stops ws selection features profile e = (e ≡ OutOfMemory) ⊎ ((fault : PlanFault) × (e ≡ Plan (refusal.Plan fault)) × plan.Refuses ws features selection profile fault)
 
-pub inner_read : (e : BuildFault) → is_inner e ≡ true → is_read e ≡ true
-inner_read (Plan r) h = refl
-inner_read Toolchain h = refl
-inner_read (Child unit fault) h = absurd (false≢true h)
-inner_read (Device unit fault) h = absurd (false≢true h)
-inner_read Sink h = absurd (false≢true h)
-inner_read OutOfMemory h = refl
+pub unplanned : (options : Options) (ws : Workspace) (selection : Selection) (features : Features) (e : BuildFault) → selected ws options ≡ Ok selection → IsResolved ws selection features
+    → Stops ws selection features options.profile e → IsRefusedOf options ws e
+unplanned options ws selection features e chosen resolved (inl none) = subst (IsRefusedOf options ws) (sym none) tt
+unplanned options ws selection features e chosen resolved (inr (fault, is, told)) = subst (IsRefusedOf options ws) (sym is) (private.by_plan fault selection features chosen resolved told)
 
--- a fault of a step that reads has a name of the right kind
-pub read_named : (e : BuildFault) → is_read e ≡ true → is_named e ≡ true
-read_named (Plan r) h = refl
-read_named Toolchain h = refl
-read_named (Child unit fault) h = absurd (false≢true h)
-read_named (Device unit place.Read) h = h
-read_named (Device unit place.List) h = h
-read_named (Device unit place.Write) h = h
-read_named (Device unit place.Remove) h = absurd (false≢true h)
-read_named (Device unit place.Variable) h = h
-read_named (Device unit place.OutOfMemory) h = h
-read_named Sink h = absurd (false≢true h)
-read_named OutOfMemory h = refl
+-- the refusals of a workspace are refusals of the world in which it was read
+no_project : (options : Options) (target : List ℕ) (w : World) (ws : Workspace) (why : Refusal) → workspace_of options.manifest target w ≡ Ok ws → HasNoProject options ws why → IsRefused options target w why
+no_project options target w ws _ read (private.by_selection fault told) = by_selection fault ws read told
+no_project options target w ws _ read (private.by_feature fault selection chosen told) = by_feature fault ws selection record { read = read; chosen = chosen } told
+no_project options target w ws _ read (private.by_plan fault selection features chosen resolved told) = by_plan fault ws selection features record { read = read; chosen = chosen } resolved told
 
--- what a child's fault bears is the query's name or the unit's
-pub query_borne : (key : List ℕ) (e : BuildFault) → bears (codes "-vV") e ≡ true → names_unit key e ≡ true
-query_borne key (Plan r) h = refl
-query_borne key Toolchain h = refl
-query_borne key (Child unit fault) h = ap (λ b. b || bytes_eq unit key) h
-query_borne key (Device unit fault) h = absurd (false≢true h)
-query_borne key Sink h = absurd (false≢true h)
-query_borne key OutOfMemory h = refl
-
-pub unit_borne : (key : List ℕ) (e : BuildFault) → bears key e ≡ true → names_unit key e ≡ true
-unit_borne key (Plan r) h = refl
-unit_borne key Toolchain h = refl
-unit_borne key (Child unit fault) h = either (bytes_eq unit (codes "-vV")) (bytes_eq unit key) h
-  where
-    either : (a b : Bool) → b ≡ true → a || b ≡ true
-    either true b h = refl
-    either false b h = h
-unit_borne key (Device unit fault) h = absurd (false≢true h)
-unit_borne key Sink h = absurd (false≢true h)
-unit_borne key OutOfMemory h = refl
-
-pub ruleset bearing_laws = (query_borne, unit_borne)
-
--- what a fault names, where a step that reads has failed, and where a step after the plan has
-pub read_step : (planned : Result LibraryUnit BuildFault) (e : BuildFault) → is_read e ≡ true → NamesStep planned e
-read_step (Ok u) e h = inl h
-read_step (Err r) e h = h
-
-pub unit_step : {A : Type 0} (r : Result A BuildFault) (planned : Result LibraryUnit BuildFault) (u : LibraryUnit) (key : List ℕ) → planned ≡ Ok u → key ≡ key_of u → IfErr r (λ e. names_unit key e ≡ true)
-    → IfErr r (λ e. NamesStep planned e)
-unit_step (Ok x) planned u key is is_key h = tt
-unit_step (Err e) planned u key is is_key h =
-    subst (λ (p : Result LibraryUnit BuildFault). NamesStep p e) (sym is) (inr (subst (λ (k : List ℕ). names_unit k e ≡ true) is_key h))
-
-pub ruleset inner_laws = (inner_failed, inner_named, inner_read)
-
-pub ruleset named_laws = (named_unsunk)
+pub refused_there : (options : Options) (target : List ℕ) (w : World) (ws : Workspace) (e : BuildFault) → workspace_of options.manifest target w ≡ Ok ws → IsRefusedOf options ws e → IsToldRefusal options target w e
+refused_there options target w ws (Plan why) read told = no_project options target w ws why read told
+refused_there options target w ws Toolchain read told = absurd told
+refused_there options target w ws (Child unit fault) read told = absurd told
+refused_there options target w ws (Device name fault) read told = absurd told
+refused_there options target w ws Sink read told = absurd told
+refused_there options target w ws OutOfMemory read told = tt

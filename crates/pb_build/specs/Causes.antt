@@ -1,67 +1,69 @@
--- How the counters of a place move where a step of a build ends, and how its faults come about.
-use Rattle.std.specs.Prelude.{◌≡◌, ℕ, List, Bool, true, false, Result, MatchResult}
-use Rattle.pb_place.specs.Counts.{Counts, up}
+-- How many children a build has started where it ends.
+use Rattle.std.specs.Prelude.{◌≡◌, ◌⊎◌, ℕ, zero, suc, ◌+◌, codes, length, List}
+use Rattle.pb_place.specs.Counts.{up}
+use Rattle.pb_place.specs.declared.place.PlaceFault.TheVariants as place
 use Rattle.pb_report.specs.declared.fault.BuildFault.{BuildFault}
 use Rattle.pb_report.specs.declared.fault.BuildFault.TheVariants.{Plan, Toolchain, Child, Device, Sink, OutOfMemory}
-use Rattle.pb_build.specs.Naming.{is_named, is_read, names_unit}
+use Rattle.pb_report.specs.declared.summary.Summary.{Summary}
 
--- a call of the place failed
-abbrev pub is_failure : BuildFault → Bool
-is_failure (Plan r) = false
-is_failure Toolchain = false
-is_failure (Child unit fault) = true
-is_failure (Device unit fault) = true
-is_failure Sink = false
-is_failure OutOfMemory = false
+-- so many more
+abbrev pub upped : ℕ → ℕ → ℕ
+upped zero n = n
+upped (suc k) n = up (upped k n)
 
--- a sink failed
-abbrev pub is_sink : BuildFault → Bool
-is_sink (Plan r) = false
-is_sink Toolchain = false
-is_sink (Child unit fault) = false
-is_sink (Device unit fault) = false
-is_sink Sink = true
-is_sink OutOfMemory = false
+-- so many more or some more
+abbrev pub SomeStarts : ℕ → ℕ → ℕ → Type 0
+SomeStarts least old new = (n : ℕ) × (new ≡ upped (n + least) old)
 
--- neither a call of the place nor a sink failed
-abbrev pub is_inner : BuildFault → Bool
-is_inner (Plan r) = true
-is_inner Toolchain = true
-is_inner (Child unit fault) = false
-is_inner (Device unit fault) = false
-is_inner Sink = false
-is_inner OutOfMemory = true
+-- where the units came to their end: one child for each key
+abbrev pub UnitStarts : Summary → ℕ → ℕ → Type 0
+UnitStarts summary old new = new ≡ upped (length summary.started) old
 
--- a step that starts no child: a call failed just where the fault says so, and then no further call was made; the fault has its name, and no sink was written
-abbrev pub Reads : {T : Type 0} → Result T BuildFault → Counts → Counts → Type 0
-Reads result old new = MatchResult result (λ _. (new.failures ≡ old.failures) × (new.starts ≡ old.starts))
-    (λ e. (new.starts ≡ old.starts) × (is_failure e ≡ true → new.failures ≡ up old.failures) × (is_failure e ≡ true → new.late ≡ 0) × (is_read e ≡ true))
+-- the faults of one unit: its files are removed, its child is started, its dep-info is read, its lines are written
+abbrev pub MayTell : List ℕ → BuildFault → ℕ → ℕ → Type 0
+MayTell key (Plan why) old new = ⊥
+MayTell key Toolchain old new = ⊥
+MayTell key (Child unit fault) old new = (unit ≡ key) × (new ≡ up old)
+MayTell key (Device unit fault) old new = (unit ≡ key) × (((fault ≡ place.Remove) × (new ≡ old)) ⊎ ((fault ≡ place.Read) × (new ≡ up old)))
+MayTell key Sink old new = new ≡ up old
+MayTell key OutOfMemory old new = (new ≡ old) ⊎ (new ≡ up old)
 
--- a step that removes files of the unit of this key
-abbrev pub Removes : {T : Type 0} → List ℕ → Result T BuildFault → Counts → Counts → Type 0
-Removes key result old new = MatchResult result (λ _. (new.failures ≡ old.failures) × (new.starts ≡ old.starts))
-    (λ e. (new.starts ≡ old.starts) × (is_failure e ≡ true → new.failures ≡ up old.failures) × (is_failure e ≡ true → new.late ≡ 0) × (is_named e ≡ true) × (names_unit key e ≡ true))
+-- the faults of the units
+abbrev pub MayTellAll : BuildFault → ℕ → ℕ → Type 0
+MayTellAll (Plan why) old new = ⊥
+MayTellAll Toolchain old new = ⊥
+MayTellAll (Child unit fault) old new = SomeStarts 1 old new
+MayTellAll (Device unit fault) old new = SomeStarts 0 old new
+MayTellAll Sink old new = SomeStarts 1 old new
+MayTellAll OutOfMemory old new = SomeStarts 0 old new
 
--- a step that starts one child
-abbrev pub Starts : {T : Type 0} → Result T BuildFault → Counts → Counts → Type 0
-Starts result old new = MatchResult result (λ _. (new.failures ≡ old.failures) × (new.starts ≡ up old.starts))
-    (λ e. (is_failure e ≡ true → new.failures ≡ up old.failures) × (is_failure e ≡ true → new.late ≡ 0) × (is_named e ≡ true))
+-- the faults of what comes before the query
+abbrev pub MayPlan : BuildFault → ℕ → ℕ → Type 0
+MayPlan (Plan why) old new = new ≡ old
+MayPlan Toolchain old new = ⊥
+MayPlan (Child unit fault) old new = ⊥
+MayPlan (Device unit fault) old new = new ≡ old
+MayPlan Sink old new = ⊥
+MayPlan OutOfMemory old new = new ≡ old
 
--- a step that starts the query and then the unit's child
-abbrev pub StartsTwice : {T : Type 0} → Result T BuildFault → Counts → Counts → Type 0
-StartsTwice result old new = MatchResult result (λ _. (new.failures ≡ old.failures) × (new.starts ≡ up (up old.starts)))
-    (λ e. (is_failure e ≡ true → new.failures ≡ up old.failures) × (is_failure e ≡ true → new.late ≡ 0) × (is_named e ≡ true))
+-- of the query
+abbrev pub MayAsk : BuildFault → ℕ → ℕ → Type 0
+MayAsk (Plan why) old new = ⊥
+MayAsk Toolchain old new = new ≡ up old
+MayAsk (Child unit fault) old new = (unit ≡ codes "-vV") × (new ≡ up old)
+MayAsk (Device unit fault) old new = ⊥
+MayAsk Sink old new = ⊥
+MayAsk OutOfMemory old new = (new ≡ old) ⊎ (new ≡ up old)
 
--- the build was refused
-abbrev pub is_refusal : BuildFault → Bool
-is_refusal (Plan r) = true
-is_refusal Toolchain = false
-is_refusal (Child unit fault) = false
-is_refusal (Device unit fault) = false
-is_refusal Sink = false
-is_refusal OutOfMemory = false
+-- a build starts the query, and one child for each key of its summary
+abbrev pub BuildStarts : Summary → ℕ → ℕ → Type 0
+BuildStarts summary old new = new ≡ upped (1 + length summary.started) old
 
--- a build: where it ends in a summary, the query and the unit's child were started; where its fault says that a call of the place failed, one did, and no further call was made
-abbrev pub Built : {T : Type 0} → Result T BuildFault → Counts → Counts → Type 0
-Built result old new = MatchResult result (λ _. (new.failures ≡ old.failures) × (new.starts ≡ up (up old.starts)))
-    (λ e. (is_failure e ≡ true → new.failures ≡ up old.failures) × (is_failure e ≡ true → new.late ≡ 0))
+-- the faults of a build
+abbrev pub MayBuild : BuildFault → ℕ → ℕ → Type 0
+MayBuild (Plan why) old new = new ≡ old
+MayBuild Toolchain old new = new ≡ up old
+MayBuild (Child unit fault) old new = SomeStarts 1 old new
+MayBuild (Device unit fault) old new = SomeStarts 0 old new
+MayBuild Sink old new = SomeStarts 2 old new
+MayBuild OutOfMemory old new = SomeStarts 0 old new

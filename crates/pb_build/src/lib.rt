@@ -1,28 +1,16 @@
-//! Builds a workspace: from the bytes of its manifest to the bytes of its message lines.
-//!
-//! At present one package with one library. What belongs to later crates (commands, message lines, the
-//! run of a unit) lies in private modules of their names.
+//! A build of a workspace: what it is of, its units in order, its message lines and its summary; and sessions of edits
+//! and builds in memory.
 #![tactic(auto)]
 
-mod builder;
-mod command;
-mod device;
+pub mod builder;
+pub mod environment;
 pub mod laws;
-mod library;
-mod message;
-mod package;
-mod plan;
-mod report;
-mod run;
-mod sessions;
-pub mod setup;
-mod texts;
-mod toolchain;
-pub mod unit;
+pub mod planning;
+pub mod sessions;
+pub mod toolchain;
+pub mod units;
 
-pub use builder::build;
-pub use pb_report::{BuildFault, LoadFault, PlanFault, Refusal, Summary, UnitFault, result_line};
-pub use pb_session::{BadSession, Options, SessionStep, read_session};
+pub use builder::{build, missing_libraries};
+pub use environment::Environment;
+pub use laws::{builds_look_at_sources, earlier_builds_change_nothing};
 pub use sessions::{Answer, session};
-pub use setup::Setup;
-pub use unit::{About, LibraryUnit};

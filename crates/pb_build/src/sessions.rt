@@ -1,14 +1,15 @@
 //! Sessions in memory: edits and builds, one after another.
 
 ghost use Rattle.std.specs.Prelude.{◌≡◌, [], IfOk, OnOk};
-ghost use Rattle.pb_build.specs.Session.{Builds, Step, Course, moment};
-ghost use Rattle.pb_build.specs.declared.sessions.Answer.{Answer};
+ghost use Rattle.pb_session.specs.declared.step.SessionStep.TheVariants.{Build};
+ghost use Rattle.pb_build.specs.Session.{Takes, Course, point};
 
 use crate::builder::build;
 use pb_data::Items;
 use pb_place::{Child, Memory, Out};
 use pb_report::{BuildFault, Summary};
-use pb_session::{Options, SessionStep};
+use pb_session::SessionStep;
+use pb_workspace::Options;
 use std::alloc::{AllocError, Global};
 
 /// What one build of a session answered.
@@ -26,7 +27,7 @@ fn add_build<C: Child, O: Out>(
     options: &Options,
     answers: &mut Items<Answer>,
 ) -> Result<(), AllocError>
-    ensures { OnOk result ((answer : Answer) × Builds C.answers options.now answer (moment memory.old (O.taken out.old) answers.old) (moment memory.new (O.taken out.new) answers.new)) }
+    ensures { OnOk result (Takes C.answers (Build options.now) (point memory.old (O.taken out.old) (O.faults out.old) answers.old) (point memory.new (O.taken out.new) (O.faults out.new) answers.new)) }
 {
     let result = build(alloc, memory, out, options);
     answers.push(Answer { result })?;
@@ -41,7 +42,7 @@ fn take_step<C: Child, O: Out>(
     step: &SessionStep,
     answers: &mut Items<Answer>,
 ) -> Result<(), AllocError>
-    ensures { OnOk result (Step C.answers step.now (moment memory.old (O.taken out.old) answers.old) (moment memory.new (O.taken out.new) answers.new)) }
+    ensures { OnOk result (Takes C.answers step.now (point memory.old (O.taken out.old) (O.faults out.old) answers.old) (point memory.new (O.taken out.new) (O.faults out.new) answers.new)) }
 {
     match step {
         SessionStep::Write(path, text) => memory.put(alloc, path, text.as_bytes()),
@@ -52,19 +53,17 @@ fn take_step<C: Child, O: Out>(
     }
 }
 
-/// Takes steps in turn over a place in memory, and gives an answer for each build. The message lines of
-/// all builds go to one sink. The one fault is want of memory outside a build; within one it is that
-/// build's answer.
+/// Takes steps in turn over a place in memory, and gives an answer for each build. The message lines of all builds go
+/// to one sink. The one fault is want of memory outside a build; within one it is that build's answer.
 ///
-/// Each build gives what its own world gives from nothing: its answer, its lines and its files are those of
-/// `result_of` in the world that the steps before it have left, wherever the edits lie.
+/// Each build ends as `build` says, in the world that the steps before it have left, and its cause is told with it.
 pub fn session<C: Child, O: Out>(
     alloc: Global,
     memory: &mut Memory<C>,
     out: &mut O,
     steps: &[SessionStep],
 ) -> Result<Items<Answer>, AllocError>
-    ensures { IfOk result (λ answers. Course C.answers steps.now (moment memory.old (O.taken out.old) []) (moment memory.new (O.taken out.new) answers)) }
+    ensures { IfOk result (λ answers. Course C.answers steps.now (point memory.old (O.taken out.old) (O.faults out.old) []) (point memory.new (O.taken out.new) (O.faults out.new) answers)) }
 {
     let mut answers = Items::new(alloc);
     for step in steps {

@@ -1,24 +1,22 @@
 //! The query of the compiler's version.
 
-ghost use Rattle.std.specs.Prelude.{◌≡◌, Bool, IfOk, IfErr, IsTrue, Some, None, true, false, nat_eq, codes};
+ghost use Rattle.std.specs.Prelude.{◌≡◌, IfOk, IsTrue, MatchResult, Some, None, codes};
 ghost use Rattle.std.specs.List.{list_any};
-ghost use Rattle.pb_directive.specs.Lines.{lines_of};
 ghost use Rattle.pb_place.specs.World.{World, from_nothing};
-ghost use Rattle.pb_place.specs.Counts.{up};
-ghost use Rattle.pb_report.specs.Faults.{Told, is_outside};
-ghost use Rattle.pb_build.specs.Causes.{Starts, is_inner, is_refusal};
-ghost use Rattle.pb_build.specs.Naming.{bears};
-ghost use Rattle.pb_build.specs.BuildResult.{version_of, Inside};
-ghost use Rattle.pb_build.specs.Outcome.{is_too_long, is_host, says_host, toolchain_in};
+ghost use Rattle.pb_build.specs.Causes.{MayAsk};
+ghost use Rattle.pb_build.specs.Result.{is_host, says_host, toolchain_in, toolchain_of};
+ghost use Rattle.pb_directive.specs.Lines.{lines_of};
+ghost use Rattle.pb_report.specs.declared.fault.BuildFault.TheVariants as build_fault;
+ghost use Rattle.pb_run.specs.Causes.{Takes, OneStart};
 
-use crate::command::query_of;
-use crate::run::{is_too_long, start};
-use crate::setup::Setup;
+use crate::environment::Environment;
+use pb_command::{Project, ended_fault, query};
 use pb_data::Bytes;
 use pb_directive::lines::lines_of;
 use pb_directive::texts::text_of;
 use pb_place::{Ended, Place};
 use pb_report::BuildFault;
+use pb_run::start;
 use std::alloc::Global;
 
 /// Whether a line says the host: `host: ` and something behind it.
@@ -47,36 +45,41 @@ fn says_host(stdout: &[u8]) -> bool
     text_of(stdout).is_some() && has_host(stdout)
 }
 
-/// What the compiler says of its version, from its answer.
-fn toolchain_in(ended: Ended) -> Result<Bytes, BuildFault>
-    ensures answer { result ≡ toolchain_in ended }
-    ensures here { IfErr result (λ e. is_inner e ≡ true) }
-    ensures begun { IfErr result (λ e. is_refusal e ≡ false) }
-    ensures bears { IfErr result (λ e. bears (codes "-vV") e ≡ true) }
+/// What an answer to the query says of the compiler's version: nothing where its status is not 0, a stream is too
+/// long, or it does not say its host.
+fn toolchain_in(ended: Ended) -> Option<Bytes>
+    ensures { result ≡ toolchain_in ended }
 {
-    let Ended {
-        status,
-        stdout,
-        stderr,
-    } = ended;
-    let good = status == 0 && !is_too_long(&stdout) && !is_too_long(&stderr);
-    if good && says_host(stdout.as_slice()) {
-        Ok(stdout)
+    if ended_fault(&ended).is_none() && says_host(ended.stdout.as_slice()) {
+        Some(ended.stdout)
     } else {
-        Err(BuildFault::Toolchain)
+        None
     }
 }
 
-/// Asks the compiler for its version. Toolchain where it does not say its host.
-pub fn toolchain<P: Place>(place: &mut P, alloc: Global, setup: &Setup) -> Result<Bytes, BuildFault>
-    ensures told { IsTrue P.tells → Told result (version_of P.child setup.now (from_nothing setup.now.target (P.world place.old))) }
+/// Asks the compiler for its version. Toolchain where it does not say its host; Child, with `-vV`, where it gave no
+/// answer.
+pub(crate) fn ask<P: Place>(
+    place: &mut P,
+    alloc: Global,
+    environment: &Environment,
+    project: &Project,
+) -> Result<Bytes, BuildFault>
+    ensures answer { IsTrue P.tells → MatchResult result (λ toolchain. toolchain_of P.child environment.now project.now (from_nothing project.now.workspace.target (P.world place.old)) ≡ Some toolchain)
+        (λ e. e ≡ build_fault.Toolchain → toolchain_of P.child environment.now project.now (from_nothing project.now.workspace.target (P.world place.old)) ≡ None) }
     ensures same { IsTrue P.tells → P.world place.new ≡ P.world place.old }
-    ensures begun { IfErr result (λ e. is_refusal e ≡ false) }
-    ensures starts { Starts result (P.counts place.old) (P.counts place.new) }
-    ensures once { Inside result ((P.counts place.new).starts ≡ up (P.counts place.old).starts) }
-    ensures bears { IfErr result (λ e. bears (codes "-vV") e ≡ true) }
+    ensures takes { Takes OneStart MayAsk result (P.counts place.old) (P.counts place.new) }
 {
-    let command = query_of(alloc, setup)?;
-    let ended = start(place, alloc, "-vV", &command)?;
-    toolchain_in(ended)
+    let command = match query(alloc, &environment.rustc, &project.workspace) {
+        Ok(command) => command,
+        Err(_) => return Err(BuildFault::OutOfMemory),
+    };
+    let ended = match start(place, alloc, "-vV", &command) {
+        Ok(ended) => ended,
+        Err(fault) => return Err(fault),
+    };
+    match toolchain_in(ended) {
+        Some(toolchain) => Ok(toolchain),
+        None => Err(BuildFault::Toolchain),
+    }
 }

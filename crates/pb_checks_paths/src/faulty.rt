@@ -1,7 +1,9 @@
 //! A place whose every call fails: so the clauses can be met by calls that fail, and each sets the last fault.
 
-ghost use Rattle.std.specs.Prelude.{◌≡◌, Some};
-ghost use Rattle.pb_place.specs.Counts.{up};
+ghost use Rattle.std.specs.Prelude.{◌≡◌, ◌≢◌, ◌⊎◌};
+ghost use Rattle.pb_place.specs.Counts.{past_place_fault};
+ghost use Rattle.pb_place.specs.declared.place.PlaceFault.TheVariants.{OutOfMemory};
+ghost use Rattle.pb_checks_paths.specs.Seen.{seen};
 
 use pb_data::{Bytes, Items, Text};
 use pb_place::{Command, Ended, Failure, PathText, Place, PlaceFault, StartFault};
@@ -13,18 +15,46 @@ use std::test::Fail;
 struct Faulty {
     failures: u64,
     starts: u64,
+    late: u64,
     last: Option<Failure>,
+    named: Text,
 }
 
 impl Faulty {
-    /// Counts a failure.
-    fn fail(&mut self, failure: Failure)
-        ensures failures { self.new.failures ≡ up self.old.failures }
-        ensures starts { self.new.starts ≡ self.old.starts }
-        ensures last { self.new.last ≡ Some failure }
+    /// A place of which no call was made.
+    fn new(alloc: Global) -> Faulty {
+        Faulty {
+            failures: 0,
+            starts: 0,
+            late: 0,
+            last: None,
+            named: Text::new(String::new(alloc)),
+        }
+    }
+
+    /// Counts a failing call on what has this name. Where memory is refused, nothing failed.
+    fn fail(&mut self, alloc: Global, fault: PlaceFault, name: &str) -> PlaceFault
+        requires real { fault ≢ OutOfMemory }
+        ensures told { (result ≡ OutOfMemory) ⊎ (result ≡ fault) }
+        ensures counts { seen self.new ≡ past_place_fault name.now result (seen self.old) }
     {
-        self.failures = self.failures.saturating_add(1);
-        self.last = Some(failure);
+        match Text::from_str(alloc, name) {
+            Ok(named) => {
+                self.failures = self.failures.saturating_add(1);
+                self.late = 0;
+                self.last = Some(Failure::Called(fault));
+                self.named = named;
+                fault
+            }
+            Err(_) => {
+                self.late = if self.failures == 0 {
+                    0
+                } else {
+                    self.late.saturating_add(1)
+                };
+                PlaceFault::OutOfMemory
+            }
+        }
     }
 }
 
@@ -39,38 +69,35 @@ impl Place for Faulty {
 
     ghost child = { λ _ _. record { status = pos 0; stdout = []; stderr = []; files = [] } };
 
-    ghost counts = { λ f. record { failures = f.failures; starts = f.starts; late = 0; last = f.last } };
+    ghost counts = { seen };
 
     ghost fails = { λ _. Unit {0} };
 
-    fn read(&mut self, _: Global, _: &PathText) -> Result<Option<Bytes>, PlaceFault> {
-        self.fail(Failure::Called(PlaceFault::Read));
-        Err(PlaceFault::Read)
+    fn read(&mut self, alloc: Global, path: &PathText) -> Result<Option<Bytes>, PlaceFault> {
+        Err(self.fail(alloc, PlaceFault::Read, path.as_str()))
     }
 
-    fn list(&mut self, _: Global, _: &PathText) -> Result<Items<PathText>, PlaceFault> {
-        self.fail(Failure::Called(PlaceFault::List));
-        Err(PlaceFault::List)
+    fn list(&mut self, alloc: Global, folder: &PathText) -> Result<Items<PathText>, PlaceFault> {
+        Err(self.fail(alloc, PlaceFault::List, folder.as_str()))
     }
 
-    fn write(&mut self, _: Global, _: &PathText, _: &[u8]) -> Result<(), PlaceFault> {
-        self.fail(Failure::Called(PlaceFault::Write));
-        Err(PlaceFault::Write)
+    fn write(&mut self, alloc: Global, path: &PathText, _: &[u8]) -> Result<(), PlaceFault> {
+        Err(self.fail(alloc, PlaceFault::Write, path.as_str()))
     }
 
-    fn remove_tree(&mut self, _: Global, _: &PathText) -> Result<(), PlaceFault> {
-        self.fail(Failure::Called(PlaceFault::Remove));
-        Err(PlaceFault::Remove)
+    fn remove_tree(&mut self, alloc: Global, path: &PathText) -> Result<(), PlaceFault> {
+        Err(self.fail(alloc, PlaceFault::Remove, path.as_str()))
     }
 
-    fn variable(&mut self, _: Global, _: &str) -> Result<Option<Text>, PlaceFault> {
-        self.fail(Failure::Called(PlaceFault::Variable));
-        Err(PlaceFault::Variable)
+    fn variable(&mut self, alloc: Global, name: &str) -> Result<Option<Text>, PlaceFault> {
+        Err(self.fail(alloc, PlaceFault::Variable, name))
     }
 
     fn start(&mut self, _: Global, _: &Command) -> Result<Ended, StartFault> {
         self.starts = self.starts.saturating_add(1);
-        self.fail(Failure::Started(StartFault::Died));
+        self.failures = self.failures.saturating_add(1);
+        self.late = 0;
+        self.last = Some(Failure::Started(StartFault::Died));
         Err(StartFault::Died)
     }
 
@@ -83,7 +110,7 @@ impl Place for Faulty {
     }
 
     fn late(&self) -> u64 {
-        0
+        self.late
     }
 }
 
@@ -91,16 +118,16 @@ impl Place for Faulty {
 fn each_call_fails(rt: HostRuntime) -> Result<(), Fail> {
     let alloc = rt.alloc();
     let path = PathText::parse(alloc, "/a")?;
-    let mut place = Faulty {
-        failures: 0,
-        starts: 0,
-        last: None,
-    };
+    let mut place = Faulty::new(alloc);
     assert!(rt; place.read(alloc, &path).is_err());
     assert!(rt; place.last == Some(Failure::Called(PlaceFault::Read)));
+    assert_eq!(rt; place.named.as_str(), "/a");
+    assert!(rt; place.variable(alloc, "V").is_err());
+    assert_eq!(rt; place.named.as_str(), "V");
     assert!(rt; place.write(alloc, &path, b"x").is_err());
     assert!(rt; place.last == Some(Failure::Called(PlaceFault::Write)));
-    assert_eq!(rt; place.failures(), 2);
+    assert_eq!(rt; place.named.as_str(), "/a");
+    assert_eq!(rt; place.failures(), 3);
     assert_eq!(rt; place.late(), 0);
     Ok(())
 }

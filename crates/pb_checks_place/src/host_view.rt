@@ -1,6 +1,7 @@
 //! A view of real files and variables: what is there, what stands nowhere, and what is no file.
 
-use pb_place::{HostView, PathText, View};
+use pb_host::HostView;
+use pb_place::{PathText, View};
 use std::test::Fail;
 
 #[test]

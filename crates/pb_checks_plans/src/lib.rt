@@ -2,10 +2,14 @@
 #![tactic(auto)]
 
 #[cfg(test)]
+mod asking;
+#[cfg(test)]
 mod cases;
 #[cfg(test)]
-mod making;
+mod child;
 #[cfg(test)]
 mod plans;
 #[cfg(test)]
-mod settled;
+mod script_cases;
+#[cfg(test)]
+mod show;

@@ -1,6 +1,6 @@
 //! Tests of the base types, of the readers but that of manifests (the output of scripts, dep-info, session files) and
-//! of the lines that are written (JSON strings, result lines), against worked examples. The crate holds nothing else:
-//! a crate with tests is proved twice, so none that others stand on has any.
+//! of what is written (JSON strings, result lines, faults in words), against worked examples. The crate holds nothing
+//! else: a crate with tests is proved twice, so none that others stand on has any.
 #![tactic(auto)]
 
 #[cfg(test)]
@@ -15,3 +15,5 @@ mod metadata;
 mod results;
 #[cfg(test)]
 mod sessions;
+#[cfg(test)]
+mod wording;

@@ -1,14 +1,19 @@
-//! Result lines, which faults come from outside the rules, and what faults are in words, against worked
-//! examples.
+//! Result lines, and which faults come from outside the rules, against worked examples.
 
 ghost use Rattle.std.specs.Prelude.{◌≡◌};
 ghost use Rattle.pb_report.specs.Faults.{is_outside};
 
+use pb_command::UnitFault;
 use pb_data::{Items, Text};
+use pb_directive::LineFault;
+use pb_feature::FeatureFault;
 use pb_manifest::{Key, ManifestFault};
 use pb_place::{PathText, PlaceFault, StartFault};
-use pb_report::{BuildFault, LoadFault, PlanFault, Refusal, Summary, UnitFault, result_line};
-use std::alloc::{AllocError, Global};
+use pb_profile::ProfileFault;
+use pb_report::{BuildFault, Refusal, Summary, result_line};
+use pb_unit::PlanFault;
+use pb_workspace::LoadFault;
+use std::alloc::Global;
 use std::process::Abort;
 use std::test::Fail;
 
@@ -33,56 +38,135 @@ fn keys(alloc: Global, text: &str) -> Result<Items<Text>, Fail> {
     Ok(keys)
 }
 
-/// The bad unit and its fault, the keys of what was started, and the line.
-const ENDS: [(Option<(&str, UnitFault)>, &str, &str); 8] = [
-    (None, "", "ok started=-"),
-    (None, "a.target.lib", "ok started=a.target.lib"),
+/// Whether the line of a build that came to its end is the one that is wanted: `bad` has the key of the first bad unit
+/// and its fault.
+fn ends_with(
+    rt: &impl Abort,
+    alloc: Global,
+    bad: Option<(Text, UnitFault)>,
+    started: &str,
+    want: &str,
+) -> Result<(), Fail> {
+    let summary = Summary {
+        success: bad.is_none(),
+        bad,
+        started: keys(alloc, started)?,
+        directives: Items::new(alloc),
+    };
+    says(rt, alloc, Ok(summary), want)
+}
+
+/// The keys of what was started, and the line where all is good.
+const GOOD_ENDS: [(&str, &str); 4] = [
+    ("", "ok started=-"),
+    ("a.target.lib", "ok started=a.target.lib"),
     (
-        None,
         "b.host.run a.target.lib",
         "ok started=b.host.run,a.target.lib",
     ),
     (
-        None,
         "a.host.lib b.bin-c a.target.script",
         "ok started=a.host.lib,b.bin-c,a.target.script",
-    ),
-    (
-        Some(("a.target.lib", UnitFault::Status(1))),
-        "a.target.lib",
-        "bad a.target.lib Status(1) started=a.target.lib",
-    ),
-    (
-        Some(("a.target.lib", UnitFault::Status(-9))),
-        "",
-        "bad a.target.lib Status(-9) started=-",
-    ),
-    (
-        Some(("a.target.lib", UnitFault::Status(-2_147_483_648))),
-        "b",
-        "bad a.target.lib Status(-2147483648) started=b",
-    ),
-    (
-        Some(("a.target.lib", UnitFault::OutputTooLong)),
-        "b.target.lib a.target.lib",
-        "bad a.target.lib OutputTooLong started=b.target.lib,a.target.lib",
     ),
 ];
 
 #[test]
-fn ends(rt: HostRuntime) -> Result<(), Fail> {
+fn good_ends(rt: HostRuntime) -> Result<(), Fail> {
+    for (started, want) in GOOD_ENDS {
+        ends_with(&rt, rt.alloc(), None, started, want)?;
+    }
+    Ok(())
+}
+
+/// Whether the line of a build with a bad unit is the one that is wanted.
+fn ends_badly(
+    rt: &impl Abort,
+    alloc: Global,
+    fault: UnitFault,
+    started: &str,
+    want: &str,
+) -> Result<(), Fail> {
+    let unit = Text::from_str(alloc, "a.target.lib")?;
+    ends_with(rt, alloc, Some((unit, fault)), started, want)
+}
+
+/// The number of a status, the keys of what was started, and the line.
+const STATUSES: [(i32, &str, &str); 4] = [
+    (
+        1,
+        "a.target.lib",
+        "bad a.target.lib Status(1) started=a.target.lib",
+    ),
+    (-9, "", "bad a.target.lib Status(-9) started=-"),
+    (
+        -2_147_483_648,
+        "b",
+        "bad a.target.lib Status(-2147483648) started=b",
+    ),
+    (
+        2_147_483_647,
+        "b.target.lib a.target.lib",
+        "bad a.target.lib Status(2147483647) started=b.target.lib,a.target.lib",
+    ),
+];
+
+#[test]
+fn bad_statuses(rt: HostRuntime) -> Result<(), Fail> {
+    for (status, started, want) in STATUSES {
+        ends_badly(&rt, rt.alloc(), UnitFault::Status(status), started, want)?;
+    }
+    Ok(())
+}
+
+#[test]
+fn bad_lines(rt: HostRuntime) -> Result<(), Fail> {
+    for (fault, want) in [
+        (
+            LineFault::NotText(1),
+            "bad a.target.lib Directive(NotText) started=-",
+        ),
+        (
+            LineFault::UnknownKey(2),
+            "bad a.target.lib Directive(UnknownKey) started=-",
+        ),
+        (
+            LineFault::BadValue(3),
+            "bad a.target.lib Directive(BadValue) started=-",
+        ),
+        (
+            LineFault::BadFlag(4),
+            "bad a.target.lib Directive(BadFlag) started=-",
+        ),
+        (
+            LineFault::OutOfMemory,
+            "bad a.target.lib Directive(OutOfMemory) started=-",
+        ),
+    ] {
+        ends_badly(&rt, rt.alloc(), UnitFault::Directive(fault), "", want)?;
+    }
+    Ok(())
+}
+
+#[test]
+fn bad_ends(rt: HostRuntime) -> Result<(), Fail> {
     let alloc = rt.alloc();
-    for (bad, started, want) in ENDS {
-        let bad = match bad {
-            None => None,
-            Some((unit, fault)) => Some((Text::from_str(alloc, unit)?, fault)),
-        };
-        let summary = Summary {
-            success: bad.is_none(),
-            bad,
-            started: keys(alloc, started)?,
-        };
-        says(&rt, alloc, Ok(summary), want)?;
+    let foreign = PathText::parse(alloc, "/w/target/x")?;
+    for (fault, want) in [
+        (UnitFault::NoDepInfo, "bad a.target.lib NoDepInfo started=b"),
+        (
+            UnitFault::ForeignInput(foreign),
+            "bad a.target.lib ForeignInput started=b",
+        ),
+        (
+            UnitFault::OutputTooLong,
+            "bad a.target.lib OutputTooLong started=b",
+        ),
+        (
+            UnitFault::OutOfMemory,
+            "bad a.target.lib OutOfMemory started=b",
+        ),
+    ] {
+        ends_badly(&rt, alloc, fault, "b", want)?;
     }
     Ok(())
 }
@@ -94,7 +178,7 @@ fn refused(alloc: Global, fault: ManifestFault) -> Result<BuildFault, Fail> {
 }
 
 #[test]
-fn refusals(rt: HostRuntime) -> Result<(), Fail> {
+fn refused_manifests(rt: HostRuntime) -> Result<(), Fail> {
     let alloc = rt.alloc();
     for (fault, want) in [
         (ManifestFault::NotToml, "refused NotToml"),
@@ -118,17 +202,80 @@ fn refusals(rt: HostRuntime) -> Result<(), Fail> {
     ] {
         says(&rt, alloc, Err(refused(alloc, fault)?), want)?;
     }
-    let none = LoadFault::NoManifest(PathText::parse(alloc, "/w/Cargo.toml")?);
-    says(
-        &rt,
-        alloc,
-        Err(BuildFault::Plan(Refusal::Load(none))),
-        "refused NoManifest",
-    )?;
-    let inherited = BuildFault::Plan(Refusal::Load(LoadFault::NoInherited));
-    says(&rt, alloc, Err(inherited), "refused NoInherited")?;
-    let nothing = BuildFault::Plan(Refusal::Plan(PlanFault::NothingToBuild));
-    says(&rt, alloc, Err(nothing), "refused NothingToBuild")
+    Ok(())
+}
+
+#[test]
+fn refused_workspaces(rt: HostRuntime) -> Result<(), Fail> {
+    let alloc = rt.alloc();
+    let absent = PathText::parse(alloc, "/w/Cargo.toml")?;
+    let unread = PathText::parse(alloc, "/w/Cargo.toml")?;
+    for (fault, want) in [
+        (LoadFault::NoManifest(absent), "refused NoManifest"),
+        (LoadFault::SameName, "refused SameName"),
+        (LoadFault::NameMismatch, "refused NameMismatch"),
+        (LoadFault::VersionMismatch, "refused VersionMismatch"),
+        (LoadFault::LinksTwice, "refused LinksTwice"),
+        (LoadFault::LinksWithoutScript, "refused LinksWithoutScript"),
+        (LoadFault::NoInherited, "refused NoInherited"),
+        (LoadFault::TooMany, "refused TooMany"),
+        (LoadFault::SameBinary, "refused SameBinary"),
+        (LoadFault::Place(unread, PlaceFault::Read), "refused Place"),
+        (LoadFault::NoSuchPackage, "refused NoSuchPackage"),
+        (LoadFault::OutOfMemory, "refused OutOfMemory"),
+    ] {
+        let answer = Err(BuildFault::Plan(Refusal::Load(fault)));
+        says(&rt, alloc, answer, want)?;
+    }
+    Ok(())
+}
+
+#[test]
+fn refused_features(rt: HostRuntime) -> Result<(), Fail> {
+    for (fault, want) in [
+        (FeatureFault::NoSuchFeature, "refused NoSuchFeature"),
+        (FeatureFault::NoSuchDependency, "refused NoSuchDependency"),
+        (FeatureFault::NotOptional, "refused NotOptional"),
+        (FeatureFault::OutOfMemory, "refused OutOfMemory"),
+    ] {
+        let answer = Err(BuildFault::Plan(Refusal::Feature(fault)));
+        says(&rt, rt.alloc(), answer, want)?;
+    }
+    Ok(())
+}
+
+#[test]
+fn refused_profiles(rt: HostRuntime) -> Result<(), Fail> {
+    for (fault, want) in [
+        (ProfileFault::NoSuchProfile, "refused NoSuchProfile"),
+        (ProfileFault::InheritsCycle, "refused InheritsCycle"),
+        (ProfileFault::NotInOverride, "refused NotInOverride"),
+        (ProfileFault::OutOfMemory, "refused OutOfMemory"),
+    ] {
+        let answer = Err(BuildFault::Plan(Refusal::Plan(PlanFault::Profile(fault))));
+        says(&rt, rt.alloc(), answer, want)?;
+    }
+    Ok(())
+}
+
+#[test]
+fn refused_plans(rt: HostRuntime) -> Result<(), Fail> {
+    let alloc = rt.alloc();
+    let circle = keys(alloc, "a b")?;
+    for (fault, want) in [
+        (PlanFault::Cycle(circle), "refused Cycle"),
+        (PlanFault::TooManyUnits, "refused TooManyUnits"),
+        (PlanFault::NothingToBuild, "refused NothingToBuild"),
+        (PlanFault::OutOfMemory, "refused OutOfMemory"),
+    ] {
+        says(
+            &rt,
+            alloc,
+            Err(BuildFault::Plan(Refusal::Plan(fault))),
+            want,
+        )?;
+    }
+    Ok(())
 }
 
 #[test]
@@ -202,46 +349,5 @@ fn outside(rt: HostRuntime) -> Result<(), Fail> {
     for fault in [&plan, &BuildFault::Toolchain] {
         assert!(rt; !is_outside(fault), "{fault}");
     }
-    Ok(())
-}
-
-/// Asserts what a fault is in words.
-fn reads(rt: &impl Abort, alloc: Global, fault: &BuildFault, want: &str) -> Result<(), AllocError> {
-    let words = format!(in alloc; "{fault}")?;
-    assert_eq!(rt; words.as_str(), want);
-    Ok(())
-}
-
-#[test]
-fn words(rt: HostRuntime) -> Result<(), Fail> {
-    let alloc = rt.alloc();
-    let path = PathText::parse(alloc, "/w/Cargo.toml")?;
-    for (fault, want) in [
-        (
-            BuildFault::Plan(Refusal::Load(LoadFault::NoManifest(path))),
-            "no manifest at `/w/Cargo.toml`",
-        ),
-        (
-            refused(alloc, ManifestFault::BadKind(Key::LicenseFile))?,
-            "the manifest at `/w/m/Cargo.toml` is refused: `license-file` has a value that it may not have",
-        ),
-        (
-            BuildFault::Plan(Refusal::Load(LoadFault::NoInherited)),
-            "a key is not there to inherit",
-        ),
-        (
-            BuildFault::Plan(Refusal::Plan(PlanFault::NothingToBuild)),
-            "there is nothing to build",
-        ),
-        (BuildFault::Toolchain, "the compiler does not say its host"),
-        (BuildFault::Sink, "the message lines cannot be written"),
-        (BuildFault::OutOfMemory, "out of memory"),
-    ] {
-        reads(&rt, alloc, &fault, want)?;
-    }
-    let status = format!(in alloc; "{}", UnitFault::Status(-1))?;
-    assert_eq!(rt; status.as_str(), "status -1");
-    let long = format!(in alloc; "{}", UnitFault::OutputTooLong)?;
-    assert_eq!(rt; long.as_str(), "the output is too long");
     Ok(())
 }

@@ -1,8 +1,61 @@
 //! What session files say, against worked examples.
 
+use pb_data::{Items, Text};
 use pb_session::{BadSession, SessionStep, read_session};
+use pb_workspace::Options;
 use std::alloc::{AllocError, Global};
 use std::test::Fail;
+
+/// The texts of an option in words: its name, and each text with a bar behind it; nothing where there is none.
+fn shown_texts(alloc: Global, name: &str, texts: &[Text]) -> Result<String, AllocError> {
+    let mut shown = String::new(alloc);
+    if texts.is_empty() {
+        return Ok(shown);
+    }
+    shown.push_str(" ")?;
+    shown.push_str(name)?;
+    shown.push_str("=")?;
+    for text in texts {
+        shown.push_str(text.as_str())?;
+        shown.push_str("|")?;
+    }
+    Ok(shown)
+}
+
+/// The names of the options of a build that are on.
+fn shown_switches(alloc: Global, options: &Options) -> Result<String, AllocError> {
+    let mut shown = String::new(alloc);
+    for (name, is_on) in [
+        ("workspace", options.workspace),
+        ("all_features", options.all_features),
+        ("no_default_features", options.no_default_features),
+        ("lib", options.lib),
+        ("bins", options.bins),
+    ] {
+        if is_on {
+            shown.push_str(" ")?;
+            shown.push_str(name)?;
+        }
+    }
+    Ok(shown)
+}
+
+/// The lists of texts of a build in words.
+fn shown_lists(alloc: Global, options: &Options) -> Result<String, AllocError> {
+    let packages = shown_texts(alloc, "packages", options.packages.as_slice())?;
+    let features = shown_texts(alloc, "features", options.features.as_slice())?;
+    let bin = shown_texts(alloc, "bin", options.bin.as_slice())?;
+    format!(in alloc; "{packages}{features}{bin}")
+}
+
+/// The options of a build in words.
+fn shown_build(alloc: Global, options: &Options) -> Result<String, AllocError> {
+    let manifest = options.manifest.as_str();
+    let profile = options.profile.as_str();
+    let switches = shown_switches(alloc, options)?;
+    let lists = shown_lists(alloc, options)?;
+    format!(in alloc; "build<{manifest}><{profile}>{switches}{lists};")
+}
 
 /// A step in words.
 fn shown_step(alloc: Global, step: &SessionStep) -> Result<String, AllocError> {
@@ -11,7 +64,7 @@ fn shown_step(alloc: Global, step: &SessionStep) -> Result<String, AllocError> {
         SessionStep::Remove(path) => ("remove", path.as_str(), ""),
         SessionStep::Set(name, value) => ("set", name.as_str(), value.as_str()),
         SessionStep::Unset(name) => ("unset", name.as_str(), ""),
-        SessionStep::Build(options) => ("build", options.manifest.as_str(), options.tool.as_str()),
+        SessionStep::Build(options) => return shown_build(alloc, options),
     };
     format!(in alloc; "{verb}<{first}><{second}>;")
 }
@@ -43,24 +96,21 @@ const GOOD: [(&str, &str); 17] = [
     (r#"[{"remove":"/.."}]"#, "remove</><>;"),
     (r#"[{"set":["A=B",""]}]"#, "set<A=B><>;"),
     (r#"[{"unset":""}]"#, "unset<><>;"),
-    (r#"[{"build":{}}]"#, "build</w/Cargo.toml><cargo>;"),
+    (r#"[{"build":{}}]"#, "build</w/Cargo.toml><dev>;"),
     (
         r#"[{"build":{"manifest":"/v/x.toml"}}]"#,
-        "build</v/x.toml><cargo>;",
+        "build</v/x.toml><dev>;",
     ),
-    (
-        r#"[{"build":{"manifest":"//v/./x"}}]"#,
-        "build</v/x><cargo>;",
-    ),
+    (r#"[{"build":{"manifest":"//v/./x"}}]"#, "build</v/x><dev>;"),
     (r#"[{"set":["","\u0000"]}]"#, "set<><\0>;"),
     (
         r#"[{"build":{}},{"remove":"/a"},{"set":["b","c"]}]"#,
-        "build</w/Cargo.toml><cargo>;remove</a><>;set<b><c>;",
+        "build</w/Cargo.toml><dev>;remove</a><>;set<b><c>;",
     ),
     // Of a key that stands twice the last value counts.
     (
         r#"[{"build":{},"build":{"manifest":"/b"}}]"#,
-        "build</b><cargo>;",
+        "build</b><dev>;",
     ),
     (r#"[{"unset":"a","unset":"b"}]"#, "unset<b><>;"),
 ];
@@ -75,7 +125,7 @@ fn sessions(rt: HostRuntime) -> Result<(), Fail> {
 }
 
 /// Files that are no session.
-const BAD: [&str; 46] = [
+const BAD: [&str; 44] = [
     "",
     "[",
     "{}",
@@ -93,8 +143,6 @@ const BAD: [&str; 46] = [
     r#"[{"build":{"manifest":null}}]"#,
     r#"[{"build":{"manifest":"Cargo.toml"}}]"#,
     r#"[{"build":{"manifest":"/w/\u0000"}}]"#,
-    r#"[{"build":{"lib":true}}]"#,
-    r#"[{"build":{"manifest":"/a","packages":[]}}]"#,
     r#"[{"write":"/a"}]"#,
     r#"[{"write":["/a"]}]"#,
     r#"[{"write":["/a","b","c"]}]"#,
@@ -134,5 +182,146 @@ fn bad_sessions(rt: HostRuntime) -> Result<(), Fail> {
     assert_eq!(rt; answer.as_str(), "bad");
     let words = format!(in rt.alloc(); "{}", BadSession::BadForm)?;
     assert_eq!(rt; words.as_str(), "bad session");
+    Ok(())
+}
+
+/// The options of a build, and what they say.
+const OPTIONS: [(&str, &str); 23] = [
+    ("{}", "build</w/Cargo.toml><dev>;"),
+    (
+        r#"{"manifest":"/v/Cargo.toml"}"#,
+        "build</v/Cargo.toml><dev>;",
+    ),
+    (r#"{"profile":"release"}"#, "build</w/Cargo.toml><release>;"),
+    (r#"{"profile":""}"#, "build</w/Cargo.toml><>;"),
+    (r#"{"packages":[]}"#, "build</w/Cargo.toml><dev>;"),
+    (
+        r#"{"packages":["a"]}"#,
+        "build</w/Cargo.toml><dev> packages=a|;",
+    ),
+    (
+        r#"{"packages":["b","a","b"]}"#,
+        "build</w/Cargo.toml><dev> packages=b|a|b|;",
+    ),
+    (r#"{"features":[]}"#, "build</w/Cargo.toml><dev>;"),
+    (
+        r#"{"features":["a,b c"]}"#,
+        "build</w/Cargo.toml><dev> features=a,b c|;",
+    ),
+    (
+        r#"{"features":["x","p/y"]}"#,
+        "build</w/Cargo.toml><dev> features=x|p/y|;",
+    ),
+    (r#"{"bin":[]}"#, "build</w/Cargo.toml><dev>;"),
+    (
+        r#"{"bin":["b","a"]}"#,
+        "build</w/Cargo.toml><dev> bin=b|a|;",
+    ),
+    (
+        r#"{"workspace":true}"#,
+        "build</w/Cargo.toml><dev> workspace;",
+    ),
+    (r#"{"workspace":false}"#, "build</w/Cargo.toml><dev>;"),
+    (
+        r#"{"all_features":true}"#,
+        "build</w/Cargo.toml><dev> all_features;",
+    ),
+    (r#"{"all_features":false}"#, "build</w/Cargo.toml><dev>;"),
+    (
+        r#"{"no_default_features":true}"#,
+        "build</w/Cargo.toml><dev> no_default_features;",
+    ),
+    (
+        r#"{"no_default_features":false}"#,
+        "build</w/Cargo.toml><dev>;",
+    ),
+    (r#"{"lib":true}"#, "build</w/Cargo.toml><dev> lib;"),
+    (r#"{"lib":false}"#, "build</w/Cargo.toml><dev>;"),
+    (r#"{"bins":true}"#, "build</w/Cargo.toml><dev> bins;"),
+    (r#"{"bins":false}"#, "build</w/Cargo.toml><dev>;"),
+    (
+        r#"{"bin":["x"],"lib":true,"features":["f"],"packages":["p"],"workspace":true}"#,
+        "build</w/Cargo.toml><dev> workspace lib packages=p| features=f| bin=x|;",
+    ),
+];
+
+/// A session of one build with these options, in words.
+fn shown_with(alloc: Global, options: &str) -> Result<String, AllocError> {
+    let session = format!(in alloc; "[{{\"build\":{options}}}]")?;
+    shown(alloc, session.as_bytes())
+}
+
+#[test]
+fn options(rt: HostRuntime) -> Result<(), Fail> {
+    for (options, want) in OPTIONS {
+        let answer = shown_with(rt.alloc(), options)?;
+        assert_eq!(rt; answer.as_str(), want, "{options}");
+    }
+    Ok(())
+}
+
+/// Options that no build may have: a key of a wrong type, and keys that a session does not know.
+const BAD_OPTIONS: [&str; 25] = [
+    r#"{"manifest":["/a"]}"#,
+    r#"{"profile":1}"#,
+    r#"{"profile":null}"#,
+    r#"{"profile":["dev"]}"#,
+    r#"{"packages":"a"}"#,
+    r#"{"packages":null}"#,
+    r#"{"packages":["a",1]}"#,
+    r#"{"features":"a"}"#,
+    r#"{"features":{"a":"b"}}"#,
+    r#"{"features":[true]}"#,
+    r#"{"bin":"a"}"#,
+    r#"{"bin":true}"#,
+    r#"{"bin":[["a"]]}"#,
+    r#"{"workspace":1}"#,
+    r#"{"workspace":"true"}"#,
+    r#"{"workspace":null}"#,
+    r#"{"all_features":["a"]}"#,
+    r#"{"no_default_features":0}"#,
+    r#"{"lib":"lib"}"#,
+    r#"{"lib":{}}"#,
+    r#"{"bins":["a"]}"#,
+    r#"{"target_dir":"/t"}"#,
+    r#"{"runner":["mini"]}"#,
+    r#"{"tool":"cargo"}"#,
+    r#"{"all-features":true}"#,
+];
+
+#[test]
+fn bad_options(rt: HostRuntime) -> Result<(), Fail> {
+    for options in BAD_OPTIONS {
+        let answer = shown_with(rt.alloc(), options)?;
+        assert_eq!(rt; answer.as_str(), "bad", "{options}");
+    }
+    Ok(())
+}
+
+/// What no key of a session changes: the words before a build script, the builder's name, and that no target folder
+/// is asked for.
+fn shown_fixed(alloc: Global, step: &SessionStep) -> Result<String, AllocError> {
+    match step {
+        SessionStep::Build(options) => {
+            let runner = shown_texts(alloc, "runner", options.runner.as_slice())?;
+            let tool = options.tool.as_str();
+            let is_asked = options.target_dir.is_some();
+            format!(in alloc; "{tool}{runner} {is_asked}")
+        }
+        _ => Ok(String::new(alloc)),
+    }
+}
+
+#[test]
+fn fixed_options(rt: HostRuntime) -> Result<(), Fail> {
+    let steps = match read_session(rt.alloc(), br#"[{"build":{"profile":"release"}}]"#) {
+        Ok(steps) => steps,
+        Err(_) => Items::new(rt.alloc()),
+    };
+    assert_eq!(rt; steps.as_slice().len(), 1);
+    for step in steps.as_slice() {
+        let answer = shown_fixed(rt.alloc(), step)?;
+        assert_eq!(rt; answer.as_str(), "cargo runner=mini|--run| false");
+    }
     Ok(())
 }

@@ -1,5 +1,5 @@
--- How the calls of a place are counted, and which fault came last. Each counter stays at the greatest number of 64 bits.
-use Rattle.std.specs.Prelude.{ℕ, ◌+◌, ◌==◌, min, if◌then◌else◌, Option, Some, None, Result, Ok, Err}
+-- How the calls of a place are counted, which fault came last, and at which path or variable. Each counter stays at the greatest number of 64 bits.
+use Rattle.std.specs.Prelude.{ℕ, ◌+◌, ◌==◌, min, if◌then◌else◌, List, [], Option, Some, None, Result, Ok, Err}
 use Rattle.pb_place.specs.declared.place.PlaceFault.{PlaceFault}
 use Rattle.pb_place.specs.declared.place.PlaceFault.TheVariants.{OutOfMemory}
 use Rattle.pb_place.specs.declared.place.Failure.{Failure}
@@ -7,16 +7,17 @@ use Rattle.pb_place.specs.declared.place.Failure.TheVariants.{Called, Started}
 use Rattle.pb_place.specs.declared.place.StartFault.{StartFault}
 use Rattle.pb_place.specs.declared.place.StartFault.TheVariants as start
 
--- calls that failed, calls of `start`, calls since the last that failed, and the fault of that one
+-- calls that failed, calls of `start`, calls since the last that failed, the fault of that one, and the path or the variable's name that the last failing call on files or variables was given
 pub record Counts : Type 0 where
   pub failures : ℕ
   pub starts : ℕ
   pub late : ℕ
   pub last : Option Failure
+  pub named : List ℕ
 
 -- where no call was made
 abbrev pub no_calls : Counts
-no_calls = record { failures = 0; starts = 0; late = 0; last = None }
+no_calls = record { failures = 0; starts = 0; late = 0; last = None; named = [] }
 
 -- one more, or the greatest number of 64 bits
 abbrev pub up : ℕ → ℕ
@@ -30,14 +31,14 @@ past_call c = record c { late = if c.failures == 0 then 0 else up c.late }
 abbrev pub past_fault : Failure → Counts → Counts
 past_fault f c = record c { failures = up c.failures; late = 0; last = Some f }
 
--- want of memory is no failure of the outside
-abbrev pub past_place_fault : PlaceFault → Counts → Counts
-past_place_fault OutOfMemory c = past_call c
-past_place_fault e c = past_fault (Called e) c
+-- after a call on the path or the variable of this name that failed. Want of memory is no failure of the outside
+abbrev pub past_place_fault : List ℕ → PlaceFault → Counts → Counts
+past_place_fault name OutOfMemory c = past_call c
+past_place_fault name e c = record (past_fault (Called e) c) { named = name }
 
-abbrev pub counted : {T : Type 0} → Result T PlaceFault → Counts → Counts
-counted (Ok x) c = past_call c
-counted (Err e) c = past_place_fault e c
+abbrev pub counted : {T : Type 0} → List ℕ → Result T PlaceFault → Counts → Counts
+counted name (Ok x) c = past_call c
+counted name (Err e) c = past_place_fault name e c
 
 -- `start` was called
 abbrev pub one_start : Counts → Counts

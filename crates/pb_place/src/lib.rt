@@ -4,7 +4,6 @@
 pub mod child;
 pub mod command;
 pub mod files;
-pub mod host_view;
 pub mod laws;
 pub mod memory;
 pub mod path;
@@ -17,7 +16,6 @@ pub mod whole;
 pub use child::{Child, Reply, View, ViewFault};
 pub use command::{Command, Ended};
 pub use files::{FileMap, TextMap};
-pub use host_view::HostView;
 pub use laws::{
     changes_stay_in_folders, children_see_sources_and_folders, failing_calls_are_told,
     failing_calls_spare, folders_nest, last_word_stands, maps_look_up, parsing_keeps_paths,

@@ -109,8 +109,9 @@ pub trait Place {
     /// The child: a member of the type, so no call can change it.
     ghost child: { Answers };
 
-    /// The counters, and the fault of the last call that failed: so each failing call sets it to the very fault
-    /// that it answers.
+    /// The counters, the fault of the last call that failed, and the path or the variable's name that the last
+    /// failing call on files or variables was given: so each failing call sets them to the very fault that it
+    /// answers and to what it was called with.
     ghost counts: { Self → Counts };
 
     /// Whether a call may fail for another reason than want of memory.
@@ -122,7 +123,7 @@ pub trait Place {
         ensures same { IsTrue tells → world self.new ≡ world self.old }
         ensures fault { IfErr result (λ e. e ≢ PlaceFault.OutOfMemory → e ≡ PlaceFault.Read) }
         ensures fails { IfErr result (λ e. e ≢ PlaceFault.OutOfMemory → fails self.old) }
-        ensures counts { counts self.new ≡ counted result (counts self.old) };
+        ensures counts { counts self.new ≡ counted path.now result (counts self.old) };
 
     /// The paths of all files below a folder, in byte order. The folder's own path is not among them.
     fn list(&mut self, alloc: Global, folder: &PathText) -> Result<Items<PathText>, PlaceFault>
@@ -130,7 +131,7 @@ pub trait Place {
         ensures same { IsTrue tells → world self.new ≡ world self.old }
         ensures fault { IfErr result (λ e. e ≢ PlaceFault.OutOfMemory → e ≡ PlaceFault.List) }
         ensures fails { IfErr result (λ e. e ≢ PlaceFault.OutOfMemory → fails self.old) }
-        ensures counts { counts self.new ≡ counted result (counts self.old) };
+        ensures counts { counts self.new ≡ counted folder.now result (counts self.old) };
 
     /// Writes a file and makes the folders above it. After an error the old file is there, or none, or the
     /// first of the new bytes.
@@ -139,7 +140,7 @@ pub trait Place {
         ensures err { IsTrue tells → OnErr result (Torn path.now bytes.now (world self.old) (world self.new)) }
         ensures fault { IfErr result (λ e. e ≢ PlaceFault.OutOfMemory → e ≡ PlaceFault.Write) }
         ensures fails { IfErr result (λ e. e ≢ PlaceFault.OutOfMemory → fails self.old) }
-        ensures counts { counts self.new ≡ counted result (counts self.old) };
+        ensures counts { counts self.new ≡ counted path.now result (counts self.old) };
 
     /// Removes the file at a path and all files below it; where nothing is there, nothing is done. After an
     /// error each of them is there or not.
@@ -148,7 +149,7 @@ pub trait Place {
         ensures err { IsTrue tells → OnErr result (PartlyRemoved path.now (world self.old) (world self.new)) }
         ensures fault { IfErr result (λ e. e ≢ PlaceFault.OutOfMemory → e ≡ PlaceFault.Remove) }
         ensures fails { IfErr result (λ e. e ≢ PlaceFault.OutOfMemory → fails self.old) }
-        ensures counts { counts self.new ≡ counted result (counts self.old) };
+        ensures counts { counts self.new ≡ counted path.now result (counts self.old) };
 
     /// The value of a variable, or none where it is not set.
     fn variable(&mut self, alloc: Global, name: &str) -> Result<Option<Text>, PlaceFault>
@@ -156,7 +157,7 @@ pub trait Place {
         ensures same { IsTrue tells → world self.new ≡ world self.old }
         ensures fault { IfErr result (λ e. e ≢ PlaceFault.OutOfMemory → e ≡ PlaceFault.Variable) }
         ensures fails { IfErr result (λ e. e ≢ PlaceFault.OutOfMemory → fails self.old) }
-        ensures counts { counts self.new ≡ counted result (counts self.old) };
+        ensures counts { counts self.new ≡ counted name.now result (counts self.old) };
 
     /// Starts a child and waits for its end. It makes the folder `command.out` first (the maps know files
     /// alone, so no clause shows that). It changes files inside `out` alone, and after an error anything may

@@ -2,21 +2,27 @@
 use Rattle.std.specs.Prelude.{ℕ, codes, List, [], ◌∷◌, ◌++◌, Option, Some, None, Result, Ok, Err}
 use Rattle.std.specs.Fmt.{signed_decimal}
 use Rattle.std.specs.List.{concat}
+use Rattle.pb_command.specs.declared.fault.UnitFault.{UnitFault}
+use Rattle.pb_command.specs.declared.fault.UnitFault.TheVariants as unit
+use Rattle.pb_directive.specs.declared.fault.LineFault.{LineFault}
+use Rattle.pb_directive.specs.declared.fault.LineFault.TheVariants as line
+use Rattle.pb_feature.specs.declared.fault.FeatureFault.{FeatureFault}
+use Rattle.pb_feature.specs.declared.fault.FeatureFault.TheVariants as feature
 use Rattle.pb_manifest.specs.declared.fault.ManifestFault.{ManifestFault}
 use Rattle.pb_manifest.specs.declared.fault.ManifestFault.TheVariants as manifest
 use Rattle.pb_place.specs.declared.place.StartFault.{StartFault}
 use Rattle.pb_place.specs.declared.place.StartFault.TheVariants as start
+use Rattle.pb_profile.specs.declared.fault.ProfileFault.{ProfileFault}
+use Rattle.pb_profile.specs.declared.fault.ProfileFault.TheVariants as profile
+use Rattle.pb_unit.specs.declared.fault.PlanFault.{PlanFault}
+use Rattle.pb_unit.specs.declared.fault.PlanFault.TheVariants as plan
+use Rattle.pb_workspace.specs.declared.fault.LoadFault.{LoadFault}
+use Rattle.pb_workspace.specs.declared.fault.LoadFault.TheVariants as load
 use Rattle.pb_report.specs.declared.fault.BuildFault.{BuildFault}
 use Rattle.pb_report.specs.declared.fault.BuildFault.TheVariants as build
-use Rattle.pb_report.specs.declared.fault.LoadFault.{LoadFault}
-use Rattle.pb_report.specs.declared.fault.LoadFault.TheVariants as load
-use Rattle.pb_report.specs.declared.fault.PlanFault.{PlanFault}
-use Rattle.pb_report.specs.declared.fault.PlanFault.TheVariants as plan
 use Rattle.pb_report.specs.declared.fault.Refusal.{Refusal}
 use Rattle.pb_report.specs.declared.fault.Refusal.TheVariants as refusal
 use Rattle.pb_report.specs.declared.summary.Summary.{Summary}
-use Rattle.pb_report.specs.declared.summary.UnitFault.{UnitFault}
-use Rattle.pb_report.specs.declared.summary.UnitFault.TheVariants.{Status, OutputTooLong}
 
 -- keys with a comma before each
 abbrev pub keys_rest : List (List ℕ) → List ℕ
@@ -28,10 +34,22 @@ abbrev pub keys_text : List (List ℕ) → List ℕ
 keys_text [] = codes "-"
 keys_text (key ∷ keys) = key ++ keys_rest keys
 
--- a unit's fault: its name, and the number of a status
+-- the name of a fault, without its fields
+abbrev pub line_fault_name : LineFault → List ℕ
+line_fault_name (line.NotText number) = codes "NotText"
+line_fault_name (line.UnknownKey number) = codes "UnknownKey"
+line_fault_name (line.BadValue number) = codes "BadValue"
+line_fault_name (line.BadFlag number) = codes "BadFlag"
+line_fault_name line.OutOfMemory = codes "OutOfMemory"
+
+-- a unit's fault: its name, with the number of a status and the name of a line's fault
 abbrev pub unit_fault_text : UnitFault → List ℕ
-unit_fault_text (Status number) = codes "Status(" ++ signed_decimal number ++ codes ")"
-unit_fault_text OutputTooLong = codes "OutputTooLong"
+unit_fault_text (unit.Status number) = codes "Status(" ++ signed_decimal number ++ codes ")"
+unit_fault_text (unit.Directive fault) = concat (codes "Directive(" ∷ line_fault_name fault ∷ codes ")" ∷ [])
+unit_fault_text unit.NoDepInfo = codes "NoDepInfo"
+unit_fault_text (unit.ForeignInput path) = codes "ForeignInput"
+unit_fault_text unit.OutputTooLong = codes "OutputTooLong"
+unit_fault_text unit.OutOfMemory = codes "OutOfMemory"
 
 -- a build that came to its end, from its first bad unit and the keys of those that were started
 abbrev pub ended_line : Option (List ℕ × UnitFault) → List ℕ → List ℕ
@@ -60,13 +78,41 @@ manifest_fault_name manifest.OutOfMemory = codes "OutOfMemory"
 abbrev pub load_fault_name : LoadFault → List ℕ
 load_fault_name (load.NoManifest path) = codes "NoManifest"
 load_fault_name (load.Manifest path fault) = manifest_fault_name fault
+load_fault_name load.SameName = codes "SameName"
+load_fault_name load.NameMismatch = codes "NameMismatch"
+load_fault_name load.VersionMismatch = codes "VersionMismatch"
+load_fault_name load.LinksTwice = codes "LinksTwice"
+load_fault_name load.LinksWithoutScript = codes "LinksWithoutScript"
 load_fault_name load.NoInherited = codes "NoInherited"
+load_fault_name load.TooMany = codes "TooMany"
+load_fault_name load.SameBinary = codes "SameBinary"
+load_fault_name (load.Place path fault) = codes "Place"
+load_fault_name load.NoSuchPackage = codes "NoSuchPackage"
+load_fault_name load.OutOfMemory = codes "OutOfMemory"
 
+abbrev pub feature_fault_name : FeatureFault → List ℕ
+feature_fault_name feature.NoSuchFeature = codes "NoSuchFeature"
+feature_fault_name feature.NoSuchDependency = codes "NoSuchDependency"
+feature_fault_name feature.NotOptional = codes "NotOptional"
+feature_fault_name feature.OutOfMemory = codes "OutOfMemory"
+
+abbrev pub profile_fault_name : ProfileFault → List ℕ
+profile_fault_name profile.NoSuchProfile = codes "NoSuchProfile"
+profile_fault_name profile.InheritsCycle = codes "InheritsCycle"
+profile_fault_name profile.NotInOverride = codes "NotInOverride"
+profile_fault_name profile.OutOfMemory = codes "OutOfMemory"
+
+-- of a profile's fault, the fault inside
 abbrev pub plan_fault_name : PlanFault → List ℕ
+plan_fault_name (plan.Cycle names) = codes "Cycle"
+plan_fault_name plan.TooManyUnits = codes "TooManyUnits"
 plan_fault_name plan.NothingToBuild = codes "NothingToBuild"
+plan_fault_name (plan.Profile fault) = profile_fault_name fault
+plan_fault_name plan.OutOfMemory = codes "OutOfMemory"
 
 abbrev pub refusal_name : Refusal → List ℕ
 refusal_name (refusal.Load fault) = load_fault_name fault
+refusal_name (refusal.Feature fault) = feature_fault_name fault
 refusal_name (refusal.Plan fault) = plan_fault_name fault
 
 abbrev pub start_fault_name : StartFault → List ℕ

@@ -4,40 +4,22 @@ ghost use Rattle.std.specs.Prelude.{◌≡◌};
 ghost use Rattle.pb_report.specs.declared.fault.BuildFault.TheVariants as build_fault;
 
 use pb_data::Text;
-use pb_manifest::ManifestFault;
-use pb_place::{PathText, PlaceFault, StartFault};
+use pb_feature::FeatureFault;
+use pb_place::{PlaceFault, StartFault};
+use pb_unit::PlanFault;
+use pb_workspace::LoadFault;
 use std::alloc::{AllocError, AllocFailed};
 use thiserror::Error;
-
-/// Why a workspace cannot be read.
-#[derive(Debug, Drop, Error)]
-pub enum LoadFault {
-    /// No manifest may be read there: no file is there, it is not named `Cargo.toml`, or it lies at or
-    /// below the target folder (the last two our own choice).
-    #[error("no manifest at `{}`", .0.as_str())]
-    NoManifest(PathText),
-    /// The manifest at this path is refused.
-    #[error("the manifest at `{}` is refused: {}", .0.as_str(), .1)]
-    Manifest(PathText, ManifestFault),
-    /// A key is taken from the workspace, which has none to give.
-    #[error("a key is not there to inherit")]
-    NoInherited,
-}
-
-/// Why there is no plan of what to build.
-#[derive(Clone, Copy, Debug, PartialEq, Eq, Error)]
-pub enum PlanFault {
-    /// No library and no binary is asked for.
-    #[error("there is nothing to build")]
-    NothingToBuild,
-}
 
 /// Why a build is refused before a child is started, a line is written or a file is changed.
 #[derive(Debug, Drop, Error)]
 pub enum Refusal {
-    /// The workspace cannot be read.
+    /// The workspace cannot be read, or nothing of it be selected.
     #[error("{0}")]
     Load(LoadFault),
+    /// The features are not resolved.
+    #[error("{0}")]
+    Feature(FeatureFault),
     /// There is no plan.
     #[error("{0}")]
     Plan(PlanFault),

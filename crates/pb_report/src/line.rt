@@ -2,13 +2,19 @@
 
 ghost use Rattle.std.specs.Prelude.{◌≡◌, ◌++◌, map, IfOk, OnOk, string_bytes};
 ghost use Rattle.std.specs.List.{concat};
-ghost use Rattle.pb_report.specs.ResultLine.{keys_rest, keys_text, unit_fault_text, summary_line, manifest_fault_name, load_fault_name, plan_fault_name, refusal_name, start_fault_name, fault_at, fault_line, result_line};
+ghost use Rattle.pb_report.specs.ResultLine.{keys_rest, keys_text, line_fault_name, unit_fault_text, summary_line, manifest_fault_name, load_fault_name, feature_fault_name, profile_fault_name, plan_fault_name, refusal_name, start_fault_name, fault_at, fault_line, result_line};
 
-use crate::fault::{BuildFault, LoadFault, PlanFault, Refusal};
-use crate::summary::{Summary, UnitFault};
+use crate::fault::{BuildFault, Refusal};
+use crate::summary::Summary;
+use pb_command::UnitFault;
 use pb_data::Text;
+use pb_directive::LineFault;
+use pb_feature::FeatureFault;
 use pb_manifest::ManifestFault;
 use pb_place::StartFault;
+use pb_profile::ProfileFault;
+use pb_unit::PlanFault;
+use pb_workspace::LoadFault;
 use std::alloc::{AllocError, Global};
 
 /// Texts one after another.
@@ -46,13 +52,32 @@ fn keys_text(alloc: Global, keys: &[Text]) -> Result<String, AllocError>
     Ok(text)
 }
 
-/// A unit's fault: its name, and the number of a status.
-fn unit_fault_text(alloc: Global, fault: UnitFault) -> Result<String, AllocError>
-    ensures { IfOk result (λ text. string_bytes text ≡ unit_fault_text fault) }
+/// The name of what is wrong with a line.
+fn line_fault_name(fault: LineFault) -> &'static str
+    ensures { result.now ≡ line_fault_name fault }
+{
+    match fault {
+        LineFault::NotText(_) => "NotText",
+        LineFault::UnknownKey(_) => "UnknownKey",
+        LineFault::BadValue(_) => "BadValue",
+        LineFault::BadFlag(_) => "BadFlag",
+        LineFault::OutOfMemory => "OutOfMemory",
+    }
+}
+
+/// A unit's fault: its name, with the number of a status and the name of a line's fault.
+fn unit_fault_text(alloc: Global, fault: &UnitFault) -> Result<String, AllocError>
+    ensures { IfOk result (λ text. string_bytes text ≡ unit_fault_text fault.now) }
 {
     match fault {
         UnitFault::Status(number) => format!(in alloc; "Status({number})"),
+        UnitFault::Directive(fault) => {
+            joined(alloc, &["Directive(", line_fault_name(*fault), ")"])
+        }
+        UnitFault::NoDepInfo => String::from_str(alloc, "NoDepInfo"),
+        UnitFault::ForeignInput(_) => String::from_str(alloc, "ForeignInput"),
         UnitFault::OutputTooLong => String::from_str(alloc, "OutputTooLong"),
+        UnitFault::OutOfMemory => String::from_str(alloc, "OutOfMemory"),
     }
 }
 
@@ -64,7 +89,7 @@ fn summary_line(alloc: Global, summary: &Summary) -> Result<String, AllocError>
     match &summary.bad {
         None => joined(alloc, &["ok started=", keys.as_str()]),
         Some((unit, fault)) => {
-            let fault = unit_fault_text(alloc, *fault)?;
+            let fault = unit_fault_text(alloc, fault)?;
             joined(
                 alloc,
                 &[
@@ -107,16 +132,54 @@ fn load_fault_name(fault: &LoadFault) -> &'static str
     match fault {
         LoadFault::NoManifest(_) => "NoManifest",
         LoadFault::Manifest(_, fault) => manifest_fault_name(*fault),
+        LoadFault::SameName => "SameName",
+        LoadFault::NameMismatch => "NameMismatch",
+        LoadFault::VersionMismatch => "VersionMismatch",
+        LoadFault::LinksTwice => "LinksTwice",
+        LoadFault::LinksWithoutScript => "LinksWithoutScript",
         LoadFault::NoInherited => "NoInherited",
+        LoadFault::TooMany => "TooMany",
+        LoadFault::SameBinary => "SameBinary",
+        LoadFault::Place(_, _) => "Place",
+        LoadFault::NoSuchPackage => "NoSuchPackage",
+        LoadFault::OutOfMemory => "OutOfMemory",
     }
 }
 
-/// The name of why there is no plan.
-fn plan_fault_name(fault: PlanFault) -> &'static str
-    ensures { result.now ≡ plan_fault_name fault }
+/// The name of why no features are resolved.
+fn feature_fault_name(fault: FeatureFault) -> &'static str
+    ensures { result.now ≡ feature_fault_name fault }
 {
     match fault {
+        FeatureFault::NoSuchFeature => "NoSuchFeature",
+        FeatureFault::NoSuchDependency => "NoSuchDependency",
+        FeatureFault::NotOptional => "NotOptional",
+        FeatureFault::OutOfMemory => "OutOfMemory",
+    }
+}
+
+/// The name of why a profile gives no settings.
+fn profile_fault_name(fault: ProfileFault) -> &'static str
+    ensures { result.now ≡ profile_fault_name fault }
+{
+    match fault {
+        ProfileFault::NoSuchProfile => "NoSuchProfile",
+        ProfileFault::InheritsCycle => "InheritsCycle",
+        ProfileFault::NotInOverride => "NotInOverride",
+        ProfileFault::OutOfMemory => "OutOfMemory",
+    }
+}
+
+/// The name of why there is no plan; of a profile that gives no settings, the name of its fault.
+fn plan_fault_name(fault: &PlanFault) -> &'static str
+    ensures { result.now ≡ plan_fault_name fault.now }
+{
+    match fault {
+        PlanFault::Cycle(_) => "Cycle",
+        PlanFault::TooManyUnits => "TooManyUnits",
         PlanFault::NothingToBuild => "NothingToBuild",
+        PlanFault::Profile(fault) => profile_fault_name(*fault),
+        PlanFault::OutOfMemory => "OutOfMemory",
     }
 }
 
@@ -126,7 +189,8 @@ fn refusal_name(refusal: &Refusal) -> &'static str
 {
     match refusal {
         Refusal::Load(fault) => load_fault_name(fault),
-        Refusal::Plan(fault) => plan_fault_name(*fault),
+        Refusal::Feature(fault) => feature_fault_name(*fault),
+        Refusal::Plan(fault) => plan_fault_name(fault),
     }
 }
 
@@ -169,8 +233,9 @@ fn fault_line(alloc: Global, fault: &BuildFault) -> Result<String, AllocError>
 /// form is our own choice:
 ///
 /// - `ok started=KEYS` where all units are good;
-/// - `bad KEY FAULT started=KEYS` with the first bad unit in plan order, its fault `Status(N)`, N a signed
-///   number in decimal, or `OutputTooLong`;
+/// - `bad KEY FAULT started=KEYS` with the first bad unit in plan order and its fault's name: `Status(N)`, N a
+///   signed number in decimal; `Directive(NAME)` with the name of the line's fault; `NoDepInfo`,
+///   `ForeignInput`, `OutputTooLong`;
 /// - `refused NAME` with the innermost fault's name without its fields;
 /// - `fault AT NAME` with the unit's key and the name of the child's fault, or `Device` for a call on files or
 ///   variables; `fault -vV Toolchain`, `fault sink Sink` and `fault memory OutOfMemory`.

@@ -1,18 +1,8 @@
 //! What a build that came to its end says.
 
+use pb_command::UnitFault;
 use pb_data::{Items, Text};
-use thiserror::Error;
-
-/// Why a unit is bad.
-#[derive(Clone, Copy, Debug, PartialEq, Eq, Error)]
-pub enum UnitFault {
-    /// The child ended with this status, which is not 0.
-    #[error("status {0}")]
-    Status(i32),
-    /// A stream of the child has more than 4,194,304 bytes (our own choice).
-    #[error("the output is too long")]
-    OutputTooLong,
-}
+use pb_directive::Directives;
 
 /// What a build that came to its end says.
 #[derive(Debug, Drop)]
@@ -23,4 +13,7 @@ pub struct Summary {
     pub bad: Option<(Text, UnitFault)>,
     /// The keys of the units whose child was started, in order of starting.
     pub started: Items<Text>,
+    /// The keys and the directives of the build scripts' runs that ended well before the first bad unit, in
+    /// plan order.
+    pub directives: Items<(Text, Directives)>,
 }

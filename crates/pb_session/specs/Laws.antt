@@ -1,10 +1,11 @@
 -- Laws of session files, in their own words.
-use Rattle.std.specs.Prelude.{◌≡◌, codes, List, ◌++◌, Ok}
+use Rattle.std.specs.Prelude.{◌≡◌, codes, List, [], ◌∷◌, ◌++◌, None, false, Ok}
 use Rattle.serde_json.specs.Data.{Data, object, no_members}
 use Rattle.serde_json.specs.View.{items_of}
 use Rattle.pb_data.specs.Gives.{◌>>=◌}
 use Rattle.pb_session.specs.Faults.{Read}
-use Rattle.pb_session.specs.Sessions.{steps_of, options_of}
+use Rattle.pb_session.specs.Sessions.{steps_of}
+use Rattle.pb_session.specs.Options.{options_of}
 use Rattle.pb_session.specs.declared.step.SessionStep.{SessionStep}
 
 -- what the one gives, and then what the other gives
@@ -15,6 +16,20 @@ both first second = first >>= (λ a. second >>= (λ b. Ok (a ++ b)))
 abbrev pub StepsJoin : Type 0
 StepsJoin = (ds es : List Data) → steps_of (items_of (ds ++ es)) ≡ both (steps_of (items_of ds)) (steps_of (items_of es))
 
--- where no manifest is named, it is `/w/Cargo.toml`
-abbrev pub ManifestHasDefault : Type 0
-ManifestHasDefault = options_of (object no_members) ≡ Ok record { manifest = codes "/w/Cargo.toml"; tool = codes "cargo" }
+-- a build whose options are empty is asked for the manifest `/w/Cargo.toml` under the profile `dev`, with nothing selected or narrowed
+abbrev pub OptionsHaveDefaults : Type 0
+OptionsHaveDefaults = options_of (object no_members) ≡ Ok record {
+  manifest = codes "/w/Cargo.toml";
+  packages = [];
+  workspace = false;
+  features = [];
+  all_features = false;
+  no_default_features = false;
+  profile = codes "dev";
+  lib = false;
+  bins = false;
+  bin = [];
+  target_dir = None;
+  runner = codes "mini" ∷ codes "--run" ∷ [];
+  tool = codes "cargo";
+}

@@ -1,40 +1,16 @@
 -- What a session file says: a JSON list of objects with one key each (our own choice).
-use Rattle.std.specs.Prelude.{ℕ, Bool, true, ◌&&◌, if◌then◌else◌, codes, List, [], ◌∷◌, Option, Some, None, Ok, Err}
+use Rattle.std.specs.Prelude.{ℕ, if◌then◌else◌, codes, List, [], ◌∷◌, Ok, Err}
 use Rattle.std.specs.Str.{bytes_eq, is_utf8}
-use Rattle.serde_json.specs.Data.{Data, Items, no_items, item, Members, no_members, member}
-use Rattle.serde_json.specs.Find.{get, as_object}
+use Rattle.serde_json.specs.Data.{Data, Items, no_items, item}
+use Rattle.serde_json.specs.Find.{as_object}
 use Rattle.serde_json.specs.Read.{read}
 use Rattle.pb_data.specs.Gives.{◌>>=◌, some_or}
 use Rattle.pb_session.specs.Faults.{Read}
 use Rattle.pb_session.specs.Values.{text_of, path_in, path_of, pair_of, array_of, only_member}
 use Rattle.pb_session.specs.declared.fault.BadSession.TheVariants.{BadForm}
-use Rattle.pb_session.specs.declared.options.Options.{Options}
+use Rattle.pb_session.specs.Options.{options_of}
 use Rattle.pb_session.specs.declared.step.SessionStep.{SessionStep}
 use Rattle.pb_session.specs.declared.step.SessionStep.TheVariants.{Write, Remove, Set, Unset, Build}
-
--- the keys that the options of a build may have
-abbrev pub is_known : List ℕ → Bool
-is_known name = bytes_eq name (codes "manifest")
-
--- all keys are known
-abbrev pub are_known : Members → Bool
-are_known no_members = true
-are_known (member name d ms) = is_known name && are_known ms
-
--- where no manifest is named
-abbrev pub default_manifest : List ℕ
-default_manifest = codes "/w/Cargo.toml"
-
-abbrev pub manifest_at : Option Data → Read (List ℕ)
-manifest_at None = path_in default_manifest
-manifest_at (Some d) = path_of d
-
-abbrev pub manifest_of : Data → Read (List ℕ)
-manifest_of d = manifest_at (get (codes "manifest") d)
-
--- what a build is asked for; the builder is called `cargo`
-abbrev pub options_of : Data → Read Options
-options_of d = some_or BadForm (as_object d) >>= (λ ms. if are_known ms then (manifest_of d >>= (λ path. Ok record { manifest = path; tool = codes "cargo" })) else Err BadForm)
 
 abbrev pub write_of : Data → Read SessionStep
 write_of d = pair_of d >>= (λ p. path_in p.0 >>= (λ path. Ok (Write path p.1)))

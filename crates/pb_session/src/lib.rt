@@ -1,4 +1,4 @@
-//! What a build is asked for, and what a session file says.
+//! What a session file says: edits and builds, and what each build is asked for.
 #![tactic(auto)]
 
 pub mod fault;
@@ -9,6 +9,5 @@ pub mod step;
 pub mod value;
 
 pub use fault::BadSession;
-pub use options::Options;
 pub use session::read_session;
 pub use step::SessionStep;

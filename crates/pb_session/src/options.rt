@@ -1,13 +1,172 @@
-//! What a build is asked for.
+//! What a build of a session is asked for.
 
-use pb_data::Text;
+ghost use Rattle.std.specs.Prelude.{◌≡◌, ◌∷◌, [], IfOk, codes};
+ghost use Rattle.serde_json.specs.Find.{get};
+ghost use Rattle.serde_json.specs.View.{view, items_view, members_view};
+ghost use Rattle.pb_session.specs.Faults.{Gives};
+ghost use Rattle.pb_session.specs.Options.{are_known, is_known, texts_in, texts_of, truth_of, texts_or_none, truth_or_false, text_or, manifest_or_default, texts_at, truth_at, options_in, options_of};
+
+use crate::fault::BadSession;
+use crate::value::{array_of, path_in, path_of, text_of};
+use pb_data::{Items, Text};
 use pb_place::PathText;
+use pb_workspace::Options;
+use serde_json::{Map, Value};
+use std::alloc::{AllocError, Global};
 
-/// What a build is asked for.
-#[derive(Debug, Drop)]
-pub struct Options {
-    /// The path of the root manifest.
-    pub manifest: PathText,
-    /// The text of the variable `CARGO` of a child: the builder as it was called (our own choice).
-    pub tool: Text,
+/// Whether a key of the options of a build is one that they may have.
+fn is_known(name: &str) -> bool
+    ensures { result ≡ is_known name.now }
+{
+    name == "manifest"
+        || name == "packages"
+        || name == "workspace"
+        || name == "features"
+        || name == "all_features"
+        || name == "no_default_features"
+        || name == "profile"
+        || name == "lib"
+        || name == "bins"
+        || name == "bin"
+}
+
+/// Whether the options of a build have no key but those that they may have.
+fn are_known(map: &Map<String, Value>) -> bool
+    ensures { result ≡ are_known (members_view map.now.entries) }
+{
+    for (name, _) in map {
+        if !is_known(name.as_str()) {
+            return false;
+        }
+    }
+    true
+}
+
+/// The texts of a list.
+fn texts_in(alloc: Global, values: &[Value]) -> Result<Items<Text>, BadSession>
+    ensures { Gives result (texts_in (items_view values.now)) }
+{
+    let mut texts = Items::new(alloc);
+    for value in values {
+        texts.push(text_of(alloc, value)?)?;
+    }
+    Ok(texts)
+}
+
+/// A list of texts.
+fn texts_of(alloc: Global, value: &Value) -> Result<Items<Text>, BadSession>
+    ensures { Gives result (texts_of (view value.now)) }
+{
+    let texts = texts_in(alloc, array_of(value)?)?;
+    Ok(texts)
+}
+
+/// The texts at a key, none where the key is absent.
+fn texts_at(alloc: Global, key: &str, value: &Value) -> Result<Items<Text>, BadSession>
+    ensures { Gives result (texts_at key.now (view value.now)) }
+{
+    match value.get(key) {
+        None => Ok(Items::new(alloc)),
+        Some(found) => texts_of(alloc, found),
+    }
+}
+
+/// A truth value.
+fn truth_of(value: &Value) -> Result<bool, BadSession>
+    ensures { Gives result (truth_of (view value.now)) }
+{
+    match value.as_bool() {
+        Some(truth) => Ok(truth),
+        None => Err(BadSession::BadForm),
+    }
+}
+
+/// The truth value at a key, false where the key is absent.
+fn truth_at(key: &str, value: &Value) -> Result<bool, BadSession>
+    ensures { Gives result (truth_at key.now (view value.now)) }
+{
+    match value.get(key) {
+        None => Ok(false),
+        Some(found) => truth_of(found),
+    }
+}
+
+/// The name of the profile, `dev` where the key `profile` is absent.
+fn profile_of(alloc: Global, value: &Value) -> Result<Text, BadSession>
+    ensures { Gives result (text_or (codes "dev") (get (codes "profile") (view value.now))) }
+{
+    match value.get("profile") {
+        None => {
+            let text = Text::from_str(alloc, "dev")?;
+            Ok(text)
+        }
+        Some(found) => text_of(alloc, found),
+    }
+}
+
+/// The path of the root manifest, by the value of the key `manifest`.
+fn manifest_of(alloc: Global, value: &Value) -> Result<PathText, BadSession>
+    ensures { Gives result (manifest_or_default (get (codes "manifest") (view value.now))) }
+{
+    match value.get("manifest") {
+        None => path_in(alloc, "/w/Cargo.toml"),
+        Some(found) => path_of(alloc, found),
+    }
+}
+
+/// The words that stand before the path of a build script.
+fn runner_words(alloc: Global) -> Result<Items<Text>, AllocError>
+    ensures { IfOk result (λ words. words ≡ codes "mini" ∷ codes "--run" ∷ []) }
+{
+    let mut words = Items::new(alloc);
+    words.push(Text::from_str(alloc, "mini")?)?;
+    words.push(Text::from_str(alloc, "--run")?)?;
+    Ok(words)
+}
+
+/// The options of a build, whose keys are known.
+fn options_in(alloc: Global, value: &Value) -> Result<Options, BadSession>
+    ensures { Gives result (options_in (view value.now)) }
+{
+    let manifest = manifest_of(alloc, value)?;
+    let packages = texts_at(alloc, "packages", value)?;
+    let workspace = truth_at("workspace", value)?;
+    let features = texts_at(alloc, "features", value)?;
+    let all_features = truth_at("all_features", value)?;
+    let no_default_features = truth_at("no_default_features", value)?;
+    let profile = profile_of(alloc, value)?;
+    let lib = truth_at("lib", value)?;
+    let bins = truth_at("bins", value)?;
+    let bin = texts_at(alloc, "bin", value)?;
+    let runner = runner_words(alloc)?;
+    let tool = Text::from_str(alloc, "cargo")?;
+    Ok(Options {
+        manifest,
+        packages,
+        workspace,
+        features,
+        all_features,
+        no_default_features,
+        profile,
+        lib,
+        bins,
+        bin,
+        target_dir: None,
+        runner,
+        tool,
+    })
+}
+
+/// The options of a build.
+pub(crate) fn options_of(alloc: Global, value: &Value) -> Result<Options, BadSession>
+    ensures { Gives result (options_of (view value.now)) }
+{
+    let known = match value.as_object() {
+        Some(map) => are_known(map),
+        None => return Err(BadSession::BadForm),
+    };
+    if !known {
+        return Err(BadSession::BadForm);
+    }
+    options_in(alloc, value)
 }

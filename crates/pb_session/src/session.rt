@@ -1,69 +1,18 @@
 //! A session file.
 
 ghost use Rattle.std.specs.Prelude.{◌≡◌, ℕ, List};
-ghost use Rattle.serde_json.specs.View.{view, items_view, members_view};
+ghost use Rattle.serde_json.specs.View.{view, items_view};
 ghost use Rattle.pb_session.specs.Faults.{Gives, GivesAs};
-ghost use Rattle.pb_session.specs.Sessions.{are_known, is_known, manifest_of, options_of, write_of, set_of, step_named, step_of, steps_of, document_in, session_of};
+ghost use Rattle.pb_session.specs.Options.{options_of};
+ghost use Rattle.pb_session.specs.Sessions.{write_of, set_of, step_named, step_of, steps_of, document_in, session_of};
 
 use crate::fault::BadSession;
-use crate::options::Options;
+use crate::options::options_of;
 use crate::step::SessionStep;
 use crate::value::{array_of, only_member, pair_of, path_in, path_of, text_of};
-use pb_data::{Items, Text};
-use pb_place::PathText;
-use serde_json::{Map, Value};
+use pb_data::Items;
+use serde_json::Value;
 use std::alloc::Global;
-
-/// Whether a key of the options of a build is one that they may have.
-fn is_known(name: &str) -> bool
-    ensures { result ≡ is_known name.now }
-{
-    name == "manifest"
-}
-
-/// Whether the options of a build have no key but those that they may have.
-fn are_known(map: &Map<String, Value>) -> bool
-    ensures { result ≡ are_known (members_view map.now.entries) }
-{
-    for (name, _) in map {
-        if !is_known(name.as_str()) {
-            return false;
-        }
-    }
-    true
-}
-
-/// The path of the root manifest, by the value of the key `manifest`.
-fn manifest_of(alloc: Global, value: &Value) -> Result<PathText, BadSession>
-    ensures { Gives result (manifest_of (view value.now)) }
-{
-    match value.get("manifest") {
-        None => {
-            let path = path_in(alloc, "/w/Cargo.toml")?;
-            Ok(path)
-        }
-        Some(found) => {
-            let path = path_of(alloc, found)?;
-            Ok(path)
-        }
-    }
-}
-
-/// The options of a build.
-fn options_of(alloc: Global, value: &Value) -> Result<Options, BadSession>
-    ensures { Gives result (options_of (view value.now)) }
-{
-    let known = match value.as_object() {
-        Some(map) => are_known(map),
-        None => return Err(BadSession::BadForm),
-    };
-    if !known {
-        return Err(BadSession::BadForm);
-    }
-    let manifest = manifest_of(alloc, value)?;
-    let tool = Text::from_str(alloc, "cargo")?;
-    Ok(Options { manifest, tool })
-}
 
 /// The step that writes a file.
 fn write_of(alloc: Global, value: &Value) -> Result<SessionStep, BadSession>
@@ -155,8 +104,10 @@ fn document_in(alloc: Global, bytes: &[u8]) -> Result<Value, BadSession>
 ///
 /// - `{"write":[PATH,TEXT]}` writes a file, `{"remove":PATH}` takes away a file and all below it;
 /// - `{"set":[NAME,VALUE]}` sets a variable, `{"unset":NAME}` takes it away;
-/// - `{"build":OPTIONS}` builds. OPTIONS is an object with the key `manifest`, the path of the root manifest,
-///   or with no key: then it is `/w/Cargo.toml`. The builder is called `cargo`.
+/// - `{"build":OPTIONS}` builds. OPTIONS is an object with any of the keys `manifest`, the path of the root
+///   manifest (else `/w/Cargo.toml`); `profile`, a text (else `dev`); `packages`, `features` and `bin`, lists of
+///   texts; `workspace`, `all_features`, `no_default_features`, `lib` and `bins`, truth values. The builder is called
+///   `cargo`, and build scripts are run by `mini --run`.
 ///
 /// A path is an absolute text without byte 0. Of a key that an object has twice the last value counts, as
 /// `serde_json` reads it. BadForm where the bytes are of any other form, and OutOfMemory where memory is

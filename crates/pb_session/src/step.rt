@@ -1,8 +1,8 @@
 //! A step of a session.
 
-use crate::options::Options;
 use pb_data::Text;
 use pb_place::PathText;
+use pb_workspace::Options;
 
 /// A step of a session: an edit of what lies outside the builder, or a build.
 #[derive(Debug, Drop)]

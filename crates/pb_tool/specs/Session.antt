@@ -3,9 +3,10 @@ use Rattle.std.specs.Prelude.{◌≡◌, ◌⊎◌, ℕ, codes, List, [], ◌∷
 use Rattle.std.specs.Io.KnownBytes.{Appends}
 use Rattle.std.specs.FinMap as map
 use Rattle.pb_mini.specs.Answer.{answered}
-use Rattle.pb_place.specs.Counts.{up}
+use Rattle.pb_place.specs.Counts.{up, no_calls}
 use Rattle.pb_place.specs.World.{Answers}
-use Rattle.pb_build.specs.Session.{Moment, Course}
+use Rattle.pb_build.specs.Ending.{Heard}
+use Rattle.pb_build.specs.Session.{Point, Course}
 use Rattle.pb_build.specs.declared.sessions.Answer.{Answer}
 use Rattle.pb_report.specs.ResultLine.{result_line}
 use Rattle.pb_session.specs.Sessions.{session_of}
@@ -24,14 +25,14 @@ lines_of (answer ∷ answers) = result_line answer.result ++ codes "\n" ++ lines
 abbrev pub small_compiler : Answers
 small_compiler c w = answered c.words c.pairs w
 
--- before the first step: no file, no variable and no answer
-abbrev pub at_first : Option (List ℕ) → Moment
-at_first taken = record { world = record { files = map.empty; variables = map.empty }; taken = taken; answers = [] }
+-- before the first step: no file, no variable, no call of the place and no answer
+abbrev pub at_first : Heard → Point
+at_first heard = record { moment = record { world = record { files = map.empty; variables = map.empty }; counts = no_calls; heard = heard }; answers = [] }
 
 -- the message lines of the steps' builds, one build after another, and then a result line for each
-abbrev pub Written : List SessionStep → Option (List ℕ) → Option (List ℕ) → Type 0
-Written steps before after = (end : Moment) × Course small_compiler steps (at_first before) end × Appends end.taken after (lines_of end.answers)
+abbrev pub Written : List SessionStep → Heard → Option (List ℕ) → Type 0
+Written steps before after = (end : Point) × Course small_compiler steps (at_first before) end × Appends end.moment.heard.taken after (lines_of end.answers)
 
 -- the bytes say a session, and its lines were written
-abbrev pub SessionWritten : List ℕ → Option (List ℕ) → Option (List ℕ) → Type 0
+abbrev pub SessionWritten : List ℕ → Heard → Option (List ℕ) → Type 0
 SessionWritten bytes before after = (steps : List SessionStep) × (session_of bytes ≡ Ok steps) × Written steps before after

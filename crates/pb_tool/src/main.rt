@@ -1,21 +1,26 @@
 //! The package builder as a program.
 //!
+//! `pb_tool build` builds a workspace of path packages with the compiler that `RUSTC` names and prints a message line
+//! in JSON for all that it makes. The status is 0 for success, 101 for a build that failed or was refused, and 1 for a
+//! bad command line.
+//!
 //! `pb_tool session FILE` runs a session in memory, whose compiler is the small one: it prints all message
 //! lines and then one result line a build. The status is 0; it is 1 for a bad command line and for a session
 //! that is bad.
 #![tactic(auto)]
 
+mod building;
 mod command_line;
+mod running;
 mod session;
 #[cfg(test)]
 mod tests;
 
-use clap::error::ErrorKind;
-use command_line::session_file;
-use pb_place::Over;
-use session::{refuse, run_session};
+use pb_host::HostPlace;
+use pb_place::{Over, PathText};
+use running::{FAILED, run};
 use std::process::ExitCode;
-use std::{env, fs, io};
+use std::{env, io};
 
 /// The words of the command line, the program's own name first.
 fn words(rt: &HostRuntime) -> io::Result<Vec<String>> {
@@ -23,44 +28,25 @@ fn words(rt: &HostRuntime) -> io::Result<Vec<String>> {
     Ok(words)
 }
 
-/// Runs the session of a file. A file that cannot be read is a bad session.
-fn run_file(rt: &HostRuntime, path: &str) -> u8 {
-    let mut err = Over::new(rt.stderr());
-    match fs::read(rt, path) {
-        Ok(bytes) => run_session(
-            rt.alloc(),
-            bytes.as_slice(),
-            &mut Over::new(io::writer(rt)),
-            &mut err,
-        ),
-        Err(_) => refuse(&mut err),
-    }
-}
-
-/// Prints what the reader of the command line says: help, or what is wrong. Memory that was refused there is
-/// told as it is elsewhere outside a build.
-fn explain(rt: &HostRuntime, error: &clap::Error) -> u8 {
-    if error.kind() == ErrorKind::OutOfMemory {
-        return refuse(&mut Over::new(rt.stderr()));
-    }
-    let printed = error.print(rt);
-    if error.use_stderr() || printed.is_err() {
-        1
-    } else {
-        0
-    }
+/// The current folder; the root where it is not known.
+fn folder(rt: &HostRuntime) -> Option<PathText> {
+    let path = env::current_dir(rt).ok()?;
+    PathText::parse(rt.alloc(), path.as_str()).ok()
 }
 
 /// Does what the command line asks for, and gives the status to end with.
 fn status(rt: &HostRuntime) -> u8 {
-    let Ok(words) = words(rt) else {
-        return refuse(&mut Over::new(rt.stderr()));
+    let (Ok(words), Some(folder)) = (words(rt), folder(rt)) else {
+        return FAILED;
     };
-    match session_file(rt.alloc(), words.as_slice()) {
-        Ok(Some(path)) => run_file(rt, path),
-        Ok(None) => 1,
-        Err(error) => explain(rt, &error),
-    }
+    run(
+        rt.alloc(),
+        words.as_slice(),
+        &folder,
+        &mut HostPlace::new(rt.alloc(), rt),
+        &mut Over::new(io::writer(rt)),
+        &mut Over::new(rt.stderr()),
+    )
 }
 
 fn main(rt: HostRuntime) -> ExitCode {

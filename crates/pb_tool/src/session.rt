@@ -52,7 +52,7 @@ pub fn write_results<O: Out>(
 
 /// Runs a session and writes its lines. Whether all result lines were written.
 fn carry_out<O: Out>(alloc: Global, bytes: &[u8], out: &mut O) -> Result<bool, BadSession>
-    ensures written { IfOk result (λ whole. IsTrue whole → SessionWritten bytes.now (O.taken out.old) (O.taken out.new)) }
+    ensures written { IfOk result (λ whole. IsTrue whole → SessionWritten bytes.now record { taken = O.taken out.old; faults = O.faults out.old } (O.taken out.new)) }
     ensures bad { IfErr result (λ e. e ≡ BadForm → session_of bytes.now ≡ Err BadForm) }
     ensures fault { IfOk result (λ whole. whole ≡ false → (before : ℕ) × (O.faults out.new ≡ up before)) }
     ensures untouched { session_of bytes.now ≡ Err BadForm → out.new ≡ out.old }
@@ -74,7 +74,7 @@ fn carry_out<O: Out>(alloc: Global, bytes: &[u8], out: &mut O) -> Result<bool, B
 /// line says so.
 pub fn run_session<O: Out, E: Out>(alloc: Global, bytes: &[u8], out: &mut O, err: &mut E) -> u8
     ensures status { (result ≡ 0) ⊎ (result ≡ 1) }
-    ensures written { result ≡ 0 → SessionWritten bytes.now (O.taken out.old) (O.taken out.new) }
+    ensures written { result ≡ 0 → SessionWritten bytes.now record { taken = O.taken out.old; faults = O.faults out.old } (O.taken out.new) }
     ensures untouched { session_of bytes.now ≡ Err BadForm → out.new ≡ out.old }
     ensures quiet { result ≡ 0 → err.new ≡ err.old }
     ensures told { result ≡ 1 → Refused (E.taken err.old) (E.taken err.new) (E.faults err.old) (E.faults err.new) }

@@ -1,8 +1,7 @@
 -- Keys: each is the name of a folder, and two units have two.
-use Rattle.std.proofs.Common.{◌≡◌, ◌≢◌, inl, inr, ◌==◌, ◌&&◌, ◌||◌, ℕ, zero, suc, ◌<◌, Bool, true, false, not, cond, List, [], ◌∷◌, ◌++◌, length, codes, get_or, drop, map, refl, sym, ap, subst, ◌∙◌, arith, Some, slice_get}
+use Rattle.std.proofs.Common.{◌≡◌, ◌≢◌, ◌==◌, ◌&&◌, ◌||◌, ℕ, zero, suc, ◌<◌, Bool, true, false, not, cond, List, [], ◌∷◌, ◌++◌, length, codes, get_or, drop, map, refl, sym, ap, subst, ◌∙◌, arith, Some, slice_get}
 use Rattle.std.specs.Prelude.{⊤}
-use Rattle.std.proofs.lemmas.Bool.{cases_Bool, false≢true}
-use Rattle.std.proofs.lemmas.Bool.Decides.{nat_tests}
+use Rattle.std.proofs.lemmas.Bool.{false≢true}
 use Rattle.std.proofs.lemmas.Slice.Eq.{bytes_eq-Decides}
 use Rattle.std.specs.List.{list_any, list_all, onto_first, IsDistinct, AllByRecursion}
 use Rattle.std.specs.Str.{bytes_eq}
@@ -14,38 +13,12 @@ use Rattle.pb_workspace.specs.declared.package.Side.TheVariants.{Target, Host}
 use Rattle.pb_workspace.specs.declared.package.Package.{Package}
 use Rattle.pb_workspace.specs.declared.workspace.Workspace.{Workspace}
 use Rattle.pb_workspace.specs.Settled.{IsSettled, IsPackage}
+use Rattle.pb_workspace.proofs.NamesInPaths.{either, leads_on, no_dot, no_slash, no_zero, unlike, without}
 use Rattle.pb_order.proofs.Elements.{all_at}
 use Rattle.pb_unit.specs.declared.unit.Unit.{Unit}
 use Rattle.pb_unit.specs.declared.unit.What.{What}
 use Rattle.pb_unit.specs.declared.unit.What.TheVariants.{Lib, Bin, Script, Run}
 use Rattle.pb_unit.specs.Units.{unit, name_of, name_at, side_name, what_name, key_of}
-
--- a byte that may not stand in a name
-unlike : (n b : ℕ) → letters.is_name_byte n ≡ false → letters.is_name_byte b ≡ true → b == n ≡ false
-unlike n b none is =
-    elim (cases_Bool (b == n)) [
-      | inl tied ↦ let same : b ≡ n = grind (arith, nat_tests) in absurd (false≢true (sym none ∙ ap letters.is_name_byte (sym same) ∙ is))
-      | inr apart ↦ apart
-    ]
-
-no_slash : letters.is_name_byte 47 ≡ false
-unfolding letters.is_name_byte
-no_slash = refl
-
-no_zero : letters.is_name_byte 0 ≡ false
-unfolding letters.is_name_byte
-no_zero = refl
-
-no_point : letters.is_name_byte 46 ≡ false
-unfolding letters.is_name_byte
-no_point = refl
-
-either : (a b : Bool) → a ≡ false → b ≡ false → a || b ≡ false
-either a b p q = ap (λ x. x || b) p ∙ q
-
-neither : (a b : Bool) → b ≡ false → a && b ≡ false
-neither true b h = h
-neither false b h = refl
 
 first_of : (a b : Bool) → a || b ≡ false → a ≡ false
 first_of true b h = absurd (false≢true (sym h))
@@ -55,12 +28,6 @@ second_of : (a b : Bool) → a || b ≡ false → b ≡ false
 second_of true b h = absurd (false≢true (sym h))
 second_of false b h = h
 
--- a byte that stands in no name does not stand in a name with an ending that is without it
-without : (n : ℕ) → letters.is_name_byte n ≡ false → (name ending : List ℕ) → list_all letters.is_name_byte name ≡ true → list_any (λ b. b == n) ending ≡ false
-    → list_any (λ b. b == n) (name ++ ending) ≡ false
-without n none [] ending all rest = rest
-without n none (b ∷ name) ending all rest = either _ _ (unlike n b none (and_left _ _ all)) (without n none name ending (and_right _ _ all) rest)
-
 clean : (n : ℕ) → letters.is_name_byte n ≡ false → (name : List ℕ) → list_all letters.is_name_byte name ≡ true → list_any (λ b. b == n) name ≡ false
 clean n none [] all = refl
 clean n none (b ∷ name) all = either _ _ (unlike n b none (and_left _ _ all)) (clean n none name (and_right _ _ all))
@@ -69,18 +36,6 @@ clean n none (b ∷ name) all = either _ _ (unlike n b none (and_left _ _ all)) 
 one_part : (text : List ℕ) → list_any (λ b. b == 47) text ≡ false → parts_of text ≡ text ∷ []
 one_part [] none = refl
 one_part (b ∷ text) none = ap (λ t. cond t ([] ∷ parts_of text) (onto_first b (parts_of text))) (first_of _ _ none) ∙ ap (onto_first b) (one_part text (second_of _ _ none))
-
--- a name, a point and more is neither empty nor dots
-not_empty : (name rest : List ℕ) → bytes_eq (name ++ 46 ∷ rest) [] ≡ false
-not_empty [] rest = refl
-not_empty (b ∷ name) rest = refl
-
-not_dot : (name rest : List ℕ) → bytes_eq rest [] ≡ false → bytes_eq (name ++ 46 ∷ rest) (codes ".") ≡ false
-not_dot [] rest more = more
-not_dot (b ∷ name) rest more = neither (b == 46) _ (not_empty name rest)
-
-leads_on : (b : ℕ) (name rest : List ℕ) → bytes_eq rest [] ≡ false → stays (b ∷ name ++ 46 ∷ rest) || leads_up (b ∷ name ++ 46 ∷ rest) ≡ false
-leads_on b name rest more = either _ _ (neither (b == 46) _ (not_empty name rest)) (neither (b == 46) _ (not_dot name rest more))
 
 -- a name, a point and more, without a slash and byte 0, is the name of a folder
 key_is_name : (name rest : List ℕ) → letters.is_name name ≡ true → bytes_eq rest [] ≡ false → list_any (λ b. b == 47) rest ≡ false → list_any (λ b. b == 0) rest ≡ false
@@ -194,7 +149,7 @@ side_clean Host = refl
 -- two units with one key: one name, one side, one thing made
 pub key_parts : (ws : Workspace) (u v : Unit) → letters.is_name (name_at ws u.owner) ≡ true → letters.is_name (name_at ws v.owner) ≡ true → key_of ws u ≡ key_of ws v → (name_at ws u.owner ≡ name_at ws v.owner) × (u.side ≡ v.side) × (u.what ≡ v.what)
 key_parts ws u v nu nv e =
-    let (names, rests) = split_at (name_at ws u.owner) (name_at ws v.owner) (rest_of u.side u.what) (rest_of v.side v.what) (clean 46 no_point _ (letters_of _ nu)) (clean 46 no_point _ (letters_of _ nv)) e in
+    let (names, rests) = split_at (name_at ws u.owner) (name_at ws v.owner) (rest_of u.side u.what) (rest_of v.side v.what) (clean 46 no_dot _ (letters_of _ nu)) (clean 46 no_dot _ (letters_of _ nv)) e in
     let (sides, whats) = split_at (side_name u.side) (side_name v.side) (what_name u.what) (what_name v.what) (side_clean u.side) (side_clean v.side) rests in
     (names, sides_apart u.side v.side sides, whats_apart u.what v.what whats)
 

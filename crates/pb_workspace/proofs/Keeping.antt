@@ -1,17 +1,17 @@
 -- What is put together keeps its names and its order.
-use Rattle.std.proofs.Common.{◌≡◌, ◌≤◌, ◌<◌, ℕ, zero, suc, ◌+◌, not, List, [], ◌∷◌, ◌++◌, length, map, Bool, true, false, ◌&&◌, ◌||◌, Option, Some, None, IfSome, All, Result, Ok, Err, cond, refl, sym, ap, ◌∙◌, subst, arith, if◌then◌else◌}
-use Rattle.std.proofs.lemmas.Bool.{or_cases}
+use Rattle.std.proofs.Common.{◌≡◌, IfSome, ◌≤◌, ◌<◌, ℕ, ◌+◌, List, [], ◌∷◌, ◌++◌, length, map, Bool, true, false, ◌||◌, Option, Some, None, All, Ok, cond, refl, sym, ap, ◌∙◌, subst, arith, if◌then◌else◌}
 use Rattle.std.proofs.lemmas.List.{length-map}
 use Rattle.std.proofs.lemmas.List.Elements.{All-from_recursion}
 use Rattle.std.proofs.lemmas.List.Folds.{list_any-append}
-use Rattle.std.specs.List.{AllByRecursion, IsDistinct, filter_map, list_any}
+use Rattle.std.proofs.lemmas.Map.Entries.{All-lookup}
+use Rattle.std.specs.List.{AllByRecursion, IsDistinct, list_all}
 use Rattle.std.specs.Map.{lookup}
 use Rattle.std.specs.Option.{unwrap_or}
 use Rattle.std.specs.BTreeMap.{is_at}
 use Rattle.std.specs.Cmp.Lexicographic.{slice_cmp}
 use Rattle.std.specs.Ordering.{nat_cmp}
 use Rattle.std.specs.Str.{bytes_eq}
-use Rattle.pb_data.specs.Mentions.{is_mentioned, mentioned}
+use Rattle.pb_data.specs.Mentions.{is_mentioned}
 use Rattle.pb_data.proofs.MentionLemmas.{bytes_eq_comm}
 use Rattle.pb_manifest.specs.Letters.{is_name, is_feature_name}
 use Rattle.pb_manifest.specs.declared.dependency.Dependency.{Dependency}
@@ -28,8 +28,10 @@ use Rattle.pb_workspace.specs.declared.package.Entry.{Entry}
 use Rattle.pb_workspace.specs.declared.package.Package.{Package}
 use Rattle.pb_workspace.specs.declared.rounds.Reading.{Reading}
 use Rattle.pb_workspace.specs.declared.wanted.Wanted.{Wanted}
+use Rattle.pb_workspace.specs.declared.workspace.DefaultMembers.TheVariants.{Named, Unknown}
 use Rattle.pb_workspace.specs.declared.workspace.Workspace.{Workspace}
-use Rattle.pb_workspace.specs.Assembled.{assembled, entry_at, package_at}
+use Rattle.pb_workspace.specs.Selected.{places_where}
+use Rattle.pb_workspace.specs.Assembled.{assembled, default_members_of, entry_at, is_default, is_known, package_at}
 use Rattle.pb_workspace.specs.Binaries.{binary_of, with_binaries}
 use Rattle.pb_workspace.specs.ByFolder.{folders_of, value_of, values_of}
 use Rattle.pb_workspace.specs.Checks.{fault_of, has_same_names}
@@ -38,9 +40,10 @@ use Rattle.pb_workspace.specs.Features.{feature_of, makes_feature, with_made, wi
 use Rattle.pb_workspace.specs.Loaded.{unless, workspace_from}
 use Rattle.pb_workspace.specs.Places.{numbered, places_of}
 use Rattle.pb_workspace.specs.Rounds.{with_draft}
-use Rattle.pb_workspace.specs.Settled.{IsAscending, IsPackage, IsSettled}
+use Rattle.pb_workspace.specs.Settled.{IfNamed, IsAscending, IsPackage, IsSettled}
 use Rattle.pb_workspace.specs.Settling.{comes_again}
 use Rattle.pb_workspace.specs.Sorted.{placed}
+use Rattle.pb_workspace.proofs.Chosen.{places_below}
 use Rattle.pb_workspace.proofs.Puttings.{placed_all, placed_length, all_map, all_given, map_twice}
 
 -- binaries
@@ -160,6 +163,14 @@ some_there : {A : Type 0} (P : A → Type 0) (xs : List A) → (0 < length xs �
 some_there P [] made = tt
 some_there P (x ∷ xs) made = made (omega arith)
 
+defaults_below : (root : List ℕ) (packages : List Package) (texts : Option (List (List ℕ))) → IfNamed (default_members_of root packages texts) (All (λ place. place < length packages))
+defaults_below root packages None = tt
+defaults_below root packages (Some texts) = by (list_all (is_known root packages) texts)
+  where
+    by : (b : Bool) → IfNamed (if b then Named (places_where (is_default root texts) packages) else Unknown) (All (λ place. place < length packages))
+    by true = All-from_recursion _ _ (places_below (is_default root texts) 0 (length packages) packages (omega arith))
+    by false = tt
+
 pub assembled_settled : (target : List ℕ) (f : Frame) (profiles : List Profile) (es : List (List ℕ × Draft)) → length es ≤ 256 → AllByRecursion IsPut es → IsAscending (folders_of es) → has_same_names (values_of es) ≡ false
     → IsSettled (assembled target f profiles (values_of es))
 unfolding assembled
@@ -176,6 +187,9 @@ assembled_settled target f profiles es few all order names =
           (All-from_recursion _ _ (all_map (IsPackage (length drafts)) (package_at places) drafts
           (some_there _ drafts (λ some. all_map (λ d. IsPackage (length drafts) (package_at places d)) draft_of_entry es
           (all_given IsPut _ (λ e put. package_kept (length drafts) places e.1 some (numbered_below (length drafts) [] 0 drafts tt (omega arith)) put.1) es all)))));
+      root = subst (λ n. IfSome (value_of f.root places) (λ place. place < n)) (sym long)
+          (All-lookup (λ place. place < length drafts) (is_at (slice_cmp nat_cmp f.root)) places (All-from_recursion _ places (numbered_below (length drafts) [] 0 drafts tt (omega arith))));
+      defaults = defaults_below f.root (map (package_at places) drafts) f.default_members;
     }
 
 no_fault : (drafts : List Draft) → fault_of drafts ≡ None → has_same_names drafts ≡ false

@@ -1,9 +1,17 @@
 pub mod RowLemmas
 pub mod Resolving
 pub mod SourceLemmas
+pub mod NamesInPaths
 pub mod BinPaths
 pub mod Promised
 pub mod Steps
 pub mod Puttings
 pub mod Naming
 pub mod Keeping
+pub mod FoldersPut
+pub mod FoldersFound
+pub mod FoldersPlaced
+pub mod Fuel
+pub mod WholeWorkspace
+pub mod GlobRelation
+pub mod Chosen

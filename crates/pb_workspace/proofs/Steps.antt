@@ -1,5 +1,5 @@
 -- Two steps that read files, one after the other.
-use Rattle.std.proofs.Common.{◌≡◌, ◌<◌, ◌+◌, ◌-◌, ℕ, suc, List, Bool, true, false, Result, Ok, Err, MatchResult, sym, ap, ◌∙◌, subst, arith}
+use Rattle.std.proofs.Common.{◌≡◌, ◌<◌, ◌+◌, ◌-◌, ℕ, suc, List, Result, Ok, Err, sym, ap, ◌∙◌, subst, arith}
 use Rattle.pb_data.specs.Gives.{◌>>=◌}
 use Rattle.pb_place.specs.Counts.{Counts, up}
 use Rattle.pb_place.specs.World.{World, from_nothing}
@@ -17,7 +17,7 @@ told_step next first w now x result is same told = subst (λ v. Told result (v >
 -- how the counters move over both
 pub reads_step : {T : Type 0} (result : Result T LoadFault) (old mid new : Counts) → mid.failures ≡ old.failures → mid.starts ≡ old.starts → Reads result mid new → Reads result old new
 reads_step (Ok x) old mid new f s r = (r.0 ∙ f, r.1 ∙ s)
-reads_step (Err e) old mid new f s r = (r.0 ∙ s, (λ n. r.1 n ∙ f), (λ y. r.2 y ∙ ap up f), r.3, r.4, r.5)
+reads_step (Err e) old mid new f s r = (r.0 ∙ s, (λ n. r.1 n ∙ f), (λ y. r.2 y ∙ ap up f), r.3, r.4, r.5, r.6)
 
 module _ (target : List ℕ) (f : Frame) (meant : List (List ℕ × Unit {0})) (w now : World) (count done : ℕ) (r : Reading) (whole : Result Reading LoadFault) where
   -- one round of those that are left

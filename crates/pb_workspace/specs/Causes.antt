@@ -1,5 +1,5 @@
 -- How a step that reads files ends: which faults come from outside the rules, and how the counters of the place moved.
-use Rattle.std.specs.Prelude.{◌≡◌, ℕ, List, Bool, true, false, Option, Some, None, Result, Ok, Err, MatchResult}
+use Rattle.std.specs.Prelude.{◌≡◌, ℕ, List, [], Bool, true, false, Option, Some, None, Result, Ok, Err, MatchResult}
 use Rattle.std.specs.Str.{bytes_eq}
 use Rattle.pb_place.specs.Counts.{Counts, up}
 use Rattle.pb_place.specs.declared.place.Failure.{Failure}
@@ -98,6 +98,22 @@ failure_of (Place path fault) = Some (Called fault)
 failure_of NoSuchPackage = None
 failure_of OutOfMemory = None
 
+-- the path that the call that failed was given
+abbrev pub path_told : LoadFault → List ℕ
+path_told (NoManifest path) = []
+path_told (Manifest path fault) = []
+path_told SameName = []
+path_told NameMismatch = []
+path_told VersionMismatch = []
+path_told LinksTwice = []
+path_told LinksWithoutScript = []
+path_told NoInherited = []
+path_told TooMany = []
+path_told SameBinary = []
+path_told (Place path fault) = path
+path_told NoSuchPackage = []
+path_told OutOfMemory = []
+
 -- what a call on a path that failed is told as; want of memory stays so
 abbrev pub fault_at : List ℕ → PlaceFault → LoadFault
 fault_at path place.Read = Place path place.Read
@@ -111,7 +127,7 @@ fault_at path place.OutOfMemory = OutOfMemory
 abbrev pub Told : {A : Type 0} → Result A LoadFault → Result A LoadFault → Type 0
 Told result answer = MatchResult result (λ x. answer ≡ Ok x) (λ e. is_outside e ≡ false → answer ≡ Err e)
 
--- no child was started; a call failed just where the fault says so, with this very fault, and then no further call was made
+-- no child was started; a call failed just where the fault says so, with this very fault and on this very path, and then no further call was made
 abbrev pub Reads : {T : Type 0} → Result T LoadFault → Counts → Counts → Type 0
 Reads result old new = MatchResult result (λ _. (new.failures ≡ old.failures) × (new.starts ≡ old.starts))
-    (λ e. (new.starts ≡ old.starts) × (is_failure e ≡ false → new.failures ≡ old.failures) × (is_failure e ≡ true → new.failures ≡ up old.failures) × (is_failure e ≡ true → new.late ≡ 0) × (is_failure e ≡ true → new.last ≡ failure_of e) × (is_read e ≡ true))
+    (λ e. (new.starts ≡ old.starts) × (is_failure e ≡ false → new.failures ≡ old.failures) × (is_failure e ≡ true → new.failures ≡ up old.failures) × (is_failure e ≡ true → new.late ≡ 0) × (is_failure e ≡ true → new.last ≡ failure_of e) × (is_failure e ≡ true → new.named ≡ path_told e) × (is_read e ≡ true))

@@ -1,5 +1,5 @@
 -- What is refused once all packages are read, in this order (our own choice where The Cargo Book is silent).
-use Rattle.std.specs.Prelude.{ℕ, Bool, true, not, is_some, ◌&&◌, if◌then◌else◌, List, [], map, slice_get, Option, Some, None}
+use Rattle.std.specs.Prelude.{ℕ, Bool, true, not, is_some, ◌&&◌, if◌then◌else◌, List, [], map, Option, Some, None}
 use Rattle.std.specs.List.{filter_map, list_any}
 use Rattle.std.specs.Str.{bytes_eq}
 use Rattle.pb_manifest.specs.Versions.{matches}

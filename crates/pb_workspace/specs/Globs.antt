@@ -1,4 +1,4 @@
--- Globs of members: `*` and `?` within one part of a path (The Cargo Book, Workspaces; our own choice which of a glob's signs are served). Texts are UTF-8 bytes.
+-- Globs of members: `*` and `?` within one part of a path (The Cargo Book, Workspaces; our own choice which of a glob's signs are served). Texts are UTF-8 bytes. `GlobWords` says the same in words of its own.
 use Rattle.std.specs.Prelude.{ℕ, Bool, true, false, ◌&&◌, ◌||◌, ◌==◌, nat_le, if◌then◌else◌, List, [], ◌∷◌}
 use Rattle.std.specs.List.{list_any}
 

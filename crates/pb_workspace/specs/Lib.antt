@@ -25,3 +25,5 @@ pub mod Checks
 pub mod Assembled
 pub mod Loaded
 pub mod Drafted
+pub mod PackageFolders
+pub mod GlobWords

@@ -86,7 +86,7 @@ all_read read r (folder ∷ folders) = one_read read r folder >>= (λ now. all_r
 abbrev pub round : (List ℕ → Result Draft LoadFault) → Reading → Result Reading LoadFault
 round read r = all_read read (record { found = r.found; ahead = [] }) (folders_of r.ahead)
 
--- so many rounds. A round that reads nothing leaves nothing ahead, so 257 are enough for 256 packages
+-- so many rounds. A round that reads nothing leaves nothing ahead, so 257 are enough for 256 packages: `PackageFolders` says so, and which set is read
 unfoldable pub rounds : ℕ → (List ℕ → Result Draft LoadFault) → Reading → Result Reading LoadFault
 rounds zero read r = Ok r
 rounds (suc n) read r = round read r >>= (λ now. rounds n read now)

@@ -10,6 +10,8 @@ use Rattle.pb_manifest.specs.declared.feature.Feature.{Feature}
 use Rattle.pb_workspace.specs.declared.package.Package.{Package}
 use Rattle.pb_workspace.specs.declared.package.Binary.{Binary}
 use Rattle.pb_workspace.specs.declared.package.Entry.{Entry}
+use Rattle.pb_workspace.specs.declared.workspace.DefaultMembers.{DefaultMembers}
+use Rattle.pb_workspace.specs.declared.workspace.DefaultMembers.TheVariants.{Unwritten, Named, Unknown}
 use Rattle.pb_workspace.specs.declared.workspace.Workspace.{Workspace}
 
 -- texts in byte order, each once
@@ -26,9 +28,17 @@ pub record IsPackage (count : ℕ) (p : Package) : Type 0 where
   pub features : IsAscending (map (λ (feature : Feature). feature.name) p.features)
   pub leads : All (λ (entry : Entry). entry.to < count) p.entries
 
--- a workspace that was read: at most 256 packages, in byte order of their folders, no two of one name
+-- what `default-members` names, where it names members
+abbrev pub IfNamed : DefaultMembers → (List ℕ → Type 0) → Type 0
+IfNamed Unwritten Holds = Unit {0}
+IfNamed (Named places) Holds = Holds places
+IfNamed Unknown Holds = Unit {0}
+
+-- a workspace that was read: at most 256 packages, in byte order of their folders, no two of one name; the root package and the default members are among them
 pub record IsSettled (ws : Workspace) : Type 0 where
   pub few : length ws.packages ≤ 256
   pub folders : IsAscending (map (λ (p : Package). p.folder) ws.packages)
   pub names : IsDistinct bytes_eq (map (λ (p : Package). p.name) ws.packages)
   pub packages : All (IsPackage (length ws.packages)) ws.packages
+  pub root : IfSome ws.root_package (λ place. place < length ws.packages)
+  pub defaults : IfNamed ws.default_members (All (λ place. place < length ws.packages))

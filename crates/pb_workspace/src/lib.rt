@@ -16,6 +16,7 @@ pub mod found_binaries;
 pub mod frame;
 pub mod glob;
 pub mod keys;
+pub mod laws;
 pub mod loading;
 pub mod member;
 pub mod member_folders;
@@ -32,6 +33,7 @@ pub mod wanted;
 pub mod workspace;
 
 pub use fault::LoadFault;
+pub use laws::{globs_stand_for_names, packages_are_the_least_set, rounds_are_enough};
 pub use loading::load;
 pub use options::{Options, Selection};
 pub use package::{About, Binary, DependencyKind, Entry, Library, Package, Side};

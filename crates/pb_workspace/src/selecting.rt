@@ -1,10 +1,11 @@
 //! Which packages of a workspace a build is asked for, and with which features.
 
-ghost use Rattle.std.specs.Prelude.{◌≡◌, ◌++◌, ◌==◌, IfOk, OnOk, map, filter};
+ghost use Rattle.std.specs.Prelude.{◌≡◌, ◌<◌, ◌++◌, ◌==◌, All, IfOk, OnOk, length, map, filter};
 ghost use Rattle.std.specs.List.{flat_map, list_any, slice_split};
 ghost use Rattle.pb_data.specs.Gives.{Gives};
 ghost use Rattle.pb_data.specs.Mentions.{is_mentioned};
 ghost use Rattle.pb_workspace.specs.Selected.{places_where, members_of, is_member_named, is_named_member, name_members, named_members, root_or_members, by_default, selected_packages, is_word, spaced_words, feature_words, selection_of, selected};
+ghost use Rattle.pb_workspace.specs.Settled.{IsSettled};
 ghost use Rattle.pb_workspace.specs.declared.fault.LoadFault.TheVariants as load_fault;
 
 use crate::fault::LoadFault;
@@ -253,12 +254,15 @@ fn selection_of(
 ///
 /// The features are what stands between the commas and spaces of the texts of `--features`, in their order,
 /// empty parts dropped.
+///
+/// Of a workspace that was read each chosen place is that of one of its packages.
 pub fn selected(
     alloc: Global,
     workspace: &Workspace,
     options: &Options,
 ) -> Result<Selection, LoadFault>
-    ensures { Gives load_fault.OutOfMemory (λ selection. selection) result (selected workspace.now options.now) }
+    ensures told { Gives load_fault.OutOfMemory (λ selection. selection) result (selected workspace.now options.now) }
+    ensures within { IsSettled workspace.now → IfOk result (λ selection. All (λ place. place < length workspace.now.packages) selection.packages) }
 {
     let packages = selected_packages(alloc, workspace, options)?;
     let selection = selection_of(alloc, options, packages)?;

@@ -1,6 +1,6 @@
 //! Sessions over sinks that take all, a little at a time, or fail.
 
-use super::{ARTIFACT, ERROR, FAILS, FINISHED, NOT_FINISHED, ONE_LIBRARY, WARNING, WARNS, joined};
+use super::{ARTIFACT, ERROR, FAILS, FINISHED, NOT_FINISHED, ONE_LIBRARY, joined};
 use crate::session::run_session;
 use pb_place::Over;
 use std::alloc::Global;
@@ -230,23 +230,11 @@ fn fails_once(rt: &impl Abort, alloc: Global, session: &str, printed: &str) -> R
     Ok(())
 }
 
-/// A library that is broken, built, repaired and built again.
-const REPAIRED: &str =
-    r#"[{"write":["/w/Cargo.toml","[package]\nname = \"a\"\nversion = \"0.1.0\"\nedition = \"2021\"\n"]},{"write":["/w/src/lib.rs","fail no\n"]},{"build":{}},{"write":["/w/src/lib.rs",""]},{"build":{}}]"#;
-
-/// Builds that are refused before and after one that is not.
-const REFUSED: &str =
-    r#"[{"build":{}},{"write":["/w/Cargo.toml","[package]\nname = \"a\"\nversion = \"0.1.0\"\nedition = \"2021\"\n"]},{"write":["/w/src/lib.rs",""]},{"build":{}},{"remove":"/w/src"},{"build":{}},{"write":["/w/src/lib.rs",""]},{"build":{}}]"#;
-
 /// Sessions and the lines that they print, those of builds and then the result lines.
-const CASES: [(&str, &[&str]); 5] = [
+const CASES: [(&str, &[&str]); 2] = [
     (
         ONE_LIBRARY,
         &[ARTIFACT, FINISHED, "ok started=a.target.lib\n"],
-    ),
-    (
-        WARNS,
-        &[WARNING, ARTIFACT, FINISHED, "ok started=a.target.lib\n"],
     ),
     (
         FAILS,
@@ -254,30 +242,6 @@ const CASES: [(&str, &[&str]); 5] = [
             ERROR,
             NOT_FINISHED,
             "bad a.target.lib Status(1) started=a.target.lib\n",
-        ],
-    ),
-    (
-        REPAIRED,
-        &[
-            ERROR,
-            NOT_FINISHED,
-            ARTIFACT,
-            FINISHED,
-            "bad a.target.lib Status(1) started=a.target.lib\n",
-            "ok started=a.target.lib\n",
-        ],
-    ),
-    (
-        REFUSED,
-        &[
-            ARTIFACT,
-            FINISHED,
-            ARTIFACT,
-            FINISHED,
-            "refused NoManifest\n",
-            "ok started=a.target.lib\n",
-            "refused NothingToBuild\n",
-            "ok started=a.target.lib\n",
         ],
     ),
 ];

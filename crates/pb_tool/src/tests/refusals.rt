@@ -1,4 +1,4 @@
-//! What a build of one library refuses, each once.
+//! What a build refuses, each once.
 
 use super::{gives, joined};
 use std::alloc::Global;
@@ -13,12 +13,6 @@ const LIBRARY: &str = r#"{"write":["/w/src/lib.rs",""]}"#;
 fn with_library(alloc: Global, manifest: &str) -> Result<String, Fail> {
     let start = "{\"write\":[\"/w/Cargo.toml\",\"";
     joined(alloc, &[start, manifest, "\"]},", LIBRARY])
-}
-
-/// Steps in JSON that write a package which is served, and one more empty file.
-fn with_file(alloc: Global, path: &str) -> Result<String, Fail> {
-    let start = ",{\"write\":[\"";
-    joined(alloc, &[MANIFEST, ",", LIBRARY, start, path, "\",\"\"]}"])
 }
 
 /// Takes steps in JSON and a build, and compares the name of its refusal: no other line is written.
@@ -64,61 +58,43 @@ fn refused_manifests(rt: HostRuntime) -> Result<(), Fail> {
             "[package]\\nname = 'a'\\nreadme.workspace = true\\n",
             "NoInherited",
         ),
+        ("[package]\\nname = 'a'\\nresolver = '1'\\n", "OldResolver"),
         (
-            "[package]\\nname = 'a'\\n[workspace]\\n",
-            "UnsupportedTable",
-        ),
-        (
-            "[package]\\nname = 'a'\\n[[bin]]\\nname = 'b'\\n",
-            "UnsupportedTable",
+            "[package]\\nname = 'a'\\n[[bin]]\\nname = 'b'\\n[[bin]]\\nname = 'b'\\n",
+            "SameBinary",
         ),
         (
             "[package]\\nname = 'a'\\n[dependencies]\\np = { path = 'p' }\\n",
-            "UnsupportedTable",
+            "NoManifest",
         ),
         (
-            "[package]\\nname = 'a'\\n[build-dependencies]\\np = { path = 'p' }\\n",
-            "UnsupportedTable",
+            "[package]\\nname = 'a'\\n[dependencies]\\np = '1'\\n",
+            "UnsupportedSource",
         ),
         (
-            "[package]\\nname = 'a'\\n[features]\\nf = []\\n",
-            "UnsupportedTable",
+            "[package]\\nname = 'a'\\n[features]\\nf = ['g']\\n",
+            "NoSuchFeature",
         ),
         (
-            "[package]\\nname = 'a'\\n[profile.dev]\\nopt-level = 1\\n",
-            "UnsupportedTable",
+            "[package]\\nname = 'a'\\n[features]\\nf = ['dep:g']\\n",
+            "NoSuchDependency",
+        ),
+        (
+            "[package]\\nname = 'a'\\n[profile.dev]\\nopt-level = 9\\n",
+            "BadProfile",
+        ),
+        (
+            "[package]\\nname = 'a'\\n[profile.dev.build-override]\\nrpath = true\\n",
+            "NotInOverride",
         ),
         (
             "[package]\\nname = 'a'\\nlinks = 'z'\\n",
-            "UnsupportedTable",
-        ),
-        (
-            "[package]\\nname = 'a'\\nbuild = true\\n",
-            "UnsupportedTable",
-        ),
-        (
-            "[package]\\nname = 'a'\\nbuild = 'b.rs'\\n",
-            "UnsupportedTable",
+            "LinksWithoutScript",
         ),
         ("[package]\\nname = 'a'\\n[patch.q]\\n", "UnsupportedTable"),
     ] {
         let steps = with_library(rt.alloc(), manifest)?;
         refuses(&rt, rt.alloc(), steps.as_str(), "{}", name)?;
-    }
-    Ok(())
-}
-
-/// Files that a build does not serve yet, beside a package that is served.
-#[test]
-fn refused_files(rt: HostRuntime) -> Result<(), Fail> {
-    for path in [
-        "/w/src/main.rs",
-        "/w/build.rs",
-        "/w/src/bin/b.rs",
-        "/w/src/bin/b/main.rs",
-    ] {
-        let steps = with_file(rt.alloc(), path)?;
-        refuses(&rt, rt.alloc(), steps.as_str(), "{}", "UnsupportedTable")?;
     }
     Ok(())
 }

@@ -2,10 +2,12 @@
 //! say them.
 
 use super::{ARTIFACT, ERROR, FINISHED, NOT_FINISHED, WARNING, joined};
-use pb_build::{Options, build, result_line};
-use pb_data::Text;
+use pb_build::build;
+use pb_data::{Items, Text};
 use pb_mini::Mini;
 use pb_place::{Memory, Over, PathText, Place};
+use pb_report::result_line;
+use pb_workspace::Options;
 use std::alloc::Global;
 use std::process::Abort;
 use std::test::Fail;
@@ -53,6 +55,17 @@ fn built(alloc: Global, files: &[(&str, &str)], compiler: &str) -> Result<Given,
     let mut memory = place_of(alloc, files, compiler)?;
     let options = Options {
         manifest: PathText::parse(alloc, "/w/Cargo.toml")?,
+        packages: Items::new(alloc),
+        workspace: false,
+        features: Items::new(alloc),
+        all_features: false,
+        no_default_features: false,
+        profile: Text::from_str(alloc, "dev")?,
+        lib: false,
+        bins: false,
+        bin: Items::new(alloc),
+        target_dir: None,
+        runner: Items::new(alloc),
         tool: Text::from_str(alloc, "cargo")?,
     };
     let mut lines = Vec::new(alloc);
@@ -128,11 +141,11 @@ const MANIFESTS: [(&str, &str); 12] = [
     ),
     (
         "[package]\nname = \"a\"\nlinks = \"z\"\n",
-        "refused UnsupportedTable",
+        "refused LinksWithoutScript",
     ),
     (
         "[package]\nname = \"a\"\nbuild = \"b.rs\"\n",
-        "refused UnsupportedTable",
+        "bad a.target.script Status(1) started=a.target.script",
     ),
     (
         "[package]\nname = \"a\"\n[dependencies]\ns = \"1\"\n",
@@ -140,23 +153,24 @@ const MANIFESTS: [(&str, &str); 12] = [
     ),
     (
         "[package]\nname = \"a\"\n[features]\nf = []\n",
-        "refused UnsupportedTable",
+        "ok started=a.target.lib",
     ),
-    (
-        "[workspace]\nmembers = [\"m\"]\n",
-        "refused UnsupportedTable",
-    ),
+    ("[workspace]\nmembers = [\"m\"]\n", "refused NoManifest"),
 ];
 
-/// Files beside a package that is served, and how its build ends.
+/// Files beside a package, and how its build ends. No runner is given, so the small compiler is asked to be the build
+/// script, which it cannot.
 const BESIDE: [(&str, &str); 7] = [
     ("/w/README", "ok started=a.target.lib"),
     ("/w/README.txt", "ok started=a.target.lib"),
     ("/w/README.md", "ok started=a.target.lib"),
     ("/w/target/Cargo.toml", "ok started=a.target.lib"),
-    ("/w/src/main.rs", "refused UnsupportedTable"),
-    ("/w/src/bin/b.rs", "refused UnsupportedTable"),
-    ("/w/build.rs", "refused UnsupportedTable"),
+    ("/w/src/main.rs", "ok started=a.target.lib,a.target.bin-a"),
+    ("/w/src/bin/b.rs", "ok started=a.target.lib,a.target.bin-b"),
+    (
+        "/w/build.rs",
+        "bad a.target.run Status(2) started=a.target.script,a.target.run",
+    ),
 ];
 
 #[test]

@@ -1,19 +1,20 @@
 use Rattle.std.proofs.Common.{[], ap}
-use Rattle.pb_build.specs.Session.{moment}
+use Rattle.pb_build.specs.Session.{point}
 use Rattle.pb_build.proofs.StepsTaken.{none_taken, step_taken, steps_taken}
 use Rattle.pb_build.proofs.sessions.session.Goals as goal
 
 pub loop-step-init : goal.loop-step-init
 loop-step-init g c =
-    none_taken g.C.Child.answers c.args.steps.now (moment c.args.memory.now (g.O.Out.taken c.args.out.now) []) _ (ap (moment c.args.memory.now (g.O.Out.taken c.args.out.now)) c.new-answers.ensures)
+    none_taken g.C.Child.answers c.args.steps.now (point c.args.memory.now (g.O.Out.taken c.args.out.now) (g.O.Out.faults c.args.out.now) []) _
+    (ap (point c.args.memory.now (g.O.Out.taken c.args.out.now) (g.O.Out.faults c.args.out.now)) c.new-answers.ensures)
 
 pub loop-step-preserved : goal.loop-step-preserved
 loop-step-preserved g c =
-    step_taken g.C.Child.answers c.args.steps.now c.loop-step.step-index c.step-item.result (moment c.args.memory.now (g.O.Out.taken c.args.out.now) [])
-    (moment c.loop-step.memory (g.O.Out.taken c.loop-step.out) c.loop-step.answers) (moment c.take_step.new.memory (g.O.Out.taken c.take_step.new.out) c.take_step.new.answers) c.loop-step-test.true
-    c.step-item.is c.loop-step.invariant c.in_ok-take_step.ensures
+    step_taken g.C.Child.answers c.args.steps.now c.loop-step.step-index c.step-item.result (point c.args.memory.now (g.O.Out.taken c.args.out.now) (g.O.Out.faults c.args.out.now) [])
+    (point c.loop-step.memory (g.O.Out.taken c.loop-step.out) (g.O.Out.faults c.loop-step.out) c.loop-step.answers) (point c.take_step.new.memory (g.O.Out.taken c.take_step.new.out) (g.O.Out.faults c.take_step.new.out) c.take_step.new.answers)
+    c.loop-step-test.true c.step-item.is c.loop-step.invariant c.in_ok-take_step.ensures
 
 pub returns : goal.returns
 returns g c =
-    steps_taken g.C.Child.answers c.args.steps.now c.loop-step.step-index (moment c.args.memory.now (g.O.Out.taken c.args.out.now) [])
-    (moment c.loop-step.memory (g.O.Out.taken c.loop-step.out) c.loop-step.answers) c.loop-step-test.false c.loop-step.invariant
+    steps_taken g.C.Child.answers c.args.steps.now c.loop-step.step-index (point c.args.memory.now (g.O.Out.taken c.args.out.now) (g.O.Out.faults c.args.out.now) [])
+    (point c.loop-step.memory (g.O.Out.taken c.loop-step.out) (g.O.Out.faults c.loop-step.out) c.loop-step.answers) c.loop-step-test.false c.loop-step.invariant

@@ -1,4 +1,4 @@
-use Rattle.std.proofs.Common.{◌≡◌, rules}
+use Rattle.std.proofs.Common.{rules}
 use Rattle.pb_workspace.proofs.Keeping.{binaries_kept}
 use Rattle.pb_workspace.proofs.binaries.binaries_of.Goals as goal
 

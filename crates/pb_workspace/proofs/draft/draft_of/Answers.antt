@@ -1,4 +1,3 @@
-use Rattle.std.proofs.Common.{◌≡◌}
 use Rattle.pb_place.specs.World.{from_nothing}
 use Rattle.pb_workspace.proofs.Steps.{told_step, reads_step}
 use Rattle.pb_workspace.specs.Drafts.{draft_with, draft_of}

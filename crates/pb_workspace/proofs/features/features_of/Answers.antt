@@ -1,4 +1,4 @@
-use Rattle.std.proofs.Common.{◌≡◌, rules}
+use Rattle.std.proofs.Common.{rules}
 use Rattle.pb_workspace.proofs.Keeping.{features_kept}
 use Rattle.pb_workspace.proofs.features.features_of.Goals as goal
 

@@ -1,4 +1,3 @@
-use Rattle.std.proofs.Common.{◌≡◌}
 use Rattle.pb_workspace.proofs.Naming.{found_named}
 use Rattle.pb_workspace.proofs.found_binaries.found_binaries.Goals as goal
 

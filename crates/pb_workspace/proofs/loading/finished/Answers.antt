@@ -1,4 +1,4 @@
-use Rattle.std.proofs.Common.{◌≡◌, rules}
+use Rattle.std.proofs.Common.{rules}
 use Rattle.pb_workspace.proofs.Keeping.{workspace_settled}
 use Rattle.pb_workspace.proofs.loading.finished.Goals as goal
 

@@ -1,4 +1,4 @@
-use Rattle.std.proofs.Common.{◌≡◌, subst}
+use Rattle.std.proofs.Common.{subst}
 use Rattle.pb_place.specs.World.{from_nothing}
 use Rattle.pb_workspace.proofs.Steps.{told_step, reads_step}
 use Rattle.pb_place.specs.Paths.{folder_of}

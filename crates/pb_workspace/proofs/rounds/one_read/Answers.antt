@@ -1,4 +1,4 @@
-use Rattle.std.proofs.Common.{◌≡◌, rules}
+use Rattle.std.proofs.Common.{rules}
 use Rattle.pb_workspace.proofs.Keeping.{few_kept, each_kept}
 use Rattle.pb_workspace.proofs.rounds.one_read.Goals as goal
 

@@ -1,5 +1,4 @@
-use Rattle.std.proofs.Common.{◌≡◌, ◌∙◌, subst}
-use Rattle.pb_place.specs.World.{from_nothing}
+use Rattle.std.proofs.Common.{◌∙◌}
 use Rattle.pb_workspace.proofs.Steps.{round_gives, round_fails}
 use Rattle.pb_workspace.proofs.rounds.rounds.Goals as goal
 

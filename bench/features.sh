@@ -1,0 +1,181 @@
+#!/usr/bin/env bash
+# Measures `resolve` over workspaces in memory, with all features of the first package asked for.
+#
+#   packages     so many packages, each of which depends on the next in three entries, with 100 features of every form
+#   features     two packages, the first of them with so many features of every form
+#
+# Prints a line a size with how many features are on, and the exponents. What is measured and how is said in
+# `measured.sh`.
+set -euo pipefail
+crates="pb_closure pb_data pb_feature pb_manifest pb_place pb_workspace"
+uses="pb_data pb_feature pb_place pb_workspace"
+. "$(dirname "$0")/measured.sh"
+program <<'PROGRAM'
+//! Measures the features.
+#![tactic(auto)]
+
+mod child;
+
+ghost use Rattle.std.specs.Prelude.{IfOk};
+ghost use Rattle.pb_workspace.specs.Settled.{IsSettled};
+
+use anyhow::Result;
+use child::Silent;
+use pb_data::{Items, Text};
+use pb_feature::{Features, resolve};
+use pb_place::{Memory, PathText};
+use pb_workspace::{Options, Side, Workspace, load, selected};
+use std::alloc::Global;
+use std::env;
+use std::time::{CpuClock, Duration};
+
+/// The microseconds of processor time since a start.
+fn since(rt: &HostRuntime, start: Duration) -> Result<u128> {
+    let now = rt.thread_cpu_time()?;
+    match now.checked_sub(start) {
+        Some(passed) => Ok(passed.as_micros()),
+        None => Ok(u128::MAX),
+    }
+}
+
+/// Puts a file.
+fn put(rt: &HostRuntime, memory: &mut Memory<Silent>, path: &str, text: &str) -> Result<()> {
+    let path = PathText::parse(rt.alloc(), path)?;
+    memory.put(rt.alloc(), &path, text.as_bytes())?;
+    Ok(())
+}
+
+/// A number that a word says, or 0.
+fn number_in(words: &[String], place: usize) -> usize {
+    match words.get(place) {
+        Some(word) => word.as_str().parse::<usize>().unwrap_or(0),
+        None => 0,
+    }
+}
+
+/// The shape that the words name.
+fn shape_in(words: &[String]) -> &str {
+    match words.get(1) {
+        Some(word) => word.as_str(),
+        None => "",
+    }
+}
+
+/// A package with so many features, each of which lists the next one, features of two entries in two forms and one of the
+/// entries.
+fn manifest_of(rt: &HostRuntime, number: usize, folder: &str, features: usize) -> Result<String> {
+    let alloc = rt.alloc();
+    let next = number.saturating_add(1);
+    let mut text = format!(in alloc; "package.name = \"p{number}\"\n[dependencies]\nd = {{ path = \"{folder}\", package = \"p{next}\" }}\no = {{ path = \"{folder}\", package = \"p{next}\", optional = true }}\n[build-dependencies]\nd = {{ path = \"{folder}\", package = \"p{next}\" }}\n[features]\nlast = []\n")?;
+    for feature in 0..features {
+        let after = feature.saturating_add(1);
+        let listed = if after < features { format!(in alloc; "f{after}")? } else { String::from_str(alloc, "last")? };
+        let listed = listed.as_str();
+        text.push_str(format!(in alloc; "f{feature} = [\"{listed}\", \"d/f{feature}\", \"o?/f{feature}\", \"dep:o\"]\n")?.as_str())?;
+    }
+    Ok(text)
+}
+
+/// A package with so many features that list nothing.
+fn last_manifest(rt: &HostRuntime, number: usize, features: usize) -> Result<String> {
+    let alloc = rt.alloc();
+    let mut text = format!(in alloc; "package.name = \"p{number}\"\n[features]\n")?;
+    for feature in 0..features {
+        text.push_str(format!(in alloc; "f{feature} = []\n")?.as_str())?;
+    }
+    Ok(text)
+}
+
+/// Puts a chain of so many packages, each with so many features.
+fn put_chain(rt: &HostRuntime, memory: &mut Memory<Silent>, count: usize, features: usize) -> Result<()> {
+    for number in 1..count {
+        let next = number.saturating_add(1);
+        let folder = format!(in rt.alloc(); "../m{next}")?;
+        let text = if next < count { manifest_of(rt, number, folder.as_str(), features)? } else { last_manifest(rt, number, features)? };
+        let path = format!(in rt.alloc(); "/w/m{number}/Cargo.toml")?;
+        put(rt, memory, path.as_str(), text.as_str())?;
+    }
+    let root = manifest_of(rt, 0, "m1", features)?;
+    put(rt, memory, "/w/Cargo.toml", root.as_str())
+}
+
+/// Puts the files of a shape.
+fn put_shape(rt: &HostRuntime, memory: &mut Memory<Silent>, shape: &str, count: usize) -> Result<()> {
+    if shape == "features" {
+        return put_chain(rt, memory, 2, count);
+    }
+    put_chain(rt, memory, count.max(2), 100)
+}
+
+/// The workspace in `/w`.
+fn workspace_in(rt: &HostRuntime, memory: &mut Memory<Silent>) -> Result<Workspace>
+    ensures { IfOk result IsSettled }
+{
+    let manifest = PathText::parse(rt.alloc(), "/w/Cargo.toml")?;
+    let target = PathText::parse(rt.alloc(), "/w/target")?;
+    let workspace = load(memory, rt.alloc(), &manifest, &target)?;
+    Ok(workspace)
+}
+
+/// The options of a build of the root package with all its features.
+fn options_of(alloc: Global) -> Result<Options> {
+    Ok(Options {
+        manifest: PathText::parse(alloc, "/w/Cargo.toml")?,
+        packages: Items::new(alloc),
+        workspace: false,
+        features: Items::new(alloc),
+        all_features: true,
+        no_default_features: false,
+        profile: Text::from_str(alloc, "dev")?,
+        lib: false,
+        bins: false,
+        bin: Items::new(alloc),
+        target_dir: None,
+        runner: Items::new(alloc),
+        tool: Text::from_str(alloc, "tool")?,
+    })
+}
+
+/// How many features are on.
+fn features_on(features: &Features, workspace: &Workspace) -> usize {
+    let mut sum = 0usize;
+    for place in 0..workspace.packages.len() {
+        sum = sum.saturating_add(features.features_of(place, Side::Target).len());
+        sum = sum.saturating_add(features.features_of(place, Side::Host).len());
+    }
+    sum
+}
+
+/// Resolves once. The time, and how many features are on.
+fn call(rt: &HostRuntime, workspace: &Workspace, options: &Options) -> Result<(u128, usize)>
+    requires { IsSettled workspace.now }
+{
+    let selection = selected(rt.alloc(), workspace, options)?;
+    let start = rt.thread_cpu_time()?;
+    let features = resolve(rt.alloc(), workspace, &selection)?;
+    let spent = since(rt, start)?;
+    Ok((spent, features_on(&features, workspace)))
+}
+
+fn main(rt: HostRuntime) -> Result<()> {
+    let words: Vec<String> = env::args(&rt)?.collect(rt.alloc())?;
+    let count = number_in(words.as_slice(), 2);
+    let calls = number_in(words.as_slice(), 3);
+    let shape = shape_in(words.as_slice());
+    let mut memory = Memory::new(rt.alloc(), Silent);
+    put_shape(&rt, &mut memory, shape, count)?;
+    let workspace = workspace_in(&rt, &mut memory)?;
+    let options = options_of(rt.alloc())?;
+    let mut least = u128::MAX;
+    let mut answer = 0usize;
+    for _ in 0..calls {
+        let (spent, size) = call(&rt, &workspace, &options)?;
+        least = least.min(spent);
+        answer = size;
+    }
+    println!(rt; "{answer} {least}")?;
+    Ok(())
+}
+PROGRAM
+measured packages 64 128 256
+measured features 2500 5000 10000

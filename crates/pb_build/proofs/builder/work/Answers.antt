@@ -1,0 +1,14 @@
+use Rattle.std.proofs.Common.{◌∙◌, ap, sym, subst, refl}
+use Rattle.pb_place.specs.World.{World}
+use Rattle.pb_build.specs.Ending.{moment, WorksWith}
+use Rattle.pb_build.specs.declared.environment.Environment.{Environment}
+use Rattle.pb_build.proofs.Works.{works_before}
+use Rattle.pb_build.proofs.builder.work.Goals as goal
+
+pub returns-clause-works : goal.returns-clause-works
+returns-clause-works g c told =
+    let old = (moment (g.P.Place.world c.args.place.now) (g.P.Place.counts c.args.place.now) (g.O.Out.taken c.args.out.now) (g.O.Out.faults c.args.out.now)) in
+    let mid = (moment (g.P.Place.world c.environment_of.new.place) (g.P.Place.counts c.environment_of.new.place) (g.O.Out.taken c.args.out.now) (g.O.Out.faults c.args.out.now)) in
+    let new = (moment (g.P.Place.world c.work_with.new.place) (g.P.Place.counts c.work_with.new.place) (g.O.Out.taken c.work_with.new.out) (g.O.Out.faults c.work_with.new.out)) in
+    subst (λ (e : Environment). WorksWith g.P.Place.child c.args.options.now e old.world c.work_with.result old new) (c.in-Ok.ensures.ok told)
+    (works_before g.P.Place.child c.args.options.now c.in-Ok.environment old mid new (c.in-Ok.ensures.same told) refl c.in-Ok.ensures.takes.1 c.in-Ok.ensures.takes.0 c.work_with.result (c.work_with.ensures.works told))

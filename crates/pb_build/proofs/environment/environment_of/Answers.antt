@@ -1,0 +1,17 @@
+use Rattle.std.proofs.Common.{◌∙◌, ap, sym, codes, List, ℕ, Option}
+use Rattle.std.specs.FinMap as finite
+use Rattle.pb_place.specs.World.{World}
+use Rattle.pb_build.specs.Environment.{set_text, environment_with}
+use Rattle.pb_build.proofs.environment.environment_of.Goals as goal
+
+pub returns-in-Ok-environment_with-clause-ok : goal.returns-in-Ok-environment_with-clause-ok
+returns-in-Ok-environment_with-clause-ok g c told =
+    let options = c.args.options.now in
+    let first = c.in-Ok.ensures.same told in
+    let second = c.in-Ok-variable.ensures.same told ∙ first in
+    c.in-Ok-environment_with.ensures
+    ∙ ap (λ (x : Option (List ℕ)). environment_with options x c.in-Ok-variable.flags c.in-Ok-variable-2.target) (c.in-Ok.ensures.ok told)
+    ∙ ap (λ (x : Option (List ℕ)). environment_with options (set_text (finite.get (g.P.Place.world c.args.place.now).variables (codes "RUSTC"))) x c.in-Ok-variable-2.target)
+    (c.in-Ok-variable.ensures.ok told ∙ ap (λ (w : World). set_text (finite.get w.variables (codes "RUSTFLAGS"))) first)
+    ∙ ap (λ (x : Option (List ℕ)). environment_with options (set_text (finite.get (g.P.Place.world c.args.place.now).variables (codes "RUSTC"))) (set_text (finite.get (g.P.Place.world c.args.place.now).variables (codes "RUSTFLAGS"))) x)
+    (c.in-Ok-variable-2.ensures.ok told ∙ ap (λ (w : World). set_text (finite.get w.variables (codes "CARGO_TARGET_DIR"))) second)

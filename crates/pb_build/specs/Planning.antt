@@ -1,0 +1,39 @@
+-- What a build is of: the workspace that is read, what of it is selected, its features and its plan; or why it is refused.
+use Rattle.std.specs.Prelude.{◌≡◌, ℕ, List, Result, Ok, Err}
+use Rattle.pb_place.specs.World.{World}
+use Rattle.pb_workspace.specs.Loaded.{workspace_of}
+use Rattle.pb_workspace.specs.Selected.{selected}
+use Rattle.pb_workspace.specs.declared.fault.LoadFault.{LoadFault}
+use Rattle.pb_workspace.specs.declared.options.Options.{Options}
+use Rattle.pb_workspace.specs.declared.options.Selection.{Selection}
+use Rattle.pb_workspace.specs.declared.workspace.Workspace.{Workspace}
+use Rattle.pb_feature.specs.Faults as feature
+use Rattle.pb_feature.specs.Resolved.{IsResolved}
+use Rattle.pb_feature.specs.declared.fault.FeatureFault.{FeatureFault}
+use Rattle.pb_feature.specs.declared.resolved.Features.{Features}
+use Rattle.pb_unit.specs.Plan as plan
+use Rattle.pb_unit.specs.declared.fault.PlanFault.{PlanFault}
+use Rattle.pb_command.specs.declared.project.Project.{Project}
+use Rattle.pb_report.specs.declared.fault.Refusal.{Refusal}
+use Rattle.pb_report.specs.declared.fault.Refusal.TheVariants.{Load, Feature, Plan}
+
+-- these packages of the workspace are selected
+pub record IsSelected (options : Options) (target : List ℕ) (w : World) (ws : Workspace) (selection : Selection) : Type 0 where
+  pub read : workspace_of options.manifest target w ≡ Ok ws
+  pub chosen : selected ws options ≡ Ok selection
+
+-- the project of a build: its workspace, its features and its plan
+pub record IsProject (options : Options) (target : List ℕ) (w : World) (project : Project) : Type 0 where
+  pub selection : Selection
+  pub selected : IsSelected options target w project.workspace selection
+  pub resolved : IsResolved project.workspace selection project.features
+  pub profile : project.profile ≡ options.profile
+  pub planned : plan.IsPlan project.workspace project.features selection options.profile project.plan
+
+-- why a build is refused: the workspace cannot be read; else nothing is selected; else the features are not resolved; else there is no plan
+pub data IsRefused (options : Options) (target : List ℕ) (w : World) : Refusal → Type 0 where
+  by_load : (fault : LoadFault) (told : workspace_of options.manifest target w ≡ Err fault) → IsRefused options target w (Load fault)
+  by_selection : (fault : LoadFault) (ws : Workspace) (read : workspace_of options.manifest target w ≡ Ok ws) (told : selected ws options ≡ Err fault) → IsRefused options target w (Load fault)
+  by_feature : (fault : FeatureFault) (ws : Workspace) (selection : Selection) (is : IsSelected options target w ws selection) (told : feature.Refuses ws selection fault) → IsRefused options target w (Feature fault)
+  by_plan : (fault : PlanFault) (ws : Workspace) (selection : Selection) (features : Features) (is : IsSelected options target w ws selection) (resolved : IsResolved ws selection features)
+      (told : plan.Refuses ws features selection options.profile fault) → IsRefused options target w (Plan fault)

@@ -1,0 +1,185 @@
+//! What the variables and the options say of a build, before a file is read.
+
+ghost use Rattle.std.specs.Prelude.{◌≡◌, IfOk, IfErr, IsTrue, codes};
+ghost use Rattle.std.specs.FinMap as finite;
+ghost use Rattle.pb_place.specs.Paths.{joined, below, folder_of};
+ghost use Rattle.pb_directive.specs.Directives.{words_of};
+ghost use Rattle.pb_build.specs.Causes.{MayPlan};
+ghost use Rattle.pb_build.specs.Environment.{set_text, rustc_of, flags_of, told_or, target_of, environment_of, environment_with};
+ghost use Rattle.pb_build.specs.Private.{NamesCall, IsUnrefused};
+ghost use Rattle.pb_run.specs.Causes.{Takes, NoStart};
+
+use pb_data::{Items, Text, TryCopy};
+use pb_directive::words::words_of;
+use pb_place::{PathFault, PathText, Place, RelativePath};
+use pb_report::BuildFault;
+use pb_run::deviceless;
+use pb_workspace::Options;
+use std::alloc::{AllocError, Global};
+
+/// What the variables and the options say of a build.
+#[derive(Debug, Drop)]
+pub struct Environment {
+    /// The compiler: `RUSTC`, else `rustc` (The Cargo Book, Environment Variables).
+    pub rustc: Text,
+    /// The words of `RUSTFLAGS`, which spaces part.
+    pub flags: Items<Text>,
+    /// The target folder: `--target-dir`, else `CARGO_TARGET_DIR`, else `target` in the root. A relative one
+    /// starts at the root (our own choice).
+    pub target: PathText,
+}
+
+/// A text that is not empty.
+fn filled(found: Option<Text>) -> Option<Text>
+    ensures { result ≡ set_text found }
+{
+    match found {
+        Some(text) => {
+            if text.as_str().is_empty() {
+                None
+            } else {
+                Some(text)
+            }
+        }
+        None => None,
+    }
+}
+
+/// A variable that is set to some text: an empty one counts as absent (our own choice).
+fn variable<P: Place>(place: &mut P, alloc: Global, name: &str) -> Result<Option<Text>, BuildFault>
+    ensures ok { IsTrue P.tells → IfOk result (λ found. found ≡ set_text (finite.get (P.world place.old).variables name.now)) }
+    ensures same { IsTrue P.tells → P.world place.new ≡ P.world place.old }
+    ensures takes { Takes NoStart MayPlan result (P.counts place.old) (P.counts place.new) }
+    ensures names { NamesCall result (P.counts place.new) }
+    ensures unrefused { IfErr result IsUnrefused }
+{
+    match place.variable(alloc, name) {
+        Ok(found) => Ok(filled(found)),
+        Err(fault) => Err(deviceless(alloc, name, fault)),
+    }
+}
+
+/// The compiler: what `RUSTC` says, else `rustc`.
+fn rustc_of(alloc: Global, found: Option<Text>) -> Result<Text, AllocError>
+    ensures { IfOk result (λ text. text ≡ rustc_of found) }
+{
+    match found {
+        Some(text) => Ok(text),
+        None => Text::from_str(alloc, "rustc"),
+    }
+}
+
+/// The words of a text, which spaces part.
+fn words_in(alloc: Global, text: &str) -> Result<Items<Text>, AllocError>
+    ensures { IfOk result (λ words. words ≡ words_of text.now) }
+{
+    let mut words = Items::new(alloc);
+    for word in words_of(text) {
+        words.push(Text::from_str(alloc, word)?)?;
+    }
+    Ok(words)
+}
+
+/// The compiler's own words: those of `RUSTFLAGS`.
+fn flags_of(alloc: Global, found: Option<Text>) -> Result<Items<Text>, AllocError>
+    ensures { IfOk result (λ words. words ≡ flags_of found) }
+{
+    match found {
+        Some(text) => words_in(alloc, text.as_str()),
+        None => Ok(Items::new(alloc)),
+    }
+}
+
+/// A standard target folder: `target` in the root.
+fn standard_target(alloc: Global, root: &PathText) -> Result<PathText, AllocError>
+    ensures { IfOk result (λ path. path ≡ below root.now (codes "target")) }
+{
+    let name = RelativePath::name(alloc, "target")?;
+    root.below(alloc, &name)
+}
+
+/// The path that a text says, where a relative one starts at the root; or another where there is no text, or one
+/// with byte 0.
+fn told_or(
+    alloc: Global,
+    root: &PathText,
+    other: PathText,
+    text: &Option<Text>,
+) -> Result<PathText, AllocError>
+    ensures { IfOk result (λ path. path ≡ told_or root.now other text.now) }
+{
+    match text {
+        None => Ok(other),
+        Some(text) => match root.join(alloc, text.as_str()) {
+            Ok(path) => Ok(path),
+            Err(PathFault::OutOfMemory) => Err(AllocError),
+            Err(_) => Ok(other),
+        },
+    }
+}
+
+/// The target folder.
+fn target_of(
+    alloc: Global,
+    root: &PathText,
+    asked: &Option<Text>,
+    variable: &Option<Text>,
+) -> Result<PathText, AllocError>
+    ensures { IfOk result (λ path. path ≡ target_of root.now asked.now variable.now) }
+{
+    let standard = standard_target(alloc, root)?;
+    let other = told_or(alloc, root, standard, variable)?;
+    told_or(alloc, root, other, asked)
+}
+
+/// What the variables that were read and the options say.
+fn environment_with(
+    alloc: Global,
+    options: &Options,
+    rustc: Option<Text>,
+    flags: Option<Text>,
+    target: Option<Text>,
+) -> Result<Environment, AllocError>
+    ensures { IfOk result (λ environment. environment ≡ environment_with options.now rustc flags target) }
+{
+    let root = options.manifest.folder(alloc)?;
+    let target = target_of(alloc, &root, &options.target_dir, &target)?;
+    let rustc = rustc_of(alloc, rustc)?;
+    let flags = flags_of(alloc, flags)?;
+    Ok(Environment {
+        rustc,
+        flags,
+        target,
+    })
+}
+
+/// What the variables and the options say. `RUSTC` is read first, then `RUSTFLAGS`, then `CARGO_TARGET_DIR`. Faults:
+/// Device, with the variable's name; OutOfMemory.
+pub(crate) fn environment_of<P: Place>(
+    place: &mut P,
+    alloc: Global,
+    options: &Options,
+) -> Result<Environment, BuildFault>
+    ensures ok { IsTrue P.tells → IfOk result (λ environment. environment ≡ environment_of options.now (P.world place.old).variables) }
+    ensures same { IsTrue P.tells → P.world place.new ≡ P.world place.old }
+    ensures takes { Takes NoStart MayPlan result (P.counts place.old) (P.counts place.new) }
+    ensures names { NamesCall result (P.counts place.new) }
+    ensures unrefused { IfErr result IsUnrefused }
+{
+    let rustc = match variable(place, alloc, "RUSTC") {
+        Ok(rustc) => rustc,
+        Err(fault) => return Err(fault),
+    };
+    let flags = match variable(place, alloc, "RUSTFLAGS") {
+        Ok(flags) => flags,
+        Err(fault) => return Err(fault),
+    };
+    let target = match variable(place, alloc, "CARGO_TARGET_DIR") {
+        Ok(target) => target,
+        Err(fault) => return Err(fault),
+    };
+    match environment_with(alloc, options, rustc, flags, target) {
+        Ok(environment) => Ok(environment),
+        Err(_) => Err(BuildFault::OutOfMemory),
+    }
+}

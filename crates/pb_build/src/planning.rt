@@ -1,0 +1,176 @@
+//! What a build is of: the workspace that is read, its features and its plan.
+
+ghost use Rattle.std.specs.Prelude.{◌≡◌, ◌⊎◌, ◌<◌, All, AllPairs, IfOk, IfErr, IsTrue, Ok, Err, length};
+ghost use Rattle.pb_place.specs.World.{World};
+ghost use Rattle.pb_build.specs.Causes.{MayPlan};
+ghost use Rattle.pb_build.specs.Planning.{IsProject, IsRefused};
+ghost use Rattle.pb_build.specs.Private.{NamesCall, IsToldRefusal, IsRefusedOf, unread};
+ghost use Rattle.pb_build.specs.declared.environment.Environment.{Environment};
+ghost use Rattle.pb_workspace.specs.Loaded.{workspace_of};
+ghost use Rattle.pb_workspace.specs.Selected.{selected};
+ghost use Rattle.pb_workspace.specs.Settled.{IsSettled};
+ghost use Rattle.pb_feature.specs.Faults as feature;
+ghost use Rattle.pb_feature.specs.Resolved.{IsResolved};
+ghost use Rattle.pb_unit.specs.Plan as plan;
+ghost use Rattle.pb_report.specs.declared.fault.BuildFault.TheVariants as build_fault;
+ghost use Rattle.pb_report.specs.declared.fault.Refusal.TheVariants as refusal;
+ghost use Rattle.pb_feature.specs.declared.fault.FeatureFault.{FeatureFault};
+ghost use Rattle.pb_unit.specs.declared.fault.PlanFault.{PlanFault};
+ghost use Rattle.pb_workspace.specs.declared.fault.LoadFault.{LoadFault};
+ghost use Rattle.pb_workspace.specs.declared.options.Selection.{Selection};
+ghost use Rattle.pb_run.specs.Causes.{Takes, NoStart};
+ghost use Rattle.pb_run.specs.Standing.{IsInOrder};
+
+use pb_command::Project;
+use pb_data::TryCopy;
+use pb_feature::{FeatureFault, Features, resolve};
+use pb_place::{PathText, Place};
+use pb_report::{BuildFault, Refusal};
+use pb_unit::{Plan, PlanFault};
+use pb_workspace::{LoadFault, Options, Selection, Workspace, load, selected};
+use std::alloc::Global;
+
+/// The fault of a build whose workspace cannot be read.
+fn unread(fault: LoadFault) -> BuildFault
+    ensures { result ≡ unread fault }
+{
+    match fault {
+        LoadFault::Place(path, fault) => BuildFault::Device {
+            unit: path.into_text(),
+            fault,
+        },
+        LoadFault::OutOfMemory => BuildFault::OutOfMemory,
+        fault => BuildFault::Plan(Refusal::Load(fault)),
+    }
+}
+
+/// Reads the workspace that the options name.
+fn read<P: Place>(
+    place: &mut P,
+    alloc: Global,
+    options: &Options,
+    target: &PathText,
+) -> Result<Workspace, BuildFault>
+    ensures ok { IsTrue P.tells → IfOk result (λ ws. workspace_of options.now.manifest target.now (P.world place.old) ≡ Ok ws) }
+    ensures settled { IfOk result IsSettled }
+    ensures same { IsTrue P.tells → P.world place.new ≡ P.world place.old }
+    ensures refused { IsTrue P.tells → IfErr result (IsToldRefusal options.now target.now (P.world place.old)) }
+    ensures takes { Takes NoStart MayPlan result (P.counts place.old) (P.counts place.new) }
+    ensures names { NamesCall result (P.counts place.new) }
+{
+    match load(place, alloc, &options.manifest, target) {
+        Ok(workspace) => Ok(workspace),
+        Err(fault) => Err(unread(fault)),
+    }
+}
+
+/// The packages that are selected, and what is asked of them.
+fn select(alloc: Global, workspace: &Workspace, options: &Options) -> Result<Selection, BuildFault>
+    requires settled { IsSettled workspace.now }
+    ensures ok { IfOk result (λ selection. selected workspace.now options.now ≡ Ok selection) }
+    ensures within { IfOk result (λ selection. All (λ place. place < length workspace.now.packages) selection.packages) }
+    ensures refused { IfErr result (λ e. (e ≡ build_fault.OutOfMemory) ⊎ ((fault : LoadFault) × (e ≡ build_fault.Plan (refusal.Load fault)) × (selected workspace.now options.now ≡ Err fault))) }
+{
+    match selected(alloc, workspace, options) {
+        Ok(selection) => Ok(selection),
+        Err(LoadFault::OutOfMemory) => Err(BuildFault::OutOfMemory),
+        Err(fault) => Err(BuildFault::Plan(Refusal::Load(fault))),
+    }
+}
+
+/// The features that are on.
+fn featured(
+    alloc: Global,
+    workspace: &Workspace,
+    selection: &Selection,
+) -> Result<Features, BuildFault>
+    requires settled { IsSettled workspace.now }
+    requires selected { All (λ p. p < length workspace.now.packages) selection.now.packages }
+    ensures resolved { IfOk result (IsResolved workspace.now selection.now) }
+    ensures refused { IfErr result (λ e. (e ≡ build_fault.OutOfMemory) ⊎ ((fault : FeatureFault) × (e ≡ build_fault.Plan (refusal.Feature fault)) × feature.Refuses workspace.now selection.now fault)) }
+{
+    match resolve(alloc, workspace, selection) {
+        Ok(features) => Ok(features),
+        Err(FeatureFault::OutOfMemory) => Err(BuildFault::OutOfMemory),
+        Err(fault) => Err(BuildFault::Plan(Refusal::Feature(fault))),
+    }
+}
+
+/// The plan.
+fn plan_of(
+    alloc: Global,
+    workspace: &Workspace,
+    features: &Features,
+    selection: &Selection,
+    profile: &str,
+) -> Result<Plan, BuildFault>
+    requires settled { IsSettled workspace.now }
+    requires selected { All (λ p. p < length workspace.now.packages) selection.now.packages }
+    ensures planned { IfOk result (plan.IsPlan workspace.now features.now selection.now profile.now) }
+    ensures apart { IfOk result (λ planned. AllPairs plan.LieApart planned.planned) }
+    ensures refused { IfErr result (λ e. (e ≡ build_fault.OutOfMemory) ⊎ ((fault : PlanFault) × (e ≡ build_fault.Plan (refusal.Plan fault)) × plan.Refuses workspace.now features.now selection.now profile.now fault)) }
+{
+    match Plan::plan(alloc, workspace, features, selection, profile) {
+        Ok(plan) => Ok(plan),
+        Err(PlanFault::OutOfMemory) => Err(BuildFault::OutOfMemory),
+        Err(fault) => Err(BuildFault::Plan(Refusal::Plan(fault))),
+    }
+}
+
+/// The project of a workspace that was read: what is selected of it, its features and its plan.
+fn project_of(alloc: Global, options: &Options, workspace: Workspace) -> Result<Project, BuildFault>
+    requires settled { IsSettled workspace }
+    ensures project { IfOk result (λ project. (project.workspace ≡ workspace) × (project.profile ≡ options.now.profile) × ((selection : Selection) × (selected workspace options.now ≡ Ok selection)
+        × IsResolved workspace selection project.features × plan.IsPlan workspace project.features selection options.now.profile project.plan)) }
+    ensures order { IfOk result IsInOrder }
+    ensures refused { IfErr result (IsRefusedOf options.now workspace) }
+{
+    let selection = match select(alloc, &workspace, options) {
+        Ok(selection) => selection,
+        Err(fault) => return Err(fault),
+    };
+    let features = match featured(alloc, &workspace, &selection) {
+        Ok(features) => features,
+        Err(fault) => return Err(fault),
+    };
+    let asked = options.profile.as_str();
+    let plan = match plan_of(alloc, &workspace, &features, &selection, asked) {
+        Ok(plan) => plan,
+        Err(fault) => return Err(fault),
+    };
+    let profile = match options.profile.copy(alloc) {
+        Ok(profile) => profile,
+        Err(_) => return Err(BuildFault::OutOfMemory),
+    };
+    Ok(Project {
+        workspace,
+        features,
+        plan,
+        profile,
+    })
+}
+
+/// Reads the workspace, and plans the build. Faults: Plan, with the first refusal; Device, with the path of the call
+/// that failed; OutOfMemory. No child is started and no file changed.
+pub(crate) fn planned<P: Place>(
+    place: &mut P,
+    alloc: Global,
+    options: &Options,
+    target: &PathText,
+) -> Result<Project, BuildFault>
+    ensures project { IsTrue P.tells → IfOk result (IsProject options.now target.now (P.world place.old)) }
+    ensures order { IfOk result IsInOrder }
+    ensures same { IsTrue P.tells → P.world place.new ≡ P.world place.old }
+    ensures refused { IsTrue P.tells → IfErr result (IsToldRefusal options.now target.now (P.world place.old)) }
+    ensures takes { Takes NoStart MayPlan result (P.counts place.old) (P.counts place.new) }
+    ensures names { NamesCall result (P.counts place.new) }
+{
+    let workspace = match read(place, alloc, options, target) {
+        Ok(workspace) => workspace,
+        Err(fault) => return Err(fault),
+    };
+    match project_of(alloc, options, workspace) {
+        Ok(project) => Ok(project),
+        Err(fault) => Err(fault),
+    }
+}

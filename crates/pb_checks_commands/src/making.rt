@@ -1,0 +1,155 @@
+//! Projects of tests, from files in memory.
+
+ghost use Rattle.std.specs.Prelude.{◌<◌, IsTrue, All};
+ghost use Rattle.pb_workspace.specs.Settled.{IsSettled};
+
+use crate::child::Silent;
+use pb_command::Project;
+use pb_data::{Bytes, Items, Text};
+use pb_directive::{Directives, read_directives};
+use pb_feature::resolve;
+use pb_place::{Memory, PathText};
+use pb_unit::{Plan, Planned, What};
+use pb_workspace::{Options, Selection, Workspace, load, selected};
+use std::alloc::Global;
+use std::test::Fail;
+
+/// A text.
+pub fn text(alloc: Global, text: &str) -> Result<Text, Fail> {
+    Ok(Text::from_str(alloc, text)?)
+}
+
+/// Puts the files of a case, each behind a line `@ PATH`.
+pub fn put_files(alloc: Global, memory: &mut Memory<Silent>, files: &str) -> Result<(), Fail> {
+    for file in files.split("@ ") {
+        if let Some((path, text)) = file.split_once('\n') {
+            let path = PathText::parse(alloc, path)?;
+            memory.put(alloc, &path, text.as_bytes())?;
+        }
+    }
+    Ok(())
+}
+
+/// The bytes of the file of a unit in a folder, or none where it is not there.
+pub fn file_of(
+    alloc: Global,
+    memory: &Memory<Silent>,
+    folder: &str,
+    unit: &Planned,
+) -> Result<Option<Bytes>, Fail> {
+    let folder = PathText::parse(alloc, folder)?;
+    let path = folder.join(alloc, unit.key.as_str())?;
+    Ok(memory.file(alloc, &path)?)
+}
+
+/// The profile that words ask for, at their end.
+fn profile_in(words: &str) -> &str {
+    match words.split_once('@') {
+        Some((_, profile)) => profile,
+        None => "dev",
+    }
+}
+
+/// A build of all members, with what words ask for: `+FEATURE`, and `@PROFILE` at the end.
+pub fn options_of(alloc: Global, words: &str) -> Result<Options, Fail> {
+    let mut features = Items::new(alloc);
+    for word in words.split(' ') {
+        if let Some(name) = word.strip_prefix("+") {
+            features.push(text(alloc, name)?)?;
+        }
+    }
+    let profile = profile_in(words);
+    Ok(Options {
+        manifest: PathText::parse(alloc, "/w/Cargo.toml")?,
+        packages: Items::new(alloc),
+        workspace: true,
+        features,
+        all_features: false,
+        no_default_features: false,
+        profile: text(alloc, profile)?,
+        lib: false,
+        bins: false,
+        bin: Items::new(alloc),
+        target_dir: None,
+        runner: Items::new(alloc),
+        tool: text(alloc, "tool")?,
+    })
+}
+
+/// Whether places are those of packages.
+#[tactic(auto, using(crate::proofs::Places::all_below))]
+fn are_within(places: &[usize], count: usize) -> bool
+    ensures { IsTrue result → All (λ p. p < count) places.now }
+{
+    places.iter().all(|place| *place < count)
+}
+
+/// The project of a workspace, or none where it has no plan.
+fn planned(
+    alloc: Global,
+    workspace: Workspace,
+    selection: &Selection,
+    profile: Text,
+) -> Result<Option<Project>, Fail>
+    requires { IsSettled workspace }
+{
+    if !are_within(selection.packages.as_slice(), workspace.packages.len()) {
+        return Ok(None);
+    }
+    let Ok(features) = resolve(alloc, &workspace, selection) else {
+        return Ok(None);
+    };
+    match Plan::plan(alloc, &workspace, &features, selection, profile.as_str()) {
+        Ok(plan) => Ok(Some(Project {
+            workspace,
+            features,
+            plan,
+            profile,
+        })),
+        Err(_) => Ok(None),
+    }
+}
+
+/// The project at `/w`, whose target folder is `/w/target`, or none where it is refused.
+pub fn project_of(
+    alloc: Global,
+    memory: &mut Memory<Silent>,
+    options: Options,
+) -> Result<Option<Project>, Fail> {
+    let target = PathText::parse(alloc, "/w/target")?;
+    let Ok(workspace) = load(memory, alloc, &options.manifest, &target) else {
+        return Ok(None);
+    };
+    match selected(alloc, &workspace, &options) {
+        Ok(selection) => planned(alloc, workspace, &selection, options.profile),
+        Err(_) => Ok(None),
+    }
+}
+
+/// What the run of a unit has said, by the file of its key in `/said`; none for a compile.
+fn said_of(
+    alloc: Global,
+    memory: &Memory<Silent>,
+    unit: &Planned,
+) -> Result<Option<Directives>, Fail> {
+    if !matches!(unit.unit.what, What::Run) {
+        return Ok(None);
+    }
+    match file_of(alloc, memory, "/said", unit)? {
+        Some(bytes) => Ok(read_directives(alloc, bytes.as_slice()).ok()),
+        None => Ok(Some(Items::new(alloc))),
+    }
+}
+
+/// What all runs have said, by place.
+pub fn done_of(
+    alloc: Global,
+    memory: &Memory<Silent>,
+    project: &Project,
+) -> Result<Vec<Option<Directives>>, Fail> {
+    let mut done = Vec::new(alloc);
+    for unit in project.plan.units() {
+        done.push(said_of(alloc, memory, unit)?)?;
+    }
+    Ok(done)
+}

@@ -1,0 +1,127 @@
+//! Features, by a table of manifests with what is asked for and what is on.
+
+ghost use Rattle.pb_workspace.specs.Settled.{IsSettled};
+
+use crate::cases::CASES;
+use crate::child::Silent;
+use crate::show::shown;
+use pb_data::{Items, Text};
+use pb_feature::resolve;
+use pb_place::{Memory, PathText};
+use pb_workspace::{Options, Selection, Workspace, load, selected};
+use std::alloc::Global;
+use std::process::Abort;
+use std::test::Fail;
+
+/// Puts the files of a case, each behind a line `@ PATH`.
+fn put_files(alloc: Global, memory: &mut Memory<Silent>, files: &str) -> Result<(), Fail> {
+    for file in files.split("@ ") {
+        if let Some((path, text)) = file.split_once('\n') {
+            let path = PathText::parse(alloc, path)?;
+            memory.put(alloc, &path, text.as_bytes())?;
+        }
+    }
+    Ok(())
+}
+
+/// The options of a build for which nothing is asked.
+fn no_options(alloc: Global) -> Result<Options, Fail> {
+    Ok(Options {
+        manifest: PathText::parse(alloc, "/w/Cargo.toml")?,
+        packages: Items::new(alloc),
+        workspace: false,
+        features: Items::new(alloc),
+        all_features: false,
+        no_default_features: false,
+        profile: Text::from_str(alloc, "dev")?,
+        lib: false,
+        bins: false,
+        bin: Items::new(alloc),
+        target_dir: None,
+        runner: Items::new(alloc),
+        tool: Text::from_str(alloc, "tool")?,
+    })
+}
+
+/// Adds what a word asks for: `p:NAME`, `f:TEXT` for the text of `--features`, `workspace`, `all` and `no-default`.
+fn add_word(alloc: Global, options: &mut Options, word: &str) -> Result<(), Fail> {
+    if let Some(name) = word.strip_prefix("p:") {
+        options.packages.push(Text::from_str(alloc, name)?)?;
+    } else if let Some(text) = word.strip_prefix("f:") {
+        options.features.push(Text::from_str(alloc, text)?)?;
+    } else if word == "workspace" {
+        options.workspace = true;
+    } else if word == "all" {
+        options.all_features = true;
+    } else if word == "no-default" {
+        options.no_default_features = true;
+    }
+    Ok(())
+}
+
+/// What some words ask for, with `; ` between them.
+fn options_of(alloc: Global, words: &str) -> Result<Options, Fail> {
+    let mut options = no_options(alloc)?;
+    for word in words.split("; ") {
+        add_word(alloc, &mut options, word)?;
+    }
+    Ok(options)
+}
+
+/// What is on, or the refusal.
+fn resolved(alloc: Global, workspace: &Workspace, words: &str) -> Result<String, Fail>
+    requires { IsSettled workspace.now }
+{
+    let options = options_of(alloc, words)?;
+    let selection = selected(alloc, workspace, &options)?;
+    match resolve(alloc, workspace, &selection) {
+        Ok(features) => shown(alloc, &features, workspace.packages.as_slice()),
+        Err(fault) => Ok(format!(in alloc; "{fault:?}")?),
+    }
+}
+
+/// Asks the questions about a workspace, one a line, each with its answer behind ` = `. How many there were.
+fn ask_all(
+    rt: &impl Abort,
+    alloc: Global,
+    workspace: &Workspace,
+    questions: &str,
+) -> Result<usize, Fail>
+    requires { IsSettled workspace.now }
+{
+    let mut count = 0usize;
+    for line in questions.lines() {
+        if let Some((words, want)) = line.split_once(" = ") {
+            let answer = resolved(alloc, workspace, words)?;
+            assert_eq!(rt; answer.as_str(), want);
+            count = count.saturating_add(1);
+        }
+    }
+    Ok(count)
+}
+
+/// Tries one case: a name, files, and after a line `---` the questions.
+fn try_case(rt: &impl Abort, alloc: Global, case: &str) -> Result<usize, Fail> {
+    let Some((_, rest)) = case.split_once('\n') else {
+        return Ok(0);
+    };
+    let Some((files, questions)) = rest.split_once("---\n") else {
+        return Ok(0);
+    };
+    let mut memory = Memory::new(alloc, Silent);
+    put_files(alloc, &mut memory, files)?;
+    let manifest = PathText::parse(alloc, "/w/Cargo.toml")?;
+    let target = PathText::parse(alloc, "/w/target")?;
+    let workspace = load(&mut memory, alloc, &manifest, &target)?;
+    ask_all(rt, alloc, &workspace, questions)
+}
+
+#[test]
+fn features(rt: HostRuntime) -> Result<(), Fail> {
+    let mut count = 0usize;
+    for case in CASES.split("=== ") {
+        count = count.saturating_add(try_case(&rt, rt.alloc(), case)?);
+    }
+    assert_eq!(rt; count, 111);
+    Ok(())
+}

@@ -1,0 +1,6 @@
+pub mod Absolute
+pub mod Naming
+pub mod Ordered
+pub mod Rising
+pub mod Setting
+pub mod Versions

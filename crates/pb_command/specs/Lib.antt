@@ -1,0 +1,8 @@
+pub mod Targets
+pub mod Words
+pub mod Externs
+pub mod Said
+pub mod Pairs
+pub mod Command
+pub mod Answers
+pub mod Laws

@@ -1,0 +1,238 @@
+//! The command of a unit, and the query of a compiler's version.
+
+ghost use Rattle.std.specs.Prelude.{◌≡◌, ◌++◌, IfOk, OnOk, option_map, Some};
+ghost use Rattle.pb_command.specs.Targets.{script_source};
+ghost use Rattle.pb_command.specs.Command.{query_of, crate_part, asked_part, words_of, compile_of, script_path, run_program, run_words, run_of, command_by, nothing_of, command_of};
+
+use crate::externs::{push_libraries, reads_of};
+use crate::needed::script_file;
+use crate::pairs::pairs_of;
+use crate::project::{Project, Setup};
+use crate::said::push_said;
+use crate::settings::push_settings;
+use crate::targets::package_of;
+use crate::words::{push_copies, push_crate, push_features, push_output, push_word};
+use pb_data::{Bytes, Items, Text, TryCopy};
+use pb_directive::Directives;
+use pb_place::Command;
+use pb_unit::{Planned, What};
+use pb_workspace::{Package, Workspace};
+use std::alloc::{AllocError, Global};
+
+/// The query of a compiler's version, `-vV`: it starts in the workspace's root, sets no variables, reads and
+/// writes nothing in the target folder. The one fault is want of memory.
+pub fn query(alloc: Global, rustc: &Text, workspace: &Workspace) -> Result<Command, AllocError>
+    ensures { IfOk result (λ command. command ≡ query_of rustc.now workspace.now.root workspace.now.target) }
+{
+    let mut words = Items::new(alloc);
+    push_word(alloc, &mut words, "-vV")?;
+    Ok(Command {
+        program: rustc.copy(alloc)?,
+        words,
+        folder: workspace.root.copy(alloc)?,
+        pairs: Items::new(alloc),
+        out: None,
+        target: workspace.target.copy(alloc)?,
+        toolchain: Bytes::new(Vec::new(alloc)),
+        reads: Items::new(alloc),
+    })
+}
+
+/// Adds the words of what is compiled, and how.
+fn push_crate_part(
+    alloc: Global,
+    words: &mut Items<Text>,
+    project: &Project,
+    unit: &Planned,
+    owner: &Package,
+) -> Result<(), AllocError>
+    ensures { OnOk result (words.new ≡ words.old ++ crate_part project.now unit.now owner.now) }
+{
+    push_crate(alloc, words, project, unit, owner)?;
+    push_output(alloc, words, unit, owner)?;
+    push_settings(alloc, words, &unit.unit.what, &unit.settings)?;
+    push_features(alloc, words, project, unit, owner)?;
+    Ok(())
+}
+
+/// Adds the words of what is linked, and of what scripts and the user ask for.
+fn push_asked_part(
+    alloc: Global,
+    words: &mut Items<Text>,
+    setup: &Setup,
+    project: &Project,
+    unit: &Planned,
+    done: &[Option<Directives>],
+    owner: &Package,
+) -> Result<(), AllocError>
+    ensures { OnOk result (words.new ≡ words.old ++ asked_part setup.now project.now unit.now done.now owner.now) }
+{
+    push_libraries(alloc, words, project, unit, owner)?;
+    push_said(alloc, words, project, unit, done, owner)?;
+    push_copies(alloc, words, setup.flags.as_slice())?;
+    Ok(())
+}
+
+/// The words of a compile.
+fn words_of(
+    alloc: Global,
+    setup: &Setup,
+    project: &Project,
+    unit: &Planned,
+    done: &[Option<Directives>],
+    owner: &Package,
+) -> Result<Items<Text>, AllocError>
+    ensures { IfOk result (λ words. words ≡ words_of setup.now project.now unit.now done.now owner.now) }
+{
+    let mut words = Items::new(alloc);
+    push_crate_part(alloc, &mut words, project, unit, owner)?;
+    push_asked_part(alloc, &mut words, setup, project, unit, done, owner)?;
+    Ok(words)
+}
+
+/// The compile of a unit.
+fn compile_of(
+    alloc: Global,
+    setup: &Setup,
+    project: &Project,
+    unit: &Planned,
+    done: &[Option<Directives>],
+    owner: &Package,
+) -> Result<Command, AllocError>
+    ensures { IfOk result (λ command. command ≡ compile_of setup.now project.now unit.now done.now owner.now) }
+{
+    let words = words_of(alloc, setup, project, unit, done, owner)?;
+    let pairs = pairs_of(alloc, setup, project, unit, done, owner)?;
+    let reads = reads_of(alloc, project, unit)?;
+    Ok(Command {
+        program: setup.rustc.copy(alloc)?,
+        words,
+        folder: project.workspace.root.copy(alloc)?,
+        pairs,
+        out: Some(unit.out.copy(alloc)?),
+        target: project.workspace.target.copy(alloc)?,
+        toolchain: setup.toolchain.copy(alloc)?,
+        reads,
+    })
+}
+
+/// The path of the script that a run starts; empty where there is none.
+fn script_path(alloc: Global, project: &Project, unit: &Planned) -> Result<Text, AllocError>
+    ensures { IfOk result (λ path. path ≡ script_path project.now unit.now) }
+{
+    match script_file(alloc, project, unit)? {
+        Some(path) => Ok(path.into_text()),
+        None => Text::from_str(alloc, ""),
+    }
+}
+
+/// The program that starts a script: the runner, or the script itself.
+fn run_program(alloc: Global, runner: &[Text], script: &Text) -> Result<Text, AllocError>
+    ensures { IfOk result (λ program. program ≡ run_program runner.now script.now) }
+{
+    match runner {
+        [] => script.copy(alloc),
+        [program, ..] => program.copy(alloc),
+    }
+}
+
+/// The words behind that program: the runner's others and the script's path.
+fn run_words(alloc: Global, runner: &[Text], script: &Text) -> Result<Items<Text>, AllocError>
+    ensures { IfOk result (λ words. words ≡ run_words runner.now script.now) }
+{
+    let mut words = Items::new(alloc);
+    match runner {
+        [] => {}
+        [_, rest @ ..] => {
+            push_copies(alloc, &mut words, rest)?;
+            push_word(alloc, &mut words, script.as_str())?;
+        }
+    }
+    Ok(words)
+}
+
+/// The run of a script.
+fn run_of(
+    alloc: Global,
+    setup: &Setup,
+    project: &Project,
+    unit: &Planned,
+    done: &[Option<Directives>],
+    owner: &Package,
+) -> Result<Command, AllocError>
+    ensures { IfOk result (λ command. command ≡ run_of setup.now project.now unit.now done.now owner.now) }
+{
+    let script = script_path(alloc, project, unit)?;
+    let program = run_program(alloc, setup.runner.as_slice(), &script)?;
+    let words = run_words(alloc, setup.runner.as_slice(), &script)?;
+    let pairs = pairs_of(alloc, setup, project, unit, done, owner)?;
+    let reads = reads_of(alloc, project, unit)?;
+    Ok(Command {
+        program,
+        words,
+        folder: owner.folder.copy(alloc)?,
+        pairs,
+        out: Some(unit.out.copy(alloc)?),
+        target: project.workspace.target.copy(alloc)?,
+        toolchain: setup.toolchain.copy(alloc)?,
+        reads,
+    })
+}
+
+/// The command of a unit of a package, by what it makes.
+fn command_by(
+    alloc: Global,
+    setup: &Setup,
+    project: &Project,
+    unit: &Planned,
+    done: &[Option<Directives>],
+    owner: &Package,
+) -> Result<Command, AllocError>
+    ensures { IfOk result (λ command. command ≡ command_by unit.now.unit.what setup.now project.now unit.now done.now owner.now) }
+{
+    match &unit.unit.what {
+        What::Run => run_of(alloc, setup, project, unit, done, owner),
+        _ => compile_of(alloc, setup, project, unit, done, owner),
+    }
+}
+
+/// What stands for the command of a unit whose package is not there.
+fn nothing_of(alloc: Global, setup: &Setup, project: &Project) -> Result<Command, AllocError>
+    ensures { IfOk result (λ command. command ≡ nothing_of setup.now project.now) }
+{
+    Ok(Command {
+        program: setup.rustc.copy(alloc)?,
+        words: Items::new(alloc),
+        folder: project.workspace.root.copy(alloc)?,
+        pairs: Items::new(alloc),
+        out: None,
+        target: project.workspace.target.copy(alloc)?,
+        toolchain: setup.toolchain.copy(alloc)?,
+        reads: Items::new(alloc),
+    })
+}
+
+/// The command of a unit of the plan. `done` tells what the runs before it have said: its entry at a run's
+/// place in the plan is what the run's lines give, and none at a compile's; a place past its end counts as none.
+///
+/// A compile starts the compiler in the workspace's root. Its words are the crate's name, edition and source; its
+/// types, and where it is written; its settings; the features that are on, and those that there are; the
+/// folders of the libraries that it reaches, and the libraries by the names that the source gives them; what
+/// build scripts have asked for; and the flags of the user. A run starts the build script in its package's
+/// folder, behind the runner where there is one. Variables are those of The Cargo Book, Environment Variables,
+/// and those that the script of the package has set, which win. It may read the folders of all units that it
+/// reaches. The one fault is want of memory.
+pub fn command(
+    alloc: Global,
+    setup: &Setup,
+    project: &Project,
+    unit: &Planned,
+    done: &[Option<Directives>],
+) -> Result<Command, AllocError>
+    ensures { IfOk result (λ command. command ≡ command_of setup.now project.now unit.now done.now) }
+{
+    match package_of(project, unit) {
+        Some(owner) => command_by(alloc, setup, project, unit, done, owner),
+        None => nothing_of(alloc, setup, project),
+    }
+}

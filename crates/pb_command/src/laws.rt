@@ -1,0 +1,23 @@
+//! Laws of commands, for the layers above. Each function does nothing; its contract is the law.
+
+ghost use Rattle.pb_command.specs.Laws.{PairsRise, LastValuesCount, LibrariesInOrder, CommandsAreAbsolute};
+
+/// The variables of a command stand in byte order of their names, each name once.
+pub fn pairs_rise()
+    ensures { PairsRise }
+{}
+
+/// Of the values that a variable is given, the last counts.
+pub fn last_values_count()
+    ensures { LastValuesCount }
+{}
+
+/// The libraries that a compile is given stand in byte order of their names, and then of their paths.
+pub fn libraries_in_order()
+    ensures { LibrariesInOrder }
+{}
+
+/// The paths of a command are normalised and absolute, where those of its project are.
+pub fn commands_are_absolute()
+    ensures { CommandsAreAbsolute }
+{}

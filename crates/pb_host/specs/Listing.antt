@@ -1,0 +1,20 @@
+-- What is found below a folder.
+use Rattle.std.specs.Prelude.{◌≡◌, true, ℕ, List, All}
+use Rattle.std.specs.List.Sorted.{IsSorted}
+use Rattle.std.specs.Ordering.{nat_cmp}
+use Rattle.std.specs.Cmp.Lexicographic.{slice_cmp}
+use Rattle.pb_place.specs.Paths.{is_below, is_at_or_below}
+use Rattle.pb_host.specs.declared.listing.Found.{Found}
+
+-- each of these paths lies strictly below the folder
+abbrev pub AreBelow : List ℕ → List (List ℕ) → Type 0
+AreBelow folder paths = All (λ path. is_below folder path ≡ true) paths
+
+-- in byte order
+abbrev pub AreOrdered : List (List ℕ) → Type 0
+AreOrdered paths = IsSorted (slice_cmp nat_cmp) paths
+
+-- the files that were found lie below the folder, and the folders that wait at it or below it
+pub record StaysBelow (folder : List ℕ) (found : Found) : Type 0 where
+  pub files : AreBelow folder found.files.items
+  pub waiting : All (λ waiting. is_at_or_below folder waiting.folder ≡ true) found.waiting.items

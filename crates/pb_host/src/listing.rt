@@ -1,0 +1,181 @@
+//! Listing real folders.
+
+ghost use Rattle.std.specs.Prelude.{◌≡◌, ◌≢◌, ℕ, List, true, IfOk, IfErr, OnOk};
+ghost use Rattle.pb_place.specs.Paths.{is_below, is_at_or_below};
+ghost use Rattle.pb_host.specs.Listing.{AreBelow, AreOrdered, StaysBelow};
+
+use crate::reading::{Standing, says_absent, standing_at, standing_of};
+use crate::writing::fault_of;
+use pb_data::{Items, Text, TryCopy};
+use pb_place::{PathText, PlaceFault, RelativePath, ViewFault};
+use std::alloc::Global;
+use std::rt::Files;
+use std::{fs, io};
+
+/// How many folders a folder may lie below the one that is listed.
+const DEEPEST: u8 = 128;
+
+/// A folder that is not yet listed.
+#[derive(Drop)]
+struct Waiting {
+    folder: PathText,
+    /// How many folders it lies below the one that is listed.
+    depth: u8,
+}
+
+/// What was found so far.
+#[derive(Drop)]
+struct Found {
+    files: Vec<PathText>,
+    waiting: Vec<Waiting>,
+}
+
+/// The path of an entry of a folder. List where the entry's name is none.
+fn path_of(alloc: Global, folder: &PathText, name: &str) -> Result<PathText, PlaceFault>
+    ensures below { IfOk result (λ path. is_below folder.now path ≡ true) }
+    ensures fault { IfErr result (λ e. e ≢ PlaceFault.OutOfMemory → e ≡ PlaceFault.List) }
+{
+    match RelativePath::of(Text::from_str(alloc, name)?) {
+        Some(relative) => Ok(folder.below(alloc, &relative)?),
+        None => Err(PlaceFault::List),
+    }
+}
+
+/// What stands at an entry whose links lead further than the system follows them: nothing, if the entry's own link
+/// leads in a circle. Else it is too deep: a link to a folder above it, gone through again and again.
+fn standing_in_circle<R: Files + AllocGlobal>(
+    runtime: &R,
+    alloc: Global,
+    folder: &PathText,
+    name: &str,
+) -> io::Result<Standing> {
+    let whole = fs::canonicalize(runtime, folder.as_str())?;
+    let path = format!(in alloc; "{}/{name}", whole.as_str())?;
+    match fs::metadata(runtime, path.as_str()) {
+        Err(error) if error.kind() == io::ErrorKind::FilesystemLoop => Ok(Standing::Nothing),
+        Err(error) => Err(error),
+        Ok(_) => Err(io::Error::from(io::ErrorKind::FilesystemLoop)),
+    }
+}
+
+/// What stands at an entry of a folder, links followed. A link that leads nowhere, or in a circle, is nothing.
+fn standing_in<R: Files + AllocGlobal>(
+    runtime: &R,
+    alloc: Global,
+    folder: &PathText,
+    path: &PathText,
+    name: &str,
+) -> io::Result<Standing> {
+    match fs::metadata(runtime, path.as_str()) {
+        Ok(metadata) => Ok(standing_of(&metadata)),
+        Err(error) if error.kind() == io::ErrorKind::FilesystemLoop => {
+            standing_in_circle(runtime, alloc, folder, name)
+        }
+        Err(error) if says_absent(&error) => Ok(Standing::Nothing),
+        Err(error) => Err(error),
+    }
+}
+
+/// Files an entry of a folder: a file is found, and a folder waits. List where its name is none, where it cannot be
+/// told what stands there, and where it is a folder that lies too deep.
+fn take_entry<R: Files + AllocGlobal>(
+    runtime: &R,
+    alloc: Global,
+    found: &mut Found,
+    here: &Waiting,
+    name: &str,
+) -> Result<(), PlaceFault>
+    ensures below { OnOk result ((above : List ℕ) → is_at_or_below above here.now.folder ≡ true → StaysBelow above found.old → StaysBelow above found.new) }
+    ensures fault { IfErr result (λ e. e ≢ PlaceFault.OutOfMemory → e ≡ PlaceFault.List) }
+{
+    let path = path_of(alloc, &here.folder, name)?;
+    match standing_in(runtime, alloc, &here.folder, &path, name) {
+        Ok(Standing::File(_)) => found.files.push(path)?,
+        Ok(Standing::Folder) => {
+            if here.depth >= DEEPEST {
+                return Err(PlaceFault::List);
+            }
+            found.waiting.push(Waiting {
+                folder: path,
+                depth: here.depth + 1,
+            })?;
+        }
+        Ok(Standing::Nothing) => {}
+        Err(error) => return Err(fault_of(error, PlaceFault::List)),
+    }
+    Ok(())
+}
+
+/// Files the entries of a folder.
+fn take_folder<R: Files + AllocGlobal>(
+    runtime: &R,
+    alloc: Global,
+    found: &mut Found,
+    here: &Waiting,
+) -> Result<(), PlaceFault>
+    ensures below { OnOk result ((above : List ℕ) → is_at_or_below above here.now.folder ≡ true → StaysBelow above found.old → StaysBelow above found.new) }
+    ensures fault { IfErr result (λ e. e ≢ PlaceFault.OutOfMemory → e ≡ PlaceFault.List) }
+{
+    let entries = match fs::read_dir(&runtime, here.folder.as_str()) {
+        Ok(entries) => entries,
+        Err(error) => return Err(fault_of(error, PlaceFault::List)),
+    };
+    for entry in entries {
+        match entry {
+            Ok(entry) => take_entry(runtime, alloc, found, here, entry.file_name())?,
+            Err(error) => return Err(fault_of(error, PlaceFault::List)),
+        }
+    }
+    Ok(())
+}
+
+/// All files below a folder, as they come. One folder after another is taken, the one found last first.
+fn files_found<R: Files + AllocGlobal>(
+    runtime: &R,
+    alloc: Global,
+    folder: &PathText,
+) -> Result<Vec<PathText>, PlaceFault>
+    ensures below { IfOk result (λ files. AreBelow folder.now files.items) }
+    ensures fault { IfErr result (λ e. e ≢ PlaceFault.OutOfMemory → e ≡ PlaceFault.List) }
+{
+    let mut found = Found {
+        files: Vec::new(alloc),
+        waiting: Vec::new(alloc),
+    };
+    found.waiting.push(Waiting {
+        folder: folder.copy(alloc)?,
+        depth: 0,
+    })?;
+    for _ in 0..u64::MAX {
+        match found.waiting.pop() {
+            Some(here) => take_folder(runtime, alloc, &mut found, &here)?,
+            None => return Ok(found.files),
+        }
+    }
+    Err(PlaceFault::List)
+}
+
+/// The paths of all files below a folder, in byte order; none where no folder stands at the path. Links are followed,
+/// a link that leads nowhere is passed over, and so is what is neither file nor folder.
+///
+/// List where a folder cannot be read, where a name is not UTF-8, and where a folder lies more than 128 folders below
+/// the one that is listed. A link to a folder above it is such a case, since it is gone through again and again.
+pub(crate) fn files_below<R: Files + AllocGlobal>(
+    runtime: &R,
+    alloc: Global,
+    folder: &PathText,
+) -> Result<Items<PathText>, PlaceFault>
+    ensures below { IfOk result (λ paths. AreBelow folder.now paths) }
+    ensures ordered { IfOk result AreOrdered }
+    ensures fault { IfErr result (λ e. e ≢ PlaceFault.OutOfMemory → e ≡ PlaceFault.List) }
+{
+    match standing_at(runtime, folder.as_str()) {
+        Ok(Standing::Folder) => {}
+        Ok(_) => return Ok(Items::new(alloc)),
+        Err(ViewFault::Failed) => return Err(PlaceFault::List),
+        Err(ViewFault::OutOfMemory) => return Err(PlaceFault::OutOfMemory),
+    }
+    let mut files = files_found(runtime, alloc, folder)?;
+    files.sort()?;
+    Ok(Items::from_vec(files))
+}

@@ -1,0 +1,96 @@
+//! Reading real files and variables.
+
+ghost use Rattle.std.specs.Prelude.{◌≡◌, ◌≢◌};
+ghost use Rattle.std.specs.IoError.{error_kind};
+ghost use Rattle.pb_place.specs.declared.child.ViewFault.TheVariants as view_fault;
+
+use pb_data::{Bytes, Text};
+use pb_place::ViewFault;
+use std::env::VarError;
+use std::io::ErrorKind;
+use std::rt::{Env, Files};
+use std::{env, fs, io};
+
+/// How many bytes a file may have.
+pub(crate) const MOST_BYTES: u64 = 4_294_967_296;
+
+/// What stands at a path, links followed.
+#[derive(Clone, Copy, Debug, PartialEq, Eq)]
+pub(crate) enum Standing {
+    /// A file, of so many bytes.
+    File(u64),
+    /// A folder.
+    Folder,
+    /// Nothing, or what is neither file nor folder.
+    Nothing,
+}
+
+/// Why reading failed: want of memory, or a failure of the outside.
+fn fault_of(error: io::Error) -> ViewFault
+    ensures memory { error_kind error ≡ ErrorKind.OutOfMemory → result ≡ view_fault.OutOfMemory }
+    ensures failed { error_kind error ≢ ErrorKind.OutOfMemory → result ≡ view_fault.Failed }
+{
+    if error.kind() == ErrorKind::OutOfMemory {
+        return ViewFault::OutOfMemory;
+    }
+    ViewFault::Failed
+}
+
+/// Whether an error says that nothing stands at a path: there is no such name, a file stands where a folder should,
+/// or the links lead in a circle.
+pub(crate) fn says_absent(error: &io::Error) -> bool {
+    matches!(
+        error.kind(),
+        ErrorKind::NotFound | ErrorKind::NotADirectory | ErrorKind::FilesystemLoop
+    )
+}
+
+/// What stands at a path, as its metadata say.
+pub(crate) fn standing_of(metadata: &fs::Metadata) -> Standing {
+    if metadata.is_file() {
+        return Standing::File(metadata.len());
+    }
+    if metadata.is_dir() {
+        return Standing::Folder;
+    }
+    Standing::Nothing
+}
+
+/// What stands at a path, links followed. A link that leads nowhere, or in a circle, is nothing. Failed where it
+/// cannot be told.
+pub(crate) fn standing_at<R: Files>(runtime: &R, path: &str) -> Result<Standing, ViewFault> {
+    match fs::metadata(runtime, path) {
+        Ok(metadata) => Ok(standing_of(&metadata)),
+        Err(error) if says_absent(&error) => Ok(Standing::Nothing),
+        Err(error) => Err(fault_of(error)),
+    }
+}
+
+/// The bytes of a file, or none where no file stands at the path. Failed where it cannot be read, and where it is
+/// too long.
+pub(crate) fn file_at<R: Files + AllocGlobal>(
+    runtime: &R,
+    path: &str,
+) -> Result<Option<Bytes>, ViewFault> {
+    match standing_at(runtime, path)? {
+        Standing::File(length) if length > MOST_BYTES => Err(ViewFault::Failed),
+        Standing::File(_) => match fs::read(runtime, path) {
+            Ok(bytes) => Ok(Some(Bytes::new(bytes))),
+            Err(error) => Err(fault_of(error)),
+        },
+        _ => Ok(None),
+    }
+}
+
+/// The value of a variable, or none where it is not set. Failed where the value is not UTF-8.
+pub(crate) fn variable_of<R: Env + AllocGlobal>(
+    runtime: &R,
+    name: &str,
+) -> Result<Option<Text>, ViewFault> {
+    match env::var(runtime, name) {
+        Ok(value) => Ok(Some(Text::new(value))),
+        Err(VarError::NotPresent) => Ok(None),
+        Err(VarError::NotUnicode) => Err(ViewFault::Failed),
+        Err(VarError::OutOfMemory) => Err(ViewFault::OutOfMemory),
+    }
+}

@@ -1,0 +1,127 @@
+//! Starting real children.
+
+ghost use Rattle.std.specs.Prelude.{◌≡◌, ◌≢◌, ◌⊎◌, ◌++◌, ℕ, List, Some, if◌then◌else◌, OnOk, IfOk, IfErr};
+ghost use Rattle.std.specs.Str.{bytes_eq};
+ghost use Rattle.std.specs.Process.{command_program, command_args, command_var, command_dir, clears_env, SameEnv, SameDir, SameProgramAndArgs};
+ghost use Rattle.std.specs.IoError.{error_kind};
+ghost use Rattle.pb_place.specs.declared.place.StartFault.TheVariants as start_fault;
+ghost use Rattle.pb_host.specs.Starting.{value_over, IsProcessOf};
+
+use pb_data::{Bytes, Text};
+use pb_place::{Command, Ended, StartFault};
+use std::alloc::{AllocError, Global};
+use std::io::ErrorKind;
+use std::process::{Output, Processes, Stdio};
+use std::rt::Files;
+use std::{fs, io, process};
+
+/// The fault of a start for an error: want of memory, or this one.
+fn fault_of(error: io::Error, own: StartFault) -> StartFault
+    ensures memory { error_kind error ≡ ErrorKind.OutOfMemory → result ≡ start_fault.OutOfMemory }
+    ensures own { error_kind error ≢ ErrorKind.OutOfMemory → result ≡ own }
+{
+    if error.kind() == ErrorKind::OutOfMemory {
+        return StartFault::OutOfMemory;
+    }
+    own
+}
+
+/// Adds words to those of a process.
+fn add_words(made: &mut process::Command, words: &[Text]) -> Result<(), AllocError>
+    ensures words { OnOk result (command_args made.new ≡ command_args made.old ++ words.now) }
+    ensures program { OnOk result (command_program made.new ≡ command_program made.old) }
+    ensures variables { OnOk result (SameEnv made.old made.new) }
+    ensures folder { OnOk result (SameDir made.old made.new) }
+{
+    for word in words {
+        made.arg(word.as_str())?;
+    }
+    Ok(())
+}
+
+/// Sets a variable of a process.
+#[tactic(auto, using(crate::proofs::Variables::set_law))]
+fn set_variable(made: &mut process::Command, name: &str, value: &str) -> Result<(), AllocError>
+    ensures set { OnOk result ((other : List ℕ) → command_var made.new other ≡ (if bytes_eq name.now other then Some (Some value.now) else command_var made.old other)) }
+    ensures call { OnOk result (SameProgramAndArgs made.old made.new) }
+    ensures inherits { OnOk result (clears_env made.new ≡ clears_env made.old) }
+    ensures folder { OnOk result (SameDir made.old made.new) }
+{
+    made.env(name, value)?;
+    Ok(())
+}
+
+/// Sets the variables of a process, one after another.
+fn add_pairs(made: &mut process::Command, pairs: &[(Text, Text)]) -> Result<(), AllocError>
+    ensures pairs { OnOk result ((name : List ℕ) → command_var made.new name ≡ value_over name (command_var made.old name) pairs.now) }
+    ensures call { OnOk result (SameProgramAndArgs made.old made.new) }
+    ensures inherits { OnOk result (clears_env made.new ≡ clears_env made.old) }
+    ensures folder { OnOk result (SameDir made.old made.new) }
+{
+    for (name, value) in pairs {
+        set_variable(made, name.as_str(), value.as_str())?;
+    }
+    Ok(())
+}
+
+/// The process of a command: its program and words, in its folder, with its pairs over the inherited variables.
+fn process_of(alloc: Global, command: &Command) -> Result<process::Command, AllocError>
+    ensures { IfOk result (IsProcessOf command.now) }
+{
+    let mut made = process::Command::new(alloc, command.program.as_str())?;
+    add_words(&mut made, command.words.as_slice())?;
+    add_pairs(&mut made, command.pairs.as_slice())?;
+    made.current_dir(command.folder.as_str())?;
+    Ok(made)
+}
+
+/// Starts a process and takes in what it writes until it ends. Its standard input is empty.
+fn output_of<R: Processes>(
+    runtime: &R,
+    alloc: Global,
+    mut made: process::Command,
+) -> Result<Output, StartFault>
+    ensures fault { IfErr result (λ e. (e ≡ StartFault.OutOfMemory) ⊎ ((e ≡ StartFault.CannotStart) ⊎ (e ≡ StartFault.Capture))) }
+{
+    made.stdin(Stdio::null());
+    made.stdout(Stdio::piped());
+    made.stderr(Stdio::piped());
+    let child = match made.spawn(runtime) {
+        Ok(child) => child,
+        Err(error) => return Err(fault_of(error, StartFault::CannotStart)),
+    };
+    match child.wait_with_output(alloc) {
+        Ok(output) => Ok(output),
+        Err(error) => Err(fault_of(error, StartFault::Capture)),
+    }
+}
+
+/// How a child ended. Died where it has no status code.
+fn ended(output: Output) -> Result<Ended, StartFault> {
+    match output.status.code() {
+        Some(status) => Ok(Ended {
+            status,
+            stdout: Bytes::new(output.stdout),
+            stderr: Bytes::new(output.stderr),
+        }),
+        None => Err(StartFault::Died),
+    }
+}
+
+/// Starts the child of a command, once its output folder is made, and waits for its end.
+///
+/// CannotStart where the output folder cannot be made or the program cannot be started, Capture where what the child
+/// writes cannot be taken in, Died where it ends without a status code.
+pub(crate) fn run<R: Files + Processes>(
+    runtime: &R,
+    alloc: Global,
+    command: &Command,
+) -> Result<Ended, StartFault> {
+    if let Some(out) = &command.out {
+        if let Err(error) = fs::create_dir_all(runtime, out.as_str()) {
+            return Err(fault_of(error, StartFault::CannotStart));
+        }
+    }
+    let made = process_of(alloc, command)?;
+    ended(output_of(runtime, alloc, made)?)
+}

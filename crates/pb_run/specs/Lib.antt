@@ -1,0 +1,5 @@
+pub mod Telling
+pub mod Outcome
+pub mod Standing
+pub mod Causes
+pub mod Unfolding

@@ -1,0 +1,118 @@
+-- What each unit of a build gives, from the child and the sources alone.
+use Rattle.std.specs.Prelude.{ℕ, Bool, true, false, if◌then◌else◌, List, [], ◌∷◌, ◌++◌, map, Option, Some, None, Result, Ok, Err, slice_get}
+use Rattle.std.specs.List.{list_all}
+use Rattle.std.specs.FinMap as finite
+use Rattle.pb_place.specs.Folders.{files_in, over}
+use Rattle.pb_place.specs.World.{World, Map, Answers, put_files}
+use Rattle.pb_place.specs.declared.child.Reply.{Reply}
+use Rattle.pb_place.specs.declared.command.Command.{Command}
+use Rattle.pb_place.specs.declared.command.Ended.{Ended}
+use Rattle.pb_directive.specs.declared.directive.Directive.{Directive}
+use Rattle.pb_message.specs.declared.message.Message.{Message}
+use Rattle.pb_unit.specs.declared.plan.Planned.{Planned}
+use Rattle.pb_command.specs.declared.project.Project.{Project}
+use Rattle.pb_command.specs.declared.project.Setup.{Setup}
+use Rattle.pb_command.specs.declared.answer.Answered.{Answered}
+use Rattle.pb_command.specs.declared.fault.UnitFault.{UnitFault}
+use Rattle.pb_command.specs.Command.{command_of}
+use Rattle.pb_command.specs.Targets.{dep_info_of}
+use Rattle.pb_command.specs.Answers.{answered_of}
+use Rattle.pb_run.specs.Telling.{good_messages, bad_messages}
+use Rattle.pb_run.specs.declared.ran.Ran.{Ran}
+
+-- what a unit gives: nothing as yet; the files of its output folder, a script's directives, and what it tells; or why it is bad, and what it tells
+pub data Outcome : Type 0 where
+  Waiting : Outcome
+  Good : (files : Map) (directives : Option (List Directive)) (messages : List Message) → Outcome
+  Bad : (fault : UnitFault) (messages : List Message) → Outcome
+
+abbrev pub is_good : Outcome → Bool
+is_good Waiting = false
+is_good (Good files directives messages) = true
+is_good (Bad fault messages) = false
+
+abbrev pub is_good_at : Option Outcome → Bool
+is_good_at None = false
+is_good_at (Some o) = is_good o
+
+-- a table whose entries are each made from the entries before it
+abbrev pub tabled_from : {U A : Type 0} → (List A → U → A) → List A → List U → List A
+tabled_from step done [] = done
+tabled_from step done (u ∷ us) = tabled_from step (done ++ step done u ∷ []) us
+
+abbrev pub tabled : {U A : Type 0} → (List A → U → A) → List U → List A
+tabled step us = tabled_from step [] us
+
+-- The view of a unit.
+
+abbrev pub files_at : Option Outcome → Map
+files_at (Some (Good files directives messages)) = files
+files_at _ = finite.empty
+
+-- the files of the units at these places, over others
+abbrev pub with_made : List Outcome → List ℕ → Map → Map
+with_made done [] m = m
+with_made done (place ∷ places) m = over (files_at (slice_get done place)) (with_made done places m)
+
+-- the sources, and the files of each unit that this one reaches
+abbrev pub view_of : List Outcome → World → Planned → World
+view_of done sources u = record sources { files = with_made done u.reaches sources.files }
+
+-- The judgement.
+
+-- how a child ended that replied so
+abbrev pub ended_by : Reply → Ended
+ended_by r = record { status = r.status; stdout = r.stdout; stderr = r.stderr }
+
+-- the files of a reply in an output folder, in which nothing stood before
+abbrev pub replied_files : List ℕ → Reply → Map
+replied_files out r = files_in out (put_files out r.files finite.empty)
+
+abbrev pub file_at : Option (List ℕ) → Map → Option (List ℕ)
+file_at None files = None
+file_at (Some path) files = finite.get files path
+
+-- what comes of a unit whose child gave this answer
+abbrev pub ran_by : Project → Planned → List ℕ → Result Answered UnitFault → Ran
+ran_by project u stderr (Ok a) = record { started = true; fault = None; directives = a.directives; messages = good_messages project u stderr a.directives }
+ran_by project u stderr (Err e) = record { started = true; fault = Some e; directives = None; messages = bad_messages u.unit.what e stderr }
+
+abbrev pub outcome_from : Option UnitFault → Map → Option (List Directive) → List Message → Outcome
+outcome_from None files directives messages = Good files directives messages
+outcome_from (Some fault) files directives messages = Bad fault messages
+
+-- what a unit gave that came to this and has these files
+abbrev pub outcome_by : Map → Ran → Outcome
+outcome_by files ran = outcome_from ran.fault files ran.directives ran.messages
+
+-- what comes of a unit whose child ended so and left these files
+abbrev pub ran_of : Project → Planned → Command → Ended → Map → Ran
+ran_of project u c e files = ran_by project u e.stderr (answered_of project u c e (file_at (dep_info_of project u) files))
+
+-- the reply of a child to a unit's command, judged
+abbrev pub judged : Project → Planned → Command → Reply → Outcome
+judged project u c r = outcome_by (replied_files u.out r) (ran_of project u c (ended_by r) (replied_files u.out r))
+
+-- The outcome.
+
+abbrev pub directives_in : Outcome → Option (List Directive)
+directives_in Waiting = None
+directives_in (Good files directives messages) = directives
+directives_in (Bad fault messages) = None
+
+-- the directives of the units so far
+abbrev pub directives_of : List Outcome → List (Option (List Directive))
+directives_of done = map directives_in done
+
+-- a unit's command, after these outcomes
+abbrev pub command_after : Setup → Project → List Outcome → Planned → Command
+command_after setup project done u = command_of setup project u (directives_of done)
+
+-- the outcome of a unit from those before it: it waits where a need is not good; else it is the reply of the child to the unit's command in the unit's view, judged
+abbrev pub outcome_of : Answers → Setup → Project → World → List Outcome → Planned → Outcome
+outcome_of child setup project sources done u =
+    if list_all (λ place. is_good_at (slice_get done place)) u.needs then judged project u (command_after setup project done u) (child (command_after setup project done u) (view_of done sources u)) else Waiting
+
+-- the outcomes of all units, in plan order
+abbrev pub outcomes : Answers → Setup → Project → World → List Outcome
+outcomes child setup project sources = tabled (outcome_of child setup project sources) project.plan.planned

@@ -1,0 +1,137 @@
+-- What a unit tells its users (The Cargo Book, External Tools): whose lines they are, and which messages come of its child's answer.
+use Rattle.std.specs.Prelude.{ℕ, Bool, true, false, not, if◌then◌else◌, List, [], ◌∷◌, ◌++◌, Option, Some, None, Result, Ok, Err, slice_get, map, find}
+use Rattle.std.specs.List.{filter_map}
+use Rattle.std.specs.Str.{bytes_eq}
+use Rattle.pb_directive.specs.declared.directive.Directive.{Directive}
+use Rattle.pb_directive.specs.declared.directive.Directive.TheVariants as says
+use Rattle.pb_message.specs.Diagnostics.{diagnostics_of}
+use Rattle.pb_message.specs.Message.{lines_of}
+use Rattle.pb_message.specs.Targets.{library_target, binary_target, script_target}
+use Rattle.pb_message.specs.declared.message.Artifact.{Artifact}
+use Rattle.pb_message.specs.declared.message.Executed.{Executed}
+use Rattle.pb_message.specs.declared.message.Level.TheVariants.{Warning}
+use Rattle.pb_message.specs.declared.message.Message.{Message}
+use Rattle.pb_message.specs.declared.message.Message.TheVariants.{CompilerMessage, CompilerArtifact, BuildScriptNote, BuildScriptExecuted}
+use Rattle.pb_message.specs.declared.subject.Subject.{Subject}
+use Rattle.pb_message.specs.declared.subject.Target.{Target}
+use Rattle.pb_place.specs.declared.command.Ended.{Ended}
+use Rattle.pb_workspace.specs.declared.package.Package.{Package}
+use Rattle.pb_workspace.specs.declared.package.Library.{Library}
+use Rattle.pb_workspace.specs.declared.package.Binary.{Binary}
+use Rattle.pb_feature.specs.Resolved.{features_at}
+use Rattle.pb_unit.specs.declared.plan.Planned.{Planned}
+use Rattle.pb_unit.specs.declared.unit.What.{What}
+use Rattle.pb_unit.specs.declared.unit.What.TheVariants.{Lib, Bin, Script, Run}
+use Rattle.pb_command.specs.declared.project.Project.{Project}
+use Rattle.pb_command.specs.declared.answer.Answered.{Answered}
+use Rattle.pb_command.specs.declared.fault.UnitFault.{UnitFault}
+use Rattle.pb_command.specs.declared.fault.UnitFault.TheVariants as fault
+use Rattle.pb_command.specs.Targets.{made_file_of}
+
+-- Whose lines they are.
+
+abbrev pub library_of : Package → Option Library → Option Target
+library_of p None = None
+library_of p (Some l) = Some (library_target l.crate_types l.name l.source p.edition)
+
+abbrev pub binary_of : Package → Option Binary → Option Target
+binary_of p None = None
+binary_of p (Some b) = Some (binary_target b.name b.source p.edition b.required_features)
+
+abbrev pub script_of : Package → Option (List ℕ) → Option Target
+script_of p None = None
+script_of p (Some source) = Some (script_target source p.edition)
+
+-- the target of a package that is compiled or run, where the package has it
+abbrev pub target_of : Package → What → Option Target
+target_of p Lib = library_of p p.library
+target_of p (Bin name) = binary_of p (find (λ b. bytes_eq name b.name) p.binaries)
+target_of p Script = script_of p p.script
+target_of p Run = script_of p p.script
+
+abbrev pub subject_with : Package → Option Target → Option Subject
+subject_with p None = None
+subject_with p (Some t) = Some record { name = p.name; version = p.version; folder = p.folder; manifest = p.manifest; target = t }
+
+abbrev pub subject_in : Option Package → What → Option Subject
+subject_in None w = None
+subject_in (Some p) w = subject_with p (target_of p w)
+
+-- the package and the target of a unit
+abbrev pub subject_of : Project → Planned → Option Subject
+subject_of project u = subject_in (slice_get project.workspace.packages u.unit.owner) u.unit.what
+
+-- Messages.
+
+abbrev pub is_binary : What → Bool
+is_binary Lib = false
+is_binary (Bin name) = true
+is_binary Script = false
+is_binary Run = false
+
+abbrev pub artifact : Project → Planned → List ℕ → Message
+artifact project u file = CompilerArtifact record { settings = u.settings; features = features_at project.features u.unit.owner u.unit.side; file = file; is_executable = is_binary u.unit.what }
+
+-- what a compile made
+abbrev pub artifacts : Project → Planned → Option (List ℕ) → List Message
+artifacts project u None = []
+artifacts project u (Some file) = artifact project u file ∷ []
+
+-- what a compiler says: the diagnostics among the lines of its standard error
+abbrev pub compiler_messages : List ℕ → List Message
+compiler_messages stderr = map CompilerMessage (diagnostics_of stderr)
+
+abbrev pub note_in : Directive → Option Message
+note_in (says.Warning text) = Some (BuildScriptNote Warning text)
+note_in _ = None
+
+abbrev pub library_in : Directive → Option (List ℕ)
+library_in (says.LinkLib name) = Some name
+library_in _ = None
+
+abbrev pub search_in : Directive → Option (List ℕ)
+search_in (says.LinkSearch folder) = Some folder
+search_in _ = None
+
+abbrev pub condition_in : Directive → Option (List ℕ)
+condition_in (says.Cfg condition) = Some condition
+condition_in _ = None
+
+abbrev pub variable_in : Directive → Option (List ℕ × List ℕ)
+variable_in (says.Env name value) = Some (name, value)
+variable_in _ = None
+
+-- what a script gave the compiler, each list in printed order
+abbrev pub executed : Planned → List Directive → Message
+executed u directives = BuildScriptExecuted record {
+  linked_libraries = filter_map library_in directives;
+  linked_paths = filter_map search_in directives;
+  conditions = filter_map condition_in directives;
+  variables = filter_map variable_in directives;
+  out_folder = u.out;
+}
+
+-- the messages of a unit whose child's answer is good, by its directives: a run of a script has some list of them, a compile has none. A compile gives its diagnostics, and then what it made; a run its notes in printed order, and then what it gave the compiler
+abbrev pub good_messages : Project → Planned → List ℕ → Option (List Directive) → List Message
+good_messages project u stderr None = compiler_messages stderr ++ artifacts project u (made_file_of project u)
+good_messages project u stderr (Some directives) = filter_map note_in directives ++ (executed u directives ∷ [])
+
+-- a bad unit gives its diagnostics where it is a compile and no stream is too long
+abbrev pub gives_diagnostics : What → UnitFault → Bool
+gives_diagnostics Run e = false
+gives_diagnostics w fault.OutputTooLong = false
+gives_diagnostics w e = true
+
+-- of one whose answer is bad
+abbrev pub bad_messages : What → UnitFault → List ℕ → List Message
+bad_messages w e stderr = if gives_diagnostics w e then compiler_messages stderr else []
+
+-- Lines.
+
+-- the lines of messages of a subject; `started` says whether a child was started for their unit
+abbrev pub lines_by : Option Subject → Bool → List Message → List ℕ
+lines_by None started messages = []
+lines_by (Some s) started messages = lines_of s (not started) messages
+
+abbrev pub unit_lines : Project → Planned → Bool → List Message → List ℕ
+unit_lines project u started messages = lines_by (subject_of project u) started messages

@@ -1,0 +1,95 @@
+//! What came of a unit, by the answer of its child.
+
+ghost use Rattle.std.specs.Prelude.{◌≡◌, ◌≢◌, IfOk, Result, Ok, Err, true};
+ghost use Rattle.pb_command.specs.Answers.{answered_of};
+ghost use Rattle.pb_command.specs.declared.answer.Answered.{Answered};
+ghost use Rattle.pb_command.specs.declared.fault.UnitFault.{UnitFault};
+ghost use Rattle.pb_command.specs.declared.fault.UnitFault.TheVariants as unit_fault;
+ghost use Rattle.std.specs.FinMap as finite;
+ghost use Rattle.pb_run.specs.Outcome.{ran_by, outcome_by, directives_in};
+
+use crate::messages::{bad_messages, good_messages};
+use pb_command::{Answered, Project, UnitFault, answered};
+use pb_data::{Bytes, Items};
+use pb_directive::Directives;
+use pb_message::Message;
+use pb_place::{Command, Ended};
+use pb_unit::Planned;
+use std::alloc::{AllocError, Global};
+
+/// What came of a unit.
+#[derive(Debug, Drop)]
+pub struct Ran {
+    /// Whether a child was started for it.
+    pub started: bool,
+    /// Why it is bad, if it is.
+    pub fault: Option<UnitFault>,
+    /// The directives of a build script's run that ended well.
+    pub directives: Option<Directives>,
+    /// What it tells.
+    pub messages: Items<Message>,
+}
+
+/// What came of a unit whose child's answer is good.
+fn good(
+    alloc: Global,
+    project: &Project,
+    unit: &Planned,
+    stderr: &Bytes,
+    answered: Answered,
+) -> Result<Ran, AllocError>
+    ensures ran { IfOk result (λ ran. ran ≡ ran_by project.now unit.now stderr.now (Ok answered)) }
+    ensures started { IfOk result (λ ran. ran.started ≡ true) }
+    ensures directives { IfOk result (λ ran. directives_in (outcome_by finite.empty ran) ≡ ran.directives) }
+{
+    let directives = answered.directives;
+    let messages = good_messages(alloc, project, unit, stderr, &directives)?;
+    Ok(Ran {
+        started: true,
+        fault: None,
+        directives,
+        messages,
+    })
+}
+
+/// What came of a unit whose child's answer is bad.
+fn bad(
+    alloc: Global,
+    project: &Project,
+    unit: &Planned,
+    stderr: &Bytes,
+    fault: UnitFault,
+) -> Result<Ran, AllocError>
+    ensures ran { IfOk result (λ ran. ran ≡ ran_by project.now unit.now stderr.now (Err fault)) }
+    ensures started { IfOk result (λ ran. ran.started ≡ true) }
+    ensures directives { IfOk result (λ ran. directives_in (outcome_by finite.empty ran) ≡ ran.directives) }
+{
+    let messages = bad_messages(alloc, &unit.unit.what, &fault, stderr)?;
+    Ok(Ran {
+        started: true,
+        fault: Some(fault),
+        directives: None,
+        messages,
+    })
+}
+
+/// Judges the answer of a unit's child. `dep_info` is what stands in the unit's dep-info file, where it has one.
+/// The one fault is want of memory.
+pub fn judged(
+    alloc: Global,
+    project: &Project,
+    unit: &Planned,
+    command: &Command,
+    ended: &Ended,
+    dep_info: &Option<Bytes>,
+) -> Result<Ran, AllocError>
+    ensures ran { IfOk result (λ ran. ran ≡ ran_by project.now unit.now ended.now.stderr (answered_of project.now unit.now command.now ended.now dep_info.now)) }
+    ensures started { IfOk result (λ ran. ran.started ≡ true) }
+    ensures directives { IfOk result (λ ran. directives_in (outcome_by finite.empty ran) ≡ ran.directives) }
+{
+    match answered(alloc, project, unit, command, ended, dep_info.as_ref()) {
+        Ok(answered) => good(alloc, project, unit, &ended.stderr, answered),
+        Err(UnitFault::OutOfMemory) => Err(AllocError),
+        Err(fault) => bad(alloc, project, unit, &ended.stderr, fault),
+    }
+}
