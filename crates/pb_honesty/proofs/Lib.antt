@@ -1,0 +1,15 @@
+pub mod Agreeing
+pub mod Compiling
+pub mod Declaring
+pub mod Folding
+pub mod Given
+pub mod Grouping
+pub mod Libraries
+pub mod Making
+pub mod Mentioning
+pub mod Named
+pub mod Parsing
+pub mod Reaching
+pub mod Running
+pub mod Saying
+pub mod Setting
