@@ -1,5 +1,5 @@
 -- What a search by halving finds in a list whose keys ascend.
-use Rattle.std.proofs.Common.{◌≡◌, ◌≢◌, inl, inr, ℕ, zero, suc, ◌+◌, ◌<◌, ◌≤◌, Ordering, Less, Equal, Greater, Bool, true, false, not, ◌||◌, cond, List, [], ◌∷◌, All, Option, Some, None, length, map, get_or, refl, sym, ◌∙◌, ap, subst, arith, nat_lt}
+use Rattle.std.proofs.Common.{◌≡◌, inl, inr, ℕ, zero, suc, ◌+◌, ◌<◌, Ordering, Less, Equal, Greater, Bool, true, false, not, ◌||◌, cond, List, [], ◌∷◌, All, Some, None, length, map, get_or, refl, sym, ◌∙◌, ap, subst, arith, nat_lt}
 use Rattle.std.specs.Prelude.{slice_get}
 use Rattle.std.specs.List.{AllByRecursion, HoldsAt, find, list_any, position, position_or_len}
 use Rattle.std.specs.List.Sorted.{IsNonDecreasingBy, IsPartitionPoint, IsSortedBy, IsStrictlySortedBy}

@@ -1,4 +1,4 @@
-use Rattle.std.proofs.Common.{rules, ◌∙◌, ap}
+use Rattle.std.proofs.Common.{◌∙◌, ap}
 use Rattle.std.specs.List.{flat_map}
 use Rattle.pb_data.specs.Mentions.{mentioned_all}
 use Rattle.pb_workspace.specs.Enabling.{named_in}
