@@ -179,9 +179,44 @@ fn measure(rt: &HostRuntime, count: usize) -> Result<(), Fail> {
     Ok(())
 }
 
+/// A package with a library and so many binaries.
+fn put_binaries(alloc: Global, memory: &mut Memory<Silent>, count: usize) -> Result<(), Fail> {
+    let mut out = String::from_str(alloc, "package.name = \"r\"\n")?;
+    for number in 0..count {
+        let line = format!(in alloc; "[[bin]]\nname = \"b{number}\"\npath = \"b.rs\"\n")?;
+        out.push_str(line.as_str())?;
+    }
+    put(alloc, memory, "/w/Cargo.toml", out.as_str())?;
+    put(alloc, memory, "/w/src/lib.rs", "")
+}
+
+/// Times the commands of all units of a package with so many binaries.
+fn measure_binaries(rt: &HostRuntime, count: usize) -> Result<(), Fail> {
+    let alloc = rt.alloc();
+    let mut memory = Memory::new(alloc, Silent);
+    put_binaries(alloc, &mut memory, count)?;
+    let options = options_of(alloc, "")?;
+    let Some(project) = project_of(alloc, &mut memory, options)? else {
+        return Ok(());
+    };
+    let setup = setup(alloc)?;
+    let mut words = 0usize;
+    let start = Instant::now(rt)?;
+    for unit in project.plan.units() {
+        let made = command(alloc, &setup, &project, unit, &[])?;
+        words = words.saturating_add(made.words.len());
+    }
+    let spent = start.elapsed(rt)?.as_micros();
+    println!(rt; "binaries {count} words {words} microseconds {spent}")?;
+    Ok(())
+}
+
 fn main(rt: HostRuntime) -> Result<(), Fail> {
     for count in [60usize, 120, 240] {
         measure(&rt, count)?;
+    }
+    for count in [1_000usize, 2_000, 4_000] {
+        measure_binaries(&rt, count)?;
     }
     Ok(())
 }

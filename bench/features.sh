@@ -3,6 +3,7 @@
 #
 #   packages     so many packages, each of which depends on the next in three entries, with 100 features of every form
 #   features     two packages, the first of them with so many features of every form
+#   entries      two packages, the first of them with so many optional entries, each with a feature that lists it
 #
 # Prints a line a size with how many features are on, and the exponents. What is measured and how is said in
 # `measured.sh`.
@@ -99,10 +100,28 @@ fn put_chain(rt: &HostRuntime, memory: &mut Memory<Silent>, count: usize, featur
     put(rt, memory, "/w/Cargo.toml", root.as_str())
 }
 
+/// Puts a package with so many optional entries, all of which lead to one package, and for each a feature that lists it.
+fn put_entries(rt: &HostRuntime, memory: &mut Memory<Silent>, count: usize) -> Result<()> {
+    let alloc = rt.alloc();
+    let mut entries = String::from_str(alloc, "package.name = \"p0\"\n[dependencies]\n")?;
+    let mut features = String::from_str(alloc, "[features]\n")?;
+    for number in 0..count {
+        entries.push_str(format!(in alloc; "e{number} = {{ path = \"m1\", package = \"p1\", optional = true }}\n")?.as_str())?;
+        features.push_str(format!(in alloc; "f{number} = [\"dep:e{number}\", \"e{number}?/f0\"]\n")?.as_str())?;
+    }
+    entries.push_str(features.as_str())?;
+    let last = last_manifest(rt, 1, 1)?;
+    put(rt, memory, "/w/m1/Cargo.toml", last.as_str())?;
+    put(rt, memory, "/w/Cargo.toml", entries.as_str())
+}
+
 /// Puts the files of a shape.
 fn put_shape(rt: &HostRuntime, memory: &mut Memory<Silent>, shape: &str, count: usize) -> Result<()> {
     if shape == "features" {
         return put_chain(rt, memory, 2, count);
+    }
+    if shape == "entries" {
+        return put_entries(rt, memory, count);
     }
     put_chain(rt, memory, count.max(2), 100)
 }
@@ -179,3 +198,4 @@ fn main(rt: HostRuntime) -> Result<()> {
 PROGRAM
 measured packages 64 128 256
 measured features 2500 5000 10000
+measured entries 2000 4000 8000

@@ -5,6 +5,7 @@
 #   read         the same manifests, read one by one by the manifest reader
 #   files        256 members, and so many files beside the sources, which a glob goes over
 #   inherited    one member that takes so many entries from its workspace
+#   optional     one package with so many optional entries, each with a feature that lists it
 #
 # Prints a line a size, and the exponents. What is measured and how is said in `measured.sh`.
 set -euo pipefail
@@ -100,10 +101,27 @@ fn put_inherited(rt: &HostRuntime, memory: &mut Memory<Silent>, count: usize) ->
     put(rt, memory, "/w/m/Cargo.toml", member.as_str())
 }
 
+/// Puts a package with so many optional entries, all of which lead to one package, and for each a feature that lists it.
+fn put_optional(rt: &HostRuntime, memory: &mut Memory<Silent>, count: usize) -> Result<()> {
+    let alloc = rt.alloc();
+    let mut entries = String::from_str(alloc, "package.name = \"r\"\n[dependencies]\n")?;
+    let mut features = String::from_str(alloc, "[features]\n")?;
+    for number in 0..count {
+        entries.push_str(format!(in alloc; "e{number} = {{ path = \"m\", package = \"m\", optional = true }}\n")?.as_str())?;
+        features.push_str(format!(in alloc; "f{number} = [\"dep:e{number}\"]\n")?.as_str())?;
+    }
+    entries.push_str(features.as_str())?;
+    put(rt, memory, "/w/m/Cargo.toml", "package.name = \"m\"\n")?;
+    put(rt, memory, "/w/Cargo.toml", entries.as_str())
+}
+
 /// Puts the files of a shape.
 fn put_shape(rt: &HostRuntime, memory: &mut Memory<Silent>, shape: &str, count: usize) -> Result<()> {
     if shape == "inherited" {
         return put_inherited(rt, memory, count);
+    }
+    if shape == "optional" {
+        return put_optional(rt, memory, count);
     }
     if shape == "files" {
         put_members(rt, memory, 256)?;
@@ -178,3 +196,4 @@ measured read 64 128 256
 measured members 64 128 256
 measured files 10000 20000 40000
 measured inherited 1000 2000 4000
+measured optional 1000 2000 4000

@@ -6,7 +6,9 @@ use pb_data::{Items, Text};
 use pb_manifest::{Edition, Version, read_manifest};
 use pb_place::PathText;
 use pb_profile::{ProfileFault, Settings, folder_of, lines_follow_inherits, values_are_found};
-use pb_workspace::{About, DefaultMembers, Package, Side, Workspace};
+use pb_workspace::{
+    About, BinariesByName, DefaultMembers, EntriesByKey, FeaturesByName, Package, Side, Workspace,
+};
 use std::alloc::Global;
 use std::process::Abort;
 use std::test::Fail;
@@ -44,10 +46,10 @@ fn package_named(alloc: Global, name: &str, is_member: bool) -> Result<Package, 
         about,
         links: None,
         library: None,
-        binaries: Items::new(alloc),
+        binaries: BinariesByName::new(alloc),
         script: None,
-        entries: Items::new(alloc),
-        features: Items::new(alloc),
+        entries: EntriesByKey::new(alloc),
+        features: FeaturesByName::new(alloc),
         development: Items::new(alloc),
     })
 }

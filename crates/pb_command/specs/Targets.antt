@@ -76,7 +76,7 @@ script_source (Some source) = source
 
 -- the binary of this name
 abbrev pub binary_named : List ℕ → List Binary → Option Binary
-binary_named name binaries = find (λ (binary : Binary). bytes_eq binary.name name) binaries
+binary_named name binaries = find (λ (binary : Binary). bytes_eq name binary.name) binaries
 
 -- the path of the source
 abbrev pub source_by : Package → What → List ℕ

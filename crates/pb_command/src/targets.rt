@@ -8,7 +8,7 @@ use pb_data::{Text, TryCopy};
 use pb_manifest::crate_name;
 use pb_place::{PathText, RelativePath};
 use pb_unit::{Planned, What};
-use pb_workspace::{Binary, Package};
+use pb_workspace::Package;
 use std::alloc::{AllocError, Global};
 
 /// The package of a unit.
@@ -55,13 +55,6 @@ pub fn crate_name_of(alloc: Global, project: &Project, unit: &Planned) -> Result
     }
 }
 
-/// The binary of this name.
-fn binary_named<'a>(name: &Text, binaries: &'a [Binary]) -> Option<&'a Binary>
-    ensures { option_map (λ binary. binary.now) result ≡ binary_named name.now binaries.now }
-{
-    binaries.iter().find(|binary| binary.name == *name)
-}
-
 /// The path of the source of a package's library; empty where it has none.
 fn library_source(owner: &Package) -> &str
     ensures { result.now ≡ library_source owner.now.library }
@@ -76,7 +69,7 @@ fn library_source(owner: &Package) -> &str
 fn source_of_binary<'a>(owner: &'a Package, name: &Text) -> &'a str
     ensures { result.now ≡ binary_source (binary_named name.now owner.now.binaries) }
 {
-    match binary_named(name, owner.binaries.as_slice()) {
+    match owner.binaries.named(name) {
         Some(binary) => binary.source.as_str(),
         None => "",
     }

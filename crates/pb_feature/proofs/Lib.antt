@@ -1,4 +1,5 @@
 pub mod Slots
+pub mod Finding
 pub mod Cells
 pub mod Sound
 pub mod Whole

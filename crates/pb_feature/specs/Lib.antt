@@ -2,6 +2,7 @@ pub mod Facts
 pub mod Faults
 pub mod Numbers
 pub mod Rules
+pub mod Found
 pub mod Resolved
 pub mod Marked
 pub mod Answered

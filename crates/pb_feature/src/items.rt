@@ -1,21 +1,23 @@
 //! What is wrong with the items of the packages' features.
 
-ghost use Rattle.std.specs.Prelude.{◌≡◌, ℕ, ◌⊎◌, ◌&&◌, None, OnOk, IfErr};
+ghost use Rattle.std.specs.Prelude.{◌≡◌, ◌&&◌, false};
 ghost use Rattle.std.specs.List.{list_any};
 ghost use Rattle.std.specs.Str.{bytes_eq};
 ghost use Rattle.pb_workspace.specs.Workspace.{has_feature_named};
+ghost use Rattle.pb_feature.specs.Found.{found, is_optional};
 ghost use Rattle.pb_feature.specs.Faults.{absent_fault, entry_fault, optional_fault, item_fault, items_fault, features_fault, package_fault};
 
 use crate::fault::FeatureFault;
+use crate::numbers::slot;
 use pb_data::Text;
-use pb_manifest::{Feature, FeatureItem};
-use pb_workspace::{Entry, Package};
+use pb_manifest::FeatureItem;
+use pb_workspace::{DependencyKind, EntriesByKey, FeaturesByName, Package};
 
 /// Whether a feature has this name.
-pub(crate) fn has_feature_named(features: &[Feature], name: &[u8]) -> bool
+fn has_feature_named(features: &FeaturesByName, name: &[u8]) -> bool
     ensures { result ≡ has_feature_named features.now name.now }
 {
-    features.iter().any(|f| name == f.name.as_bytes())
+    slot(features, name) != 0
 }
 
 /// Whether one of the texts is this one.
@@ -26,19 +28,33 @@ fn has_text(texts: &[Text], name: &[u8]) -> bool
 }
 
 /// Whether an entry has this name.
-fn is_entry(entries: &[Entry], name: &[u8]) -> bool
+fn is_entry(entries: &EntriesByKey, name: &[u8]) -> bool
     ensures { result ≡ list_any (λ e. bytes_eq name.now e.key) entries.now }
 {
-    entries.iter().any(|e| name == e.key.as_bytes())
+    entries.place_of(DependencyKind::Normal, name).is_some()
+        || entries.place_of(DependencyKind::Build, name).is_some()
+}
+
+/// Whether the entry at a place is optional.
+fn is_optional_at(entries: &EntriesByKey, place: Option<usize>) -> bool
+    ensures { result ≡ found is_optional false entries.now place }
+{
+    let Some(place) = place else {
+        return false;
+    };
+    match entries.as_slice().get(place) {
+        Some(entry) => entry.optional,
+        None => false,
+    }
 }
 
 /// Whether an optional entry has this name.
-fn is_optional_entry(entries: &[Entry], name: &[u8]) -> bool
+fn is_optional_entry(entries: &EntriesByKey, name: &[u8]) -> bool
     ensures { result ≡ list_any (λ e. bytes_eq name.now e.key && e.optional) entries.now }
 {
-    entries
-        .iter()
-        .any(|e| name == e.key.as_bytes() && e.optional)
+    let normal = entries.place_of(DependencyKind::Normal, name);
+    let build = entries.place_of(DependencyKind::Build, name);
+    is_optional_at(entries, normal) || is_optional_at(entries, build)
 }
 
 /// The fault of a name that no entry has.
@@ -56,7 +72,7 @@ fn absent_fault(owner: &Package, name: &[u8]) -> Option<FeatureFault>
 fn entry_fault(owner: &Package, name: &[u8]) -> Option<FeatureFault>
     ensures { result ≡ entry_fault owner.now name.now }
 {
-    if is_entry(owner.entries.as_slice(), name) {
+    if is_entry(&owner.entries, name) {
         None
     } else {
         absent_fault(owner, name)
@@ -67,10 +83,10 @@ fn entry_fault(owner: &Package, name: &[u8]) -> Option<FeatureFault>
 fn optional_fault(owner: &Package, name: &[u8]) -> Option<FeatureFault>
     ensures { result ≡ optional_fault owner.now name.now }
 {
-    if !is_entry(owner.entries.as_slice(), name) {
+    if !is_entry(&owner.entries, name) {
         return absent_fault(owner, name);
     }
-    if is_optional_entry(owner.entries.as_slice(), name) {
+    if is_optional_entry(&owner.entries, name) {
         None
     } else {
         Some(FeatureFault::NotOptional)
@@ -83,7 +99,7 @@ fn item_fault(owner: &Package, item: &FeatureItem) -> Option<FeatureFault>
 {
     match item {
         FeatureItem::Own(name) => {
-            if has_feature_named(owner.features.as_slice(), name.as_bytes()) {
+            if has_feature_named(&owner.features, name.as_bytes()) {
                 None
             } else {
                 Some(FeatureFault::NoSuchFeature)

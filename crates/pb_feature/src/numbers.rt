@@ -3,8 +3,7 @@
 ghost use Rattle.std.specs.Prelude.{◌≡◌, ◌+◌, ◌*◌, IfOk, IfSome};
 ghost use Rattle.pb_feature.specs.Numbers.{width_of, bases_from, end_from, side_number, number_from, number_at, slot, slot_at, on, has, enabled};
 
-use pb_manifest::Feature;
-use pb_workspace::{Package, Side};
+use pb_workspace::{FeaturesByName, Package, Side};
 use std::alloc::{AllocError, Global};
 
 /// Where the numbers of each package begin, and how many there are.
@@ -31,8 +30,9 @@ fn width_of(owner: &Package) -> Option<usize>
 {
     owner
         .features
+        .as_slice()
         .len()
-        .checked_add(owner.entries.len())?
+        .checked_add(owner.entries.as_slice().len())?
         .checked_add(2)
 }
 
@@ -86,15 +86,17 @@ fn number_from(base: usize, side: Side, local: usize) -> Option<usize>
 }
 
 /// The place of a feature counted from 1; 0 where there is none of that name.
-pub(crate) fn slot(features: &[Feature], name: &[u8]) -> usize
+pub(crate) fn slot(features: &FeaturesByName, name: &[u8]) -> usize
     ensures { result ≡ slot features.now name.now }
 {
-    for i in 0..features.len() {
-        if name == features[i].name.as_bytes() {
-            return i + 1;
-        }
+    let Some(place) = features.place_of(name) else {
+        return 0;
+    };
+    if place < features.as_slice().len() {
+        place + 1
+    } else {
+        0
     }
-    0
 }
 
 impl Ground<'_> {
@@ -118,7 +120,7 @@ impl Ground<'_> {
         ensures { result ≡ slot_at self.now.packages.now place name.now }
     {
         match self.packages.get(place) {
-            Some(owner) => slot(owner.features.as_slice(), name),
+            Some(owner) => slot(&owner.features, name),
             None => 0,
         }
     }

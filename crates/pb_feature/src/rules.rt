@@ -1,6 +1,8 @@
 //! The rules that the packages of a workspace give, written with numbers.
 
-ghost use Rattle.std.specs.Prelude.{◌≡◌, ℕ, ◌+◌, ◌++◌, [], ◌∷◌, length, IfOk, OnOk, codes};
+ghost use Rattle.std.specs.Prelude.{◌≡◌, ℕ, ◌+◌, ◌++◌, [], ◌∷◌, Some, length, IfOk, OnOk, codes};
+ghost use Rattle.std.specs.Option.{option_copied};
+ghost use Rattle.pb_feature.specs.Found.{entry_named, found};
 ghost use Rattle.pb_workspace.specs.Workspace.{side_of};
 ghost use Rattle.pb_closure.specs.Placed.{placed};
 ghost use Rattle.pb_feature.specs.Numbers.{on, has, enabled, slot, slot_at};
@@ -10,8 +12,8 @@ ghost use Rattle.pb_workspace.specs.declared.package.Side.TheVariants.{Target, H
 use crate::numbers::{Ground, slot};
 use pb_closure::Rule;
 use pb_data::Text;
-use pb_manifest::{Feature, FeatureItem};
-use pb_workspace::{DependencyKind, Entry, Package, Side};
+use pb_manifest::FeatureItem;
+use pb_workspace::{DependencyKind, Entry, FeaturesByName, Package, Side};
 use std::alloc::{AllocError, Global};
 
 /// The side on which an entry's package is made.
@@ -134,7 +136,7 @@ fn add_own(
     ground: &Ground<'_>,
     side: Side,
     place: usize,
-    features: &[Feature],
+    features: &FeaturesByName,
     feature: usize,
     item: &FeatureItem,
 ) -> Result<(), AllocError>
@@ -176,7 +178,7 @@ fn add_item(
     ground: &Ground<'_>,
     side: Side,
     place: usize,
-    features: &[Feature],
+    features: &FeaturesByName,
     feature: usize,
     item: &FeatureItem,
     index: usize,
@@ -191,7 +193,7 @@ fn add_item(
                 return Ok(());
             }
             let has = ground.has(place, side, feature)?;
-            let enabled = ground.enabled(place, side, features.len(), index)?;
+            let enabled = ground.enabled(place, side, features.as_slice().len(), index)?;
             add_alone(rules, has, enabled)
         }
         FeatureItem::Of {
@@ -202,7 +204,7 @@ fn add_item(
                 return Ok(());
             }
             let has = ground.has(place, side, feature)?;
-            let enabled = ground.enabled(place, side, features.len(), index)?;
+            let enabled = ground.enabled(place, side, features.as_slice().len(), index)?;
             let own = slot(features, dependency.as_bytes());
             add_of(
                 rules,
@@ -224,7 +226,7 @@ fn add_item(
                 return Ok(());
             }
             let first = ground.has(place, side, feature)?;
-            let second = ground.enabled(place, side, features.len(), index)?;
+            let second = ground.enabled(place, side, features.as_slice().len(), index)?;
             let gives = ground.given(entry.to, side_made(entry.kind, side), asked.as_bytes())?;
             rules.push(Rule {
                 first,
@@ -234,6 +236,71 @@ fn add_item(
             Ok(())
         }
     }
+}
+
+/// The name of the entries that an item names, where it names entries.
+fn entry_named(item: &FeatureItem) -> Option<&Text>
+    ensures { option_copied result ≡ entry_named item.now }
+{
+    match item {
+        FeatureItem::Own(_) => None,
+        FeatureItem::Dependency(name) => Some(name),
+        FeatureItem::Of {
+            dependency,
+            feature: _,
+        } => Some(dependency),
+        FeatureItem::OfEnabled {
+            dependency,
+            feature: _,
+        } => Some(dependency),
+    }
+}
+
+/// The rules of an item at the entry of a place, where one was found.
+fn add_found(
+    rules: &mut Vec<Rule>,
+    ground: &Ground<'_>,
+    side: Side,
+    place: usize,
+    owner: &Package,
+    feature: usize,
+    item: &FeatureItem,
+    index: Option<usize>,
+) -> Result<(), AllocError>
+    ensures { OnOk result (rules.new.items ≡ rules.old.items ++ found (item_rules ground.now.packages.now ground.now.bases.now side place owner.now.features feature item.now) [] owner.now.entries index) }
+{
+    let Some(index) = index else {
+        return Ok(());
+    };
+    let features = &owner.features;
+    match owner.entries.as_slice().get(index) {
+        Some(entry) => add_item(
+            rules, ground, side, place, features, feature, item, index, entry,
+        ),
+        None => Ok(()),
+    }
+}
+
+/// The rules of an item at the entries of its name: one in each table at most.
+fn add_named(
+    rules: &mut Vec<Rule>,
+    ground: &Ground<'_>,
+    side: Side,
+    place: usize,
+    owner: &Package,
+    feature: usize,
+    item: &FeatureItem,
+    name: &Text,
+) -> Result<(), AllocError>
+    requires { entry_named item.now ≡ Some name.now }
+    ensures { OnOk result (rules.new.items ≡ rules.old.items ++ placed (item_rules ground.now.packages.now ground.now.bases.now side place owner.now.features feature item.now) 0 owner.now.entries) }
+{
+    let name = name.as_bytes();
+    let normal = owner.entries.place_of(DependencyKind::Normal, name);
+    add_found(rules, ground, side, place, owner, feature, item, normal)?;
+    let build = owner.entries.place_of(DependencyKind::Build, name);
+    add_found(rules, ground, side, place, owner, feature, item, build)?;
+    Ok(())
 }
 
 /// The rules of an item.
@@ -248,23 +315,14 @@ fn add_one_item(
 ) -> Result<(), AllocError>
     ensures { OnOk result (rules.new.items ≡ rules.old.items ++ one_item_rules ground.now.packages.now ground.now.bases.now side place owner.now feature 0 item.now) }
 {
-    let features = owner.features.as_slice();
-    add_own(rules, ground, side, place, features, feature, item)?;
-    let entries = owner.entries.as_slice();
-    for index in 0..entries.len() {
-        add_item(
-            rules,
-            ground,
-            side,
-            place,
-            features,
-            feature,
-            item,
-            index,
-            &entries[index],
-        )?;
+    add_own(rules, ground, side, place, &owner.features, feature, item)?;
+    match entry_named(item) {
+        Some(name) => {
+            add_named(rules, ground, side, place, owner, feature, item, name)?;
+            Ok(())
+        }
+        None => Ok(()),
     }
-    Ok(())
 }
 
 /// The rules of the items of a feature.

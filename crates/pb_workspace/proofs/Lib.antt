@@ -1,3 +1,6 @@
+pub mod EnabledNames
+pub mod Halving
+pub mod WantedOrder
 pub mod RowLemmas
 pub mod Resolving
 pub mod SourceLemmas

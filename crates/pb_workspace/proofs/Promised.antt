@@ -1,17 +1,19 @@
 -- What a manifest that was read promises.
-use Rattle.std.proofs.Common.{◌≡◌, List, [], ◌∷◌, ℕ, Ok, true, All, Option, Some, None, IfSome}
+use Rattle.std.proofs.Common.{◌≡◌, List, [], ◌∷◌, ℕ, Ok, true, All, Option, Some, None, IfSome, map}
 use Rattle.std.specs.List.{AllByRecursion}
 use Rattle.std.proofs.lemmas.List.Elements.{All-from_recursion}
 use Rattle.pb_manifest.specs.Document.{manifest_of}
 use Rattle.pb_manifest.specs.Letters.{is_name}
-use Rattle.pb_manifest.specs.Promises.{IsManifest, IsBinary, IsDependency, IsFeature, IsLibrary, IsPackage}
+use Rattle.pb_manifest.specs.Promises.{IsManifest, IsBinary, IsDependency, IsFeature, IsLibrary, IsPackage, IsWorkspaceTable}
 use Rattle.pb_manifest.specs.declared.manifest.Manifest.{Manifest}
+use Rattle.pb_manifest.specs.declared.manifest.WorkspaceTable.{WorkspaceTable}
 use Rattle.pb_manifest.specs.declared.dependency.Dependency.{Dependency}
 use Rattle.pb_manifest.specs.declared.feature.Feature.{Feature}
 use Rattle.pb_manifest.specs.declared.package.Package.{Package}
 use Rattle.pb_manifest.specs.declared.target.Binary.{Binary}
 use Rattle.pb_manifest.specs.declared.target.Library.{Library}
-use Rattle.pb_workspace.specs.Drafted.{IsKeyed, IsWrittenFeature, IsWrittenLibrary}
+use Rattle.pb_workspace.specs.Drafted.{HasSharedInOrder, IsKeyed, IsWrittenFeature, IsWrittenLibrary}
+use Rattle.pb_workspace.specs.Settled.{IsAscending}
 use Rattle.pb_manifest.proofs.Manifests.{manifest_is}
 
 pub is_promised : (bytes : List ℕ) (m : Manifest) → manifest_of bytes ≡ Ok m → IsManifest m
@@ -55,4 +57,17 @@ features_promised m is = features_written m.features is.features.each
 pub name_promised : (m : Manifest) → IsManifest m → IfSome m.package (λ p. is_name p.name ≡ true)
 name_promised m is = found_if m.package is.found
 
-pub ruleset binary_laws = (binaries_named, library_promised, dependencies_promised, build_dependencies_promised, features_promised, name_promised)
+pub dependencies_ascend : (m : Manifest) → IsManifest m → IsAscending (map (λ (d : Dependency). d.key) m.dependencies)
+dependencies_ascend m is = is.dependencies.order
+
+pub build_dependencies_ascend : (m : Manifest) → IsManifest m → IsAscending (map (λ (d : Dependency). d.key) m.build_dependencies)
+build_dependencies_ascend m is = is.build_dependencies.order
+
+shared_if : (w : Option WorkspaceTable) → IfSome w IsWorkspaceTable → IfSome w HasSharedInOrder
+shared_if None is = tt
+shared_if (Some w) is = is.dependencies.order
+
+pub shared_promised : (m : Manifest) → IsManifest m → IfSome m.workspace HasSharedInOrder
+shared_promised m is = shared_if m.workspace is.workspace
+
+pub ruleset binary_laws = (binaries_named, library_promised, dependencies_promised, build_dependencies_promised, features_promised, name_promised, dependencies_ascend, build_dependencies_ascend, shared_promised)

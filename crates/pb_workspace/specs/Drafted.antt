@@ -3,7 +3,9 @@ use Rattle.std.specs.Prelude.{◌≡◌, ℕ, ◌≤◌, ◌||◌, true, List, m
 use Rattle.std.specs.List.{AllByRecursion}
 use Rattle.pb_manifest.specs.Letters.{is_name, is_crate_name, is_feature_name}
 use Rattle.pb_manifest.specs.declared.dependency.Dependency.{Dependency}
+use Rattle.pb_manifest.specs.declared.dependency.WorkspaceDependency.{WorkspaceDependency}
 use Rattle.pb_manifest.specs.declared.feature.Feature.{Feature}
+use Rattle.pb_manifest.specs.declared.manifest.WorkspaceTable.{WorkspaceTable}
 use Rattle.pb_manifest.specs.declared.target.Library.{Library as WrittenLibrary}
 use Rattle.pb_workspace.specs.declared.draft.Draft.{Draft}
 use Rattle.pb_workspace.specs.declared.draft.Tables.{Tables}
@@ -44,7 +46,13 @@ pub record AreFeatures (fs : List Feature) : Type 0 where
 
 -- what a manifest promises of its tables
 abbrev pub ArePromised : Tables → Type 0
-ArePromised t = IfSome t.library IsWrittenLibrary × AllByRecursion IsKeyed t.dependencies × AllByRecursion IsKeyed t.build_dependencies × AllByRecursion IsWrittenFeature t.features
+ArePromised t =
+    IfSome t.library IsWrittenLibrary × AllByRecursion IsKeyed t.dependencies × AllByRecursion IsKeyed t.build_dependencies × AllByRecursion IsWrittenFeature t.features
+    × IsAscending (map (λ (d : Dependency). d.key) t.dependencies) × IsAscending (map (λ (d : Dependency). d.key) t.build_dependencies)
+
+-- the entries of `[workspace.dependencies]`, in byte order of their keys
+abbrev pub HasSharedInOrder : WorkspaceTable → Type 0
+HasSharedInOrder w = IsAscending (map (λ (d : WorkspaceDependency). d.key) w.dependencies)
 
 abbrev pub AreTargets : Targets → Type 0
 AreTargets t = IfSome t.library IsLibraryNamed × AreBinaries t.binaries

@@ -10,6 +10,7 @@ pub mod Sources
 pub mod Wanted
 pub mod Sorted
 pub mod Features
+pub mod Enabling
 pub mod Members
 pub mod Binaries
 pub mod FoundBinaries
@@ -17,6 +18,7 @@ pub mod Settling
 pub mod Keys
 pub mod Drafts
 pub mod ByFolder
+pub mod ByKey
 pub mod Frames
 pub mod MemberFolders
 pub mod Rounds

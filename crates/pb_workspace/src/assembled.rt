@@ -10,6 +10,7 @@ ghost use Rattle.pb_workspace.specs.Places.{places_of};
 ghost use Rattle.pb_workspace.specs.Selected.{places_where};
 
 use crate::by_folder::ByFolder;
+use crate::by_key::{EntriesByKey, WantedByKey};
 use crate::draft::Draft;
 use crate::frame::Frame;
 use crate::glob::is_glob;
@@ -63,11 +64,24 @@ fn entries_of(
     Ok(entries)
 }
 
+/// The entries of a package with the places of their packages, in the order in which they are written.
+fn entries_in_order(
+    alloc: Global,
+    places: &ByFolder<usize>,
+    wanted: WantedByKey,
+) -> Result<EntriesByKey, AllocError>
+    ensures { IfOk result (λ entries. entries ≡ map (entry_at places.now) wanted) }
+{
+    let wanted = wanted.into_items();
+    let entries = entries_of(alloc, places, wanted)?;
+    Ok(EntriesByKey::from_items(entries))
+}
+
 /// A package with the places to which its entries lead.
 fn package_at(alloc: Global, places: &ByFolder<usize>, draft: Draft) -> Result<Package, AllocError>
     ensures { IfOk result (λ made. made ≡ package_at places.now draft) }
 {
-    let entries = entries_of(alloc, places, draft.wanted)?;
+    let entries = entries_in_order(alloc, places, draft.wanted)?;
     Ok(Package {
         name: draft.name,
         version: draft.version,

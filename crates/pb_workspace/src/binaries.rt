@@ -9,6 +9,7 @@ ghost use Rattle.pb_workspace.specs.Causes.{is_outside, Reads};
 ghost use Rattle.std.specs.List.{AllByRecursion};
 ghost use Rattle.pb_workspace.specs.Drafted.{IsBinaryNamed, AreBinaries};
 
+use crate::by_name::BinariesByName;
 use crate::fault::LoadFault;
 use crate::found::own_source;
 use crate::package::Binary;
@@ -230,7 +231,7 @@ pub fn binaries_of(
     alloc: Global,
     found: Items<Binary>,
     written: Items<Binary>,
-) -> Result<Items<Binary>, AllocError>
+) -> Result<BinariesByName, AllocError>
     requires found { AllByRecursion IsBinaryNamed found }
     requires written { AllByRecursion IsBinaryNamed written }
     ensures binaries { IfOk result (λ binaries. binaries ≡ binaries_of found written) }
@@ -241,5 +242,5 @@ pub fn binaries_of(
     put_binaries(alloc, &mut entries, written)?;
     let items = entries.into_items(alloc)?;
     let made = values_of(alloc, items)?;
-    Ok(made)
+    Ok(BinariesByName::from_items(made))
 }

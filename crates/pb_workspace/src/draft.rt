@@ -1,6 +1,6 @@
 //! A package as one whole, whose entries' packages are not looked for yet.
 
-ghost use Rattle.std.specs.Prelude.{◌≡◌, All, IfErr, IsTrue, false, true, IfOk};
+ghost use Rattle.std.specs.Prelude.{◌≡◌, All, IfErr, IsTrue, false, true, IfOk, map};
 ghost use Rattle.pb_data.specs.Gives.{Gives};
 ghost use Rattle.pb_place.specs.World.{from_nothing};
 ghost use Rattle.pb_manifest.specs.Letters.{is_name};
@@ -9,13 +9,16 @@ ghost use Rattle.pb_workspace.specs.Drafts.{lists_of, draft_from, draft_with, dr
 ghost use Rattle.pb_workspace.specs.declared.fault.LoadFault.TheVariants as load_fault;
 ghost use Rattle.std.specs.List.{AllByRecursion};
 ghost use Rattle.pb_workspace.specs.Drafted.{AreFeatures, ArePromised, IsDraft, IsKeyed, IsWrittenFeature};
+ghost use Rattle.pb_workspace.specs.Settled.{IsAscending};
 
+use crate::by_key::WantedByKey;
+use crate::by_name::{BinariesByName, FeaturesByName};
 use crate::fault::LoadFault;
 use crate::features::features_of;
 use crate::keys::{Keys, keys_of};
-use crate::package::{About, Binary, Library};
+use crate::package::{About, Library};
 use crate::settling::{Given, Targets, has_same_binaries, targets_of, wanted_in};
-use crate::wanted::{Standing, Wanted};
+use crate::wanted::Standing;
 use pb_data::{Items, Text};
 use pb_manifest::{Dependency, Edition, Feature, Package, Version};
 use pb_place::{PathText, Place};
@@ -60,13 +63,13 @@ pub struct Draft {
     /// Its library, where it has one.
     pub library: Option<Library>,
     /// Its binaries, in byte order of their names.
-    pub binaries: Items<Binary>,
+    pub binaries: BinariesByName,
     /// The source of its build script, where it has one.
     pub script: Option<PathText>,
     /// What its entries ask for.
-    pub wanted: Items<Wanted>,
+    pub wanted: WantedByKey,
     /// Its features, with those that its optional entries make.
-    pub features: Items<Feature>,
+    pub features: FeaturesByName,
     /// The keys of `[dev-dependencies]`.
     pub development: Items<Text>,
     /// Whether two of its `[[bin]]` have one name.
@@ -77,9 +80,9 @@ pub struct Draft {
 #[derive(Drop)]
 pub struct Lists {
     /// What its entries ask for.
-    pub wanted: Items<Wanted>,
+    pub wanted: WantedByKey,
     /// Its features, with those that its optional entries make.
-    pub features: Items<Feature>,
+    pub features: FeaturesByName,
     /// Whether two of its `[[bin]]` have one name.
     pub has_same_binaries: bool,
 }
@@ -97,6 +100,8 @@ fn lists_of(
     requires features { AllByRecursion IsWrittenFeature features }
     requires normal { AllByRecursion IsKeyed dependencies.now }
     requires build { AllByRecursion IsKeyed build.now }
+    requires normal_order { IsAscending (map (λ d. d.key) dependencies.now) }
+    requires build_order { IsAscending (map (λ d. d.key) build.now) }
     ensures told { Gives load_fault.OutOfMemory (λ lists. lists) result (lists_of at.now given.now dependencies.now build.now features binaries.now) }
     ensures kept { IfOk result (λ lists. AreFeatures lists.features) }
     ensures here { IfErr result (λ e. is_failure e ≡ false) }

@@ -1,53 +1,76 @@
 //! The features of a package, with those that its optional dependencies make.
 
-ghost use Rattle.std.specs.Prelude.{◌≡◌, ◌∷◌, [], IfOk, OnOk, map};
-ghost use Rattle.std.specs.List.{AllByRecursion, list_any};
+ghost use Rattle.std.specs.Prelude.{◌≡◌, ◌∷◌, [], ◌&&◌, List, not, IfOk, OnOk, map};
+ghost use Rattle.std.specs.List.{AllByRecursion, flat_map};
+ghost use Rattle.pb_data.specs.Mentions.{is_mentioned, mentioned_all};
+ghost use Rattle.pb_manifest.specs.declared.feature.Feature.{Feature};
 ghost use Rattle.pb_manifest.specs.declared.feature.FeatureItem.TheVariants as item;
 ghost use Rattle.pb_workspace.specs.Sorted.{placed};
-ghost use Rattle.pb_workspace.specs.Features.{enables, is_enabled_by_name, makes_feature, with_made, with_written, feature_of, features_of};
+ghost use Rattle.pb_workspace.specs.Features.{with_made, with_written, feature_of, features_of};
+ghost use Rattle.pb_workspace.specs.Enabling.{named_by, named_in, AreEnabledNames, with_one};
 ghost use Rattle.pb_workspace.specs.Drafted.{AreFeatures, IsKeyed, IsWrittenFeature};
 
+use crate::by_name::FeaturesByName;
 use crate::sorted::Sorted;
-use pb_data::{Items, Text, TryCopy};
+use pb_data::{Items, Mentions, Text, TryCopy};
 use pb_manifest::{Dependency, Feature, FeatureItem};
 use std::alloc::{AllocError, Global};
 
-/// Whether an item is `dep:N`.
-fn enables(name: &Text, item: &FeatureItem) -> bool
-    ensures { result ≡ enables name.now item.now }
+/// Mentions the name N of an item `dep:N`.
+fn mention_named(alloc: Global, names: &mut Mentions, item: &FeatureItem) -> Result<(), AllocError>
+    ensures { OnOk result (names.new ≡ mentioned_all names.old (named_by item.now)) }
 {
     match item {
-        FeatureItem::Dependency(dependency) => *name == *dependency,
-        _ => false,
+        FeatureItem::Dependency(name) => {
+            names.insert(name.copy(alloc)?)?;
+            Ok(())
+        }
+        _ => Ok(()),
     }
 }
 
-/// Whether one of some items is `dep:N`.
-fn lists(name: &Text, items: &[FeatureItem]) -> bool
-    ensures { result ≡ list_any (enables name.now) items.now }
+/// Mentions the names N of the items `dep:N`.
+fn mention_items(
+    alloc: Global,
+    names: &mut Mentions,
+    items: &[FeatureItem],
+) -> Result<(), AllocError>
+    ensures { OnOk result (names.new ≡ mentioned_all names.old (flat_map named_by items.now)) }
 {
-    items.iter().any(|item| enables(name, item))
+    for item in items {
+        mention_named(alloc, names, item)?;
+    }
+    Ok(())
 }
 
-/// Whether a feature lists `dep:N`.
-fn feature_lists(name: &Text, feature: &Feature) -> bool
-    ensures { result ≡ list_any (enables name.now) feature.now.items }
+/// Mentions the names N of the items `dep:N` of features.
+fn mention_features(
+    alloc: Global,
+    names: &mut Mentions,
+    features: &[Feature],
+) -> Result<(), AllocError>
+    ensures { OnOk result (names.new ≡ mentioned_all names.old (flat_map named_in features.now)) }
 {
-    lists(name, feature.items.as_slice())
+    for feature in features {
+        mention_items(alloc, names, feature.items.as_slice())?;
+    }
+    Ok(())
 }
 
-/// Whether some feature lists `dep:N`.
-fn is_enabled_by_name(name: &Text, features: &[Feature]) -> bool
-    ensures { result ≡ is_enabled_by_name name.now features.now }
+/// The names N of which some feature lists `dep:N`.
+fn enabled_names(alloc: Global, features: &[Feature]) -> Result<Mentions, AllocError>
+    ensures { IfOk result (λ names. AreEnabledNames names features.now) }
 {
-    features.iter().any(|feature| feature_lists(name, feature))
+    let mut names = Mentions::new(alloc);
+    mention_features(alloc, &mut names, features)?;
+    Ok(names)
 }
 
-/// Whether an entry makes a feature of its name.
-fn makes_feature(written: &[Feature], entry: &Dependency) -> bool
-    ensures { result ≡ makes_feature written.now entry.now }
+/// Whether an entry makes a feature of its name, where some features list `dep:N` for these names.
+fn makes_feature(names: &Mentions, entry: &Dependency) -> bool
+    ensures { result ≡ (entry.now.optional && not (is_mentioned names.now entry.now.key)) }
 {
-    entry.optional && !is_enabled_by_name(&entry.key, written)
+    entry.optional && !names.contains(&entry.key)
 }
 
 /// Puts the feature that an entry makes.
@@ -64,19 +87,32 @@ fn put_made(
     Ok(())
 }
 
-/// Puts the features that entries make.
+/// Puts the feature that an entry makes, where it makes one.
+fn add_one_made(
+    alloc: Global,
+    names: &Mentions,
+    made: &mut Sorted<Items<FeatureItem>>,
+    entry: &Dependency,
+) -> Result<(), AllocError>
+    ensures { OnOk result (made.new ≡ with_one names.now made.old entry.now) }
+{
+    if makes_feature(names, entry) {
+        put_made(alloc, made, &entry.key)?;
+    }
+    Ok(())
+}
+
+/// Puts the features that entries make, where some features list `dep:N` for these names.
 fn add_made(
     alloc: Global,
-    written: &[Feature],
+    names: &Mentions,
     made: &mut Sorted<Items<FeatureItem>>,
     entries: &[Dependency],
 ) -> Result<(), AllocError>
-    ensures { OnOk result (made.new ≡ with_made written.now made.old entries.now) }
+    ensures { OnOk result ((written : List Feature) → AreEnabledNames names.now written → made.new ≡ with_made written made.old entries.now) }
 {
     for entry in entries {
-        if makes_feature(written, entry) {
-            put_made(alloc, made, &entry.key)?;
-        }
+        add_one_made(alloc, names, made, entry)?;
     }
     Ok(())
 }
@@ -117,18 +153,19 @@ pub fn features_of(
     written: Items<Feature>,
     dependencies: &[Dependency],
     build: &[Dependency],
-) -> Result<Items<Feature>, AllocError>
+) -> Result<FeaturesByName, AllocError>
     requires features { AllByRecursion IsWrittenFeature written }
     requires normal { AllByRecursion IsKeyed dependencies.now }
     requires build { AllByRecursion IsKeyed build.now }
     ensures features { IfOk result (λ features. features ≡ features_of written dependencies.now build.now) }
     ensures kept { IfOk result AreFeatures }
 {
+    let names = enabled_names(alloc, written.as_slice())?;
     let mut made = Sorted::new(alloc);
-    add_made(alloc, written.as_slice(), &mut made, dependencies)?;
-    add_made(alloc, written.as_slice(), &mut made, build)?;
+    add_made(alloc, &names, &mut made, dependencies)?;
+    add_made(alloc, &names, &mut made, build)?;
     add_written(&mut made, written)?;
     let items = made.into_items(alloc)?;
     let features = listed(alloc, items)?;
-    Ok(features)
+    Ok(FeaturesByName::from_items(features))
 }

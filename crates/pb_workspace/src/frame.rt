@@ -1,9 +1,11 @@
 //! What a root manifest says of its workspace.
 
-ghost use Rattle.std.specs.Prelude.{◌≡◌, IfOk};
+ghost use Rattle.std.specs.Prelude.{◌≡◌, IfOk, IfSome};
+ghost use Rattle.pb_workspace.specs.Drafted.{HasSharedInOrder};
 ghost use Rattle.pb_workspace.specs.Frames.{no_keys, nothing, keys_or_none, frame_of, is_member};
 
 use crate::by_folder::ByFolder;
+use crate::by_name::SharedByKey;
 use crate::member::is_excluded;
 use crate::settling::Given;
 use pb_data::Items;
@@ -54,7 +56,7 @@ pub fn nothing(alloc: Global) -> Given
 {
     Given {
         package: no_keys(),
-        dependencies: Items::new(alloc),
+        dependencies: SharedByKey::new(alloc),
     }
 }
 
@@ -76,6 +78,7 @@ pub fn frame_of(
     manifest: PathText,
     written: Option<WorkspaceTable>,
 ) -> Frame
+    requires { IfSome written HasSharedInOrder }
     ensures { result ≡ frame_of root manifest written }
 {
     match written {
@@ -97,7 +100,7 @@ pub fn frame_of(
             default_members: table.default_members,
             given: Given {
                 package: keys_or_none(table.package),
-                dependencies: table.dependencies,
+                dependencies: SharedByKey::from_items(table.dependencies),
             },
         },
     }

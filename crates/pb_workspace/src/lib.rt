@@ -7,6 +7,8 @@ pub mod assembled;
 pub mod between;
 pub mod binaries;
 pub mod by_folder;
+pub mod by_key;
+pub mod by_name;
 pub mod checks;
 pub mod draft;
 pub mod fault;
@@ -32,6 +34,8 @@ pub mod taken;
 pub mod wanted;
 pub mod workspace;
 
+pub use by_key::EntriesByKey;
+pub use by_name::{BinariesByName, FeaturesByName};
 pub use fault::LoadFault;
 pub use laws::{globs_stand_for_names, packages_are_the_least_set, rounds_are_enough};
 pub use loading::load;

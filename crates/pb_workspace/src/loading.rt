@@ -10,7 +10,7 @@ ghost use Rattle.pb_workspace.specs.declared.fault.LoadFault.TheVariants as load
 ghost use Rattle.pb_workspace.specs.Causes.{is_failure, Told, Reads};
 ghost use Rattle.pb_workspace.specs.Frames.{frame_of};
 ghost use Rattle.pb_workspace.specs.Loaded.{root_parts, at_root, nothing_read, root_read, others_read, packages_read, workspace_from, workspace_in, workspace_of};
-ghost use Rattle.pb_workspace.specs.Drafted.{ArePromised, IsReading};
+ghost use Rattle.pb_workspace.specs.Drafted.{ArePromised, HasSharedInOrder, IsReading};
 ghost use Rattle.pb_workspace.specs.Settled.{IsSettled};
 
 use crate::assembled::assembled;
@@ -43,6 +43,7 @@ fn root_parts<P: Place>(
     ensures promised { IfOk result (λ parts. ArePromised parts.tables) }
     ensures named { IfOk result (λ parts. IfSome parts.found (λ p. is_name p.name ≡ true)) }
     ensures names { IfOk result (λ parts. All (λ b. is_name b.name ≡ true) parts.tables.binaries) }
+    ensures shared { IfOk result (λ parts. IfSome parts.workspace HasSharedInOrder) }
     ensures same { IsTrue P.tells → P.world place.new ≡ P.world place.old }
     ensures reads { Reads result (P.counts place.old) (P.counts place.new) }
 {
@@ -177,6 +178,7 @@ fn framed(
     manifest: &PathText,
     written: Option<WorkspaceTable>,
 ) -> Result<Frame, AllocError>
+    requires { IfSome written HasSharedInOrder }
     ensures { IfOk result (λ frame. frame ≡ frame_of (folder_of manifest.now) manifest.now written) }
 {
     let root = manifest.folder(alloc)?;

@@ -1,7 +1,9 @@
 //! A package, with nothing left to inherit and nothing left to look for.
 
+use crate::by_key::EntriesByKey;
+use crate::by_name::{BinariesByName, FeaturesByName};
 use pb_data::{Items, Text};
-use pb_manifest::{CrateType, Edition, Feature, Version};
+use pb_manifest::{CrateType, Edition, Version};
 use pb_place::PathText;
 
 /// The side that a part of a build is made for: build scripts and what they depend on are made for the
@@ -111,16 +113,16 @@ pub struct Package {
     /// Its library, where it has one.
     pub library: Option<Library>,
     /// Its binaries, in byte order of their names, no two of one name.
-    pub binaries: Items<Binary>,
+    pub binaries: BinariesByName,
     /// The source of its build script, where it has one.
     pub script: Option<PathText>,
     /// The entries of `[dependencies]` and then those of `[build-dependencies]`, each in byte order of
     /// their keys.
-    pub entries: Items<Entry>,
+    pub entries: EntriesByKey,
     /// Its features in byte order of their names, no two of one name. An optional dependency N gives a
     /// feature N with the one item `dep:N`, unless a feature N or some item `dep:N` is written
     /// (The Cargo Book, Features); so a feature may have a package's letters and begin with `-`.
-    pub features: Items<Feature>,
+    pub features: FeaturesByName,
     /// The keys of `[dev-dependencies]`, in byte order.
     pub development: Items<Text>,
 }

@@ -10,7 +10,7 @@ ghost use Rattle.pb_workspace.specs.Causes.{is_failure, is_outside, Told, Reads}
 ghost use Rattle.pb_workspace.specs.Frames.{given_to};
 ghost use Rattle.pb_workspace.specs.declared.fault.LoadFault.TheVariants as load_fault;
 ghost use Rattle.pb_workspace.specs.Rounds.{read_found, manifest_at, tables_in, parts_in, parts_at, no_package, draft_if, standing_in, draft_in_file, draft_at, leads_to, with_draft, one_read, all_read, round, rounds};
-ghost use Rattle.pb_workspace.specs.Drafted.{ArePromised, IsDraft, IsReading};
+ghost use Rattle.pb_workspace.specs.Drafted.{ArePromised, HasSharedInOrder, IsDraft, IsReading};
 
 use crate::by_folder::{ByFolder, put_folders};
 use crate::draft::{Draft, Tables, draft_of};
@@ -166,6 +166,7 @@ pub fn parts_of(read: Manifest) -> Parts
     ensures promised { ArePromised result.tables }
     ensures named { IfSome result.found (λ p. is_name p.name ≡ true) }
     ensures names { All (λ b. is_name b.name ≡ true) result.tables.binaries }
+    ensures shared { IfSome result.workspace HasSharedInOrder }
 {
     Parts {
         found: read.package,
@@ -193,6 +194,7 @@ pub fn parts_at<P: Place>(
     ensures promised { IfOk result (λ parts. ArePromised parts.tables) }
     ensures named { IfOk result (λ parts. IfSome parts.found (λ p. is_name p.name ≡ true)) }
     ensures names { IfOk result (λ parts. All (λ b. is_name b.name ≡ true) parts.tables.binaries) }
+    ensures shared { IfOk result (λ parts. IfSome parts.workspace HasSharedInOrder) }
     ensures same { IsTrue P.tells → P.world place.new ≡ P.world place.old }
     ensures reads { Reads result (P.counts place.old) (P.counts place.new) }
 {

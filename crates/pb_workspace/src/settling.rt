@@ -9,8 +9,11 @@ ghost use Rattle.pb_workspace.specs.Settling.{readme_found, wanted_in, discovere
 ghost use Rattle.pb_workspace.specs.declared.fault.LoadFault.TheVariants as load_fault;
 ghost use Rattle.std.specs.List.{AllByRecursion};
 ghost use Rattle.pb_workspace.specs.Drafted.{IsBinaryNamed, IsWrittenLibrary, AreTargets};
+ghost use Rattle.pb_workspace.specs.Settled.{IsAscending};
 
 use crate::binaries::{binaries_of, written_binaries};
+use crate::by_key::WantedByKey;
+use crate::by_name::{BinariesByName, SharedByKey};
 use crate::fault::LoadFault;
 use crate::found::{found_readme, library_of, script_of};
 use crate::found_binaries::found_binaries;
@@ -18,7 +21,7 @@ use crate::keys::Keys;
 use crate::package::{Binary, DependencyKind, Library};
 use crate::wanted::{Standing, Wanted, each_wanted};
 use pb_data::{Items, Mentions, Text, TryCopy};
-use pb_manifest::{Dependency, Inheritable, Readme, WorkspaceDependency, WorkspacePackage};
+use pb_manifest::{Dependency, Inheritable, Readme, WorkspacePackage};
 use pb_place::{PathText, Place};
 use std::alloc::{AllocError, Global};
 
@@ -29,7 +32,7 @@ pub struct Given {
     /// `[workspace.package]`.
     pub package: WorkspacePackage,
     /// `[workspace.dependencies]`.
-    pub dependencies: Items<WorkspaceDependency>,
+    pub dependencies: SharedByKey,
 }
 
 /// What a package is built to.
@@ -38,7 +41,7 @@ pub struct Targets {
     /// Its library, where it has one.
     pub library: Option<Library>,
     /// Its binaries, in byte order of their names.
-    pub binaries: Items<Binary>,
+    pub binaries: BinariesByName,
     /// The source of its build script, where it has one.
     pub script: Option<PathText>,
 }
@@ -84,15 +87,17 @@ pub fn wanted_in(
     given: &Given,
     dependencies: &[Dependency],
     build: &[Dependency],
-) -> Result<Items<Wanted>, LoadFault>
+) -> Result<WantedByKey, LoadFault>
+    requires normal { IsAscending (map (λ d. d.key) dependencies.now) }
+    requires build { IsAscending (map (λ d. d.key) build.now) }
     ensures told { Gives load_fault.OutOfMemory (λ wanted. wanted) result (wanted_in at.now given.now dependencies.now build.now) }
     ensures here { IfErr result (λ e. is_failure e ≡ false) }
 {
-    let shared = given.dependencies.as_slice();
+    let shared = &given.dependencies;
     let normal = each_wanted(alloc, at, shared, DependencyKind::Normal, dependencies)?;
     let for_script = each_wanted(alloc, at, shared, DependencyKind::Build, build)?;
     let wanted = joined(normal, for_script)?;
-    Ok(wanted)
+    Ok(WantedByKey::from_items(wanted))
 }
 
 /// The binaries that are found, unless `autobins` is false.

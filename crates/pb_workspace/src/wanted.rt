@@ -1,12 +1,12 @@
 //! What the entries of a package ask for, with what they take from the workspace.
 
 ghost use Rattle.std.specs.Prelude.{◌≡◌, ◌++◌, IfOk, IfErr, OnOk, false, unwrap_or};
-ghost use Rattle.std.specs.Option.{option_copied};
 ghost use Rattle.pb_data.specs.Gives.{Gives};
 ghost use Rattle.pb_workspace.specs.Causes.{is_failure};
-ghost use Rattle.pb_workspace.specs.Wanted.{is_renamed, wanted_at, shared_at, taken_from, wanted_by, wanted_of, each_wanted};
+ghost use Rattle.pb_workspace.specs.Wanted.{is_renamed, wanted_at, taken_from, wanted_by, wanted_of, each_wanted};
 ghost use Rattle.pb_workspace.specs.declared.fault.LoadFault.TheVariants as load_fault;
 
+use crate::by_name::SharedByKey;
 use crate::fault::LoadFault;
 use crate::package::DependencyKind;
 use crate::source::resolved;
@@ -101,13 +101,6 @@ fn wanted_at(
     })
 }
 
-/// The workspace's entry of this key.
-fn shared_at<'a>(key: &Text, given: &'a [WorkspaceDependency]) -> Option<&'a WorkspaceDependency>
-    ensures { option_copied result ≡ shared_at key.now given.now }
-{
-    given.iter().find(|entry| *key == entry.key)
-}
-
 /// Adds copies of some texts.
 fn add_texts(alloc: Global, texts: &[Text], made: &mut Items<Text>) -> Result<(), AllocError>
     ensures { OnOk result (made.new ≡ made.old ++ texts.now) }
@@ -176,7 +169,7 @@ fn taken_from(
 fn wanted_of(
     alloc: Global,
     at: &Standing,
-    given: &[WorkspaceDependency],
+    given: &SharedByKey,
     kind: DependencyKind,
     entry: &Dependency,
 ) -> Result<Wanted, LoadFault>
@@ -198,7 +191,7 @@ fn wanted_of(
             )?;
             Ok(wanted)
         }
-        Source::Workspace { default_features } => match shared_at(&entry.key, given) {
+        Source::Workspace { default_features } => match given.keyed(&entry.key) {
             None => Err(LoadFault::NoInherited),
             Some(shared) => {
                 let wanted = taken_from(alloc, at, kind, entry, *default_features, shared)?;
@@ -212,7 +205,7 @@ fn wanted_of(
 pub fn each_wanted(
     alloc: Global,
     at: &Standing,
-    given: &[WorkspaceDependency],
+    given: &SharedByKey,
     kind: DependencyKind,
     entries: &[Dependency],
 ) -> Result<Items<Wanted>, LoadFault>

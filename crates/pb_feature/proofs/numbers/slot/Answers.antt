@@ -1,14 +1,9 @@
-use Rattle.std.proofs.Common.{arith, sym, ◌∙◌, ap}
-use Rattle.std.specs.Str.{bytes_eq}
-use Rattle.pb_feature.proofs.Slots.{passed_by, found_at}
+use Rattle.std.proofs.Common.{sym}
+use Rattle.pb_feature.proofs.Finding.{slot_none, slot_some}
 use Rattle.pb_feature.proofs.numbers.slot.Goals as goal
 
-pub loop-i-preserved : goal.loop-i-preserved
-loop-i-preserved c =
-    passed_by c.args.features.now c.args.name.now c.loop-i.i c.index-features-i.result c.loop-i.invariant (omega arith)
-    (ap (bytes_eq c.args.name.now) (sym c.as_bytes.ensures) ∙ sym c.eq.ensures ∙ c.if-eq.false)
+pub returns-in_default : goal.returns-in_default
+returns-in_default c = sym (slot_none c.args.features.now c.args.name.now c.in_default.ensures)
 
-pub returns-then-eq : goal.returns-then-eq
-returns-then-eq c =
-    sym (found_at c.args.features.now c.args.name.now c.loop-i.i c.index-features-i.result c.loop-i.invariant (omega arith)
-    (ap (bytes_eq c.args.name.now) (sym c.as_bytes.ensures) ∙ sym c.eq.ensures ∙ c.if-eq.true))
+pub returns-then-place-as_slice : goal.returns-then-place-as_slice
+returns-then-place-as_slice c = sym (slot_some c.args.features.now c.args.name.now c.in-Some.place c.in-Some.ensures).0
