@@ -1,6 +1,6 @@
 //! Whose lines they are: the package and the target of a unit.
 
-ghost use Rattle.std.specs.Prelude.{◌≡◌, IfOk, find, option_copied};
+ghost use Rattle.std.specs.Prelude.{◌≡◌, IfOk, find};
 ghost use Rattle.std.specs.Str.{bytes_eq};
 ghost use Rattle.pb_run.specs.Telling.{library_of, binary_of, script_of, target_of, subject_with, subject_in, subject_of, lines_by, unit_lines};
 
@@ -9,7 +9,7 @@ use pb_data::{Text, TryCopy};
 use pb_message::{Message, Subject, Target, lines_of};
 use pb_place::PathText;
 use pb_unit::{Planned, What};
-use pb_workspace::{Binary, Library, Package};
+use pb_workspace::{Library, Package};
 use std::alloc::{AllocError, Global};
 
 /// The target of a package's library, where it has one.
@@ -35,18 +35,11 @@ fn library_of(
     }
 }
 
-/// The binary of this name.
-fn binary_named<'a>(name: &Text, binaries: &'a [Binary]) -> Option<&'a Binary>
-    ensures { option_copied result ≡ find (λ b. bytes_eq name.now b.name) binaries.now }
-{
-    binaries.iter().find(|binary| *name == binary.name)
-}
-
 /// The target of the binary of this name, where there is one.
 fn binary_of(alloc: Global, name: &Text, owner: &Package) -> Result<Option<Target>, AllocError>
     ensures { IfOk result (λ made. made ≡ binary_of owner.now (find (λ b. bytes_eq name.now b.name) owner.now.binaries)) }
 {
-    match binary_named(name, owner.binaries.as_slice()) {
+    match owner.binaries.named(name) {
         None => Ok(None),
         Some(binary) => {
             let target = Target::binary(
