@@ -1,5 +1,5 @@
 -- Features by their places.
-use Rattle.std.proofs.Common.{◌≡◌, ◌≢◌, Less, ℕ, zero, suc, ◌+◌, ◌<◌, ◌≤◌, Bool, ◌||◌, true, false, List, [], ◌∷◌, Some, length, map, get_or, drop, refl, sym, ◌∙◌, ap, subst, arith, if◌then◌else◌}
+use Rattle.std.proofs.Common.{◌≡◌, ◌≢◌, Less, ℕ, zero, suc, ◌+◌, ◌≤◌, Bool, ◌||◌, true, false, List, [], ◌∷◌, Some, length, map, refl, sym, ◌∙◌, ap, subst, arith, if◌then◌else◌}
 use Rattle.std.specs.Prelude.{slice_get}
 use Rattle.std.specs.List.{AllByRecursion}
 use Rattle.std.specs.List.Sorted.{IsStrictlySortedBy}
@@ -10,7 +10,6 @@ use Rattle.std.proofs.lemmas.Slice.Eq.{bytes_eq-Decides}
 use Rattle.std.proofs.lemmas.Map.Text.{is_eq-slice_cmp}
 use Rattle.pb_workspace.specs.Workspace.{has_feature_named}
 use Rattle.std.specs.Str.{bytes_eq}
-use Rattle.std.proofs.lemmas.List.{drop_more}
 use Rattle.pb_manifest.specs.declared.feature.Feature.{Feature}
 use Rattle.pb_feature.specs.Numbers.{after, slot}
 

@@ -1,4 +1,4 @@
-use Rattle.std.proofs.Common.{◌∙◌, sym, ap, subst}
+use Rattle.std.proofs.Common.{◌∙◌, sym, ap}
 use Rattle.std.proofs.Common.{Some}
 use Rattle.pb_feature.proofs.Finding.{named_added}
 use Rattle.pb_feature.proofs.rules.add_named.Goals as goal

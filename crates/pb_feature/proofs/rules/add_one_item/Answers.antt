@@ -1,5 +1,5 @@
 use Rattle.pb_feature.specs.Rules.{own_rules}
-use Rattle.pb_feature.proofs.Finding.{own_added, both_added}
+use Rattle.pb_feature.proofs.Finding.{own_added}
 use Rattle.pb_feature.proofs.rules.add_one_item.Goals as goal
 
 pub returns-in-None : goal.returns-in-None
