@@ -18,7 +18,9 @@ use Rattle.pb_place.specs.World.{World, Map, Answers, ChangesOnly, from_nothing}
 use Rattle.pb_report.specs.declared.fault.BuildFault.{BuildFault}
 use Rattle.pb_report.specs.declared.fault.BuildFault.TheVariants.{Plan, Toolchain, Child, Device, Sink, OutOfMemory}
 use Rattle.pb_report.specs.declared.summary.Summary.{Summary}
-use Rattle.pb_run.specs.Causes.{HasCause}
+use Rattle.pb_run.specs.Causes.{FailedLast, HasCause}
+use Rattle.pb_place.specs.declared.place.Failure.{Failure}
+use Rattle.pb_place.specs.declared.place.Failure.TheVariants.{Called, Started}
 use Rattle.pb_run.specs.Outcome.{Outcome, Waiting, Good, Bad, is_good, outcomes, outcome_of, outcome_from, outcome_by, directives_in, directives_of}
 use Rattle.pb_run.specs.Standing.{IsInOrder, IsStanding}
 use Rattle.pb_run.specs.Telling.{unit_lines}
@@ -313,9 +315,9 @@ module _ (child : Answers) (setup : Setup) (project : Project) (old now new : Mo
   shifted k n e is = is ∙ ap (λ m. upped m old.counts.starts) (sym e)
 
   -- a call for the unit failed: so many children more were started
-  stopped : (key : List ℕ) (more : ℕ) → key ≡ u.key → new.counts.starts ≡ upped (more + length (started_keys state.flags the_rows)) old.counts.starts → new.counts.failures ≡ up now.counts.failures → new.counts.late ≡ 0 → new.heard ≡ now.heard
-      → Stopped more project the_rows key old new
-  stopped key more named begun failed late says =
+  stopped : (key : List ℕ) (failure : Failure) (more : ℕ) → key ≡ u.key → new.counts.starts ≡ upped (more + length (started_keys state.flags the_rows)) old.counts.starts → FailedLast failure now.counts new.counts → new.heard ≡ now.heard
+      → Stopped more project the_rows key failure old new
+  stopped key failure more named begun failed says =
       let (o, is) = some child setup project old now new u order state.flags state.going at_flags only in record {
         flags = state.flags;
         row = record { unit = u; outcome = o };
@@ -324,8 +326,7 @@ module _ (child : Answers) (setup : Setup) (project : Project) (old now new : Mo
         worked = worked child setup project old now new u order state.flags state.going at_flags only more begun;
         lines = subst (λ (h : Heard). Appends old.heard.taken h.taken (said_by project state.flags the_rows)) (sym says) state.going.lines;
         faults = ap (λ (h : Heard). h.faults) says ∙ state.going.faults;
-        failed = failed ∙ ap up failures;
-        last = late;
+        failed = (failed.0 ∙ ap up failures, failed.1, failed.2);
       }
 
   -- before its child was started, and after
@@ -340,14 +341,11 @@ module _ (child : Answers) (setup : Setup) (project : Project) (old now new : Mo
       → UnitsEnd 0 project the_rows (Err e) old new
   unit_failed (Plan why) tells cause says = absurd tells
   unit_failed Toolchain tells cause says = absurd tells
-  unit_failed (Child key fault) tells cause says = (stopped key 1 tells.0 (one_more tells.1) cause.0 cause.1 says, cause.2)
-  unit_failed (Device key fault) tells cause says = (
-    elim tells.1 [
-      | inl removing ↦ inl (removing.0, stopped key 0 tells.0 (none_more removing.1) cause.0 cause.1 says)
-      | inr reading ↦ inr (reading.0, stopped key 1 tells.0 (one_more reading.1) cause.0 cause.1 says)
-    ],
-    cause.2,
-  )
+  unit_failed (Child key fault) tells cause says = stopped key (Started fault) 1 tells.0 (one_more tells.1) cause says
+  unit_failed (Device key fault) tells cause says = elim tells.1 [
+    | inl removing ↦ inl (removing.0, stopped key (Called fault) 0 tells.0 (none_more removing.1) cause says)
+    | inr reading ↦ inr (reading.0, stopped key (Called fault) 1 tells.0 (one_more reading.1) cause says)
+  ]
   unit_failed Sink tells cause (ran, gives, (n, first), faults) = record {
     flags = state.flags ++ ran.started ∷ [];
     worked = next_worked child setup project old now new u order state.flags state.going at_flags only ran (gives_flags ran gives) (length (state.flags ++ ran.started ∷ [])) 0
@@ -368,7 +366,7 @@ module _ (child : Answers) (setup : Setup) (project : Project) (old now new : Mo
     worked = worked child setup project old now new u order state.flags state.going at_flags only (k + 0) is;
     lines = subst (λ (h : Heard). Appends old.heard.taken h.taken (said_by project state.flags the_rows)) (sym says) state.going.lines;
     faults = ap (λ (h : Heard). h.faults) says ∙ state.going.faults;
-    none_after = elim cause [ inl same ↦ inl (same ∙ failures) | inr last ↦ inr last ];
+    failures = cause ∙ failures;
   }
     where
       also : (new.counts.starts ≡ now.counts.starts) ⊎ (new.counts.starts ≡ up now.counts.starts) → (k : ℕ) × (k ≤ 1) × (new.counts.starts ≡ upped ((k + 0) + length (started_keys state.flags the_rows)) old.counts.starts)
@@ -424,7 +422,7 @@ module _ (child : Answers) (setup : Setup) (project : Project) (old now new : Mo
           (shifted (length (started_keys next_flags the_rows)) ((0 + 0) + length (started_keys next_flags the_rows)) (omega arith) (starts_next ran ended.0 more));
       lines = next_lines child setup project old now new u order state.flags state.going at_flags only ran gives ended.1;
       faults = ended.2 ∙ state.going.faults;
-      none_after = inl (same ∙ failures);
+      failures = same ∙ failures;
     }
 
     -- a bad one: it was the last
@@ -499,7 +497,7 @@ takes_failed n key old now new failures starts OutOfMemory tells cause = (
     | inl same ↦ (n, moved n (n + 0) old.starts new.starts (omega arith) (same ∙ starts))
     | inr more ↦ (suc n, moved (suc n) (suc n + 0) old.starts new.starts (omega arith) (more ∙ ap up starts))
   ],
-  elim cause [ inl same ↦ inl (same ∙ failures) | inr last ↦ inr last ],
+  cause ∙ failures,
 )
 
 pub none_started : (started : List (List ℕ)) (s : ℕ) → started ≡ [] → s ≡ upped (length started) s
@@ -513,7 +511,7 @@ takes_more started after key b s n t is was starts more =
 
 pub takes_short : (n : ℕ) (old now new : Counts) → now.failures ≡ old.failures → now.starts ≡ upped n old.starts → new.failures ≡ now.failures → new.starts ≡ up now.starts
     → MayTellAll OutOfMemory old.starts new.starts × HasCause OutOfMemory old new
-takes_short n old now new failures starts same more = ((suc n, moved (suc n) (suc n + 0) old.starts new.starts (omega arith) (more ∙ ap up starts)), inl (same ∙ failures))
+takes_short n old now new failures starts same more = ((suc n, moved (suc n) (suc n + 0) old.starts new.starts (omega arith) (more ∙ ap up starts)), same ∙ failures)
 
 -- whether a unit is bad
 pub bad_some : (key : List ℕ) (f : Option UnitFault) (x : List ℕ × UnitFault) → bad_at key f ≡ Some x → (fault : UnitFault) × (f ≡ Some fault)

@@ -16,13 +16,14 @@ use Rattle.pb_place.proofs.Within.{at_below, outside_within}
 use Rattle.pb_report.specs.declared.fault.BuildFault.{BuildFault}
 use Rattle.pb_report.specs.declared.fault.BuildFault.TheVariants.{Plan, Toolchain, Child, Device, Sink, OutOfMemory}
 use Rattle.pb_report.specs.declared.summary.Summary.{Summary}
-use Rattle.pb_run.specs.Causes.{HasCause, Takes}
+use Rattle.pb_run.specs.Causes.{FailedLast, HasCause, Takes}
+use Rattle.pb_place.specs.declared.place.Failure.{Failure}
+use Rattle.pb_place.specs.declared.place.Failure.TheVariants.{Called, Started}
 use Rattle.pb_run.specs.Outcome.{ended_by}
 use Rattle.pb_run.specs.Standing.{IsInOrder}
 use Rattle.pb_unit.specs.declared.plan.Planned.{Planned}
 use Rattle.pb_manifest.specs.declared.profile.Profile.{Profile}
 use Rattle.pb_place.specs.Paths.{folder_of}
-use Rattle.pb_run.specs.Causes.{NoneAfter}
 use Rattle.pb_workspace.proofs.FoldersPut.{opened}
 use Rattle.pb_workspace.specs.Assembled.{assembled}
 use Rattle.pb_workspace.specs.ByFolder.{values_of}
@@ -35,7 +36,7 @@ use Rattle.pb_workspace.specs.declared.frame.Frame.{Frame}
 use Rattle.pb_workspace.specs.declared.options.Options.{Options}
 use Rattle.pb_workspace.specs.declared.workspace.Workspace.{Workspace}
 use Rattle.pb_build.specs.Causes.{upped, SomeStarts, UnitStarts, MayTellAll, MayAsk, MayPlan, MayBuild, BuildStarts}
-use Rattle.pb_build.specs.Ending.{Heard, Moment, said_by, started_keys, OnlyIn, Worked, Stopped, UnitsEnd, Still, OneFailed, PlanningEnds, QueryEnds, ProjectEnds, WorksWith}
+use Rattle.pb_build.specs.Ending.{Heard, Moment, said_by, started_keys, OnlyIn, Worked, Stopped, UnitsEnd, Still, PlanningEnds, QueryEnds, ProjectEnds, WorksWith}
 use Rattle.pb_build.specs.Environment.{environment_of}
 use Rattle.pb_build.specs.Kept.{SourcesStay}
 use Rattle.pb_build.specs.Planning.{IsProject, IsRefused}
@@ -78,8 +79,8 @@ pub units_stay : (more : ℕ) (project : Project) (rows : List Row) (old new : M
 units_stay more project rows old new (Ok summary) order ends = only_sources project _ old.world new.world order ends.worked.only
 units_stay more project rows old new (Err (Plan why)) order ends = absurd ends
 units_stay more project rows old new (Err Toolchain) order ends = absurd ends
-units_stay more project rows old new (Err (Child key fault)) order ends = only_sources project _ old.world new.world order ends.0.worked.only
-units_stay more project rows old new (Err (Device key fault)) order ends = elim ends.0 [
+units_stay more project rows old new (Err (Child key fault)) order ends = only_sources project _ old.world new.world order ends.worked.only
+units_stay more project rows old new (Err (Device key fault)) order ends = elim ends [
   | inl removing ↦ only_sources project _ old.world new.world order removing.1.worked.only
   | inr reading ↦ only_sources project _ old.world new.world order reading.1.worked.only
 ]
@@ -107,8 +108,8 @@ module _ (project : Project) (rows : List Row) (k : ℕ) (old mid new : Moment) 
         worked.starts ∙ ap (upped (more + length (started_keys flags rows))) starts ∙ upped_on (more + length (started_keys flags rows)) k old.counts.starts ∙ ap (λ n. upped n old.counts.starts) same;
   }
 
-  stopped_after : (more next : ℕ) → next ≡ k + more → (key : List ℕ) → Stopped more project rows key mid new → Stopped next project rows key old new
-  stopped_after more next is key ends = record {
+  stopped_after : (more next : ℕ) → next ≡ k + more → (key : List ℕ) (failure : Failure) → Stopped more project rows key failure mid new → Stopped next project rows key failure old new
+  stopped_after more next is key failure ends = record {
     flags = ends.flags;
     row = ends.row;
     at = ends.at;
@@ -116,8 +117,7 @@ module _ (project : Project) (rows : List Row) (k : ℕ) (old mid new : Moment) 
     worked = worked_after ends.flags (length ends.flags + 1) more next is ends.worked;
     lines = subst (λ (h : Heard). Appends h.taken new.heard.taken (said_by project ends.flags rows)) heard ends.lines;
     faults = ends.faults ∙ ap (λ (h : Heard). h.faults) heard;
-    failed = ends.failed ∙ ap up failures;
-    last = ends.last;
+    failed = (ends.failed.0 ∙ ap up failures, ends.failed.1, ends.failed.2);
   }
 
   pub units_after : (more next : ℕ) (result : Result Summary BuildFault) → next ≡ k + more → UnitsEnd more project rows result mid new → UnitsEnd next project rows result old new
@@ -132,14 +132,11 @@ module _ (project : Project) (rows : List Row) (k : ℕ) (old mid new : Moment) 
   }
   units_after more next (Err (Plan why)) is ends = absurd ends
   units_after more next (Err Toolchain) is ends = absurd ends
-  units_after more next (Err (Child key fault)) is ends = (stopped_after (1 + more) (1 + next) (omega (arith, is)) key ends.0, ends.1)
-  units_after more next (Err (Device key fault)) is ends = (
-    elim ends.0 [
-      | inl removing ↦ inl (removing.0, stopped_after more next is key removing.1)
-      | inr reading ↦ inr (reading.0, stopped_after (1 + more) (1 + next) (omega (arith, is)) key reading.1)
-    ],
-    ends.1,
-  )
+  units_after more next (Err (Child key fault)) is ends = stopped_after (1 + more) (1 + next) (omega (arith, is)) key (Started fault) ends
+  units_after more next (Err (Device key fault)) is ends = elim ends [
+    | inl removing ↦ inl (removing.0, stopped_after more next is key (Called fault) removing.1)
+    | inr reading ↦ inr (reading.0, stopped_after (1 + more) (1 + next) (omega (arith, is)) key (Called fault) reading.1)
+  ]
   units_after more next (Err Sink) is ends = record {
     flags = ends.flags;
     worked = worked_after ends.flags (length ends.flags) more next is ends.worked;
@@ -155,7 +152,7 @@ module _ (project : Project) (rows : List Row) (k : ℕ) (old mid new : Moment) 
     worked = worked_after ends.flags (length ends.flags + 1) (ends.also + more) (ends.also + next) (omega (arith, is)) ends.worked;
     lines = subst (λ (h : Heard). Appends h.taken new.heard.taken (said_by project ends.flags rows)) heard ends.lines;
     faults = ends.faults ∙ ap (λ (h : Heard). h.faults) heard;
-    none_after = elim ends.none_after [ inl same ↦ inl (same ∙ failures) | inr last ↦ inr last ];
+    failures = ends.failures ∙ failures;
   }
 
 -- the query went well: the units' end is that of the project
@@ -176,12 +173,8 @@ module _ (child : Answers) (options : Options) (environment : Environment) (old 
   still_before : Still mid new → Still old new
   still_before (same, silent) = (same ∙ world, silent ∙ heard)
 
-  none_before : NoneAfter mid.counts new.counts → NoneAfter old.counts new.counts
-  none_before (inl same) = inl (same ∙ failures)
-  none_before (inr last) = inr last
-
-  failed_before : OneFailed mid.counts new.counts → OneFailed old.counts new.counts
-  failed_before (failed, last) = (failed ∙ ap up failures, last)
+  failed_before : (failure : Failure) → FailedLast failure mid.counts new.counts → FailedLast failure old.counts new.counts
+  failed_before failure (failed, late, last) = (failed ∙ ap up failures, late, last)
 
   pub planning_before : (result : Result Summary BuildFault) → PlanningEnds options result mid new → PlanningEnds options result old new
   planning_before (Ok summary) ends = absurd ends
@@ -189,18 +182,18 @@ module _ (child : Answers) (options : Options) (environment : Environment) (old 
       (subst (λ (w : World). IsRefused options (environment_of options w.variables).target w why) world is, still_before still, begun ∙ starts, none ∙ failures)
   planning_before (Err Toolchain) ends = absurd ends
   planning_before (Err (Child key fault)) ends = absurd ends
-  planning_before (Err (Device name fault)) (still, begun, failed, last, named) = (still_before still, begun ∙ starts, failed_before failed, last, named)
+  planning_before (Err (Device name fault)) (still, begun, failed, named) = (still_before still, begun ∙ starts, failed_before (Called fault) failed, named)
   planning_before (Err Sink) ends = absurd ends
-  planning_before (Err OutOfMemory) (still, begun, none) = (still_before still, begun ∙ starts, none_before none)
+  planning_before (Err OutOfMemory) (still, begun, none) = (still_before still, begun ∙ starts, none ∙ failures)
 
   query_before : (says : Option (List ℕ)) (result : Result Summary BuildFault) → QueryEnds says result mid new → QueryEnds says result old new
   query_before says (Ok summary) ends = absurd ends
   query_before says (Err (Plan why)) ends = absurd ends
   query_before says (Err Toolchain) (silent, still, begun, none) = (silent, still_before still, begun ∙ ap up starts, none ∙ failures)
-  query_before says (Err (Child key fault)) (named, still, begun, failed, last) = (named, still_before still, begun ∙ ap up starts, failed_before failed, last)
+  query_before says (Err (Child key fault)) (named, still, begun, failed) = (named, still_before still, begun ∙ ap up starts, failed_before (Started fault) failed)
   query_before says (Err (Device key fault)) ends = absurd ends
   query_before says (Err Sink) ends = absurd ends
-  query_before says (Err OutOfMemory) (still, none) = (still_before still, none_before none)
+  query_before says (Err OutOfMemory) (still, begun, none) = (still_before still, elim begun [ inl same ↦ inl (same ∙ starts) | inr more ↦ inr (more ∙ ap up starts) ], none ∙ failures)
 
   pub project_before : (sources : World) (project : Project) (result : Result Summary BuildFault) → ProjectEnds child options environment sources project result mid new → ProjectEnds child options environment sources project result old new
   project_before sources project result (inl query) = inl (query_before (toolchain_of child environment project sources) result query)
@@ -280,4 +273,4 @@ units_take old mid new (Err e) starts failures takes = (may e takes.0, caused e 
     caused (Child key fault) cause = (cause.0 ∙ ap up failures, cause.1, cause.2)
     caused (Device key fault) cause = (cause.0 ∙ ap up failures, cause.1, cause.2)
     caused Sink cause = cause ∙ failures
-    caused OutOfMemory cause = elim cause [ inl same ↦ inl (same ∙ failures) | inr last ↦ inr last ]
+    caused OutOfMemory cause = cause ∙ failures

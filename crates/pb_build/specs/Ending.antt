@@ -9,6 +9,7 @@ use Rattle.pb_place.specs.Counts.{Counts, up}
 use Rattle.pb_place.specs.Folders.{files_in}
 use Rattle.pb_place.specs.Paths.{is_at_or_below}
 use Rattle.pb_place.specs.World.{World, Map, Answers, from_nothing}
+use Rattle.pb_place.specs.declared.place.Failure.{Failure}
 use Rattle.pb_place.specs.declared.place.Failure.TheVariants.{Called, Started}
 use Rattle.pb_place.specs.declared.place.PlaceFault.TheVariants as place
 use Rattle.pb_command.specs.declared.fault.UnitFault.{UnitFault}
@@ -16,7 +17,7 @@ use Rattle.pb_command.specs.declared.project.Project.{Project}
 use Rattle.pb_report.specs.declared.fault.BuildFault.{BuildFault}
 use Rattle.pb_report.specs.declared.fault.BuildFault.TheVariants.{Plan, Toolchain, Child, Device, Sink, OutOfMemory}
 use Rattle.pb_report.specs.declared.summary.Summary.{Summary}
-use Rattle.pb_run.specs.Causes.{NoneAfter, Takes}
+use Rattle.pb_run.specs.Causes.{FailedLast, Takes}
 use Rattle.pb_run.specs.Outcome.{Outcome, Waiting, Good, Bad, directives_in}
 use Rattle.pb_run.specs.Telling.{unit_lines}
 use Rattle.pb_unit.specs.declared.plan.Planned.{Planned}
@@ -131,8 +132,8 @@ pub record Whole (more : ℕ) (project : Project) (rows : List Row) (summary : S
   pub faults : new.heard.faults ≡ old.heard.faults
   pub failures : new.counts.failures ≡ old.counts.failures
 
--- a call for the unit of this key failed, and none came after it: the units before it had ended
-pub record Stopped (more : ℕ) (project : Project) (rows : List Row) (key : List ℕ) (old new : Moment) : Type 0 where
+-- a call for the unit of this key failed, with this fault, and none came after it: the units before it had ended
+pub record Stopped (more : ℕ) (project : Project) (rows : List Row) (key : List ℕ) (failure : Failure) (old new : Moment) : Type 0 where
   pub flags : List Bool
   pub row : Row
   pub at : slice_get rows (length flags) ≡ Some row
@@ -140,8 +141,7 @@ pub record Stopped (more : ℕ) (project : Project) (rows : List Row) (key : Lis
   pub worked : Worked project rows flags (length flags + 1) more old new
   pub lines : Appends old.heard.taken new.heard.taken (said_by project flags rows)
   pub faults : new.heard.faults ≡ old.heard.faults
-  pub failed : new.counts.failures ≡ up old.counts.failures
-  pub last : new.counts.late ≡ 0
+  pub failed : FailedLast failure old.counts new.counts
 
 -- the sink failed at the lines of the last of these
 pub record Cut (more : ℕ) (project : Project) (rows : List Row) (old new : Moment) : Type 0 where
@@ -152,7 +152,7 @@ pub record Cut (more : ℕ) (project : Project) (rows : List Row) (old new : Mom
   pub faults : new.heard.faults ≡ up old.heard.faults
   pub failures : new.counts.failures ≡ old.counts.failures
 
--- memory was refused: these had ended, and a child more may have been started
+-- memory was refused, and no call failed: these had ended, and a child more may have been started
 pub record Short (more : ℕ) (project : Project) (rows : List Row) (old new : Moment) : Type 0 where
   pub flags : List Bool
   pub also : ℕ
@@ -160,16 +160,16 @@ pub record Short (more : ℕ) (project : Project) (rows : List Row) (old new : M
   pub worked : Worked project rows flags (length flags + 1) (also + more) old new
   pub lines : Appends old.heard.taken new.heard.taken (said_by project flags rows)
   pub faults : new.heard.faults ≡ old.heard.faults
-  pub none_after : NoneAfter old.counts new.counts
+  pub failures : new.counts.failures ≡ old.counts.failures
 
 -- how the units of a project end. A call on a unit's files fails before its child is started, where they are removed, or after it, where its dep-info is read
 abbrev pub UnitsEnd : ℕ → Project → List Row → Result Summary BuildFault → Moment → Moment → Type 0
 UnitsEnd more project rows (Ok summary) old new = Whole more project rows summary old new
 UnitsEnd more project rows (Err (Plan why)) old new = ⊥
 UnitsEnd more project rows (Err Toolchain) old new = ⊥
-UnitsEnd more project rows (Err (Child key fault)) old new = Stopped (1 + more) project rows key old new × (new.counts.last ≡ Some (Started fault))
+UnitsEnd more project rows (Err (Child key fault)) old new = Stopped (1 + more) project rows key (Started fault) old new
 UnitsEnd more project rows (Err (Device key fault)) old new =
-    (((fault ≡ place.Remove) × Stopped more project rows key old new) ⊎ ((fault ≡ place.Read) × Stopped (1 + more) project rows key old new)) × (new.counts.last ≡ Some (Called fault))
+    ((fault ≡ place.Remove) × Stopped more project rows key (Called fault) old new) ⊎ ((fault ≡ place.Read) × Stopped (1 + more) project rows key (Called fault) old new)
 UnitsEnd more project rows (Err Sink) old new = Cut more project rows old new
 UnitsEnd more project rows (Err OutOfMemory) old new = Short more project rows old new
 
@@ -179,10 +179,6 @@ UnitsEnd more project rows (Err OutOfMemory) old new = Short more project rows o
 abbrev pub Still : Moment → Moment → Type 0
 Still old new = (new.world ≡ old.world) × (new.heard ≡ old.heard)
 
--- a call failed, and none came after it
-abbrev pub OneFailed : Counts → Counts → Type 0
-OneFailed old new = (new.failures ≡ up old.failures) × (new.late ≡ 0)
-
 -- what comes before the query ended it: a refusal; a call on this path or variable that failed; want of memory
 abbrev pub PlanningEnds : Options → Result Summary BuildFault → Moment → Moment → Type 0
 PlanningEnds options (Ok summary) old new = ⊥
@@ -191,9 +187,9 @@ PlanningEnds options (Err (Plan why)) old new =
 PlanningEnds options (Err Toolchain) old new = ⊥
 PlanningEnds options (Err (Child key fault)) old new = ⊥
 PlanningEnds options (Err (Device name fault)) old new =
-    Still old new × (new.counts.starts ≡ old.counts.starts) × OneFailed old.counts new.counts × (new.counts.last ≡ Some (Called fault)) × (new.counts.named ≡ name)
+    Still old new × (new.counts.starts ≡ old.counts.starts) × FailedLast (Called fault) old.counts new.counts × (new.counts.named ≡ name)
 PlanningEnds options (Err Sink) old new = ⊥
-PlanningEnds options (Err OutOfMemory) old new = Still old new × (new.counts.starts ≡ old.counts.starts) × NoneAfter old.counts new.counts
+PlanningEnds options (Err OutOfMemory) old new = Still old new × (new.counts.starts ≡ old.counts.starts) × (new.counts.failures ≡ old.counts.failures)
 
 -- the query of the compiler's version ended it
 abbrev pub QueryEnds : Option (List ℕ) → Result Summary BuildFault → Moment → Moment → Type 0
@@ -201,10 +197,10 @@ QueryEnds says (Ok summary) old new = ⊥
 QueryEnds says (Err (Plan why)) old new = ⊥
 QueryEnds says (Err Toolchain) old new = (says ≡ None) × Still old new × (new.counts.starts ≡ up old.counts.starts) × (new.counts.failures ≡ old.counts.failures)
 QueryEnds says (Err (Child key fault)) old new =
-    (key ≡ codes "-vV") × Still old new × (new.counts.starts ≡ up old.counts.starts) × OneFailed old.counts new.counts × (new.counts.last ≡ Some (Started fault))
+    (key ≡ codes "-vV") × Still old new × (new.counts.starts ≡ up old.counts.starts) × FailedLast (Started fault) old.counts new.counts
 QueryEnds says (Err (Device key fault)) old new = ⊥
 QueryEnds says (Err Sink) old new = ⊥
-QueryEnds says (Err OutOfMemory) old new = Still old new × NoneAfter old.counts new.counts
+QueryEnds says (Err OutOfMemory) old new = Still old new × ((new.counts.starts ≡ old.counts.starts) ⊎ (new.counts.starts ≡ up old.counts.starts)) × (new.counts.failures ≡ old.counts.failures)
 
 -- the query ended it, or the units did
 abbrev pub ProjectEnds : Answers → Options → Environment → World → Project → Result Summary BuildFault → Moment → Moment → Type 0

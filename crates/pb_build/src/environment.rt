@@ -53,9 +53,13 @@ fn variable<P: Place>(place: &mut P, alloc: Global, name: &str) -> Result<Option
     ensures names { NamesCall result (P.counts place.new) }
     ensures unrefused { IfErr result IsUnrefused }
 {
+    let told = match Text::from_str(alloc, name) {
+        Ok(told) => told,
+        Err(_) => return Err(BuildFault::OutOfMemory),
+    };
     match place.variable(alloc, name) {
         Ok(found) => Ok(filled(found)),
-        Err(fault) => Err(deviceless(alloc, name, fault)),
+        Err(fault) => Err(deviceless(told, fault)),
     }
 }
 

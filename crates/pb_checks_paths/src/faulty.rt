@@ -3,7 +3,6 @@
 ghost use Rattle.std.specs.Prelude.{◌≡◌, ◌≢◌, ◌⊎◌};
 ghost use Rattle.pb_place.specs.Counts.{past_place_fault};
 ghost use Rattle.pb_place.specs.declared.place.PlaceFault.TheVariants.{OutOfMemory};
-ghost use Rattle.pb_checks_paths.specs.Seen.{seen};
 
 use pb_data::{Bytes, Items, Text};
 use pb_place::{Command, Ended, Failure, PathText, Place, PlaceFault, StartFault};
@@ -36,7 +35,7 @@ impl Faulty {
     fn fail(&mut self, alloc: Global, fault: PlaceFault, name: &str) -> PlaceFault
         requires real { fault ≢ OutOfMemory }
         ensures told { (result ≡ OutOfMemory) ⊎ (result ≡ fault) }
-        ensures counts { seen self.new ≡ past_place_fault name.now result (seen self.old) }
+        ensures counts { record { failures = self.new.failures; starts = self.new.starts; late = self.new.late; last = self.new.last; named = self.new.named } ≡ past_place_fault name.now result record { failures = self.old.failures; starts = self.old.starts; late = self.old.late; last = self.old.last; named = self.old.named } }
     {
         match Text::from_str(alloc, name) {
             Ok(named) => {
@@ -69,7 +68,7 @@ impl Place for Faulty {
 
     ghost child = { λ _ _. record { status = pos 0; stdout = []; stderr = []; files = [] } };
 
-    ghost counts = { seen };
+    ghost counts = { λ place. record { failures = place.failures; starts = place.starts; late = place.late; last = place.last; named = place.named } };
 
     ghost fails = { λ _. Unit {0} };
 

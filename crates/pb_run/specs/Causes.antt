@@ -1,23 +1,45 @@
 -- Why a step of a build ends with a fault: which call failed, with which fault, after how many starts.
 use Rattle.std.specs.Prelude.{◌≡◌, ◌⊎◌, ℕ, List, Some, Result, MatchResult}
 use Rattle.pb_place.specs.Counts.{Counts, up}
+use Rattle.pb_place.specs.declared.place.Failure.{Failure}
 use Rattle.pb_place.specs.declared.place.Failure.TheVariants.{Called, Started}
+use Rattle.pb_place.specs.declared.place.PlaceFault.{PlaceFault}
 use Rattle.pb_place.specs.declared.place.PlaceFault.TheVariants as place
+use Rattle.pb_place.specs.declared.place.StartFault.{StartFault}
+use Rattle.pb_place.specs.declared.place.StartFault.TheVariants as start
 use Rattle.pb_report.specs.declared.fault.BuildFault.{BuildFault}
 use Rattle.pb_report.specs.declared.fault.BuildFault.TheVariants.{Plan, Toolchain, Child, Device, Sink, OutOfMemory}
 
--- no call came after one that failed
-abbrev pub NoneAfter : Counts → Counts → Type 0
-NoneAfter old new = (new.failures ≡ old.failures) ⊎ (new.late ≡ 0)
+-- The fault of a step, by that of the call which ended it.
 
--- where the fault is one of a call, that call failed with this very fault and was the last; where it is a reason of the step's own, none failed
+abbrev pub child_fault : List ℕ → StartFault → BuildFault
+child_fault unit start.CannotStart = Child unit start.CannotStart
+child_fault unit start.Died = Child unit start.Died
+child_fault unit start.Capture = Child unit start.Capture
+child_fault unit start.OutOfMemory = OutOfMemory
+
+abbrev pub device_fault : List ℕ → PlaceFault → BuildFault
+device_fault unit place.Read = Device unit place.Read
+device_fault unit place.List = Device unit place.List
+device_fault unit place.Write = Device unit place.Write
+device_fault unit place.Remove = Device unit place.Remove
+device_fault unit place.Variable = Device unit place.Variable
+device_fault unit place.OutOfMemory = OutOfMemory
+
+-- Why it ended so.
+
+-- a call failed, with this fault, and none came after it
+abbrev pub FailedLast : Failure → Counts → Counts → Type 0
+FailedLast failure old new = (new.failures ≡ up old.failures) × (new.late ≡ 0) × (new.last ≡ Some failure)
+
+-- where the fault is one of a call, that call failed with this very fault and was the last; where it is a reason of the step's own, or want of memory, none failed
 abbrev pub HasCause : BuildFault → Counts → Counts → Type 0
 HasCause (Plan refusal) old new = new.failures ≡ old.failures
 HasCause Toolchain old new = new.failures ≡ old.failures
-HasCause (Child unit fault) old new = (new.failures ≡ up old.failures) × (new.late ≡ 0) × (new.last ≡ Some (Started fault))
-HasCause (Device unit fault) old new = (new.failures ≡ up old.failures) × (new.late ≡ 0) × (new.last ≡ Some (Called fault))
+HasCause (Child unit fault) old new = FailedLast (Started fault) old new
+HasCause (Device unit fault) old new = FailedLast (Called fault) old new
 HasCause Sink old new = new.failures ≡ old.failures
-HasCause OutOfMemory old new = NoneAfter old new
+HasCause OutOfMemory old new = new.failures ≡ old.failures
 
 -- what a step says of the counters. Where it ended well: no call failed, and so many children were started. Else: that it may tell this fault after so many starts, and the fault's cause
 abbrev pub Takes : {T : Type 0} → (T → ℕ → ℕ → Type 0) → (BuildFault → ℕ → ℕ → Type 0) → Result T BuildFault → Counts → Counts → Type 0
@@ -37,7 +59,7 @@ MayStart name Toolchain old new = ⊥
 MayStart name (Child unit fault) old new = (unit ≡ name) × (new ≡ up old)
 MayStart name (Device unit fault) old new = ⊥
 MayStart name Sink old new = ⊥
-MayStart name OutOfMemory old new = new ≡ up old
+MayStart name OutOfMemory old new = (new ≡ old) ⊎ (new ≡ up old)
 
 -- of one that removes the files of the unit of this key
 abbrev pub MayRemove : List ℕ → BuildFault → ℕ → ℕ → Type 0

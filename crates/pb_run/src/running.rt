@@ -16,7 +16,7 @@ ghost use Rattle.pb_run.specs.Standing.{IsInOrder, IsStanding};
 use crate::faults::{childless, deviceless};
 use crate::ran::{Ran, judged};
 use pb_command::{Project, Setup, command, dep_info_path};
-use pb_data::Bytes;
+use pb_data::{Bytes, Text};
 use pb_directive::Directives;
 use pb_place::{Command, Ended, PathText, Place};
 use pb_report::BuildFault;
@@ -34,9 +34,13 @@ pub fn start<P: Place>(
     ensures only { IsTrue P.tells → ChangesOnlyInSome command.now.out (P.world place.old) (P.world place.new) }
     ensures takes { Takes OneStart (MayStart name.now) result (P.counts place.old) (P.counts place.new) }
 {
+    let unit = match Text::from_str(alloc, name) {
+        Ok(unit) => unit,
+        Err(_) => return Err(BuildFault::OutOfMemory),
+    };
     match place.start(alloc, command) {
         Ok(ended) => Ok(ended),
-        Err(fault) => Err(childless(alloc, name, fault)),
+        Err(fault) => Err(childless(unit, fault)),
     }
 }
 
@@ -52,9 +56,13 @@ fn empty<P: Place>(
     ensures only { IsTrue P.tells → ChangesOnly (is_at_or_below folder.now) (P.world place.old) (P.world place.new) }
     ensures takes { Takes NoStart (MayRemove key.now) result (P.counts place.old) (P.counts place.new) }
 {
+    let unit = match Text::from_str(alloc, key) {
+        Ok(unit) => unit,
+        Err(_) => return Err(BuildFault::OutOfMemory),
+    };
     match place.remove_tree(alloc, folder) {
         Ok(()) => Ok(()),
-        Err(fault) => Err(deviceless(alloc, key, fault)),
+        Err(fault) => Err(deviceless(unit, fault)),
     }
 }
 
@@ -93,12 +101,17 @@ fn read_at<P: Place>(
     ensures same { IsTrue P.tells → P.world place.new ≡ P.world place.old }
     ensures takes { Takes NoStart (MayRead key.now) result (P.counts place.old) (P.counts place.new) }
 {
-    match path {
-        None => Ok(None),
-        Some(path) => match place.read(alloc, path) {
-            Ok(found) => Ok(found),
-            Err(fault) => Err(deviceless(alloc, key, fault)),
-        },
+    let path = match path {
+        Some(path) => path,
+        None => return Ok(None),
+    };
+    let unit = match Text::from_str(alloc, key) {
+        Ok(unit) => unit,
+        Err(_) => return Err(BuildFault::OutOfMemory),
+    };
+    match place.read(alloc, path) {
+        Ok(found) => Ok(found),
+        Err(fault) => Err(deviceless(unit, fault)),
     }
 }
 
