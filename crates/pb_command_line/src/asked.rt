@@ -48,13 +48,23 @@ pub(crate) fn unasked_of(alloc: Global, error: &Error) -> Unasked {
     Unasked::Help(Text::new(text))
 }
 
+/// The words are wrong: this text says why.
+fn wrong(alloc: Global, text: &str) -> Unasked {
+    match Text::from_str(alloc, text) {
+        Ok(text) => Unasked::Wrong(text),
+        Err(_) => Unasked::OutOfMemory,
+    }
+}
+
 /// Why a path of the command line is none.
 pub(crate) fn bad_path(alloc: Global, fault: PathFault) -> Unasked {
     if fault == PathFault::OutOfMemory {
         return Unasked::OutOfMemory;
     }
-    match Text::from_str(alloc, "error: a path has byte 0\n") {
-        Ok(text) => Unasked::Wrong(text),
-        Err(_) => Unasked::OutOfMemory,
-    }
+    wrong(alloc, "error: a path has byte 0\n")
+}
+
+/// Neither a build nor a session is asked for.
+pub(crate) fn no_command(alloc: Global) -> Unasked {
+    wrong(alloc, "error: neither `build` nor `session`\n")
 }
