@@ -53,7 +53,9 @@ fn printed(rt: &HostRuntime, here: &str, name: &str) -> io::Result<String> {
     shell.arg(name)?;
     shell.current_dir(folder.as_str())?;
     let output = shell.output(rt)?;
-    let text = String::from_utf8(output.stdout).map_err(|_| io::Error::from(io::ErrorKind::InvalidData))?;
+    let text = String::from_utf8(output.stdout).map_err(|_| io::Error::from(
+        io::ErrorKind::InvalidData,
+    ))?;
     let text = text.replace(rt.alloc(), folder.as_str(), "/w")?;
     Ok(text)
 }
@@ -72,10 +74,10 @@ fn print_all(rt: &HostRuntime) -> io::Result<()> {
 /// The name under which this program was started; empty where it is not known.
 fn own_name(rt: &HostRuntime) -> io::Result<String> {
     let mut bytes = [0u8; 4096];
-    let name = match rt.arg(0, &mut bytes) {
-        Ok(length) => str::from_utf8(&bytes[..length]).unwrap_or(""),
-        Err(_) => "",
+    let Ok(length) = rt.arg(0, &mut bytes) else {
+        return Ok(String::new(rt.alloc()));
     };
+    let name = str::from_utf8(&bytes[..length]).unwrap_or("");
     let name = String::from_str(rt.alloc(), name)?;
     Ok(name)
 }
