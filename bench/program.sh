@@ -1,12 +1,9 @@
-# Makes the program once, in a folder of its own, over copies of the crates: `make_program TOP FOLDER` prints the
-# path of what is made. Read by the other scripts of this folder.
+# Proves and makes the program where it stands, as `rt run` in crates/pb_tool does, and copies it into a folder, so that
+# no later edit changes what is measured: `make_program TOP FOLDER` prints the path of the copy. Nothing else is copied,
+# and what is proved already stays so. Read by the other scripts of this folder.
 make_program() {
     local top="$1" folder="$2"
-    mkdir -p "$folder/crates"
-    cp -r "$top/crates/." "$folder/crates/"
-    cp "$top/crates.txt" "$top/HANDLES" "$folder/"
-    git -C "$folder" init -q .
-    (cd "$folder/crates/pb_tool" && rt run -- session "$top/crates/pb_examples/data/one_library.json") > "$folder/made" 2>&1 ||
-        { cat "$folder/made" >&2; return 1; }
-    echo "$folder/crates/pb_tool/out/pb_tool"
+    (cd "$top/crates/pb_tool" && rt run -- build --help) > "$folder/made" 2>&1 || { cat "$folder/made" >&2; return 1; }
+    cp "$top/crates/pb_tool/out/pb_tool" "$folder/pb_tool"
+    echo "$folder/pb_tool"
 }

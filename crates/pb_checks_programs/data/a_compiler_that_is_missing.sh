@@ -1,0 +1,4 @@
+# There is no such compiler.
+package . a
+file src/lib.rs
+build_by "$PWD/none"

@@ -1,0 +1,7 @@
+# The device takes no name of 300 letters: a manifest that cannot be read, and an output folder that cannot be emptied.
+long=$(printf '%0300d' 0 | tr 0 x)
+package . a
+file src/lib.rs
+build --target-dir "$long" | tr -s x
+package . a '[dependencies]' "q = { path = \"$long\" }"
+build | tr -s x

@@ -1,0 +1,2 @@
+mod Conflicts
+mod Simple

@@ -1,0 +1,66 @@
+-- The options of `pb_tool`, as `clap` has them.
+use Rattle.std.specs.Prelude.{◌≡◌, ◌++◌, ℕ, codes, List, [], ◌∷◌, Some, map, true, false}
+use Rattle.clap.specs.Walk.{Rule, Text}
+use Rattle.clap.specs.Simple.{App, Shape, new_app, new_rule, new_shape, with_rule, with_subcommand}
+use Rattle.clap.specs.declared.builder.action.ArgAction.TheVariants.{SetTrue, Append}
+use Rattle.clap.specs.declared.builder.value_parser.ValueParser.{ValueParser}
+use Rattle.clap.specs.declared.builder.value_parser.ValueParser.TheVariants.{Names}
+
+-- an option without a value
+abbrev pub flag : Text → Rule
+flag name = record (new_rule name) { long = Some name; action = Some SetTrue }
+
+-- an option with a value
+abbrev pub option : Text → Rule
+option name = record (new_rule name) { long = Some name; value_names = 1 }
+
+-- an option that may be given more than once, each time with a value
+abbrev pub options : Text → Rule
+options name = record (option name) { action = Some Append }
+
+-- what of the workspace is built
+abbrev pub selection : List Rule
+selection =
+    record (options (codes "package")) { short = Some 112 }
+    ∷ flag (codes "workspace") ∷ flag (codes "lib") ∷ flag (codes "bins") ∷ options (codes "bin") ∷ []
+
+-- `--release`, which keeps from another
+abbrev pub release_flag : Rule
+release_flag = record (flag (codes "release")) { short = Some 114; is_free = false }
+
+-- which features are on, and how it is compiled
+abbrev pub features : List Rule
+features =
+    record (options (codes "features")) { short = Some 70 }
+    ∷ flag (codes "all-features") ∷ flag (codes "no-default-features")
+    ∷ release_flag ∷ option (codes "profile") ∷ []
+
+-- where it is read from and written to, and in which of these forms
+abbrev pub places : ValueParser → List Rule
+places formats =
+    option (codes "manifest-path") ∷ option (codes "target-dir")
+    ∷ record (option (codes "message-format")) { parser = Some formats } ∷ option (codes "runner") ∷ []
+
+-- JSON alone
+abbrev pub IsJson : ValueParser → Type 0
+IsJson (Names names) = map (λ name. name.now) names.now ≡ codes "json" ∷ []
+IsJson _ = ⊥
+
+-- one rule more after another
+abbrev pub with_rules : List Rule → App → App
+with_rules [] app = app
+with_rules (rule ∷ rules) app = with_rules rules (with_rule app rule)
+
+-- `pb_tool build`
+abbrev pub build : ValueParser → App
+build formats = with_rules (places formats) (with_rules features (with_rules selection (new_app (codes "build"))))
+
+-- `pb_tool session FILE`
+abbrev pub session : App
+session = with_rule (new_app (codes "session")) record (new_rule (codes "FILE")) { required = true }
+
+-- the program, which wants one of the two
+abbrev pub program : ValueParser → App
+program formats =
+    let start = new_app (codes "pb_tool") in
+    with_subcommand (with_subcommand record start { top = record start.top { subcommand_required = true } } (build formats).top) session.top

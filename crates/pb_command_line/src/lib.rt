@@ -1,0 +1,10 @@
+//! The command line of the program `pb_tool`: the options of a build, as The Cargo Book has them for `cargo build`, or
+//! the file of a session. The reader of words is `clap`, and no type of it is handed on.
+#![tactic(auto)]
+
+pub mod asked;
+pub mod description;
+pub mod reading;
+
+pub use asked::{Asked, Unasked};
+pub use reading::read_command_line;

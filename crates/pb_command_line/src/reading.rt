@@ -1,0 +1,203 @@
+//! From the words of a command line to what it asks for.
+
+ghost use Rattle.std.specs.Prelude.{◌≡◌, Ok, IfOk, Bool, [], codes, map, option_map, unwrap_or};
+ghost use Rattle.clap.specs.Matches.{found_of};
+ghost use Rattle.clap.specs.Walk.{rows_of, first_of};
+ghost use Rattle.clap.specs.Simple.{subcommand_of, subcommand_rows_of};
+ghost use Rattle.clap.specs.declared.builder.value_parser.ValueParser.{ValueParser};
+ghost use Rattle.pb_directive.specs.Directives.{words_of};
+ghost use Rattle.pb_place.specs.Paths.{joined};
+ghost use Rattle.pb_command_line.specs.Description.{IsJson, program};
+ghost use Rattle.pb_command_line.specs.Asking.{IsFlag, values_of, profile_of, IsOptions, AsksBy, Asks, tool_of};
+
+use crate::asked::{Asked, Unasked, bad_path, no_command, unasked_of};
+use crate::description::program;
+use clap::{ArgMatches, Error};
+use pb_data::{Items, Text};
+use pb_directive::words::words_of;
+use pb_place::PathText;
+use pb_workspace::Options;
+use std::alloc::{AllocError, Global};
+use std::convert::AsStr;
+
+/// Whether an option without a value was given.
+fn is_given(matches: &ArgMatches<'_>, name: &str) -> bool
+    ensures { IsFlag name.now (rows_of (found_of matches.now)) result }
+{
+    matches.get_flag(name)
+}
+
+/// The first value of an option, if it was given.
+fn first<'m>(matches: &ArgMatches<'m>, name: &str) -> Option<&'m str>
+    ensures { option_map (λ text. text.now) result ≡ first_of name.now (rows_of (found_of matches.now)) }
+{
+    matches.get_str(name)
+}
+
+/// The first value of an option, or another text where it was not given.
+fn first_or<'m>(matches: &ArgMatches<'m>, name: &str, other: &'m str) -> &'m str
+    ensures { result.now ≡ unwrap_or (first_of name.now (rows_of (found_of matches.now))) other.now }
+{
+    match first(matches, name) {
+        Some(text) => text,
+        None => other,
+    }
+}
+
+/// Copies of texts, in their order.
+fn copies(alloc: Global, texts: &[&str]) -> Result<Items<Text>, AllocError>
+    ensures { IfOk result (λ copies. copies ≡ map (λ text. text.now) texts.now) }
+{
+    let mut copies = Items::new(alloc);
+    for text in texts {
+        copies.push(Text::from_str(alloc, *text)?)?;
+    }
+    Ok(copies)
+}
+
+/// The values of an option, in their order.
+fn values_of(alloc: Global, matches: &ArgMatches<'_>, name: &str) -> Result<Items<Text>, AllocError>
+    ensures { IfOk result (λ values. values ≡ values_of name.now (rows_of (found_of matches.now))) }
+{
+    match matches.get_strs(name) {
+        Some(values) => copies(alloc, values),
+        None => Ok(Items::new(alloc)),
+    }
+}
+
+/// The value of an option, if it was given.
+fn value_of(alloc: Global, matches: &ArgMatches<'_>, name: &str) -> Result<Option<Text>, AllocError>
+    ensures { IfOk result (λ value. value ≡ first_of name.now (rows_of (found_of matches.now))) }
+{
+    match first(matches, name) {
+        None => Ok(None),
+        Some(value) => Ok(Some(Text::from_str(alloc, value)?)),
+    }
+}
+
+/// The profile: `release` for `--release`, what `--profile` says, else `dev`.
+fn profile_of(alloc: Global, matches: &ArgMatches<'_>) -> Result<Text, AllocError>
+    ensures { IfOk result (λ profile. (release : Bool) × IsFlag (codes "release") (rows_of (found_of matches.now)) release × (profile ≡ profile_of release (rows_of (found_of matches.now)))) }
+{
+    if is_given(matches, "release") {
+        return Text::from_str(alloc, "release");
+    }
+    Text::from_str(alloc, first_or(matches, "profile", "dev"))
+}
+
+/// The words of a text, which spaces part.
+fn parted(alloc: Global, text: &str) -> Result<Items<Text>, AllocError>
+    ensures { IfOk result (λ words. words ≡ words_of text.now) }
+{
+    let mut words = Items::new(alloc);
+    for word in words_of(text) {
+        words.push(Text::from_str(alloc, word)?)?;
+    }
+    Ok(words)
+}
+
+/// The path that a text of the command line says. A relative one starts at the folder.
+fn path_of(alloc: Global, folder: &PathText, text: &str) -> Result<PathText, Unasked>
+    ensures { IfOk result (λ path. joined folder.now text.now ≡ Ok path) }
+{
+    match folder.join(alloc, text) {
+        Ok(path) => Ok(path),
+        Err(fault) => Err(bad_path(alloc, fault)),
+    }
+}
+
+/// What `pb_tool build` asks for. A relative path of the manifest starts at the current folder.
+fn options_of(
+    alloc: Global,
+    tool: &str,
+    folder: &PathText,
+    matches: &ArgMatches<'_>,
+) -> Result<Options, Unasked>
+    ensures { IfOk result (IsOptions tool.now folder.now (rows_of (found_of matches.now))) }
+{
+    let manifest = path_of(
+        alloc,
+        folder,
+        first_or(matches, "manifest-path", "Cargo.toml"),
+    )?;
+    let packages = values_of(alloc, matches, "package")?;
+    let features = values_of(alloc, matches, "features")?;
+    let profile = profile_of(alloc, matches)?;
+    let bin = values_of(alloc, matches, "bin")?;
+    let target_dir = value_of(alloc, matches, "target-dir")?;
+    let runner = parted(alloc, first_or(matches, "runner", ""))?;
+    let tool = Text::from_str(alloc, tool)?;
+    Ok(Options {
+        manifest,
+        packages,
+        workspace: is_given(matches, "workspace"),
+        features,
+        all_features: is_given(matches, "all-features"),
+        no_default_features: is_given(matches, "no-default-features"),
+        profile,
+        lib: is_given(matches, "lib"),
+        bins: is_given(matches, "bins"),
+        bin,
+        target_dir,
+        runner,
+        tool,
+    })
+}
+
+/// What the subcommand asks for. A relative path of a session's file starts at the current folder.
+fn asked_by(
+    alloc: Global,
+    tool: &str,
+    folder: &PathText,
+    matches: &ArgMatches<'_>,
+) -> Result<Asked, Unasked>
+    ensures { IfOk result (AsksBy tool.now folder.now (subcommand_rows_of matches.now)) }
+{
+    if let Some(build) = matches.subcommand_matches("build") {
+        let options = options_of(alloc, tool, folder, build)?;
+        return Ok(Asked::Build(options));
+    }
+    match matches.subcommand_matches("session") {
+        Some(session) => {
+            let path = path_of(alloc, folder, first_or(session, "FILE", ""))?;
+            Ok(Asked::Session(path))
+        }
+        None => Err(no_command(alloc)),
+    }
+}
+
+/// The words as the description of the command line has them.
+fn matches_of<'a, S: AsStr>(alloc: Global, words: &'a [S]) -> Result<ArgMatches<'a>, Error>
+    ensures { IfOk result (λ matches. (formats : ValueParser) × IsJson formats × (subcommand_rows_of matches ≡ subcommand_of (program formats) (map S.text words.now))) }
+{
+    let program = program(alloc)?;
+    program.try_get_matches_from(words)
+}
+
+/// The first word; empty where there is none.
+fn tool_of<S: AsStr>(words: &[S]) -> &str
+    ensures { result.now ≡ tool_of (map S.text words.now) }
+{
+    match words.first() {
+        Some(word) => word.as_str(),
+        None => "",
+    }
+}
+
+/// What a command line asks for. The words are those of the whole command line, the program's own name first; relative
+/// paths start at `folder`.
+///
+/// Help where help was asked for, Wrong where the words or a path among them are wrong, each with the text that is to
+/// be printed; OutOfMemory where memory is refused.
+pub fn read_command_line<S: AsStr>(
+    alloc: Global,
+    words: &[S],
+    folder: &PathText,
+) -> Result<Asked, Unasked>
+    ensures { IfOk result (Asks (map S.text words.now) folder.now) }
+{
+    match matches_of(alloc, words) {
+        Ok(matches) => asked_by(alloc, tool_of(words), folder, &matches),
+        Err(error) => Err(unasked_of(alloc, &error)),
+    }
+}

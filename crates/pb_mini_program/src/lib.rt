@@ -1,0 +1,12 @@
+//! What the program `pb_mini` does: it answers as the small compiler, over a view and a place, and leaves the files of
+//! its reply there. `compiler` does so over the machine.
+#![tactic(auto)]
+
+pub mod fault;
+pub mod machine;
+pub mod out_folder;
+pub mod program;
+
+pub use fault::Fault;
+pub use machine::compiler;
+pub use program::carry_out;

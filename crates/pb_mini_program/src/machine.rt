@@ -1,0 +1,39 @@
+//! The small compiler over the machine.
+
+use crate::program::carry_out;
+use pb_data::{Items, Text};
+use pb_host::{HostPlace, HostView};
+use pb_place::Over;
+use std::{env, io};
+
+/// The words after the program's own name.
+fn words(rt: &HostRuntime) -> io::Result<Items<Text>> {
+    let mut words = Items::new(rt.alloc());
+    for word in env::args(rt)?.skip(1) {
+        words.push(Text::new(word))?;
+    }
+    Ok(words)
+}
+
+/// The status of a program that could not do its work.
+const FAILED: u8 = 2;
+
+/// Does what the words of this process ask for, over its files and variables, and gives the status to end with. 2
+/// where the words cannot be read, where a read or a write fails, and where memory is refused.
+pub fn compiler(rt: &HostRuntime) -> u8 {
+    let Ok(words) = words(rt) else {
+        return FAILED;
+    };
+    let answer = carry_out(
+        rt.alloc(),
+        words.as_slice(),
+        &HostView::new(rt),
+        &mut HostPlace::new(rt.alloc(), rt),
+        &mut Over::new(io::writer(rt)),
+        &mut Over::new(rt.stderr()),
+    );
+    match answer {
+        Ok(status) => u8::try_from(status).unwrap_or(FAILED),
+        Err(_) => FAILED,
+    }
+}

@@ -1,0 +1,13 @@
+//! What the program `pb_tool` does, over any place: it builds a workspace, or runs a session in memory. `tool` does so
+//! over the machine.
+#![tactic(auto)]
+
+pub mod building;
+pub mod machine;
+pub mod running;
+pub mod session;
+
+pub use building::build_options;
+pub use machine::tool;
+pub use running::run;
+pub use session::{run_session, write_results};

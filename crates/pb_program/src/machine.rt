@@ -1,0 +1,49 @@
+//! The program over the machine.
+
+use crate::running::{BAD_COMMAND_LINE, FAILED, run};
+use pb_host::HostPlace;
+use pb_place::{Over, PathText, write_all};
+use std::io::ErrorKind;
+use std::{env, io};
+
+/// The words of the command line, the program's own name first.
+fn words(rt: &HostRuntime) -> io::Result<Vec<String>> {
+    let words = env::args(rt)?.collect(rt.alloc())?;
+    Ok(words)
+}
+
+/// The current folder, where it is known.
+fn folder(rt: &HostRuntime) -> Option<PathText> {
+    let path = env::current_dir(rt).ok()?;
+    PathText::parse(rt.alloc(), path.as_str()).ok()
+}
+
+/// Says on standard error why nothing was done.
+fn say(rt: &HostRuntime, text: &str) {
+    let _ = write_all(&mut Over::new(rt.stderr()), text.as_bytes());
+}
+
+/// Does what the words of this process ask for, over its files, variables and children, and gives the status to end
+/// with: that of `run`; 1 where a word is not UTF-8; 101 where the current folder is not known.
+pub fn tool(rt: &HostRuntime) -> u8 {
+    let words = match words(rt) {
+        Ok(words) => words,
+        Err(error) if error.kind() == ErrorKind::OutOfMemory => return FAILED,
+        Err(_) => {
+            say(rt, "error: a word of the command line is not UTF-8\n");
+            return BAD_COMMAND_LINE;
+        }
+    };
+    let Some(folder) = folder(rt) else {
+        say(rt, "error: the current folder is not known\n");
+        return FAILED;
+    };
+    run(
+        rt.alloc(),
+        words.as_slice(),
+        &folder,
+        &mut HostPlace::new(rt.alloc(), rt),
+        &mut Over::new(io::writer(rt)),
+        &mut Over::new(rt.stderr()),
+    )
+}
