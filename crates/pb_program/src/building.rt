@@ -6,7 +6,7 @@ ghost use Rattle.pb_build.specs.Ending.{Moment, moment, Builds};
 ghost use Rattle.pb_report.specs.ResultLine.{result_line};
 ghost use Rattle.pb_report.specs.declared.fault.BuildFault.{BuildFault};
 ghost use Rattle.pb_report.specs.declared.summary.Summary.{Summary};
-ghost use Rattle.pb_program.specs.Building.{status_of, notes_of, error_of, BuildsTold};
+ghost use Rattle.pb_program.specs.Building.{status_of, notes_of, error_of, error_if, WritesFirst, Notes, BuildsTold};
 
 use pb_build::{build, missing_libraries};
 use pb_data::Text;
@@ -57,27 +57,35 @@ fn error_of(alloc: Global, answer: &Result<Summary, BuildFault>) -> Result<Strin
 }
 
 /// Tells which packages that are depended on have no library. Where that cannot be found out, or memory is refused,
-/// nothing is told: the build then says why.
+/// nothing is told: the build then says why. No child is started.
 fn note<P: Place, E: Out>(alloc: Global, place: &mut P, err: &mut E, options: &Options)
     ensures same { IsTrue P.tells → P.world place.new ≡ P.world place.old }
+    ensures unstarted { (P.counts place.new).starts ≡ (P.counts place.old).starts }
+    ensures notes { Notes P.tells options.now (P.world place.old) (E.taken err.old) (E.taken err.new) }
 {
-    if let Ok(names) = missing_libraries(alloc, place, options) {
-        if let Ok(notes) = notes_of(alloc, names.as_slice()) {
-            let _ = write_all(err, notes.as_bytes());
-        }
-    }
+    let names = match missing_libraries(alloc, place, options) {
+        Ok(names) => names,
+        Err(_) => return,
+    };
+    let notes = match notes_of(alloc, names.as_slice()) {
+        Ok(notes) => notes,
+        Err(_) => return,
+    };
+    let _ = write_all(err, notes.as_bytes());
 }
 
-/// Tells why a build failed, where it did.
-fn tell<E: Out>(alloc: Global, err: &mut E, answer: &Result<Summary, BuildFault>)
-    ensures { status_of answer.now ≡ 0 → err.new ≡ err.old }
+/// Tells why a build failed, where its status says so. Where memory is refused, nothing is told.
+fn tell<E: Out>(alloc: Global, err: &mut E, status: u8, answer: &Result<Summary, BuildFault>)
+    ensures { WritesFirst (error_if status answer.now) (E.taken err.old) (E.taken err.new) }
 {
-    if status_of(answer) == 0 {
+    if status == 0 {
         return;
     }
-    if let Ok(line) = error_of(alloc, answer) {
-        let _ = write_all(err, line.as_bytes());
-    }
+    let line = match error_of(alloc, answer) {
+        Ok(line) => line,
+        Err(_) => return,
+    };
+    let _ = write_all(err, line.as_bytes());
 }
 
 /// Builds, and gives the status: 0 for success, 101 for a build that failed or was refused, with `error: ` and its
@@ -90,11 +98,13 @@ pub fn build_options<P: Place, O: Out, E: Out>(
     err: &mut E,
     options: &Options,
 ) -> u8
-    ensures { BuildsTold P.tells P.child options.now (P.world place.old) record { taken = O.taken out.old; faults = O.faults out.old } result
-        (moment (P.world place.new) (P.counts place.new) (O.taken out.new) (O.faults out.new)) }
+    ensures { BuildsTold P.tells P.child options.now result
+        (moment (P.world place.old) (P.counts place.old) (O.taken out.old) (O.faults out.old)) (moment (P.world place.new) (P.counts place.new) (O.taken out.new) (O.faults out.new))
+        (E.taken err.old) (E.taken err.new) }
 {
     note(alloc, place, err, options);
     let answer = build(alloc, place, out, options);
-    tell(alloc, err, &answer);
-    status_of(&answer)
+    let status = status_of(&answer);
+    tell(alloc, err, status, &answer);
+    status
 }
