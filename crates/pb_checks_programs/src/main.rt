@@ -63,8 +63,12 @@ fn printed(rt: &HostRuntime, here: &str, name: &str) -> io::Result<String> {
 /// Carries out all scripts, and prints what they print.
 fn print_all(rt: &HostRuntime) -> io::Result<()> {
     let here = env::current_dir(rt)?;
+    let names = names(rt)?;
+    if names.is_empty() {
+        return Ok(());
+    }
     link_programs(rt, here.as_str())?;
-    for name in names(rt)?.as_slice() {
+    for name in names.as_slice() {
         let text = printed(rt, here.as_str(), name.as_str())?;
         print!(rt; "== {name}\n{text}")?;
     }
