@@ -5,7 +5,6 @@ ghost use Rattle.pb_place.specs.Counts.{no_calls, past_call, past_place_fault, p
 ghost use Rattle.pb_place.specs.declared.place.PlaceFault.TheVariants.{OutOfMemory};
 ghost use Rattle.pb_place.specs.declared.place.Failure.TheVariants.{Started};
 ghost use Rattle.pb_place.specs.declared.place.StartFault.TheVariants as start_fault;
-ghost use Rattle.pb_checks_builds.specs.Fused.{seen};
 
 use pb_data::{Bytes, Items, Text};
 use pb_mini::Mini;
@@ -60,7 +59,7 @@ impl Fused {
 
     /// Whether this is the call that fails. One call less is left to it.
     fn burns(&mut self) -> bool
-        ensures { seen self.new ≡ seen self.old }
+        ensures { record { failures = self.new.failures; starts = self.new.starts; late = self.new.late; last = self.new.last; named = self.new.named } ≡ record { failures = self.old.failures; starts = self.old.starts; late = self.old.late; last = self.old.last; named = self.old.named } }
     {
         let is_last = self.fuse == 1;
         self.fuse = self.fuse.saturating_sub(1);
@@ -69,7 +68,7 @@ impl Fused {
 
     /// Counts a call that did not fail.
     fn pass(&mut self)
-        ensures { seen self.new ≡ past_call (seen self.old) }
+        ensures { record { failures = self.new.failures; starts = self.new.starts; late = self.new.late; last = self.new.last; named = self.new.named } ≡ past_call record { failures = self.old.failures; starts = self.old.starts; late = self.old.late; last = self.old.last; named = self.old.named } }
     {
         self.late = if self.failures == 0 {
             0
@@ -82,7 +81,7 @@ impl Fused {
     fn fail(&mut self, alloc: Global, fault: PlaceFault, name: &str) -> PlaceFault
         requires real { fault ≢ OutOfMemory }
         ensures told { (result ≡ OutOfMemory) ⊎ (result ≡ fault) }
-        ensures counts { seen self.new ≡ past_place_fault name.now result (seen self.old) }
+        ensures counts { record { failures = self.new.failures; starts = self.new.starts; late = self.new.late; last = self.new.last; named = self.new.named } ≡ past_place_fault name.now result record { failures = self.old.failures; starts = self.old.starts; late = self.old.late; last = self.old.last; named = self.old.named } }
     {
         match Text::from_str(alloc, name) {
             Ok(named) => {
@@ -102,7 +101,7 @@ impl Fused {
     /// Counts a start that fails, as it fails here; where its kind is want of memory it is as a child that dies.
     fn fail_start(&mut self) -> StartFault
         ensures real { result ≢ start_fault.OutOfMemory }
-        ensures counts { seen self.new ≡ past_fault (Started result) (seen self.old) }
+        ensures counts { record { failures = self.new.failures; starts = self.new.starts; late = self.new.late; last = self.new.last; named = self.new.named } ≡ past_fault (Started result) record { failures = self.old.failures; starts = self.old.starts; late = self.old.late; last = self.old.last; named = self.old.named } }
     {
         let fault = match self.kind {
             StartFault::CannotStart => StartFault::CannotStart,
@@ -117,7 +116,7 @@ impl Fused {
 
     /// Starts a child that is cut off: what it leaves is there in part, or whole where only its output is lost.
     fn cut_off(&mut self, alloc: Global, command: &Command)
-        ensures { seen self.new ≡ seen self.old }
+        ensures { record { failures = self.new.failures; starts = self.new.starts; late = self.new.late; last = self.new.last; named = self.new.named } ≡ record { failures = self.old.failures; starts = self.old.starts; late = self.old.late; last = self.old.last; named = self.old.named } }
     {
         if self.kind == StartFault::CannotStart {
             return;
@@ -142,7 +141,7 @@ impl Place for Fused {
 
     ghost child = { λ _ _. record { status = pos 0; stdout = []; stderr = []; files = [] } };
 
-    ghost counts = { seen };
+    ghost counts = { λ place. record { failures = place.failures; starts = place.starts; late = place.late; last = place.last; named = place.named } };
 
     ghost fails = { λ _. Unit {0} };
 
