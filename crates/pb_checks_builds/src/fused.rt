@@ -1,6 +1,7 @@
 //! A place in memory one of whose calls fails.
 
 ghost use Rattle.std.specs.Prelude.{◌≡◌, ◌≢◌, ◌⊎◌};
+ghost use Rattle.pb_checks_builds.specs.Counted.{counters};
 ghost use Rattle.pb_place.specs.Counts.{no_calls, past_call, past_place_fault, past_fault, one_start};
 ghost use Rattle.pb_place.specs.declared.place.PlaceFault.TheVariants.{OutOfMemory};
 ghost use Rattle.pb_place.specs.declared.place.Failure.TheVariants.{Started};
@@ -59,7 +60,7 @@ impl Fused {
 
     /// Whether this is the call that fails. One call less is left to it.
     fn burns(&mut self) -> bool
-        ensures { record { failures = self.new.failures; starts = self.new.starts; late = self.new.late; last = self.new.last; named = self.new.named } ≡ record { failures = self.old.failures; starts = self.old.starts; late = self.old.late; last = self.old.last; named = self.old.named } }
+        ensures { counters self.new.failures self.new.starts self.new.late self.new.last self.new.named ≡ counters self.old.failures self.old.starts self.old.late self.old.last self.old.named }
     {
         let is_last = self.fuse == 1;
         self.fuse = self.fuse.saturating_sub(1);
@@ -116,7 +117,7 @@ impl Fused {
 
     /// Starts a child that is cut off: what it leaves is there in part, or whole where only its output is lost.
     fn cut_off(&mut self, alloc: Global, command: &Command)
-        ensures { record { failures = self.new.failures; starts = self.new.starts; late = self.new.late; last = self.new.last; named = self.new.named } ≡ record { failures = self.old.failures; starts = self.old.starts; late = self.old.late; last = self.old.last; named = self.old.named } }
+        ensures { counters self.new.failures self.new.starts self.new.late self.new.last self.new.named ≡ counters self.old.failures self.old.starts self.old.late self.old.last self.old.named }
     {
         if self.kind == StartFault::CannotStart {
             return;
