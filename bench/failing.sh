@@ -191,8 +191,8 @@ with open(f"{examples}/stdout", "rb") as it:
     parts = (part.partition(b"\n") for part in re.split(rb"^== ", it.read(), flags=re.MULTILINE)[1:])
     outputs = {name.decode(): printed for name, _, printed in parts}
 names = sorted(it.removesuffix(".json") for it in os.listdir(f"{examples}/data") if it.endswith(".json"))
-if names != sorted(outputs):
-    sys.exit("the examples are not those of the file stdout")
+if not set(names) <= set(outputs):
+    sys.exit("the file stdout has not all examples")
 alone, on = zip(*(try_example(name) for name in names))
 for what, found in (("alone", alone), ("with all that follow", on)):
     print(f"{sum(it[0] for it in found)} allocations refused {what}, {sum(it[1] for it in found)} outcomes were wrong")

@@ -6,3 +6,11 @@ pub mod StepsTaken
 pub mod Refusals
 pub mod LookingAt
 pub mod Edits
+pub mod Once
+pub mod Laid
+pub mod Crowd
+pub mod Reasons
+pub mod SamePlan
+pub mod SameOutcomes
+pub mod Naming
+pub mod OneResult

@@ -31,14 +31,14 @@ same_refusal : (options : Options) (target : List ℕ) (v w : World) (why : Refu
 same_refusal options target v w _ alike (by_load fault told) = by_load fault (sym (same_read options.manifest target v w alike) ∙ told)
 same_refusal options target v w _ alike (by_selection fault ws read told) = by_selection fault ws (sym (same_read options.manifest target v w alike) ∙ read) told
 same_refusal options target v w _ alike (by_feature fault ws selection is told) = by_feature fault ws selection record { read = sym (same_read options.manifest target v w alike) ∙ is.read; chosen = is.chosen } told
-same_refusal options target v w _ alike (by_plan fault ws selection features is resolved told) =
-    by_plan fault ws selection features record { read = sym (same_read options.manifest target v w alike) ∙ is.read; chosen = is.chosen } resolved told
+same_refusal options target v w _ alike (by_plan fault ws selection features is featured told) =
+    by_plan fault ws selection features record { read = sym (same_read options.manifest target v w alike) ∙ is.read; chosen = is.chosen } featured told
 
 same_project : (options : Options) (target : List ℕ) (v w : World) (project : Project) → from_nothing target v ≡ from_nothing target w → IsProject options target v project → IsProject options target w project
 same_project options target v w project alike is = record {
   selection = is.selection;
   selected = record { read = sym (same_read options.manifest target v w alike) ∙ is.selected.read; chosen = is.selected.chosen };
-  resolved = is.resolved;
+  featured = is.featured;
   profile = is.profile;
   planned = is.planned;
 }

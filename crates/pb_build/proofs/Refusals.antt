@@ -1,7 +1,6 @@
 -- Refusals, told as faults of a build.
 use Rattle.std.proofs.Common.{◌≡◌, ◌≢◌, ◌∙◌, ◌⊎◌, ℕ, List, Bool, true, false, Ok, Err, refl, sym, ap, subst, inl, inr}
 use Rattle.pb_feature.specs.Faults as feature
-use Rattle.pb_feature.specs.Resolved.{IsResolved}
 use Rattle.pb_feature.specs.declared.fault.FeatureFault.{FeatureFault}
 use Rattle.pb_feature.specs.declared.resolved.Features.{Features}
 use Rattle.pb_place.specs.World.{World}
@@ -19,8 +18,8 @@ use Rattle.pb_workspace.specs.declared.fault.LoadFault.TheVariants as load
 use Rattle.pb_workspace.specs.declared.options.Options.{Options}
 use Rattle.pb_workspace.specs.declared.options.Selection.{Selection}
 use Rattle.pb_workspace.specs.declared.workspace.Workspace.{Workspace}
-use Rattle.pb_build.specs.Planning.{IsRefused, by_load, by_selection, by_feature, by_plan}
-use Rattle.pb_build.specs.Private.{unread, IsToldRefusal, IsRefusedOf, HasNoProject}
+use Rattle.pb_build.specs.Planning.{IsFeatured, IsToldRefusal, IsRefused, by_load, by_selection, by_feature, by_plan}
+use Rattle.pb_build.specs.Private.{unread, IsUnrefused, IsRefusedOf, HasNoProject}
 use Rattle.pb_build.specs.Private as private
 
 -- a workspace that cannot be read
@@ -53,16 +52,16 @@ unresolved options ws selection e chosen (inr (fault, is, told)) = subst (IsRefu
 abbrev pub Stops : Workspace → Selection → Features → List ℕ → BuildFault → Type 0
 Stops ws selection features profile e = (e ≡ OutOfMemory) ⊎ ((fault : PlanFault) × (e ≡ Plan (refusal.Plan fault)) × plan.Refuses ws features selection profile fault)
 
-pub unplanned : (options : Options) (ws : Workspace) (selection : Selection) (features : Features) (e : BuildFault) → selected ws options ≡ Ok selection → IsResolved ws selection features
+pub unplanned : (options : Options) (ws : Workspace) (selection : Selection) (features : Features) (e : BuildFault) → selected ws options ≡ Ok selection → IsFeatured ws selection features
     → Stops ws selection features options.profile e → IsRefusedOf options ws e
-unplanned options ws selection features e chosen resolved (inl none) = subst (IsRefusedOf options ws) (sym none) tt
-unplanned options ws selection features e chosen resolved (inr (fault, is, told)) = subst (IsRefusedOf options ws) (sym is) (private.by_plan fault selection features chosen resolved told)
+unplanned options ws selection features e chosen featured (inl none) = subst (IsRefusedOf options ws) (sym none) tt
+unplanned options ws selection features e chosen featured (inr (fault, is, told)) = subst (IsRefusedOf options ws) (sym is) (private.by_plan fault selection features chosen featured told)
 
 -- the refusals of a workspace are refusals of the world in which it was read
 no_project : (options : Options) (target : List ℕ) (w : World) (ws : Workspace) (why : Refusal) → workspace_of options.manifest target w ≡ Ok ws → HasNoProject options ws why → IsRefused options target w why
 no_project options target w ws _ read (private.by_selection fault told) = by_selection fault ws read told
 no_project options target w ws _ read (private.by_feature fault selection chosen told) = by_feature fault ws selection record { read = read; chosen = chosen } told
-no_project options target w ws _ read (private.by_plan fault selection features chosen resolved told) = by_plan fault ws selection features record { read = read; chosen = chosen } resolved told
+no_project options target w ws _ read (private.by_plan fault selection features chosen featured told) = by_plan fault ws selection features record { read = read; chosen = chosen } featured told
 
 pub refused_there : (options : Options) (target : List ℕ) (w : World) (ws : Workspace) (e : BuildFault) → workspace_of options.manifest target w ≡ Ok ws → IsRefusedOf options ws e → IsToldRefusal options target w e
 refused_there options target w ws (Plan why) read told = no_project options target w ws why read told
@@ -71,3 +70,12 @@ refused_there options target w ws (Child unit fault) read told = absurd told
 refused_there options target w ws (Device name fault) read told = absurd told
 refused_there options target w ws Sink read told = absurd told
 refused_there options target w ws OutOfMemory read told = tt
+
+-- a fault that is no refusal
+pub unrefused_told : (options : Options) (target : List ℕ) (w : World) (e : BuildFault) → IsUnrefused e → IsToldRefusal options target w e
+unrefused_told options target w (Plan why) none = absurd none
+unrefused_told options target w Toolchain none = tt
+unrefused_told options target w (Child unit fault) none = tt
+unrefused_told options target w (Device name fault) none = tt
+unrefused_told options target w Sink none = tt
+unrefused_told options target w OutOfMemory none = tt

@@ -14,6 +14,8 @@ use Rattle.pb_feature.specs.declared.resolved.Features.{Features}
 use Rattle.pb_unit.specs.Plan as plan
 use Rattle.pb_unit.specs.declared.fault.PlanFault.{PlanFault}
 use Rattle.pb_command.specs.declared.project.Project.{Project}
+use Rattle.pb_report.specs.declared.fault.BuildFault.{BuildFault}
+use Rattle.pb_report.specs.declared.fault.BuildFault.TheVariants as told
 use Rattle.pb_report.specs.declared.fault.Refusal.{Refusal}
 use Rattle.pb_report.specs.declared.fault.Refusal.TheVariants.{Load, Feature, Plan}
 
@@ -22,11 +24,16 @@ pub record IsSelected (options : Options) (target : List ℕ) (w : World) (ws : 
   pub read : workspace_of options.manifest target w ≡ Ok ws
   pub chosen : selected ws options ≡ Ok selection
 
+-- these features of a selection are on, and nothing is wrong with what is asked of features
+pub record IsFeatured (ws : Workspace) (selection : Selection) (features : Features) : Type 0 where
+  pub right : (fault : FeatureFault) → feature.Refuses ws selection fault → ⊥
+  pub resolved : IsResolved ws selection features
+
 -- the project of a build: its workspace, its features and its plan
 pub record IsProject (options : Options) (target : List ℕ) (w : World) (project : Project) : Type 0 where
   pub selection : Selection
   pub selected : IsSelected options target w project.workspace selection
-  pub resolved : IsResolved project.workspace selection project.features
+  pub featured : IsFeatured project.workspace selection project.features
   pub profile : project.profile ≡ options.profile
   pub planned : plan.IsPlan project.workspace project.features selection options.profile project.plan
 
@@ -35,5 +42,14 @@ pub data IsRefused (options : Options) (target : List ℕ) (w : World) : Refusal
   by_load : (fault : LoadFault) (told : workspace_of options.manifest target w ≡ Err fault) → IsRefused options target w (Load fault)
   by_selection : (fault : LoadFault) (ws : Workspace) (read : workspace_of options.manifest target w ≡ Ok ws) (told : selected ws options ≡ Err fault) → IsRefused options target w (Load fault)
   by_feature : (fault : FeatureFault) (ws : Workspace) (selection : Selection) (is : IsSelected options target w ws selection) (told : feature.Refuses ws selection fault) → IsRefused options target w (Feature fault)
-  by_plan : (fault : PlanFault) (ws : Workspace) (selection : Selection) (features : Features) (is : IsSelected options target w ws selection) (resolved : IsResolved ws selection features)
+  by_plan : (fault : PlanFault) (ws : Workspace) (selection : Selection) (features : Features) (is : IsSelected options target w ws selection) (featured : IsFeatured ws selection features)
       (told : plan.Refuses ws features selection options.profile fault) → IsRefused options target w (Plan fault)
+
+-- a refusal that is told is one of this world
+abbrev pub IsToldRefusal : Options → List ℕ → World → BuildFault → Type 0
+IsToldRefusal options target w (told.Plan why) = IsRefused options target w why
+IsToldRefusal options target w told.Toolchain = Unit {0}
+IsToldRefusal options target w (told.Child unit fault) = Unit {0}
+IsToldRefusal options target w (told.Device name fault) = Unit {0}
+IsToldRefusal options target w told.Sink = Unit {0}
+IsToldRefusal options target w told.OutOfMemory = Unit {0}

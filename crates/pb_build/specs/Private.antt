@@ -19,9 +19,8 @@ use Rattle.pb_run.specs.Outcome.{outcomes, outcome_by, directives_in}
 use Rattle.pb_report.specs.declared.fault.Refusal.TheVariants as refusal
 use Rattle.pb_build.specs.Causes.{SomeStarts}
 use Rattle.pb_build.specs.Ending.{Heard}
-use Rattle.pb_build.specs.Planning.{IsRefused}
+use Rattle.pb_build.specs.Planning.{IsFeatured}
 use Rattle.pb_feature.specs.Faults as feature
-use Rattle.pb_feature.specs.Resolved.{IsResolved}
 use Rattle.pb_feature.specs.declared.fault.FeatureFault.{FeatureFault}
 use Rattle.pb_feature.specs.declared.resolved.Features.{Features}
 use Rattle.pb_report.specs.declared.fault.Refusal.{Refusal}
@@ -78,15 +77,6 @@ IsUnrefused (Device name fault) = Unit {0}
 IsUnrefused Sink = Unit {0}
 IsUnrefused OutOfMemory = Unit {0}
 
--- a refusal is one of this world
-abbrev pub IsToldRefusal : Options → List ℕ → World → BuildFault → Type 0
-IsToldRefusal options target w (Plan why) = IsRefused options target w why
-IsToldRefusal options target w Toolchain = Unit {0}
-IsToldRefusal options target w (Child unit fault) = Unit {0}
-IsToldRefusal options target w (Device name fault) = Unit {0}
-IsToldRefusal options target w Sink = Unit {0}
-IsToldRefusal options target w OutOfMemory = Unit {0}
-
 -- the fault of a build whose workspace cannot be read
 abbrev pub unread : LoadFault → BuildFault
 unread (load.NoManifest path) = Plan (refusal.Load (load.NoManifest path))
@@ -107,7 +97,7 @@ unread load.OutOfMemory = OutOfMemory
 pub data HasNoProject (options : Options) (ws : Workspace) : Refusal → Type 0 where
   by_selection : (fault : LoadFault) (told : selected ws options ≡ Err fault) → HasNoProject options ws (refusal.Load fault)
   by_feature : (fault : FeatureFault) (selection : Selection) (chosen : selected ws options ≡ Ok selection) (told : feature.Refuses ws selection fault) → HasNoProject options ws (refusal.Feature fault)
-  by_plan : (fault : PlanFault) (selection : Selection) (features : Features) (chosen : selected ws options ≡ Ok selection) (resolved : IsResolved ws selection features)
+  by_plan : (fault : PlanFault) (selection : Selection) (features : Features) (chosen : selected ws options ≡ Ok selection) (featured : IsFeatured ws selection features)
       (told : plan.Refuses ws features selection options.profile fault) → HasNoProject options ws (refusal.Plan fault)
 
 abbrev pub IsRefusedOf : Options → Workspace → BuildFault → Type 0

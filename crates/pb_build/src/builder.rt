@@ -6,7 +6,7 @@ ghost use Rattle.pb_build.specs.Causes.{BuildStarts, MayPlan, MayBuild};
 ghost use Rattle.pb_build.specs.Ending.{moment, ProjectEnds, Works, WorksWith, Closes, Builds};
 ghost use Rattle.pb_build.specs.Environment.{environment_of};
 ghost use Rattle.pb_build.specs.Kept.{SourcesStay};
-ghost use Rattle.pb_build.specs.Planning.{IsProject};
+ghost use Rattle.pb_build.specs.Planning.{IsProject, IsToldRefusal};
 ghost use Rattle.pb_build.specs.Private.{MayEnd};
 ghost use Rattle.pb_build.specs.Result.{setup_of};
 ghost use Rattle.pb_run.specs.Causes.{Takes, NoStart};
@@ -174,6 +174,7 @@ pub fn missing_libraries<P: Place>(
 ) -> Result<Items<Text>, BuildFault>
     ensures names { IsTrue P.tells → IfOk result (λ names. (project : Project) × IsProject options.now (environment_of options.now (P.world place.old).variables).target (P.world place.old) project × (names ≡ project.plan.without_library)) }
     ensures same { IsTrue P.tells → P.world place.new ≡ P.world place.old }
+    ensures refused { IsTrue P.tells → IfErr result (IsToldRefusal options.now (environment_of options.now (P.world place.old).variables).target (P.world place.old)) }
     ensures takes { Takes NoStart MayPlan result (P.counts place.old) (P.counts place.new) }
 {
     let environment = match environment_of(place, alloc, options) {

@@ -1,6 +1,6 @@
 //! Laws of what a build gives. Each function does nothing; its contract is the law.
 
-ghost use Rattle.pb_build.specs.Laws.{LooksAtSources, GivesFromNothing};
+ghost use Rattle.pb_build.specs.Laws.{LooksAtSources, GivesFromNothing, HasOneResult};
 ghost use Rattle.pb_build.specs.Session.{Unaffected};
 
 /// What stands in the target folder is not seen: two worlds with the same variables and the same files outside it give
@@ -14,4 +14,10 @@ pub fn builds_look_at_sources()
 /// what the edits alone let it give.
 pub fn earlier_builds_change_nothing()
     ensures { Unaffected }
+{}
+
+/// A world has one result alone: it is refused for one reason, or the compiler does not say its version, or the same
+/// units of the same plan have ended with the same outcomes.
+pub fn worlds_have_one_result()
+    ensures { HasOneResult }
 {}

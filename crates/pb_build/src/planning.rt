@@ -3,14 +3,13 @@
 ghost use Rattle.std.specs.Prelude.{◌≡◌, ◌⊎◌, ◌<◌, All, AllPairs, IfOk, IfErr, IsTrue, Ok, Err, length};
 ghost use Rattle.pb_place.specs.World.{World};
 ghost use Rattle.pb_build.specs.Causes.{MayPlan};
-ghost use Rattle.pb_build.specs.Planning.{IsProject, IsRefused};
-ghost use Rattle.pb_build.specs.Private.{NamesCall, IsToldRefusal, IsRefusedOf, unread};
+ghost use Rattle.pb_build.specs.Planning.{IsFeatured, IsProject, IsRefused, IsToldRefusal};
+ghost use Rattle.pb_build.specs.Private.{NamesCall, IsRefusedOf, unread};
 ghost use Rattle.pb_build.specs.declared.environment.Environment.{Environment};
 ghost use Rattle.pb_workspace.specs.Loaded.{workspace_of};
 ghost use Rattle.pb_workspace.specs.Selected.{selected};
 ghost use Rattle.pb_workspace.specs.Settled.{IsSettled};
 ghost use Rattle.pb_feature.specs.Faults as feature;
-ghost use Rattle.pb_feature.specs.Resolved.{IsResolved};
 ghost use Rattle.pb_unit.specs.Plan as plan;
 ghost use Rattle.pb_report.specs.declared.fault.BuildFault.TheVariants as build_fault;
 ghost use Rattle.pb_report.specs.declared.fault.Refusal.TheVariants as refusal;
@@ -86,7 +85,7 @@ fn featured(
 ) -> Result<Features, BuildFault>
     requires settled { IsSettled workspace.now }
     requires selected { All (λ p. p < length workspace.now.packages) selection.now.packages }
-    ensures resolved { IfOk result (IsResolved workspace.now selection.now) }
+    ensures featured { IfOk result (IsFeatured workspace.now selection.now) }
     ensures refused { IfErr result (λ e. (e ≡ build_fault.OutOfMemory) ⊎ ((fault : FeatureFault) × (e ≡ build_fault.Plan (refusal.Feature fault)) × feature.Refuses workspace.now selection.now fault)) }
 {
     match resolve(alloc, workspace, selection) {
@@ -121,7 +120,7 @@ fn plan_of(
 fn project_of(alloc: Global, options: &Options, workspace: Workspace) -> Result<Project, BuildFault>
     requires settled { IsSettled workspace }
     ensures project { IfOk result (λ project. (project.workspace ≡ workspace) × (project.profile ≡ options.now.profile) × ((selection : Selection) × (selected workspace options.now ≡ Ok selection)
-        × IsResolved workspace selection project.features × plan.IsPlan workspace project.features selection options.now.profile project.plan)) }
+        × IsFeatured workspace selection project.features × plan.IsPlan workspace project.features selection options.now.profile project.plan)) }
     ensures order { IfOk result IsInOrder }
     ensures refused { IfErr result (IsRefusedOf options.now workspace) }
 {

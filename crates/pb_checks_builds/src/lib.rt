@@ -1,8 +1,7 @@
-//! Tests of whole builds with a compiler that the small compiler cannot play, and over a place whose calls fail.
+//! Tests of what data cannot say: sessions over sinks that fail, and builds over a place whose calls fail. All else of
+//! builds and programs is tested by the examples.
 #![tactic(auto)]
 
-#[cfg(test)]
-mod answers;
 #[cfg(test)]
 mod building;
 #[cfg(test)]
@@ -10,4 +9,4 @@ mod failing;
 #[cfg(test)]
 mod fused;
 #[cfg(test)]
-mod telling;
+mod sinks;

@@ -1,10 +1,10 @@
 //! Questions about the units of a project, and their answers.
 
-use crate::child::Silent;
 use crate::making::{done_of, file_of, text};
 use crate::show::{
     shown_answer, shown_pair, shown_pairs, shown_path, shown_rest, shown_tail, shown_words,
 };
+use pb_checks_files::Silent;
 use pb_command::{Project, Setup, answered, command, crate_name_of, dep_info_path, made_file};
 use pb_data::{Bytes, Items, Text};
 use pb_directive::Directives;

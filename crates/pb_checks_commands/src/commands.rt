@@ -2,8 +2,8 @@
 
 use crate::asking::{Case, asked, case_of};
 use crate::cases::CASES;
-use crate::child::Silent;
-use crate::making::{options_of, project_of, put_files};
+use crate::making::{options_of, project_of};
+use pb_checks_files::{Silent, put_files};
 use pb_place::Memory;
 use pb_unit::Planned;
 use std::alloc::Global;

@@ -1,13 +1,12 @@
 //! How children end, dep-info that is too long, and the query.
 
-use crate::child::Silent;
-use crate::making::{options_of, project_of, put_files, text};
+use crate::making::{options_of, project_of, text};
 use crate::show::{shown_answer, shown_rest, shown_words};
+use pb_checks_files::{Silent, put_files};
 use pb_command::{Project, UnitFault, answered, ended_fault, query};
 use pb_data::Bytes;
 use pb_place::{Command, Ended, Memory};
 use std::alloc::{AllocError, Global};
-use std::process::Abort;
 use std::test::Fail;
 
 /// So many bytes behind a first part.
@@ -28,17 +27,33 @@ fn ended(alloc: Global, status: i32, stdout: usize, stderr: usize) -> Result<End
     })
 }
 
+/// Whether an end of these lengths is told to be too long.
+fn is_too_long(alloc: Global, stdout: usize, stderr: usize) -> Result<bool, Fail> {
+    let end = ended(alloc, 1, stdout, stderr)?;
+    Ok(matches!(ended_fault(&end), Some(UnitFault::OutputTooLong)))
+}
+
+/// Whether an end with two streams of this length is good.
+fn is_good(alloc: Global, length: usize) -> Result<bool, Fail> {
+    let end = ended(alloc, 0, length, length)?;
+    Ok(ended_fault(&end).is_none())
+}
+
+/// Whether an end of this status is told by it.
+fn has_status(alloc: Global, status: i32) -> Result<bool, Fail> {
+    let end = ended(alloc, status, 0, 0)?;
+    match ended_fault(&end) {
+        Some(UnitFault::Status(told)) => Ok(told == status),
+        _ => Ok(false),
+    }
+}
+
 #[test]
 fn long_streams(rt: HostRuntime) -> Result<(), Fail> {
-    let alloc = rt.alloc();
-    let good = ended_fault(&ended(alloc, 0, 4_194_304, 4_194_304)?);
-    assert!(rt; good.is_none());
-    let stdout = ended_fault(&ended(alloc, 1, 4_194_305, 0)?);
-    assert!(rt; matches!(stdout, Some(UnitFault::OutputTooLong)));
-    let stderr = ended_fault(&ended(alloc, 0, 0, 4_194_305)?);
-    assert!(rt; matches!(stderr, Some(UnitFault::OutputTooLong)));
-    let status = ended_fault(&ended(alloc, -1, 0, 0)?);
-    assert!(rt; matches!(status, Some(UnitFault::Status(-1))));
+    assert!(rt; is_good(rt.alloc(), 4_194_304)?);
+    assert!(rt; is_too_long(rt.alloc(), 4_194_305, 0)?);
+    assert!(rt; is_too_long(rt.alloc(), 0, 4_194_305)?);
+    assert!(rt; has_status(rt.alloc(), -1)?);
     Ok(())
 }
 
@@ -59,20 +74,26 @@ fn queried(alloc: Global, project: &Project) -> Result<Command, Fail> {
     Ok(query(alloc, &rustc, &project.workspace)?)
 }
 
+/// Whether the query asks for the version and nothing else.
+fn asks_version(alloc: Global, project: &Project) -> Result<bool, Fail> {
+    let command = queried(alloc, project)?;
+    let words = shown_words(alloc, command.words.as_slice())?;
+    let rest = shown_rest(alloc, &command)?;
+    Ok(
+        words.as_str() == "-vV"
+            && rest.as_str() == "my rustc /w - /w/target | "
+            && command.pairs.is_empty()
+            && command.toolchain.as_slice().is_empty(),
+    )
+}
+
 #[test]
 fn queries(rt: HostRuntime) -> Result<(), Fail> {
-    let alloc = rt.alloc();
-    if let Some(project) = library(alloc)? {
-        let command = queried(alloc, &project)?;
-        let words = shown_words(alloc, command.words.as_slice())?;
-        let rest = shown_rest(alloc, &command)?;
-        assert_eq!(rt; words.as_str(), "-vV");
-        assert_eq!(rt; rest.as_str(), "my rustc /w - /w/target | ");
-        assert!(rt; command.pairs.is_empty());
-        assert!(rt; command.toolchain.as_slice().is_empty());
-        return Ok(());
-    }
-    assert!(rt; false);
+    let is = match &library(rt.alloc())? {
+        Some(project) => asks_version(rt.alloc(), project)?,
+        None => false,
+    };
+    assert!(rt; is);
     Ok(())
 }
 
@@ -88,16 +109,19 @@ fn informed(alloc: Global, project: &Project, count: usize) -> Result<String, Fa
     shown_answer(alloc, answer)
 }
 
+/// Whether the longest dep-info is read, and none that is longer.
+fn reads_the_longest(alloc: Global, project: &Project) -> Result<bool, Fail> {
+    let longest = informed(alloc, project, 4_194_300)?;
+    let longer = informed(alloc, project, 4_194_301)?;
+    Ok(longest.len() == 4_194_303 && longer.as_str() == "NoDepInfo")
+}
+
 #[test]
 fn long_dep_info(rt: HostRuntime) -> Result<(), Fail> {
-    let alloc = rt.alloc();
-    if let Some(project) = library(alloc)? {
-        let longest = informed(alloc, &project, 4_194_300)?;
-        assert_eq!(rt; longest.len(), 4_194_303);
-        let longer = informed(alloc, &project, 4_194_301)?;
-        assert_eq!(rt; longer.as_str(), "NoDepInfo");
-        return Ok(());
-    }
-    assert!(rt; false);
+    let is = match &library(rt.alloc())? {
+        Some(project) => reads_the_longest(rt.alloc(), project)?,
+        None => false,
+    };
+    assert!(rt; is);
     Ok(())
 }

@@ -3,31 +3,20 @@
 ghost use Rattle.std.specs.Prelude.{◌<◌, IsTrue, All};
 ghost use Rattle.pb_workspace.specs.Settled.{IsSettled};
 
-use crate::child::Silent;
+use pb_checks_files::{Silent, no_options, workspace_in};
 use pb_command::Project;
 use pb_data::{Bytes, Items, Text};
 use pb_directive::{Directives, read_directives};
 use pb_feature::resolve;
 use pb_place::{Memory, PathText};
 use pb_unit::{Plan, Planned, What};
-use pb_workspace::{Options, Selection, Workspace, load, selected};
+use pb_workspace::{Options, Selection, Workspace, selected};
 use std::alloc::Global;
 use std::test::Fail;
 
 /// A text.
 pub fn text(alloc: Global, text: &str) -> Result<Text, Fail> {
     Ok(Text::from_str(alloc, text)?)
-}
-
-/// Puts the files of a case, each behind a line `@ PATH`.
-pub fn put_files(alloc: Global, memory: &mut Memory<Silent>, files: &str) -> Result<(), Fail> {
-    for file in files.split("@ ") {
-        if let Some((path, text)) = file.split_once('\n') {
-            let path = PathText::parse(alloc, path)?;
-            memory.put(alloc, &path, text.as_bytes())?;
-        }
-    }
-    Ok(())
 }
 
 /// The bytes of the file of a unit in a folder, or none where it is not there.
@@ -52,28 +41,15 @@ fn profile_in(words: &str) -> &str {
 
 /// A build of all members, with what words ask for: `+FEATURE`, and `@PROFILE` at the end.
 pub fn options_of(alloc: Global, words: &str) -> Result<Options, Fail> {
-    let mut features = Items::new(alloc);
+    let mut options = no_options(alloc)?;
+    options.workspace = true;
+    options.profile = text(alloc, profile_in(words))?;
     for word in words.split(' ') {
         if let Some(name) = word.strip_prefix("+") {
-            features.push(text(alloc, name)?)?;
+            options.features.push(text(alloc, name)?)?;
         }
     }
-    let profile = profile_in(words);
-    Ok(Options {
-        manifest: PathText::parse(alloc, "/w/Cargo.toml")?,
-        packages: Items::new(alloc),
-        workspace: true,
-        features,
-        all_features: false,
-        no_default_features: false,
-        profile: text(alloc, profile)?,
-        lib: false,
-        bins: false,
-        bin: Items::new(alloc),
-        target_dir: None,
-        runner: Items::new(alloc),
-        tool: text(alloc, "tool")?,
-    })
+    Ok(options)
 }
 
 /// Whether places are those of packages.
@@ -116,8 +92,7 @@ pub fn project_of(
     memory: &mut Memory<Silent>,
     options: Options,
 ) -> Result<Option<Project>, Fail> {
-    let target = PathText::parse(alloc, "/w/target")?;
-    let Ok(workspace) = load(memory, alloc, &options.manifest, &target) else {
+    let Ok(workspace) = workspace_in(alloc, memory)? else {
         return Ok(None);
     };
     match selected(alloc, &workspace, &options) {

@@ -3,45 +3,15 @@
 ghost use Rattle.pb_workspace.specs.Settled.{IsSettled};
 
 use crate::cases::CASES;
-use crate::child::Silent;
 use crate::show::shown;
-use pb_data::{Items, Text};
+use pb_checks_files::{Silent, no_options, put_files, workspace_in};
+use pb_data::Text;
 use pb_feature::resolve;
-use pb_place::{Memory, PathText};
-use pb_workspace::{Options, Selection, Workspace, load, selected};
+use pb_place::Memory;
+use pb_workspace::{Options, Workspace, selected};
 use std::alloc::Global;
 use std::process::Abort;
 use std::test::Fail;
-
-/// Puts the files of a case, each behind a line `@ PATH`.
-fn put_files(alloc: Global, memory: &mut Memory<Silent>, files: &str) -> Result<(), Fail> {
-    for file in files.split("@ ") {
-        if let Some((path, text)) = file.split_once('\n') {
-            let path = PathText::parse(alloc, path)?;
-            memory.put(alloc, &path, text.as_bytes())?;
-        }
-    }
-    Ok(())
-}
-
-/// The options of a build for which nothing is asked.
-fn no_options(alloc: Global) -> Result<Options, Fail> {
-    Ok(Options {
-        manifest: PathText::parse(alloc, "/w/Cargo.toml")?,
-        packages: Items::new(alloc),
-        workspace: false,
-        features: Items::new(alloc),
-        all_features: false,
-        no_default_features: false,
-        profile: Text::from_str(alloc, "dev")?,
-        lib: false,
-        bins: false,
-        bin: Items::new(alloc),
-        target_dir: None,
-        runner: Items::new(alloc),
-        tool: Text::from_str(alloc, "tool")?,
-    })
-}
 
 /// Adds what a word asks for: `p:NAME`, `f:TEXT` for the text of `--features`, `workspace`, `all` and `no-default`.
 fn add_word(alloc: Global, options: &mut Options, word: &str) -> Result<(), Fail> {
@@ -110,9 +80,7 @@ fn try_case(rt: &impl Abort, alloc: Global, case: &str) -> Result<usize, Fail> {
     };
     let mut memory = Memory::new(alloc, Silent);
     put_files(alloc, &mut memory, files)?;
-    let manifest = PathText::parse(alloc, "/w/Cargo.toml")?;
-    let target = PathText::parse(alloc, "/w/target")?;
-    let workspace = load(&mut memory, alloc, &manifest, &target)?;
+    let workspace = workspace_in(alloc, &mut memory)??;
     ask_all(rt, alloc, &workspace, questions)
 }
 

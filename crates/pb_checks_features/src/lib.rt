@@ -4,8 +4,6 @@
 #[cfg(test)]
 mod cases;
 #[cfg(test)]
-mod child;
-#[cfg(test)]
 mod features;
 #[cfg(test)]
 mod show;

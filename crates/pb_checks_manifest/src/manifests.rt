@@ -48,25 +48,31 @@ fn answer_to_blank(alloc: Global, length: usize) -> Result<String, Fail> {
     shown(alloc, &read_manifest(alloc, bytes.as_slice()))
 }
 
+const SIZES: &[(usize, &str)] = &[(1_048_576, "BadKind(Package)"), (1_048_577, "TooLarge")];
+
 #[test]
 fn sizes(rt: HostRuntime) -> Result<(), Fail> {
-    for (length, want) in [(1_048_576, "BadKind(Package)"), (1_048_577, "TooLarge")] {
+    for case in SIZES {
+        let (length, want) = *case;
         let answer = answer_to_blank(rt.alloc(), length)?;
         assert_eq!(rt; answer.as_str(), want);
     }
     Ok(())
 }
 
+const BYTES_THAT_ARE_NO_TEXT: &[&[u8]] = &[b"name = \"\xff\"", b"\x00", b"\xef\xbb"];
+
 #[test]
 fn bytes_that_are_no_text(rt: HostRuntime) {
-    for bytes in [b"name = \"\xff\"".as_slice(), b"\x00", b"\xef\xbb"] {
+    for case in BYTES_THAT_ARE_NO_TEXT {
+        let bytes = *case;
         let answer = read_manifest(rt.alloc(), bytes);
         assert!(rt; answer.is_err_and(|fault| fault == ManifestFault::NotToml));
     }
 }
 
 /// Texts, and whether each has the letters of a package's, a crate's and a feature's name.
-const LETTERS: [(&str, bool, bool, bool); 36] = [
+const LETTERS: &[(&str, bool, bool, bool)] = &[
     ("a", true, true, true),
     ("z", true, true, true),
     ("A", true, true, true),
@@ -107,19 +113,26 @@ const LETTERS: [(&str, bool, bool, bool); 36] = [
 
 #[test]
 fn letters(rt: HostRuntime) {
-    for (text, package, library, feature) in LETTERS {
+    for case in LETTERS {
+        let (text, package, library, feature) = *case;
         assert_eq!(rt; is_name(text), package, "{text}");
         assert_eq!(rt; is_crate_name(text), library, "{text}");
         assert_eq!(rt; is_feature_name(text), feature, "{text}");
     }
 }
 
+const WITH_BYTE_ZERO: &[&str] = &["\0", "a\0", "\0a"];
+
+const WITHOUT_BYTE_ZERO: &[&str] = &["", "0", "a\u{1}"];
+
 #[test]
 fn byte_zero(rt: HostRuntime) {
-    for text in ["\0", "a\0", "\0a"] {
+    for case in WITH_BYTE_ZERO {
+        let text = *case;
         assert!(rt; has_zero(text));
     }
-    for text in ["", "0", "a\u{1}"] {
+    for case in WITHOUT_BYTE_ZERO {
+        let text = *case;
         assert!(rt; !has_zero(text));
     }
 }
@@ -138,36 +151,39 @@ fn requirements(rt: HostRuntime) -> Result<(), Fail> {
     Ok(())
 }
 
+const FAULTS_IN_WORDS: &[(ManifestFault, &str)] = &[
+    (ManifestFault::NotToml, "the manifest is not TOML"),
+    (
+        ManifestFault::BadKind(Key::CodegenUnits),
+        "`codegen-units` has a value that it may not have",
+    ),
+    (
+        ManifestFault::BadName,
+        "a name is missing or has letters that it may not have",
+    ),
+    (
+        ManifestFault::BadVersion,
+        "a version or a version requirement cannot be read",
+    ),
+    (ManifestFault::UnsupportedTable, "a table is not supported"),
+    (
+        ManifestFault::UnsupportedSource,
+        "a dependency has a source that is not supported",
+    ),
+    (
+        ManifestFault::UnsupportedCrateType,
+        "a crate type is not supported",
+    ),
+    (ManifestFault::BadProfile, "a profile cannot be read"),
+    (ManifestFault::BadFeature, "a feature cannot be read"),
+    (ManifestFault::TooLarge, "the manifest is too large"),
+    (ManifestFault::OldResolver, "resolver 1 is not supported"),
+];
+
 #[test]
 fn faults_in_words(rt: HostRuntime) -> Result<(), Fail> {
-    for (fault, want) in [
-        (ManifestFault::NotToml, "the manifest is not TOML"),
-        (
-            ManifestFault::BadKind(Key::CodegenUnits),
-            "`codegen-units` has a value that it may not have",
-        ),
-        (
-            ManifestFault::BadName,
-            "a name is missing or has letters that it may not have",
-        ),
-        (
-            ManifestFault::BadVersion,
-            "a version or a version requirement cannot be read",
-        ),
-        (ManifestFault::UnsupportedTable, "a table is not supported"),
-        (
-            ManifestFault::UnsupportedSource,
-            "a dependency has a source that is not supported",
-        ),
-        (
-            ManifestFault::UnsupportedCrateType,
-            "a crate type is not supported",
-        ),
-        (ManifestFault::BadProfile, "a profile cannot be read"),
-        (ManifestFault::BadFeature, "a feature cannot be read"),
-        (ManifestFault::TooLarge, "the manifest is too large"),
-        (ManifestFault::OldResolver, "resolver 1 is not supported"),
-    ] {
+    for case in FAULTS_IN_WORDS {
+        let (fault, want) = *case;
         let words = format!(in rt.alloc(); "{fault}")?;
         assert_eq!(rt; words.as_str(), want);
     }
@@ -175,7 +191,7 @@ fn faults_in_words(rt: HostRuntime) -> Result<(), Fail> {
 }
 
 /// Requirements, versions, and whether they match.
-const MATCHES: [(&str, &str, bool); 8] = [
+const MATCHES: &[(&str, &str, bool)] = &[
     ("1", "1.2.3", true),
     ("1", "2.0.0", false),
     ("^0.1", "0.1.9", true),
@@ -189,7 +205,8 @@ const MATCHES: [(&str, &str, bool); 8] = [
 #[test]
 fn requirements_match(rt: HostRuntime) -> Result<(), Fail> {
     let alloc = rt.alloc();
-    for (requirement, version, want) in MATCHES {
+    for case in MATCHES {
+        let (requirement, version, want) = *case;
         let requirement = Requirement::read(alloc, Text::from_str(alloc, requirement)?)?.copy(
             alloc,
         )?;

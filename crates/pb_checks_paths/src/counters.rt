@@ -6,7 +6,7 @@ ghost use Rattle.pb_place.specs.Counts.{up, counted, counted_start};
 use pb_place::{Failure, PlaceFault, StartFault};
 
 /// The three counters of a place, and its last fault.
-#[derive(Clone, Copy, Debug, PartialEq, Eq)]
+#[derive(Clone, Copy, PartialEq, Eq)]
 struct Counters {
     failures: u64,
     starts: u64,
@@ -101,11 +101,11 @@ fn calls_that_pass(rt: HostRuntime) {
     for (late, failures, want) in [(0, 0, 0), (0, 1, 1), (4, 2, 5), (most, 1, most)] {
         let before = of_numbers(failures, 3, late);
         let after = of_numbers(failures, 3, want);
-        assert_eq!(rt; after_call(Ok(()), before), after);
-        assert_eq!(rt; after_call(Err(PlaceFault::OutOfMemory), before), after);
+        assert!(rt; after_call(Ok(()), before) == after);
+        assert!(rt; after_call(Err(PlaceFault::OutOfMemory), before) == after);
         let begun = of_numbers(failures, 4, want);
-        assert_eq!(rt; after_start(Ok(()), before), begun);
-        assert_eq!(rt; after_start(Err(StartFault::OutOfMemory), before), begun);
+        assert!(rt; after_start(Ok(()), before) == begun);
+        assert!(rt; after_start(Err(StartFault::OutOfMemory), before) == begun);
     }
 }
 
@@ -118,9 +118,9 @@ fn calls_that_fail(rt: HostRuntime) {
         PlaceFault::Remove,
         PlaceFault::Variable,
     ] {
-        assert_eq!(rt;
-            after_call(Err(fault), of_numbers(1, 3, 9)),
-            after_fault(Failure::Called(fault), of_numbers(2, 3, 0))
+        assert!(rt;
+            after_call(Err(fault), of_numbers(1, 3, 9))
+                == after_fault(Failure::Called(fault), of_numbers(2, 3, 0))
         );
     }
     for fault in [
@@ -128,9 +128,9 @@ fn calls_that_fail(rt: HostRuntime) {
         StartFault::Died,
         StartFault::Capture,
     ] {
-        assert_eq!(rt;
-            after_start(Err(fault), of_numbers(0, 3, 0)),
-            after_fault(Failure::Started(fault), of_numbers(1, 4, 0))
+        assert!(rt;
+            after_start(Err(fault), of_numbers(0, 3, 0))
+                == after_fault(Failure::Started(fault), of_numbers(1, 4, 0))
         );
     }
 }
@@ -141,17 +141,11 @@ fn counters_that_are_full(rt: HostRuntime) {
     let failed = of_numbers(u64::MAX, u64::MAX, 0);
     let read = Failure::Called(PlaceFault::Read);
     let died = Failure::Started(StartFault::Died);
-    assert_eq!(rt;
-        after_call(Err(PlaceFault::Read), full),
-        after_fault(read, failed)
-    );
-    assert_eq!(rt;
-        after_start(Err(StartFault::Died), full),
-        after_fault(died, failed)
-    );
+    assert!(rt; after_call(Err(PlaceFault::Read), full) == after_fault(read, failed));
+    assert!(rt; after_start(Err(StartFault::Died), full) == after_fault(died, failed));
     // a call that passes, and want of memory, leave the last fault
     let before = after_fault(read, of_numbers(1, 0, 0));
     let after = after_fault(read, of_numbers(1, 0, 1));
-    assert_eq!(rt; after_call(Ok(()), before), after);
-    assert_eq!(rt; after_call(Err(PlaceFault::OutOfMemory), before), after);
+    assert!(rt; after_call(Ok(()), before) == after);
+    assert!(rt; after_call(Err(PlaceFault::OutOfMemory), before) == after);
 }

@@ -7,198 +7,280 @@ use pb_place::{
 use std::alloc::{AllocError, Global};
 use std::test::Fail;
 
-/// A path's text, or the name of the fault.
-fn told(alloc: Global, answer: Result<PathText, PathFault>) -> Result<Text, AllocError> {
+/// Whether an answer has this text, or a fault of this name.
+fn says(answer: &Result<PathText, PathFault>, wanted: &str) -> bool {
     match answer {
-        Ok(path) => Text::from_str(alloc, path.as_str()),
-        Err(PathFault::NotAbsolute) => Text::from_str(alloc, "NotAbsolute"),
-        Err(PathFault::BadByte) => Text::from_str(alloc, "BadByte"),
-        Err(PathFault::OutOfMemory) => Text::from_str(alloc, "OutOfMemory"),
+        Ok(path) => path.as_str() == wanted,
+        Err(PathFault::NotAbsolute) => wanted == "NotAbsolute",
+        Err(PathFault::BadByte) => wanted == "BadByte",
+        Err(PathFault::OutOfMemory) => wanted == "OutOfMemory",
     }
 }
+
+const PARSES: &[(&str, &str)] = &[
+    ("/", "/"),
+    ("/w", "/w"),
+    ("/w/./a/../b", "/w/b"),
+    ("/w/a/", "/w/a"),
+    ("//w///a//", "/w/a"),
+    ("/..", "/"),
+    ("/../../w", "/w"),
+    ("/w/../..", "/"),
+    ("/w/...", "/w/..."),
+    ("/w/.a/..b", "/w/.a/..b"),
+    ("/é/ x", "/é/ x"),
+    ("", "NotAbsolute"),
+    ("w", "NotAbsolute"),
+    ("./w", "NotAbsolute"),
+    ("../w", "NotAbsolute"),
+    ("\0", "NotAbsolute"),
+    ("w/\0", "NotAbsolute"),
+    ("/\0", "BadByte"),
+    ("/w\0/..", "BadByte"),
+];
 
 #[test]
 fn parses(rt: HostRuntime) -> Result<(), Fail> {
-    let cases = [
-        ("/", "/"),
-        ("/w", "/w"),
-        ("/w/./a/../b", "/w/b"),
-        ("/w/a/", "/w/a"),
-        ("//w///a//", "/w/a"),
-        ("/..", "/"),
-        ("/../../w", "/w"),
-        ("/w/../..", "/"),
-        ("/w/...", "/w/..."),
-        ("/w/.a/..b", "/w/.a/..b"),
-        ("/é/ x", "/é/ x"),
-        ("", "NotAbsolute"),
-        ("w", "NotAbsolute"),
-        ("./w", "NotAbsolute"),
-        ("../w", "NotAbsolute"),
-        ("\0", "NotAbsolute"),
-        ("w/\0", "NotAbsolute"),
-        ("/\0", "BadByte"),
-        ("/w\0/..", "BadByte"),
-    ];
-    for (text, wanted) in cases {
-        let answer = told(rt.alloc(), PathText::parse(rt.alloc(), text))?;
-        assert_eq!(rt; answer.as_str(), wanted, "of {text}");
+    for case in PARSES {
+        let (text, wanted) = *case;
+        let answer = PathText::parse(rt.alloc(), text);
+        assert!(rt; says(&answer, wanted), "of {text}");
     }
     Ok(())
 }
 
+/// Whether a text in a folder gives this.
+fn joins_to(alloc: Global, folder: &str, text: &str, wanted: &str) -> Result<bool, PathFault> {
+    let folder = PathText::parse(alloc, folder)?;
+    Ok(says(&folder.join(alloc, text), wanted))
+}
+
+const JOINS: &[(&str, &str, &str)] = &[
+    ("/w", "a/b", "/w/a/b"),
+    ("/w", "../x", "/x"),
+    ("/w", "../../../x", "/x"),
+    ("/w/a", "..", "/w"),
+    ("/", "..", "/"),
+    ("/", "a", "/a"),
+    ("/w", "", "/w"),
+    ("/w", ".", "/w"),
+    ("/w", "a//./b/", "/w/a/b"),
+    ("/w", "/x/../y", "/y"),
+    ("/w", "/", "/"),
+    ("/w", "a\0", "BadByte"),
+    ("/w", "/\0", "BadByte"),
+];
+
 #[test]
 fn joins(rt: HostRuntime) -> Result<(), Fail> {
-    let cases = [
-        ("/w", "a/b", "/w/a/b"),
-        ("/w", "../x", "/x"),
-        ("/w", "../../../x", "/x"),
-        ("/w/a", "..", "/w"),
-        ("/", "..", "/"),
-        ("/", "a", "/a"),
-        ("/w", "", "/w"),
-        ("/w", ".", "/w"),
-        ("/w", "a//./b/", "/w/a/b"),
-        ("/w", "/x/../y", "/y"),
-        ("/w", "/", "/"),
-        ("/w", "a\0", "BadByte"),
-        ("/w", "/\0", "BadByte"),
-    ];
-    for (folder, text, wanted) in cases {
-        let folder = PathText::parse(rt.alloc(), folder)?;
-        let answer = told(rt.alloc(), folder.join(rt.alloc(), text))?;
-        assert_eq!(rt; answer.as_str(), wanted, "of {text}");
+    for case in JOINS {
+        let (folder, text, wanted) = *case;
+        assert!(rt; joins_to(rt.alloc(), folder, text, wanted)?, "of {text}");
     }
     Ok(())
 }
+
+/// Whether a path is below a folder, and whether it is the folder or below it.
+fn nests(path: &PathText, folder: &PathText) -> (bool, bool) {
+    (path.is_below(folder), path.starts_with(folder))
+}
+
+/// The same of texts.
+fn nested(alloc: Global, path: &str, folder: &str) -> Result<(bool, bool), PathFault> {
+    let path = PathText::parse(alloc, path)?;
+    let folder = PathText::parse(alloc, folder)?;
+    Ok(nests(&path, &folder))
+}
+
+const BEGINNINGS: &[(&str, &str, bool, bool)] = &[
+    ("/w/a", "/w/a", false, true),
+    ("/w/a/b", "/w/a", true, true),
+    ("/w/a/b/c", "/w/a", true, true),
+    ("/w/ab", "/w/a", false, false),
+    ("/w/a", "/w/ab", false, false),
+    ("/w", "/w/a", false, false),
+    ("/w/A", "/w/a", false, false),
+    ("/", "/", false, true),
+    ("/w", "/", true, true),
+    ("/w/a", "/", true, true),
+    ("/", "/w", false, false),
+];
 
 #[test]
 fn beginnings(rt: HostRuntime) -> Result<(), Fail> {
     // a path, a folder, whether it is below the folder, and whether it is the folder or below it
-    let cases = [
-        ("/w/a", "/w/a", false, true),
-        ("/w/a/b", "/w/a", true, true),
-        ("/w/a/b/c", "/w/a", true, true),
-        ("/w/ab", "/w/a", false, false),
-        ("/w/a", "/w/ab", false, false),
-        ("/w", "/w/a", false, false),
-        ("/w/A", "/w/a", false, false),
-        ("/", "/", false, true),
-        ("/w", "/", true, true),
-        ("/w/a", "/", true, true),
-        ("/", "/w", false, false),
-    ];
-    for (path, folder, is_below, starts) in cases {
-        let one = PathText::parse(rt.alloc(), path)?;
-        let other = PathText::parse(rt.alloc(), folder)?;
-        assert_eq!(rt; one.is_below(&other), is_below, "{path} below {folder}");
-        assert_eq!(rt; one.starts_with(&other), starts, "{path} in {folder}");
+    for case in BEGINNINGS {
+        let (path, folder, is_below, starts) = *case;
+        let found = nested(rt.alloc(), path, folder)?;
+        assert!(rt; found.0 == is_below && found.1 == starts, "of {path}");
     }
     Ok(())
 }
 
+/// Whether the folder of a path is this, taken of a copy of it.
+fn is_in(alloc: Global, path: &str, wanted: &str) -> Result<bool, PathFault> {
+    let path = PathText::parse(alloc, path)?;
+    let again = path.copy(alloc)?;
+    let folder = again.folder(alloc)?;
+    Ok(folder.as_str() == wanted)
+}
+
+const FOLDERS: &[(&str, &str)] = &[("/w/a/b", "/w/a"), ("/w", "/"), ("/", "/")];
+
 #[test]
 fn folders(rt: HostRuntime) -> Result<(), Fail> {
-    for (path, wanted) in [("/w/a/b", "/w/a"), ("/w", "/"), ("/", "/")] {
-        let path = PathText::parse(rt.alloc(), path)?;
-        let folder = path.folder(rt.alloc())?;
-        assert_eq!(rt; folder.as_str(), wanted);
-        assert!(rt; path.copy(rt.alloc())? == path);
+    for case in FOLDERS {
+        let (path, wanted) = *case;
+        assert!(rt; is_in(rt.alloc(), path, wanted)?, "of {path}");
     }
     parsing_keeps_paths();
     Ok(())
 }
 
-/// The text of the relative path in a folder, or `none` where the text is no relative path.
-fn inside(alloc: Global, folder: &str, text: &str) -> Result<Text, Fail> {
+/// Whether a relative path in a folder is this one, of a copy of it.
+fn is_below(
+    alloc: Global,
+    folder: &str,
+    relative: &RelativePath,
+    wanted: &str,
+) -> Result<bool, PathFault> {
     let folder = PathText::parse(alloc, folder)?;
-    let text = Text::from_str(alloc, text)?;
-    let Some(relative) = RelativePath::of(text) else {
-        return Ok(Text::from_str(alloc, "none")?);
-    };
     let again = relative.copy(alloc)?;
     let path = folder.below(alloc, &again)?;
-    Ok(Text::from_str(alloc, path.as_str())?)
+    Ok(path.as_str() == wanted)
 }
+
+/// Whether the relative path in a folder is this one; `none` where the text is no relative path.
+fn has_inside(alloc: Global, folder: &str, text: &str, wanted: &str) -> Result<bool, PathFault> {
+    match RelativePath::of(Text::from_str(alloc, text)?) {
+        Some(relative) => is_below(alloc, folder, &relative, wanted),
+        None => Ok(wanted == "none"),
+    }
+}
+
+/// Whether a relative path that is known to be one has its name's text.
+fn is_known(alloc: Global) -> Result<bool, AllocError> {
+    let path = RelativePath::name(alloc, "a.rlib")?;
+    Ok(path.as_str() == "a.rlib")
+}
+
+const RELATIVE_PATHS: &[(&str, &str, &str)] = &[
+    ("/w", "a", "/w/a"),
+    ("/w", "a/b.d", "/w/a/b.d"),
+    ("/", "a", "/a"),
+    ("/w", "...", "/w/..."),
+    ("/w", "", "none"),
+    ("/w", ".", "none"),
+    ("/w", "..", "none"),
+    ("/w", "a/../b", "none"),
+    ("/w", "./a", "none"),
+    ("/w", "/a", "none"),
+    ("/w", "a/", "none"),
+    ("/w", "a//b", "none"),
+    ("/w", "a\0", "none"),
+];
 
 #[test]
 fn relative_paths(rt: HostRuntime) -> Result<(), Fail> {
-    let cases = [
-        ("/w", "a", "/w/a"),
-        ("/w", "a/b.d", "/w/a/b.d"),
-        ("/", "a", "/a"),
-        ("/w", "...", "/w/..."),
-        ("/w", "", "none"),
-        ("/w", ".", "none"),
-        ("/w", "..", "none"),
-        ("/w", "a/../b", "none"),
-        ("/w", "./a", "none"),
-        ("/w", "/a", "none"),
-        ("/w", "a/", "none"),
-        ("/w", "a//b", "none"),
-        ("/w", "a\0", "none"),
-    ];
-    for (folder, text, wanted) in cases {
-        let answer = inside(rt.alloc(), folder, text)?;
-        assert_eq!(rt; answer.as_str(), wanted, "of {text}");
+    for case in RELATIVE_PATHS {
+        let (folder, text, wanted) = *case;
+        assert!(rt; has_inside(rt.alloc(), folder, text, wanted)?, "of {text}");
     }
-    let name = RelativePath::name(rt.alloc(), "a.rlib")?;
-    assert_eq!(rt; name.as_str(), "a.rlib");
+    assert!(rt; is_known(rt.alloc())?);
     Ok(())
 }
 
-/// What a path is inside a folder, `none` where it is not below it.
-fn inside_of(alloc: Global, folder: &str, path: &str) -> Result<Text, Fail> {
-    let folder = PathText::parse(alloc, folder)?;
-    let path = PathText::parse(alloc, path)?;
-    match path.inside(alloc, &folder)? {
-        Some(relative) => Ok(relative.into_text()),
-        None => Ok(Text::from_str(alloc, "none")?),
+/// Whether what a path is inside a folder is this; `none` where it is not below it.
+fn has_part(
+    alloc: Global,
+    folder: &PathText,
+    path: &PathText,
+    wanted: &str,
+) -> Result<bool, AllocError> {
+    match path.inside(alloc, folder)? {
+        Some(relative) => Ok(relative.as_str() == wanted),
+        None => Ok(wanted == "none"),
     }
 }
 
+/// The same of texts.
+fn is_taken_apart(
+    alloc: Global,
+    folder: &str,
+    path: &str,
+    wanted: &str,
+) -> Result<bool, PathFault> {
+    let folder = PathText::parse(alloc, folder)?;
+    let path = PathText::parse(alloc, path)?;
+    Ok(has_part(alloc, &folder, &path, wanted)?)
+}
+
+/// Whether the last part of a path is this.
+fn ends_in(alloc: Global, path: &str, wanted: &str) -> Result<bool, PathFault> {
+    let path = PathText::parse(alloc, path)?;
+    Ok(path.last_part() == wanted)
+}
+
+const PATHS_TAKEN_APART: &[(&str, &str, &str)] = &[
+    ("/w", "/w/a/b", "a/b"),
+    ("/", "/w/a", "w/a"),
+    ("/w", "/w", "none"),
+    ("/w", "/wa", "none"),
+    ("/w/a", "/w", "none"),
+];
+
+const LAST_PARTS: &[(&str, &str)] = &[("/", ""), ("/w", "w"), ("/w/a.b", "a.b")];
+
 #[test]
 fn paths_taken_apart(rt: HostRuntime) -> Result<(), Fail> {
-    for (folder, path, wanted) in [
-        ("/w", "/w/a/b", "a/b"),
-        ("/", "/w/a", "w/a"),
-        ("/w", "/w", "none"),
-        ("/w", "/wa", "none"),
-        ("/w/a", "/w", "none"),
-    ] {
-        let answer = inside_of(rt.alloc(), folder, path)?;
-        assert_eq!(rt; answer.as_str(), wanted, "of {path} in {folder}");
+    for case in PATHS_TAKEN_APART {
+        let (folder, path, wanted) = *case;
+        assert!(rt;
+            is_taken_apart(rt.alloc(), folder, path, wanted)?,
+            "of {path}"
+        );
     }
-    for (path, wanted) in [("/", ""), ("/w", "w"), ("/w/a.b", "a.b")] {
-        let path = PathText::parse(rt.alloc(), path)?;
-        assert_eq!(rt; path.last_part(), wanted);
+    for case in LAST_PARTS {
+        let (path, wanted) = *case;
+        assert!(rt; ends_in(rt.alloc(), path, wanted)?, "of {path}");
     }
     paths_join_again();
     folders_nest();
     Ok(())
 }
 
+/// Whether a text is a path, and keeps its bytes as one.
+fn is_path(alloc: Global, text: &str) -> Result<bool, AllocError> {
+    match PathText::of(Text::from_str(alloc, text)?) {
+        Some(path) => Ok(path.as_str() == text),
+        None => Ok(false),
+    }
+}
+
+/// Whether a path stands before another.
+fn stands_before(alloc: Global, low: &str, high: &str) -> Result<bool, PathFault> {
+    let low = PathText::parse(alloc, low)?;
+    let high = PathText::parse(alloc, high)?;
+    Ok(low < high)
+}
+
+const TEXTS_THAT_ARE_PATHS: &[(&str, bool)] = &[
+    ("/", true),
+    ("/w/a", true),
+    ("", false),
+    ("w", false),
+    ("/w/", false),
+    ("//", false),
+    ("/w/../a", false),
+    ("/w\0", false),
+];
+
 #[test]
 fn texts_that_are_paths(rt: HostRuntime) -> Result<(), Fail> {
-    for (text, wanted) in [
-        ("/", true),
-        ("/w/a", true),
-        ("", false),
-        ("w", false),
-        ("/w/", false),
-        ("//", false),
-        ("/w/../a", false),
-        ("/w\0", false),
-    ] {
-        let made = PathText::of(Text::from_str(rt.alloc(), text)?);
-        assert_eq!(rt; made.is_some(), wanted);
-        if let Some(path) = made {
-            let again = path.into_text();
-            assert!(rt; again.as_str() == text);
-        }
+    for case in TEXTS_THAT_ARE_PATHS {
+        let (text, wanted) = *case;
+        assert_eq!(rt; is_path(rt.alloc(), text)?, wanted, "of {text}");
     }
-    let low = PathText::parse(rt.alloc(), "/a")?;
-    let high = PathText::parse(rt.alloc(), "/a.b")?;
-    assert!(rt; low < high);
+    assert!(rt; stands_before(rt.alloc(), "/a", "/a.b")?);
     Ok(())
 }

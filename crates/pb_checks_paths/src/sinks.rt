@@ -25,27 +25,32 @@ impl Write for Tiring {
     }
 }
 
+const OVER_BYTES: &[(&str, usize)] = &[("ab", 2), ("", 0), ("c", 1)];
+
 #[test]
 fn over_bytes(rt: HostRuntime) -> Result<(), Fail> {
     let mut sink = Over::new(Vec::new(rt.alloc()));
-    for (bytes, taken) in [("ab", 2), ("", 0), ("c", 1)] {
+    for case in OVER_BYTES {
+        let (bytes, taken) = *case;
         assert_eq!(rt; sink.write(bytes.as_bytes()), Some(taken));
     }
     assert_eq!(rt; sink.failures(), 0);
     Ok(())
 }
 
+const OVER_A_TIRING_WRITER: &[(&str, Option<usize>, u64)] = &[
+    ("abcd", Some(3), 0),
+    ("d", Some(0), 1),
+    ("d", None, 2),
+    ("", None, 3),
+];
+
 #[test]
 fn over_a_tiring_writer(rt: HostRuntime) -> Result<(), Fail> {
     let mut sink = Over::new(Tiring { writes: 0 });
     // what is written, how many bytes are taken, and the failures after it
-    let cases = [
-        ("abcd", Some(3), 0),
-        ("d", Some(0), 1),
-        ("d", None, 2),
-        ("", None, 3),
-    ];
-    for (bytes, taken, failures) in cases {
+    for case in OVER_A_TIRING_WRITER {
+        let (bytes, taken, failures) = *case;
         assert_eq!(rt; sink.write(bytes.as_bytes()), taken, "of {bytes}");
         assert_eq!(rt; sink.failures(), failures, "of {bytes}");
     }

@@ -18,27 +18,33 @@ fn change(alloc: Global, memory: &mut Memory<Echo>, path: &str, text: &str) -> R
     Ok(())
 }
 
+const CHANGES: &[(&str, &str)] = &[
+    ("/a", "one"),
+    ("/a/b", "two"),
+    ("/ab", "three"),
+    ("/c", "four"),
+    ("/a", "none"),
+    ("/c", "five"),
+];
+
+const LEFT: &[(&str, &str)] = &[
+    ("/a", "none"),
+    ("/a/b", "none"),
+    ("/ab", "three"),
+    ("/c", "five"),
+];
+
 #[test]
 fn changes_in_turn(rt: HostRuntime) -> Result<(), Fail> {
     let alloc = rt.alloc();
     let mut memory = Memory::new(alloc, Echo);
-    for (path, text) in [
-        ("/a", "one"),
-        ("/a/b", "two"),
-        ("/ab", "three"),
-        ("/c", "four"),
-        ("/a", "none"),
-        ("/c", "five"),
-    ] {
+    for case in CHANGES {
+        let (path, text) = *case;
         change(alloc, &mut memory, path, text)?;
     }
     last_word_stands();
-    for (path, want) in [
-        ("/a", "none"),
-        ("/a/b", "none"),
-        ("/ab", "three"),
-        ("/c", "five"),
-    ] {
+    for case in LEFT {
+        let (path, want) = *case;
         let told = read(alloc, &mut memory, path)?;
         assert_eq!(rt; told.as_str(), want, "at {path}");
     }
@@ -57,18 +63,21 @@ fn told(alloc: Global, pairs: &[(Text, Text)]) -> Result<Text, Fail> {
     Ok(Text::new(text))
 }
 
+const VARIABLES_IN_ORDER: &[(&str, &str)] = &[
+    ("b", "1"),
+    ("B", "2"),
+    ("", "3"),
+    ("ab", "4"),
+    ("b", "5"),
+    ("c", "6"),
+];
+
 #[test]
 fn variables_in_order(rt: HostRuntime) -> Result<(), Fail> {
     let alloc = rt.alloc();
     let mut variables = TextMap::new(alloc);
-    for (name, value) in [
-        ("b", "1"),
-        ("B", "2"),
-        ("", "3"),
-        ("ab", "4"),
-        ("b", "5"),
-        ("c", "6"),
-    ] {
+    for case in VARIABLES_IN_ORDER {
+        let (name, value) = *case;
         variables.insert(alloc, name, value)?;
     }
     variables.remove(alloc, "c")?;

@@ -1,25 +1,11 @@
 //! Workspaces of tests, and what is asked of them.
 
-ghost use Rattle.std.specs.Prelude.{IfOk};
-ghost use Rattle.pb_workspace.specs.Settled.{IsSettled};
-
-use crate::child::Silent;
-use pb_data::{Items, Text};
+use pb_checks_files::{Silent, no_options, put_files};
+use pb_data::Text;
 use pb_place::{Memory, PathText};
-use pb_workspace::{Options, Workspace, load};
+use pb_workspace::Options;
 use std::alloc::Global;
 use std::test::Fail;
-
-/// Puts the files of a case, each behind a line `@ PATH`.
-fn put_files(alloc: Global, memory: &mut Memory<Silent>, files: &str) -> Result<(), Fail> {
-    for file in files.split("@ ") {
-        if let Some((path, text)) = file.split_once('\n') {
-            let path = PathText::parse(alloc, path)?;
-            memory.put(alloc, &path, text.as_bytes())?;
-        }
-    }
-    Ok(())
-}
 
 /// A root manifest in `/w`, all of whose folders with a manifest are members, and these files.
 pub fn files_in(alloc: Global, files: &str) -> Result<Memory<Silent>, Fail> {
@@ -28,35 +14,6 @@ pub fn files_in(alloc: Global, files: &str) -> Result<Memory<Silent>, Fail> {
     memory.put(alloc, &root, b"[workspace]\nmembers = [\"*\"]\n")?;
     put_files(alloc, &mut memory, files)?;
     Ok(memory)
-}
-
-/// The workspace in `/w`.
-pub fn workspace_in(alloc: Global, memory: &mut Memory<Silent>) -> Result<Workspace, Fail>
-    ensures { IfOk result IsSettled }
-{
-    let manifest = PathText::parse(alloc, "/w/Cargo.toml")?;
-    let target = PathText::parse(alloc, "/w/target")?;
-    let workspace = load(memory, alloc, &manifest, &target)?;
-    Ok(workspace)
-}
-
-/// The options of a build for which nothing is asked.
-fn no_options(alloc: Global) -> Result<Options, Fail> {
-    Ok(Options {
-        manifest: PathText::parse(alloc, "/w/Cargo.toml")?,
-        packages: Items::new(alloc),
-        workspace: false,
-        features: Items::new(alloc),
-        all_features: false,
-        no_default_features: false,
-        profile: Text::from_str(alloc, "dev")?,
-        lib: false,
-        bins: false,
-        bin: Items::new(alloc),
-        target_dir: None,
-        runner: Items::new(alloc),
-        tool: Text::from_str(alloc, "tool")?,
-    })
 }
 
 /// Adds what a word asks for. Words that begin with `@` or `!` ask for nothing here.

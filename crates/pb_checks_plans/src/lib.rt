@@ -6,8 +6,6 @@ mod asking;
 #[cfg(test)]
 mod cases;
 #[cfg(test)]
-mod child;
-#[cfg(test)]
 mod plans;
 #[cfg(test)]
 mod script_cases;

@@ -2,10 +2,11 @@
 
 ghost use Rattle.pb_workspace.specs.Settled.{IsSettled};
 
-use crate::asking::{files_in, options_of, workspace_in};
+use crate::asking::{files_in, options_of};
 use crate::cases::CASES;
 use crate::script_cases::SCRIPT_CASES;
 use crate::show::{shown_fault, shown_plan, shown_texts};
+use pb_checks_files::workspace_in;
 use pb_data::Text;
 use pb_feature::resolve;
 use pb_manifest::OptLevel;
@@ -81,7 +82,7 @@ fn try_case(rt: &impl Abort, alloc: Global, case: &str) -> Result<usize, Fail> {
         return Ok(0);
     };
     let mut memory = files_in(alloc, files)?;
-    let workspace = workspace_in(alloc, &mut memory)?;
+    let workspace = workspace_in(alloc, &mut memory)??;
     ask_all(rt, alloc, &workspace, questions)
 }
 
@@ -120,7 +121,7 @@ fn many_binaries(alloc: Global, count: usize) -> Result<String, Fail> {
 fn with_binaries(alloc: Global, count: usize) -> Result<String, Fail> {
     let files = many_binaries(alloc, count)?;
     let mut memory = files_in(alloc, files.as_str())?;
-    let workspace = workspace_in(alloc, &mut memory)?;
+    let workspace = workspace_in(alloc, &mut memory)??;
     match plan_of(alloc, &workspace, "a")? {
         Ok(plan) => {
             let count = plan.units().len();
@@ -130,12 +131,16 @@ fn with_binaries(alloc: Global, count: usize) -> Result<String, Fail> {
     }
 }
 
+/// Whether the plan of a package with so many binaries ends like this.
+fn ends_so(alloc: Global, count: usize, wanted: &str) -> Result<bool, Fail> {
+    let end = with_binaries(alloc, count)?;
+    Ok(end.as_str() == wanted)
+}
+
 #[test]
 fn number_of_units(rt: HostRuntime) -> Result<(), Fail> {
-    let most = with_binaries(rt.alloc(), 4096)?;
-    assert_eq!(rt; most.as_str(), "4096 units");
-    let more = with_binaries(rt.alloc(), 4097)?;
-    assert_eq!(rt; more.as_str(), "TooManyUnits");
+    assert!(rt; ends_so(rt.alloc(), 4096, "4096 units")?);
+    assert!(rt; ends_so(rt.alloc(), 4097, "TooManyUnits")?);
     Ok(())
 }
 
@@ -173,36 +178,51 @@ fn folders_and_levels(alloc: Global, plan: &Plan) -> Result<String, Fail> {
     Ok(shown)
 }
 
+/// Whether these are the folders and levels of a plan, and a place behind its five units has nothing.
+fn has_folders(alloc: Global, plan: &Plan) -> Result<bool, Fail> {
+    let found = folders_and_levels(alloc, plan)?;
+    Ok(
+        found.as_str() == FOLDERS_AND_LEVELS
+            && plan.level(5) == 0
+            && plan.needs(5).is_empty()
+            && plan.reaches(5).is_empty(),
+    )
+}
+
+/// The plan of `BOTH_SIDES` under the profile `bench`.
+fn plan_of_both(alloc: Global) -> Result<Plan, Fail> {
+    let mut memory = files_in(alloc, BOTH_SIDES)?;
+    let workspace = workspace_in(alloc, &mut memory)??;
+    let plan = plan_of(alloc, &workspace, "a @bench")??;
+    Ok(plan)
+}
+
 #[test]
 fn folders_and_settings(rt: HostRuntime) -> Result<(), Fail> {
-    let alloc = rt.alloc();
-    let mut memory = files_in(alloc, BOTH_SIDES)?;
-    let workspace = workspace_in(alloc, &mut memory)?;
-    let answer = plan_of(alloc, &workspace, "a @bench")?;
-    let plan = answer?;
-    let found = folders_and_levels(alloc, &plan)?;
-    assert_eq!(rt; found.as_str(), FOLDERS_AND_LEVELS);
-    assert_eq!(rt; plan.level(5), 0);
-    assert!(rt; plan.needs(5).is_empty());
-    assert!(rt; plan.reaches(5).is_empty());
+    let plan = plan_of_both(rt.alloc())?;
+    assert!(rt; has_folders(rt.alloc(), &plan)?);
     Ok(())
 }
 
-/// The key of a unit of the packages of `BOTH_SIDES`.
-fn key_of(alloc: Global, owner: usize, side: Side, what: What) -> Result<Text, Fail> {
+/// Whether this is the key of a unit of the packages of `BOTH_SIDES`.
+fn has_key(
+    alloc: Global,
+    owner: usize,
+    side: Side,
+    what: What,
+    wanted: &str,
+) -> Result<bool, Fail> {
     let mut memory = files_in(alloc, BOTH_SIDES)?;
-    let workspace = workspace_in(alloc, &mut memory)?;
-    let unit = Unit { owner, side, what };
-    Ok(unit.key(alloc, &workspace)?)
+    let workspace = workspace_in(alloc, &mut memory)??;
+    let key = Unit { owner, side, what }.key(alloc, &workspace)?;
+    Ok(key.as_str() == wanted)
 }
 
 #[test]
 fn keys(rt: HostRuntime) -> Result<(), Fail> {
     let alloc = rt.alloc();
     let binary = What::Bin(Text::from_str(alloc, "x_1")?);
-    let key = key_of(alloc, 1, Side::Host, binary)?;
-    assert_eq!(rt; key.as_str(), "b.host.bin-x_1");
-    let key = key_of(alloc, 2, Side::Target, What::Run)?;
-    assert_eq!(rt; key.as_str(), ".target.run");
+    assert!(rt; has_key(alloc, 1, Side::Host, binary, "b.host.bin-x_1")?);
+    assert!(rt; has_key(alloc, 2, Side::Target, What::Run, ".target.run")?);
     Ok(())
 }

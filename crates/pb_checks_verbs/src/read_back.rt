@@ -4,14 +4,13 @@ use super::worlds::answer_in;
 use pb_data::Text;
 use pb_directive::read_dep_info;
 use std::alloc::Global;
-use std::process::Abort;
 use std::test::Fail;
 
 /// Words of a compile into a folder whose name needs care.
 const WORDS: &str = "--crate-name|c|--crate-type|lib|--out-dir|/o: p/q #$|--cfg|x|/w/s";
 
 /// A source, and the names that are read back from its dep-info: the paths and the variables, each with a bar after it.
-const SOURCES: [(&[u8], &str, &str); 16] = [
+const SOURCES: &[(&[u8], &str, &str)] = &[
     (b"print x", "/w/s|", ""),
     (b"include a b", "/w/s|/w/a b|", ""),
     (b"include /w/a: b", "/w/s|/w/a: b|", ""),
@@ -42,56 +41,63 @@ const SOURCES: [(&[u8], &str, &str); 16] = [
     ),
 ];
 
-/// Texts, each with a bar after it.
-fn barred(alloc: Global, texts: &[Text]) -> Result<String, Fail> {
+/// Whether these are the texts, each with a bar after it.
+fn are(alloc: Global, texts: &[Text], wanted: &str) -> Result<bool, Fail> {
     let mut all = String::new(alloc);
     for text in texts {
         all.push_str(text.as_str())?;
         all.push_str("|")?;
     }
-    Ok(all)
+    Ok(all.as_str() == wanted)
 }
 
-/// Asserts what is read in the dep-info of a source, which is its reply's last file.
-fn assert_read(
-    rt: &impl Abort,
-    alloc: Global,
-    source: &[u8],
-    paths: &str,
-    variables: &str,
-) -> Result<(), Fail> {
+/// Whether dep-info of these bytes is read as these paths and variables.
+fn says(alloc: Global, bytes: &[u8], paths: &str, variables: &str) -> Result<bool, Fail> {
+    let info = read_dep_info(alloc, bytes)?;
+    let has_paths = are(alloc, info.words.as_slice(), paths)?;
+    let has_variables = are(alloc, info.variables.as_slice(), variables)?;
+    Ok(has_paths && has_variables)
+}
+
+/// Whether this is read in the dep-info of a source, which is its reply's last file.
+fn is_read(alloc: Global, source: &[u8], paths: &str, variables: &str) -> Result<bool, Fail> {
     let reply = answer_in(alloc, WORDS, "/w/s", source)?;
-    let Some(file) = reply.files.as_slice().last() else {
-        return Err("no file")?;
-    };
-    assert_eq!(rt; file.0.as_str(), "c.d");
-    let info = read_dep_info(alloc, file.1.as_slice())?;
-    let found = barred(alloc, info.words.as_slice())?;
-    assert_eq!(rt; found.as_str(), paths);
-    let found = barred(alloc, info.variables.as_slice())?;
-    assert_eq!(rt; found.as_str(), variables);
-    Ok(())
+    match reply.files.as_slice().last() {
+        Some(file) => {
+            Ok(file.0.as_str() == "c.d" && says(alloc, file.1.as_slice(), paths, variables)?)
+        }
+        None => Ok(false),
+    }
 }
 
 #[test]
 fn names_are_read_back(rt: HostRuntime) -> Result<(), Fail> {
-    for (source, paths, variables) in SOURCES {
-        assert_read(&rt, rt.alloc(), source, paths, variables)?;
+    for case in SOURCES {
+        let (source, paths, variables) = *case;
+        assert!(rt;
+            is_read(rt.alloc(), source, paths, variables)?,
+            "of {paths}"
+        );
     }
     Ok(())
 }
 
 /// Sources whose dep-info no reader takes: a nameless variable, a value with a line feed.
-const FAULTY: [&[u8]; 3] = [b"env", b"include $/x", b"env FEED"];
+const FAULTY: &[&[u8]] = &[b"env", b"include $/x", b"env FEED"];
+
+/// Whether no reader takes the dep-info of a source.
+fn is_refused(alloc: Global, source: &[u8]) -> Result<bool, Fail> {
+    let reply = answer_in(alloc, WORDS, "/w/s", source)?;
+    match reply.files.as_slice().last() {
+        Some(file) => Ok(read_dep_info(alloc, file.1.as_slice()).is_err()),
+        None => Ok(false),
+    }
+}
 
 #[test]
 fn faulty_names_are_refused(rt: HostRuntime) -> Result<(), Fail> {
-    for source in FAULTY {
-        let reply = answer_in(rt.alloc(), WORDS, "/w/s", source)?;
-        let Some(file) = reply.files.as_slice().last() else {
-            return Err("no file")?;
-        };
-        assert!(rt; read_dep_info(rt.alloc(), file.1.as_slice()).is_err());
+    for case in FAULTY {
+        assert!(rt; is_refused(rt.alloc(), *case)?);
     }
     Ok(())
 }

@@ -1,13 +1,15 @@
 //! Runs of images.
 
-use super::worlds::{answer_in, assert_answer};
+use super::worlds::{answer_in, answers};
+use pb_place::ViewFault;
+use std::alloc::Global;
 use std::test::Fail;
 
 /// An image, the status of its run, its standard output, and its files.
 type Case = (&'static [u8], i32, &'static [u8], &'static [u8]);
 
 /// Images of `/i`.
-const RUNS: [Case; 68] = [
+const RUNS: &[Case] = &[
     (b"", 0, b"", b""),
     (b"mini bin s\nprint x\n", 0, b"x\n", b""),
     (b"print x", 0, b"x\n", b""),
@@ -168,17 +170,22 @@ const RUNS: [Case; 68] = [
     (b"exit", 2, b"", b""),
 ];
 
+/// Whether the run of an image does this.
+fn runs_so(alloc: Global, case: &Case) -> Result<bool, ViewFault> {
+    let reply = answer_in(alloc, "--run|/i", "/i", case.0)?;
+    Ok(answers(alloc, &reply, case.1, case.2, b"", case.3)?)
+}
+
 #[test]
 fn runs(rt: HostRuntime) -> Result<(), Fail> {
-    for (image, status, stdout, files) in RUNS {
-        let reply = answer_in(rt.alloc(), "--run|/i", "/i", image)?;
-        assert_answer(&rt, rt.alloc(), &reply, status, stdout, b"", files)?;
+    for (place, case) in RUNS.iter().enumerate() {
+        assert!(rt; runs_so(rt.alloc(), case)?, "case {place}");
     }
     Ok(())
 }
 
 /// Words that name no image, and words that say no run.
-const OTHERS: [(&str, &[u8]); 8] = [
+const OTHERS: &[(&str, &[u8])] = &[
     ("--run|/none", b"mini: no image\n"),
     ("--run|i", b"mini: no image\n"),
     ("--run|", b"mini: no image\n"),
@@ -189,11 +196,17 @@ const OTHERS: [(&str, &[u8]); 8] = [
     ("--run=/i", b"mini: bad command line\n"),
 ];
 
+/// Whether words are refused with this on standard error.
+fn is_no_run(alloc: Global, words: &str, stderr: &[u8]) -> Result<bool, ViewFault> {
+    let reply = answer_in(alloc, words, "/i", b"print x")?;
+    Ok(answers(alloc, &reply, 2, b"", stderr, b"")?)
+}
+
 #[test]
 fn no_runs(rt: HostRuntime) -> Result<(), Fail> {
-    for (words, stderr) in OTHERS {
-        let reply = answer_in(rt.alloc(), words, "/i", b"print x")?;
-        assert_answer(&rt, rt.alloc(), &reply, 2, b"", stderr, b"")?;
+    for case in OTHERS {
+        let (words, stderr) = *case;
+        assert!(rt; is_no_run(rt.alloc(), words, stderr)?, "of {words}");
     }
     Ok(())
 }

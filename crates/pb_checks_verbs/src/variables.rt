@@ -4,7 +4,7 @@ use super::worlds::{Case, assert_cases};
 use std::test::Fail;
 
 /// Lines with `env`.
-const ENVS: [Case; 10] = [
+const ENVS: &[Case] = &[
     (
         b"env VAR",
         0,
@@ -69,11 +69,11 @@ const ENVS: [Case; 10] = [
 
 #[test]
 fn envs(rt: HostRuntime) -> Result<(), Fail> {
-    assert_cases(&rt, rt.alloc(), &ENVS)
+    assert_cases(&rt, rt.alloc(), ENVS)
 }
 
 /// Lines with `when`.
-const WHENS: [Case; 31] = [
+const WHENS: &[Case] = &[
     (
         b"when on print x",
         0,
@@ -264,5 +264,5 @@ const WHENS: [Case; 31] = [
 
 #[test]
 fn whens(rt: HostRuntime) -> Result<(), Fail> {
-    assert_cases(&rt, rt.alloc(), &WHENS)
+    assert_cases(&rt, rt.alloc(), WHENS)
 }

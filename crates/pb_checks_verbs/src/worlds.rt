@@ -9,7 +9,7 @@ use std::process::Abort;
 use std::test::Fail;
 
 /// Files by their paths. `/s` and `/i` are put in beside them.
-const FILES: [(&str, &[u8]); 13] = [
+const FILES: &[(&str, &[u8])] = &[
     ("/w/one", b"a\nb"),
     ("/w/two", b"a\nb\n"),
     ("/w/empty", b""),
@@ -26,7 +26,7 @@ const FILES: [(&str, &[u8]); 13] = [
 ];
 
 /// Inherited variables.
-const VARIABLES: [(&str, &str); 6] = [
+const VARIABLES: &[(&str, &str)] = &[
     ("VAR", "/v"),
     ("SUB", "sub"),
     ("EMPTY", ""),
@@ -36,7 +36,7 @@ const VARIABLES: [(&str, &str); 6] = [
 ];
 
 /// Pairs.
-const PAIRS: [(&str, &str); 6] = [
+const PAIRS: &[(&str, &str)] = &[
     ("PAIR", "p"),
     ("BOTH", "composed"),
     ("DUP", "first"),
@@ -54,31 +54,52 @@ fn words_of(alloc: Global, text: &str) -> Result<Items<Text>, AllocError> {
     Ok(words)
 }
 
+/// Adds a file.
+fn add_file(
+    alloc: Global,
+    inside: &mut Items<(Text, Bytes)>,
+    path: &str,
+    bytes: &[u8],
+) -> Result<(), AllocError> {
+    let path = Text::from_str(alloc, path)?;
+    let bytes = Bytes::from_slice(alloc, bytes)?;
+    inside.push((path, bytes))
+}
+
+/// The files of the world, behind one file more.
+fn files(alloc: Global, path: &str, bytes: &[u8]) -> Result<Items<(Text, Bytes)>, AllocError> {
+    let mut inside = Items::new(alloc);
+    add_file(alloc, &mut inside, path, bytes)?;
+    for file in FILES {
+        add_file(alloc, &mut inside, file.0, file.1)?;
+    }
+    Ok(inside)
+}
+
 /// The world with one file more.
 fn world(alloc: Global, path: &str, bytes: &[u8]) -> Result<Files, AllocError> {
-    let mut inside = Items::new(alloc);
-    inside.push((
-        Text::from_str(alloc, path)?,
-        Bytes::from_slice(alloc, bytes)?,
-    ))?;
-    for (name, content) in FILES {
-        inside.push((
-            Text::from_str(alloc, name)?,
-            Bytes::from_slice(alloc, content)?,
-        ))?;
-    }
-    let variables = texts(alloc, &VARIABLES)?;
+    let inside = files(alloc, path, bytes)?;
+    let variables = texts(alloc, VARIABLES)?;
     Ok(Files { inside, variables })
+}
+
+/// Adds a name and a value.
+fn add_text(
+    alloc: Global,
+    made: &mut Items<(Text, Text)>,
+    name: &str,
+    value: &str,
+) -> Result<(), AllocError> {
+    let name = Text::from_str(alloc, name)?;
+    let value = Text::from_str(alloc, value)?;
+    made.push((name, value))
 }
 
 /// Names and values as texts.
 fn texts(alloc: Global, entries: &[(&str, &str)]) -> Result<Items<(Text, Text)>, AllocError> {
     let mut made = Items::new(alloc);
     for entry in entries {
-        made.push((
-            Text::from_str(alloc, entry.0)?,
-            Text::from_str(alloc, entry.1)?,
-        ))?;
+        add_text(alloc, &mut made, entry.0, entry.1)?;
     }
     Ok(made)
 }
@@ -86,7 +107,7 @@ fn texts(alloc: Global, entries: &[(&str, &str)]) -> Result<Items<(Text, Text)>,
 /// The answer to words in the world with one file more.
 pub fn answer_in(alloc: Global, words: &str, path: &str, bytes: &[u8]) -> Result<Reply, ViewFault> {
     let words = words_of(alloc, words)?;
-    let pairs = texts(alloc, &PAIRS)?;
+    let pairs = texts(alloc, PAIRS)?;
     let view = world(alloc, path, bytes)?;
     answer(alloc, words.as_slice(), pairs.as_slice(), &view)
 }
@@ -103,22 +124,22 @@ pub fn files_text(alloc: Global, reply: &Reply) -> Result<Vec<u8>, AllocError> {
     Ok(text)
 }
 
-/// Asserts what a reply has; the files as `files_text` writes them.
-pub fn assert_answer(
-    rt: &impl Abort,
+/// Whether a reply has this; the files as `files_text` writes them.
+pub fn answers(
     alloc: Global,
     reply: &Reply,
     status: i32,
     stdout: &[u8],
     stderr: &[u8],
     files: &[u8],
-) -> Result<(), AllocError> {
+) -> Result<bool, AllocError> {
     let found = files_text(alloc, reply)?;
-    assert_eq!(rt; reply.status, status);
-    assert_eq!(rt; reply.stdout.as_slice(), stdout);
-    assert_eq!(rt; reply.stderr.as_slice(), stderr);
-    assert_eq!(rt; found.as_slice(), files);
-    Ok(())
+    Ok(
+        reply.status == status
+            && reply.stdout.as_slice() == stdout
+            && reply.stderr.as_slice() == stderr
+            && found.as_slice() == files,
+    )
 }
 
 /// Words of a compile of `/w/s`, with a bar between them.
@@ -128,11 +149,16 @@ pub const WORDS: &str =
 /// A source, the status of its compile, its standard error, and its files.
 pub type Case = (&'static [u8], i32, &'static [u8], &'static [u8]);
 
+/// Whether the compile of a source answers this.
+pub fn is_right(alloc: Global, case: &Case) -> Result<bool, ViewFault> {
+    let reply = answer_in(alloc, WORDS, "/w/s", case.0)?;
+    Ok(answers(alloc, &reply, case.1, b"", case.2, case.3)?)
+}
+
 /// Asserts what the compile of each source answers.
 pub fn assert_cases(rt: &impl Abort, alloc: Global, cases: &[Case]) -> Result<(), Fail> {
-    for case in cases {
-        let reply = answer_in(alloc, WORDS, "/w/s", case.0)?;
-        assert_answer(rt, alloc, &reply, case.1, b"", case.2, case.3)?;
+    for (place, case) in cases.iter().enumerate() {
+        assert!(rt; is_right(alloc, case)?, "case {place}");
     }
     Ok(())
 }

@@ -5,8 +5,6 @@
 #[cfg(test)]
 mod cases;
 #[cfg(test)]
-mod child;
-#[cfg(test)]
 mod show;
 #[cfg(test)]
 mod workspaces;

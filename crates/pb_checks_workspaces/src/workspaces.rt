@@ -1,47 +1,23 @@
 //! Workspaces, by a table of files with the packages that are loaded or the refusal.
 
 use crate::cases::CASES;
-use crate::child::Silent;
 use crate::show::shown;
-use pb_data::{Items, Text};
+use pb_checks_files::{Silent, no_options, put_files, workspace_in};
+use pb_data::Text;
 use pb_place::{Memory, PathText, Place};
 use pb_workspace::{LoadFault, Options, Workspace, load, selected};
 use std::alloc::Global;
 use std::process::Abort;
 use std::test::Fail;
 
-/// Puts the files of a case, each behind a line `@ PATH`.
-fn put_files(alloc: Global, memory: &mut Memory<Silent>, files: &str) -> Result<(), Fail> {
-    for file in files.split("@ ") {
-        if let Some((path, text)) = file.split_once('\n') {
-            let path = PathText::parse(alloc, path)?;
-            memory.put(alloc, &path, text.as_bytes())?;
-        }
-    }
-    Ok(())
-}
-
 /// The options of a build of `-p NAME`, of all members for `*`, or of nothing named for `-`.
 fn options_of(alloc: Global, word: &str) -> Result<Options, Fail> {
-    let mut packages = Items::new(alloc);
+    let mut options = no_options(alloc)?;
+    options.workspace = word == "*";
     if word != "-" && word != "*" {
-        packages.push(Text::from_str(alloc, word)?)?;
+        options.packages.push(Text::from_str(alloc, word)?)?;
     }
-    Ok(Options {
-        manifest: PathText::parse(alloc, "/w/Cargo.toml")?,
-        packages,
-        workspace: word == "*",
-        features: Items::new(alloc),
-        all_features: false,
-        no_default_features: false,
-        profile: Text::from_str(alloc, "dev")?,
-        lib: false,
-        bins: false,
-        bin: Items::new(alloc),
-        target_dir: None,
-        runner: Items::new(alloc),
-        tool: Text::from_str(alloc, "tool")?,
-    })
+    Ok(options)
 }
 
 /// Adds the selection of a word to what is shown: a line `WORD =` and the places, or the refusal.
@@ -66,16 +42,6 @@ fn put_selection(
     Ok(())
 }
 
-/// The workspace at `/w`, whose target folder is `/w/target`.
-fn loaded(
-    alloc: Global,
-    memory: &mut Memory<Silent>,
-) -> Result<Result<Workspace, LoadFault>, Fail> {
-    let manifest = PathText::parse(alloc, "/w/Cargo.toml")?;
-    let target = PathText::parse(alloc, "/w/target")?;
-    Ok(load(memory, alloc, &manifest, &target))
-}
-
 /// Adds a line for each word that stands for a selection.
 fn put_selections(
     alloc: Global,
@@ -93,7 +59,7 @@ fn put_selections(
 
 /// What a case answers: the workspace, and a line for each word that stands for a selection.
 fn answered(alloc: Global, memory: &mut Memory<Silent>, words: &str) -> Result<String, Fail> {
-    let answer = loaded(alloc, memory)?;
+    let answer = workspace_in(alloc, memory)?;
     let mut out = shown(alloc, &answer)?;
     if let Ok(workspace) = &answer {
         put_selections(alloc, workspace, words, &mut out)?;
@@ -150,7 +116,7 @@ fn many(alloc: Global, count: usize) -> Result<Memory<Silent>, Fail> {
 /// place fails, and nothing is started.
 fn count_loaded(rt: &impl Abort, alloc: Global, count: usize) -> Result<usize, Fail> {
     let mut memory = many(alloc, count)?;
-    let answer = loaded(alloc, &mut memory)?;
+    let answer = workspace_in(alloc, &mut memory)?;
     assert_eq!(rt; memory.failures(), 0);
     assert_eq!(rt; memory.starts(), 0);
     match &answer {

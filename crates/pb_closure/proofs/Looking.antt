@@ -1,11 +1,10 @@
 -- Things that are looked at one after another, each once, until none is left.
-use Rattle.std.proofs.Common.{◌≡◌, inl, inr, ℕ, ◌+◌, ◌<◌, Bool, true, false, List, [], ◌∷◌, ◌++◌, All, Contains, IsTrue, length, replicate, sym, ◌∙◌, ap, subst, arith, length-append}
+use Rattle.std.proofs.Common.{◌≡◌, inl, inr, ℕ, ◌+◌, ◌<◌, Bool, true, false, List, [], ◌∷◌, All, Contains, IsTrue, length, replicate, sym, ◌∙◌, ap, subst, arith}
 use Rattle.std.proofs.lemmas.List.{length-replicate}
-use Rattle.std.proofs.lemmas.List.Elements.{Contains-push, Contains-append_left, Contains-append_cases}
 use Rattle.pb_closure.specs.Closure.{Least, seed, is_on, with_marks, IsGiven, IsLeast}
 use Rattle.pb_closure.proofs.Closing.{Sofar, Grows, one_more, at_end}
 use Rattle.pb_closure.proofs.Marking.{Marked, marked_all, unmarked, none_on}
-use Rattle.pb_closure.proofs.Membership.{none, single}
+use Rattle.pb_closure.proofs.Membership.{none, head, tail, cases}
 
 -- what is marked, and what is still to be looked at, of which all is marked
 pub record Looking (n : ℕ) (Seed : ℕ → Type 0) (Joins : ℕ → ℕ → ℕ → Type 0) (s : List Bool × List ℕ) : Type 0 where
@@ -32,29 +31,29 @@ begun n Joins marks seeds t clear in_range is =
 
 -- at each turn, with the measure
 pub turned : (n : ℕ) (Seed : ℕ → Type 0) (Joins : ℕ → ℕ → ℕ → Type 0) (marks : List Bool) (todo rest : List ℕ) (thing : ℕ) (known : List Bool) (given passed : List ℕ) (t : List Bool × List ℕ)
-    → Looking n Seed Joins (marks, todo) → todo ≡ rest ++ thing ∷ [] → known ≡ marks → IsGiven Joins (is_on known) thing given → All (λ z. z < n) given
+    → Looking n Seed Joins (marks, todo) → todo ≡ thing ∷ rest → known ≡ marks → IsGiven Joins (is_on known) thing given → All (λ z. z < n) given
     → passed ≡ given → t ≡ with_marks (marks, rest) passed → Looking n Seed Joins t × (unmarked t.0 + length t.1 < unmarked marks + length todo)
 turned n Seed Joins marks todo rest thing known given passed t looking last same_marks known_given in_range same_given is_passed =
     let is_given : IsGiven Joins (is_on marks) thing given = subst (λ w. IsGiven Joins (is_on w) thing given) same_marks known_given in
     let is : t ≡ with_marks (marks, rest) given = is_passed ∙ ap (with_marks (marks, rest)) same_given in
-    let back : Looking n Seed Joins (marks, rest ++ thing ∷ []) = subst (λ w. Looking n Seed Joins (marks, w)) last looking in
+    let back : Looking n Seed Joins (marks, thing ∷ rest) = subst (λ w. Looking n Seed Joins (marks, w)) last looking in
     let m : Marked (marks, rest) t given = subst (λ w. Marked (marks, rest) w given) (sym is) (marked_all (marks, rest) given (subst (λ m. All (λ z. z < m) given) (sym back.long) in_range)) in
     let grows : Grows (is_on marks) (is_on t.0) given (Contains t.1) = record { kept = m.kept; only = m.only; each = m.each; fresh = m.fresh } in (
       record {
         long = m.long ∙ back.long;
-        found = λ z is. elim (m.listed z is) [ inl was ↦ m.kept z (back.found z (Contains-append_left rest (thing ∷ []) z was)) | inr on ↦ on ];
-        so = one_more Seed Joins (is_on marks) (is_on t.0) (Contains (rest ++ thing ∷ [])) (Contains t.1) thing given back.so (back.found thing (Contains-push rest thing))
-            (λ z waits. elim (Contains-append_cases rest (thing ∷ []) z waits) [ inl still ↦ inl (m.more z still) | inr same ↦ inr (single thing z same) ])
+        found = λ z is. elim (m.listed z is) [ inl was ↦ m.kept z (back.found z (tail thing rest z was)) | inr on ↦ on ];
+        so = one_more Seed Joins (is_on marks) (is_on t.0) (Contains (thing ∷ rest)) (Contains t.1) thing given back.so (back.found thing (head thing rest))
+            (λ z waits. elim (cases thing rest z waits) [ inl same ↦ inr same | inr still ↦ inl (m.more z still) ])
             is_given grows;
       },
-      omega (arith, m.count, ap length last, length-append rest (thing ∷ [])),
+      omega (arith, m.count, ap length last),
     )
 
 -- what is taken is marked
 pub taken : (n : ℕ) (Seed : ℕ → Type 0) (Joins : ℕ → ℕ → ℕ → Type 0) (marks known : List Bool) (todo rest : List ℕ) (thing : ℕ)
-    → Looking n Seed Joins (marks, todo) → known ≡ marks → todo ≡ rest ++ thing ∷ [] → IsTrue (is_on known thing)
+    → Looking n Seed Joins (marks, todo) → known ≡ marks → todo ≡ thing ∷ rest → IsTrue (is_on known thing)
 taken n Seed Joins marks known todo rest thing looking same last =
-    ap (λ w. is_on w thing) same ∙ looking.found thing (subst (λ w. Contains w thing) (sym last) (Contains-push rest thing))
+    ap (λ w. is_on w thing) same ∙ looking.found thing (subst (λ w. Contains w thing) (sym last) (head thing rest))
 
 -- at the end
 pub ended : (n : ℕ) (Seed : ℕ → Type 0) (Joins : ℕ → ℕ → ℕ → Type 0) (marks : List Bool) (todo : List ℕ) → Looking n Seed Joins (marks, todo) → length todo ≡ 0 → IsLeast (Least Seed Joins) (is_on marks)

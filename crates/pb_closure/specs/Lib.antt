@@ -1,4 +1,5 @@
 pub mod Closure
 pub mod Table
+pub mod Index
 pub mod Placed
 pub mod Numbered

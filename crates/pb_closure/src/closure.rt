@@ -4,6 +4,7 @@ ghost use Rattle.std.specs.Prelude.{◌≡◌, ℕ, ◌+◌, ◌<◌, IfOk, OnOk
 ghost use Rattle.pb_closure.specs.Closure.{Least, IsGiven, IsLeast, is_on, with_mark, with_marks};
 
 use std::alloc::{AllocError, Global};
+use std::collections::VecDeque;
 
 /// Rules over the things from 0 up to a count, each with at most two premises.
 pub trait Rules {
@@ -13,25 +14,34 @@ pub trait Rules {
     /// Two things give a third together; a rule with one premise joins a thing with itself.
     ghost joins: { Self → ℕ → ℕ → ℕ → Type 0 };
 
-    /// The rules are well made: what `given` asks beside.
+    /// The rules are well made: what `put_given` asks beside.
     ghost is_fit: { Self → Type 0 };
 
     /// How many things there are.
     fn count_things(&self) -> usize
         ensures { result ≡ count self.now };
 
-    /// What a known thing gives together with the known things. It may give more that follows from
-    /// known things.
-    fn given(&self, alloc: Global, known: &[bool], thing: usize) -> Result<Vec<usize>, AllocError>
+    /// Puts into a buffer, in place of what is in it, what a known thing gives together with the known
+    /// things. It may put more that follows from known things.
+    fn put_given(
+        &self,
+        known: &[bool],
+        thing: usize,
+        given: &mut Vec<usize>,
+    ) -> Result<(), AllocError>
         requires known { length known.now ≡ count self.now }
         requires thing { IsTrue (is_on known.now thing) }
         requires fit { is_fit self.now }
-        ensures within { IfOk result (λ given. All (λ z. z < count self.now) given.items) }
-        ensures given { IfOk result (λ given. IsGiven (joins self.now) (is_on known.now) thing given.items) };
+        ensures within { OnOk result (All (λ z. z < count self.now) given.new.items) }
+        ensures given { OnOk result (IsGiven (joins self.now) (is_on known.now) thing given.new.items) };
 }
 
 /// Marks a thing and puts it on the list, unless it is marked.
-fn mark_one(marks: &mut Vec<bool>, todo: &mut Vec<usize>, thing: usize) -> Result<(), AllocError>
+fn mark_one(
+    marks: &mut Vec<bool>,
+    todo: &mut VecDeque<usize>,
+    thing: usize,
+) -> Result<(), AllocError>
     requires { thing < length marks.old.items }
     ensures long { length marks.new.items ≡ length marks.old.items }
     ensures marked { OnOk result ((marks.new.items, todo.new.items) ≡ with_mark (marks.old.items, todo.old.items) thing) }
@@ -39,13 +49,17 @@ fn mark_one(marks: &mut Vec<bool>, todo: &mut Vec<usize>, thing: usize) -> Resul
     if marks[thing] {
         return Ok(());
     }
-    todo.push(thing)?;
+    todo.push_back(thing)?;
     marks[thing] = true;
     Ok(())
 }
 
 /// Marks things and puts those that were not marked on the list.
-fn mark(marks: &mut Vec<bool>, todo: &mut Vec<usize>, things: &[usize]) -> Result<(), AllocError>
+fn mark(
+    marks: &mut Vec<bool>,
+    todo: &mut VecDeque<usize>,
+    things: &[usize],
+) -> Result<(), AllocError>
     requires { All (λ x. x < length marks.old.items) things.now }
     ensures long { length marks.new.items ≡ length marks.old.items }
     ensures marked { OnOk result ((marks.new.items, todo.new.items) ≡ with_marks (marks.old.items, todo.old.items) things.now) }
@@ -57,17 +71,19 @@ fn mark(marks: &mut Vec<bool>, todo: &mut Vec<usize>, things: &[usize]) -> Resul
 }
 
 /// The least set of things with the seeds, closed under the rules: whether each thing is in it.
-/// Each thing is looked at once.
+/// Each thing is looked at once, in the order in which they are found: what is found together mostly lies
+/// together.
 pub fn least<R: Rules>(alloc: Global, rules: &R, seeds: &[usize]) -> Result<Vec<bool>, AllocError>
     requires seeds { All (λ x. x < R.count rules.now) seeds.now }
     requires fit { R.is_fit rules.now }
     ensures { IfOk result (λ marks. IsLeast (Least (Contains seeds.now) (R.joins rules.now)) (is_on marks.items)) }
 {
     let mut marks = vec![in alloc; false; rules.count_things()]?;
-    let mut todo = Vec::new(alloc);
+    let mut todo = VecDeque::new(alloc);
+    let mut given = Vec::new(alloc);
     mark(&mut marks, &mut todo, seeds)?;
-    while let Some(thing) = todo.pop() {
-        let given = rules.given(alloc, marks.as_slice(), thing)?;
+    while let Some(thing) = todo.pop_front() {
+        rules.put_given(marks.as_slice(), thing, &mut given)?;
         mark(&mut marks, &mut todo, given.as_slice())?;
     }
     Ok(marks)

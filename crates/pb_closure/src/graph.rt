@@ -1,6 +1,6 @@
 //! What is reached from some things, where each thing leads to others.
 
-ghost use Rattle.std.specs.Prelude.{◌≡◌, ℕ, ◌<◌, List, IfOk, All, Contains, length};
+ghost use Rattle.std.specs.Prelude.{◌≡◌, ℕ, ◌<◌, List, IfOk, OnOk, All, Contains, length};
 ghost use Rattle.pb_closure.specs.Closure.{Reached, IsLeast, is_on, along, listed_by};
 
 use crate::closure::{Rules, least};
@@ -18,11 +18,11 @@ pub trait Graph {
     fn size_of(&self) -> usize
         ensures { result ≡ size self.now };
 
-    /// The things that this one leads to.
-    fn leads_to(&self, alloc: Global, thing: usize) -> Result<Vec<usize>, AllocError>
+    /// Puts into a buffer, in place of what is in it, the things that this one leads to.
+    fn put_leads(&self, thing: usize, given: &mut Vec<usize>) -> Result<(), AllocError>
         requires within { (x : ℕ) → All (λ y. y < size self.now) (leads self.now x) }
         requires thing { thing < size self.now }
-        ensures { IfOk result (λ given. given.items ≡ leads self.now thing) };
+        ensures { OnOk result (given.new.items ≡ leads self.now thing) };
 }
 
 /// The rules of a graph: a thing gives what it leads to.
@@ -45,9 +45,14 @@ impl<'a, G: Graph> Rules for Along<'a, G> {
         self.graph.size_of()
     }
 
-    fn given(&self, alloc: Global, known: &[bool], thing: usize) -> Result<Vec<usize>, AllocError> {
-        let given = self.graph.leads_to(alloc, thing)?;
-        Ok(given)
+    fn put_given(
+        &self,
+        known: &[bool],
+        thing: usize,
+        given: &mut Vec<usize>,
+    ) -> Result<(), AllocError> {
+        self.graph.put_leads(thing, given)?;
+        Ok(())
     }
 }
 

@@ -4,6 +4,7 @@
 
 pub mod closure;
 pub mod graph;
+mod index;
 pub mod table;
 
 pub use closure::{Rules, least};

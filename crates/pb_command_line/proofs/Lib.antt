@@ -1,2 +1,2 @@
-mod Conflicts
+mod Refused
 mod Simple

@@ -1,7 +1,7 @@
 -- The options of `pb_tool`, as `clap` has them.
-use Rattle.std.specs.Prelude.{◌≡◌, ◌++◌, ℕ, codes, List, [], ◌∷◌, Some, map, true, false}
+use Rattle.std.specs.Prelude.{◌≡◌, codes, List, [], ◌∷◌, Some, map, true}
 use Rattle.clap.specs.Walk.{Rule, Text}
-use Rattle.clap.specs.Simple.{App, Shape, new_app, new_rule, new_shape, with_rule, with_subcommand}
+use Rattle.clap.specs.Simple.{App, new_app, new_rule, with_rule, with_subcommand}
 use Rattle.clap.specs.declared.builder.action.ArgAction.TheVariants.{SetTrue, Append}
 use Rattle.clap.specs.declared.builder.value_parser.ValueParser.{ValueParser}
 use Rattle.clap.specs.declared.builder.value_parser.ValueParser.TheVariants.{Names}
@@ -24,16 +24,12 @@ selection =
     record (options (codes "package")) { short = Some 112 }
     ∷ flag (codes "workspace") ∷ flag (codes "lib") ∷ flag (codes "bins") ∷ options (codes "bin") ∷ []
 
--- `--release`, which keeps from another
-abbrev pub release_flag : Rule
-release_flag = record (flag (codes "release")) { short = Some 114; is_free = false }
-
 -- which features are on, and how it is compiled
 abbrev pub features : List Rule
 features =
     record (options (codes "features")) { short = Some 70 }
     ∷ flag (codes "all-features") ∷ flag (codes "no-default-features")
-    ∷ release_flag ∷ option (codes "profile") ∷ []
+    ∷ record (flag (codes "release")) { short = Some 114 } ∷ option (codes "profile") ∷ []
 
 -- where it is read from and written to, and in which of these forms
 abbrev pub places : ValueParser → List Rule

@@ -1,2 +1,3 @@
 pub mod Description
 pub mod Asking
+pub mod Private

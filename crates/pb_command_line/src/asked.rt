@@ -1,5 +1,11 @@
 //! What a command line asks for, and why one asks for nothing.
 
+ghost use Rattle.std.specs.Prelude.{◌≡◌, ◌≢◌};
+ghost use Rattle.clap.specs.Values.{kind_of};
+ghost use Rattle.pb_command_line.specs.Private.{ToldWrong, TellsKind};
+ghost use Rattle.pb_command_line.specs.declared.asked.Unasked.TheVariants as unasked;
+ghost use Rattle.pb_place.specs.declared.path.PathFault.TheVariants as path_fault;
+
 use clap::Error;
 use clap::error::ErrorKind;
 use pb_data::Text;
@@ -28,6 +34,8 @@ pub enum Unasked {
 }
 
 impl From<AllocError> for Unasked {
+    ghost from_gives = { λ _ e. e ≡ unasked.OutOfMemory };
+
     fn from(_: AllocError) -> Self {
         Unasked::OutOfMemory
     }
@@ -35,21 +43,26 @@ impl From<AllocError> for Unasked {
 
 /// What the reader of the words says: its text, which goes to the output where help was asked for, and else to
 /// standard error.
-pub(crate) fn unasked_of(alloc: Global, error: &Error) -> Unasked {
-    if error.kind() == ErrorKind::OutOfMemory {
+pub(crate) fn unasked_of(alloc: Global, error: &Error) -> Unasked
+    ensures { TellsKind (kind_of error.now) result }
+{
+    let kind = error.kind();
+    if kind == ErrorKind::OutOfMemory {
         return Unasked::OutOfMemory;
     }
     let Ok(text) = format!(in alloc; "{error}") else {
         return Unasked::OutOfMemory;
     };
-    if error.use_stderr() {
-        return Unasked::Wrong(Text::new(text));
+    if kind == ErrorKind::DisplayHelp {
+        return Unasked::Help(Text::new(text));
     }
-    Unasked::Help(Text::new(text))
+    Unasked::Wrong(Text::new(text))
 }
 
 /// The words are wrong: this text says why.
-fn wrong(alloc: Global, text: &str) -> Unasked {
+fn wrong(alloc: Global, text: &str) -> Unasked
+    ensures { ToldWrong (Unit {0}) result }
+{
     match Text::from_str(alloc, text) {
         Ok(text) => Unasked::Wrong(text),
         Err(_) => Unasked::OutOfMemory,
@@ -57,7 +70,9 @@ fn wrong(alloc: Global, text: &str) -> Unasked {
 }
 
 /// Why a path of the command line is none.
-pub(crate) fn bad_path(alloc: Global, fault: PathFault) -> Unasked {
+pub(crate) fn bad_path(alloc: Global, fault: PathFault) -> Unasked
+    ensures { ToldWrong (fault ≢ path_fault.OutOfMemory) result }
+{
     if fault == PathFault::OutOfMemory {
         return Unasked::OutOfMemory;
     }
@@ -65,6 +80,18 @@ pub(crate) fn bad_path(alloc: Global, fault: PathFault) -> Unasked {
 }
 
 /// Neither a build nor a session is asked for.
-pub(crate) fn no_command(alloc: Global) -> Unasked {
+pub(crate) fn no_command(alloc: Global) -> Unasked
+    ensures { ToldWrong (Unit {0}) result }
+{
     wrong(alloc, "error: neither `build` nor `session`\n")
+}
+
+/// Two profiles are asked for.
+pub(crate) fn two_profiles(alloc: Global) -> Unasked
+    ensures { ToldWrong (Unit {0}) result }
+{
+    wrong(
+        alloc,
+        "error: the argument '--release' cannot be used with '--profile <NAME>'\n",
+    )
 }

@@ -4,9 +4,9 @@ ghost use Rattle.std.specs.Prelude.{◌≡◌, IfOk, false};
 ghost use Rattle.clap.specs.Walk.{rule_of};
 ghost use Rattle.clap.specs.Simple.{app_of};
 ghost use Rattle.clap.specs.declared.builder.value_parser.ValueParser.{ValueParser};
-ghost use Rattle.pb_command_line.specs.Description.{flag, option, options, release_flag, selection, features, places, with_rules, IsJson, build, session, program};
+ghost use Rattle.pb_command_line.specs.Description.{flag, option, options, selection, features, places, with_rules, IsJson, build, session, program};
 
-use clap::{Arg, ArgAction, Command, Error};
+use clap::{Arg, ArgAction, Command};
 use std::alloc::{AllocError, Global};
 
 /// An option without a value.
@@ -40,7 +40,7 @@ fn options<'a>(alloc: Global, name: &'a str, value: &'a str, help: &'a str) -> A
 }
 
 /// `pb_tool session FILE`.
-fn session_command<'a>(alloc: Global) -> Result<Command<'a>, Error>
+fn session_command<'a>(alloc: Global) -> Result<Command<'a>, AllocError>
     ensures { IfOk result (λ command. app_of command ≡ session) }
 {
     let file = Arg::new(alloc, "FILE")
@@ -54,7 +54,7 @@ fn session_command<'a>(alloc: Global) -> Result<Command<'a>, Error>
 }
 
 /// What of the workspace is built.
-fn with_selection<'a>(alloc: Global, command: Command<'a>) -> Result<Command<'a>, Error>
+fn with_selection<'a>(alloc: Global, command: Command<'a>) -> Result<Command<'a>, AllocError>
     ensures { IfOk result (λ new. app_of new ≡ with_rules selection (app_of command.entry)) }
 {
     let package = options(
@@ -75,17 +75,8 @@ fn with_selection<'a>(alloc: Global, command: Command<'a>) -> Result<Command<'a>
     Ok(command)
 }
 
-/// The option `--release`, which keeps from `--profile`.
-fn release_flag<'a>(alloc: Global) -> Result<Arg<'a>, AllocError>
-    ensures rule { IfOk result (λ release. rule_of release ≡ release_flag) }
-    ensures local { IfOk result (λ release. release.global ≡ false) }
-{
-    let release = flag(alloc, "release", "Build under the profile `release`").short('r');
-    release.conflicts_with("profile")
-}
-
 /// Which features are on, and how it is compiled.
-fn with_features<'a>(alloc: Global, command: Command<'a>) -> Result<Command<'a>, Error>
+fn with_features<'a>(alloc: Global, command: Command<'a>) -> Result<Command<'a>, AllocError>
     ensures { IfOk result (λ new. app_of new ≡ with_rules features (app_of command.entry)) }
 {
     let named = options(
@@ -106,17 +97,17 @@ fn with_features<'a>(alloc: Global, command: Command<'a>) -> Result<Command<'a>,
         "Leave out their feature `default`",
     );
     let profile = option(alloc, "profile", "NAME", "Build under this profile");
-    let release = release_flag(alloc)?;
+    let release = flag(alloc, "release", "Build under the profile `release`");
     let command = command.arg(named)?;
     let command = command.arg(all)?;
     let command = command.arg(none)?;
-    let command = command.arg(release)?;
+    let command = command.arg(release.short('r'))?;
     let command = command.arg(profile)?;
     Ok(command)
 }
 
 /// Where it is read from and written to.
-fn with_places<'a>(alloc: Global, command: Command<'a>) -> Result<Command<'a>, Error>
+fn with_places<'a>(alloc: Global, command: Command<'a>) -> Result<Command<'a>, AllocError>
     ensures { IfOk result (λ new. (formats : ValueParser) × IsJson formats × (app_of new ≡ with_rules (places formats) (app_of command.entry))) }
 {
     let formats: &'a [&'a str] = &["json"];
@@ -152,7 +143,7 @@ fn with_places<'a>(alloc: Global, command: Command<'a>) -> Result<Command<'a>, E
 }
 
 /// `pb_tool build`.
-fn build_command<'a>(alloc: Global) -> Result<Command<'a>, Error>
+fn build_command<'a>(alloc: Global) -> Result<Command<'a>, AllocError>
     ensures { IfOk result (λ command. (formats : ValueParser) × IsJson formats × (app_of command ≡ build formats)) }
 {
     let command = Command::new(alloc, "build").about(
@@ -164,7 +155,7 @@ fn build_command<'a>(alloc: Global) -> Result<Command<'a>, Error>
 }
 
 /// The whole command line.
-pub(crate) fn program<'a>(alloc: Global) -> Result<Command<'a>, Error>
+pub(crate) fn program<'a>(alloc: Global) -> Result<Command<'a>, AllocError>
     ensures { IfOk result (λ command. (formats : ValueParser) × IsJson formats × (app_of command ≡ program formats)) }
 {
     let build = build_command(alloc)?;

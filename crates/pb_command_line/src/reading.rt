@@ -1,18 +1,20 @@
 //! From the words of a command line to what it asks for.
 
-ghost use Rattle.std.specs.Prelude.{◌≡◌, Ok, IfOk, Bool, [], codes, map, option_map, unwrap_or};
+ghost use Rattle.std.specs.Prelude.{◌≡◌, ◌⊎◌, Ok, Err, IfOk, IfErr, Bool, [], codes, map, option_map, unwrap_or};
 ghost use Rattle.clap.specs.Matches.{found_of};
 ghost use Rattle.clap.specs.Walk.{rows_of, first_of};
 ghost use Rattle.clap.specs.Simple.{subcommand_of, subcommand_rows_of};
 ghost use Rattle.clap.specs.declared.builder.value_parser.ValueParser.{ValueParser};
 ghost use Rattle.pb_directive.specs.Directives.{words_of};
 ghost use Rattle.pb_place.specs.Paths.{joined};
+ghost use Rattle.pb_place.specs.declared.path.PathFault.{PathFault};
 ghost use Rattle.pb_command_line.specs.Description.{IsJson, program};
-ghost use Rattle.pb_command_line.specs.Asking.{IsFlag, values_of, profile_of, IsOptions, AsksBy, Asks, tool_of};
+ghost use Rattle.pb_command_line.specs.Asking.{IsFlag, HasTwoProfiles, IsProfile, IsOptions, IsTaken, AsksBy, Asks, AsksWrongly, Unasks, values_of, manifest_of, tool_of};
+ghost use Rattle.pb_command_line.specs.Private.{ToldWrong, RefusedBy};
 
-use crate::asked::{Asked, Unasked, bad_path, no_command, unasked_of};
+use crate::asked::{Asked, Unasked, bad_path, no_command, two_profiles, unasked_of};
 use crate::description::program;
-use clap::{ArgMatches, Error};
+use clap::ArgMatches;
 use pb_data::{Items, Text};
 use pb_directive::words::words_of;
 use pb_place::PathText;
@@ -75,14 +77,21 @@ fn value_of(alloc: Global, matches: &ArgMatches<'_>, name: &str) -> Result<Optio
     }
 }
 
-/// The profile: `release` for `--release`, what `--profile` says, else `dev`.
-fn profile_of(alloc: Global, matches: &ArgMatches<'_>) -> Result<Text, AllocError>
-    ensures { IfOk result (λ profile. (release : Bool) × IsFlag (codes "release") (rows_of (found_of matches.now)) release × (profile ≡ profile_of release (rows_of (found_of matches.now)))) }
+/// The profile: `release` for `--release`, what `--profile` says, else `dev`. Wrong where both are given.
+fn profile_of(alloc: Global, matches: &ArgMatches<'_>) -> Result<Text, Unasked>
+    ensures profile { IfOk result (IsProfile (rows_of (found_of matches.now))) }
+    ensures wrong { IfErr result (ToldWrong (HasTwoProfiles (rows_of (found_of matches.now)))) }
 {
-    if is_given(matches, "release") {
-        return Text::from_str(alloc, "release");
+    let release = is_given(matches, "release");
+    match first(matches, "profile") {
+        Some(profile) => {
+            if release {
+                return Err(two_profiles(alloc));
+            }
+            Ok(Text::from_str(alloc, profile)?)
+        }
+        None => Ok(Text::from_str(alloc, if release { "release" } else { "dev" })?),
     }
-    Text::from_str(alloc, first_or(matches, "profile", "dev"))
 }
 
 /// The words of a text, which spaces part.
@@ -98,7 +107,8 @@ fn parted(alloc: Global, text: &str) -> Result<Items<Text>, AllocError>
 
 /// The path that a text of the command line says. A relative one starts at the folder.
 fn path_of(alloc: Global, folder: &PathText, text: &str) -> Result<PathText, Unasked>
-    ensures { IfOk result (λ path. joined folder.now text.now ≡ Ok path) }
+    ensures path { IfOk result (λ path. joined folder.now text.now ≡ Ok path) }
+    ensures wrong { IfErr result (ToldWrong ((fault : PathFault) × (joined folder.now text.now ≡ Err fault))) }
 {
     match folder.join(alloc, text) {
         Ok(path) => Ok(path),
@@ -113,7 +123,8 @@ fn options_of(
     folder: &PathText,
     matches: &ArgMatches<'_>,
 ) -> Result<Options, Unasked>
-    ensures { IfOk result (IsOptions tool.now folder.now (rows_of (found_of matches.now))) }
+    ensures options { IfOk result (IsOptions tool.now folder.now (rows_of (found_of matches.now))) }
+    ensures wrong { IfErr result (ToldWrong (HasTwoProfiles (rows_of (found_of matches.now)) ⊎ ((fault : PathFault) × (joined folder.now (manifest_of (rows_of (found_of matches.now))) ≡ Err fault)))) }
 {
     let manifest = path_of(
         alloc,
@@ -151,27 +162,35 @@ fn asked_by(
     folder: &PathText,
     matches: &ArgMatches<'_>,
 ) -> Result<Asked, Unasked>
-    ensures { IfOk result (AsksBy tool.now folder.now (subcommand_rows_of matches.now)) }
+    ensures asked { IfOk result (AsksBy tool.now folder.now (subcommand_rows_of matches.now)) }
+    ensures wrong { IfErr result (ToldWrong (AsksWrongly folder.now (subcommand_rows_of matches.now))) }
 {
     if let Some(build) = matches.subcommand_matches("build") {
-        let options = options_of(alloc, tool, folder, build)?;
-        return Ok(Asked::Build(options));
+        return match options_of(alloc, tool, folder, build) {
+            Ok(options) => Ok(Asked::Build(options)),
+            Err(unasked) => Err(unasked),
+        };
     }
     match matches.subcommand_matches("session") {
-        Some(session) => {
-            let path = path_of(alloc, folder, first_or(session, "FILE", ""))?;
-            Ok(Asked::Session(path))
-        }
+        Some(session) => match path_of(alloc, folder, first_or(session, "FILE", "")) {
+            Ok(path) => Ok(Asked::Session(path)),
+            Err(unasked) => Err(unasked),
+        },
         None => Err(no_command(alloc)),
     }
 }
 
-/// The words as the description of the command line has them.
-fn matches_of<'a, S: AsStr>(alloc: Global, words: &'a [S]) -> Result<ArgMatches<'a>, Error>
-    ensures { IfOk result (λ matches. (formats : ValueParser) × IsJson formats × (subcommand_rows_of matches ≡ subcommand_of (program formats) (map S.text words.now))) }
+/// The words as the description of the command line has them, or why it does not take them.
+fn matches_of<'a, S: AsStr>(alloc: Global, words: &'a [S]) -> Result<ArgMatches<'a>, Unasked>
+    ensures matches { IfOk result (λ matches. (formats : ValueParser) × IsJson formats × IsTaken formats (map S.text words.now)
+        × (subcommand_rows_of matches ≡ subcommand_of (program formats) (map S.text words.now))) }
+    ensures refused { IfErr result (RefusedBy (map S.text words.now)) }
 {
     let program = program(alloc)?;
-    program.try_get_matches_from(words)
+    match program.try_get_matches_from(words) {
+        Ok(matches) => Ok(matches),
+        Err(error) => Err(unasked_of(alloc, &error)),
+    }
 }
 
 /// The first word; empty where there is none.
@@ -187,17 +206,18 @@ fn tool_of<S: AsStr>(words: &[S]) -> &str
 /// What a command line asks for. The words are those of the whole command line, the program's own name first; relative
 /// paths start at `folder`.
 ///
-/// Help where help was asked for, Wrong where the words or a path among them are wrong, each with the text that is to
-/// be printed; OutOfMemory where memory is refused.
+/// Help where help was asked for; Wrong where the words are none of a command line, where two profiles are asked for, or
+/// where a path has byte 0; each with the text that is to be printed. OutOfMemory where memory is refused.
 pub fn read_command_line<S: AsStr>(
     alloc: Global,
     words: &[S],
     folder: &PathText,
 ) -> Result<Asked, Unasked>
-    ensures { IfOk result (Asks (map S.text words.now) folder.now) }
+    ensures asked { IfOk result (Asks (map S.text words.now) folder.now) }
+    ensures unasked { IfErr result (Unasks (map S.text words.now) folder.now) }
 {
     match matches_of(alloc, words) {
         Ok(matches) => asked_by(alloc, tool_of(words), folder, &matches),
-        Err(error) => Err(unasked_of(alloc, &error)),
+        Err(unasked) => Err(unasked),
     }
 }

@@ -1,25 +1,34 @@
-//! Runs the example sessions: each file `NAME.json` of the folder that it is started in, in byte order of the names.
-//! Before what a session prints it prints a line `== NAME`.
+//! Runs the examples: sessions in memory, and scripts that run the programs `pb_tool` and `pb_mini` over real folders
+//! and real children.
+//!
+//! This program is both of them: started under a name that ends in `pb_tool` or in `pb_mini`, it does what that one
+//! does. Under any other name it goes through the folder that it is started in, in byte order of the names. Each file
+//! `NAME.json` is a session, which it runs as `pb_tool session` does. Each file `NAME.sh` is a script, which the shell
+//! carries out in a new folder, over links of the two names to this program; in what a script prints `/w` stands for
+//! its folder. Before each it prints a line `== NAME`.
 //!
 //! The gate starts it in a copy of `data/` and compares what it prints with the file `stdout`. So a new example is
 //! its file in `data/` and its part of `stdout`.
 #![tactic(auto)]
 
-use pb_build::session;
-use pb_mini::Mini;
-use pb_place::{Memory, Out, Over, write_all};
-use pb_report::result_line;
-use pb_session::{BadSession, read_session};
-use std::alloc::Global;
-use std::process::ExitCode;
-use std::{fs, io};
+use pb_mini_program::compiler;
+use pb_place::Over;
+use pb_program::{run_session, tool};
+use std::os::unix::fs::symlink;
+use std::process::{Command, ExitCode};
+use std::rt::Env;
+use std::{env, fs, io};
 
-/// The names of the examples, in byte order.
+/// The programs, by the names under which they are started.
+const PROGRAMS: [&str; 2] = ["pb_mini", "pb_tool"];
+
+/// The names of the files of sessions and scripts, in byte order.
 fn names(rt: &HostRuntime) -> io::Result<Vec<String>> {
     let mut names = Vec::new(rt.alloc());
     for entry in fs::read_dir(rt, ".")? {
         let entry = entry?;
-        if let Some(name) = entry.file_name().strip_suffix(".json") {
+        let name = entry.file_name();
+        if name.ends_with(".json") || name.ends_with(".sh") {
             names.push(String::from_str(rt.alloc(), name)?)?;
         }
     }
@@ -27,47 +36,91 @@ fn names(rt: &HostRuntime) -> io::Result<Vec<String>> {
     Ok(names)
 }
 
-/// Runs a session in memory with the small compiler, as `pb_tool session` does: the message lines of all builds, then
-/// a result line a build. Whether the sink took the result lines.
-fn print_session<O: Out>(alloc: Global, bytes: &[u8], out: &mut O) -> Result<bool, BadSession> {
-    let steps = read_session(alloc, bytes)?;
-    let mut memory = Memory::new(alloc, Mini);
-    let answers = session(alloc, &mut memory, out, steps.as_slice())?;
-    let mut lines = String::new(alloc);
-    for answer in answers.as_slice() {
-        lines.push_str(result_line(alloc, &answer.result)?.as_str())?;
-        lines.push_str("\n")?;
-    }
-    Ok(write_all(out, lines.as_bytes()))
-}
-
-/// Prints the line of an example and what its session prints. Whether all of it was printed.
-fn print_example(rt: &HostRuntime, name: &str) -> io::Result<bool> {
-    let file = format!(in rt.alloc(); "{name}.json")?;
-    let bytes = fs::read(rt, file.as_str())?;
-    let mut out = Over::new(io::writer(rt));
-    let headed = write_all(&mut out, format!(in rt.alloc(); "== {name}\n")?.as_bytes());
-    let printed = match print_session(rt.alloc(), bytes.as_slice(), &mut out) {
-        Ok(whole) => whole,
-        Err(BadSession::BadForm) => write_all(&mut out, b"error: bad session\n"),
-        Err(BadSession::OutOfMemory) => false,
+/// The name under which this program was started; empty where it is not known.
+fn own_name(rt: &HostRuntime) -> io::Result<String> {
+    let mut bytes = [0u8; 4096];
+    let Ok(length) = rt.arg(0, &mut bytes) else {
+        return Ok(String::new(rt.alloc()));
     };
-    Ok(headed && printed)
+    let name = str::from_utf8(&bytes[..length]).unwrap_or("");
+    let name = String::from_str(rt.alloc(), name)?;
+    Ok(name)
 }
 
-/// Prints all examples. Whether all of it was printed.
-fn print_all(rt: &HostRuntime) -> io::Result<bool> {
-    for name in names(rt)?.as_slice() {
-        if !print_example(rt, name.as_str())? {
-            return Ok(false);
+/// Makes the links to this program in the folder `bin`.
+fn link_programs(rt: &HostRuntime) -> io::Result<()> {
+    let program = own_name(rt)?;
+    fs::create_dir_all(rt, "bin")?;
+    for name in PROGRAMS {
+        let link = format!(in rt.alloc(); "bin/{name}")?;
+        symlink(rt, program.as_str(), link.as_str())?;
+    }
+    Ok(())
+}
+
+/// Runs a session, which prints its lines.
+fn print_session(rt: &HostRuntime, name: &str) -> io::Result<()> {
+    print!(rt; "== {name}\n")?;
+    let file = format!(in rt.alloc(); "{name}.json")?;
+    let session = fs::read(rt, file.as_str())?;
+    let mut out = Over::new(io::writer(rt));
+    let mut err = Over::new(io::writer(rt));
+    run_session(rt.alloc(), session.as_slice(), &mut out, &mut err);
+    Ok(())
+}
+
+/// Has the shell carry out a script in a new folder, and prints what it printed.
+fn print_script(rt: &HostRuntime, here: &str, name: &str) -> io::Result<()> {
+    let folder = format!(in rt.alloc(); "{here}/in/{name}")?;
+    fs::create_dir_all(rt, folder.as_str())?;
+    let mut shell = Command::new(rt.alloc(), "/bin/sh")?;
+    shell.arg("../../script")?;
+    shell.arg(name)?;
+    shell.current_dir(folder.as_str())?;
+    let output = shell.output(rt)?;
+    let text = String::from_utf8(output.stdout).map_err(|_| io::Error::from(
+        io::ErrorKind::InvalidData,
+    ))?;
+    let text = text.replace(rt.alloc(), folder.as_str(), "/w")?;
+    print!(rt; "== {name}\n{text}")
+}
+
+/// Carries out all sessions and scripts, where there are some.
+fn print_all(rt: &HostRuntime) -> io::Result<()> {
+    let here = env::current_dir(rt)?;
+    let names = names(rt)?;
+    if names.is_empty() {
+        return Ok(());
+    }
+    link_programs(rt)?;
+    for file in names.as_slice() {
+        if let Some(name) = file.as_str().strip_suffix(".json") {
+            print_session(rt, name)?;
+        }
+        if let Some(name) = file.as_str().strip_suffix(".sh") {
+            print_script(rt, here.as_str(), name)?;
         }
     }
-    Ok(true)
+    Ok(())
+}
+
+/// Does what the program of its name does, and gives the status to end with.
+fn status(rt: &HostRuntime) -> u8 {
+    let Ok(name) = own_name(rt) else {
+        return 1;
+    };
+    if name.as_str().ends_with("pb_tool") {
+        return tool(rt);
+    }
+    if name.as_str().ends_with("pb_mini") {
+        return compiler(rt);
+    }
+    match print_all(rt) {
+        Ok(()) => 0,
+        Err(_) => 1,
+    }
 }
 
 fn main(rt: HostRuntime) -> ExitCode {
-    ExitCode::from(match print_all(&rt) {
-        Ok(true) => 0,
-        _ => 1,
-    })
+    ExitCode::from(status(&rt))
 }

@@ -20,10 +20,11 @@ use Rattle.pb_manifest.specs.declared.feature.FeatureItem.TheVariants.{Own, Depe
 use Rattle.pb_workspace.specs.declared.package.Entry.{Entry}
 use Rattle.pb_workspace.specs.declared.package.Package.{Package}
 use Rattle.pb_workspace.specs.declared.package.Side.{Side}
+use Rattle.pb_workspace.specs.declared.package.Side.TheVariants.{Target, Host}
 use Rattle.pb_closure.specs.Placed.{placed}
 use Rattle.pb_closure.specs.declared.table.Rule.{Rule}
 use Rattle.pb_feature.specs.Found.{entry_named, given_by, found, is_optional}
-use Rattle.pb_feature.specs.Rules.{item_rules}
+use Rattle.pb_feature.specs.Rules.{item_rules, both_item_rules}
 use Rattle.pb_feature.specs.Numbers.{after, slot}
 use Rattle.pb_feature.proofs.Slots.{same_name, there_some, some_there}
 
@@ -280,48 +281,53 @@ module _ (name : List ℕ) where
   entry_second es one two r s at_one is not_there at_two also =
       also ∙ ap is_some at_two ∙ sym (ap (λ b. b || is_some (position (at Build name) es)) (sym (is ∙ ap is_some at_one) ∙ not_there)) ∙ entry_found es
 
-  pub optional_first : (es : List Entry) → Ascend es → (one : Option ℕ) (r : Bool) → one ≡ position (at Normal name) es → r ≡ found is_optional false es one → r ≡ true
-      → r ≡ list_any (λ (e : Entry). bytes_eq name e.key && e.optional) es
-  optional_first es up one r at_one is there =
-      there ∙ sym (ap (λ b. b || found is_optional false es (position (at Build name) es)) (sym (is ∙ ap (found is_optional false es) at_one) ∙ there)) ∙ optional_found es up
+  -- of the places that were found in both tables
+  pub entry_places : (es : List Entry) (one two : Option ℕ) → one ≡ position (at Normal name) es → two ≡ position (at Build name) es → list_any (λ (e : Entry). bytes_eq name e.key) es ≡ (is_some one || is_some two)
+  entry_places es one two at_one at_two = sym (ap (λ o. is_some o || is_some two) at_one ∙ ap (λ o. is_some (position (at Normal name) es) || is_some o) at_two ∙ entry_found es)
 
-  pub optional_second : (es : List Entry) → Ascend es → (one two : Option ℕ) (r s : Bool) → one ≡ position (at Normal name) es → r ≡ found is_optional false es one → r ≡ false → two ≡ position (at Build name) es
-      → s ≡ found is_optional false es two → s ≡ list_any (λ (e : Entry). bytes_eq name e.key && e.optional) es
-  optional_second es up one two r s at_one is not_there at_two also =
-      also ∙ ap (found is_optional false es) at_two ∙ sym (ap (λ b. b || found is_optional false es (position (at Build name) es)) (sym (is ∙ ap (found is_optional false es) at_one) ∙ not_there)) ∙ optional_found es up
+  pub optional_places : (es : List Entry) → Ascend es → (one two : Option ℕ) → one ≡ position (at Normal name) es → two ≡ position (at Build name) es
+      → list_any (λ (e : Entry). bytes_eq name e.key && e.optional) es ≡ (found is_optional false es one || found is_optional false es two)
+  optional_places es up one two at_one at_two =
+      sym (ap (λ o. found is_optional false es o || found is_optional false es two) at_one ∙ ap (λ o. found is_optional false es (position (at Normal name) es) || found is_optional false es o) at_two ∙ optional_found es up)
 
 -- the rules of an item
 else_nothing : {B : Type 0} (b : Bool) (xs : List B) → b ≡ false → (if b then xs else []) ≡ []
 else_nothing b xs is = ap (λ c. if c then xs else []) is
 
-module _ (ps : List Package) (bs : List ℕ) (s : Side) (p : ℕ) (fs : List Feature) (k : ℕ) where
-  other_item : (item : FeatureItem) (name : List ℕ) → entry_named item ≡ Some name → (n : ℕ) (e : Entry) → bytes_eq name e.key ≡ false → item_rules ps bs s p fs k item n e ≡ []
-  other_item (Own g) name named n e other = refl
-  other_item (Dependency dependency) name named n e other = let same : dependency ≡ name = cc in else_nothing (bytes_eq dependency e.key) _ (ap (λ d. bytes_eq d e.key) same ∙ other)
-  other_item (Of dependency g) name named n e other = let same : dependency ≡ name = cc in else_nothing (bytes_eq dependency e.key) _ (ap (λ d. bytes_eq d e.key) same ∙ other)
-  other_item (OfEnabled dependency g) name named n e other = let same : dependency ≡ name = cc in else_nothing (bytes_eq dependency e.key) _ (ap (λ d. bytes_eq d e.key) same ∙ other)
+module _ (ps : List Package) (bs : List ℕ) (p : ℕ) (fs : List Feature) (k : ℕ) where
+  other_item : (s : Side) (item : FeatureItem) (name : List ℕ) → entry_named item ≡ Some name → (n : ℕ) (e : Entry) → bytes_eq name e.key ≡ false → item_rules ps bs s p fs k item n e ≡ []
+  other_item s (Own g) name named n e other = refl
+  other_item s (Dependency dependency) name named n e other = let same : dependency ≡ name = cc in else_nothing (bytes_eq dependency e.key) _ (ap (λ d. bytes_eq d e.key) same ∙ other)
+  other_item s (Of dependency g) name named n e other = let same : dependency ≡ name = cc in else_nothing (bytes_eq dependency e.key) _ (ap (λ d. bytes_eq d e.key) same ∙ other)
+  other_item s (OfEnabled dependency g) name named n e other = let same : dependency ≡ name = cc in else_nothing (bytes_eq dependency e.key) _ (ap (λ d. bytes_eq d e.key) same ∙ other)
 
-  own_item : (item : FeatureItem) → None ≡ entry_named item → (n : ℕ) (e : Entry) → item_rules ps bs s p fs k item n e ≡ []
-  own_item (Own g) none n e = refl
-  own_item (Dependency dependency) none n e = cc
-  own_item (Of dependency g) none n e = cc
-  own_item (OfEnabled dependency g) none n e = cc
+  own_item : (s : Side) (item : FeatureItem) → None ≡ entry_named item → (n : ℕ) (e : Entry) → item_rules ps bs s p fs k item n e ≡ []
+  own_item s (Own g) none n e = refl
+  own_item s (Dependency dependency) none n e = cc
+  own_item s (Of dependency g) none n e = cc
+  own_item s (OfEnabled dependency g) none n e = cc
+
+  others : (item : FeatureItem) (name : List ℕ) → entry_named item ≡ Some name → (n : ℕ) (e : Entry) → bytes_eq name e.key ≡ false → both_item_rules ps bs p fs k item n e ≡ []
+  others item name named n e other = ap (λ xs. xs ++ item_rules ps bs Host p fs k item n e) (other_item Target item name named n e other) ∙ other_item Host item name named n e other
+
+  owns : (item : FeatureItem) → None ≡ entry_named item → (n : ℕ) (e : Entry) → both_item_rules ps bs p fs k item n e ≡ []
+  owns item none n e = ap (λ xs. xs ++ item_rules ps bs Host p fs k item n e) (own_item Target item none n e) ∙ own_item Host item none n e
 
   pub named_added : (item : FeatureItem) (name : List ℕ) (es : List Entry) (rules one two : List Rule) (normal build : Option ℕ) → entry_named item ≡ Some name → Ascend es
-      → normal ≡ position (at Normal name) es → one ≡ rules ++ found (item_rules ps bs s p fs k item) [] es normal
-      → build ≡ position (at Build name) es → two ≡ one ++ found (item_rules ps bs s p fs k item) [] es build
-      → two ≡ rules ++ placed (item_rules ps bs s p fs k item) 0 es
+      → normal ≡ position (at Normal name) es → one ≡ rules ++ found (both_item_rules ps bs p fs k item) [] es normal
+      → build ≡ position (at Build name) es → two ≡ one ++ found (both_item_rules ps bs p fs k item) [] es build
+      → two ≡ rules ++ placed (both_item_rules ps bs p fs k item) 0 es
   named_added item name es rules one two normal build named up at_normal first at_build second =
-      let g : ℕ → Entry → List Rule = item_rules ps bs s p fs k item in
+      let g : ℕ → Entry → List Rule = both_item_rules ps bs p fs k item in
       second ∙ ap (λ xs. xs ++ found g [] es build) first ∙ append_assoc rules (found g [] es normal) (found g [] es build)
       ∙ ap (λ i. rules ++ (found g [] es i ++ found g [] es build)) at_normal ∙ ap (λ i. rules ++ (found g [] es (position (at Normal name) es) ++ found g [] es i)) at_build
-      ∙ sym (ap (λ xs. rules ++ xs) (placed_found g name (other_item item name named) es up))
+      ∙ sym (ap (λ xs. rules ++ xs) (placed_found g name (others item name named) es up))
 
-  pub own_added : (item : FeatureItem) (es : List Entry) (rules own new : List Rule) → None ≡ entry_named item → new ≡ rules ++ own → new ≡ rules ++ (own ++ placed (item_rules ps bs s p fs k item) 0 es)
+  pub own_added : (item : FeatureItem) (es : List Entry) (rules own new : List Rule) → None ≡ entry_named item → new ≡ rules ++ own → new ≡ rules ++ (own ++ placed (both_item_rules ps bs p fs k item) 0 es)
   own_added item es rules own new none added =
-      added ∙ sym (ap (λ xs. rules ++ xs) (ap (λ ys. own ++ ys) (placed_none (item_rules ps bs s p fs k item) 0 es (own_item item none)) ∙ append-nil own))
+      added ∙ sym (ap (λ xs. rules ++ xs) (ap (λ ys. own ++ ys) (placed_none (both_item_rules ps bs p fs k item) 0 es (owns item none)) ∙ append-nil own))
 
-  pub both_added : (item : FeatureItem) (es : List Entry) (rules own one new : List Rule) → one ≡ rules ++ own → new ≡ one ++ placed (item_rules ps bs s p fs k item) 0 es
-      → new ≡ rules ++ (own ++ placed (item_rules ps bs s p fs k item) 0 es)
+  pub both_added : (item : FeatureItem) (es : List Entry) (rules own one new : List Rule) → one ≡ rules ++ own → new ≡ one ++ placed (both_item_rules ps bs p fs k item) 0 es
+      → new ≡ rules ++ (own ++ placed (both_item_rules ps bs p fs k item) 0 es)
   both_added item es rules own one new first second =
-      second ∙ ap (λ xs. xs ++ placed (item_rules ps bs s p fs k item) 0 es) first ∙ append_assoc rules own (placed (item_rules ps bs s p fs k item) 0 es)
+      second ∙ ap (λ xs. xs ++ placed (both_item_rules ps bs p fs k item) 0 es) first ∙ append_assoc rules own (placed (both_item_rules ps bs p fs k item) 0 es)

@@ -22,7 +22,7 @@ use Rattle.pb_closure.proofs.Membership.{none, single, cases, head}
 use Rattle.pb_closure.proofs.Placed.{placed_from, where_true, where_false}
 use Rattle.pb_feature.specs.Facts.{On, Has, Enabled, Holds, required, listed, named, of_enables, of_asks, of_gives, of_enabled, leads, with_listed, with_asked, with_default}
 use Rattle.pb_feature.specs.Numbers.{bases_from, slot, features_of, slot_at, on, has, enabled}
-use Rattle.pb_feature.specs.Rules.{pair, alone, there_rules, given_rules, enabled_rules, entry_rules, of_rules, item_rules, own_rules, one_item_rules, feature_rules, package_rules, both_rules, rules_of}
+use Rattle.pb_feature.specs.Rules.{pair, alone, there_rules, given_rules, enabled_rules, entry_rules, of_rules, item_rules, own_rules, both_item_rules, both_own_rules, one_item_rules, feature_rules, both_entry_rules, package_rules, rules_of}
 use Rattle.pb_feature.proofs.Cells.{Cell, IsOn, HasSlot, IsEnabled, Numbered}
 use Rattle.pb_feature.proofs.Slots.{IsSlot, slot_named, slot_below, some_there, same_name}
 
@@ -152,7 +152,7 @@ module _ (ws : Workspace) (selection : Selection) (settled : IsSettled ws) where
       subst (λ x. Holds ws selection (Has p s x)) (sym h.named ∙ ap (λ (g : Feature). g.name) same) holds
 
   from_of : (s : Side) (p : ℕ) (o : Package) (i : ℕ) (f : Feature) (g : List ℕ) (n : ℕ) (e : Entry) (r : Rule) → slice_get ps p ≡ Some o → slice_get o.features i ≡ Some f → Contains f.items (Of e.key g) → slice_get o.entries n ≡ Some e
-      → Contains (of_rules ps bs (has bs p s (i + 1)) p s (slot o.features e.key) g (enabled bs p s (length o.features) n) e) r → IsSound r
+      → Contains (of_rules bs (has bs p s (i + 1)) p s (slot o.features e.key) (slot_at ps e.to g) (enabled bs p s (length o.features) n) e) r → IsSound r
   from_of s p o i f g n e r at f_at lists e_at is =
       let t : Side = side_of e.kind s in
       let en : ℕ = enabled bs p s (length o.features) n in
@@ -183,10 +183,10 @@ module _ (ws : Workspace) (selection : Selection) (settled : IsSettled ws) where
       only (HasSlot p s (i + 1)) (HasSlot p s (i + 1)) (IsEnabled p s n) _ _ _ r nx nx (num_enabled p s n o at (slice_get_within o.entries n e e_at))
       (λ m _. named p s f.name n e (holds_named p s o i f at f_at m) (record { owner = o; feature = f; package_at = at; is_there = contains_at o.features i f f_at; named = refl; listed = its }) (record { owner = o; package_at = at; entry_at = e_at })) w.1
   from_item s p o i f (Of name g) n e r at f_at lists e_at is =
-      let w = where_true (bytes_eq name e.key) (of_rules ps bs (has bs p s (i + 1)) p s (slot o.features name) g (enabled bs p s (length o.features) n) e) r is in
+      let w = where_true (bytes_eq name e.key) (of_rules bs (has bs p s (i + 1)) p s (slot o.features name) (slot_at ps e.to g) (enabled bs p s (length o.features) n) e) r is in
       let key : name ≡ e.key = same_name name e.key w.0 in
       from_of s p o i f g n e r at f_at (subst (λ k. Contains f.items (Of k g)) key lists) e_at
-      (subst (λ k. Contains (of_rules ps bs (has bs p s (i + 1)) p s (slot o.features k) g (enabled bs p s (length o.features) n) e) r) key w.1)
+      (subst (λ k. Contains (of_rules bs (has bs p s (i + 1)) p s (slot o.features k) (slot_at ps e.to g) (enabled bs p s (length o.features) n) e) r) key w.1)
   from_item s p o i f (OfEnabled name g) n e r at f_at lists e_at is =
       let t : Side = side_of e.kind s in
       let q = to_there p n o e at e_at in
@@ -207,27 +207,39 @@ module _ (ws : Workspace) (selection : Selection) (settled : IsSettled ws) where
   from_own s p o i f (Of name g) r at f_at lists is = absurd (none r is)
   from_own s p o i f (OfEnabled name g) r at f_at lists is = absurd (none r is)
 
-  from_feature : (s : Side) (p : ℕ) (o : Package) (i : ℕ) (f : Feature) (r : Rule) → slice_get ps p ≡ Some o → slice_get o.features i ≡ Some f → Contains (feature_rules ps bs s p o i f) r → IsSound r
-  from_feature s p o i f r at f_at is =
-      let h = placed_from (one_item_rules ps bs s p o (i + 1)) f.items r is in
-      let lists : Contains f.items h.1 = contains_at f.items h.0 h.1 h.2 in
-      elim (Contains-append_cases (own_rules bs s p o.features (i + 1) h.1) (placed (item_rules ps bs s p o.features (i + 1) h.1) 0 o.entries) r h.3) [
-        | inl own ↦ from_own s p o i f h.1 r at f_at lists own
-        | inr rest ↦
-            (let j = placed_from (item_rules ps bs s p o.features (i + 1) h.1) o.entries r rest in
-            from_item s p o i f h.1 j.0 j.1 r at f_at lists j.2 j.3)
+  from_one_item : (p : ℕ) (o : Package) (i : ℕ) (f : Feature) (item : FeatureItem) (n : ℕ) (e : Entry) (r : Rule) → slice_get ps p ≡ Some o → slice_get o.features i ≡ Some f → Contains f.items item → slice_get o.entries n ≡ Some e
+      → Contains (both_item_rules ps bs p o.features (i + 1) item n e) r → IsSound r
+  from_one_item p o i f item n e r at f_at lists e_at is =
+      elim (Contains-append_cases (item_rules ps bs Target p o.features (i + 1) item n e) (item_rules ps bs Host p o.features (i + 1) item n e) r is) [
+        | inl target ↦ from_item Target p o i f item n e r at f_at lists e_at target
+        | inr host ↦ from_item Host p o i f item n e r at f_at lists e_at host
       ]
 
-  from_package : (s : Side) (p : ℕ) (o : Package) (r : Rule) → slice_get ps p ≡ Some o → Contains (package_rules ps bs s p o) r → IsSound r
-  from_package s p o r at is = elim (Contains-append_cases (placed (entry_rules ps bs s p (length o.features)) 0 o.entries) (placed (feature_rules ps bs s p o) 0 o.features) r is) [
-    | inl of_entries ↦ (let h = placed_from (entry_rules ps bs s p (length o.features)) o.entries r of_entries in from_entry s p o h.0 h.1 r at h.2 h.3)
-    | inr of_features ↦ (let h = placed_from (feature_rules ps bs s p o) o.features r of_features in from_feature s p o h.0 h.1 r at h.2 h.3)
+  from_feature : (p : ℕ) (o : Package) (i : ℕ) (f : Feature) (r : Rule) → slice_get ps p ≡ Some o → slice_get o.features i ≡ Some f → Contains (feature_rules ps bs p o i f) r → IsSound r
+  from_feature p o i f r at f_at is =
+      let h = placed_from (one_item_rules ps bs p o (i + 1)) f.items r is in
+      let lists : Contains f.items h.1 = contains_at f.items h.0 h.1 h.2 in
+      elim (Contains-append_cases (both_own_rules bs p o.features (i + 1) h.1) (placed (both_item_rules ps bs p o.features (i + 1) h.1) 0 o.entries) r h.3) [
+        | inl own ↦ (elim (Contains-append_cases (own_rules bs Target p o.features (i + 1) h.1) (own_rules bs Host p o.features (i + 1) h.1) r own) [
+          | inl target ↦ from_own Target p o i f h.1 r at f_at lists target
+          | inr host ↦ from_own Host p o i f h.1 r at f_at lists host
+        ])
+        | inr rest ↦
+            (let j = placed_from (both_item_rules ps bs p o.features (i + 1) h.1) o.entries r rest in
+            from_one_item p o i f h.1 j.0 j.1 r at f_at lists j.2 j.3)
+      ]
+
+  from_entries : (s : Side) (p : ℕ) (o : Package) (r : Rule) → slice_get ps p ≡ Some o → Contains (placed (entry_rules ps bs s p (length o.features)) 0 o.entries) r → IsSound r
+  from_entries s p o r at is = let h = placed_from (entry_rules ps bs s p (length o.features)) o.entries r is in from_entry s p o h.0 h.1 r at h.2 h.3
+
+  from_package : (p : ℕ) (o : Package) (r : Rule) → slice_get ps p ≡ Some o → Contains (package_rules ps bs p o) r → IsSound r
+  from_package p o r at is = elim (Contains-append_cases (both_entry_rules ps bs p o) (placed (feature_rules ps bs p o) 0 o.features) r is) [
+    | inl of_entries ↦ (elim (Contains-append_cases (placed (entry_rules ps bs Target p (length o.features)) 0 o.entries) (placed (entry_rules ps bs Host p (length o.features)) 0 o.entries) r of_entries) [
+      | inl target ↦ from_entries Target p o r at target
+      | inr host ↦ from_entries Host p o r at host
+    ])
+    | inr of_features ↦ (let h = placed_from (feature_rules ps bs p o) o.features r of_features in from_feature p o h.0 h.1 r at h.2 h.3)
   ]
 
   pub from_rules : (r : Rule) → Contains (rules_of ws.packages (bases_from 0 ws.packages)) r → IsSound r
-  from_rules r is =
-      let h = placed_from (both_rules ps bs) ps r is in
-      elim (Contains-append_cases (package_rules ps bs Target h.0 h.1) (package_rules ps bs Host h.0 h.1) r h.3) [
-        | inl target ↦ from_package Target h.0 h.1 r h.2 target
-        | inr host ↦ from_package Host h.0 h.1 r h.2 host
-      ]
+  from_rules r is = let h = placed_from (package_rules ps bs) ps r is in from_package h.0 h.1 r h.2 h.3

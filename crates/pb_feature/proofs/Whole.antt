@@ -26,7 +26,7 @@ use Rattle.pb_closure.proofs.Membership.{head, tail}
 use Rattle.pb_closure.proofs.Placed.{placed_to, at_true, at_false}
 use Rattle.pb_feature.specs.Facts.{Fact, On, Has, Enabled, Asked, of_package, IsChosen, all, asked, asked_of, default, Holds, selected, chosen, required, listed, named, of_enables, of_asks, of_gives, of_enabled, leads, with_listed, with_asked, with_default}
 use Rattle.pb_feature.specs.Numbers.{bases_from, slot, slot_at, on, has, enabled}
-use Rattle.pb_feature.specs.Rules.{pair, alone, there_rules, given_rules, enabled_rules, entry_rules, of_rules, item_rules, own_rules, one_item_rules, feature_rules, package_rules, both_rules, rules_of, is_text_of, is_chosen, chosen_seeds, owner_seeds, selected_seeds, seeds_of}
+use Rattle.pb_feature.specs.Rules.{pair, alone, there_rules, given_rules, enabled_rules, entry_rules, of_rules, item_rules, own_rules, both_item_rules, both_own_rules, one_item_rules, feature_rules, both_entry_rules, package_rules, rules_of, is_text_of, is_chosen, chosen_seeds, owner_seeds, selected_seeds, seeds_of}
 use Rattle.pb_feature.proofs.Slots.{IsSlot, slot_named, there_some, slot_at_place, its_name}
 use Rattle.pb_feature.proofs.Sound.{same_owner, same_entry, all_at, one_at, to_there, slot_of}
 
@@ -86,17 +86,20 @@ module _ (ws : Workspace) (selection : Selection) (settled : IsSettled ws) (with
   one i k l is = joined i i k l l is
 
   -- where the rules stand
-  to_package : (s : Side) (p : ℕ) (o : Package) (r : Rule) → slice_get ps p ≡ Some o → Contains (package_rules ps bs s p o) r → Contains (rules_of ps bs) r
-  to_package s p o r at is = placed_to (both_rules ps bs) ps p o r at (by s is)
-    where
-      by : (s : Side) → Contains (package_rules ps bs s p o) r → Contains (both_rules ps bs p o) r
-      by Target is = Contains-append_left (package_rules ps bs Target p o) (package_rules ps bs Host p o) r is
-      by Host is = Contains-append_right (package_rules ps bs Target p o) (package_rules ps bs Host p o) r is
+  to_package : (p : ℕ) (o : Package) (r : Rule) → slice_get ps p ≡ Some o → Contains (package_rules ps bs p o) r → Contains (rules_of ps bs) r
+  to_package p o r at is = placed_to (package_rules ps bs) ps p o r at is
 
   to_entry : (s : Side) (p n : ℕ) (o : Package) (e : Entry) (r : Rule) → slice_get ps p ≡ Some o → slice_get o.entries n ≡ Some e → Contains (entry_rules ps bs s p (length o.features) n e) r → Contains (rules_of ps bs) r
   to_entry s p n o e r at e_at is =
-      to_package s p o r at (Contains-append_left (placed (entry_rules ps bs s p (length o.features)) 0 o.entries) (placed (feature_rules ps bs s p o) 0 o.features) r
-      (placed_to (entry_rules ps bs s p (length o.features)) o.entries n e r e_at is))
+      to_package p o r at (Contains-append_left (both_entry_rules ps bs p o) (placed (feature_rules ps bs p o) 0 o.features) r
+      (by s (placed_to (entry_rules ps bs s p (length o.features)) o.entries n e r e_at is)))
+    where
+      of_side : Side → List Rule
+      of_side t = placed (entry_rules ps bs t p (length o.features)) 0 o.entries
+
+      by : (t : Side) → Contains (placed (entry_rules ps bs t p (length o.features)) 0 o.entries) r → Contains (both_entry_rules ps bs p o) r
+      by Target its = Contains-append_left (of_side Target) (of_side Host) r its
+      by Host its = Contains-append_right (of_side Target) (of_side Host) r its
 
   to_enabled : (s : Side) (p n : ℕ) (o : Package) (e : Entry) (r : Rule) → slice_get ps p ≡ Some o → slice_get o.entries n ≡ Some e
       → Contains (enabled_rules ps bs (enabled bs p s (length o.features) n) (side_of e.kind s) e) r → Contains (rules_of ps bs) r
@@ -130,11 +133,22 @@ module _ (ws : Workspace) (selection : Selection) (settled : IsSettled ws) (with
         is = slot_of ws selection settled p name lists.owner lists.package_at ∙ ap (slot lists.owner.features) (sym lists.named) ∙ slot_at_place lists.owner.features f.0 lists.feature its.features f.1;
       }
 
-  to_item : (s : Side) (p : ℕ) (name : List ℕ) (item : FeatureItem) (r : Rule) (l : ListedAt p name item) → Contains (one_item_rules ps bs s p l.owner (l.place + 1) l.item_place item) r → Contains (rules_of ps bs) r
-  to_item s p name item r l is =
-      to_package s p l.owner r l.at (Contains-append_right (placed (entry_rules ps bs s p (length l.owner.features)) 0 l.owner.entries) (placed (feature_rules ps bs s p l.owner) 0 l.owner.features) r
-      (placed_to (feature_rules ps bs s p l.owner) l.owner.features l.place l.feature r l.f_at
-      (placed_to (one_item_rules ps bs s p l.owner (l.place + 1)) l.feature.items l.item_place item r l.i_at is)))
+  to_item : (p : ℕ) (name : List ℕ) (item : FeatureItem) (r : Rule) (l : ListedAt p name item) → Contains (one_item_rules ps bs p l.owner (l.place + 1) l.item_place item) r → Contains (rules_of ps bs) r
+  to_item p name item r l is =
+      to_package p l.owner r l.at (Contains-append_right (both_entry_rules ps bs p l.owner) (placed (feature_rules ps bs p l.owner) 0 l.owner.features) r
+      (placed_to (feature_rules ps bs p l.owner) l.owner.features l.place l.feature r l.f_at
+      (placed_to (one_item_rules ps bs p l.owner (l.place + 1)) l.feature.items l.item_place item r l.i_at is)))
+
+  to_own : (s : Side) (p : ℕ) (name : List ℕ) (item : FeatureItem) (r : Rule) (l : ListedAt p name item) → Contains (own_rules bs s p l.owner.features (l.place + 1) item) r → Contains (rules_of ps bs) r
+  to_own s p name item r l is =
+      to_item p name item r l (Contains-append_left (both_own_rules bs p l.owner.features (l.place + 1) item) (placed (both_item_rules ps bs p l.owner.features (l.place + 1) item) 0 l.owner.entries) r (by s is))
+    where
+      of_side : Side → List Rule
+      of_side t = own_rules bs t p l.owner.features (l.place + 1) item
+
+      by : (t : Side) → Contains (own_rules bs t p l.owner.features (l.place + 1) item) r → Contains (both_own_rules bs p l.owner.features (l.place + 1) item) r
+      by Target its = Contains-append_left (of_side Target) (of_side Host) r its
+      by Host its = Contains-append_right (of_side Target) (of_side Host) r its
 
   entry_in : (p n : ℕ) (o : Package) (e : Entry) → slice_get ps p ≡ Some o → HasEntry ws p n e → slice_get o.entries n ≡ Some e
   entry_in p n o e at here = subst (λ (w : Package). slice_get w.entries n ≡ Some e) (same_owner (slice_get ps p) here.owner o here.package_at at) here.entry_at
@@ -142,9 +156,16 @@ module _ (ws : Workspace) (selection : Selection) (settled : IsSettled ws) (with
   to_named : (s : Side) (p n : ℕ) (name : List ℕ) (item : FeatureItem) (e : Entry) (xs : List Rule) (r : Rule) (l : ListedAt p name item) → HasEntry ws p n e
       → item_rules ps bs s p l.owner.features (l.place + 1) item n e ≡ (if bytes_eq e.key e.key then xs else []) → Contains xs r → Contains (rules_of ps bs) r
   to_named s p n name item e xs r l here same is =
-      to_item s p name item r l (Contains-append_right (own_rules bs s p l.owner.features (l.place + 1) item) (placed (item_rules ps bs s p l.owner.features (l.place + 1) item) 0 l.owner.entries) r
-      (placed_to (item_rules ps bs s p l.owner.features (l.place + 1) item) l.owner.entries n e r (entry_in p n l.owner e l.at here)
-      (subst (λ ys. Contains ys r) (sym (same ∙ ap (λ b. if b then xs else []) (its_name e.key))) is)))
+      to_item p name item r l (Contains-append_right (both_own_rules bs p l.owner.features (l.place + 1) item) (placed (both_item_rules ps bs p l.owner.features (l.place + 1) item) 0 l.owner.entries) r
+      (placed_to (both_item_rules ps bs p l.owner.features (l.place + 1) item) l.owner.entries n e r (entry_in p n l.owner e l.at here)
+      (by s (subst (λ ys. Contains ys r) (sym (same ∙ ap (λ b. if b then xs else []) (its_name e.key))) is))))
+    where
+      of_side : Side → List Rule
+      of_side t = item_rules ps bs t p l.owner.features (l.place + 1) item n e
+
+      by : (t : Side) → Contains (item_rules ps bs t p l.owner.features (l.place + 1) item n e) r → Contains (both_item_rules ps bs p l.owner.features (l.place + 1) item n e) r
+      by Target its = Contains-append_left (of_side Target) (of_side Host) r its
+      by Host its = Contains-append_right (of_side Target) (of_side Host) r its
 
   -- what each fact says of the numbers
   abbrev pub Meant : Fact → Type 0
@@ -220,7 +241,7 @@ module _ (ws : Workspace) (selection : Selection) (settled : IsSettled ws) (with
         l.owner,
         l.at,
         subst (λ k. Follows (has bs p s k)) (sym (slot_of ws selection settled p g l.owner l.at))
-            (one _ _ (has_in p s f (Own g) l (whole (Has p s f) before)) (to_item s p f (Own g) r l (Contains-append_left (r ∷ []) _ r (head r [])))),
+            (one _ _ (has_in p s f (Own g) l (whole (Has p s f) before)) (to_own s p f (Own g) r l (head r []))),
       )
   whole _ (named p s f n e before lists here) =
       let l : ListedAt p f (Dependency e.key) = listed_at p f (Dependency e.key) lists in
@@ -240,7 +261,7 @@ module _ (ws : Workspace) (selection : Selection) (settled : IsSettled ws) (with
         l.at,
         slice_get_within l.owner.entries n e (entry_in p n l.owner e l.at here),
         one _ _ (has_in p s f (Of e.key g) l (whole (Has p s f) before))
-            (to_named s p n f (Of e.key g) e (of_rules ps bs fr p s (slot l.owner.features e.key) g en e) r l here refl (Contains-append_left (r ∷ alone fr gives ∷ []) _ r (head r (alone fr gives ∷ [])))),
+            (to_named s p n f (Of e.key g) e (of_rules bs fr p s (slot l.owner.features e.key) (slot_at ps e.to g) en e) r l here refl (Contains-append_left (r ∷ alone fr gives ∷ []) _ r (head r (alone fr gives ∷ [])))),
       )
   whole _ (of_asks p s f g n e before lists here) =
       let l : ListedAt p f (Of e.key g) = listed_at p f (Of e.key g) lists in
@@ -249,7 +270,7 @@ module _ (ws : Workspace) (selection : Selection) (settled : IsSettled ws) (with
       let gives : ℕ = has bs e.to (side_of e.kind s) (slot_at ps e.to g) in
       let r : Rule = alone fr gives in
       let it : Follows gives = one fr gives (has_in p s f (Of e.key g) l (whole (Has p s f) before))
-      (to_named s p n f (Of e.key g) e (of_rules ps bs fr p s (slot l.owner.features e.key) g en e) r l here refl (Contains-append_left (alone fr en ∷ r ∷ []) _ r (tail (alone fr en) (r ∷ []) r (head r [])))) in
+      (to_named s p n f (Of e.key g) e (of_rules bs fr p s (slot l.owner.features e.key) (slot_at ps e.to g) en e) r l here refl (Contains-append_left (alone fr en ∷ r ∷ []) _ r (tail (alone fr en) (r ∷ []) r (head r [])))) in
       λ o d at d_at _. subst (λ (x : Entry). Follows (has bs x.to (side_of x.kind s) (slot_at ps x.to g))) (same_entry (slice_get o.entries n) e d (entry_in p n o e at here) d_at) it
   whole _ (of_gives p s f g n e before lists here is_optional there) =
       let l : ListedAt p f (Of e.key g) = listed_at p f (Of e.key g) lists in
@@ -261,7 +282,7 @@ module _ (ws : Workspace) (selection : Selection) (settled : IsSettled ws) (with
         l.at,
         subst (λ j. Follows (has bs p s j)) (sym (slot_of ws selection settled p e.key l.owner l.at))
             (one fr (has bs p s k) (has_in p s f (Of e.key g) l (whole (Has p s f) before))
-            (to_named s p n f (Of e.key g) e (of_rules ps bs fr p s k g en e) r l here refl
+            (to_named s p n f (Of e.key g) e (of_rules bs fr p s k (slot_at ps e.to g) en e) r l here refl
             (Contains-append_right (alone fr en ∷ alone fr (has bs e.to (side_of e.kind s) (slot_at ps e.to g)) ∷ []) _ r (to_there_rule fr p s e.optional k is_optional (some_slot p e.key l.owner l.at there))))),
       )
   whole _ (of_enabled p s f g n e before lists here enables) =

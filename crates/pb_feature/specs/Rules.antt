@@ -44,9 +44,9 @@ entry_rules ps bs s p features n e =
     ++ enabled_rules ps bs (enabled bs p s features n) (side_of e.kind s) e
 
 -- an item `N/F` at an entry N
-abbrev pub of_rules : List Package → List ℕ → ℕ → ℕ → Side → ℕ → List ℕ → ℕ → Entry → List Rule
-of_rules ps bs from p s own g en e =
-    (alone from en ∷ alone from (has bs e.to (side_of e.kind s) (slot_at ps e.to g)) ∷ [])
+abbrev pub of_rules : List ℕ → ℕ → ℕ → Side → ℕ → ℕ → ℕ → Entry → List Rule
+of_rules bs from p s own asked en e =
+    (alone from en ∷ alone from (has bs e.to (side_of e.kind s) asked) ∷ [])
     ++ there_rules bs from p s e.optional own
 
 -- an item at an entry that it may name
@@ -55,9 +55,13 @@ item_rules ps bs s p fs k (Own g) n e = []
 item_rules ps bs s p fs k (Dependency name) n e =
     if bytes_eq name e.key then alone (has bs p s k) (enabled bs p s (length fs) n) ∷ [] else []
 item_rules ps bs s p fs k (Of name g) n e =
-    if bytes_eq name e.key then of_rules ps bs (has bs p s k) p s (slot fs name) g (enabled bs p s (length fs) n) e else []
+    if bytes_eq name e.key then of_rules bs (has bs p s k) p s (slot fs name) (slot_at ps e.to g) (enabled bs p s (length fs) n) e else []
 item_rules ps bs s p fs k (OfEnabled name g) n e =
     if bytes_eq name e.key then pair (has bs p s k) (enabled bs p s (length fs) n) (has bs e.to (side_of e.kind s) (slot_at ps e.to g)) ∷ [] else []
+
+-- on both sides
+abbrev pub both_item_rules : List Package → List ℕ → ℕ → List Feature → ℕ → FeatureItem → ℕ → Entry → List Rule
+both_item_rules ps bs p fs k item n e = item_rules ps bs Target p fs k item n e ++ item_rules ps bs Host p fs k item n e
 
 -- an item that names a feature of its own package
 abbrev pub own_rules : List ℕ → Side → ℕ → List Feature → ℕ → FeatureItem → List Rule
@@ -66,20 +70,24 @@ own_rules bs s p fs k (Dependency name) = []
 own_rules bs s p fs k (Of name g) = []
 own_rules bs s p fs k (OfEnabled name g) = []
 
-abbrev pub one_item_rules : List Package → List ℕ → Side → ℕ → Package → ℕ → ℕ → FeatureItem → List Rule
-one_item_rules ps bs s p owner k _ item = own_rules bs s p owner.features k item ++ placed (item_rules ps bs s p owner.features k item) 0 owner.entries
+abbrev pub both_own_rules : List ℕ → ℕ → List Feature → ℕ → FeatureItem → List Rule
+both_own_rules bs p fs k item = own_rules bs Target p fs k item ++ own_rules bs Host p fs k item
 
-abbrev pub feature_rules : List Package → List ℕ → Side → ℕ → Package → ℕ → Feature → List Rule
-feature_rules ps bs s p owner i f = placed (one_item_rules ps bs s p owner (i + 1)) 0 f.items
+abbrev pub one_item_rules : List Package → List ℕ → ℕ → Package → ℕ → ℕ → FeatureItem → List Rule
+one_item_rules ps bs p owner k _ item = both_own_rules bs p owner.features k item ++ placed (both_item_rules ps bs p owner.features k item) 0 owner.entries
 
-abbrev pub package_rules : List Package → List ℕ → Side → ℕ → Package → List Rule
-package_rules ps bs s p owner = placed (entry_rules ps bs s p (length owner.features)) 0 owner.entries ++ placed (feature_rules ps bs s p owner) 0 owner.features
+abbrev pub feature_rules : List Package → List ℕ → ℕ → Package → ℕ → Feature → List Rule
+feature_rules ps bs p owner i f = placed (one_item_rules ps bs p owner (i + 1)) 0 f.items
 
-abbrev pub both_rules : List Package → List ℕ → ℕ → Package → List Rule
-both_rules ps bs p owner = package_rules ps bs Target p owner ++ package_rules ps bs Host p owner
+abbrev pub both_entry_rules : List Package → List ℕ → ℕ → Package → List Rule
+both_entry_rules ps bs p owner =
+    placed (entry_rules ps bs Target p (length owner.features)) 0 owner.entries ++ placed (entry_rules ps bs Host p (length owner.features)) 0 owner.entries
+
+abbrev pub package_rules : List Package → List ℕ → ℕ → Package → List Rule
+package_rules ps bs p owner = both_entry_rules ps bs p owner ++ placed (feature_rules ps bs p owner) 0 owner.features
 
 abbrev pub rules_of : List Package → List ℕ → List Rule
-rules_of ps bs = placed (both_rules ps bs) 0 ps
+rules_of ps bs = placed (package_rules ps bs) 0 ps
 
 -- whether one of the asked texts is this feature of the package of this name
 abbrev pub is_text_of : List ℕ → List ℕ → List ℕ → Bool

@@ -1,6 +1,7 @@
 //! What is wrong with the items of the packages' features.
 
-ghost use Rattle.std.specs.Prelude.{◌≡◌, ◌&&◌, false};
+ghost use Rattle.std.specs.Prelude.{◌≡◌, ◌||◌, false};
+ghost use Rattle.std.specs.Option.{is_some};
 ghost use Rattle.std.specs.List.{list_any};
 ghost use Rattle.std.specs.Str.{bytes_eq};
 ghost use Rattle.pb_workspace.specs.Workspace.{has_feature_named};
@@ -48,12 +49,17 @@ fn is_optional_at(entries: &EntriesByKey, place: Option<usize>) -> bool
     }
 }
 
-/// Whether an optional entry has this name.
-fn is_optional_entry(entries: &EntriesByKey, name: &[u8]) -> bool
-    ensures { result ≡ list_any (λ e. bytes_eq name.now e.key && e.optional) entries.now }
+/// Whether one of two places was found.
+fn is_either(normal: Option<usize>, build: Option<usize>) -> bool
+    ensures { result ≡ (is_some normal || is_some build) }
 {
-    let normal = entries.place_of(DependencyKind::Normal, name);
-    let build = entries.place_of(DependencyKind::Build, name);
+    normal.is_some() || build.is_some()
+}
+
+/// Whether an entry at one of two places is optional.
+fn is_either_optional(entries: &EntriesByKey, normal: Option<usize>, build: Option<usize>) -> bool
+    ensures { result ≡ (found is_optional false entries.now normal || found is_optional false entries.now build) }
+{
     is_optional_at(entries, normal) || is_optional_at(entries, build)
 }
 
@@ -83,10 +89,13 @@ fn entry_fault(owner: &Package, name: &[u8]) -> Option<FeatureFault>
 fn optional_fault(owner: &Package, name: &[u8]) -> Option<FeatureFault>
     ensures { result ≡ optional_fault owner.now name.now }
 {
-    if !is_entry(&owner.entries, name) {
+    let entries = &owner.entries;
+    let normal = entries.place_of(DependencyKind::Normal, name);
+    let build = entries.place_of(DependencyKind::Build, name);
+    if !is_either(normal, build) {
         return absent_fault(owner, name);
     }
-    if is_optional_entry(&owner.entries, name) {
+    if is_either_optional(entries, normal, build) {
         None
     } else {
         Some(FeatureFault::NotOptional)

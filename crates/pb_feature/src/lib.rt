@@ -10,6 +10,8 @@ mod numbers;
 mod resolution;
 pub mod resolved;
 mod rules;
+mod rules_of_entries;
+mod rules_of_items;
 mod seeds;
 
 pub use fault::FeatureFault;

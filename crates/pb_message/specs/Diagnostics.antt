@@ -1,5 +1,5 @@
 -- The diagnostics of a compiler (The Cargo Book, External Tools): the lines of its standard error that read as JSON objects, byte for byte.
-use Rattle.std.specs.Prelude.{ℕ, Bool, true, false, if◌then◌else◌, List, [], ◌∷◌, ◌++◌, Option, Some, None}
+use Rattle.std.specs.Prelude.{ℕ, Bool, true, false, if◌then◌else◌, List, [], ◌∷◌, Option, Some, None}
 use Rattle.serde_json.specs.Data as json
 use Rattle.serde_json.specs.Read.{read}
 use Rattle.pb_directive.specs.Lines.{lines_of, trimmed, text_of}

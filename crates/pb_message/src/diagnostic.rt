@@ -11,10 +11,13 @@ use pb_directive::texts::text_of;
 use serde_json::Value;
 use std::alloc::{AllocError, Global};
 
-/// Whether a text reads as a JSON object.
+/// Whether a text reads as a JSON object. The empty text does not, which needs no reader.
 fn reads_as_object(alloc: Global, text: &str) -> Result<bool, AllocError>
     ensures { IfOk result (λ answer. answer ≡ reads_as_object (read text.now)) }
 {
+    if text.is_empty() {
+        return Ok(false);
+    }
     match Value::from_str(alloc, text) {
         Ok(value) => Ok(value.is_object()),
         Err(fault) => {

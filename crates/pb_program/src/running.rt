@@ -1,5 +1,9 @@
 //! The whole program over any place.
 
+ghost use Rattle.std.specs.Prelude.{◌≡◌, map};
+ghost use Rattle.pb_build.specs.Ending.{moment};
+ghost use Rattle.pb_program.specs.Running.{RunsFile, Explains, Runs};
+
 use crate::building::build_options;
 use crate::session::{refuse, run_session};
 use pb_command_line::{Asked, Unasked, read_command_line};
@@ -20,7 +24,11 @@ fn run_file<P: Place, O: Out, E: Out>(
     path: &PathText,
     out: &mut O,
     err: &mut E,
-) -> u8 {
+) -> u8
+    ensures { RunsFile P.tells path.now result
+        (moment (P.world place.old) (P.counts place.old) (O.taken out.old) (O.faults out.old)) (moment (P.world place.new) (P.counts place.new) (O.taken out.new) (O.faults out.new))
+        record { taken = E.taken err.old; faults = E.faults err.old } record { taken = E.taken err.new; faults = E.faults err.new } }
+{
     match place.read(alloc, path) {
         Ok(Some(bytes)) => run_session(alloc, bytes.as_slice(), out, err),
         _ => refuse(err),
@@ -28,7 +36,11 @@ fn run_file<P: Place, O: Out, E: Out>(
 }
 
 /// Prints what there is to say of a command line that asks for nothing: help to `out`, what is wrong to `err`.
-fn explain<O: Out, E: Out>(unasked: &Unasked, out: &mut O, err: &mut E) -> u8 {
+fn explain<O: Out, E: Out>(unasked: &Unasked, out: &mut O, err: &mut E) -> u8
+    ensures { Explains unasked.now result
+        record { taken = O.taken out.old; faults = O.faults out.old } record { taken = O.taken out.new; faults = O.faults out.new }
+        record { taken = E.taken err.old; faults = E.faults err.old } record { taken = E.taken err.new; faults = E.faults err.new } }
+{
     match unasked {
         Unasked::Help(text) => {
             if write_all(out, text.as_str().as_bytes()) {
@@ -57,7 +69,11 @@ pub fn run<S: AsStr, P: Place, O: Out, E: Out>(
     place: &mut P,
     out: &mut O,
     err: &mut E,
-) -> u8 {
+) -> u8
+    ensures { Runs P.tells P.child (map S.text words.now) folder.now result
+        (moment (P.world place.old) (P.counts place.old) (O.taken out.old) (O.faults out.old)) (moment (P.world place.new) (P.counts place.new) (O.taken out.new) (O.faults out.new))
+        record { taken = E.taken err.old; faults = E.faults err.old } record { taken = E.taken err.new; faults = E.faults err.new } }
+{
     match read_command_line(alloc, words, folder) {
         Ok(Asked::Build(options)) => build_options(alloc, place, out, err, &options),
         Ok(Asked::Session(path)) => run_file(alloc, place, &path, out, err),

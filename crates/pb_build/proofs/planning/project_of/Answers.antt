@@ -11,7 +11,7 @@ returns-in-Err-featured-clause-refused c = unresolved c.args.options.now c.args.
 
 pub returns-in-Err-plan_of-clause-refused : goal.returns-in-Err-plan_of-clause-refused
 returns-in-Err-plan_of-clause-refused c =
-    unplanned c.args.options.now c.args.workspace c.in-Ok.selection c.in-Ok-featured.features c.in-Err-plan_of.fault c.in-Ok.ensures.ok c.in-Ok-featured.ensures.resolved
+    unplanned c.args.options.now c.args.workspace c.in-Ok.selection c.in-Ok-featured.features c.in-Err-plan_of.fault c.in-Ok.ensures.ok c.in-Ok-featured.ensures.featured
     (subst (λ (asked : List ℕ). Stops c.args.workspace c.in-Ok.selection c.in-Ok-featured.features asked c.in-Err-plan_of.fault) c.as_str-asked.ensures c.in-Err-plan_of.ensures.refused)
 
 pub returns-clause-order : goal.returns-clause-order

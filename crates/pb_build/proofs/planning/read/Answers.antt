@@ -1,5 +1,5 @@
 use Rattle.std.proofs.Common.{subst, sym}
-use Rattle.pb_build.specs.Private.{IsToldRefusal}
+use Rattle.pb_build.specs.Planning.{IsToldRefusal}
 use Rattle.pb_build.proofs.Refusals.{unread_told}
 use Rattle.pb_build.proofs.planning.read.Goals as goal
 

@@ -1,4 +1,4 @@
-use Rattle.std.proofs.Common.{◌≡◌, ◌∙◌, ap, ap₂, codes, true, false}
+use Rattle.std.proofs.Common.{◌≡◌, ◌∙◌, ap, ap₂, codes, true}
 use Rattle.clap.specs.Simple.{App, app_of, app_of_fields, shape_of, new_app, with_subcommand}
 use Rattle.clap.proofs.SimpleLemmas.{plain_fields}
 use Rattle.pb_command_line.proofs.description.program.Goals as goal

@@ -1,5 +1,5 @@
 use Rattle.std.proofs.Common.{rules, refl, ap₂, ◌≡◌, ◌∙◌, codes, Some}
-use Rattle.clap.specs.Walk.{Rule, rule_of}
+use Rattle.clap.specs.Walk.{rule_of}
 use Rattle.clap.specs.Simple.{with_rule}
 use Rattle.clap.specs.declared.builder.value_parser.ValueParser.{ValueParser}
 use Rattle.pb_command_line.specs.Description.{IsJson, option}

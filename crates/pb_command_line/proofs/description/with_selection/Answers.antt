@@ -1,5 +1,5 @@
 use Rattle.std.proofs.Common.{rules, refl, ap₂, ◌≡◌, ◌∙◌, codes, Some}
-use Rattle.clap.specs.Walk.{Rule, rule_of}
+use Rattle.clap.specs.Walk.{rule_of}
 use Rattle.clap.specs.Simple.{with_rule}
 use Rattle.pb_command_line.specs.Description.{options}
 use Rattle.pb_command_line.proofs.description.with_selection.Goals as goal

@@ -1,0 +1,35 @@
+//! Files in memory, and the workspace of them.
+
+ghost use Rattle.std.specs.Prelude.{IfOk};
+ghost use Rattle.pb_workspace.specs.Settled.{IsSettled};
+
+use pb_place::{Child, Memory, PathFault, PathText};
+use pb_workspace::{LoadFault, Workspace, load};
+use std::alloc::Global;
+
+/// Puts the files of a text, each behind a line `@ PATH`.
+pub fn put_files<C: Child>(
+    alloc: Global,
+    memory: &mut Memory<C>,
+    files: &str,
+) -> Result<(), PathFault> {
+    for file in files.split("@ ") {
+        if let Some((path, text)) = file.split_once('\n') {
+            let path = PathText::parse(alloc, path)?;
+            memory.put(alloc, &path, text.as_bytes())?;
+        }
+    }
+    Ok(())
+}
+
+/// The workspace in `/w`, whose target folder is `/w/target`.
+pub fn workspace_in<C: Child>(
+    alloc: Global,
+    memory: &mut Memory<C>,
+) -> Result<Result<Workspace, LoadFault>, PathFault>
+    ensures { IfOk result (λ answer. IfOk answer IsSettled) }
+{
+    let manifest = PathText::parse(alloc, "/w/Cargo.toml")?;
+    let target = PathText::parse(alloc, "/w/target")?;
+    Ok(load(memory, alloc, &manifest, &target))
+}

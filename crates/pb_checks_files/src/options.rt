@@ -1,0 +1,25 @@
+//! The options of a build.
+
+use pb_data::{Items, Text};
+use pb_place::{PathFault, PathText};
+use pb_workspace::Options;
+use std::alloc::Global;
+
+/// The options of a build of the workspace in `/w` for which nothing is asked.
+pub fn no_options(alloc: Global) -> Result<Options, PathFault> {
+    Ok(Options {
+        manifest: PathText::parse(alloc, "/w/Cargo.toml")?,
+        packages: Items::new(alloc),
+        workspace: false,
+        features: Items::new(alloc),
+        all_features: false,
+        no_default_features: false,
+        profile: Text::from_str(alloc, "dev")?,
+        lib: false,
+        bins: false,
+        bin: Items::new(alloc),
+        target_dir: None,
+        runner: Items::new(alloc),
+        tool: Text::from_str(alloc, "tool")?,
+    })
+}

@@ -1,7 +1,0 @@
-# Help goes to the output; a command line without a command is bad.
-pb_tool build --help > help
-echo "status $?"
-grep -c -e '--manifest-path' help
-pb_tool 2> said
-echo "status $?"
-grep -c Usage said

@@ -1,0 +1,158 @@
+//! The rules that the entries of a package give, written with numbers.
+
+ghost use Rattle.std.specs.Prelude.{◌≡◌, ◌++◌, [], ◌∷◌, OnOk};
+ghost use Rattle.pb_workspace.specs.Workspace.{side_of};
+ghost use Rattle.pb_closure.specs.Placed.{placed};
+ghost use Rattle.pb_feature.specs.Rules.{alone, there_rules, given_rules, enabled_rules, entry_rules, both_entry_rules};
+
+use crate::numbers::Ground;
+use pb_closure::Rule;
+use pb_data::Text;
+use pb_workspace::{DependencyKind, Entry, Package, Side};
+use std::alloc::AllocError;
+
+/// The side on which an entry's package is made.
+pub(crate) fn side_made(kind: DependencyKind, side: Side) -> Side
+    ensures { result ≡ side_of kind side }
+{
+    match kind {
+        DependencyKind::Normal => side,
+        DependencyKind::Build => Side::Host,
+    }
+}
+
+/// A rule with one premise.
+pub(crate) fn add_alone(rules: &mut Vec<Rule>, first: usize, gives: usize) -> Result<(), AllocError>
+    ensures { OnOk result (rules.new.items ≡ rules.old.items ++ alone first gives ∷ []) }
+{
+    rules.push(Rule {
+        first,
+        second: first,
+        gives,
+    })?;
+    Ok(())
+}
+
+/// The rule that gives a feature by its place, under a test and where there is one.
+pub(crate) fn add_there(
+    rules: &mut Vec<Rule>,
+    ground: &Ground<'_>,
+    from: usize,
+    place: usize,
+    side: Side,
+    test: bool,
+    feature: usize,
+) -> Result<(), AllocError>
+    ensures { OnOk result (rules.new.items ≡ rules.old.items ++ there_rules ground.now.bases.now from place side test feature) }
+{
+    if !test {
+        return Ok(());
+    }
+    if feature == 0 {
+        return Ok(());
+    }
+    let gives = ground.has(place, side, feature)?;
+    add_alone(rules, from, gives)
+}
+
+/// The rules that give features of these names.
+fn add_given(
+    rules: &mut Vec<Rule>,
+    ground: &Ground<'_>,
+    from: usize,
+    place: usize,
+    side: Side,
+    features: &[Text],
+) -> Result<(), AllocError>
+    ensures { OnOk result (rules.new.items ≡ rules.old.items ++ placed (given_rules ground.now.packages.now ground.now.bases.now from place side) 0 features.now) }
+{
+    for feature in features {
+        let gives = ground.given(place, side, feature.as_bytes())?;
+        add_alone(rules, from, gives)?;
+    }
+    Ok(())
+}
+
+/// What an enabled entry gives to its package.
+fn add_enabled(
+    rules: &mut Vec<Rule>,
+    ground: &Ground<'_>,
+    from: usize,
+    side: Side,
+    entry: &Entry,
+) -> Result<(), AllocError>
+    ensures { OnOk result (rules.new.items ≡ rules.old.items ++ enabled_rules ground.now.packages.now ground.now.bases.now from side entry.now) }
+{
+    let on = ground.on(entry.to, side)?;
+    add_alone(rules, from, on)?;
+    let default = ground.slot_at(entry.to, b"default");
+    add_there(
+        rules,
+        ground,
+        from,
+        entry.to,
+        side,
+        entry.default_features,
+        default,
+    )?;
+    add_given(
+        rules,
+        ground,
+        from,
+        entry.to,
+        side,
+        entry.features.as_slice(),
+    )
+}
+
+/// The rules of an entry.
+fn add_entry(
+    rules: &mut Vec<Rule>,
+    ground: &Ground<'_>,
+    side: Side,
+    place: usize,
+    features: usize,
+    index: usize,
+    entry: &Entry,
+) -> Result<(), AllocError>
+    ensures { OnOk result (rules.new.items ≡ rules.old.items ++ entry_rules ground.now.packages.now ground.now.bases.now side place features index entry.now) }
+{
+    let enabled = ground.enabled(place, side, features, index)?;
+    if !entry.optional {
+        let on = ground.on(place, side)?;
+        add_alone(rules, on, enabled)?;
+    }
+    add_enabled(rules, ground, enabled, side_made(entry.kind, side), entry)
+}
+
+/// The rules of the entries of a package on a side.
+fn add_entries(
+    rules: &mut Vec<Rule>,
+    ground: &Ground<'_>,
+    side: Side,
+    place: usize,
+    features: usize,
+    entries: &[Entry],
+) -> Result<(), AllocError>
+    ensures { OnOk result (rules.new.items ≡ rules.old.items ++ placed (entry_rules ground.now.packages.now ground.now.bases.now side place features) 0 entries.now) }
+{
+    for index in 0..entries.len() {
+        add_entry(rules, ground, side, place, features, index, &entries[index])?;
+    }
+    Ok(())
+}
+
+/// The rules of the entries of a package, on both sides.
+pub(crate) fn add_both_entries(
+    rules: &mut Vec<Rule>,
+    ground: &Ground<'_>,
+    place: usize,
+    owner: &Package,
+) -> Result<(), AllocError>
+    ensures { OnOk result (rules.new.items ≡ rules.old.items ++ both_entry_rules ground.now.packages.now ground.now.bases.now place owner.now) }
+{
+    let features = owner.features.as_slice().len();
+    let entries = owner.entries.as_slice();
+    add_entries(rules, ground, Side::Target, place, features, entries)?;
+    add_entries(rules, ground, Side::Host, place, features, entries)
+}

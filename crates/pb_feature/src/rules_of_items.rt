@@ -1,0 +1,321 @@
+//! The rules that the items of a package's features give, written with numbers. What an item names is
+//! looked up once, for both sides.
+
+ghost use Rattle.std.specs.Prelude.{◌≡◌, ◌+◌, ◌++◌, [], ◌∷◌, Some, OnOk, if◌then◌else◌};
+ghost use Rattle.std.specs.Option.{option_copied};
+ghost use Rattle.pb_workspace.specs.Workspace.{side_of};
+ghost use Rattle.pb_closure.specs.Placed.{placed};
+ghost use Rattle.pb_feature.specs.Found.{entry_named, found};
+ghost use Rattle.pb_feature.specs.Numbers.{has, enabled, slot};
+ghost use Rattle.pb_feature.specs.Rules.{alone, pair, of_rules, both_item_rules, both_own_rules, one_item_rules};
+
+use crate::numbers::{Ground, slot};
+use crate::rules_of_entries::{add_alone, add_there, side_made};
+use pb_closure::Rule;
+use pb_data::Text;
+use pb_manifest::FeatureItem;
+use pb_workspace::{DependencyKind, Entry, FeaturesByName, Package, Side};
+use std::alloc::AllocError;
+
+/// The rule of a feature that lists one of its own package, by their places.
+fn add_listed(
+    rules: &mut Vec<Rule>,
+    ground: &Ground<'_>,
+    side: Side,
+    place: usize,
+    feature: usize,
+    own: usize,
+) -> Result<(), AllocError>
+    ensures { OnOk result (rules.new.items ≡ rules.old.items ++ alone (has ground.now.bases.now place side feature) (has ground.now.bases.now place side own) ∷ []) }
+{
+    let has = ground.has(place, side, feature)?;
+    let gives = ground.has(place, side, own)?;
+    add_alone(rules, has, gives)
+}
+
+/// The rules of an item that names a feature of its own package, on both sides.
+fn add_own(
+    rules: &mut Vec<Rule>,
+    ground: &Ground<'_>,
+    place: usize,
+    features: &FeaturesByName,
+    feature: usize,
+    item: &FeatureItem,
+) -> Result<(), AllocError>
+    ensures { OnOk result (rules.new.items ≡ rules.old.items ++ both_own_rules ground.now.bases.now place features.now feature item.now) }
+{
+    match item {
+        FeatureItem::Own(name) => {
+            let own = slot(features, name.as_bytes());
+            add_listed(rules, ground, Side::Target, place, feature, own)?;
+            add_listed(rules, ground, Side::Host, place, feature, own)
+        }
+        _ => Ok(()),
+    }
+}
+
+/// The rule of an item `dep:N` at an entry N.
+fn add_dependency(
+    rules: &mut Vec<Rule>,
+    ground: &Ground<'_>,
+    side: Side,
+    place: usize,
+    features: usize,
+    feature: usize,
+    index: usize,
+) -> Result<(), AllocError>
+    ensures { OnOk result (rules.new.items ≡ rules.old.items ++ alone (has ground.now.bases.now place side feature) (enabled ground.now.bases.now place side features index) ∷ []) }
+{
+    let has = ground.has(place, side, feature)?;
+    let enabled = ground.enabled(place, side, features, index)?;
+    add_alone(rules, has, enabled)
+}
+
+/// The rules of an item `N/F` at an entry N, by the places of the features N and F.
+fn add_of(
+    rules: &mut Vec<Rule>,
+    ground: &Ground<'_>,
+    side: Side,
+    place: usize,
+    features: usize,
+    feature: usize,
+    index: usize,
+    entry: &Entry,
+    own: usize,
+    asked: usize,
+) -> Result<(), AllocError>
+    ensures { OnOk result (rules.new.items ≡ rules.old.items ++ of_rules ground.now.bases.now (has ground.now.bases.now place side feature) place side own asked (enabled ground.now.bases.now place side features index) entry.now) }
+{
+    let has = ground.has(place, side, feature)?;
+    let enabled = ground.enabled(place, side, features, index)?;
+    add_alone(rules, has, enabled)?;
+    let gives = ground.has(entry.to, side_made(entry.kind, side), asked)?;
+    add_alone(rules, has, gives)?;
+    add_there(rules, ground, has, place, side, entry.optional, own)
+}
+
+/// The rule of an item `N?/F` at an entry N, by the place of the feature F.
+fn add_of_enabled(
+    rules: &mut Vec<Rule>,
+    ground: &Ground<'_>,
+    side: Side,
+    place: usize,
+    features: usize,
+    feature: usize,
+    index: usize,
+    entry: &Entry,
+    asked: usize,
+) -> Result<(), AllocError>
+    ensures { OnOk result (rules.new.items ≡ rules.old.items ++ pair (has ground.now.bases.now place side feature) (enabled ground.now.bases.now place side features index) (has ground.now.bases.now entry.now.to (side_of entry.now.kind side) asked) ∷ []) }
+{
+    let first = ground.has(place, side, feature)?;
+    let second = ground.enabled(place, side, features, index)?;
+    let gives = ground.has(entry.to, side_made(entry.kind, side), asked)?;
+    rules.push(Rule {
+        first,
+        second,
+        gives,
+    })?;
+    Ok(())
+}
+
+/// The place of a feature of a name where a test holds, counted from 1; else 0, as where there is none.
+fn slot_where(test: bool, features: &FeaturesByName, name: &[u8]) -> usize
+    ensures { result ≡ (if test then slot features.now name.now else 0) }
+{
+    if test { slot(features, name) } else { 0 }
+}
+
+/// The rules of an item at an entry that it may name, on both sides. The features that it names are
+/// looked up once.
+fn add_item(
+    rules: &mut Vec<Rule>,
+    ground: &Ground<'_>,
+    place: usize,
+    features: &FeaturesByName,
+    feature: usize,
+    item: &FeatureItem,
+    index: usize,
+    entry: &Entry,
+) -> Result<(), AllocError>
+    ensures { OnOk result (rules.new.items ≡ rules.old.items ++ both_item_rules ground.now.packages.now ground.now.bases.now place features.now feature item.now index entry.now) }
+{
+    let count = features.as_slice().len();
+    match item {
+        FeatureItem::Own(_) => Ok(()),
+        FeatureItem::Dependency(name) => {
+            if name.as_bytes() != entry.key.as_bytes() {
+                return Ok(());
+            }
+            add_dependency(rules, ground, Side::Target, place, count, feature, index)?;
+            add_dependency(rules, ground, Side::Host, place, count, feature, index)
+        }
+        FeatureItem::Of {
+            dependency,
+            feature: asked,
+        } => {
+            if dependency.as_bytes() != entry.key.as_bytes() {
+                return Ok(());
+            }
+            let own = slot_where(entry.optional, features, dependency.as_bytes());
+            let asked = ground.slot_at(entry.to, asked.as_bytes());
+            add_of(
+                rules,
+                ground,
+                Side::Target,
+                place,
+                count,
+                feature,
+                index,
+                entry,
+                own,
+                asked,
+            )?;
+            add_of(
+                rules,
+                ground,
+                Side::Host,
+                place,
+                count,
+                feature,
+                index,
+                entry,
+                own,
+                asked,
+            )
+        }
+        FeatureItem::OfEnabled {
+            dependency,
+            feature: asked,
+        } => {
+            if dependency.as_bytes() != entry.key.as_bytes() {
+                return Ok(());
+            }
+            let asked = ground.slot_at(entry.to, asked.as_bytes());
+            add_of_enabled(
+                rules,
+                ground,
+                Side::Target,
+                place,
+                count,
+                feature,
+                index,
+                entry,
+                asked,
+            )?;
+            add_of_enabled(
+                rules,
+                ground,
+                Side::Host,
+                place,
+                count,
+                feature,
+                index,
+                entry,
+                asked,
+            )
+        }
+    }
+}
+
+/// The name of the entries that an item names, where it names entries.
+fn entry_named(item: &FeatureItem) -> Option<&Text>
+    ensures { option_copied result ≡ entry_named item.now }
+{
+    match item {
+        FeatureItem::Own(_) => None,
+        FeatureItem::Dependency(name) => Some(name),
+        FeatureItem::Of {
+            dependency,
+            feature: _,
+        } => Some(dependency),
+        FeatureItem::OfEnabled {
+            dependency,
+            feature: _,
+        } => Some(dependency),
+    }
+}
+
+/// The rules of an item at the entry of a place, where one was found.
+fn add_found(
+    rules: &mut Vec<Rule>,
+    ground: &Ground<'_>,
+    place: usize,
+    owner: &Package,
+    feature: usize,
+    item: &FeatureItem,
+    index: Option<usize>,
+) -> Result<(), AllocError>
+    ensures { OnOk result (rules.new.items ≡ rules.old.items ++ found (both_item_rules ground.now.packages.now ground.now.bases.now place owner.now.features feature item.now) [] owner.now.entries index) }
+{
+    let Some(index) = index else {
+        return Ok(());
+    };
+    let features = &owner.features;
+    match owner.entries.as_slice().get(index) {
+        Some(entry) => add_item(rules, ground, place, features, feature, item, index, entry),
+        None => Ok(()),
+    }
+}
+
+/// The rules of an item at the entries of its name: one in each table at most.
+fn add_named(
+    rules: &mut Vec<Rule>,
+    ground: &Ground<'_>,
+    place: usize,
+    owner: &Package,
+    feature: usize,
+    item: &FeatureItem,
+    name: &Text,
+) -> Result<(), AllocError>
+    requires { entry_named item.now ≡ Some name.now }
+    ensures { OnOk result (rules.new.items ≡ rules.old.items ++ placed (both_item_rules ground.now.packages.now ground.now.bases.now place owner.now.features feature item.now) 0 owner.now.entries) }
+{
+    let name = name.as_bytes();
+    let normal = owner.entries.place_of(DependencyKind::Normal, name);
+    add_found(rules, ground, place, owner, feature, item, normal)?;
+    let build = owner.entries.place_of(DependencyKind::Build, name);
+    add_found(rules, ground, place, owner, feature, item, build)?;
+    Ok(())
+}
+
+/// The rules of an item, on both sides.
+fn add_one_item(
+    rules: &mut Vec<Rule>,
+    ground: &Ground<'_>,
+    place: usize,
+    owner: &Package,
+    feature: usize,
+    item: &FeatureItem,
+) -> Result<(), AllocError>
+    ensures { OnOk result (rules.new.items ≡ rules.old.items ++ one_item_rules ground.now.packages.now ground.now.bases.now place owner.now feature 0 item.now) }
+{
+    add_own(rules, ground, place, &owner.features, feature, item)?;
+    match entry_named(item) {
+        Some(name) => {
+            add_named(rules, ground, place, owner, feature, item, name)?;
+            Ok(())
+        }
+        None => Ok(()),
+    }
+}
+
+/// The rules of the items of a feature, on both sides.
+pub(crate) fn add_feature(
+    rules: &mut Vec<Rule>,
+    ground: &Ground<'_>,
+    place: usize,
+    owner: &Package,
+    index: usize,
+    items: &[FeatureItem],
+) -> Result<(), AllocError>
+    ensures { OnOk result (rules.new.items ≡ rules.old.items ++ placed (one_item_rules ground.now.packages.now ground.now.bases.now place owner.now (index + 1)) 0 items.now) }
+{
+    let Some(feature) = index.checked_add(1) else {
+        return Err(AllocError);
+    };
+    for item in items {
+        add_one_item(rules, ground, place, owner, feature, item)?;
+    }
+    Ok(())
+}
