@@ -1,8 +1,7 @@
 -- What the whole program does: what its words ask for is done, and nothing else.
-use Rattle.std.specs.Prelude.{◌≡◌, ◌⊎◌, ℕ, Bool, true, false, if◌then◌else◌, List, take, Option, Some, None, IsTrue, IfOk, Result, Ok, Err}
+use Rattle.std.specs.Prelude.{◌≡◌, ◌⊎◌, ℕ, Bool, if◌then◌else◌, List, Option, Some, None, IsTrue, IfOk, Result, Ok, Err}
 use Rattle.std.specs.FinMap as map
-use Rattle.std.specs.Io.KnownBytes.{Appends}
-use Rattle.pb_place.specs.Counts.{counted, up}
+use Rattle.pb_place.specs.Counts.{counted}
 use Rattle.pb_place.specs.World.{Answers}
 use Rattle.pb_place.specs.declared.place.PlaceFault.{PlaceFault}
 use Rattle.pb_command_line.specs.Asking.{Asks, Unasks}
@@ -13,7 +12,7 @@ use Rattle.pb_command_line.specs.declared.asked.Unasked.TheVariants.{Help, Wrong
 use Rattle.pb_session.specs.Sessions.{session_of}
 use Rattle.pb_session.specs.declared.fault.BadSession.TheVariants.{BadForm}
 use Rattle.pb_build.specs.Ending.{Heard, Moment}
-use Rattle.pb_program.specs.Building.{BuildsTold}
+use Rattle.pb_program.specs.Building.{Writes, Tells, BuildsTold}
 use Rattle.pb_program.specs.Session.{Refused, SessionWritten}
 
 -- Sessions.
@@ -46,15 +45,10 @@ pub record RunsFile (tells : Bool) (path : List ℕ) (status : ℕ) (old new : M
 
 -- Words that ask for nothing.
 
--- all of some bytes were written; or the first of them, and the sink failed
-abbrev pub Writes : Bool → List ℕ → Heard → Heard → Type 0
-Writes true bytes old new = Appends old.taken new.taken bytes × (new.faults ≡ old.faults)
-Writes false bytes old new = ((n : ℕ) × Appends old.taken new.taken (take n bytes)) × (new.faults ≡ up old.faults)
-
 -- what is told to words that ask for nothing: help, as output; what is wrong with them, beside it; nothing, where memory is refused
 abbrev pub Explains : Unasked → ℕ → Heard → Heard → Heard → Heard → Type 0
 Explains (Help text) status old new said_before said_after = (said_after ≡ said_before) × ((whole : Bool) × Writes whole text old new × (status ≡ (if whole then 0 else 1)))
-Explains (Wrong text) status old new said_before said_after = (status ≡ 1) × (new ≡ old) × ((whole : Bool) × Writes whole text said_before said_after)
+Explains (Wrong text) status old new said_before said_after = (status ≡ 1) × (new ≡ old) × Tells text said_before said_after
 Explains OutOfMemory status old new said_before said_after = (status ≡ 101) × (new ≡ old) × (said_after ≡ said_before)
 
 -- The program.
@@ -66,7 +60,7 @@ Means words folder (Err unasked) = Unasks words folder unasked
 
 -- what comes of that: the build that is asked for, or the session; else the place is not touched
 abbrev pub Does : Bool → Answers → Result Asked Unasked → ℕ → Moment → Moment → Heard → Heard → Type 0
-Does tells child (Ok (Build options)) status old new said_before said_after = BuildsTold tells child options status old new said_before.taken said_after.taken
+Does tells child (Ok (Build options)) status old new said_before said_after = BuildsTold tells child options status old new said_before said_after
 Does tells child (Ok (Session path)) status old new said_before said_after = RunsFile tells path status old new said_before said_after
 Does tells child (Err unasked) status old new said_before said_after = (new ≡ record old { heard = new.heard }) × Explains unasked status old.heard new.heard said_before said_after
 

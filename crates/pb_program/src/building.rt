@@ -6,7 +6,7 @@ ghost use Rattle.pb_build.specs.Ending.{Moment, moment, Builds};
 ghost use Rattle.pb_report.specs.ResultLine.{result_line};
 ghost use Rattle.pb_report.specs.declared.fault.BuildFault.{BuildFault};
 ghost use Rattle.pb_report.specs.declared.summary.Summary.{Summary};
-ghost use Rattle.pb_program.specs.Building.{status_of, notes_of, error_of, error_if, WritesFirst, Notes, BuildsTold};
+ghost use Rattle.pb_program.specs.Building.{status_of, notes_of, error_of, Notes, TellsWhy, BuildsTold};
 
 use pb_build::{build, missing_libraries};
 use pb_data::Text;
@@ -61,7 +61,7 @@ fn error_of(alloc: Global, answer: &Result<Summary, BuildFault>) -> Result<Strin
 fn note<P: Place, E: Out>(alloc: Global, place: &mut P, err: &mut E, options: &Options)
     ensures same { IsTrue P.tells → P.world place.new ≡ P.world place.old }
     ensures unstarted { (P.counts place.new).starts ≡ (P.counts place.old).starts }
-    ensures notes { Notes P.tells options.now (P.world place.old) (E.taken err.old) (E.taken err.new) }
+    ensures notes { Notes P.tells options.now (P.world place.old) record { taken = E.taken err.old; faults = E.faults err.old } record { taken = E.taken err.new; faults = E.faults err.new } }
 {
     let names = match missing_libraries(alloc, place, options) {
         Ok(names) => names,
@@ -74,18 +74,18 @@ fn note<P: Place, E: Out>(alloc: Global, place: &mut P, err: &mut E, options: &O
     let _ = write_all(err, notes.as_bytes());
 }
 
-/// Tells why a build failed, where its status says so. Where memory is refused, nothing is told.
+/// Tells why a build failed, where its status says so. Where memory is refused for that, want of memory is told, which
+/// takes none.
 fn tell<E: Out>(alloc: Global, err: &mut E, status: u8, answer: &Result<Summary, BuildFault>)
-    ensures { WritesFirst (error_if status answer.now) (E.taken err.old) (E.taken err.new) }
+    ensures { TellsWhy status answer.now record { taken = E.taken err.old; faults = E.faults err.old } record { taken = E.taken err.new; faults = E.faults err.new } }
 {
     if status == 0 {
         return;
     }
-    let line = match error_of(alloc, answer) {
-        Ok(line) => line,
-        Err(_) => return,
+    match error_of(alloc, answer) {
+        Ok(line) => write_all(err, line.as_bytes()),
+        Err(_) => write_all(err, b"error: fault memory OutOfMemory\n"),
     };
-    let _ = write_all(err, line.as_bytes());
 }
 
 /// Builds, and gives the status: 0 for success, 101 for a build that failed or was refused, with `error: ` and its
@@ -100,7 +100,7 @@ pub fn build_options<P: Place, O: Out, E: Out>(
 ) -> u8
     ensures { BuildsTold P.tells P.child options.now result
         (moment (P.world place.old) (P.counts place.old) (O.taken out.old) (O.faults out.old)) (moment (P.world place.new) (P.counts place.new) (O.taken out.new) (O.faults out.new))
-        (E.taken err.old) (E.taken err.new) }
+        record { taken = E.taken err.old; faults = E.faults err.old } record { taken = E.taken err.new; faults = E.faults err.new } }
 {
     note(alloc, place, err, options);
     let answer = build(alloc, place, out, options);

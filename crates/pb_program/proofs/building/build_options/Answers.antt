@@ -11,7 +11,7 @@ returns g c = record {
   answer = c.build-answer.result;
   builds = c.build-answer.ensures.builds;
   told = c.status_of-status.ensures;
-  noted = g.E.Out.taken c.note.new.err;
+  noted = record { taken = g.E.Out.taken c.note.new.err; faults = g.E.Out.faults c.note.new.err };
   notes = c.note.ensures.notes;
   reason = c.tell.ensures;
 }
