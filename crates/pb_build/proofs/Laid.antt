@@ -1,5 +1,5 @@
 -- Two rows of units that are laid by the same rules are the same: those of the same units, by level and then by key, each with the places of what it needs.
-use Rattle.std.proofs.Common.{◌≡◌, ◌∙◌, ◌↔◌, ◌⊎◌, ◌<◌, ◌≤◌, ◌+◌, ℕ, zero, suc, max, List, [], ◌∷◌, map, All, AllPairs, Contains, Option, Some, None, option_map, refl, sym, ap, ap₂, subst, inl, inr, arith, length, slice_get, slice_index_or}
+use Rattle.std.proofs.Common.{◌≡◌, ◌∙◌, ◌↔◌, ◌⊎◌, ◌<◌, ◌≤◌, ◌+◌, ℕ, zero, suc, max, List, [], ◌∷◌, map, AllPairs, Contains, Option, Some, None, option_map, refl, sym, ap, ap₂, subst, inl, inr, arith, length, slice_get, slice_index_or}
 use Rattle.std.specs.Cmp.Lexicographic.{slice_cmp}
 use Rattle.std.specs.List.Sorted.{IsStrictlyIncreasing}
 use Rattle.std.specs.Ordering.{nat_cmp}
@@ -7,7 +7,7 @@ use Rattle.std.specs.declared.cmp.Ordering.TheVariants.{Less}
 use Rattle.std.proofs.lemmas.Cmp.{nat_list_cmp_total}
 use Rattle.std.proofs.lemmas.List.Kept.{AllPairs-cons}
 use Rattle.std.proofs.lemmas.Option.{slice_get-map, same_Some}
-use Rattle.pb_build.proofs.Once.{first_or_rest, at_first, in_rest, first_before, rest_ordered, same_ordered, same_numbers, text_never}
+use Rattle.pb_build.proofs.Once.{first_or_rest, at_first, in_rest, same_ordered, same_numbers, text_never}
 
 module _ {A B : Type 0} (f : A → B) where
   -- what is in the list of values is the value of an element, and the other way round

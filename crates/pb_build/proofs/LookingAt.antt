@@ -1,13 +1,12 @@
 -- A build looks at the sources and the variables alone.
-use Rattle.std.proofs.Common.{◌≡◌, ◌∙◌, List, ℕ, Ok, Err, Result, Option, Some, None, not, cond, refl, sym, ap, subst}
+use Rattle.std.proofs.Common.{◌≡◌, ◌∙◌, List, ℕ, Result, None, cond, refl, sym, ap, subst}
 use Rattle.std.specs.FinMap.{get}
-use Rattle.pb_place.specs.Paths.{folder_of, is_at_or_below}
+use Rattle.pb_place.specs.Paths.{folder_of}
 use Rattle.pb_place.specs.World.{World, Answers, from_nothing}
 use Rattle.pb_place.proofs.Folders.{sources_alike, get-sources}
 use Rattle.pb_data.specs.Gives.{◌>>=◌}
 use Rattle.pb_command.specs.declared.project.Project.{Project}
 use Rattle.pb_report.specs.declared.fault.Refusal.{Refusal}
-use Rattle.pb_report.specs.declared.fault.Refusal.TheVariants.{Load, Feature, Plan}
 use Rattle.pb_workspace.specs.Frames.{frame_of}
 use Rattle.pb_workspace.specs.Loaded.{root_parts, workspace_in, workspace_of}
 use Rattle.pb_workspace.specs.declared.fault.LoadFault.{LoadFault}
@@ -16,7 +15,7 @@ use Rattle.pb_workspace.specs.declared.workspace.Workspace.{Workspace}
 use Rattle.pb_build.specs.Environment.{environment_of}
 use Rattle.pb_build.specs.Laws.{LooksAtSources, GivesFromNothing}
 use Rattle.pb_build.specs.Planning.{IsProject, IsRefused, by_load, by_selection, by_feature, by_plan}
-use Rattle.pb_build.specs.Result.{BuildResult, Comes, refused, no_toolchain, finished, Finished, IsResult, toolchain_of, setup_of, rows_of}
+use Rattle.pb_build.specs.Result.{BuildResult, Comes, refused, no_toolchain, finished, Finished, toolchain_of, setup_of, rows_of}
 use Rattle.pb_build.specs.declared.environment.Environment.{Environment}
 
 -- a workspace is read from the sources

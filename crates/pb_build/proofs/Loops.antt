@@ -29,7 +29,7 @@ use Rattle.pb_run.proofs.Tables.{tabled-unfold}
 use Rattle.pb_run.proofs.Units.{length-outcomes, still_stands}
 use Rattle.pb_unit.specs.declared.plan.Planned.{Planned}
 use Rattle.pb_build.specs.Causes.{upped, MayTell, MayTellAll}
-use Rattle.pb_build.specs.Ending.{Moment, said_by, started_keys, directives_told, keyed, key_if, messages_in, bad_at, bad_of, is_success, summary_of, HoldsFiles, OnlyIn, Worked, Stopped, UnitsEnd}
+use Rattle.pb_build.specs.Ending.{Moment, said_by, started_keys, directives_told, keyed, key_if, messages_in, bad_at, bad_of, is_success, HoldsFiles, OnlyIn, Worked, Stopped, UnitsEnd}
 use Rattle.pb_build.specs.Ending.{Heard}
 use Rattle.pb_build.specs.Private.{GivesAt, UnitSays}
 use Rattle.pb_build.specs.Result.{Row, rows_of}

@@ -1,5 +1,5 @@
 -- A workspace that was read has one reason alone why it has no project, and then has none.
-use Rattle.std.proofs.Common.{◌≡◌, ◌∙◌, ◌≢◌, ◌⊎◌, ◌<◌, ◌≤◌, ◌+◌, ◌++◌, ◌&&◌, ℕ, Bool, true, false, if◌then◌else◌, IsTrue, List, [], ◌∷◌, map, Contains, All, Option, Some, None, Ok, Err, refl, sym, ap, ap₂, subst, inl, inr, arith, length, slice_get, slice_index_or}
+use Rattle.std.proofs.Common.{◌≡◌, ◌∙◌, ◌<◌, ◌+◌, ◌++◌, ◌&&◌, ℕ, Bool, if◌then◌else◌, List, [], ◌∷◌, map, Contains, All, Ok, Err, refl, sym, ap, ap₂, subst, inl, inr, arith, length, slice_get, slice_index_or}
 use Rattle.std.specs.Cmp.{both_ways}
 use Rattle.std.specs.Cmp.Lexicographic.{slice_cmp}
 use Rattle.std.specs.Ordering.{nat_cmp}
@@ -9,17 +9,16 @@ use Rattle.pb_closure.specs.Placed.{placed}
 use Rattle.pb_feature.specs.Resolved.{IsResolved, is_enabled, features_at}
 use Rattle.pb_feature.specs.declared.resolved.Features.{Features}
 use Rattle.pb_order.proofs.Elements.{all_at}
-use Rattle.pb_unit.specs.Plan.{IsPlan, IsCycle, IsCrowd, IsUsable, Stops, by_cycle, by_number, by_nothing, Refuses, by_profile, by_units, profile_line}
+use Rattle.pb_unit.specs.Plan.{IsPlan, IsCycle, IsCrowd, Stops, by_cycle, by_number, by_nothing, Refuses, by_profile, by_units}
 use Rattle.pb_unit.specs.Units.{key_of, unit, is_normal, is_build, has_library, hands_on, entries_at, library_by, tool_by, run_by, libraries, tools, runs, own_library, own_run, needs_of, needs, Reaches, direct, onward, IsRoot, library, binary, IsPlanned}
 use Rattle.pb_unit.specs.declared.fault.PlanFault.{PlanFault}
 use Rattle.pb_unit.specs.declared.plan.Plan.{Plan}
 use Rattle.pb_unit.specs.declared.plan.Planned.{Planned}
-use Rattle.pb_unit.specs.declared.fault.PlanFault.TheVariants.{Cycle, TooManyUnits, NothingToBuild, Profile}
+use Rattle.pb_unit.specs.declared.fault.PlanFault.TheVariants.{Cycle, Profile}
 use Rattle.pb_unit.specs.declared.unit.Unit.{Unit}
 use Rattle.pb_unit.specs.declared.unit.What.{What}
 use Rattle.pb_unit.specs.declared.unit.What.TheVariants.{Lib, Bin, Script, Run}
 use Rattle.pb_workspace.specs.declared.options.Selection.{Selection}
-use Rattle.pb_workspace.specs.declared.package.Entry.{Entry}
 use Rattle.pb_workspace.specs.declared.package.Side.{Side}
 use Rattle.pb_workspace.specs.declared.package.Side.TheVariants.{Target, Host}
 use Rattle.pb_workspace.specs.declared.workspace.Workspace.{Workspace}

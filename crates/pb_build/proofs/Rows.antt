@@ -5,7 +5,6 @@ use Rattle.std.specs.List.{list_all}
 use Rattle.pb_place.proofs.PathLemmas.{and_left, and_right}
 use Rattle.pb_command.specs.declared.fault.UnitFault.{UnitFault}
 use Rattle.pb_command.specs.declared.project.Project.{Project}
-use Rattle.pb_directive.specs.declared.directive.Directive.{Directive}
 use Rattle.pb_message.specs.declared.message.Message.{Message}
 use Rattle.pb_run.specs.Outcome.{Outcome, Waiting, Good, Bad, is_good, directives_in}
 use Rattle.pb_run.specs.Telling.{unit_lines}

@@ -1,10 +1,10 @@
 -- What units give looks at the features that are on, and not at how they are told.
-use Rattle.std.proofs.Common.{◌≡◌, ◌∙◌, ◌++◌, ◌&&◌, ℕ, Bool, true, false, if◌then◌else◌, List, [], ◌∷◌, map, flat_map, Option, Some, None, Result, Ok, Err, refl, sym, ap, ap₂, slice_get}
+use Rattle.std.proofs.Common.{◌≡◌, ◌∙◌, ◌++◌, ◌&&◌, ℕ, Bool, true, if◌then◌else◌, List, [], ◌∷◌, map, flat_map, Option, Some, None, Result, Ok, Err, refl, ap, ap₂, slice_get}
 use Rattle.std.specs.List.{list_all}
 use Rattle.pb_command.specs.Command.{words_of, compile_of, run_of, command_by, command_for, command_of}
 use Rattle.pb_command.specs.Externs.{dependency_words, entry_extern, entry_name, extern, extern_word, externs, in_order, leads, own_extern, reads_of}
 use Rattle.pb_command.specs.Answers.{answered_of}
-use Rattle.pb_command.specs.Pairs.{about_pairs, package_pairs, version_pairs, building_pairs, described_pairs, feature_pair, links_pairs, own_pairs, pairs_of, passed_at, passed_pairs, run_pairs}
+use Rattle.pb_command.specs.Pairs.{about_pairs, package_pairs, version_pairs, building_pairs, feature_pair, links_pairs, own_pairs, pairs_of, passed_at, passed_pairs}
 use Rattle.pb_command.specs.Said.{said_words}
 use Rattle.pb_command.specs.Targets.{library_file, dep_info_of, made_file_of, package_of}
 use Rattle.pb_command.specs.Words.{active_words, crate_words, expected_words, feature_word, output_words, settings_words}
@@ -17,18 +17,17 @@ use Rattle.pb_feature.specs.Resolved.{features_at, is_enabled}
 use Rattle.pb_feature.specs.declared.resolved.Features.{Features}
 use Rattle.pb_message.specs.declared.message.Message.{Message}
 use Rattle.pb_message.specs.declared.message.Message.TheVariants.{CompilerArtifact}
-use Rattle.pb_place.specs.World.{World, Map, Answers}
+use Rattle.pb_place.specs.World.{World, Answers}
 use Rattle.pb_place.specs.declared.child.Reply.{Reply}
 use Rattle.pb_place.specs.declared.command.Command.{Command}
-use Rattle.pb_run.specs.Outcome.{Outcome, Waiting, directives_of, ended_by, file_at, tabled_from, is_good_at, view_of, ran_by, outcome_by, replied_files, judged, command_after, outcome_of, outcomes}
+use Rattle.pb_run.specs.Outcome.{Outcome, Waiting, directives_of, ended_by, file_at, tabled_from, is_good_at, view_of, ran_by, outcome_by, replied_files, judged, command_after, outcome_of}
 use Rattle.pb_run.specs.Telling.{artifacts, compiler_messages, good_messages, is_binary}
-use Rattle.pb_run.specs.declared.ran.Ran.{Ran}
 use Rattle.pb_unit.specs.declared.plan.Planned.{Planned}
 use Rattle.pb_unit.specs.declared.unit.What.{What}
 use Rattle.pb_unit.specs.declared.unit.What.TheVariants.{Lib, Bin, Script, Run}
 use Rattle.pb_workspace.specs.declared.package.Package.{Package}
 use Rattle.pb_workspace.specs.declared.package.Side.{Side}
-use Rattle.pb_build.specs.Result.{Row, rows_of, to_first_bad}
+use Rattle.pb_build.specs.Result.{rows_of, to_first_bad}
 use Rattle.pb_build.proofs.Reasons.{placed_same}
 
 -- a table by two steps that give the same

@@ -1,24 +1,24 @@
 -- A workspace, a selection and a profile have one plan alone.
-use Rattle.std.proofs.Common.{◌≡◌, ◌∙◌, ◌↔◌, ◌⊎◌, ◌<◌, ◌≤◌, ◌+◌, ℕ, max, List, [], ◌∷◌, map, AllPairs, Contains, Option, Some, Ok, Err, refl, sym, ap, ap₂, subst, inl, inr, arith, length, slice_get, slice_index_or}
+use Rattle.std.proofs.Common.{◌≡◌, ◌∙◌, ◌⊎◌, ◌<◌, ◌+◌, ℕ, max, List, ◌∷◌, map, AllPairs, Contains, Some, Ok, refl, sym, ap, ap₂, subst, inl, inr, arith, length, slice_get, slice_index_or}
 use Rattle.std.proofs.lemmas.Option.{same_Some}
 use Rattle.std.specs.Cmp.Lexicographic.{slice_cmp}
 use Rattle.std.specs.Ordering.{nat_cmp}
 use Rattle.std.specs.declared.cmp.Ordering.TheVariants.{Less}
-use Rattle.pb_feature.specs.Resolved.{IsResolved, is_enabled}
+use Rattle.pb_feature.specs.Resolved.{IsResolved}
 use Rattle.pb_feature.specs.declared.resolved.Features.{Features}
 use Rattle.pb_order.proofs.Elements.{all_at}
 use Rattle.pb_place.specs.Paths.{below}
 use Rattle.pb_profile.specs.Line.{Seen}
 use Rattle.pb_profile.specs.Settings.{settings_along}
-use Rattle.pb_unit.specs.Plan.{ComesBefore, above, level_of, level_at, ArePlaces, HasSettings, AreWithoutLibrary, IsPlan, profile_folder, profile_line}
-use Rattle.pb_unit.specs.Units.{key_of, role_of, needs, Reaches, IsPlanned}
+use Rattle.pb_unit.specs.Plan.{ComesBefore, above, level_of, level_at, ArePlaces, HasSettings, AreWithoutLibrary, IsPlan, profile_folder}
+use Rattle.pb_unit.specs.Units.{key_of, role_of, needs, Reaches}
 use Rattle.pb_unit.specs.declared.plan.Plan.{Plan}
 use Rattle.pb_unit.specs.declared.plan.Planned.{Planned}
 use Rattle.pb_unit.specs.declared.unit.Unit.{Unit}
 use Rattle.pb_workspace.specs.declared.options.Selection.{Selection}
 use Rattle.pb_workspace.specs.declared.package.Package.{Package}
 use Rattle.pb_workspace.specs.declared.workspace.Workspace.{Workspace}
-use Rattle.pb_build.proofs.Laid.{HasLevels, HasPlaces, HasUnits, Earlier, ranked, same_place, same_length, same_wanted, same_list}
+use Rattle.pb_build.proofs.Laid.{HasLevels, HasPlaces, Earlier, same_place, same_length, same_wanted, same_list}
 use Rattle.pb_build.proofs.Once.{same_texts}
 use Rattle.pb_build.proofs.Reasons.{enabled_same, needs_same, planned_too, reaches_too}
 

@@ -1,12 +1,10 @@
 -- A build's work: what comes before the query, the query, and then the units.
-use Rattle.std.proofs.Common.{◌≡◌, ◌∙◌, ◌⊎◌, ◌+◌, Bool, true, false, List, ℕ, zero, suc, Option, Some, None, Result, Ok, Err, refl, sym, ap, subst, arith, length, take, inl, inr}
-use Rattle.std.specs.FinMap.{get}
+use Rattle.std.proofs.Common.{◌≡◌, ◌∙◌, ◌+◌, Bool, List, ℕ, zero, suc, Option, Some, None, Result, Ok, Err, refl, sym, ap, subst, arith, length, take, inl, inr}
 use Rattle.std.specs.Io.KnownBytes.{Appends}
 use Rattle.pb_command.specs.Command.{query_of}
 use Rattle.pb_command.specs.declared.project.Project.{Project}
 use Rattle.pb_command.specs.declared.project.Setup.{Setup}
 use Rattle.pb_place.specs.Counts.{Counts, up}
-use Rattle.pb_place.specs.Paths.{is_at_or_below}
 use Rattle.pb_place.specs.World.{World, Answers, Ends, seen_by, from_nothing}
 use Rattle.pb_place.specs.declared.child.Reply.{Reply}
 use Rattle.pb_place.specs.declared.command.Command.{Command}
@@ -21,7 +19,6 @@ use Rattle.pb_place.specs.declared.place.Failure.{Failure}
 use Rattle.pb_place.specs.declared.place.Failure.TheVariants.{Called, Started}
 use Rattle.pb_run.specs.Outcome.{ended_by}
 use Rattle.pb_run.specs.Standing.{IsInOrder}
-use Rattle.pb_unit.specs.declared.plan.Planned.{Planned}
 use Rattle.pb_manifest.specs.declared.profile.Profile.{Profile}
 use Rattle.pb_place.specs.Paths.{folder_of}
 use Rattle.pb_workspace.proofs.FoldersPut.{opened}

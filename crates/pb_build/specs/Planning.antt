@@ -1,5 +1,5 @@
 -- What a build is of: the workspace that is read, what of it is selected, its features and its plan; or why it is refused.
-use Rattle.std.specs.Prelude.{◌≡◌, ℕ, List, Result, Ok, Err}
+use Rattle.std.specs.Prelude.{◌≡◌, ℕ, List, Ok, Err}
 use Rattle.pb_place.specs.World.{World}
 use Rattle.pb_workspace.specs.Loaded.{workspace_of}
 use Rattle.pb_workspace.specs.Selected.{selected}

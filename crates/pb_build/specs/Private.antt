@@ -1,5 +1,5 @@
 -- What private functions of the build promise to one another. Nothing here is needed to read what a build gives.
-use Rattle.std.specs.Prelude.{◌≡◌, ◌⊎◌, ℕ, true, List, Option, Some, take, slice_get, Result, Ok, Err, MatchResult}
+use Rattle.std.specs.Prelude.{◌≡◌, ℕ, true, List, Some, take, slice_get, Result, Ok, Err, MatchResult}
 use Rattle.std.specs.FinMap as finite
 use Rattle.std.specs.Io.KnownBytes.{Appends}
 use Rattle.pb_place.specs.Counts.{Counts, up}

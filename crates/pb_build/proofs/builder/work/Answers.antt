@@ -1,5 +1,4 @@
-use Rattle.std.proofs.Common.{◌∙◌, ap, sym, subst, refl}
-use Rattle.pb_place.specs.World.{World}
+use Rattle.std.proofs.Common.{subst, refl}
 use Rattle.pb_build.specs.Ending.{moment, WorksWith}
 use Rattle.pb_build.specs.declared.environment.Environment.{Environment}
 use Rattle.pb_build.proofs.Works.{works_before}

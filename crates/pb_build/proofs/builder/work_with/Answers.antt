@@ -1,5 +1,4 @@
 use Rattle.std.proofs.Common.{◌∙◌, List, ℕ, ap, sym, subst, refl}
-use Rattle.pb_command.specs.declared.project.Project.{Project}
 use Rattle.pb_place.specs.World.{World, from_nothing}
 use Rattle.pb_build.specs.Ending.{moment}
 use Rattle.pb_build.specs.Kept.{SourcesStay}

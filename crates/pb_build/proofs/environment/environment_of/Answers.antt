@@ -1,4 +1,4 @@
-use Rattle.std.proofs.Common.{◌∙◌, ap, sym, codes, List, ℕ, Option}
+use Rattle.std.proofs.Common.{◌∙◌, ap, codes, List, ℕ, Option}
 use Rattle.std.specs.FinMap as finite
 use Rattle.pb_place.specs.World.{World}
 use Rattle.pb_build.specs.Environment.{set_text, environment_with}
