@@ -1,5 +1,5 @@
 -- A unit of a plan reaches what it needs.
-use Rattle.std.proofs.Common.{◌≡◌, ℕ, suc, List, [], ◌∷◌, Some, All, Contains, refl, arith, slice_get}
+use Rattle.std.proofs.Common.{◌≡◌, ℕ, suc, List, [], ◌∷◌, Some, Contains, refl, arith, slice_get}
 use Rattle.std.specs.List.{AllByRecursion}
 use Rattle.pb_feature.proofs.Sound.{all_at}
 use Rattle.pb_feature.specs.declared.resolved.Features.{Features}

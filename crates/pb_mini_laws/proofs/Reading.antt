@@ -1,10 +1,10 @@
 -- What is spelled in dep-info is read there.
-use Rattle.std.proofs.Common.{◌≡◌, ℕ, ◌+◌, ◌-◌, ◌≤◌, ◌<◌, suc, not, ◌&&◌, ◌||◌, Bool, true, false, cond, List, [], ◌∷◌, ◌++◌, length, take, drop, get_or, slice_index, filter, Option, Some, None, Result, Ok, Err, refl, sym, ◌∙◌, ap, subst, arith, eqb, codes, append_assoc, map}
+use Rattle.std.proofs.Common.{◌≡◌, ℕ, ◌+◌, ◌-◌, suc, not, ◌&&◌, ◌||◌, Bool, true, false, cond, List, [], ◌∷◌, ◌++◌, length, take, slice_index, filter, Option, Some, None, Result, Ok, Err, refl, sym, ◌∙◌, ap, subst, arith, eqb, codes, append_assoc}
 use Rattle.std.proofs.lemmas.List.{append-nil}
 use Rattle.std.proofs.lemmas.Bool.Decides.{Decides-eqb}
 use Rattle.std.proofs.lemmas.List.Folds.{list_any-append}
 use Rattle.std.proofs.lemmas.Slice.Eq.{bytes_eq-Decides}
-use Rattle.std.specs.List.{onto_first, slice_split, list_any, before_first, position_or_len, AllByRecursion}
+use Rattle.std.specs.List.{onto_first, before_first, position_or_len, AllByRecursion}
 use Rattle.std.specs.Str.{is_utf8, bytes_eq}
 use Rattle.std.specs.Str.Lines.{strip_carriage_return}
 use Rattle.pb_data.specs.Gives.{◌>>=◌, lifted}
@@ -15,14 +15,13 @@ use Rattle.pb_directive.proofs.JoinLemmas.{names-followed_by}
 use Rattle.pb_directive.specs.DepInfo.{nothing, joined, one_variable, ends_outputs, after_outputs, parts_of, rule_words, rule_info, variable_info, full_line, text_info, line_info, info_from, each_once, all_names_of, dep_info_of}
 use Rattle.pb_directive.specs.Directives.{is_empty}
 use Rattle.pb_directive.specs.Faults.{fault_at}
-use Rattle.pb_directive.specs.Laws.{later_by, followed_by, then_named, line_count}
+use Rattle.pb_directive.specs.Laws.{then_named, line_count}
 use Rattle.pb_directive.specs.Lines.{lines_of, has_byte, text_of}
 use Rattle.pb_directive.specs.declared.dep_info.DepInfo.{DepInfo}
 use Rattle.pb_directive.specs.declared.fault.LineFault.{LineFault}
 use Rattle.pb_directive.specs.declared.fault.Problem.{Problem}
 use Rattle.pb_directive.specs.declared.fault.Problem.TheVariants as problem
-use Rattle.pb_place.specs.Paths.{is_absolute}
-use Rattle.pb_mini.specs.DepInfo.{spelled, paths_text, value_text, variable_text, variables_text, dep_info_text}
+use Rattle.pb_mini.specs.DepInfo.{spelled, paths_text, value_text, variables_text, dep_info_text}
 use Rattle.pb_mini.specs.declared.dep_info.Names.{Names}
 use Rattle.pb_mini_laws.specs.ReadBack.{ends_plainly, CanBeTold, CanBeAsked, AreAmong, ReadsBack}
 
