@@ -75,30 +75,27 @@ fn names_in(alloc: Global, bytes: &[u8]) -> Result<String, AllocError> {
     }
 }
 
-fn expect_directives(
-    rt: &impl Abort,
-    alloc: Global,
-    bytes: &[u8],
-    want: &str,
-) -> Result<(), AllocError> {
-    let found = directives_in(alloc, bytes)?;
-    assert_eq!(rt; found.as_str(), want);
-    Ok(())
+/// Whether a script's output says this.
+fn says(alloc: Global, output: &[u8], wanted: &str) -> Result<bool, AllocError> {
+    let found = directives_in(alloc, output)?;
+    Ok(found.as_str() == wanted)
 }
 
-fn expect_names(
+/// Asserts what each of these outputs says.
+fn assert_outputs(
     rt: &impl Abort,
     alloc: Global,
-    bytes: &[u8],
-    want: &str,
+    cases: &[(&[u8], &str)],
 ) -> Result<(), AllocError> {
-    let found = names_in(alloc, bytes)?;
-    assert_eq!(rt; found.as_str(), want);
+    for (place, case) in cases.iter().enumerate() {
+        let (output, wanted) = *case;
+        assert!(rt; says(alloc, output, wanted)?, "case {place}: {wanted}");
+    }
     Ok(())
 }
 
 /// Outputs of scripts, and what they say: lines and prefixes.
-const LINES: [(&[u8], &str); 17] = [
+const LINES: &[(&[u8], &str)] = &[
     (b"cargo:root=/x", "metadata<root></x>;"),
     (b"cargo::root=/x", "UnknownKey 1"),
     (b"", ""),
@@ -129,14 +126,12 @@ const LINES: [(&[u8], &str); 17] = [
 
 #[test]
 fn lines_and_prefixes(rt: HostRuntime) -> Result<(), Fail> {
-    for (bytes, want) in LINES {
-        expect_directives(&rt, rt.alloc(), bytes, want)?;
-    }
+    assert_outputs(&rt, rt.alloc(), LINES)?;
     Ok(())
 }
 
 /// Outputs of scripts, and what they say: keys and values.
-const KEYS: [(&[u8], &str); 34] = [
+const KEYS: &[(&[u8], &str)] = &[
     (b"cargo::rerun-if-changed=build.rs", "changed<build.rs><>;"),
     (b"cargo::rerun-if-changed=", "BadValue 1"),
     (b"cargo::rerun-if-changed=a\0", "BadValue 1"),
@@ -181,14 +176,12 @@ const KEYS: [(&[u8], &str); 34] = [
 
 #[test]
 fn keys_and_values(rt: HostRuntime) -> Result<(), Fail> {
-    for (bytes, want) in KEYS {
-        expect_directives(&rt, rt.alloc(), bytes, want)?;
-    }
+    assert_outputs(&rt, rt.alloc(), KEYS)?;
     Ok(())
 }
 
 /// Lines with a value that the key may not have.
-const BAD_VALUES: [&[u8]; 24] = [
+const BAD_VALUES: &[&[u8]] = &[
     b"cargo:rerun-if-changed=",
     b"cargo::rerun-if-env-changed=A\0",
     b"cargo::rerun-if-env-changed==",
@@ -216,7 +209,7 @@ const BAD_VALUES: [&[u8]; 24] = [
 ];
 
 /// Lines that are near to those, and what they say.
-const NEAR_VALUES: [(&[u8], &str); 10] = [
+const NEAR_VALUES: &[(&[u8], &str)] = &[
     (b"cargo::rustc-flags=-L", "BadFlag 1"),
     (b"cargo::rustc-flags=-l", "BadFlag 1"),
     (b"cargo::rustc-flags=-L a -L", "BadFlag 1"),
@@ -231,33 +224,36 @@ const NEAR_VALUES: [(&[u8], &str); 10] = [
 
 #[test]
 fn values_that_a_key_may_not_have(rt: HostRuntime) -> Result<(), Fail> {
-    for line in BAD_VALUES {
-        expect_directives(&rt, rt.alloc(), line, "BadValue 1")?;
+    for (place, line) in BAD_VALUES.iter().enumerate() {
+        assert!(rt; says(rt.alloc(), *line, "BadValue 1")?, "case {place}");
     }
-    for (line, want) in NEAR_VALUES {
-        expect_directives(&rt, rt.alloc(), line, want)?;
-    }
+    assert_outputs(&rt, rt.alloc(), NEAR_VALUES)?;
     Ok(())
+}
+
+/// What the first so many bytes of the line `cargo::rustc-cfg=ab` say, but for all of them.
+fn said_by_prefix(end: usize) -> &'static str {
+    if end < 7 {
+        ""
+    } else if end < 18 {
+        "BadValue 1"
+    } else {
+        "cfg<a><>;"
+    }
 }
 
 #[test]
 fn prefixes_of_a_line(rt: HostRuntime) -> Result<(), Fail> {
-    let text = b"cargo::rustc-cfg=ab";
-    for end in 0..text.len() {
-        let want = if end < 7 {
-            ""
-        } else if end < 18 {
-            "BadValue 1"
-        } else {
-            "cfg<a><>;"
-        };
-        expect_directives(&rt, rt.alloc(), &text[..end], want)?;
+    let line = b"cargo::rustc-cfg=ab";
+    for end in 0..line.len() {
+        let wanted = said_by_prefix(end);
+        assert!(rt; says(rt.alloc(), &line[..end], wanted)?, "{end} bytes");
     }
     Ok(())
 }
 
 /// Dep-info, and what it names.
-const RULES: [(&[u8], &str); 35] = [
+const RULES: &[(&[u8], &str)] = &[
     (
         b"o: /w/a\\ b.rs /w/c.rs\n# env-dep:V\n",
         "/w/a b.rs;/w/c.rs; V;",
@@ -298,14 +294,25 @@ const RULES: [(&[u8], &str); 35] = [
     (b" # env-dep:A", "BadValue 1"),
 ];
 
+/// Whether dep-info names this.
+fn tells(alloc: Global, dep_info: &[u8], wanted: &str) -> Result<bool, AllocError> {
+    let found = names_in(alloc, dep_info)?;
+    Ok(found.as_str() == wanted)
+}
+
 #[test]
 fn rules_and_variables(rt: HostRuntime) -> Result<(), Fail> {
-    for (bytes, want) in RULES {
-        expect_names(&rt, rt.alloc(), bytes, want)?;
+    for (place, case) in RULES.iter().enumerate() {
+        let (dep_info, wanted) = *case;
+        assert!(rt;
+            tells(rt.alloc(), dep_info, wanted)?,
+            "case {place}: {wanted}"
+        );
     }
     Ok(())
 }
 
+/// Some bytes, and one byte so many times behind them.
 fn of_bytes(alloc: Global, start: &[u8], byte: u8, count: usize) -> Result<Vec<u8>, AllocError> {
     let mut made = Vec::from_slice(alloc, start)?;
     for _ in 0..count {
@@ -314,45 +321,91 @@ fn of_bytes(alloc: Global, start: &[u8], byte: u8, count: usize) -> Result<Vec<u
     Ok(made)
 }
 
+/// Whether a line of so many bytes that is no directive says nothing as output, and is refused as dep-info.
+fn plain_line_is_read(alloc: Global, length: usize) -> Result<bool, AllocError> {
+    let plain = of_bytes(alloc, b"", b'a', length)?;
+    Ok(says(alloc, plain.as_slice(), "")? && tells(alloc, plain.as_slice(), "BadValue 1")?)
+}
+
+/// Whether a script's output says one warning, of this length.
+fn warns_at_length(alloc: Global, output: &[u8], length: usize) -> Result<bool, LineFault> {
+    let directives = read_directives(alloc, output)?;
+    match directives.as_slice() {
+        [Directive::Warning(text)] => Ok(text.as_str().len() == length),
+        _ => Ok(false),
+    }
+}
+
+/// Whether dep-info names one path, of this length.
+fn names_at_length(alloc: Global, dep_info: &[u8], length: usize) -> Result<bool, LineFault> {
+    let info = read_dep_info(alloc, dep_info)?;
+    match info.words.as_slice() {
+        [text] => Ok(text.as_str().len() == length),
+        _ => Ok(false),
+    }
+}
+
 #[test]
-fn long_lines(rt: HostRuntime) -> Result<(), Fail> {
-    let plain = of_bytes(rt.alloc(), b"", b'a', 4_194_304)?;
-    expect_directives(&rt, rt.alloc(), plain.as_slice(), "")?;
-    expect_names(&rt, rt.alloc(), plain.as_slice(), "BadValue 1")?;
-    let warning = of_bytes(rt.alloc(), b"cargo::warning=", b'w', 4_194_289)?;
-    match read_directives(rt.alloc(), warning.as_slice())?.as_slice() {
-        [Directive::Warning(text)] => assert_eq!(rt; text.as_str().len(), 4_194_289),
-        _ => assert!(rt; false),
-    }
-    let word = of_bytes(rt.alloc(), b"o: ", b'w', 4_194_301)?;
-    match read_dep_info(rt.alloc(), word.as_slice())?.words.as_slice() {
-        [text] => assert_eq!(rt; text.as_str().len(), 4_194_301),
-        _ => assert!(rt; false),
-    }
+fn long_plain_lines(rt: HostRuntime) -> Result<(), Fail> {
+    assert!(rt; plain_line_is_read(rt.alloc(), 4_194_304)?);
     Ok(())
+}
+
+#[test]
+fn long_warnings(rt: HostRuntime) -> Result<(), Fail> {
+    let output = of_bytes(rt.alloc(), b"cargo::warning=", b'w', 4_194_289)?;
+    assert!(rt; warns_at_length(rt.alloc(), output.as_slice(), 4_194_289)?);
+    Ok(())
+}
+
+#[test]
+fn long_paths(rt: HostRuntime) -> Result<(), Fail> {
+    let dep_info = of_bytes(rt.alloc(), b"o: ", b'w', 4_194_301)?;
+    assert!(rt; names_at_length(rt.alloc(), dep_info.as_slice(), 4_194_301)?);
+    Ok(())
+}
+
+/// Whether a name is among the words of dep-info, and not among its variables.
+fn is_word_alone(info: &DepInfo, name: &Text) -> bool {
+    info.words.contains(name) && !info.variables.contains(name)
+}
+
+/// How many words dep-info has.
+fn count_words(alloc: Global, info: DepInfo) -> Result<usize, AllocError> {
+    let words = info.words.into_items(alloc)?;
+    Ok(words.len())
 }
 
 #[test]
 fn mentions_give_items(rt: HostRuntime) -> Result<(), Fail> {
-    let info = read_dep_info(rt.alloc(), b"o: b a b")?;
     let name = Text::from_str(rt.alloc(), "a")?;
-    assert!(rt; info.words.contains(&name));
-    assert!(rt; !info.variables.contains(&name));
-    assert_eq!(rt; info.words.into_items(rt.alloc())?.len(), 2);
+    let info = read_dep_info(rt.alloc(), b"o: b a b")?;
+    let is_word = is_word_alone(&info, &name);
+    let count = count_words(rt.alloc(), info)?;
+    assert!(rt; is_word && count == 2);
     Ok(())
+}
+
+/// Faults of a line, and what they are in words.
+const FAULTS_IN_WORDS: &[(LineFault, &str)] = &[
+    (LineFault::NotText(1), "line 1 is not UTF-8"),
+    (LineFault::UnknownKey(23), "line 23 has an unknown key"),
+    (LineFault::BadValue(4), "line 4 has a bad value"),
+    (LineFault::BadFlag(5), "line 5 has a bad flag"),
+    (LineFault::OutOfMemory, "out of memory"),
+];
+
+/// Whether a fault is this in words.
+fn reads(alloc: Global, fault: LineFault, wanted: &str) -> Result<bool, AllocError> {
+    let words = format!(in alloc; "{fault}")?;
+    Ok(words.as_str() == wanted)
 }
 
 #[test]
 fn faults_in_words(rt: HostRuntime) -> Result<(), Fail> {
-    for (fault, want) in [
-        (LineFault::NotText(1), "line 1 is not UTF-8"),
-        (LineFault::UnknownKey(23), "line 23 has an unknown key"),
-        (LineFault::BadValue(4), "line 4 has a bad value"),
-        (LineFault::BadFlag(5), "line 5 has a bad flag"),
-        (LineFault::OutOfMemory, "out of memory"),
-    ] {
-        let words = format!(in rt.alloc(); "{fault}")?;
-        assert_eq!(rt; words.as_str(), want);
+    for case in FAULTS_IN_WORDS {
+        let (fault, wanted) = *case;
+        assert!(rt; reads(rt.alloc(), fault, wanted)?, "{wanted}");
     }
     Ok(())
 }

@@ -8,6 +8,8 @@ mod data;
 #[cfg(test)]
 mod directives;
 #[cfg(test)]
+mod faults;
+#[cfg(test)]
 mod json;
 #[cfg(test)]
 mod metadata;

@@ -15,24 +15,47 @@ fn show_pairs(alloc: Global, pairs: &Items<(Text, Text)>) -> Result<String, Allo
     Ok(shown)
 }
 
+/// What a script of `z-libß` passes on.
+fn passed_on(alloc: Global) -> Result<Table<Text>, Fail> {
+    let text = b"cargo::metadata=root-dir=/r\ncargo:b=1\ncargo::warning=w\ncargo:Root_Dir=/s\n";
+    let directives = read_directives(alloc, text)?;
+    Ok(dep_pairs(alloc, "z-lib\u{df}", &directives)?)
+}
+
+/// Whether a table has this value under a name.
+fn has(table: &Table<Text>, name: &Text, wanted: &str) -> bool {
+    match table.get(name) {
+        Some(value) => table.contains(name) && value.as_str() == wanted,
+        None => false,
+    }
+}
+
+/// Whether a table begins with this name.
+fn begins(table: &Table<Text>, wanted: &str) -> bool {
+    let mut entries = table.iter();
+    match entries.next() {
+        Some((first, _)) => first.as_str() == wanted,
+        None => false,
+    }
+}
+
+/// Whether a table has two pairs, of which the one of `B` is looked up and the other stands first.
+fn is_right(alloc: Global, pairs: &Table<Text>) -> Result<bool, AllocError> {
+    let name = Text::from_str(alloc, "DEP_Z_LIBSS_B")?;
+    Ok(pairs.len() == 2 && has(pairs, &name, "1") && begins(pairs, "DEP_Z_LIBSS_ROOT_DIR"))
+}
+
+/// Whether these are all pairs of a table, in its order.
+fn are_all(alloc: Global, pairs: Table<Text>, wanted: &str) -> Result<bool, AllocError> {
+    let shown = show_pairs(alloc, &pairs.into_items(alloc)?)?;
+    Ok(shown.as_str() == wanted)
+}
+
 #[test]
 fn metadata_is_passed_on(rt: HostRuntime) -> Result<(), Fail> {
-    let text = b"cargo::metadata=root-dir=/r\ncargo:b=1\ncargo::warning=w\ncargo:Root_Dir=/s\n";
-    let directives = read_directives(rt.alloc(), text)?;
-    let pairs: Table<Text> = dep_pairs(rt.alloc(), "z-lib\u{df}", &directives)?;
-    assert_eq!(rt; pairs.len(), 2);
-    let name = Text::from_str(rt.alloc(), "DEP_Z_LIBSS_B")?;
-    assert!(rt; pairs.contains(&name));
-    match pairs.get(&name) {
-        Some(value) => assert_eq!(rt; value.as_str(), "1"),
-        None => assert!(rt; false),
-    }
-    let mut entries = pairs.iter();
-    match entries.next() {
-        Some((first, _)) => assert_eq!(rt; first.as_str(), "DEP_Z_LIBSS_ROOT_DIR"),
-        None => assert!(rt; false),
-    }
-    let shown = show_pairs(rt.alloc(), &pairs.into_items(rt.alloc())?)?;
-    assert_eq!(rt; shown.as_str(), "DEP_Z_LIBSS_ROOT_DIR=/s;DEP_Z_LIBSS_B=1;");
+    let pairs = passed_on(rt.alloc())?;
+    assert!(rt; is_right(rt.alloc(), &pairs)?);
+    let wanted = "DEP_Z_LIBSS_ROOT_DIR=/s;DEP_Z_LIBSS_B=1;";
+    assert!(rt; are_all(rt.alloc(), pairs, wanted)?);
     Ok(())
 }

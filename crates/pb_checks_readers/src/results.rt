@@ -3,61 +3,50 @@
 ghost use Rattle.std.specs.Prelude.{◌≡◌};
 ghost use Rattle.pb_report.specs.Faults.{is_outside};
 
+use crate::faults::{
+    build_fault, child_fault, device_fault, keys, refused_manifest, refused_plan,
+    refused_workspace, unit_fault,
+};
 use pb_command::UnitFault;
 use pb_data::{Items, Text};
 use pb_directive::LineFault;
 use pb_feature::FeatureFault;
 use pb_manifest::{Key, ManifestFault};
-use pb_place::{PathText, PlaceFault, StartFault};
+use pb_place::{PathFault, PlaceFault, StartFault};
 use pb_profile::ProfileFault;
 use pb_report::{BuildFault, Refusal, Summary, result_line};
 use pb_unit::PlanFault;
-use pb_workspace::LoadFault;
-use std::alloc::Global;
-use std::process::Abort;
+use std::alloc::{AllocError, Global};
 use std::test::Fail;
 
-/// Whether a line is the one that is wanted.
+/// Whether the line of a build is this.
 fn says(
-    rt: &impl Abort,
     alloc: Global,
-    answer: Result<Summary, BuildFault>,
-    want: &str,
-) -> Result<(), Fail> {
-    let line = result_line(alloc, &answer)?;
-    assert_eq!(rt; line.as_str(), want);
-    Ok(())
+    answer: &Result<Summary, BuildFault>,
+    wanted: &str,
+) -> Result<bool, AllocError> {
+    let line = result_line(alloc, answer)?;
+    Ok(line.as_str() == wanted)
 }
 
-/// The keys that a text has, with spaces between them.
-fn keys(alloc: Global, text: &str) -> Result<Items<Text>, Fail> {
-    let mut keys = Items::new(alloc);
-    for key in text.split_whitespace() {
-        keys.push(Text::from_str(alloc, key)?)?;
-    }
-    Ok(keys)
-}
-
-/// Whether the line of a build that came to its end is the one that is wanted: `bad` has the key of the first bad unit
-/// and its fault.
+/// Whether the line of a build that came to its end is this: `bad` has the key of the first bad unit and its fault.
 fn ends_with(
-    rt: &impl Abort,
     alloc: Global,
     bad: Option<(Text, UnitFault)>,
     started: &str,
-    want: &str,
-) -> Result<(), Fail> {
+    wanted: &str,
+) -> Result<bool, AllocError> {
     let summary = Summary {
         success: bad.is_none(),
         bad,
         started: keys(alloc, started)?,
         directives: Items::new(alloc),
     };
-    says(rt, alloc, Ok(summary), want)
+    says(alloc, &Ok(summary), wanted)
 }
 
 /// The keys of what was started, and the line where all is good.
-const GOOD_ENDS: [(&str, &str); 4] = [
+const GOOD_ENDS: &[(&str, &str)] = &[
     ("", "ok started=-"),
     ("a.target.lib", "ok started=a.target.lib"),
     (
@@ -72,26 +61,26 @@ const GOOD_ENDS: [(&str, &str); 4] = [
 
 #[test]
 fn good_ends(rt: HostRuntime) -> Result<(), Fail> {
-    for (started, want) in GOOD_ENDS {
-        ends_with(&rt, rt.alloc(), None, started, want)?;
+    for case in GOOD_ENDS {
+        let (started, wanted) = *case;
+        assert!(rt; ends_with(rt.alloc(), None, started, wanted)?, "{wanted}");
     }
     Ok(())
 }
 
-/// Whether the line of a build with a bad unit is the one that is wanted.
+/// Whether the line of a build with this fault of a unit is this.
 fn ends_badly(
-    rt: &impl Abort,
     alloc: Global,
     fault: UnitFault,
     started: &str,
-    want: &str,
-) -> Result<(), Fail> {
+    wanted: &str,
+) -> Result<bool, AllocError> {
     let unit = Text::from_str(alloc, "a.target.lib")?;
-    ends_with(rt, alloc, Some((unit, fault)), started, want)
+    ends_with(alloc, Some((unit, fault)), started, wanted)
 }
 
 /// The number of a status, the keys of what was started, and the line.
-const STATUSES: [(i32, &str, &str); 4] = [
+const STATUSES: &[(i32, &str, &str)] = &[
     (
         1,
         "a.target.lib",
@@ -112,211 +101,266 @@ const STATUSES: [(i32, &str, &str); 4] = [
 
 #[test]
 fn bad_statuses(rt: HostRuntime) -> Result<(), Fail> {
-    for (status, started, want) in STATUSES {
-        ends_badly(&rt, rt.alloc(), UnitFault::Status(status), started, want)?;
+    for case in STATUSES {
+        let (status, started, wanted) = *case;
+        let fault = UnitFault::Status(status);
+        assert!(rt; ends_badly(rt.alloc(), fault, started, wanted)?, "{wanted}");
     }
     Ok(())
 }
 
+/// What is wrong with a line of a script's output, and the result line.
+const BAD_LINES: &[(LineFault, &str)] = &[
+    (
+        LineFault::NotText(1),
+        "bad a.target.lib Directive(NotText) started=-",
+    ),
+    (
+        LineFault::UnknownKey(2),
+        "bad a.target.lib Directive(UnknownKey) started=-",
+    ),
+    (
+        LineFault::BadValue(3),
+        "bad a.target.lib Directive(BadValue) started=-",
+    ),
+    (
+        LineFault::BadFlag(4),
+        "bad a.target.lib Directive(BadFlag) started=-",
+    ),
+    (
+        LineFault::OutOfMemory,
+        "bad a.target.lib Directive(OutOfMemory) started=-",
+    ),
+];
+
 #[test]
 fn bad_lines(rt: HostRuntime) -> Result<(), Fail> {
-    for (fault, want) in [
-        (
-            LineFault::NotText(1),
-            "bad a.target.lib Directive(NotText) started=-",
-        ),
-        (
-            LineFault::UnknownKey(2),
-            "bad a.target.lib Directive(UnknownKey) started=-",
-        ),
-        (
-            LineFault::BadValue(3),
-            "bad a.target.lib Directive(BadValue) started=-",
-        ),
-        (
-            LineFault::BadFlag(4),
-            "bad a.target.lib Directive(BadFlag) started=-",
-        ),
-        (
-            LineFault::OutOfMemory,
-            "bad a.target.lib Directive(OutOfMemory) started=-",
-        ),
-    ] {
-        ends_badly(&rt, rt.alloc(), UnitFault::Directive(fault), "", want)?;
+    for case in BAD_LINES {
+        let (fault, wanted) = *case;
+        let fault = UnitFault::Directive(fault);
+        assert!(rt; ends_badly(rt.alloc(), fault, "", wanted)?, "{wanted}");
     }
     Ok(())
+}
+
+/// The other faults of a unit, and the line.
+const BAD_ENDS: &[(&str, &str)] = &[
+    ("NoDepInfo", "bad a.target.lib NoDepInfo started=b"),
+    ("ForeignInput", "bad a.target.lib ForeignInput started=b"),
+    ("OutputTooLong", "bad a.target.lib OutputTooLong started=b"),
+    ("OutOfMemory", "bad a.target.lib OutOfMemory started=b"),
+];
+
+/// Whether the line of a build with the fault of this name is this.
+fn ends_badly_by(alloc: Global, name: &str, wanted: &str) -> Result<bool, PathFault> {
+    let fault = unit_fault(alloc, name)?;
+    Ok(ends_badly(alloc, fault, "b", wanted)?)
 }
 
 #[test]
 fn bad_ends(rt: HostRuntime) -> Result<(), Fail> {
-    let alloc = rt.alloc();
-    let foreign = PathText::parse(alloc, "/w/target/x")?;
-    for (fault, want) in [
-        (UnitFault::NoDepInfo, "bad a.target.lib NoDepInfo started=b"),
-        (
-            UnitFault::ForeignInput(foreign),
-            "bad a.target.lib ForeignInput started=b",
-        ),
-        (
-            UnitFault::OutputTooLong,
-            "bad a.target.lib OutputTooLong started=b",
-        ),
-        (
-            UnitFault::OutOfMemory,
-            "bad a.target.lib OutOfMemory started=b",
-        ),
-    ] {
-        ends_badly(&rt, alloc, fault, "b", want)?;
+    for case in BAD_ENDS {
+        let (name, wanted) = *case;
+        assert!(rt; ends_badly_by(rt.alloc(), name, wanted)?, "{wanted}");
     }
     Ok(())
 }
 
-/// The refusal of a manifest for this fault.
-fn refused(alloc: Global, fault: ManifestFault) -> Result<BuildFault, Fail> {
-    let path = PathText::parse(alloc, "/w/m/Cargo.toml")?;
-    Ok(BuildFault::Plan(Refusal::Load(LoadFault::Manifest(path, fault))))
+/// Whether the line of a build that ended with this fault is this.
+fn fails_with(alloc: Global, fault: BuildFault, wanted: &str) -> Result<bool, AllocError> {
+    says(alloc, &Err(fault), wanted)
+}
+
+/// Faults of a manifest, and the line.
+const REFUSED_MANIFESTS: &[(ManifestFault, &str)] = &[
+    (ManifestFault::NotToml, "refused NotToml"),
+    (ManifestFault::BadKind(Key::Package), "refused BadKind"),
+    (ManifestFault::BadName, "refused BadName"),
+    (ManifestFault::BadVersion, "refused BadVersion"),
+    (ManifestFault::UnsupportedTable, "refused UnsupportedTable"),
+    (
+        ManifestFault::UnsupportedSource,
+        "refused UnsupportedSource",
+    ),
+    (
+        ManifestFault::UnsupportedCrateType,
+        "refused UnsupportedCrateType",
+    ),
+    (ManifestFault::BadProfile, "refused BadProfile"),
+    (ManifestFault::BadFeature, "refused BadFeature"),
+    (ManifestFault::TooLarge, "refused TooLarge"),
+    (ManifestFault::OldResolver, "refused OldResolver"),
+    (ManifestFault::OutOfMemory, "refused OutOfMemory"),
+];
+
+/// Whether the line of a build whose manifest has this fault is this.
+fn refuses_manifest(alloc: Global, fault: ManifestFault, wanted: &str) -> Result<bool, PathFault> {
+    let fault = refused_manifest(alloc, fault)?;
+    Ok(fails_with(alloc, fault, wanted)?)
 }
 
 #[test]
 fn refused_manifests(rt: HostRuntime) -> Result<(), Fail> {
-    let alloc = rt.alloc();
-    for (fault, want) in [
-        (ManifestFault::NotToml, "refused NotToml"),
-        (ManifestFault::BadKind(Key::Package), "refused BadKind"),
-        (ManifestFault::BadName, "refused BadName"),
-        (ManifestFault::BadVersion, "refused BadVersion"),
-        (ManifestFault::UnsupportedTable, "refused UnsupportedTable"),
-        (
-            ManifestFault::UnsupportedSource,
-            "refused UnsupportedSource",
-        ),
-        (
-            ManifestFault::UnsupportedCrateType,
-            "refused UnsupportedCrateType",
-        ),
-        (ManifestFault::BadProfile, "refused BadProfile"),
-        (ManifestFault::BadFeature, "refused BadFeature"),
-        (ManifestFault::TooLarge, "refused TooLarge"),
-        (ManifestFault::OldResolver, "refused OldResolver"),
-        (ManifestFault::OutOfMemory, "refused OutOfMemory"),
-    ] {
-        says(&rt, alloc, Err(refused(alloc, fault)?), want)?;
+    for case in REFUSED_MANIFESTS {
+        let (fault, wanted) = *case;
+        assert!(rt; refuses_manifest(rt.alloc(), fault, wanted)?, "{wanted}");
     }
     Ok(())
+}
+
+/// Faults of a workspace, and the line.
+const REFUSED_WORKSPACES: &[(&str, &str)] = &[
+    ("NoManifest", "refused NoManifest"),
+    ("SameName", "refused SameName"),
+    ("NameMismatch", "refused NameMismatch"),
+    ("VersionMismatch", "refused VersionMismatch"),
+    ("LinksTwice", "refused LinksTwice"),
+    ("LinksWithoutScript", "refused LinksWithoutScript"),
+    ("NoInherited", "refused NoInherited"),
+    ("TooMany", "refused TooMany"),
+    ("SameBinary", "refused SameBinary"),
+    ("Place", "refused Place"),
+    ("NoSuchPackage", "refused NoSuchPackage"),
+    ("OutOfMemory", "refused OutOfMemory"),
+];
+
+/// Whether the line of a build whose workspace has the fault of this name is this.
+fn refuses_workspace(alloc: Global, name: &str, wanted: &str) -> Result<bool, PathFault> {
+    let fault = refused_workspace(alloc, name)?;
+    Ok(fails_with(alloc, fault, wanted)?)
 }
 
 #[test]
 fn refused_workspaces(rt: HostRuntime) -> Result<(), Fail> {
-    let alloc = rt.alloc();
-    let absent = PathText::parse(alloc, "/w/Cargo.toml")?;
-    let unread = PathText::parse(alloc, "/w/Cargo.toml")?;
-    for (fault, want) in [
-        (LoadFault::NoManifest(absent), "refused NoManifest"),
-        (LoadFault::SameName, "refused SameName"),
-        (LoadFault::NameMismatch, "refused NameMismatch"),
-        (LoadFault::VersionMismatch, "refused VersionMismatch"),
-        (LoadFault::LinksTwice, "refused LinksTwice"),
-        (LoadFault::LinksWithoutScript, "refused LinksWithoutScript"),
-        (LoadFault::NoInherited, "refused NoInherited"),
-        (LoadFault::TooMany, "refused TooMany"),
-        (LoadFault::SameBinary, "refused SameBinary"),
-        (LoadFault::Place(unread, PlaceFault::Read), "refused Place"),
-        (LoadFault::NoSuchPackage, "refused NoSuchPackage"),
-        (LoadFault::OutOfMemory, "refused OutOfMemory"),
-    ] {
-        let answer = Err(BuildFault::Plan(Refusal::Load(fault)));
-        says(&rt, alloc, answer, want)?;
+    for case in REFUSED_WORKSPACES {
+        let (name, wanted) = *case;
+        assert!(rt; refuses_workspace(rt.alloc(), name, wanted)?, "{wanted}");
     }
     Ok(())
 }
+
+/// Faults of features, and the line.
+const REFUSED_FEATURES: &[(FeatureFault, &str)] = &[
+    (FeatureFault::NoSuchFeature, "refused NoSuchFeature"),
+    (FeatureFault::NoSuchDependency, "refused NoSuchDependency"),
+    (FeatureFault::NotOptional, "refused NotOptional"),
+    (FeatureFault::OutOfMemory, "refused OutOfMemory"),
+];
 
 #[test]
 fn refused_features(rt: HostRuntime) -> Result<(), Fail> {
-    for (fault, want) in [
-        (FeatureFault::NoSuchFeature, "refused NoSuchFeature"),
-        (FeatureFault::NoSuchDependency, "refused NoSuchDependency"),
-        (FeatureFault::NotOptional, "refused NotOptional"),
-        (FeatureFault::OutOfMemory, "refused OutOfMemory"),
-    ] {
-        let answer = Err(BuildFault::Plan(Refusal::Feature(fault)));
-        says(&rt, rt.alloc(), answer, want)?;
+    for case in REFUSED_FEATURES {
+        let (fault, wanted) = *case;
+        let fault = BuildFault::Plan(Refusal::Feature(fault));
+        assert!(rt; fails_with(rt.alloc(), fault, wanted)?, "{wanted}");
     }
     Ok(())
 }
 
+/// Faults of a profile, and the line.
+const REFUSED_PROFILES: &[(ProfileFault, &str)] = &[
+    (ProfileFault::NoSuchProfile, "refused NoSuchProfile"),
+    (ProfileFault::InheritsCycle, "refused InheritsCycle"),
+    (ProfileFault::NotInOverride, "refused NotInOverride"),
+    (ProfileFault::OutOfMemory, "refused OutOfMemory"),
+];
+
 #[test]
 fn refused_profiles(rt: HostRuntime) -> Result<(), Fail> {
-    for (fault, want) in [
-        (ProfileFault::NoSuchProfile, "refused NoSuchProfile"),
-        (ProfileFault::InheritsCycle, "refused InheritsCycle"),
-        (ProfileFault::NotInOverride, "refused NotInOverride"),
-        (ProfileFault::OutOfMemory, "refused OutOfMemory"),
-    ] {
-        let answer = Err(BuildFault::Plan(Refusal::Plan(PlanFault::Profile(fault))));
-        says(&rt, rt.alloc(), answer, want)?;
+    for case in REFUSED_PROFILES {
+        let (fault, wanted) = *case;
+        let fault = BuildFault::Plan(Refusal::Plan(PlanFault::Profile(fault)));
+        assert!(rt; fails_with(rt.alloc(), fault, wanted)?, "{wanted}");
     }
     Ok(())
+}
+
+/// Faults of a plan, and the line.
+const REFUSED_PLANS: &[(&str, &str)] = &[
+    ("Cycle", "refused Cycle"),
+    ("TooManyUnits", "refused TooManyUnits"),
+    ("NothingToBuild", "refused NothingToBuild"),
+    ("OutOfMemory", "refused OutOfMemory"),
+];
+
+/// Whether the line of a build whose plan has the fault of this name is this.
+fn refuses_plan(alloc: Global, name: &str, wanted: &str) -> Result<bool, AllocError> {
+    let fault = refused_plan(alloc, name)?;
+    fails_with(alloc, fault, wanted)
 }
 
 #[test]
 fn refused_plans(rt: HostRuntime) -> Result<(), Fail> {
-    let alloc = rt.alloc();
-    let circle = keys(alloc, "a b")?;
-    for (fault, want) in [
-        (PlanFault::Cycle(circle), "refused Cycle"),
-        (PlanFault::TooManyUnits, "refused TooManyUnits"),
-        (PlanFault::NothingToBuild, "refused NothingToBuild"),
-        (PlanFault::OutOfMemory, "refused OutOfMemory"),
-    ] {
-        says(
-            &rt,
-            alloc,
-            Err(BuildFault::Plan(Refusal::Plan(fault))),
-            want,
-        )?;
+    for case in REFUSED_PLANS {
+        let (name, wanted) = *case;
+        assert!(rt; refuses_plan(rt.alloc(), name, wanted)?, "{wanted}");
     }
     Ok(())
 }
 
+/// The key of a child, why it gave no answer, and the line.
+const FAULTS_OF_CHILDREN: &[(&str, StartFault, &str)] = &[
+    ("-vV", StartFault::CannotStart, "fault -vV CannotStart"),
+    ("a.target.lib", StartFault::Died, "fault a.target.lib Died"),
+    (
+        "a.target.lib",
+        StartFault::Capture,
+        "fault a.target.lib Capture",
+    ),
+    (
+        "a.target.lib",
+        StartFault::OutOfMemory,
+        "fault a.target.lib OutOfMemory",
+    ),
+];
+
+/// Whether the line of a build whose child of this key gave no answer is this.
+fn child_fails(
+    alloc: Global,
+    key: &str,
+    fault: StartFault,
+    wanted: &str,
+) -> Result<bool, AllocError> {
+    let fault = child_fault(alloc, key, fault)?;
+    fails_with(alloc, fault, wanted)
+}
+
+#[test]
+fn faults_of_children(rt: HostRuntime) -> Result<(), Fail> {
+    for case in FAULTS_OF_CHILDREN {
+        let (key, fault, wanted) = *case;
+        assert!(rt; child_fails(rt.alloc(), key, fault, wanted)?, "{wanted}");
+    }
+    Ok(())
+}
+
+/// Faults of a build, and the line.
+const FAULTS: &[(&str, &str)] = &[
+    ("Toolchain", "fault -vV Toolchain"),
+    ("Sink", "fault sink Sink"),
+    ("OutOfMemory", "fault memory OutOfMemory"),
+];
+
+/// Whether the line of a build with the fault of this name is this.
+fn build_fails(alloc: Global, name: &str, wanted: &str) -> Result<bool, AllocError> {
+    let fault = build_fault(alloc, name)?;
+    fails_with(alloc, fault, wanted)
+}
+
+/// Whether the line of a build that could not read a manifest is this.
+fn device_fails(alloc: Global, wanted: &str) -> Result<bool, AllocError> {
+    let fault = device_fault(alloc, "/w/Cargo.toml", PlaceFault::Read)?;
+    fails_with(alloc, fault, wanted)
+}
+
 #[test]
 fn faults(rt: HostRuntime) -> Result<(), Fail> {
-    let alloc = rt.alloc();
-    for (at, fault, want) in [
-        ("-vV", StartFault::CannotStart, "fault -vV CannotStart"),
-        ("a.target.lib", StartFault::Died, "fault a.target.lib Died"),
-        (
-            "a.target.lib",
-            StartFault::Capture,
-            "fault a.target.lib Capture",
-        ),
-        (
-            "a.target.lib",
-            StartFault::OutOfMemory,
-            "fault a.target.lib OutOfMemory",
-        ),
-    ] {
-        let unit = Text::from_str(alloc, at)?;
-        says(&rt, alloc, Err(BuildFault::Child { unit, fault }), want)?;
+    for case in FAULTS {
+        let (name, wanted) = *case;
+        assert!(rt; build_fails(rt.alloc(), name, wanted)?, "{wanted}");
     }
-    let unit = Text::from_str(alloc, "/w/Cargo.toml")?;
-    let device = BuildFault::Device {
-        unit,
-        fault: PlaceFault::Read,
-    };
-    says(&rt, alloc, Err(device), "fault /w/Cargo.toml Device")?;
-    says(
-        &rt,
-        alloc,
-        Err(BuildFault::Toolchain),
-        "fault -vV Toolchain",
-    )?;
-    says(&rt, alloc, Err(BuildFault::Sink), "fault sink Sink")?;
-    says(
-        &rt,
-        alloc,
-        Err(BuildFault::OutOfMemory),
-        "fault memory OutOfMemory",
-    )
+    assert!(rt; device_fails(rt.alloc(), "fault /w/Cargo.toml Device")?);
+    Ok(())
 }
 
 /// Whether a fault comes from outside the rules.
@@ -331,23 +375,27 @@ fn is_outside(fault: &BuildFault) -> bool
     }
 }
 
+/// Whether the fault of this name comes from outside the rules.
+fn is_outside_by_name(alloc: Global, name: &str) -> Result<bool, AllocError> {
+    let fault = build_fault(alloc, name)?;
+    Ok(is_outside(&fault))
+}
+
+/// Faults of a build, and whether each comes from outside the rules.
+const ORIGINS: &[(&str, bool)] = &[
+    ("Child", true),
+    ("Device", true),
+    ("Sink", true),
+    ("OutOfMemory", true),
+    ("Plan", false),
+    ("Toolchain", false),
+];
+
 #[test]
 fn outside(rt: HostRuntime) -> Result<(), Fail> {
-    let alloc = rt.alloc();
-    let child = BuildFault::Child {
-        unit: Text::from_str(alloc, "-vV")?,
-        fault: StartFault::Died,
-    };
-    let device = BuildFault::Device {
-        unit: Text::from_str(alloc, "/w")?,
-        fault: PlaceFault::List,
-    };
-    for fault in [&child, &device, &BuildFault::Sink, &BuildFault::OutOfMemory] {
-        assert!(rt; is_outside(fault), "{fault}");
-    }
-    let plan = BuildFault::Plan(Refusal::Plan(PlanFault::NothingToBuild));
-    for fault in [&plan, &BuildFault::Toolchain] {
-        assert!(rt; !is_outside(fault), "{fault}");
+    for case in ORIGINS {
+        let (name, wanted) = *case;
+        assert_eq!(rt; is_outside_by_name(rt.alloc(), name)?, wanted, "{name}");
     }
     Ok(())
 }

@@ -1,6 +1,6 @@
 //! What session files say, against worked examples.
 
-use pb_data::{Items, Text};
+use pb_data::Text;
 use pb_session::{BadSession, SessionStep, read_session};
 use pb_workspace::Options;
 use std::alloc::{AllocError, Global};
@@ -22,20 +22,19 @@ fn shown_texts(alloc: Global, name: &str, texts: &[Text]) -> Result<String, Allo
     Ok(shown)
 }
 
-/// The names of the options of a build that are on.
+/// The names of the options of a build that are on, with a space before each.
 fn shown_switches(alloc: Global, options: &Options) -> Result<String, AllocError> {
     let mut shown = String::new(alloc);
-    for (name, is_on) in [
-        ("workspace", options.workspace),
-        ("all_features", options.all_features),
-        ("no_default_features", options.no_default_features),
-        ("lib", options.lib),
-        ("bins", options.bins),
-    ] {
-        if is_on {
-            shown.push_str(" ")?;
-            shown.push_str(name)?;
-        }
+    let switches: &[(&str, bool)] = &[
+        (" workspace", options.workspace),
+        (" all_features", options.all_features),
+        (" no_default_features", options.no_default_features),
+        (" lib", options.lib),
+        (" bins", options.bins),
+    ];
+    for switch in switches {
+        let (name, is_on) = *switch;
+        shown.push_str(if is_on { name } else { "" })?;
     }
     Ok(shown)
 }
@@ -84,8 +83,14 @@ fn shown(alloc: Global, bytes: &[u8]) -> Result<String, AllocError> {
     Ok(text)
 }
 
+/// Whether a session file says this.
+fn says(alloc: Global, session: &[u8], wanted: &str) -> Result<bool, AllocError> {
+    let found = shown(alloc, session)?;
+    Ok(found.as_str() == wanted)
+}
+
 /// Session files and their steps.
-const GOOD: [(&str, &str); 17] = [
+const GOOD: &[(&str, &str)] = &[
     ("[]", ""),
     (" [ ] ", ""),
     (r#"[{"write":["/w/a.rs","x\n"]}]"#, "write</w/a.rs><x\n>;"),
@@ -117,15 +122,15 @@ const GOOD: [(&str, &str); 17] = [
 
 #[test]
 fn sessions(rt: HostRuntime) -> Result<(), Fail> {
-    for (session, want) in GOOD {
-        let answer = shown(rt.alloc(), session.as_bytes())?;
-        assert_eq!(rt; answer.as_str(), want, "{session}");
+    for case in GOOD {
+        let (session, wanted) = *case;
+        assert!(rt; says(rt.alloc(), session.as_bytes(), wanted)?, "{session}");
     }
     Ok(())
 }
 
 /// Files that are no session.
-const BAD: [&str; 44] = [
+const BAD: &[&str] = &[
     "",
     "[",
     "{}",
@@ -174,19 +179,23 @@ const BAD: [&str; 44] = [
 
 #[test]
 fn bad_sessions(rt: HostRuntime) -> Result<(), Fail> {
-    for session in BAD {
-        let answer = shown(rt.alloc(), session.as_bytes())?;
-        assert_eq!(rt; answer.as_str(), "bad", "{session}");
+    for case in BAD {
+        let session = *case;
+        assert!(rt; says(rt.alloc(), session.as_bytes(), "bad")?, "{session}");
     }
-    let answer = shown(rt.alloc(), b"[{\"unset\":\"\xff\"}]")?;
-    assert_eq!(rt; answer.as_str(), "bad");
+    assert!(rt; says(rt.alloc(), b"[{\"unset\":\"\xff\"}]", "bad")?);
+    Ok(())
+}
+
+#[test]
+fn bad_sessions_in_words(rt: HostRuntime) -> Result<(), Fail> {
     let words = format!(in rt.alloc(); "{}", BadSession::BadForm)?;
     assert_eq!(rt; words.as_str(), "bad session");
     Ok(())
 }
 
 /// The options of a build, and what they say.
-const OPTIONS: [(&str, &str); 23] = [
+const OPTIONS: &[(&str, &str)] = &[
     ("{}", "build</w/Cargo.toml><dev>;"),
     (
         r#"{"manifest":"/v/Cargo.toml"}"#,
@@ -245,23 +254,23 @@ const OPTIONS: [(&str, &str); 23] = [
     ),
 ];
 
-/// A session of one build with these options, in words.
-fn shown_with(alloc: Global, options: &str) -> Result<String, AllocError> {
+/// Whether a session of one build with these options says this.
+fn build_says(alloc: Global, options: &str, wanted: &str) -> Result<bool, AllocError> {
     let session = format!(in alloc; "[{{\"build\":{options}}}]")?;
-    shown(alloc, session.as_bytes())
+    says(alloc, session.as_bytes(), wanted)
 }
 
 #[test]
 fn options(rt: HostRuntime) -> Result<(), Fail> {
-    for (options, want) in OPTIONS {
-        let answer = shown_with(rt.alloc(), options)?;
-        assert_eq!(rt; answer.as_str(), want, "{options}");
+    for case in OPTIONS {
+        let (options, wanted) = *case;
+        assert!(rt; build_says(rt.alloc(), options, wanted)?, "{options}");
     }
     Ok(())
 }
 
 /// Options that no build may have: a key of a wrong type, and keys that a session does not know.
-const BAD_OPTIONS: [&str; 25] = [
+const BAD_OPTIONS: &[&str] = &[
     r#"{"manifest":["/a"]}"#,
     r#"{"profile":1}"#,
     r#"{"profile":null}"#,
@@ -291,9 +300,9 @@ const BAD_OPTIONS: [&str; 25] = [
 
 #[test]
 fn bad_options(rt: HostRuntime) -> Result<(), Fail> {
-    for options in BAD_OPTIONS {
-        let answer = shown_with(rt.alloc(), options)?;
-        assert_eq!(rt; answer.as_str(), "bad", "{options}");
+    for case in BAD_OPTIONS {
+        let options = *case;
+        assert!(rt; build_says(rt.alloc(), options, "bad")?, "{options}");
     }
     Ok(())
 }
@@ -312,16 +321,22 @@ fn shown_fixed(alloc: Global, step: &SessionStep) -> Result<String, AllocError> 
     }
 }
 
+/// Whether a session has one step, of which no key changes this.
+fn has_fixed(alloc: Global, session: &[u8], wanted: &str) -> Result<bool, BadSession> {
+    let steps = read_session(alloc, session)?;
+    match steps.as_slice() {
+        [step] => {
+            let found = shown_fixed(alloc, step)?;
+            Ok(found.as_str() == wanted)
+        }
+        _ => Ok(false),
+    }
+}
+
 #[test]
 fn fixed_options(rt: HostRuntime) -> Result<(), Fail> {
-    let steps = match read_session(rt.alloc(), br#"[{"build":{"profile":"release"}}]"#) {
-        Ok(steps) => steps,
-        Err(_) => Items::new(rt.alloc()),
-    };
-    assert_eq!(rt; steps.as_slice().len(), 1);
-    for step in steps.as_slice() {
-        let answer = shown_fixed(rt.alloc(), step)?;
-        assert_eq!(rt; answer.as_str(), "cargo runner=mini|--run| false");
-    }
+    let session = br#"[{"build":{"profile":"release"}}]"#;
+    let wanted = "cargo runner=mini|--run| false";
+    assert!(rt; has_fixed(rt.alloc(), session, wanted)?);
     Ok(())
 }
