@@ -3,47 +3,55 @@
 use crate::cases::CASES;
 use crate::places::PLACES;
 use pb_data::{Items, Text};
-use pb_manifest::{Edition, Version, read_manifest};
+use pb_manifest::{Edition, Profile, Version, read_manifest};
 use pb_place::PathText;
 use pb_profile::{ProfileFault, Settings, folder_of, lines_follow_inherits, values_are_found};
 use pb_workspace::{
     About, BinariesByName, DefaultMembers, EntriesByKey, FeaturesByName, Package, Side, Workspace,
 };
-use std::alloc::Global;
+use std::alloc::{AllocError, Global};
 use std::process::Abort;
 use std::test::Fail;
 
-fn text(alloc: Global, text: &str) -> Result<Text, Fail> {
-    Ok(Text::from_str(alloc, text)?)
+/// Nothing that is told to people alone.
+fn nothing_to_people(alloc: Global) -> About {
+    About {
+        authors: nothing(alloc),
+        description: nothing(alloc),
+        homepage: nothing(alloc),
+        license: nothing(alloc),
+        license_file: nothing(alloc),
+        readme: nothing(alloc),
+        repository: nothing(alloc),
+        rust_version: nothing(alloc),
+    }
 }
 
-fn nothing_to_people(alloc: Global) -> Result<About, Fail> {
-    Ok(About {
-        authors: text(alloc, "")?,
-        description: text(alloc, "")?,
-        homepage: text(alloc, "")?,
-        license: text(alloc, "")?,
-        license_file: text(alloc, "")?,
-        readme: text(alloc, "")?,
-        repository: text(alloc, "")?,
-        rust_version: text(alloc, "")?,
-    })
+/// The empty text.
+fn nothing(alloc: Global) -> Text {
+    Text::new(String::new(alloc))
+}
+
+/// The version `0.1.0`.
+fn first_version(alloc: Global) -> Result<Version, Fail> {
+    let text = Text::from_str(alloc, "0.1.0")?;
+    Ok(Version::read(alloc, text)?)
 }
 
 /// A package that has a name and nothing more.
 fn package_named(alloc: Global, name: &str, is_member: bool) -> Result<Package, Fail> {
-    let version = Version::read(alloc, text(alloc, "0.1.0")?)?;
+    let name = Text::from_str(alloc, name)?;
+    let version = first_version(alloc)?;
     let folder = PathText::parse(alloc, "/w")?;
     let manifest = PathText::parse(alloc, "/w/Cargo.toml")?;
-    let about = nothing_to_people(alloc)?;
     Ok(Package {
-        name: text(alloc, name)?,
+        name,
         version,
         edition: Edition::E2021,
         folder,
         manifest,
         is_member,
-        about,
+        about: nothing_to_people(alloc),
         links: None,
         library: None,
         binaries: BinariesByName::new(alloc),
@@ -54,36 +62,45 @@ fn package_named(alloc: Global, name: &str, is_member: bool) -> Result<Package, 
     })
 }
 
+/// The profiles that a manifest says.
+fn profiles_of(alloc: Global, manifest: &str) -> Result<Items<Profile>, Fail> {
+    let read = read_manifest(alloc, manifest.as_bytes())?;
+    Ok(read.profiles)
+}
+
 /// A workspace whose root manifest says these profiles.
 fn workspace_of(alloc: Global, manifest: &str) -> Result<Workspace, Fail> {
-    let read = read_manifest(alloc, manifest.as_bytes())?;
     let root = PathText::parse(alloc, "/w")?;
     let target = PathText::parse(alloc, "/w/target")?;
+    let profiles = profiles_of(alloc, manifest)?;
     Ok(Workspace {
         root,
         target,
         packages: Items::new(alloc),
         root_package: None,
         default_members: DefaultMembers::Unwritten,
-        profiles: read.profiles,
+        profiles,
     })
 }
 
 /// The settings in one line, in the order of their keys in the table of The Cargo Book.
-fn shown(alloc: Global, answer: Result<Settings, ProfileFault>) -> Result<String, Fail> {
+fn settings_shown(alloc: Global, settings: Settings) -> Result<String, AllocError> {
+    let first = format!(in alloc;
+        "{:?} {:?} {} {}",
+        settings.opt_level, settings.debug, settings.debug_assertions, settings.overflow_checks
+    )?;
+    let last = format!(in alloc;
+        "{:?} {:?} {} {} {:?}",
+        settings.lto, settings.panic, settings.codegen_units, settings.rpath, settings.strip
+    )?;
+    format!(in alloc; "{first} {last}")
+}
+
+/// The settings, or the fault.
+fn shown(alloc: Global, answer: Result<Settings, ProfileFault>) -> Result<String, AllocError> {
     match answer {
-        Err(fault) => Ok(format!(in alloc; "{fault:?}")?),
-        Ok(s) => {
-            let first = format!(in alloc;
-                "{:?} {:?} {} {}",
-                s.opt_level, s.debug, s.debug_assertions, s.overflow_checks
-            )?;
-            let last = format!(in alloc;
-                "{:?} {:?} {} {} {:?}",
-                s.lto, s.panic, s.codegen_units, s.rpath, s.strip
-            )?;
-            Ok(format!(in alloc; "{first} {last}")?)
-        }
+        Ok(settings) => settings_shown(alloc, settings),
+        Err(fault) => format!(in alloc; "{fault:?}"),
     }
 }
 
@@ -96,50 +113,75 @@ fn side_of(word: &str) -> Side {
     }
 }
 
-/// Asks a question `PROFILE NAME member|other target|host` and compares the answer.
-fn ask(
-    rt: &impl Abort,
+/// Whether the settings of a package under a profile are these.
+fn are_settings(
+    alloc: Global,
+    workspace: &Workspace,
+    profile: &str,
+    owner: &Package,
+    side: Side,
+    wanted: &str,
+) -> Result<bool, AllocError> {
+    let answer = Settings::settings(alloc, workspace, profile, owner, side);
+    let found = shown(alloc, answer)?;
+    Ok(found.as_str() == wanted)
+}
+
+/// Whether a question `PROFILE NAME member|other target|host` has this answer.
+fn is_answer(
     alloc: Global,
     workspace: &Workspace,
     question: &str,
-    want: &str,
-) -> Result<(), Fail> {
+    wanted: &str,
+) -> Result<bool, Fail> {
     let Some((profile, rest)) = question.split_once(' ') else {
-        return Ok(());
+        return Ok(false);
     };
     let Some((name, rest)) = rest.split_once(' ') else {
-        return Ok(());
+        return Ok(false);
     };
     let Some((kind, side)) = rest.split_once(' ') else {
-        return Ok(());
+        return Ok(false);
     };
     let owner = package_named(alloc, name, kind == "member")?;
-    let answer = Settings::settings(alloc, workspace, profile, &owner, side_of(side));
-    let answer = shown(alloc, answer)?;
-    assert_eq!(rt; answer.as_str(), want, "{question}");
-    Ok(())
+    let side = side_of(side);
+    Ok(are_settings(alloc, workspace, profile, &owner, side, wanted)?)
 }
 
-/// Asks the questions that stand below a manifest, one a line, each with its answer behind ` = `. How many
-/// there were.
-fn ask_all(rt: &impl Abort, alloc: Global, manifest: &str, questions: &str) -> Result<usize, Fail> {
-    let workspace = workspace_of(alloc, manifest)?;
+/// Asserts the answers to questions, one a line, each with its answer behind ` = `. How many there were.
+fn assert_answers(
+    rt: &impl Abort,
+    alloc: Global,
+    workspace: &Workspace,
+    questions: &str,
+) -> Result<usize, Fail> {
     let mut count = 0usize;
     for line in questions.lines() {
-        if let Some((question, want)) = line.split_once(" = ") {
-            ask(rt, alloc, &workspace, question, want)?;
+        if let Some((question, wanted)) = line.split_once(" = ") {
+            assert!(rt; is_answer(alloc, workspace, question, wanted)?, "{line}");
             count = count.saturating_add(1);
         }
     }
     Ok(count)
 }
 
-/// Asks all questions of a table. How many there were.
-fn ask_table(rt: &impl Abort, alloc: Global, table: &str) -> Result<usize, Fail> {
+/// The same of the questions that stand below a manifest.
+fn assert_case(
+    rt: &impl Abort,
+    alloc: Global,
+    manifest: &str,
+    questions: &str,
+) -> Result<usize, Fail> {
+    let workspace = workspace_of(alloc, manifest)?;
+    assert_answers(rt, alloc, &workspace, questions)
+}
+
+/// The same of all questions of a table.
+fn assert_table(rt: &impl Abort, alloc: Global, table: &str) -> Result<usize, Fail> {
     let mut count = 0usize;
     for case in table.split("=== ") {
         if let Some((manifest, questions)) = case.split_once("---\n") {
-            count = count.saturating_add(ask_all(rt, alloc, manifest, questions)?);
+            count = count.saturating_add(assert_case(rt, alloc, manifest, questions)?);
         }
     }
     Ok(count)
@@ -147,23 +189,27 @@ fn ask_table(rt: &impl Abort, alloc: Global, table: &str) -> Result<usize, Fail>
 
 #[test]
 fn settings(rt: HostRuntime) -> Result<(), Fail> {
-    assert!(rt; ask_table(&rt, rt.alloc(), CASES)? >= 60);
-    assert!(rt; ask_table(&rt, rt.alloc(), PLACES)? >= 55);
+    assert!(rt; assert_table(&rt, rt.alloc(), CASES)? >= 60);
+    assert!(rt; assert_table(&rt, rt.alloc(), PLACES)? >= 55);
     lines_follow_inherits();
     values_are_found();
     Ok(())
 }
 
+/// Profiles, and the folder of each.
+const FOLDERS: &[(&str, &str)] = &[
+    ("dev", "debug"),
+    ("test", "debug"),
+    ("release", "release"),
+    ("bench", "release"),
+    ("fast", "fast"),
+    ("devel", "devel"),
+];
+
 #[test]
 fn folders(rt: HostRuntime) {
-    for (profile, folder) in [
-        ("dev", "debug"),
-        ("test", "debug"),
-        ("release", "release"),
-        ("bench", "release"),
-        ("fast", "fast"),
-        ("devel", "devel"),
-    ] {
-        assert_eq!(rt; folder_of(profile), folder);
+    for case in FOLDERS {
+        let (profile, wanted) = *case;
+        assert!(rt; folder_of(profile) == wanted, "of {profile}");
     }
 }
