@@ -96,6 +96,25 @@ fn answer<P: Place>(
     call(rt.alloc(), place, step.0, &path, step.2)
 }
 
+/// Compares what a step answered with what is wanted.
+fn compare(step: &Step, said: &str) -> Result<(), Fail> {
+    if said != step.3 {
+        return Err(Fail::new(format_args!("{} {}: {said}", step.0, step.1)));
+    }
+    Ok(())
+}
+
+/// Carries a step out, and compares the answer.
+fn try_step<P: Place>(
+    rt: &HostRuntime,
+    place: &mut P,
+    root: &PathText,
+    step: &Step,
+) -> Result<(), Fail> {
+    let said = answer(rt, place, root, step)?;
+    compare(step, said.as_str())
+}
+
 /// Carries steps out, and compares the answers.
 pub(crate) fn carry_out<P: Place>(
     rt: &HostRuntime,
@@ -104,18 +123,24 @@ pub(crate) fn carry_out<P: Place>(
     steps: &[Step],
 ) -> Result<(), Fail> {
     for step in steps {
-        let said = answer(rt, place, root, step)?;
-        if said.as_str() != step.3 {
-            return Err(Fail::new(format_args!("{} {}: {}", step.0, step.1, said.as_str())));
-        }
+        try_step(rt, place, root, step)?;
     }
     Ok(())
+}
+
+/// Carries steps out at a place of real files.
+pub(crate) fn carry_out_here(
+    rt: &HostRuntime,
+    root: &PathText,
+    steps: &[Step],
+) -> Result<(), Fail> {
+    let mut place = HostPlace::new(rt.alloc(), rt);
+    carry_out(rt, &mut place, root, steps)
 }
 
 /// Carries steps out in a folder of their own.
 pub(crate) fn try_steps(rt: &HostRuntime, name: &str, steps: &[Step]) -> Result<(), Fail> {
     let root = fresh(rt, name)?;
-    let mut place = HostPlace::new(rt.alloc(), rt);
-    carry_out(rt, &mut place, &root, steps)?;
+    carry_out_here(rt, &root, steps)?;
     finish(rt, &root)
 }

@@ -1,26 +1,31 @@
 //! Children: how they end, and what they are given.
 
-use crate::calls::{Step, carry_out};
+use crate::calls::{Step, carry_out_here};
 use crate::commands::{program, said, shell};
 use crate::folders::{finish, fresh, path_in};
 use pb_data::Text;
 use pb_host::HostPlace;
-use pb_place::{Command, PathText, Place};
+use pb_place::{Command, Ended, PathText, Place};
 use std::alloc::Global;
 use std::test::Fail;
 
-/// What a command gives.
-fn gives(rt: &HostRuntime, command: &Command, wanted: &str) -> Result<(), Fail> {
-    let mut place = HostPlace::new(rt.alloc(), rt);
-    let given = said(rt.alloc(), &mut place, command)?;
-    if given.as_str() != wanted {
-        return Err(Fail::new(format_args!("{}", given.as_str())));
+/// Compares what a command gave with what is wanted.
+fn compare(given: &str, wanted: &str) -> Result<(), Fail> {
+    if given != wanted {
+        return Err(Fail::new(format_args!("{given} in place of {wanted}")));
     }
     Ok(())
 }
 
+/// Tries what a command gives at a place of its own.
+fn gives(rt: &HostRuntime, command: &Command, wanted: &str) -> Result<(), Fail> {
+    let mut place = HostPlace::new(rt.alloc(), rt);
+    let given = said(rt.alloc(), &mut place, command)?;
+    compare(given.as_str(), wanted)
+}
+
 /// What the shell is told, and how it ends.
-const ENDS: [(&str, &str); 8] = [
+const ENDS: &[(&str, &str)] = &[
     ("exit 0", "0()()"),
     ("exit 3", "3()()"),
     ("exit 255", "255()()"),
@@ -31,61 +36,101 @@ const ENDS: [(&str, &str); 8] = [
     ("kill $$", "Died 1 1"),
 ];
 
+/// Tries what the shell gives when it is told this.
+fn shell_gives(rt: &HostRuntime, words: &str, wanted: &str) -> Result<(), Fail> {
+    let command = shell(rt.alloc(), words)?;
+    gives(rt, &command, wanted)
+}
+
 #[test]
 fn statuses_and_streams(rt: HostRuntime) -> Result<(), Fail> {
-    for (words, wanted) in ENDS {
-        gives(&rt, &shell(rt.alloc(), words)?, wanted)?;
+    for case in ENDS {
+        let (words, wanted) = *case;
+        shell_gives(&rt, words, wanted)?;
     }
     Ok(())
+}
+
+/// Names under which no program is found.
+const MISSING: &[&str] = &["/no/such/program", "no_such_program", "/", ""];
+
+/// Tries that a program of this name does not start.
+fn is_missing(rt: &HostRuntime, name: &str) -> Result<(), Fail> {
+    let command = program(rt.alloc(), name)?;
+    gives(rt, &command, "CannotStart 1 1")
 }
 
 #[test]
 fn programs_that_are_missing(rt: HostRuntime) -> Result<(), Fail> {
-    for name in ["/no/such/program", "no_such_program", "/", ""] {
-        gives(&rt, &program(rt.alloc(), name)?, "CannotStart 1 1")?;
+    for case in MISSING {
+        is_missing(&rt, *case)?;
     }
     Ok(())
+}
+
+/// How a child ends at a place of its own.
+fn end(rt: &HostRuntime, command: &Command) -> Result<Ended, Fail> {
+    let mut place = HostPlace::new(rt.alloc(), rt);
+    let ended = place.start(rt.alloc(), command)?;
+    Ok(ended)
+}
+
+/// How many bytes the two streams of a child have.
+fn lengths(ended: &Ended) -> (usize, usize) {
+    (ended.stdout.as_slice().len(), ended.stderr.as_slice().len())
 }
 
 #[test]
 fn much_is_written(rt: HostRuntime) -> Result<(), Fail> {
-    let child = shell(
-        rt.alloc(),
-        "head -c 300000 /dev/zero; head -c 300000 /dev/zero >&2",
-    )?;
-    let mut place = HostPlace::new(rt.alloc(), &rt);
-    let ended = place.start(rt.alloc(), &child)?;
-    assert_eq!(rt; ended.stdout.as_slice().len(), 300_000);
-    assert_eq!(rt; ended.stderr.as_slice().len(), 300_000);
+    let words = "head -c 300000 /dev/zero; head -c 300000 /dev/zero >&2";
+    let command = shell(rt.alloc(), words)?;
+    let ended = end(&rt, &command)?;
+    assert!(rt; lengths(&ended) == (300_000, 300_000));
     Ok(())
 }
 
-/// A command of the shell with pairs.
-fn with_pairs(alloc: Global, words: &str, pairs: &[(&str, &str)]) -> Result<Command, Fail> {
-    let mut made = shell(alloc, words)?;
-    for (name, value) in pairs {
-        made.pairs.push((
-            Text::from_str(alloc, *name)?,
-            Text::from_str(alloc, *value)?,
-        ))?;
+/// Gives a command a pair.
+fn add_pair(alloc: Global, command: &mut Command, name: &str, value: &str) -> Result<(), Fail> {
+    let name = Text::from_str(alloc, name)?;
+    let value = Text::from_str(alloc, value)?;
+    command.pairs.push((name, value))?;
+    Ok(())
+}
+
+/// Tries what the shell gives with pairs.
+fn shell_gives_with(
+    rt: &HostRuntime,
+    words: &str,
+    pairs: &[(&str, &str)],
+    wanted: &str,
+) -> Result<(), Fail> {
+    let mut command = shell(rt.alloc(), words)?;
+    for pair in pairs {
+        add_pair(rt.alloc(), &mut command, pair.0, pair.1)?;
     }
-    Ok(made)
+    gives(rt, &command, wanted)
 }
 
 #[test]
 fn pairs_go_over_inherited_variables(rt: HostRuntime) -> Result<(), Fail> {
-    let over = with_pairs(rt.alloc(), "echo $A $PATH", &[("A", "x y"), ("PATH", "/p")])?;
-    gives(&rt, &over, "0(x y /p\n)()")?;
-    let mut place = HostPlace::new(rt.alloc(), &rt);
-    let Some(path) = place.variable(rt.alloc(), "PATH")? else {
+    let pairs: &[(&str, &str)] = &[("A", "x y"), ("PATH", "/p")];
+    shell_gives_with(&rt, "echo $A $PATH", pairs, "0(x y /p\n)()")
+}
+
+/// The value of a variable at a place of its own.
+fn variable(rt: &HostRuntime, name: &str) -> Result<Option<Text>, Fail> {
+    let mut place = HostPlace::new(rt.alloc(), rt);
+    let value = place.variable(rt.alloc(), name)?;
+    Ok(value)
+}
+
+#[test]
+fn variables_are_inherited(rt: HostRuntime) -> Result<(), Fail> {
+    let Some(path) = variable(&rt, "PATH")? else {
         return Ok(());
     };
-    let inherits = with_pairs(
-        rt.alloc(),
-        "[ \"$A\" = \"$PATH\" ]",
-        &[("A", path.as_str())],
-    )?;
-    gives(&rt, &inherits, "0()()")
+    let pairs: &[(&str, &str)] = &[("A", path.as_str())];
+    shell_gives_with(&rt, "[ \"$A\" = \"$PATH\" ]", pairs, "0()()")
 }
 
 /// A command of the shell in a folder, with an output folder.
@@ -97,30 +142,36 @@ fn placed(alloc: Global, words: &str, folder: PathText, out: PathText) -> Result
 }
 
 /// The folder in which a child starts, its output folder, and how it ends.
-const FOLDERS: [(&str, &str, &str); 3] = [
+const FOLDERS: &[(&str, &str, &str)] = &[
     (".", "out/made", "0()()"),
     // a file stands in the way, and then the first folder is none
     (".", "out/made/f/g", "CannotStart 1 1"),
     ("none", "out/made", "CannotStart 1 1"),
 ];
 
-const LEFT: [Step; 1] = [("list", "", "", "/out/made/f ")];
+/// Tries what the shell gives in a folder, with an output folder.
+fn gives_in(
+    rt: &HostRuntime,
+    root: &PathText,
+    folder: &str,
+    out: &str,
+    wanted: &str,
+) -> Result<(), Fail> {
+    let folder = path_in(rt.alloc(), root, folder)?;
+    let out = path_in(rt.alloc(), root, out)?;
+    let command = placed(rt.alloc(), "echo x > out/made/f", folder, out)?;
+    gives(rt, &command, wanted)
+}
+
+const LEFT: &[Step] = &[("list", "", "", "/out/made/f ")];
 
 #[test]
 fn folders_of_a_child(rt: HostRuntime) -> Result<(), Fail> {
-    let alloc = rt.alloc();
     let root = fresh(&rt, "child")?;
-    for (folder, out, wanted) in FOLDERS {
-        let here = path_in(alloc, &root, folder)?;
-        let child = placed(
-            alloc,
-            "echo x > out/made/f",
-            here,
-            path_in(alloc, &root, out)?,
-        )?;
-        gives(&rt, &child, wanted)?;
+    for case in FOLDERS {
+        let (folder, out, wanted) = *case;
+        gives_in(&rt, &root, folder, out, wanted)?;
     }
-    let mut place = HostPlace::new(alloc, &rt);
-    carry_out(&rt, &mut place, &root, &LEFT)?;
+    carry_out_here(&rt, &root, LEFT)?;
     finish(&rt, &root)
 }

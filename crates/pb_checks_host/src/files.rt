@@ -3,10 +3,11 @@
 use crate::calls::{Step, try_steps};
 use crate::folders::{finish, fresh, path_in};
 use pb_host::HostPlace;
-use pb_place::Place;
+use pb_place::{PathText, Place};
+use std::alloc::{AllocError, Global};
 use std::test::Fail;
 
-const WRITTEN: [Step; 9] = [
+const WRITTEN: &[Step] = &[
     ("read", "a/b/c", "", "none"),
     ("write", "a/b/c", "one", "done"),
     ("write", "a/b/c", "x", "done"),
@@ -20,10 +21,10 @@ const WRITTEN: [Step; 9] = [
 
 #[test]
 fn written_and_read(rt: HostRuntime) -> Result<(), Fail> {
-    try_steps(&rt, "written", &WRITTEN)
+    try_steps(&rt, "written", WRITTEN)
 }
 
-const LISTED: [Step; 10] = [
+const LISTED: &[Step] = &[
     ("write", "a/c/d", "", "done"),
     ("write", "a/b", "", "done"),
     ("write", "ab", "", "done"),
@@ -38,10 +39,10 @@ const LISTED: [Step; 10] = [
 
 #[test]
 fn listed_in_byte_order(rt: HostRuntime) -> Result<(), Fail> {
-    try_steps(&rt, "listed", &LISTED)
+    try_steps(&rt, "listed", LISTED)
 }
 
-const REMOVED: [Step; 10] = [
+const REMOVED: &[Step] = &[
     ("write", "a/c/d", "", "done"),
     ("write", "a/b", "", "done"),
     ("write", "ab", "", "done"),
@@ -56,10 +57,10 @@ const REMOVED: [Step; 10] = [
 
 #[test]
 fn removed(rt: HostRuntime) -> Result<(), Fail> {
-    try_steps(&rt, "removed", &REMOVED)
+    try_steps(&rt, "removed", REMOVED)
 }
 
-const IN_THE_WAY: [Step; 7] = [
+const IN_THE_WAY: &[Step] = &[
     ("write", "f", "x", "done"),
     ("write", "", "", "Write"),
     ("write", "f/g", "", "Write"),
@@ -71,12 +72,12 @@ const IN_THE_WAY: [Step; 7] = [
 
 #[test]
 fn what_is_in_the_way(rt: HostRuntime) -> Result<(), Fail> {
-    try_steps(&rt, "way", &IN_THE_WAY)
+    try_steps(&rt, "way", IN_THE_WAY)
 }
 
 /// The name of a file in so many folders, one in another.
-fn deep(rt: &HostRuntime, folders: u8) -> Result<String, Fail> {
-    let mut text = String::new(rt.alloc());
+fn deep(alloc: Global, folders: u8) -> Result<String, AllocError> {
+    let mut text = String::new(alloc);
     for _ in 0..folders {
         text.push_str("d/")?;
     }
@@ -84,20 +85,36 @@ fn deep(rt: &HostRuntime, folders: u8) -> Result<String, Fail> {
     Ok(text)
 }
 
+/// The path of a file that lies in so many folders below this one.
+fn deep_path(alloc: Global, root: &PathText, folders: u8) -> Result<PathText, Fail> {
+    let name = deep(alloc, folders)?;
+    path_in(alloc, root, name.as_str())
+}
+
+/// Whether a folder is listed, once a file is written below it.
+fn lists(rt: &HostRuntime, root: &PathText, path: &PathText) -> Result<bool, Fail> {
+    let mut place = HostPlace::new(rt.alloc(), rt);
+    place.write(rt.alloc(), path, b"")?;
+    Ok(place.list(rt.alloc(), root).is_ok())
+}
+
 /// Whether a folder is listed below which a file lies in so many folders.
 fn lists_nested(rt: &HostRuntime, folders: u8) -> Result<bool, Fail> {
     let root = fresh(rt, "nested")?;
-    let path = path_in(rt.alloc(), &root, deep(rt, folders)?.as_str())?;
-    let mut place = HostPlace::new(rt.alloc(), rt);
-    place.write(rt.alloc(), &path, b"")?;
-    let is_listed = place.list(rt.alloc(), &root).is_ok();
+    let path = deep_path(rt.alloc(), &root, folders)?;
+    let is_listed = lists(rt, &root, &path)?;
     finish(rt, &root)?;
     Ok(is_listed)
 }
 
+/// How many folders lie one in another, and whether the listing bears it.
+const NESTED: &[(u8, bool)] = &[(128, true), (129, false)];
+
 #[test]
 fn nested_folders(rt: HostRuntime) -> Result<(), Fail> {
-    assert!(rt; lists_nested(&rt, 128)?);
-    assert!(rt; !lists_nested(&rt, 129)?);
+    for case in NESTED {
+        let (folders, wanted) = *case;
+        assert!(rt; lists_nested(&rt, folders)? == wanted, "{folders} folders");
+    }
     Ok(())
 }

@@ -3,7 +3,7 @@
 use crate::calls::{Step, try_steps};
 use std::test::Fail;
 
-const SOMEWHERE: [Step; 9] = [
+const SOMEWHERE: &[Step] = &[
     ("write", "outside/f", "x", "done"),
     ("write", "inside/a", "", "done"),
     ("link", "inside/folder", "../outside", "done"),
@@ -17,10 +17,10 @@ const SOMEWHERE: [Step; 9] = [
 
 #[test]
 fn links_that_lead_somewhere(rt: HostRuntime) -> Result<(), Fail> {
-    try_steps(&rt, "links", &SOMEWHERE)
+    try_steps(&rt, "links", SOMEWHERE)
 }
 
-const THE_LINK_ALONE: [Step; 6] = [
+const THE_LINK_ALONE: &[Step] = &[
     ("write", "outside/f", "x", "done"),
     ("link", "folder", "outside", "done"),
     ("list", "folder", "", "/f "),
@@ -31,10 +31,10 @@ const THE_LINK_ALONE: [Step; 6] = [
 
 #[test]
 fn a_link_is_removed_alone(rt: HostRuntime) -> Result<(), Fail> {
-    try_steps(&rt, "alone", &THE_LINK_ALONE)
+    try_steps(&rt, "alone", THE_LINK_ALONE)
 }
 
-const NOWHERE: [Step; 9] = [
+const NOWHERE: &[Step] = &[
     ("link", "dangling", "no/such/file", "done"),
     ("link", "itself", "itself", "done"),
     ("link", "device", "/dev/null", "done"),
@@ -48,10 +48,10 @@ const NOWHERE: [Step; 9] = [
 
 #[test]
 fn links_that_lead_nowhere(rt: HostRuntime) -> Result<(), Fail> {
-    try_steps(&rt, "nowhere", &NOWHERE)
+    try_steps(&rt, "nowhere", NOWHERE)
 }
 
-const CIRCLE: [Step; 6] = [
+const CIRCLE: &[Step] = &[
     ("link", "here", ".", "done"),
     ("link", "again", ".", "done"),
     ("list", "", "", "List"),
@@ -62,5 +62,5 @@ const CIRCLE: [Step; 6] = [
 
 #[test]
 fn links_in_a_circle(rt: HostRuntime) -> Result<(), Fail> {
-    try_steps(&rt, "circle", &CIRCLE)
+    try_steps(&rt, "circle", CIRCLE)
 }
