@@ -1,38 +1,53 @@
 //! Diagnostics, taken from a standard error.
 
+use pb_data::{Items, Text};
 use pb_message::diagnostics;
-use std::alloc::Global;
-use std::process::Abort;
+use std::alloc::{AllocError, Global};
 use std::test::Fail;
 
-fn finds(rt: &impl Abort, alloc: Global, stderr: &str, want: &str) -> Result<(), Fail> {
-    let found = diagnostics(alloc, stderr.as_bytes())?;
+/// Texts one after another, each with `;` behind it.
+fn joined(alloc: Global, texts: &Items<Text>) -> Result<String, AllocError> {
     let mut all = String::new(alloc);
-    for one in found.as_slice() {
-        all.push_str(one.as_str())?;
+    for text in texts.as_slice() {
+        all.push_str(text.as_str())?;
         all.push_str(";")?;
     }
-    assert_eq!(rt; all.as_str(), want);
-    Ok(())
+    Ok(all)
+}
+
+/// Whether these are the diagnostics of a standard error.
+fn finds(alloc: Global, stderr: &str, wanted: &str) -> Result<bool, AllocError> {
+    let found = diagnostics(alloc, stderr.as_bytes())?;
+    let all = joined(alloc, &found)?;
+    Ok(all.as_str() == wanted)
+}
+
+/// What stands on standard error, and its diagnostics, each with `;` behind it.
+const OBJECTS_ALONE: &[(&str, &str)] = &[
+    ("", ""),
+    ("{}", "{};"),
+    ("{}\n", "{};"),
+    ("{}\n\n{\"a\":1}", "{};{\"a\":1};"),
+    (" \t{ }\r\n", "{ };"),
+    ("[]\nnull\n1\n\"{}\"\ntrue", ""),
+    ("error: no\n{\"b\":[]}\nmore", "{\"b\":[]};"),
+    ("{\"a\":}\n{\"a\" : 1 }", "{\"a\" : 1 };"),
+    ("{} {}", ""),
+    ("{\"a\":\n1}", ""),
+];
+
+/// How many diagnostics stand on standard error.
+fn count(alloc: Global, stderr: &[u8]) -> Result<usize, AllocError> {
+    let found = diagnostics(alloc, stderr)?;
+    Ok(found.len())
 }
 
 #[test]
 fn objects_alone(rt: HostRuntime) -> Result<(), Fail> {
-    for (stderr, want) in [
-        ("", ""),
-        ("{}", "{};"),
-        ("{}\n", "{};"),
-        ("{}\n\n{\"a\":1}", "{};{\"a\":1};"),
-        (" \t{ }\r\n", "{ };"),
-        ("[]\nnull\n1\n\"{}\"\ntrue", ""),
-        ("error: no\n{\"b\":[]}\nmore", "{\"b\":[]};"),
-        ("{\"a\":}\n{\"a\" : 1 }", "{\"a\" : 1 };"),
-        ("{} {}", ""),
-        ("{\"a\":\n1}", ""),
-    ] {
-        finds(&rt, rt.alloc(), stderr, want)?;
+    for case in OBJECTS_ALONE {
+        let (stderr, wanted) = *case;
+        assert!(rt; finds(rt.alloc(), stderr, wanted)?, "of {stderr}");
     }
-    let found = diagnostics(rt.alloc(), b"{\"a\":\"\xff\"}\n{}")?;
-    assert_eq!(rt; found.len(), 1);
+    assert!(rt; count(rt.alloc(), b"{\"a\":\"\xff\"}\n{}")? == 1);
     Ok(())
 }

@@ -6,24 +6,26 @@ use pb_data::Text;
 use pb_manifest::{CrateType, DebugInfo, Edition, OptLevel};
 use pb_message::{Level, Message, Subject, Target, finish_line, line_of, lines_of, write_lines};
 use pb_place::{Over, PathText};
-use std::alloc::Global;
-use std::process::Abort;
+use std::alloc::{AllocError, Global};
 use std::test::Fail;
 
-/// Compares the line of a message with the wanted one of this number.
+/// Whether a text is one line, the wanted one of this number.
+fn is_line(text: &str, number: usize) -> bool {
+    text.ends_with('\n')
+        && text.lines().count() == 1
+        && text.lines().next() == WANTED.lines().nth(number)
+}
+
+/// Whether the line of a message is the wanted one of this number.
 fn says(
-    rt: &impl Abort,
     alloc: Global,
     subject: &Subject,
     fresh: bool,
     message: &Message,
     number: usize,
-) -> Result<(), Fail> {
+) -> Result<bool, AllocError> {
     let line = line_of(alloc, subject, fresh, message)?;
-    assert!(rt; line.as_str().ends_with('\n'));
-    assert_eq!(rt; line.as_str().lines().count(), 1);
-    assert_eq!(rt; line.as_str().lines().next(), WANTED.lines().nth(number));
-    Ok(())
+    Ok(is_line(line.as_str(), number))
 }
 
 /// The library of the package a in `/w`.
@@ -31,126 +33,145 @@ fn own(alloc: Global) -> Result<Subject, Fail> {
     subject(alloc, "/w", "a", library(alloc, &[])?)
 }
 
+/// Whether the line of a message about it is the wanted one of this number.
+fn own_says(alloc: Global, fresh: bool, message: &Message, number: usize) -> Result<bool, Fail> {
+    let subject = own(alloc)?;
+    Ok(says(alloc, &subject, fresh, message, number)?)
+}
+
 #[test]
 fn libraries(rt: HostRuntime) -> Result<(), Fail> {
-    let alloc = rt.alloc();
     let dev = settings(OptLevel::Zero, DebugInfo::Full);
     let file = "/w/target/debug/a.target.lib/liba.rlib";
-    let made = artifact(alloc, dev, "", file, false)?;
-    says(&rt, alloc, &own(alloc)?, false, &made, 0)
+    let made = artifact(rt.alloc(), dev, "", file, false)?;
+    assert!(rt; own_says(rt.alloc(), false, &made, 0)?);
+    Ok(())
 }
 
 /// The library of the package a in `/w/a`, of two types.
 fn of_two_types(alloc: Global) -> Result<Subject, Fail> {
-    subject(
-        alloc,
-        "/w/a",
-        "a",
-        library(alloc, &[CrateType::Rlib, CrateType::Lib])?,
-    )
+    let types: &[CrateType] = &[CrateType::Rlib, CrateType::Lib];
+    subject(alloc, "/w/a", "a", library(alloc, types)?)
+}
+
+/// Whether the line of a message about it, which is fresh, is the wanted one of this number.
+fn of_two_types_says(alloc: Global, message: &Message, number: usize) -> Result<bool, Fail> {
+    let subject = of_two_types(alloc)?;
+    Ok(says(alloc, &subject, true, message, number)?)
 }
 
 #[test]
 fn libraries_of_two_types(rt: HostRuntime) -> Result<(), Fail> {
-    let alloc = rt.alloc();
     let small = settings(OptLevel::SmallestSize, DebugInfo::LineTablesOnly);
-    let made = artifact(alloc, small, "f g", "/t/liba.rlib", false)?;
-    says(&rt, alloc, &of_two_types(alloc)?, true, &made, 1)
+    let made = artifact(rt.alloc(), small, "f g", "/t/liba.rlib", false)?;
+    assert!(rt; of_two_types_says(rt.alloc(), &made, 1)?);
+    Ok(())
 }
 
 #[test]
 fn diagnostics_of_a_compiler(rt: HostRuntime) -> Result<(), Fail> {
-    let alloc = rt.alloc();
-    let told = Message::CompilerMessage(text(alloc, r#"{"level": "warning"}"#)?);
-    says(&rt, alloc, &of_two_types(alloc)?, true, &told, 2)
+    let told = Message::CompilerMessage(text(rt.alloc(), r#"{"level": "warning"}"#)?);
+    assert!(rt; of_two_types_says(rt.alloc(), &told, 2)?);
+    Ok(())
 }
 
 /// A binary that wants a feature.
-fn binary(alloc: Global) -> Result<Subject, Fail> {
+fn binary(alloc: Global) -> Result<Target, Fail> {
+    let name = text(alloc, "go-on")?;
     let source = PathText::parse(alloc, "/w/src/bin/go-on.rs")?;
     let required = texts(alloc, "f")?;
-    let target = Target::binary(
-        alloc,
-        text(alloc, "go-on")?,
-        source,
-        Edition::E2018,
-        required,
-    )?;
-    subject(alloc, "/w/x-a", "a", target)
+    Ok(Target::binary(alloc, name, source, Edition::E2018, required)?)
+}
+
+/// Whether the line of a message about it is the wanted one of this number.
+fn binary_says(alloc: Global, message: &Message, number: usize) -> Result<bool, Fail> {
+    let subject = subject(alloc, "/w/x-a", "a", binary(alloc)?)?;
+    Ok(says(alloc, &subject, false, message, number)?)
 }
 
 #[test]
 fn binaries(rt: HostRuntime) -> Result<(), Fail> {
-    let alloc = rt.alloc();
     let fast = settings(OptLevel::Three, DebugInfo::Limited);
-    let made = artifact(alloc, fast, "", "/t/go_on", true)?;
-    says(&rt, alloc, &binary(alloc)?, false, &made, 3)
+    let made = artifact(rt.alloc(), fast, "", "/t/go_on", true)?;
+    assert!(rt; binary_says(rt.alloc(), &made, 3)?);
+    Ok(())
 }
 
 /// A build script.
-fn script(alloc: Global) -> Result<Subject, Fail> {
+fn script(alloc: Global) -> Result<Target, Fail> {
     let source = PathText::parse(alloc, "/w/build.rs")?;
-    let target = Target::script(alloc, source, Edition::E2015)?;
-    subject(alloc, "/w", "a", target)
+    Ok(Target::script(alloc, source, Edition::E2015)?)
+}
+
+/// Whether the line of a message about it is the wanted one of this number.
+fn script_says(alloc: Global, message: &Message, number: usize) -> Result<bool, Fail> {
+    let subject = subject(alloc, "/w", "a", script(alloc)?)?;
+    Ok(says(alloc, &subject, false, message, number)?)
 }
 
 #[test]
 fn scripts(rt: HostRuntime) -> Result<(), Fail> {
-    let alloc = rt.alloc();
     let none = settings(OptLevel::Size, DebugInfo::Nothing);
-    let made = artifact(alloc, none, "", "/t/build_script_build", false)?;
-    says(&rt, alloc, &script(alloc)?, false, &made, 4)
+    let made = artifact(rt.alloc(), none, "", "/t/build_script_build", false)?;
+    assert!(rt; script_says(rt.alloc(), &made, 4)?);
+    Ok(())
 }
 
 #[test]
 fn runs(rt: HostRuntime) -> Result<(), Fail> {
-    let alloc = rt.alloc();
-    says(
-        &rt,
-        alloc,
-        &own(alloc)?,
-        false,
-        &executed(alloc, "", "")?,
-        5,
-    )
+    let empty = executed(rt.alloc(), "", "")?;
+    assert!(rt; own_says(rt.alloc(), false, &empty, 5)?);
+    Ok(())
 }
 
 #[test]
 fn runs_that_gave_something(rt: HostRuntime) -> Result<(), Fail> {
-    let alloc = rt.alloc();
-    let full = executed(alloc, "z y", "\"\\/\u{8}\u{c}\n\r\t\u{1}é")?;
-    says(&rt, alloc, &own(alloc)?, true, &full, 6)
+    let full = executed(rt.alloc(), "z y", "\"\\/\u{8}\u{c}\n\r\t\u{1}é")?;
+    assert!(rt; own_says(rt.alloc(), true, &full, 6)?);
+    Ok(())
+}
+
+/// The level of a note of a script, its text, and the number of its line.
+const NOTES: &[(Level, &str, usize)] = &[(Level::Warning, "w", 7), (Level::Error, "e \"q\"", 8)];
+
+/// Whether the line of a note is the wanted one of this number.
+fn note_says(alloc: Global, level: Level, note: &str, number: usize) -> Result<bool, Fail> {
+    let message = Message::BuildScriptNote(level, text(alloc, note)?);
+    own_says(alloc, false, &message, number)
 }
 
 #[test]
-fn warnings_of_a_script(rt: HostRuntime) -> Result<(), Fail> {
-    let alloc = rt.alloc();
-    let warned = Message::BuildScriptNote(Level::Warning, text(alloc, "w")?);
-    says(&rt, alloc, &own(alloc)?, false, &warned, 7)
-}
-
-#[test]
-fn errors_of_a_script(rt: HostRuntime) -> Result<(), Fail> {
-    let alloc = rt.alloc();
-    let failed = Message::BuildScriptNote(Level::Error, text(alloc, "e \"q\"")?);
-    says(&rt, alloc, &own(alloc)?, false, &failed, 8)
+fn warnings_and_errors_of_a_script(rt: HostRuntime) -> Result<(), Fail> {
+    for case in NOTES {
+        let (level, note, number) = *case;
+        assert!(rt;
+            note_says(rt.alloc(), level, note, number)?,
+            "line {number}"
+        );
+    }
+    Ok(())
 }
 
 /// The lines of a warning and of what a script gave.
 fn two_lines(alloc: Global) -> Result<Text, Fail> {
     let first = Message::BuildScriptNote(Level::Warning, text(alloc, "w")?);
     let second = executed(alloc, "", "")?;
-    Ok(lines_of(alloc, &own(alloc)?, false, &[first, second])?)
+    let subject = own(alloc)?;
+    Ok(lines_of(alloc, &subject, false, &[first, second])?)
+}
+
+/// Whether a sink that takes all takes these lines.
+fn are_written(alloc: Global, lines: &str) -> bool {
+    let mut taken: Vec<u8> = Vec::new(alloc);
+    let mut sink = Over::new(&mut taken);
+    let wrote = write_lines(&mut sink, lines);
+    wrote.is_ok() && taken.as_slice() == lines.as_bytes()
 }
 
 #[test]
 fn written(rt: HostRuntime) -> Result<(), Fail> {
     let lines = two_lines(rt.alloc())?;
-    let mut taken: Vec<u8> = Vec::new(rt.alloc());
-    let mut sink = Over::new(&mut taken);
-    let wrote = write_lines(&mut sink, lines.as_str());
-    assert!(rt; wrote.is_ok());
-    assert_eq!(rt; taken.as_slice(), lines.as_bytes());
+    assert!(rt; are_written(rt.alloc(), lines.as_str()));
     Ok(())
 }
 
@@ -162,6 +183,5 @@ fn ends(success: bool, number: usize) -> bool {
 
 #[test]
 fn last_lines(rt: HostRuntime) {
-    assert!(rt; ends(true, 9));
-    assert!(rt; ends(false, 10));
+    assert!(rt; ends(true, 9) && ends(false, 10));
 }

@@ -75,18 +75,23 @@ pub fn artifact(
     }))
 }
 
-/// What a script gave: libraries, folders and conditions, one variable, and its folder.
-pub fn executed(alloc: Global, lists: &str, value: &str) -> Result<Message, Fail> {
-    let mut variables = Items::new(alloc);
+/// The variable `A` with a value and an empty variable `B`; neither for an empty value.
+fn variables(alloc: Global, value: &str) -> Result<Items<(Text, Text)>, Fail> {
+    let mut made = Items::new(alloc);
     if !value.is_empty() {
-        variables.push((text(alloc, "A")?, text(alloc, value)?))?;
-        variables.push((text(alloc, "B")?, text(alloc, "")?))?;
+        made.push((text(alloc, "A")?, text(alloc, value)?))?;
+        made.push((text(alloc, "B")?, text(alloc, "")?))?;
     }
+    Ok(made)
+}
+
+/// What a script gave: libraries, folders and conditions, one variable and an empty one, and its folder.
+pub fn executed(alloc: Global, lists: &str, value: &str) -> Result<Message, Fail> {
     Ok(Message::BuildScriptExecuted(Executed {
         linked_libraries: texts(alloc, lists)?,
         linked_paths: texts(alloc, lists)?,
         conditions: texts(alloc, lists)?,
-        variables,
+        variables: variables(alloc, value)?,
         out_folder: PathText::parse(alloc, "/w/target/debug/a.target.run")?,
     }))
 }
