@@ -1,11 +1,23 @@
 //! Command lines that say a compile, and such as say none.
 
-use super::compiles::{answer_to, assert_reply};
+use super::compiles::{answer_to, replies};
+use pb_place::ViewFault;
+use std::alloc::Global;
 use std::test::Fail;
 
 /// The words of a compile, its source, the name and the bytes of the image, and the name and the bytes of the
 /// dep-info.
-const GOOD: [(&str, &str, &str, &str, &str, &str); 7] = [
+type Compile = (
+    &'static str,
+    &'static str,
+    &'static str,
+    &'static str,
+    &'static str,
+    &'static str,
+);
+
+/// Compiles.
+const GOOD: &[Compile] = &[
     (
         "--crate-name|a|--crate-type|lib|--out-dir|/o|/s",
         "/s",
@@ -65,7 +77,7 @@ const GOOD: [(&str, &str, &str, &str, &str, &str); 7] = [
 ];
 
 /// The words of a compile without a source, and its dep-info.
-const MISSING: [(&str, &str); 3] = [
+const MISSING: &[(&str, &str)] = &[
     (
         "--crate-name|a|--crate-type|lib|--out-dir|/o|/t",
         "/o/liba.rlib: /t\n",
@@ -80,32 +92,43 @@ const MISSING: [(&str, &str); 3] = [
     ),
 ];
 
+/// Whether a compile leaves this image and this dep-info.
+fn compiles(alloc: Global, case: &Compile) -> Result<bool, ViewFault> {
+    let (words, path, image_name, image, dep_info_name, dep_info) = *case;
+    let reply = answer_to(alloc, words, path, b"print x")?;
+    let files: &[(&str, &str)] = &[(image_name, image), (dep_info_name, dep_info)];
+    Ok(replies(&reply, 0, "", "", files))
+}
+
+/// Whether a compile finds no source, and leaves this dep-info alone.
+fn finds_no_source(alloc: Global, words: &str, dep_info: &str) -> Result<bool, ViewFault> {
+    let reply = answer_to(alloc, words, "/s", b"print x")?;
+    let stderr = "{\"level\":\"error\",\"message\":\"no source\",\"line\":0}\n";
+    Ok(replies(&reply, 1, "", stderr, &[("a.d", dep_info)]))
+}
+
+/// Whether the words that ask for the version are answered.
+fn tells_version(alloc: Global) -> Result<bool, ViewFault> {
+    let reply = answer_to(alloc, "-vV", "/s", b"fail")?;
+    let stdout = "mini 0.1.0\nhost: mini-unknown-none\n";
+    Ok(replies(&reply, 0, stdout, "", &[]))
+}
+
 #[test]
 fn command_lines(rt: HostRuntime) -> Result<(), Fail> {
-    let version = "mini 0.1.0\nhost: mini-unknown-none\n";
-    let reply = answer_to(rt.alloc(), "-vV", "/s", b"fail")?;
-    assert_reply(&rt, &reply, 0, version, "", &[]);
-    for (words, path, image_name, image, dep_info_name, dep_info) in GOOD {
-        let reply = answer_to(rt.alloc(), words, path, b"print x")?;
-        assert_reply(
-            &rt,
-            &reply,
-            0,
-            "",
-            "",
-            &[(image_name, image), (dep_info_name, dep_info)],
-        );
+    assert!(rt; tells_version(rt.alloc())?);
+    for case in GOOD {
+        assert!(rt; compiles(rt.alloc(), case)?, "of {}", case.0);
     }
-    let none = "{\"level\":\"error\",\"message\":\"no source\",\"line\":0}\n";
-    for (words, dep_info) in MISSING {
-        let reply = answer_to(rt.alloc(), words, "/s", b"print x")?;
-        assert_reply(&rt, &reply, 1, "", none, &[("a.d", dep_info)]);
+    for case in MISSING {
+        let (words, dep_info) = *case;
+        assert!(rt; finds_no_source(rt.alloc(), words, dep_info)?, "of {words}");
     }
     Ok(())
 }
 
 /// Words that say no compile.
-const REFUSED: [&str; 31] = [
+const REFUSED: &[&str] = &[
     "",
     "-vV|-vV",
     "--version",
@@ -139,11 +162,17 @@ const REFUSED: [&str; 31] = [
     "--crate-name|a\0|--crate-type|lib|--out-dir|/o|/s",
 ];
 
+/// Whether words are refused.
+fn is_refused(alloc: Global, words: &str) -> Result<bool, ViewFault> {
+    let reply = answer_to(alloc, words, "/s", b"print x")?;
+    Ok(replies(&reply, 2, "", "mini: bad command line\n", &[]))
+}
+
 #[test]
 fn bad_command_lines(rt: HostRuntime) -> Result<(), Fail> {
-    for words in REFUSED {
-        let reply = answer_to(rt.alloc(), words, "/s", b"print x")?;
-        assert_reply(&rt, &reply, 2, "", "mini: bad command line\n", &[]);
+    for case in REFUSED {
+        let words = *case;
+        assert!(rt; is_refused(rt.alloc(), words)?, "of {words}");
     }
     Ok(())
 }

@@ -51,27 +51,35 @@ pub fn answer_to(
     answer(alloc, words.as_slice(), &[], &view)
 }
 
-/// Asserts what a reply has.
-pub fn assert_reply(
-    rt: &impl Abort,
+/// Whether a reply has these files, by their names and bytes, in this order.
+fn has_files(reply: &Reply, wanted: &[(&str, &str)]) -> bool {
+    for (file, other) in reply.files.as_slice().iter().zip(wanted) {
+        if file.0.as_str() != other.0 || file.1.as_slice() != other.1.as_bytes() {
+            return false;
+        }
+    }
+    reply.files.len() == wanted.len()
+}
+
+/// Whether a reply has this.
+pub fn replies(
     reply: &Reply,
     status: i32,
     stdout: &str,
     stderr: &str,
     files: &[(&str, &str)],
-) {
-    assert_eq!(rt; reply.status, status, "{stderr}");
-    assert_eq!(rt; reply.stdout.as_slice(), stdout.as_bytes(), "{stderr}");
-    assert_eq!(rt; reply.stderr.as_slice(), stderr.as_bytes(), "{stderr}");
-    assert_eq!(rt; reply.files.len(), files.len(), "{stderr}");
-    for (file, wanted) in reply.files.as_slice().iter().zip(files) {
-        assert_eq!(rt; file.0.as_str(), wanted.0);
-        assert_eq!(rt; file.1.as_slice(), wanted.1.as_bytes(), "{stderr}");
-    }
+) -> bool {
+    reply.status == status
+        && reply.stdout.as_slice() == stdout.as_bytes()
+        && reply.stderr.as_slice() == stderr.as_bytes()
+        && has_files(reply, files)
 }
 
-/// Sources of `WORDS`: the bytes, the status, the standard error, and the image of a good one.
-const SOURCES: [(&[u8], i32, &str, &str); 18] = [
+/// A source of `WORDS`, the status of its compile, the standard error, and the image of a good one.
+type Source = (&'static [u8], i32, &'static str, &'static str);
+
+/// Sources.
+const SOURCES: &[Source] = &[
     (b"", 0, "", "mini lib a\n"),
     (b"print x", 0, "", "mini lib a\nprint x\n"),
     (b"print y\n", 0, "", "mini lib a\nprint y\n"),
@@ -162,46 +170,76 @@ const SOURCES: [(&[u8], i32, &str, &str); 18] = [
     ),
 ];
 
+/// Whether the compile of a source does this.
+fn compiles(alloc: Global, case: &Source) -> Result<bool, ViewFault> {
+    let (source, status, stderr, image) = *case;
+    let reply = answer_to(alloc, WORDS, "/w/src/lib.rs", source)?;
+    if status == 0 {
+        return Ok(replies(
+            &reply,
+            0,
+            "",
+            stderr,
+            &[("liba.rlib", image), ("a.d", DEP_INFO)],
+        ));
+    }
+    Ok(replies(&reply, 1, "", stderr, &[("a.d", DEP_INFO)]))
+}
+
 #[test]
 fn sources(rt: HostRuntime) -> Result<(), Fail> {
-    for (source, status, stderr, image) in SOURCES {
-        let reply = answer_to(rt.alloc(), WORDS, "/w/src/lib.rs", source)?;
-        if status == 0 {
-            assert_reply(
-                &rt,
-                &reply,
-                0,
-                "",
-                stderr,
-                &[("liba.rlib", image), ("a.d", DEP_INFO)],
-            );
-        } else {
-            assert_reply(&rt, &reply, 1, "", stderr, &[("a.d", DEP_INFO)]);
-        }
+    for (place, case) in SOURCES.iter().enumerate() {
+        assert!(rt; compiles(rt.alloc(), case)?, "case {place}");
+    }
+    Ok(())
+}
+
+/// Whether the first of `WORDS` say a compile where they are whole, and are refused where they are not.
+fn is_judged(alloc: Global, first: &[Text], view: &Files) -> Result<bool, ViewFault> {
+    let reply = answer(alloc, first, &[], view)?;
+    let is_whole = 10 <= first.len() && first.len() % 2 == 0;
+    Ok(reply.status == if is_whole { 0 } else { 2 })
+}
+
+/// Asserts it of every number of the first words, but of all.
+fn assert_prefixes(
+    rt: &impl Abort,
+    alloc: Global,
+    words: &[Text],
+    view: &Files,
+) -> Result<(), ViewFault> {
+    for count in 0..words.len() {
+        assert!(rt; is_judged(alloc, &words[..count], view)?, "{count} words");
     }
     Ok(())
 }
 
 #[test]
-fn prefixes(rt: HostRuntime) -> Result<(), Fail> {
-    let alloc = rt.alloc();
-    let words = words_of(alloc, WORDS)?;
-    let words = words.as_slice();
-    let view = one_file(alloc, "/w/src/lib.rs", b"")?;
+fn prefixes_of_words(rt: HostRuntime) -> Result<(), Fail> {
+    let words = words_of(rt.alloc(), WORDS)?;
+    let view = one_file(rt.alloc(), "/w/src/lib.rs", b"")?;
     assert_eq!(rt; words.len(), 24);
-    for count in 0..words.len() {
-        let reply = answer(alloc, &words[..count], &[], &view)?;
-        let whole = 10 <= count && count % 2 == 0;
-        assert_eq!(rt; reply.status, if whole { 0 } else { 2 }, "{count} words");
+    assert_prefixes(&rt, rt.alloc(), words.as_slice(), &view)?;
+    Ok(())
+}
+
+/// Whether the compile of a source ends, with or without an error, and leaves dep-info last.
+fn ends_with_dep_info(alloc: Global, source: &[u8]) -> Result<bool, ViewFault> {
+    let reply = answer_to(alloc, WORDS, "/w/src/lib.rs", source)?;
+    match reply.files.as_slice().last() {
+        Some(file) => { Ok(file.0.as_str() == "a.d" && (reply.status == 0 || reply.status == 1)) }
+        None => Ok(false),
     }
+}
+
+#[test]
+fn prefixes_of_a_source(rt: HostRuntime) -> Result<(), Fail> {
     let source = b"warn \xc3\xa9\n\nput a b\n# c\nfail d\n";
     for count in 0..source.len() {
-        let reply = answer_to(alloc, WORDS, "/w/src/lib.rs", &source[..count])?;
-        let Some(last) = reply.files.as_slice().last() else {
-            return Err("no file")?;
-        };
-        assert_eq!(rt; last.0.as_str(), "a.d", "{count} bytes");
-        assert!(rt; reply.status == 0 || reply.status == 1, "{count} bytes");
+        assert!(rt;
+            ends_with_dep_info(rt.alloc(), &source[..count])?,
+            "{count} bytes"
+        );
     }
     Ok(())
 }
@@ -229,23 +267,25 @@ fn root(alloc: Global) -> Result<PathText, ViewFault> {
     }
 }
 
+/// Whether the small compiler as a child warns as its source says.
+fn child_warns(alloc: Global, view: &Files) -> Result<bool, ViewFault> {
+    let reply = reply_of(alloc, &Mini, view)?;
+    let stderr = "{\"level\":\"warning\",\"message\":\"w\",\"line\":1}\n";
+    let files: &[(&str, &str)] = &[("liba.rlib", "mini lib a\n"), ("a.d", "/o/liba.rlib: /s\n")];
+    Ok(replies(&reply, 0, "", stderr, files))
+}
+
+/// Whether the small compiler as a child fails where its view fails.
+fn child_fails(alloc: Global) -> bool {
+    let answer = reply_of(alloc, &Mini, &Broken);
+    matches!(answer, Err(ViewFault::Failed))
+}
+
 #[test]
 fn child(rt: HostRuntime) -> Result<(), Fail> {
     let view = one_file(rt.alloc(), "/s", b"warn w")?;
-    let reply = reply_of(rt.alloc(), &Mini, &view)?;
-    let stderr = "{\"level\":\"warning\",\"message\":\"w\",\"line\":1}\n";
-    assert_reply(
-        &rt,
-        &reply,
-        0,
-        "",
-        stderr,
-        &[("liba.rlib", "mini lib a\n"), ("a.d", "/o/liba.rlib: /s\n")],
-    );
-    let Err(fault) = reply_of(rt.alloc(), &Mini, &Broken) else {
-        return Err("a view that fails has an answer")?;
-    };
-    assert_eq!(rt; fault, ViewFault::Failed);
+    assert!(rt; child_warns(rt.alloc(), &view)?);
+    assert!(rt; child_fails(rt.alloc()));
     is_honest();
     tells_names();
     Ok(())
