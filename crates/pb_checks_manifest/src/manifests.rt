@@ -12,63 +12,82 @@ use pb_manifest::{
     WrittenPath, crate_name, crate_type_texts, library_name, read_manifest,
 };
 use show::shown;
-use std::alloc::Global;
+use std::alloc::{AllocError, Global};
 use std::process::Abort;
 use std::test::Fail;
 
-/// Asserts the answers to the manifests of a table, of which there are at least 25.
-fn expect_answers(rt: &impl Abort, alloc: Global, cases: &str) -> Result<(), Fail> {
+/// Whether the answer to a manifest is this.
+fn says(alloc: Global, manifest: &[u8], wanted: &str) -> Result<bool, Fail> {
+    let answer = read_manifest(alloc, manifest);
+    let found = shown(alloc, &answer)?;
+    Ok(found.as_str() == wanted)
+}
+
+/// Asserts the answers to the manifests of a table. How many there are.
+fn assert_answers(rt: &impl Abort, alloc: Global, cases: &str) -> Result<usize, Fail> {
     let mut count = 0usize;
     for case in cases.split("=== ") {
-        let Some((want, manifest)) = case.split_once('\n') else {
-            continue;
-        };
-        let answer = shown(alloc, &read_manifest(alloc, manifest.as_bytes()))?;
-        assert_eq!(rt; answer.as_str(), want, "{manifest}");
-        count = count.saturating_add(1);
+        if let Some((wanted, manifest)) = case.split_once('\n') {
+            assert!(rt; says(alloc, manifest.as_bytes(), wanted)?, "{case}");
+            count = count.saturating_add(1);
+        }
     }
-    assert!(rt; count >= 25);
-    Ok(())
+    Ok(count)
 }
 
 #[test]
 fn manifests(rt: HostRuntime) -> Result<(), Fail> {
-    for cases in CASES {
-        expect_answers(&rt, rt.alloc(), cases)?;
+    for case in CASES {
+        assert!(rt; assert_answers(&rt, rt.alloc(), *case)? >= 25);
     }
     Ok(())
 }
 
-/// The answer to as many line feeds.
-fn answer_to_blank(alloc: Global, length: usize) -> Result<String, Fail> {
+/// As many line feeds.
+fn blank(alloc: Global, length: usize) -> Result<Vec<u8>, AllocError> {
     let mut bytes = Vec::new(alloc);
     for _ in 0..length {
         bytes.push(b'\n')?;
     }
-    shown(alloc, &read_manifest(alloc, bytes.as_slice()))
+    Ok(bytes)
 }
 
+/// Whether the answer to as many line feeds is this.
+fn blank_says(alloc: Global, length: usize, wanted: &str) -> Result<bool, Fail> {
+    let bytes = blank(alloc, length)?;
+    says(alloc, bytes.as_slice(), wanted)
+}
+
+/// How many line feeds there are, and the answer to them.
 const SIZES: &[(usize, &str)] = &[(1_048_576, "BadKind(Package)"), (1_048_577, "TooLarge")];
 
 #[test]
 fn sizes(rt: HostRuntime) -> Result<(), Fail> {
     for case in SIZES {
-        let (length, want) = *case;
-        let answer = answer_to_blank(rt.alloc(), length)?;
-        assert_eq!(rt; answer.as_str(), want);
+        let (length, wanted) = *case;
+        assert!(rt; blank_says(rt.alloc(), length, wanted)?, "{wanted}");
     }
     Ok(())
 }
 
 const BYTES_THAT_ARE_NO_TEXT: &[&[u8]] = &[b"name = \"\xff\"", b"\x00", b"\xef\xbb"];
 
+/// Whether bytes are refused since they are no TOML.
+fn is_no_toml(alloc: Global, bytes: &[u8]) -> bool {
+    let answer = read_manifest(alloc, bytes);
+    matches!(answer, Err(ManifestFault::NotToml))
+}
+
 #[test]
 fn bytes_that_are_no_text(rt: HostRuntime) {
     for case in BYTES_THAT_ARE_NO_TEXT {
-        let bytes = *case;
-        let answer = read_manifest(rt.alloc(), bytes);
-        assert!(rt; answer.is_err_and(|fault| fault == ManifestFault::NotToml));
+        assert!(rt; is_no_toml(rt.alloc(), *case));
     }
+}
+
+/// Whether a text has the letters of a package's, of a crate's and of a feature's name.
+fn are_letters(text: &str) -> (bool, bool, bool) {
+    (is_name(text), is_crate_name(text), is_feature_name(text))
 }
 
 /// Texts, and whether each has the letters of a package's, a crate's and a feature's name.
@@ -115,42 +134,55 @@ const LETTERS: &[(&str, bool, bool, bool)] = &[
 fn letters(rt: HostRuntime) {
     for case in LETTERS {
         let (text, package, library, feature) = *case;
-        assert_eq!(rt; is_name(text), package, "{text}");
-        assert_eq!(rt; is_crate_name(text), library, "{text}");
-        assert_eq!(rt; is_feature_name(text), feature, "{text}");
+        assert!(rt; are_letters(text) == (package, library, feature), "{text}");
     }
 }
 
-const WITH_BYTE_ZERO: &[&str] = &["\0", "a\0", "\0a"];
-
-const WITHOUT_BYTE_ZERO: &[&str] = &["", "0", "a\u{1}"];
+/// Texts, and whether each has a byte zero.
+const BYTE_ZERO: &[(&str, bool)] = &[
+    ("\0", true),
+    ("a\0", true),
+    ("\0a", true),
+    ("", false),
+    ("0", false),
+    ("a\u{1}", false),
+];
 
 #[test]
 fn byte_zero(rt: HostRuntime) {
-    for case in WITH_BYTE_ZERO {
-        let text = *case;
-        assert!(rt; has_zero(text));
+    for case in BYTE_ZERO {
+        let (text, wanted) = *case;
+        assert!(rt; has_zero(text) == wanted, "of {text}");
     }
-    for case in WITHOUT_BYTE_ZERO {
-        let text = *case;
-        assert!(rt; !has_zero(text));
-    }
+}
+
+/// The version that a text says.
+fn version_of(alloc: Global, text: &str) -> Result<Version, Fail> {
+    let text = Text::from_str(alloc, text)?;
+    Ok(Version::read(alloc, text)?)
 }
 
 #[test]
 fn versions(rt: HostRuntime) -> Result<(), Fail> {
-    let version = Version::read(rt.alloc(), Text::from_str(rt.alloc(), "1.2.3")?)?;
+    let version = version_of(rt.alloc(), "1.2.3")?;
     assert_eq!(rt; version.number().minor, 2);
     Ok(())
 }
 
+/// The requirement that a text says.
+fn requirement_of(alloc: Global, text: &str) -> Result<Requirement, Fail> {
+    let text = Text::from_str(alloc, text)?;
+    Ok(Requirement::read(alloc, text)?)
+}
+
 #[test]
 fn requirements(rt: HostRuntime) -> Result<(), Fail> {
-    let requirement = Requirement::read(rt.alloc(), Text::from_str(rt.alloc(), ">=1, <2")?)?;
+    let requirement = requirement_of(rt.alloc(), ">=1, <2")?;
     assert_eq!(rt; requirement.parsed().comparators.len(), 2);
     Ok(())
 }
 
+/// Faults, and what they are in words.
 const FAULTS_IN_WORDS: &[(ManifestFault, &str)] = &[
     (ManifestFault::NotToml, "the manifest is not TOML"),
     (
@@ -180,12 +212,17 @@ const FAULTS_IN_WORDS: &[(ManifestFault, &str)] = &[
     (ManifestFault::OldResolver, "resolver 1 is not supported"),
 ];
 
+/// Whether a fault is this in words.
+fn reads(alloc: Global, fault: ManifestFault, wanted: &str) -> Result<bool, AllocError> {
+    let words = format!(in alloc; "{fault}")?;
+    Ok(words.as_str() == wanted)
+}
+
 #[test]
 fn faults_in_words(rt: HostRuntime) -> Result<(), Fail> {
     for case in FAULTS_IN_WORDS {
-        let (fault, want) = *case;
-        let words = format!(in rt.alloc(); "{fault}")?;
-        assert_eq!(rt; words.as_str(), want);
+        let (fault, wanted) = *case;
+        assert!(rt; reads(rt.alloc(), fault, wanted)?, "{wanted}");
     }
     Ok(())
 }
@@ -202,69 +239,132 @@ const MATCHES: &[(&str, &str, bool)] = &[
     ("*", "7.0.0", true),
 ];
 
+/// Whether a copy of a requirement matches a copy of a version.
+fn copies_match(
+    alloc: Global,
+    requirement: &Requirement,
+    version: &Version,
+) -> Result<bool, AllocError> {
+    let requirement = requirement.copy(alloc)?;
+    let version = version.copy(alloc)?;
+    Ok(requirement.matches(&version))
+}
+
+/// The same of texts.
+fn texts_match(alloc: Global, requirement: &str, version: &str) -> Result<bool, Fail> {
+    let requirement = requirement_of(alloc, requirement)?;
+    let version = version_of(alloc, version)?;
+    Ok(copies_match(alloc, &requirement, &version)?)
+}
+
 #[test]
 fn requirements_match(rt: HostRuntime) -> Result<(), Fail> {
-    let alloc = rt.alloc();
     for case in MATCHES {
-        let (requirement, version, want) = *case;
-        let requirement = Requirement::read(alloc, Text::from_str(alloc, requirement)?)?.copy(
-            alloc,
-        )?;
-        let version = Version::read(alloc, Text::from_str(alloc, version)?)?.copy(alloc)?;
-        assert_eq!(rt;
-            requirement.matches(&version),
-            want,
-            "{}",
-            version.text().as_str()
+        let (requirement, version, wanted) = *case;
+        assert!(rt;
+            texts_match(rt.alloc(), requirement, version)? == wanted,
+            "{requirement} of {version}"
         );
     }
     Ok(())
 }
 
+/// Names of packages, and of their crates.
+const CRATES: &[(&str, &str)] = &[("a-b--c", "a_b__c"), ("ab", "ab")];
+
+/// Whether the crate of a package of this name has this one.
+fn has_crate(alloc: Global, package: &str, wanted: &str) -> Result<bool, AllocError> {
+    let found = crate_name(alloc, package)?;
+    Ok(found.as_str() == wanted)
+}
+
+/// Whether the library of a package of the name `a-b` has this name.
+fn has_library(alloc: Global, library: &Option<Library>, wanted: &str) -> Result<bool, AllocError> {
+    let found = library_name(alloc, "a-b", library)?;
+    Ok(found.as_str() == wanted)
+}
+
+/// A library that says its name and nothing more.
+fn library_named(alloc: Global, name: &str) -> Result<Library, AllocError> {
+    let name = Text::from_str(alloc, name)?;
+    Ok(Library {
+        crate_types: Items::new(alloc),
+        name: Some(name),
+        path: None,
+    })
+}
+
 #[test]
 fn crates_have_names(rt: HostRuntime) -> Result<(), Fail> {
-    let alloc = rt.alloc();
-    assert_eq!(rt; crate_name(alloc, "a-b--c")?.as_str(), "a_b__c");
-    assert_eq!(rt; crate_name(alloc, "ab")?.as_str(), "ab");
-    assert_eq!(rt; library_name(alloc, "a-b", &None)?.as_str(), "a_b");
-    let mut library = Library {
-        crate_types: Items::new(alloc),
-        name: None,
-        path: None,
-    };
-    library.name = Some(Text::from_str(alloc, "own")?);
-    assert_eq!(rt; library_name(alloc, "a-b", &Some(library))?.as_str(), "own");
+    for case in CRATES {
+        let (package, wanted) = *case;
+        assert!(rt; has_crate(rt.alloc(), package, wanted)?, "of {package}");
+    }
+    assert!(rt; has_library(rt.alloc(), &None, "a_b")?);
+    let library = Some(library_named(rt.alloc(), "own")?);
+    assert!(rt; has_library(rt.alloc(), &library, "own")?);
     Ok(())
+}
+
+/// Whether crate types have these texts; `lib` where there is none.
+fn have_texts(alloc: Global, types: &[CrateType], wanted: &[&str]) -> Result<bool, AllocError> {
+    let texts = crate_type_texts(alloc, types)?;
+    Ok(texts.as_slice() == wanted)
 }
 
 #[test]
 fn spellings(rt: HostRuntime) -> Result<(), Fail> {
-    let alloc = rt.alloc();
     assert_eq!(rt; Edition::E2015.text(), "2015");
     assert_eq!(rt; Edition::E2024.text(), "2024");
     assert_eq!(rt; CrateType::Bin.text(), "bin");
-    let texts = crate_type_texts(alloc, &[CrateType::Rlib, CrateType::Lib])?;
-    assert_eq!(rt; texts.as_slice(), ["rlib", "lib"].as_slice());
-    let texts = crate_type_texts(alloc, &[])?;
-    assert_eq!(rt; texts.as_slice(), ["lib"].as_slice());
+    let types: &[CrateType] = &[CrateType::Rlib, CrateType::Lib];
+    assert!(rt; have_texts(rt.alloc(), types, &["rlib", "lib"])?);
+    assert!(rt; have_texts(rt.alloc(), &[], &["lib"])?);
     Ok(())
+}
+
+/// Whether a text can be written as a path.
+fn is_path(alloc: Global, text: &str) -> Result<bool, AllocError> {
+    let text = Text::from_str(alloc, text)?;
+    Ok(WrittenPath::new(text).is_some())
+}
+
+/// The source of an entry with this path and nothing more; none where the text is no path.
+fn source_at(alloc: Global, path: &str) -> Result<Option<PathSource>, AllocError> {
+    let path = Text::from_str(alloc, path)?;
+    match WrittenPath::new(path) {
+        Some(path) => Ok(Some(PathSource {
+            path,
+            package: None,
+            version: None,
+            default_features: true,
+        })),
+        None => Ok(None),
+    }
+}
+
+/// Whether the copy of such a source has its path.
+fn source_is_copied(alloc: Global, path: &str) -> Result<bool, AllocError> {
+    match source_at(alloc, path)? {
+        Some(source) => {
+            let copy = source.copy(alloc)?;
+            Ok(copy.path.as_str() == path)
+        }
+        None => Ok(false),
+    }
+}
+
+/// Whether the copy of a readme at a path is one at a path.
+fn readme_is_copied(alloc: Global, path: &str) -> Result<bool, AllocError> {
+    let readme = Readme::At(Text::from_str(alloc, path)?);
+    let copy = readme.copy(alloc)?;
+    Ok(matches!(copy, Readme::At(_)))
 }
 
 #[test]
 fn copies(rt: HostRuntime) -> Result<(), Fail> {
-    let alloc = rt.alloc();
-    assert!(rt; WrittenPath::new(Text::from_str(alloc, "a\0")?).is_none());
-    let Some(path) = WrittenPath::new(Text::from_str(alloc, "../a b")?) else {
-        return Ok(());
-    };
-    let source = PathSource {
-        path,
-        package: None,
-        version: None,
-        default_features: true,
-    };
-    assert_eq!(rt; source.copy(alloc)?.path.as_str(), "../a b");
-    let readme = Readme::At(Text::from_str(alloc, "R")?).copy(alloc)?;
-    assert!(rt; matches!(&readme, Readme::At(_)));
+    assert!(rt; !is_path(rt.alloc(), "a\0")?);
+    assert!(rt; source_is_copied(rt.alloc(), "../a b")?);
+    assert!(rt; readme_is_copied(rt.alloc(), "R")?);
     Ok(())
 }

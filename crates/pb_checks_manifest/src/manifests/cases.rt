@@ -13,4 +13,4 @@ use targets::TARGETS;
 use workspace::WORKSPACE;
 
 /// The cases.
-pub const CASES: [&str; 5] = [PACKAGE, TARGETS, DEPENDENCIES, PROFILES, WORKSPACE];
+pub const CASES: &[&str] = &[PACKAGE, TARGETS, DEPENDENCIES, PROFILES, WORKSPACE];
