@@ -2,7 +2,8 @@
 
 use super::worlds::answer_in;
 use pb_data::Text;
-use pb_directive::read_dep_info;
+use pb_directive::{DepInfo, read_dep_info};
+use pb_place::Reply;
 use std::alloc::Global;
 use std::test::Fail;
 
@@ -51,23 +52,34 @@ fn are(alloc: Global, texts: &[Text], wanted: &str) -> Result<bool, Fail> {
     Ok(all.as_str() == wanted)
 }
 
+/// Whether dep-info names these paths and variables.
+fn names(alloc: Global, info: &DepInfo, paths: &str, variables: &str) -> Result<bool, Fail> {
+    Ok(
+        are(alloc, info.words.as_slice(), paths)?
+            && are(alloc, info.variables.as_slice(), variables)?,
+    )
+}
+
 /// Whether dep-info of these bytes is read as these paths and variables.
 fn says(alloc: Global, bytes: &[u8], paths: &str, variables: &str) -> Result<bool, Fail> {
     let info = read_dep_info(alloc, bytes)?;
-    let has_paths = are(alloc, info.words.as_slice(), paths)?;
-    let has_variables = are(alloc, info.variables.as_slice(), variables)?;
-    Ok(has_paths && has_variables)
+    names(alloc, &info, paths, variables)
 }
 
-/// Whether this is read in the dep-info of a source, which is its reply's last file.
-fn is_read(alloc: Global, source: &[u8], paths: &str, variables: &str) -> Result<bool, Fail> {
-    let reply = answer_in(alloc, WORDS, "/w/s", source)?;
+/// Whether this is read in a reply's last file, which is its dep-info.
+fn tells(alloc: Global, reply: &Reply, paths: &str, variables: &str) -> Result<bool, Fail> {
     match reply.files.as_slice().last() {
         Some(file) => {
             Ok(file.0.as_str() == "c.d" && says(alloc, file.1.as_slice(), paths, variables)?)
         }
         None => Ok(false),
     }
+}
+
+/// Whether this is read in the dep-info of a source.
+fn is_read(alloc: Global, source: &[u8], paths: &str, variables: &str) -> Result<bool, Fail> {
+    let reply = answer_in(alloc, WORDS, "/w/s", source)?;
+    tells(alloc, &reply, paths, variables)
 }
 
 #[test]
@@ -85,13 +97,18 @@ fn names_are_read_back(rt: HostRuntime) -> Result<(), Fail> {
 /// Sources whose dep-info no reader takes: a nameless variable, a value with a line feed.
 const FAULTY: &[&[u8]] = &[b"env", b"include $/x", b"env FEED"];
 
+/// Whether no reader takes a reply's last file.
+fn tells_nothing(alloc: Global, reply: &Reply) -> bool {
+    match reply.files.as_slice().last() {
+        Some(file) => read_dep_info(alloc, file.1.as_slice()).is_err(),
+        None => false,
+    }
+}
+
 /// Whether no reader takes the dep-info of a source.
 fn is_refused(alloc: Global, source: &[u8]) -> Result<bool, Fail> {
     let reply = answer_in(alloc, WORDS, "/w/s", source)?;
-    match reply.files.as_slice().last() {
-        Some(file) => Ok(read_dep_info(alloc, file.1.as_slice()).is_err()),
-        None => Ok(false),
-    }
+    Ok(tells_nothing(alloc, &reply))
 }
 
 #[test]
