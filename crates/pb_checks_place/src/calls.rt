@@ -18,6 +18,7 @@ fn change(alloc: Global, memory: &mut Memory<Echo>, path: &str, text: &str) -> R
     Ok(())
 }
 
+/// Paths, and the text that is written at each; `none` where it is removed.
 const CHANGES: &[(&str, &str)] = &[
     ("/a", "one"),
     ("/a/b", "two"),
@@ -27,6 +28,7 @@ const CHANGES: &[(&str, &str)] = &[
     ("/c", "five"),
 ];
 
+/// Paths, and what is read at each after all changes.
 const LEFT: &[(&str, &str)] = &[
     ("/a", "none"),
     ("/a/b", "none"),
@@ -34,20 +36,30 @@ const LEFT: &[(&str, &str)] = &[
     ("/c", "five"),
 ];
 
-#[test]
-fn changes_in_turn(rt: HostRuntime) -> Result<(), Fail> {
-    let alloc = rt.alloc();
+/// A place in memory at which the changes were made in turn.
+fn changed(alloc: Global) -> Result<Memory<Echo>, Fail> {
     let mut memory = Memory::new(alloc, Echo);
     for case in CHANGES {
         let (path, text) = *case;
         change(alloc, &mut memory, path, text)?;
     }
-    last_word_stands();
+    Ok(memory)
+}
+
+/// Whether this is read at a path.
+fn reads(alloc: Global, memory: &mut Memory<Echo>, path: &str, wanted: &str) -> Result<bool, Fail> {
+    let told = read(alloc, memory, path)?;
+    Ok(told.as_str() == wanted)
+}
+
+#[test]
+fn changes_in_turn(rt: HostRuntime) -> Result<(), Fail> {
+    let mut memory = changed(rt.alloc())?;
     for case in LEFT {
-        let (path, want) = *case;
-        let told = read(alloc, &mut memory, path)?;
-        assert_eq!(rt; told.as_str(), want, "at {path}");
+        let (path, wanted) = *case;
+        assert!(rt; reads(rt.alloc(), &mut memory, path, wanted)?, "at {path}");
     }
+    last_word_stands();
     Ok(())
 }
 
@@ -63,6 +75,7 @@ fn told(alloc: Global, pairs: &[(Text, Text)]) -> Result<Text, Fail> {
     Ok(Text::new(text))
 }
 
+/// Names, and the value that each is given.
 const VARIABLES_IN_ORDER: &[(&str, &str)] = &[
     ("b", "1"),
     ("B", "2"),
@@ -72,17 +85,27 @@ const VARIABLES_IN_ORDER: &[(&str, &str)] = &[
     ("c", "6"),
 ];
 
-#[test]
-fn variables_in_order(rt: HostRuntime) -> Result<(), Fail> {
-    let alloc = rt.alloc();
+/// The variables that were given these values in turn, and of which `c` was taken away.
+fn given(alloc: Global) -> Result<TextMap, Fail> {
     let mut variables = TextMap::new(alloc);
     for case in VARIABLES_IN_ORDER {
         let (name, value) = *case;
         variables.insert(alloc, name, value)?;
     }
     variables.remove(alloc, "c")?;
+    Ok(variables)
+}
+
+/// Whether these are all variables, in their order.
+fn are(alloc: Global, variables: TextMap, wanted: &str) -> Result<bool, Fail> {
     let pairs = variables.into_pairs(alloc)?;
     let told = told(alloc, pairs.as_slice())?;
-    assert_eq!(rt; told.as_str(), "=3 B=2 ab=4 b=5 ");
+    Ok(told.as_str() == wanted)
+}
+
+#[test]
+fn variables_in_order(rt: HostRuntime) -> Result<(), Fail> {
+    let variables = given(rt.alloc())?;
+    assert!(rt; are(rt.alloc(), variables, "=3 B=2 ab=4 b=5 ")?);
     Ok(())
 }

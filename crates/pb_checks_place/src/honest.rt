@@ -166,17 +166,28 @@ fn leaves(alloc: Global, memory: &mut Memory<Echo>) -> Result<bool, Fail> {
     Ok(ended.status == 7 && found.is_some())
 }
 
+/// Whether each of these holds, one after another.
+fn hold_in_turn(
+    alloc: Global,
+    memory: &mut Memory<Echo>,
+    path: &PathText,
+    folder: &PathText,
+) -> Result<bool, Fail> {
+    Ok(
+        writes(alloc, memory, path)?
+            && lists(alloc, memory, path, folder)?
+            && removes(alloc, memory, path, folder)?
+            && says(alloc, memory, path)?
+            && leaves(alloc, memory)?,
+    )
+}
+
 #[test]
 fn at_a_place_in_memory(rt: HostRuntime) -> Result<(), Fail> {
-    let alloc = rt.alloc();
-    let mut memory = Memory::new(alloc, Echo);
-    let folder = PathText::parse(alloc, "/w")?;
-    let path = PathText::parse(alloc, "/w/a")?;
-    assert!(rt; writes(alloc, &mut memory, &path)?);
-    assert!(rt; lists(alloc, &mut memory, &path, &folder)?);
-    assert!(rt; removes(alloc, &mut memory, &path, &folder)?);
-    assert!(rt; says(alloc, &mut memory, &path)?);
-    assert!(rt; leaves(alloc, &mut memory)?);
-    assert_eq!(rt; memory.starts(), 2);
+    let mut memory = Memory::new(rt.alloc(), Echo);
+    let folder = PathText::parse(rt.alloc(), "/w")?;
+    let path = PathText::parse(rt.alloc(), "/w/a")?;
+    let hold = hold_in_turn(rt.alloc(), &mut memory, &path, &folder)?;
+    assert!(rt; hold && memory.starts() == 2);
     Ok(())
 }

@@ -2,8 +2,23 @@
 
 use pb_host::HostView;
 use pb_place::{PathText, View};
+use std::alloc::Global;
 use std::test::Fail;
 
+/// Whether a view shows a file at a path.
+fn shows_file<V: View>(alloc: Global, view: &V, path: &str) -> Result<bool, Fail> {
+    let path = PathText::parse(alloc, path)?;
+    let found = view.file(alloc, &path)?;
+    Ok(found.is_some())
+}
+
+/// Whether a view shows a variable.
+fn shows_variable<V: View>(alloc: Global, view: &V, name: &str) -> Result<bool, Fail> {
+    let found = view.variable(alloc, name)?;
+    Ok(found.is_some())
+}
+
+/// Paths, and whether a file is shown there.
 const REAL_FILES: &[(&str, bool)] = &[
     ("/", false),
     ("/no/such/file", false),
@@ -14,14 +29,11 @@ const REAL_FILES: &[(&str, bool)] = &[
 
 #[test]
 fn real_files(rt: HostRuntime) -> Result<(), Fail> {
-    let alloc = rt.alloc();
     let view = HostView::new(&rt);
     for case in REAL_FILES {
         let (path, wanted) = *case;
-        let path = PathText::parse(alloc, path)?;
-        let found = view.file(alloc, &path)?;
-        assert_eq!(rt; found.is_some(), wanted, "at {path:?}");
+        assert!(rt; shows_file(rt.alloc(), &view, path)? == wanted, "at {path}");
     }
-    assert!(rt; view.variable(alloc, "NO_SUCH_VARIABLE")?.is_none());
+    assert!(rt; !shows_variable(rt.alloc(), &view, "NO_SUCH_VARIABLE")?);
     Ok(())
 }
