@@ -16,7 +16,7 @@ type Compile = (
     &'static str,
 );
 
-/// Compiles.
+/// Compiles of `print x`, and what each leaves.
 const GOOD: &[Compile] = &[
     (
         "--crate-name|a|--crate-type|lib|--out-dir|/o|/s",

@@ -78,7 +78,7 @@ pub fn replies(
 /// A source of `WORDS`, the status of its compile, the standard error, and the image of a good one.
 type Source = (&'static [u8], i32, &'static str, &'static str);
 
-/// Sources.
+/// Sources, and what the compile of each does.
 const SOURCES: &[Source] = &[
     (b"", 0, "", "mini lib a\n"),
     (b"print x", 0, "", "mini lib a\nprint x\n"),
