@@ -72,17 +72,12 @@ fn sizes(rt: HostRuntime) -> Result<(), Fail> {
 
 const BYTES_THAT_ARE_NO_TEXT: &[&[u8]] = &[b"name = \"\xff\"", b"\x00", b"\xef\xbb"];
 
-/// Whether bytes are refused since they are no TOML.
-fn is_no_toml(alloc: Global, bytes: &[u8]) -> bool {
-    let answer = read_manifest(alloc, bytes);
-    matches!(answer, Err(ManifestFault::NotToml))
-}
-
 #[test]
-fn bytes_that_are_no_text(rt: HostRuntime) {
+fn bytes_that_are_no_text(rt: HostRuntime) -> Result<(), Fail> {
     for case in BYTES_THAT_ARE_NO_TEXT {
-        assert!(rt; is_no_toml(rt.alloc(), *case));
+        assert!(rt; says(rt.alloc(), *case, "NotToml")?);
     }
+    Ok(())
 }
 
 /// Whether a text has the letters of a package's, of a crate's and of a feature's name.

@@ -7,7 +7,7 @@ use pb_manifest::{
     WorkspacePackage, WorkspaceSource, WorkspaceTable, WrittenPath,
 };
 use std::alloc::Global;
-use std::fmt::Write;
+use std::fmt::{Debug, Write};
 use std::test::Fail;
 
 /// The answer of the reader in one line.
@@ -23,7 +23,7 @@ pub fn shown(alloc: Global, answer: &Result<Manifest, ManifestFault>) -> Result<
 fn put_manifest(out: &mut String, manifest: &Manifest) -> Result<(), Fail> {
     match &manifest.package {
         Some(package) => put_package(out, package)?,
-        None => write!(out, "-")?,
+        None => out.push_str("-")?,
     }
     if let Some(library) = &manifest.library {
         put_library(out, library)?;
@@ -48,46 +48,56 @@ fn put_manifest(out: &mut String, manifest: &Manifest) -> Result<(), Fail> {
     Ok(())
 }
 
+/// Puts texts one after another.
+fn put(out: &mut String, texts: &[&str]) -> Result<(), Fail> {
+    for text in texts {
+        out.push_str(*text)?;
+    }
+    Ok(())
+}
+
+/// Puts a name and a value, where there is one.
+fn put_value<T: Debug>(out: &mut String, name: &str, value: &Option<T>) -> Result<(), Fail> {
+    if let Some(value) = value {
+        write!(out, " {name}={value:?}")?;
+    }
+    Ok(())
+}
+
 fn put_list(out: &mut String, texts: &Items<Text>) -> Result<(), Fail> {
-    let mut first = true;
+    let mut before = "";
     for text in texts.as_slice() {
-        if !first {
-            write!(out, "+")?;
-        }
-        first = false;
-        write!(out, "{}", text.as_str())?;
+        put(out, &[before, text.as_str()])?;
+        before = "+";
     }
     Ok(())
 }
 
 fn put_texts(out: &mut String, name: &str, texts: &Items<Text>) -> Result<(), Fail> {
-    write!(out, " {name}=")?;
+    put(out, &[" ", name, "="])?;
     put_list(out, texts)
 }
 
 fn put_text(out: &mut String, name: &str, text: &Option<Text>) -> Result<(), Fail> {
     if let Some(text) = text {
-        write!(out, " {name}={}", text.as_str())?;
+        put(out, &[" ", name, "=", text.as_str()])?;
     }
     Ok(())
 }
 
 fn put_path(out: &mut String, name: &str, path: &Option<WrittenPath>) -> Result<(), Fail> {
     if let Some(path) = path {
-        write!(out, " {name}={}", path.as_str())?;
+        put(out, &[" ", name, "=", path.as_str()])?;
     }
     Ok(())
 }
 
 fn put_paths(out: &mut String, name: &str, paths: &Items<WrittenPath>) -> Result<(), Fail> {
-    write!(out, " {name}=")?;
-    let mut first = true;
+    put(out, &[" ", name, "="])?;
+    let mut before = "";
     for path in paths.as_slice() {
-        if !first {
-            write!(out, "+")?;
-        }
-        first = false;
-        write!(out, "{}", path.as_str())?;
+        put(out, &[before, path.as_str()])?;
+        before = "+";
     }
     Ok(())
 }
@@ -95,44 +105,44 @@ fn put_paths(out: &mut String, name: &str, paths: &Items<WrittenPath>) -> Result
 fn put_inherited(out: &mut String, name: &str, text: &Inheritable<Text>) -> Result<(), Fail> {
     match text {
         Inheritable::Absent => {}
-        Inheritable::Workspace => write!(out, " {name}=^")?,
-        Inheritable::Written(text) => write!(out, " {name}={}", text.as_str())?,
+        Inheritable::Workspace => put(out, &[" ", name, "=^"])?,
+        Inheritable::Written(text) => put(out, &[" ", name, "=", text.as_str()])?,
     }
     Ok(())
 }
 
 fn put_readme(out: &mut String, readme: &Readme) -> Result<(), Fail> {
     match readme {
-        Readme::Standard => write!(out, " readme=true")?,
-        Readme::Never => write!(out, " readme=false")?,
-        Readme::At(path) => write!(out, " readme={}", path.as_str())?,
+        Readme::Standard => out.push_str(" readme=true")?,
+        Readme::Never => out.push_str(" readme=false")?,
+        Readme::At(path) => put(out, &[" readme=", path.as_str()])?,
     }
     Ok(())
 }
 
 fn put_package(out: &mut String, package: &Package) -> Result<(), Fail> {
-    write!(out, "{}", package.name.as_str())?;
+    out.push_str(package.name.as_str())?;
     match &package.version {
-        Inherited::Workspace => write!(out, " ^")?,
-        Inherited::Written(version) => write!(out, " {}", version.text().as_str())?,
+        Inherited::Workspace => out.push_str(" ^")?,
+        Inherited::Written(version) => put(out, &[" ", version.text().as_str()])?,
     }
     match &package.edition {
-        Inherited::Workspace => write!(out, " ^")?,
+        Inherited::Workspace => out.push_str(" ^")?,
         Inherited::Written(edition) => write!(out, " {edition:?}")?,
     }
     match &package.authors {
         Inheritable::Absent => {}
-        Inheritable::Workspace => write!(out, " authors=^")?,
+        Inheritable::Workspace => out.push_str(" authors=^")?,
         Inheritable::Written(authors) => put_texts(out, "authors", authors)?,
     }
     if !package.autobins {
-        write!(out, " autobins=false")?;
+        out.push_str(" autobins=false")?;
     }
     match &package.build {
         Build::Discovered => {}
-        Build::Standard => write!(out, " build=true")?,
-        Build::Never => write!(out, " build=false")?,
-        Build::At(path) => write!(out, " build={}", path.as_str())?,
+        Build::Standard => out.push_str(" build=true")?,
+        Build::Never => out.push_str(" build=false")?,
+        Build::At(path) => put(out, &[" build=", path.as_str()])?,
     }
     put_description(out, package)
 }
@@ -145,7 +155,7 @@ fn put_description(out: &mut String, package: &Package) -> Result<(), Fail> {
     put_text(out, "links", &package.links)?;
     match &package.readme {
         Inheritable::Absent => {}
-        Inheritable::Workspace => write!(out, " readme=^")?,
+        Inheritable::Workspace => out.push_str(" readme=^")?,
         Inheritable::Written(readme) => put_readme(out, readme)?,
     }
     put_inherited(out, "repository", &package.repository)?;
@@ -153,23 +163,23 @@ fn put_description(out: &mut String, package: &Package) -> Result<(), Fail> {
 }
 
 fn put_library(out: &mut String, library: &Library) -> Result<(), Fail> {
-    write!(out, " lib(")?;
+    out.push_str(" lib(")?;
     for crate_type in library.crate_types.as_slice() {
         write!(out, "{crate_type:?},")?;
     }
     put_text(out, "name", &library.name)?;
     put_path(out, "path", &library.path)?;
-    write!(out, ")")?;
+    out.push_str(")")?;
     Ok(())
 }
 
 fn put_binary(out: &mut String, binary: &Binary) -> Result<(), Fail> {
-    write!(out, " bin({}", binary.name.as_str())?;
+    put(out, &[" bin(", binary.name.as_str()])?;
     put_path(out, "path", &binary.path)?;
     if !binary.required_features.is_empty() {
         put_texts(out, "required", &binary.required_features)?;
     }
-    write!(out, ")")?;
+    out.push_str(")")?;
     Ok(())
 }
 
@@ -181,127 +191,110 @@ fn put_dependencies(out: &mut String, name: &str, entries: &Items<Dependency>) -
 }
 
 fn put_source(out: &mut String, source: &PathSource) -> Result<(), Fail> {
-    write!(out, " path={}", source.path.as_str())?;
+    put(out, &[" path=", source.path.as_str()])?;
     put_text(out, "package", &source.package)?;
     if let Some(version) = &source.version {
-        write!(out, " version={}", version.text().as_str())?;
+        put(out, &[" version=", version.text().as_str()])?;
     }
     if !source.default_features {
-        write!(out, " default-features=false")?;
+        out.push_str(" default-features=false")?;
     }
     Ok(())
 }
 
 fn put_dependency(out: &mut String, name: &str, entry: &Dependency) -> Result<(), Fail> {
-    write!(out, " {name}({}", entry.key.as_str())?;
+    put(out, &[" ", name, "(", entry.key.as_str()])?;
     match &entry.source {
         Source::Path(source) => put_source(out, source)?,
         Source::Workspace { default_features } => {
-            write!(out, " ^")?;
+            out.push_str(" ^")?;
             if *default_features {
-                write!(out, " default-features=true")?;
+                out.push_str(" default-features=true")?;
             }
         }
     }
     if entry.optional {
-        write!(out, " optional")?;
+        out.push_str(" optional")?;
     }
     if !entry.features.is_empty() {
         put_texts(out, "features", &entry.features)?;
     }
-    write!(out, ")")?;
+    out.push_str(")")?;
     Ok(())
 }
 
 fn put_shared_dependency(out: &mut String, entry: &WorkspaceDependency) -> Result<(), Fail> {
-    write!(out, " dep({}", entry.key.as_str())?;
+    put(out, &[" dep(", entry.key.as_str()])?;
     match &entry.source {
         WorkspaceSource::Path(source) => put_source(out, source)?,
-        WorkspaceSource::Unsupported => write!(out, " !")?,
+        WorkspaceSource::Unsupported => out.push_str(" !")?,
     }
     if !entry.features.is_empty() {
         put_texts(out, "features", &entry.features)?;
     }
-    write!(out, ")")?;
+    out.push_str(")")?;
     Ok(())
 }
 
-fn put_feature(out: &mut String, feature: &Feature) -> Result<(), Fail> {
-    write!(out, " feature({}", feature.name.as_str())?;
-    for item in feature.items.as_slice() {
-        match item {
-            FeatureItem::Own(own) => write!(out, " {}", own.as_str())?,
-            FeatureItem::Dependency(name) => write!(out, " enables {}", name.as_str())?,
-            FeatureItem::Of {
-                dependency,
-                feature,
-            } => write!(out, " {} of {}", feature.as_str(), dependency.as_str())?,
-            FeatureItem::OfEnabled {
-                dependency,
-                feature,
-            } => write!(
-                out,
-                " {} of {} if on",
-                feature.as_str(),
-                dependency.as_str()
-            )?,
-        }
+fn put_item(out: &mut String, item: &FeatureItem) -> Result<(), Fail> {
+    match item {
+        FeatureItem::Own(own) => put(out, &[" ", own.as_str()]),
+        FeatureItem::Dependency(name) => put(out, &[" enables ", name.as_str()]),
+        FeatureItem::Of {
+            dependency,
+            feature,
+        } => put(out, &[" ", feature.as_str(), " of ", dependency.as_str()]),
+        FeatureItem::OfEnabled {
+            dependency,
+            feature,
+        } => put(
+            out,
+            &[" ", feature.as_str(), " of ", dependency.as_str(), " if on"],
+        ),
     }
-    write!(out, ")")?;
+}
+
+fn put_feature(out: &mut String, feature: &Feature) -> Result<(), Fail> {
+    put(out, &[" feature(", feature.name.as_str()])?;
+    for item in feature.items.as_slice() {
+        put_item(out, item)?;
+    }
+    out.push_str(")")?;
     Ok(())
 }
 
 fn put_profile_keys(out: &mut String, keys: &ProfileKeys) -> Result<(), Fail> {
-    if let Some(units) = keys.codegen_units {
-        write!(out, " codegen-units={units}")?;
-    }
-    if let Some(debug) = keys.debug {
-        write!(out, " debug={debug:?}")?;
-    }
-    if let Some(truth) = keys.debug_assertions {
-        write!(out, " debug-assertions={truth}")?;
-    }
-    if let Some(lto) = keys.lto {
-        write!(out, " lto={lto:?}")?;
-    }
-    if let Some(opt_level) = keys.opt_level {
-        write!(out, " opt-level={opt_level:?}")?;
-    }
-    if let Some(truth) = keys.overflow_checks {
-        write!(out, " overflow-checks={truth}")?;
-    }
-    if let Some(panic) = keys.panic {
-        write!(out, " panic={panic:?}")?;
-    }
-    if let Some(truth) = keys.rpath {
-        write!(out, " rpath={truth}")?;
-    }
-    if let Some(strip) = keys.strip {
-        write!(out, " strip={strip:?}")?;
-    }
-    Ok(())
+    put_value(out, "codegen-units", &keys.codegen_units)?;
+    put_value(out, "debug", &keys.debug)?;
+    put_value(out, "debug-assertions", &keys.debug_assertions)?;
+    put_value(out, "lto", &keys.lto)?;
+    put_value(out, "opt-level", &keys.opt_level)?;
+    put_value(out, "overflow-checks", &keys.overflow_checks)?;
+    put_value(out, "panic", &keys.panic)?;
+    put_value(out, "rpath", &keys.rpath)?;
+    put_value(out, "strip", &keys.strip)
 }
 
 fn put_profile(out: &mut String, profile: &Profile) -> Result<(), Fail> {
-    write!(out, " profile({}", profile.name.as_str())?;
+    put(out, &[" profile(", profile.name.as_str()])?;
     put_text(out, "inherits", &profile.inherits)?;
     put_profile_keys(out, &profile.keys)?;
     for entry in profile.packages.as_slice() {
-        write!(out, " package({}", entry.name.as_str())?;
+        put(out, &[" package(", entry.name.as_str()])?;
         put_profile_keys(out, &entry.keys)?;
-        write!(out, ")")?;
+        out.push_str(")")?;
     }
     if let Some(keys) = &profile.build_override {
-        write!(out, " build-override(")?;
+        out.push_str(" build-override(")?;
         put_profile_keys(out, keys)?;
-        write!(out, ")")?;
+        out.push_str(")")?;
     }
-    write!(out, ")")?;
+    out.push_str(")")?;
     Ok(())
 }
 
 fn put_workspace(out: &mut String, workspace: &WorkspaceTable) -> Result<(), Fail> {
-    write!(out, " workspace(")?;
+    out.push_str(" workspace(")?;
     if !workspace.members.is_empty() {
         put_paths(out, "members", &workspace.members)?;
     }
@@ -317,19 +310,17 @@ fn put_workspace(out: &mut String, workspace: &WorkspaceTable) -> Result<(), Fai
     for entry in workspace.dependencies.as_slice() {
         put_shared_dependency(out, entry)?;
     }
-    write!(out, ")")?;
+    out.push_str(")")?;
     Ok(())
 }
 
 fn put_workspace_package(out: &mut String, package: &WorkspacePackage) -> Result<(), Fail> {
-    write!(out, " package(")?;
+    out.push_str(" package(")?;
     if let Some(authors) = &package.authors {
         put_texts(out, "authors", authors)?;
     }
     put_text(out, "description", &package.description)?;
-    if let Some(edition) = package.edition {
-        write!(out, " edition={edition:?}")?;
-    }
+    put_value(out, "edition", &package.edition)?;
     put_text(out, "homepage", &package.homepage)?;
     put_text(out, "license", &package.license)?;
     put_text(out, "license-file", &package.license_file)?;
@@ -339,8 +330,8 @@ fn put_workspace_package(out: &mut String, package: &WorkspacePackage) -> Result
     put_text(out, "repository", &package.repository)?;
     put_text(out, "rust-version", &package.rust_version)?;
     if let Some(version) = &package.version {
-        write!(out, " version={}", version.text().as_str())?;
+        put(out, &[" version=", version.text().as_str()])?;
     }
-    write!(out, ")")?;
+    out.push_str(")")?;
     Ok(())
 }
