@@ -1,9 +1,9 @@
 //! Children: how they end, and what they are given.
 
 use crate::calls::{Step, carry_out_here};
-use crate::commands::{program, said, shell};
+use crate::commands::{program, said, shell, shell_in};
 use crate::folders::{finish, fresh, path_in};
-use pb_data::Text;
+use pb_data::{Items, Text};
 use pb_host::HostPlace;
 use pb_place::{Command, Ended, PathText, Place};
 use std::alloc::Global;
@@ -75,26 +75,52 @@ fn end(rt: &HostRuntime, command: &Command) -> Result<Ended, Fail> {
     Ok(ended)
 }
 
-/// How many bytes the two streams of a child have.
-fn lengths(ended: &Ended) -> (usize, usize) {
-    (ended.stdout.as_slice().len(), ended.stderr.as_slice().len())
+/// Whether each of the two streams of a child has so many bytes.
+fn have_length(ended: &Ended, length: usize) -> bool {
+    ended.stdout.as_slice().len() == length && ended.stderr.as_slice().len() == length
+}
+
+/// Whether the shell writes so many bytes to each stream when it is told this.
+fn shell_writes(rt: &HostRuntime, words: &str, length: usize) -> Result<bool, Fail> {
+    let command = shell(rt.alloc(), words)?;
+    let ended = end(rt, &command)?;
+    Ok(have_length(&ended, length))
 }
 
 #[test]
 fn much_is_written(rt: HostRuntime) -> Result<(), Fail> {
     let words = "head -c 300000 /dev/zero; head -c 300000 /dev/zero >&2";
-    let command = shell(rt.alloc(), words)?;
-    let ended = end(&rt, &command)?;
-    assert!(rt; lengths(&ended) == (300_000, 300_000));
+    assert!(rt; shell_writes(&rt, words, 300_000)?);
     Ok(())
 }
 
-/// Gives a command a pair.
-fn add_pair(alloc: Global, command: &mut Command, name: &str, value: &str) -> Result<(), Fail> {
+/// Adds a pair.
+fn add_pair(
+    alloc: Global,
+    pairs: &mut Items<(Text, Text)>,
+    name: &str,
+    value: &str,
+) -> Result<(), Fail> {
     let name = Text::from_str(alloc, name)?;
     let value = Text::from_str(alloc, value)?;
-    command.pairs.push((name, value))?;
+    pairs.push((name, value))?;
     Ok(())
+}
+
+/// Pairs as texts.
+fn texts(alloc: Global, pairs: &[(&str, &str)]) -> Result<Items<(Text, Text)>, Fail> {
+    let mut made = Items::new(alloc);
+    for pair in pairs {
+        add_pair(alloc, &mut made, pair.0, pair.1)?;
+    }
+    Ok(made)
+}
+
+/// A command of the shell with pairs.
+fn shell_with(alloc: Global, words: &str, pairs: &[(&str, &str)]) -> Result<Command, Fail> {
+    let pairs = texts(alloc, pairs)?;
+    let command = shell(alloc, words)?;
+    Ok(Command { pairs, ..command })
 }
 
 /// Tries what the shell gives with pairs.
@@ -104,10 +130,7 @@ fn shell_gives_with(
     pairs: &[(&str, &str)],
     wanted: &str,
 ) -> Result<(), Fail> {
-    let mut command = shell(rt.alloc(), words)?;
-    for pair in pairs {
-        add_pair(rt.alloc(), &mut command, pair.0, pair.1)?;
-    }
+    let command = shell_with(rt.alloc(), words, pairs)?;
     gives(rt, &command, wanted)
 }
 
@@ -133,14 +156,6 @@ fn variables_are_inherited(rt: HostRuntime) -> Result<(), Fail> {
     shell_gives_with(&rt, "[ \"$A\" = \"$PATH\" ]", pairs, "0()()")
 }
 
-/// A command of the shell in a folder, with an output folder.
-fn placed(alloc: Global, words: &str, folder: PathText, out: PathText) -> Result<Command, Fail> {
-    let mut made = shell(alloc, words)?;
-    made.folder = folder;
-    made.out = Some(out);
-    Ok(made)
-}
-
 /// The folder in which a child starts, its output folder, and how it ends.
 const FOLDERS: &[(&str, &str, &str)] = &[
     (".", "out/made", "0()()"),
@@ -159,7 +174,7 @@ fn gives_in(
 ) -> Result<(), Fail> {
     let folder = path_in(rt.alloc(), root, folder)?;
     let out = path_in(rt.alloc(), root, out)?;
-    let command = placed(rt.alloc(), "echo x > out/made/f", folder, out)?;
+    let command = shell_in(rt.alloc(), "echo x > out/made/f", folder, Some(out))?;
     gives(rt, &command, wanted)
 }
 

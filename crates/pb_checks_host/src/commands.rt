@@ -7,24 +7,50 @@ use std::test::Fail;
 
 /// A command of a program without words, in the root, with no pairs and no output folder.
 pub(crate) fn program(alloc: Global, name: &str) -> Result<Command, Fail> {
+    let program = Text::from_str(alloc, name)?;
+    let folder = PathText::parse(alloc, "/")?;
+    let target = PathText::parse(alloc, "/no/target")?;
+    let toolchain = Bytes::from_slice(alloc, b"")?;
     Ok(Command {
-        program: Text::from_str(alloc, name)?,
+        program,
         words: Items::new(alloc),
-        folder: PathText::parse(alloc, "/")?,
+        folder,
         pairs: Items::new(alloc),
         out: None,
-        target: PathText::parse(alloc, "/no/target")?,
-        toolchain: Bytes::from_slice(alloc, b"")?,
+        target,
+        toolchain,
         reads: Items::new(alloc),
     })
 }
 
+/// The words of the shell that is told this.
+fn shell_words(alloc: Global, told: &str) -> Result<Items<Text>, Fail> {
+    let mut words = Items::new(alloc);
+    words.push(Text::from_str(alloc, "-c")?)?;
+    words.push(Text::from_str(alloc, told)?)?;
+    Ok(words)
+}
+
 /// A command that the shell carries out.
-pub(crate) fn shell(alloc: Global, words: &str) -> Result<Command, Fail> {
-    let mut made = program(alloc, "/bin/sh")?;
-    made.words.push(Text::from_str(alloc, "-c")?)?;
-    made.words.push(Text::from_str(alloc, words)?)?;
-    Ok(made)
+pub(crate) fn shell(alloc: Global, told: &str) -> Result<Command, Fail> {
+    let words = shell_words(alloc, told)?;
+    let command = program(alloc, "/bin/sh")?;
+    Ok(Command { words, ..command })
+}
+
+/// The same in a folder, with an output folder or none.
+pub(crate) fn shell_in(
+    alloc: Global,
+    told: &str,
+    folder: PathText,
+    out: Option<PathText>,
+) -> Result<Command, Fail> {
+    let command = shell(alloc, told)?;
+    Ok(Command {
+        folder,
+        out,
+        ..command
+    })
 }
 
 /// How a child ended: its status, and its two streams, each in brackets.

@@ -2,10 +2,10 @@
 
 use crate::broken::Broken;
 use crate::calls::{Step, carry_out, carry_out_here};
-use crate::commands::{said, shell};
+use crate::commands::{said, shell, shell_in};
 use crate::folders::{finish, fresh, path_in};
 use pb_host::{HostPlace, HostView};
-use pb_place::{PathText, Place, PlaceFault, View, ViewFault};
+use pb_place::{Command, PathText, Place, PlaceFault, View, ViewFault};
 use std::alloc::Global;
 use std::fs;
 use std::io::ErrorKind;
@@ -13,9 +13,9 @@ use std::test::Fail;
 
 /// Carries steps out on a machine whose every call fails so.
 fn try_broken(rt: &HostRuntime, kind: ErrorKind, steps: &[Step]) -> Result<(), Fail> {
+    let root = PathText::parse(rt.alloc(), "/a")?;
     let machine = Broken::new(rt.alloc(), kind);
     let mut place = HostPlace::new(rt.alloc(), &machine);
-    let root = PathText::parse(rt.alloc(), "/a")?;
     carry_out(rt, &mut place, &root, steps)
 }
 
@@ -53,11 +53,16 @@ fn errors_of_a_machine(rt: HostRuntime) -> Result<(), Fail> {
     try_broken(&rt, ErrorKind::NotADirectory, ABSENT)
 }
 
+/// What the start of a child gives on a machine.
+fn given(alloc: Global, machine: &Broken, child: &Command) -> Result<String, Fail> {
+    let mut place = HostPlace::new(alloc, machine);
+    said(alloc, &mut place, child)
+}
+
 /// Whether the start of a child gives this on a machine.
 fn start_gives(alloc: Global, machine: &Broken, wanted: &str) -> Result<bool, Fail> {
     let child = shell(alloc, "exit 0")?;
-    let mut place = HostPlace::new(alloc, machine);
-    let found = said(alloc, &mut place, &child)?;
+    let found = given(alloc, machine, &child)?;
     Ok(found.as_str() == wanted)
 }
 
@@ -120,13 +125,18 @@ fn views(rt: HostRuntime) -> Result<(), Fail> {
     Ok(())
 }
 
+/// What a child does, whatever it gives.
+fn start(rt: &HostRuntime, child: &Command) -> Result<(), Fail> {
+    let mut place = HostPlace::new(rt.alloc(), rt);
+    said(rt.alloc(), &mut place, child)?;
+    Ok(())
+}
+
 /// What the shell does in a folder.
 fn in_folder(rt: &HostRuntime, folder: &PathText, words: &str) -> Result<(), Fail> {
-    let mut child = shell(rt.alloc(), words)?;
-    child.folder = path_in(rt.alloc(), folder, ".")?;
-    let mut place = HostPlace::new(rt.alloc(), rt);
-    said(rt.alloc(), &mut place, &child)?;
-    Ok(())
+    let folder = path_in(rt.alloc(), folder, ".")?;
+    let child = shell_in(rt.alloc(), words, folder, None)?;
+    start(rt, &child)
 }
 
 const SHUT: &[Step] = &[("write", "f", "x", "Write"), ("read", "f", "", "none")];
