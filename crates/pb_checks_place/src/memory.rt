@@ -26,16 +26,21 @@ pub fn read<P: Place>(alloc: Global, place: &mut P, path: &str) -> Result<Text, 
     text_of(alloc, found)
 }
 
-/// The paths of the files below a folder, a space after each.
-fn list<P: Place>(alloc: Global, place: &mut P, folder: &str) -> Result<Text, Fail> {
-    let folder = at(alloc, folder)?;
-    let paths = place.list(alloc, &folder)?;
+/// Paths, a space after each.
+fn spaced(alloc: Global, paths: &[PathText]) -> Result<Text, Fail> {
     let mut text = String::new(alloc);
-    for path in paths.as_slice() {
+    for path in paths {
         text.push_str(path.as_str())?;
         text.push_str(" ")?;
     }
     Ok(Text::new(text))
+}
+
+/// The paths of the files below a folder, a space after each.
+fn list<P: Place>(alloc: Global, place: &mut P, folder: &str) -> Result<Text, Fail> {
+    let folder = at(alloc, folder)?;
+    let paths = place.list(alloc, &folder)?;
+    spaced(alloc, paths.as_slice())
 }
 
 /// The value of a variable, or `none`.
@@ -47,22 +52,18 @@ fn variable<P: Place>(alloc: Global, place: &mut P, name: &str) -> Result<Text, 
 }
 
 /// How a child ended: its status, its output and its errors, with spaces between them.
-fn said(alloc: Global, ended: Ended) -> Result<Text, Fail> {
-    let stdout = text_of(alloc, Some(ended.stdout))?;
-    let stderr = text_of(alloc, Some(ended.stderr))?;
-    let mut text = format!(in alloc; "{}", ended.status)?;
-    text.push_str(" ")?;
-    text.push_str(stdout.as_str())?;
-    text.push_str(" ")?;
-    text.push_str(stderr.as_str())?;
-    Ok(Text::new(text))
+fn said(alloc: Global, ended: &Ended) -> Result<Text, Fail> {
+    let status = ended.status;
+    let stdout = str::from_utf8(ended.stdout.as_slice())?;
+    let stderr = str::from_utf8(ended.stderr.as_slice())?;
+    Ok(Text::new(format!(in alloc; "{status} {stdout} {stderr}")?))
 }
 
 /// What a child says that looks at a path.
 fn start<P: Place>(alloc: Global, place: &mut P, path: &str) -> Result<Text, Fail> {
     let command = say(alloc, path)?;
     let ended = place.start(alloc, &command)?;
-    said(alloc, ended)
+    said(alloc, &ended)
 }
 
 /// Writes or removes files as a place does.
@@ -152,15 +153,23 @@ fn answer(
     }
 }
 
-/// A place with files in a folder and below a file, and in the target folder `/w/target`.
+/// Files in a folder and below a file, and in the target folder `/w/target`.
+const FILES: &[(&str, &str)] = &[
+    ("/w/target/hidden", "hidden"),
+    ("/w/ab", "longer"),
+    ("/w/target/dep/lib", "read"),
+    ("/w/target/dep", "folder"),
+    ("/w/a", "beside"),
+    ("/w/target", "target"),
+    ("/w/a/b", "inside"),
+];
+
+/// A place with these files and a variable.
 fn furnished(alloc: Global) -> Result<Memory<Echo>, Fail> {
     let mut memory = Memory::new(alloc, Echo);
-    let files = "/w/target/hidden=hidden /w/ab=longer /w/target/dep/lib=read /w/target/dep=folder \
-        /w/a=beside /w/target=target /w/a/b=inside";
-    for file in files.split(' ') {
-        if let Some((path, text)) = file.split_once("=") {
-            edit(alloc, &mut memory, path, Some(text))?;
-        }
+    for file in FILES {
+        let (path, text) = *file;
+        edit(alloc, &mut memory, path, Some(text))?;
     }
     edit_variable(alloc, &mut memory, "NAME", Some("value"))?;
     Ok(memory)
