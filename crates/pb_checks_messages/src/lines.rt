@@ -2,7 +2,7 @@
 
 use crate::made::{artifact, executed, library, settings, subject, text, texts};
 use crate::wanted::WANTED;
-use pb_data::Text;
+use pb_data::{Items, Text};
 use pb_manifest::{CrateType, DebugInfo, Edition, OptLevel};
 use pb_message::{Level, Message, Subject, Target, finish_line, line_of, lines_of, write_lines};
 use pb_place::{Over, PathText};
@@ -28,9 +28,11 @@ fn says(
     Ok(is_line(line.as_str(), number))
 }
 
-/// The library of the package a in `/w`.
+/// The library of the package a in `/w`, of which no type is written.
 fn own(alloc: Global) -> Result<Subject, Fail> {
-    subject(alloc, "/w", "a", library(alloc, &[])?)
+    let types: &[CrateType] = &[];
+    let target = library(alloc, types)?;
+    subject(alloc, "/w", "a", target)
 }
 
 /// Whether the line of a message about it is the wanted one of this number.
@@ -51,7 +53,8 @@ fn libraries(rt: HostRuntime) -> Result<(), Fail> {
 /// The library of the package a in `/w/a`, of two types.
 fn of_two_types(alloc: Global) -> Result<Subject, Fail> {
     let types: &[CrateType] = &[CrateType::Rlib, CrateType::Lib];
-    subject(alloc, "/w/a", "a", library(alloc, types)?)
+    let target = library(alloc, types)?;
+    subject(alloc, "/w/a", "a", target)
 }
 
 /// Whether the line of a message about it, which is fresh, is the wanted one of this number.
@@ -75,6 +78,18 @@ fn diagnostics_of_a_compiler(rt: HostRuntime) -> Result<(), Fail> {
     Ok(())
 }
 
+/// Whether the line of a message about a target of the package a in a folder is the wanted one of this number.
+fn target_says(
+    alloc: Global,
+    folder: &str,
+    target: Target,
+    message: &Message,
+    number: usize,
+) -> Result<bool, Fail> {
+    let subject = subject(alloc, folder, "a", target)?;
+    Ok(says(alloc, &subject, false, message, number)?)
+}
+
 /// A binary that wants a feature.
 fn binary(alloc: Global) -> Result<Target, Fail> {
     let name = text(alloc, "go-on")?;
@@ -85,8 +100,8 @@ fn binary(alloc: Global) -> Result<Target, Fail> {
 
 /// Whether the line of a message about it is the wanted one of this number.
 fn binary_says(alloc: Global, message: &Message, number: usize) -> Result<bool, Fail> {
-    let subject = subject(alloc, "/w/x-a", "a", binary(alloc)?)?;
-    Ok(says(alloc, &subject, false, message, number)?)
+    let target = binary(alloc)?;
+    target_says(alloc, "/w/x-a", target, message, number)
 }
 
 #[test]
@@ -105,8 +120,8 @@ fn script(alloc: Global) -> Result<Target, Fail> {
 
 /// Whether the line of a message about it is the wanted one of this number.
 fn script_says(alloc: Global, message: &Message, number: usize) -> Result<bool, Fail> {
-    let subject = subject(alloc, "/w", "a", script(alloc)?)?;
-    Ok(says(alloc, &subject, false, message, number)?)
+    let target = script(alloc)?;
+    target_says(alloc, "/w", target, message, number)
 }
 
 #[test]
@@ -136,7 +151,8 @@ const NOTES: &[(Level, &str, usize)] = &[(Level::Warning, "w", 7), (Level::Error
 
 /// Whether the line of a note is the wanted one of this number.
 fn note_says(alloc: Global, level: Level, note: &str, number: usize) -> Result<bool, Fail> {
-    let message = Message::BuildScriptNote(level, text(alloc, note)?);
+    let note = text(alloc, note)?;
+    let message = Message::BuildScriptNote(level, note);
     own_says(alloc, false, &message, number)
 }
 
@@ -152,12 +168,33 @@ fn warnings_and_errors_of_a_script(rt: HostRuntime) -> Result<(), Fail> {
     Ok(())
 }
 
-/// The lines of a warning and of what a script gave.
+/// Adds a warning of a script.
+fn add_warning(alloc: Global, messages: &mut Items<Message>) -> Result<(), Fail> {
+    let warning = text(alloc, "w")?;
+    messages.push(Message::BuildScriptNote(Level::Warning, warning))?;
+    Ok(())
+}
+
+/// Adds what a script gave.
+fn add_run(alloc: Global, messages: &mut Items<Message>) -> Result<(), Fail> {
+    let run = executed(alloc, "", "")?;
+    messages.push(run)?;
+    Ok(())
+}
+
+/// A warning, and what a script gave.
+fn two_messages(alloc: Global) -> Result<Items<Message>, Fail> {
+    let mut messages = Items::new(alloc);
+    add_warning(alloc, &mut messages)?;
+    add_run(alloc, &mut messages)?;
+    Ok(messages)
+}
+
+/// The lines of both.
 fn two_lines(alloc: Global) -> Result<Text, Fail> {
-    let first = Message::BuildScriptNote(Level::Warning, text(alloc, "w")?);
-    let second = executed(alloc, "", "")?;
+    let messages = two_messages(alloc)?;
     let subject = own(alloc)?;
-    Ok(lines_of(alloc, &subject, false, &[first, second])?)
+    Ok(lines_of(alloc, &subject, false, messages.as_slice())?)
 }
 
 /// Whether a sink that takes all takes these lines.

@@ -26,17 +26,20 @@ pub fn texts(alloc: Global, words: &str) -> Result<Items<Text>, Fail> {
 
 /// The library at `/w/src/lib.rs`.
 pub fn library(alloc: Global, types: &[CrateType]) -> Result<Target, Fail> {
+    let name = text(alloc, "a")?;
     let source = PathText::parse(alloc, "/w/src/lib.rs")?;
-    Ok(Target::library(alloc, types, text(alloc, "a")?, source, Edition::E2021)?)
+    Ok(Target::library(alloc, types, name, source, Edition::E2021)?)
 }
 
 /// A package of version 0.1.0 with a target.
 pub fn subject(alloc: Global, folder: &str, name: &str, target: Target) -> Result<Subject, Fail> {
+    let name = text(alloc, name)?;
+    let version = text(alloc, "0.1.0")?;
     let folder = PathText::parse(alloc, folder)?;
     let manifest = folder.join(alloc, "Cargo.toml")?;
     Ok(Subject {
-        name: text(alloc, name)?,
-        version: text(alloc, "0.1.0")?,
+        name,
+        version,
         folder,
         manifest,
         target,
@@ -66,32 +69,51 @@ pub fn artifact(
     file: &str,
     is_executable: bool,
 ) -> Result<Message, Fail> {
+    let features = texts(alloc, features)?;
     let file = PathText::parse(alloc, file)?;
     Ok(Message::CompilerArtifact(Artifact {
         settings,
-        features: texts(alloc, features)?,
+        features,
         file,
         is_executable,
     }))
+}
+
+/// Adds a variable.
+fn add_variable(
+    alloc: Global,
+    made: &mut Items<(Text, Text)>,
+    name: &str,
+    value: &str,
+) -> Result<(), Fail> {
+    let name = text(alloc, name)?;
+    let value = text(alloc, value)?;
+    made.push((name, value))?;
+    Ok(())
 }
 
 /// The variable `A` with a value and an empty variable `B`; neither for an empty value.
 fn variables(alloc: Global, value: &str) -> Result<Items<(Text, Text)>, Fail> {
     let mut made = Items::new(alloc);
     if !value.is_empty() {
-        made.push((text(alloc, "A")?, text(alloc, value)?))?;
-        made.push((text(alloc, "B")?, text(alloc, "")?))?;
+        add_variable(alloc, &mut made, "A", value)?;
+        add_variable(alloc, &mut made, "B", "")?;
     }
     Ok(made)
 }
 
 /// What a script gave: libraries, folders and conditions, one variable and an empty one, and its folder.
 pub fn executed(alloc: Global, lists: &str, value: &str) -> Result<Message, Fail> {
+    let linked_libraries = texts(alloc, lists)?;
+    let linked_paths = texts(alloc, lists)?;
+    let conditions = texts(alloc, lists)?;
+    let variables = variables(alloc, value)?;
+    let out_folder = PathText::parse(alloc, "/w/target/debug/a.target.run")?;
     Ok(Message::BuildScriptExecuted(Executed {
-        linked_libraries: texts(alloc, lists)?,
-        linked_paths: texts(alloc, lists)?,
-        conditions: texts(alloc, lists)?,
-        variables: variables(alloc, value)?,
-        out_folder: PathText::parse(alloc, "/w/target/debug/a.target.run")?,
+        linked_libraries,
+        linked_paths,
+        conditions,
+        variables,
+        out_folder,
     }))
 }
