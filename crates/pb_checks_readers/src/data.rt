@@ -3,6 +3,7 @@
 use pb_data::{Bytes, Items, Mentions, Table, Text, TryCopy};
 use std::alloc::{AllocError, Global};
 use std::cmp::Ordering;
+use std::process::Abort;
 use std::test::Fail;
 
 /// Whether items are the texts that stand in another one, with spaces between them.
@@ -60,11 +61,18 @@ fn texts_have_byte_order(rt: HostRuntime) -> Result<(), Fail> {
     Ok(())
 }
 
+/// Mentions a word.
+fn mention(alloc: Global, mentions: &mut Mentions, word: &str) -> Result<(), AllocError> {
+    let word = Text::from_str(alloc, word)?;
+    mentions.insert(word)?;
+    Ok(())
+}
+
 /// Mentions of the words of a text, one after another.
 fn mentions_of(alloc: Global, words: &str) -> Result<Mentions, AllocError> {
     let mut mentions = Mentions::new(alloc);
     for word in words.split_whitespace() {
-        mentions.insert(Text::from_str(alloc, word)?)?;
+        mention(alloc, &mut mentions, word)?;
     }
     Ok(mentions)
 }
@@ -75,25 +83,46 @@ fn mentions_text(alloc: Global, mentions: &Mentions, text: &str) -> Result<bool,
     Ok(mentions.contains(&text))
 }
 
+/// Whether a text is mentioned, and another is not.
+fn mentions_one(
+    alloc: Global,
+    mentions: &Mentions,
+    one: &str,
+    other: &str,
+) -> Result<bool, AllocError> {
+    Ok(mentions_text(alloc, mentions, one)? && !mentions_text(alloc, mentions, other)?)
+}
+
+/// Whether mentions become these items.
+fn become_items(alloc: Global, mentions: Mentions, wanted: &str) -> Result<bool, AllocError> {
+    let items = mentions.into_items(alloc)?;
+    Ok(are(&items, wanted))
+}
+
 #[test]
 fn mentions_stand_once(rt: HostRuntime) -> Result<(), Fail> {
     let mentions = mentions_of(rt.alloc(), "b a b c a")?;
-    let has_first = mentions_text(rt.alloc(), &mentions, "a")?;
-    let has_other = mentions_text(rt.alloc(), &mentions, "d")?;
-    let items = mentions.into_items(rt.alloc())?;
-    assert!(rt; has_first && !has_other && are(&items, "b a c"));
+    assert!(rt; mentions_one(rt.alloc(), &mentions, "a", "d")?);
+    assert!(rt; become_items(rt.alloc(), mentions, "b a c")?);
     Ok(())
 }
 
 /// Names and values that are put into a table one after another.
 const INSERTED: &[(&str, u8)] = &[("b", 1), ("a", 2), ("b", 3), ("c", 4)];
 
+/// Puts a name and a value into a table.
+fn insert(alloc: Global, table: &mut Table<u8>, name: &str, value: u8) -> Result<(), AllocError> {
+    let name = Text::from_str(alloc, name)?;
+    table.insert(name, value)?;
+    Ok(())
+}
+
 /// The table of them.
 fn filled_table(alloc: Global) -> Result<Table<u8>, AllocError> {
     let mut table = Table::new(alloc);
     for entry in INSERTED {
         let (name, value) = *entry;
-        table.insert(Text::from_str(alloc, name)?, value)?;
+        insert(alloc, &mut table, name, value)?;
     }
     Ok(table)
 }
@@ -108,26 +137,38 @@ fn has_value(alloc: Global, table: &Table<u8>, name: &str, wanted: u8) -> Result
 /// Names, and the value of each in the table; 0 where it has none.
 const VALUES: &[(&str, u8)] = &[("a", 2), ("b", 3), ("c", 4), ("d", 0)];
 
-/// The names of a table, in its order.
-fn names_of(alloc: Global, table: Table<u8>) -> Result<Items<Text>, AllocError> {
-    let entries = table.into_items(alloc)?;
-    let mut names = Items::new(alloc);
-    for (name, _) in entries.as_slice() {
-        names.push(name.copy(alloc)?)?;
+/// Asserts the value of each name in a table.
+fn assert_values(rt: &impl Abort, alloc: Global, table: &Table<u8>) -> Result<(), AllocError> {
+    for case in VALUES {
+        let (name, value) = *case;
+        assert!(rt; has_value(alloc, table, name, value)?, "of {name}");
     }
-    Ok(names)
+    Ok(())
+}
+
+/// Whether entries have these names, in this order.
+fn are_named(entries: &[(Text, u8)], wanted: &str) -> bool {
+    let mut rest = wanted.split_whitespace();
+    for (name, _) in entries {
+        if rest.next() != Some(name.as_str()) {
+            return false;
+        }
+    }
+    rest.next().is_none()
+}
+
+/// Whether these are the names of a table, in its order.
+fn has_names(alloc: Global, table: Table<u8>, wanted: &str) -> Result<bool, AllocError> {
+    let entries = table.into_items(alloc)?;
+    Ok(are_named(entries.as_slice(), wanted))
 }
 
 #[test]
 fn tables_keep_the_first_place_and_the_last_value(rt: HostRuntime) -> Result<(), Fail> {
     let table = filled_table(rt.alloc())?;
-    for case in VALUES {
-        let (name, value) = *case;
-        assert!(rt; has_value(rt.alloc(), &table, name, value)?, "of {name}");
-    }
-    let count = table.len();
-    let names = names_of(rt.alloc(), table)?;
-    assert!(rt; count == 3 && are(&names, "b a c"));
+    assert_values(&rt, rt.alloc(), &table)?;
+    assert_eq!(rt; table.len(), 3);
+    assert!(rt; has_names(rt.alloc(), table, "b a c")?);
     Ok(())
 }
 
@@ -148,12 +189,23 @@ fn bytes_equal_their_copy(rt: HostRuntime) -> Result<(), Fail> {
 /// A text, and bytes where there are some.
 type Entry = (Text, Option<Bytes>);
 
+/// Adds an entry.
+fn add_entry(
+    alloc: Global,
+    items: &mut Items<Entry>,
+    text: &str,
+    bytes: Option<Bytes>,
+) -> Result<(), AllocError> {
+    let text = Text::from_str(alloc, text)?;
+    items.push((text, bytes))
+}
+
 /// Two entries, of which the first has bytes.
 fn entries(alloc: Global) -> Result<Items<Entry>, AllocError> {
-    let mut items = Items::new(alloc);
     let bytes = Bytes::from_slice(alloc, &[0, 255, 7])?;
-    items.push((Text::from_str(alloc, "a")?, Some(bytes)))?;
-    items.push((Text::from_str(alloc, "b")?, None))?;
+    let mut items = Items::new(alloc);
+    add_entry(alloc, &mut items, "a", Some(bytes))?;
+    add_entry(alloc, &mut items, "b", None)?;
     Ok(items)
 }
 
@@ -167,12 +219,22 @@ fn are_alike(first: &[Entry], second: &[Entry]) -> bool {
     first.len() == 2 && second.len() == 2
 }
 
+/// Whether a copy of entries is not empty, and is like them.
+fn are_copied(alloc: Global, items: &Items<Entry>) -> Result<bool, AllocError> {
+    let copy = items.copy(alloc)?;
+    Ok(!copy.is_empty() && are_alike(items.as_slice(), copy.as_slice()))
+}
+
+/// Whether no entries are empty.
+fn none_are_empty(alloc: Global) -> bool {
+    let none: Items<Entry> = Items::new(alloc);
+    none.is_empty()
+}
+
 #[test]
 fn items_equal_their_copy(rt: HostRuntime) -> Result<(), Fail> {
-    let none: Items<Entry> = Items::new(rt.alloc());
-    assert!(rt; none.is_empty());
+    assert!(rt; none_are_empty(rt.alloc()));
     let items = entries(rt.alloc())?;
-    let copy = items.copy(rt.alloc())?;
-    assert!(rt; !copy.is_empty() && are_alike(items.as_slice(), copy.as_slice()));
+    assert!(rt; are_copied(rt.alloc(), &items)?);
     Ok(())
 }

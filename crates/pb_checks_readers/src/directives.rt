@@ -8,32 +8,39 @@ use std::alloc::{AllocError, Global};
 use std::process::Abort;
 use std::test::Fail;
 
-fn show_one(alloc: Global, directive: &Directive) -> Result<String, AllocError> {
-    let (key, first, second) = match directive {
-        Directive::RerunIfChanged(path) => ("changed", path.as_str(), ""),
-        Directive::RerunIfEnvChanged(name) => ("env-changed", name.as_str(), ""),
-        Directive::LinkArg(flag) => ("arg", flag.as_str(), ""),
-        Directive::LinkArgBins(flag) => ("arg-bins", flag.as_str(), ""),
-        Directive::LinkArgCdylib(flag) => ("arg-cdylib", flag.as_str(), ""),
-        Directive::LinkArgTests(flag) => ("arg-tests", flag.as_str(), ""),
-        Directive::LinkArgExamples(flag) => ("arg-examples", flag.as_str(), ""),
-        Directive::LinkArgBenches(flag) => ("arg-benches", flag.as_str(), ""),
-        Directive::LinkArgBin(name, flag) => ("arg-bin", name.as_str(), flag.as_str()),
-        Directive::LinkLib(name) => ("lib", name.as_str(), ""),
-        Directive::LinkSearch(folder) => ("search", folder.as_str(), ""),
-        Directive::Cfg(condition) => ("cfg", condition.as_str(), ""),
-        Directive::CheckCfg(condition) => ("check-cfg", condition.as_str(), ""),
-        Directive::Env(name, value) => ("env", name.as_str(), value.as_str()),
-        Directive::Metadata(key, value) => ("metadata", key.as_str(), value.as_str()),
-        Directive::Warning(text) => ("warning", text.as_str(), ""),
-    };
-    format!(in alloc; "{key}<{first}><{second}>;")
+/// Puts `KEY<FIRST><SECOND>;`.
+fn put(out: &mut String, key: &str, first: &str, second: &str) -> Result<(), AllocError> {
+    for part in &[key, "<", first, "><", second, ">;"] {
+        out.push_str(*part)?;
+    }
+    Ok(())
+}
+
+fn put_directive(out: &mut String, directive: &Directive) -> Result<(), AllocError> {
+    match directive {
+        Directive::RerunIfChanged(path) => put(out, "changed", path.as_str(), ""),
+        Directive::RerunIfEnvChanged(name) => put(out, "env-changed", name.as_str(), ""),
+        Directive::LinkArg(flag) => put(out, "arg", flag.as_str(), ""),
+        Directive::LinkArgBins(flag) => put(out, "arg-bins", flag.as_str(), ""),
+        Directive::LinkArgCdylib(flag) => put(out, "arg-cdylib", flag.as_str(), ""),
+        Directive::LinkArgTests(flag) => put(out, "arg-tests", flag.as_str(), ""),
+        Directive::LinkArgExamples(flag) => put(out, "arg-examples", flag.as_str(), ""),
+        Directive::LinkArgBenches(flag) => put(out, "arg-benches", flag.as_str(), ""),
+        Directive::LinkArgBin(name, flag) => put(out, "arg-bin", name.as_str(), flag.as_str()),
+        Directive::LinkLib(name) => put(out, "lib", name.as_str(), ""),
+        Directive::LinkSearch(folder) => put(out, "search", folder.as_str(), ""),
+        Directive::Cfg(condition) => put(out, "cfg", condition.as_str(), ""),
+        Directive::CheckCfg(condition) => put(out, "check-cfg", condition.as_str(), ""),
+        Directive::Env(name, value) => put(out, "env", name.as_str(), value.as_str()),
+        Directive::Metadata(key, value) => put(out, "metadata", key.as_str(), value.as_str()),
+        Directive::Warning(text) => put(out, "warning", text.as_str(), ""),
+    }
 }
 
 fn show(alloc: Global, directives: &Directives) -> Result<String, AllocError> {
     let mut shown = String::new(alloc);
     for directive in directives.as_slice() {
-        shown.push_str(show_one(alloc, directive)?.as_str())?;
+        put_directive(&mut shown, directive)?;
     }
     Ok(shown)
 }
@@ -55,22 +62,25 @@ fn directives_in(alloc: Global, bytes: &[u8]) -> Result<String, AllocError> {
     }
 }
 
-fn show_mentions(alloc: Global, mentions: &Mentions) -> Result<String, AllocError> {
-    let mut shown = String::new(alloc);
+fn put_mentions(out: &mut String, mentions: &Mentions) -> Result<(), AllocError> {
     for text in mentions.as_slice() {
-        shown.push_str(text.as_str())?;
-        shown.push_str(";")?;
+        out.push_str(text.as_str())?;
+        out.push_str(";")?;
     }
+    Ok(())
+}
+
+fn show_names(alloc: Global, info: &DepInfo) -> Result<String, AllocError> {
+    let mut shown = String::new(alloc);
+    put_mentions(&mut shown, &info.words)?;
+    shown.push_str(" ")?;
+    put_mentions(&mut shown, &info.variables)?;
     Ok(shown)
 }
 
 fn names_in(alloc: Global, bytes: &[u8]) -> Result<String, AllocError> {
     match read_dep_info(alloc, bytes) {
-        Ok(DepInfo { words, variables }) => {
-            let words = show_mentions(alloc, &words)?;
-            let variables = show_mentions(alloc, &variables)?;
-            format!(in alloc; "{words} {variables}")
-        }
+        Ok(info) => show_names(alloc, &info),
         Err(fault) => show_fault(alloc, fault),
     }
 }
@@ -327,22 +337,32 @@ fn plain_line_is_read(alloc: Global, length: usize) -> Result<bool, AllocError> 
     Ok(says(alloc, plain.as_slice(), "")? && tells(alloc, plain.as_slice(), "BadValue 1")?)
 }
 
+/// Whether directives are one warning, of this length.
+fn are_warning(directives: &[Directive], length: usize) -> bool {
+    match directives {
+        [Directive::Warning(text)] => text.as_str().len() == length,
+        _ => false,
+    }
+}
+
 /// Whether a script's output says one warning, of this length.
 fn warns_at_length(alloc: Global, output: &[u8], length: usize) -> Result<bool, LineFault> {
     let directives = read_directives(alloc, output)?;
-    match directives.as_slice() {
-        [Directive::Warning(text)] => Ok(text.as_str().len() == length),
-        _ => Ok(false),
+    Ok(are_warning(directives.as_slice(), length))
+}
+
+/// Whether texts are one, of this length.
+fn are_one_text(texts: &[Text], length: usize) -> bool {
+    match texts {
+        [text] => text.as_str().len() == length,
+        _ => false,
     }
 }
 
 /// Whether dep-info names one path, of this length.
 fn names_at_length(alloc: Global, dep_info: &[u8], length: usize) -> Result<bool, LineFault> {
     let info = read_dep_info(alloc, dep_info)?;
-    match info.words.as_slice() {
-        [text] => Ok(text.as_str().len() == length),
-        _ => Ok(false),
-    }
+    Ok(are_one_text(info.words.as_slice(), length))
 }
 
 #[test]

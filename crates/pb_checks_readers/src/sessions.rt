@@ -6,81 +6,85 @@ use pb_workspace::Options;
 use std::alloc::{AllocError, Global};
 use std::test::Fail;
 
-/// The texts of an option in words: its name, and each text with a bar behind it; nothing where there is none.
-fn shown_texts(alloc: Global, name: &str, texts: &[Text]) -> Result<String, AllocError> {
-    let mut shown = String::new(alloc);
-    if texts.is_empty() {
-        return Ok(shown);
-    }
-    shown.push_str(" ")?;
-    shown.push_str(name)?;
-    shown.push_str("=")?;
+/// Puts texts one after another.
+fn put(out: &mut String, texts: &[&str]) -> Result<(), AllocError> {
     for text in texts {
-        shown.push_str(text.as_str())?;
-        shown.push_str("|")?;
+        out.push_str(*text)?;
     }
-    Ok(shown)
+    Ok(())
 }
 
-/// The names of the options of a build that are on, with a space before each.
-fn shown_switches(alloc: Global, options: &Options) -> Result<String, AllocError> {
+/// Puts the texts of an option in words: its name, and each text with a bar behind it; nothing where there is none.
+fn put_texts(out: &mut String, name: &str, texts: &[Text]) -> Result<(), AllocError> {
+    if texts.is_empty() {
+        return Ok(());
+    }
+    put(out, &[" ", name, "="])?;
+    for text in texts {
+        put(out, &[text.as_str(), "|"])?;
+    }
+    Ok(())
+}
+
+/// Puts the name of an option that is on, with a space before it.
+fn put_switch(out: &mut String, name: &str, is_on: bool) -> Result<(), AllocError> {
+    if is_on {
+        put(out, &[" ", name])?;
+    }
+    Ok(())
+}
+
+/// Puts the options of a build in words.
+fn put_build(out: &mut String, options: &Options) -> Result<(), AllocError> {
+    put_call(
+        out,
+        "build",
+        options.manifest.as_str(),
+        options.profile.as_str(),
+    )?;
+    put_switch(out, "workspace", options.workspace)?;
+    put_switch(out, "all_features", options.all_features)?;
+    put_switch(out, "no_default_features", options.no_default_features)?;
+    put_switch(out, "lib", options.lib)?;
+    put_switch(out, "bins", options.bins)?;
+    put_texts(out, "packages", options.packages.as_slice())?;
+    put_texts(out, "features", options.features.as_slice())?;
+    put_texts(out, "bin", options.bin.as_slice())
+}
+
+/// Puts `VERB<FIRST><SECOND>`.
+fn put_call(out: &mut String, verb: &str, first: &str, second: &str) -> Result<(), AllocError> {
+    put(out, &[verb, "<", first, "><", second, ">"])
+}
+
+/// Puts a step in words.
+fn put_step(out: &mut String, step: &SessionStep) -> Result<(), AllocError> {
+    match step {
+        SessionStep::Write(path, text) => put_call(out, "write", path.as_str(), text.as_str()),
+        SessionStep::Remove(path) => put_call(out, "remove", path.as_str(), ""),
+        SessionStep::Set(name, value) => put_call(out, "set", name.as_str(), value.as_str()),
+        SessionStep::Unset(name) => put_call(out, "unset", name.as_str(), ""),
+        SessionStep::Build(options) => put_build(out, options),
+    }
+}
+
+/// Steps in words, each with `;` behind it.
+fn steps_shown(alloc: Global, steps: &[SessionStep]) -> Result<String, AllocError> {
     let mut shown = String::new(alloc);
-    let switches: &[(&str, bool)] = &[
-        (" workspace", options.workspace),
-        (" all_features", options.all_features),
-        (" no_default_features", options.no_default_features),
-        (" lib", options.lib),
-        (" bins", options.bins),
-    ];
-    for switch in switches {
-        let (name, is_on) = *switch;
-        shown.push_str(if is_on { name } else { "" })?;
+    for step in steps {
+        put_step(&mut shown, step)?;
+        shown.push_str(";")?;
     }
     Ok(shown)
-}
-
-/// The lists of texts of a build in words.
-fn shown_lists(alloc: Global, options: &Options) -> Result<String, AllocError> {
-    let packages = shown_texts(alloc, "packages", options.packages.as_slice())?;
-    let features = shown_texts(alloc, "features", options.features.as_slice())?;
-    let bin = shown_texts(alloc, "bin", options.bin.as_slice())?;
-    format!(in alloc; "{packages}{features}{bin}")
-}
-
-/// The options of a build in words.
-fn shown_build(alloc: Global, options: &Options) -> Result<String, AllocError> {
-    let manifest = options.manifest.as_str();
-    let profile = options.profile.as_str();
-    let switches = shown_switches(alloc, options)?;
-    let lists = shown_lists(alloc, options)?;
-    format!(in alloc; "build<{manifest}><{profile}>{switches}{lists};")
-}
-
-/// A step in words.
-fn shown_step(alloc: Global, step: &SessionStep) -> Result<String, AllocError> {
-    let (verb, first, second) = match step {
-        SessionStep::Write(path, text) => ("write", path.as_str(), text.as_str()),
-        SessionStep::Remove(path) => ("remove", path.as_str(), ""),
-        SessionStep::Set(name, value) => ("set", name.as_str(), value.as_str()),
-        SessionStep::Unset(name) => ("unset", name.as_str(), ""),
-        SessionStep::Build(options) => return shown_build(alloc, options),
-    };
-    format!(in alloc; "{verb}<{first}><{second}>;")
 }
 
 /// The steps of a session in words, or `bad`.
 fn shown(alloc: Global, bytes: &[u8]) -> Result<String, AllocError> {
-    let mut text = String::new(alloc);
     match read_session(alloc, bytes) {
-        Ok(steps) => {
-            for step in steps.as_slice() {
-                text.push_str(shown_step(alloc, step)?.as_str())?;
-            }
-        }
-        Err(BadSession::BadForm) => text.push_str("bad")?,
-        Err(BadSession::OutOfMemory) => text.push_str("memory")?,
+        Ok(steps) => steps_shown(alloc, steps.as_slice()),
+        Err(BadSession::BadForm) => String::from_str(alloc, "bad"),
+        Err(BadSession::OutOfMemory) => String::from_str(alloc, "memory"),
     }
-    Ok(text)
 }
 
 /// Whether a session file says this.
@@ -309,28 +313,30 @@ fn bad_options(rt: HostRuntime) -> Result<(), Fail> {
 
 /// What no key of a session changes: the words before a build script, the builder's name, and that no target folder
 /// is asked for.
-fn shown_fixed(alloc: Global, step: &SessionStep) -> Result<String, AllocError> {
-    match step {
-        SessionStep::Build(options) => {
-            let runner = shown_texts(alloc, "runner", options.runner.as_slice())?;
-            let tool = options.tool.as_str();
-            let is_asked = options.target_dir.is_some();
-            format!(in alloc; "{tool}{runner} {is_asked}")
+fn fixed_shown(alloc: Global, options: &Options) -> Result<String, AllocError> {
+    let mut shown = String::new(alloc);
+    shown.push_str(options.tool.as_str())?;
+    put_texts(&mut shown, "runner", options.runner.as_slice())?;
+    let is_asked = options.target_dir.is_some();
+    shown.push_str(if is_asked { " true" } else { " false" })?;
+    Ok(shown)
+}
+
+/// Whether steps are one build, of which no key changes this.
+fn have_fixed(alloc: Global, steps: &[SessionStep], wanted: &str) -> Result<bool, AllocError> {
+    match steps {
+        [SessionStep::Build(options)] => {
+            let found = fixed_shown(alloc, options)?;
+            Ok(found.as_str() == wanted)
         }
-        _ => Ok(String::new(alloc)),
+        _ => Ok(false),
     }
 }
 
 /// Whether a session has one step, of which no key changes this.
 fn has_fixed(alloc: Global, session: &[u8], wanted: &str) -> Result<bool, BadSession> {
     let steps = read_session(alloc, session)?;
-    match steps.as_slice() {
-        [step] => {
-            let found = shown_fixed(alloc, step)?;
-            Ok(found.as_str() == wanted)
-        }
-        _ => Ok(false),
-    }
+    Ok(have_fixed(alloc, steps.as_slice(), wanted)?)
 }
 
 #[test]
