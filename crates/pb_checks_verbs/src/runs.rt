@@ -171,15 +171,25 @@ const RUNS: &[Case] = &[
 ];
 
 /// Whether the run of an image does this.
-fn runs_so(alloc: Global, case: &Case) -> Result<bool, ViewFault> {
-    let reply = answer_in(alloc, "--run|/i", "/i", case.0)?;
-    Ok(answers(alloc, &reply, case.1, case.2, b"", case.3)?)
+fn runs_so(
+    alloc: Global,
+    image: &[u8],
+    status: i32,
+    stdout: &[u8],
+    files: &[u8],
+) -> Result<bool, ViewFault> {
+    let reply = answer_in(alloc, "--run|/i", "/i", image)?;
+    Ok(answers(alloc, &reply, status, stdout, b"", files)?)
 }
 
 #[test]
 fn runs(rt: HostRuntime) -> Result<(), Fail> {
     for (place, case) in RUNS.iter().enumerate() {
-        assert!(rt; runs_so(rt.alloc(), case)?, "case {place}");
+        let (image, status, stdout, files) = *case;
+        assert!(rt;
+            runs_so(rt.alloc(), image, status, stdout, files)?,
+            "case {place}"
+        );
     }
     Ok(())
 }

@@ -301,6 +301,6 @@ fn includes(rt: HostRuntime) -> Result<(), Fail> {
 #[test]
 fn raw(rt: HostRuntime) -> Result<(), Fail> {
     let files = b"libc.rlib=mini lib c\n| \xff\n| r\n|c.d=/o/libc.rlib: /w/s /w/raw\n|";
-    assert!(rt; is_right(rt.alloc(), &(b"include raw", 0, b"", files))?);
+    assert!(rt; is_right(rt.alloc(), b"include raw", 0, b"", files)?);
     Ok(())
 }

@@ -150,15 +150,25 @@ pub const WORDS: &str =
 pub type Case = (&'static [u8], i32, &'static [u8], &'static [u8]);
 
 /// Whether the compile of a source answers this.
-pub fn is_right(alloc: Global, case: &Case) -> Result<bool, ViewFault> {
-    let reply = answer_in(alloc, WORDS, "/w/s", case.0)?;
-    Ok(answers(alloc, &reply, case.1, b"", case.2, case.3)?)
+pub fn is_right(
+    alloc: Global,
+    source: &[u8],
+    status: i32,
+    stderr: &[u8],
+    files: &[u8],
+) -> Result<bool, ViewFault> {
+    let reply = answer_in(alloc, WORDS, "/w/s", source)?;
+    Ok(answers(alloc, &reply, status, b"", stderr, files)?)
 }
 
 /// Asserts what the compile of each source answers.
 pub fn assert_cases(rt: &impl Abort, alloc: Global, cases: &[Case]) -> Result<(), Fail> {
     for (place, case) in cases.iter().enumerate() {
-        assert!(rt; is_right(alloc, case)?, "case {place}");
+        let (source, status, stderr, files) = *case;
+        assert!(rt;
+            is_right(alloc, source, status, stderr, files)?,
+            "case {place}"
+        );
     }
     Ok(())
 }
