@@ -152,9 +152,9 @@ fn byte_zero(rt: HostRuntime) {
 }
 
 /// The version that a text says.
-fn version_of(alloc: Global, text: &str) -> Result<Version, Fail> {
+fn version_of(alloc: Global, text: &str) -> Result<Version, ManifestFault> {
     let text = Text::from_str(alloc, text)?;
-    Ok(Version::read(alloc, text)?)
+    Version::read(alloc, text)
 }
 
 #[test]
@@ -165,9 +165,9 @@ fn versions(rt: HostRuntime) -> Result<(), Fail> {
 }
 
 /// The requirement that a text says.
-fn requirement_of(alloc: Global, text: &str) -> Result<Requirement, Fail> {
+fn requirement_of(alloc: Global, text: &str) -> Result<Requirement, ManifestFault> {
     let text = Text::from_str(alloc, text)?;
-    Ok(Requirement::read(alloc, text)?)
+    Requirement::read(alloc, text)
 }
 
 #[test]
@@ -246,7 +246,7 @@ fn copies_match(
 }
 
 /// The same of texts.
-fn texts_match(alloc: Global, requirement: &str, version: &str) -> Result<bool, Fail> {
+fn texts_match(alloc: Global, requirement: &str, version: &str) -> Result<bool, ManifestFault> {
     let requirement = requirement_of(alloc, requirement)?;
     let version = version_of(alloc, version)?;
     Ok(copies_match(alloc, &requirement, &version)?)
