@@ -157,18 +157,23 @@ fn are_named(entries: &[(Text, u8)], wanted: &str) -> bool {
     rest.next().is_none()
 }
 
-/// Whether these are the names of a table, in its order.
-fn has_names(alloc: Global, table: Table<u8>, wanted: &str) -> Result<bool, AllocError> {
+/// Whether a table has so many names, and these, in its order.
+fn has_names(
+    alloc: Global,
+    table: Table<u8>,
+    count: usize,
+    wanted: &str,
+) -> Result<bool, AllocError> {
+    let is_counted = table.len() == count;
     let entries = table.into_items(alloc)?;
-    Ok(are_named(entries.as_slice(), wanted))
+    Ok(is_counted && are_named(entries.as_slice(), wanted))
 }
 
 #[test]
 fn tables_keep_the_first_place_and_the_last_value(rt: HostRuntime) -> Result<(), Fail> {
     let table = filled_table(rt.alloc())?;
     assert_values(&rt, rt.alloc(), &table)?;
-    assert_eq!(rt; table.len(), 3);
-    assert!(rt; has_names(rt.alloc(), table, "b a c")?);
+    assert!(rt; has_names(rt.alloc(), table, 3, "b a c")?);
     Ok(())
 }
 

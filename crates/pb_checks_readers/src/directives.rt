@@ -1,6 +1,7 @@
 //! What the readers answer, against worked examples.
 
-use pb_data::{Mentions, Text, TryCopy};
+use crate::shown::{put_call, put_each};
+use pb_data::{Text, TryCopy};
 use pb_directive::{
     DepInfo, Directive, Directives, LineFault, laws, read_dep_info, read_directives,
 };
@@ -8,32 +9,24 @@ use std::alloc::{AllocError, Global};
 use std::process::Abort;
 use std::test::Fail;
 
-/// Puts `KEY<FIRST><SECOND>;`.
-fn put(out: &mut String, key: &str, first: &str, second: &str) -> Result<(), AllocError> {
-    for part in &[key, "<", first, "><", second, ">;"] {
-        out.push_str(*part)?;
-    }
-    Ok(())
-}
-
 fn put_directive(out: &mut String, directive: &Directive) -> Result<(), AllocError> {
     match directive {
-        Directive::RerunIfChanged(path) => put(out, "changed", path.as_str(), ""),
-        Directive::RerunIfEnvChanged(name) => put(out, "env-changed", name.as_str(), ""),
-        Directive::LinkArg(flag) => put(out, "arg", flag.as_str(), ""),
-        Directive::LinkArgBins(flag) => put(out, "arg-bins", flag.as_str(), ""),
-        Directive::LinkArgCdylib(flag) => put(out, "arg-cdylib", flag.as_str(), ""),
-        Directive::LinkArgTests(flag) => put(out, "arg-tests", flag.as_str(), ""),
-        Directive::LinkArgExamples(flag) => put(out, "arg-examples", flag.as_str(), ""),
-        Directive::LinkArgBenches(flag) => put(out, "arg-benches", flag.as_str(), ""),
-        Directive::LinkArgBin(name, flag) => put(out, "arg-bin", name.as_str(), flag.as_str()),
-        Directive::LinkLib(name) => put(out, "lib", name.as_str(), ""),
-        Directive::LinkSearch(folder) => put(out, "search", folder.as_str(), ""),
-        Directive::Cfg(condition) => put(out, "cfg", condition.as_str(), ""),
-        Directive::CheckCfg(condition) => put(out, "check-cfg", condition.as_str(), ""),
-        Directive::Env(name, value) => put(out, "env", name.as_str(), value.as_str()),
-        Directive::Metadata(key, value) => put(out, "metadata", key.as_str(), value.as_str()),
-        Directive::Warning(text) => put(out, "warning", text.as_str(), ""),
+        Directive::RerunIfChanged(path) => put_call(out, "changed", path.as_str(), ""),
+        Directive::RerunIfEnvChanged(name) => put_call(out, "env-changed", name.as_str(), ""),
+        Directive::LinkArg(flag) => put_call(out, "arg", flag.as_str(), ""),
+        Directive::LinkArgBins(flag) => put_call(out, "arg-bins", flag.as_str(), ""),
+        Directive::LinkArgCdylib(flag) => put_call(out, "arg-cdylib", flag.as_str(), ""),
+        Directive::LinkArgTests(flag) => put_call(out, "arg-tests", flag.as_str(), ""),
+        Directive::LinkArgExamples(flag) => put_call(out, "arg-examples", flag.as_str(), ""),
+        Directive::LinkArgBenches(flag) => put_call(out, "arg-benches", flag.as_str(), ""),
+        Directive::LinkArgBin(name, flag) => put_call(out, "arg-bin", name.as_str(), flag.as_str()),
+        Directive::LinkLib(name) => put_call(out, "lib", name.as_str(), ""),
+        Directive::LinkSearch(folder) => put_call(out, "search", folder.as_str(), ""),
+        Directive::Cfg(condition) => put_call(out, "cfg", condition.as_str(), ""),
+        Directive::CheckCfg(condition) => put_call(out, "check-cfg", condition.as_str(), ""),
+        Directive::Env(name, value) => put_call(out, "env", name.as_str(), value.as_str()),
+        Directive::Metadata(key, value) => put_call(out, "metadata", key.as_str(), value.as_str()),
+        Directive::Warning(text) => put_call(out, "warning", text.as_str(), ""),
     }
 }
 
@@ -41,6 +34,7 @@ fn show(alloc: Global, directives: &Directives) -> Result<String, AllocError> {
     let mut shown = String::new(alloc);
     for directive in directives.as_slice() {
         put_directive(&mut shown, directive)?;
+        shown.push_str(";")?;
     }
     Ok(shown)
 }
@@ -62,19 +56,11 @@ fn directives_in(alloc: Global, bytes: &[u8]) -> Result<String, AllocError> {
     }
 }
 
-fn put_mentions(out: &mut String, mentions: &Mentions) -> Result<(), AllocError> {
-    for text in mentions.as_slice() {
-        out.push_str(text.as_str())?;
-        out.push_str(";")?;
-    }
-    Ok(())
-}
-
 fn show_names(alloc: Global, info: &DepInfo) -> Result<String, AllocError> {
     let mut shown = String::new(alloc);
-    put_mentions(&mut shown, &info.words)?;
+    put_each(&mut shown, info.words.as_slice(), ";")?;
     shown.push_str(" ")?;
-    put_mentions(&mut shown, &info.variables)?;
+    put_each(&mut shown, info.variables.as_slice(), ";")?;
     Ok(shown)
 }
 

@@ -18,4 +18,6 @@ mod results;
 #[cfg(test)]
 mod sessions;
 #[cfg(test)]
+mod shown;
+#[cfg(test)]
 mod wording;

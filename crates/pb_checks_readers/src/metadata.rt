@@ -1,5 +1,6 @@
 //! The metadata that scripts pass on, against a worked example.
 
+use crate::shown::put;
 use pb_data::{Items, Table, Text};
 use pb_directive::{dep_pairs, read_directives};
 use std::alloc::{AllocError, Global};
@@ -8,9 +9,7 @@ use std::test::Fail;
 fn show_pairs(alloc: Global, pairs: &Items<(Text, Text)>) -> Result<String, AllocError> {
     let mut shown = String::new(alloc);
     for (name, value) in pairs.as_slice() {
-        let name = name.as_str();
-        let value = value.as_str();
-        shown.push_str(format!(in alloc; "{name}={value};")?.as_str())?;
+        put(&mut shown, &[name.as_str(), "=", value.as_str(), ";"])?;
     }
     Ok(shown)
 }

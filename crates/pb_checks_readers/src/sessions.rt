@@ -1,18 +1,11 @@
 //! What session files say, against worked examples.
 
+use crate::shown::{put, put_call, put_each};
 use pb_data::Text;
 use pb_session::{BadSession, SessionStep, read_session};
 use pb_workspace::Options;
 use std::alloc::{AllocError, Global};
 use std::test::Fail;
-
-/// Puts texts one after another.
-fn put(out: &mut String, texts: &[&str]) -> Result<(), AllocError> {
-    for text in texts {
-        out.push_str(*text)?;
-    }
-    Ok(())
-}
 
 /// Puts the texts of an option in words: its name, and each text with a bar behind it; nothing where there is none.
 fn put_texts(out: &mut String, name: &str, texts: &[Text]) -> Result<(), AllocError> {
@@ -20,10 +13,7 @@ fn put_texts(out: &mut String, name: &str, texts: &[Text]) -> Result<(), AllocEr
         return Ok(());
     }
     put(out, &[" ", name, "="])?;
-    for text in texts {
-        put(out, &[text.as_str(), "|"])?;
-    }
-    Ok(())
+    put_each(out, texts, "|")
 }
 
 /// Puts the name of an option that is on, with a space before it.
@@ -50,11 +40,6 @@ fn put_build(out: &mut String, options: &Options) -> Result<(), AllocError> {
     put_texts(out, "packages", options.packages.as_slice())?;
     put_texts(out, "features", options.features.as_slice())?;
     put_texts(out, "bin", options.bin.as_slice())
-}
-
-/// Puts `VERB<FIRST><SECOND>`.
-fn put_call(out: &mut String, verb: &str, first: &str, second: &str) -> Result<(), AllocError> {
-    put(out, &[verb, "<", first, "><", second, ">"])
 }
 
 /// Puts a step in words.
