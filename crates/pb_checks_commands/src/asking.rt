@@ -1,6 +1,6 @@
 //! Questions about the units of a project, and their answers.
 
-use crate::making::{done_of, file_of, text};
+use crate::making::{done_of, file_of};
 use crate::show::{
     shown_answer, shown_pair, shown_pairs, shown_path, shown_rest, shown_tail, shown_words,
 };
@@ -10,7 +10,7 @@ use pb_data::{Bytes, Items, Text};
 use pb_directive::Directives;
 use pb_place::{Command, Ended, Memory};
 use pb_unit::Planned;
-use std::alloc::Global;
+use std::alloc::{AllocError, Global};
 use std::test::Fail;
 
 /// What a case has.
@@ -32,16 +32,18 @@ pub fn setup_of(alloc: Global, words: &str) -> Result<Setup, Fail> {
     let mut runner = Items::new(alloc);
     for word in words.split(' ') {
         if word.starts_with("-") {
-            flags.push(text(alloc, word)?)?;
+            flags.push(Text::from_str(alloc, word)?)?;
         }
         if let Some(word) = word.strip_prefix("%") {
-            runner.push(text(alloc, word)?)?;
+            runner.push(Text::from_str(alloc, word)?)?;
         }
     }
+    let tool = Text::from_str(alloc, "tool")?;
+    let rustc = Text::from_str(alloc, "rustc")?;
     let toolchain = Bytes::from_slice(alloc, b"rustc 1\nhost: \nhost: mini-os\nhost: other\n")?;
     Ok(Setup {
-        tool: text(alloc, "tool")?,
-        rustc: text(alloc, "rustc")?,
+        tool,
+        rustc,
         flags,
         runner,
         toolchain,
@@ -66,9 +68,9 @@ pub fn case_of<'a>(
 }
 
 /// The command of a unit.
-fn command_in(alloc: Global, case: &Case, unit: &Planned) -> Result<Command, Fail> {
+fn command_in(alloc: Global, case: &Case, unit: &Planned) -> Result<Command, AllocError> {
     let done = case.done.as_slice();
-    Ok(command(alloc, &case.setup, &case.project, unit, done)?)
+    command(alloc, &case.setup, &case.project, unit, done)
 }
 
 /// What an answer of this status gives. The output is the unit's file in `/said`, and the dep-info that in
@@ -105,8 +107,8 @@ pub fn asked(alloc: Global, case: &Case, unit: &Planned, what: &str) -> Result<S
     match what {
         "good" => answer_in(alloc, case, unit, 0),
         "bad" => answer_in(alloc, case, unit, 1),
-        "file" => shown_path(alloc, made_file(alloc, &case.project, unit)?),
-        "info" => shown_path(alloc, dep_info_path(alloc, &case.project, unit)?),
+        "file" => shown_path(alloc, &made_file(alloc, &case.project, unit)?),
+        "info" => shown_path(alloc, &dep_info_path(alloc, &case.project, unit)?),
         "crate" => {
             let name: Text = crate_name_of(alloc, &case.project, unit)?;
             Ok(name.into_string())

@@ -1,11 +1,12 @@
 //! How children end, dep-info that is too long, and the query.
 
-use crate::making::{options_of, project_of, text};
+use crate::making::{options_of, project_of};
 use crate::show::{shown_answer, shown_rest, shown_words};
 use pb_checks_files::{Silent, put_files};
 use pb_command::{Project, UnitFault, answered, ended_fault, query};
-use pb_data::Bytes;
+use pb_data::{Bytes, Text};
 use pb_place::{Command, Ended, Memory};
+use pb_unit::Planned;
 use std::alloc::{AllocError, Global};
 use std::test::Fail;
 
@@ -69,9 +70,9 @@ fn library(alloc: Global) -> Result<Option<Project>, Fail> {
 }
 
 /// The query of a compiler in that project.
-fn queried(alloc: Global, project: &Project) -> Result<Command, Fail> {
-    let rustc = text(alloc, "my rustc")?;
-    Ok(query(alloc, &rustc, &project.workspace)?)
+fn queried(alloc: Global, project: &Project) -> Result<Command, AllocError> {
+    let rustc = Text::from_str(alloc, "my rustc")?;
+    query(alloc, &rustc, &project.workspace)
 }
 
 /// Whether the query asks for the version and nothing else.
@@ -97,16 +98,29 @@ fn queries(rt: HostRuntime) -> Result<(), Fail> {
     Ok(())
 }
 
+/// What dep-info gives of a command for a unit, which ended well.
+fn informed_by(
+    alloc: Global,
+    project: &Project,
+    unit: &Planned,
+    command: &Command,
+    info: &Bytes,
+) -> Result<String, Fail> {
+    let end = ended(alloc, 0, 0, 0)?;
+    shown_answer(
+        alloc,
+        answered(alloc, project, unit, command, &end, Some(info)),
+    )
+}
+
 /// What dep-info of a rule with a word of so many bytes gives, for the first unit of a project.
 fn informed(alloc: Global, project: &Project, count: usize) -> Result<String, Fail> {
-    let command = queried(alloc, project)?;
-    let info = of_bytes(alloc, b"o: /", b'w', count)?;
     let Some(unit) = project.plan.units().first() else {
         return Ok(String::from_str(alloc, "no unit")?);
     };
-    let end = ended(alloc, 0, 0, 0)?;
-    let answer = answered(alloc, project, unit, &command, &end, Some(&info));
-    shown_answer(alloc, answer)
+    let command = queried(alloc, project)?;
+    let info = of_bytes(alloc, b"o: /", b'w', count)?;
+    informed_by(alloc, project, unit, &command, &info)
 }
 
 /// Whether the longest dep-info is read, and none that is longer.

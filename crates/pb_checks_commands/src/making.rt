@@ -1,6 +1,6 @@
 //! Projects of tests, from files in memory.
 
-ghost use Rattle.std.specs.Prelude.{◌<◌, IsTrue, All};
+ghost use Rattle.std.specs.Prelude.{◌<◌, length, All};
 ghost use Rattle.pb_workspace.specs.Settled.{IsSettled};
 
 use pb_checks_files::{Silent, no_options, workspace_in};
@@ -13,11 +13,6 @@ use pb_unit::{Plan, Planned, What};
 use pb_workspace::{Options, Selection, Workspace, selected};
 use std::alloc::Global;
 use std::test::Fail;
-
-/// A text.
-pub fn text(alloc: Global, text: &str) -> Result<Text, Fail> {
-    Ok(Text::from_str(alloc, text)?)
-}
 
 /// The bytes of the file of a unit in a folder, or none where it is not there.
 pub fn file_of(
@@ -33,31 +28,20 @@ pub fn file_of(
 
 /// The profile that words ask for, at their end.
 fn profile_in(words: &str) -> &str {
-    match words.split_once('@') {
-        Some((_, profile)) => profile,
-        None => "dev",
-    }
+    words.split('@').nth(1).unwrap_or("dev")
 }
 
 /// A build of all members, with what words ask for: `+FEATURE`, and `@PROFILE` at the end.
 pub fn options_of(alloc: Global, words: &str) -> Result<Options, Fail> {
     let mut options = no_options(alloc)?;
     options.workspace = true;
-    options.profile = text(alloc, profile_in(words))?;
+    options.profile = Text::from_str(alloc, profile_in(words))?;
     for word in words.split(' ') {
         if let Some(name) = word.strip_prefix("+") {
-            options.features.push(text(alloc, name)?)?;
+            options.features.push(Text::from_str(alloc, name)?)?;
         }
     }
     Ok(options)
-}
-
-/// Whether places are those of packages.
-#[tactic(auto, using(crate::proofs::Places::all_below))]
-fn are_within(places: &[usize], count: usize) -> bool
-    ensures { IsTrue result → All (λ p. p < count) places.now }
-{
-    places.iter().all(|place| *place < count)
 }
 
 /// The project of a workspace, or none where it has no plan.
@@ -67,11 +51,9 @@ fn planned(
     selection: &Selection,
     profile: Text,
 ) -> Result<Option<Project>, Fail>
-    requires { IsSettled workspace }
+    requires settled { IsSettled workspace }
+    requires within { All (λ place. place < length workspace.packages) selection.now.packages }
 {
-    if !are_within(selection.packages.as_slice(), workspace.packages.len()) {
-        return Ok(None);
-    }
     let Ok(features) = resolve(alloc, &workspace, selection) else {
         return Ok(None);
     };
