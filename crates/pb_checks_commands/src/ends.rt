@@ -88,13 +88,17 @@ fn asks_version(alloc: Global, project: &Project) -> Result<bool, Fail> {
     )
 }
 
+/// Whether the query in the project of one library is right.
+fn is_queried(alloc: Global) -> Result<bool, Fail> {
+    let Some(project) = library(alloc)? else {
+        return Ok(false);
+    };
+    asks_version(alloc, &project)
+}
+
 #[test]
 fn queries(rt: HostRuntime) -> Result<(), Fail> {
-    let is = match &library(rt.alloc())? {
-        Some(project) => asks_version(rt.alloc(), project)?,
-        None => false,
-    };
-    assert!(rt; is);
+    assert!(rt; is_queried(rt.alloc())?);
     Ok(())
 }
 
@@ -123,19 +127,28 @@ fn informed(alloc: Global, project: &Project, count: usize) -> Result<String, Fa
     informed_by(alloc, project, unit, &command, &info)
 }
 
-/// Whether the longest dep-info is read, and none that is longer.
+/// Whether the longest dep-info is read.
 fn reads_the_longest(alloc: Global, project: &Project) -> Result<bool, Fail> {
-    let longest = informed(alloc, project, 4_194_300)?;
-    let longer = informed(alloc, project, 4_194_301)?;
-    Ok(longest.len() == 4_194_303 && longer.as_str() == "NoDepInfo")
+    let told = informed(alloc, project, 4_194_300)?;
+    Ok(told.as_str().len() == 4_194_303)
+}
+
+/// Whether dep-info that is longer is refused.
+fn refuses_longer(alloc: Global, project: &Project) -> Result<bool, Fail> {
+    let told = informed(alloc, project, 4_194_301)?;
+    Ok(told.as_str() == "NoDepInfo")
+}
+
+/// Whether the longest dep-info is read in the project of one library, and none that is longer.
+fn is_read(alloc: Global) -> Result<bool, Fail> {
+    let Some(project) = library(alloc)? else {
+        return Ok(false);
+    };
+    Ok(reads_the_longest(alloc, &project)? && refuses_longer(alloc, &project)?)
 }
 
 #[test]
 fn long_dep_info(rt: HostRuntime) -> Result<(), Fail> {
-    let is = match &library(rt.alloc())? {
-        Some(project) => reads_the_longest(rt.alloc(), project)?,
-        None => false,
-    };
-    assert!(rt; is);
+    assert!(rt; is_read(rt.alloc())?);
     Ok(())
 }

@@ -82,11 +82,10 @@ fn shown_paths(alloc: Global, paths: &[PathText]) -> Result<String, Fail> {
 
 /// A path, or `-`.
 pub fn shown_path(alloc: Global, path: &Option<PathText>) -> Result<String, Fail> {
-    let path = match path {
-        Some(path) => path.as_str(),
-        None => "-",
-    };
-    Ok(String::from_str(alloc, path)?)
+    match path {
+        Some(path) => Ok(String::from_str(alloc, path.as_str())?),
+        None => Ok(String::from_str(alloc, "-")?),
+    }
 }
 
 /// The program of a command, its folders, and what it reads behind a bar.
