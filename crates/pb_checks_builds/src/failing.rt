@@ -1,10 +1,10 @@
 //! Builds of which one call of the place fails, each call in turn, and the builds after them.
 
-use crate::building::{built, last_line, put_files};
+use crate::building::{built, last_line};
 use crate::fused::Fused;
+use pb_checks_files::put_files;
 use pb_place::{Place, StartFault};
 use std::alloc::Global;
-use std::process::Abort;
 use std::test::Fail;
 
 /// A library.
@@ -17,15 +17,26 @@ const SIDES: &str =
 /// An edit of a library of `/w`.
 const EDIT: &str = "@ /w/src/lib.rs\nprint edited\n";
 
-/// A place with these files, built once where that is asked for, and then edited.
-fn place_of(alloc: Global, files: &str, is_built: bool, kind: StartFault) -> Result<Fused, Fail> {
-    let mut place = Fused::new(alloc, kind);
+/// What is built with each call failing in turn.
+struct Trial {
+    /// The files.
+    files: &'static str,
+    /// How a start fails.
+    kind: StartFault,
+    /// Whether they are built once before they are edited.
+    is_built: bool,
+    /// The last faults, behind those that all trials begin with.
+    last: &'static str,
+}
+
+/// Puts the files of a trial, builds them once where that is asked for, and edits them.
+fn prepare(alloc: Global, place: &mut Fused, files: &str, is_built: bool) -> Result<(), Fail> {
     put_files(alloc, &mut place.memory, files)?;
     if is_built {
-        built(alloc, &mut place)?;
+        built(alloc, place)?;
     }
     put_files(alloc, &mut place.memory, EDIT)?;
-    Ok(place)
+    Ok(())
 }
 
 /// What stands before the line in which something first stands, or nothing where it stands nowhere.
@@ -53,9 +64,29 @@ fn stopped(alloc: Global, whole: &str, fault: &str) -> Result<String, Fail> {
     Ok(said)
 }
 
-/// Builds with this call failing, and then once more. Adds the fault to `told`, and what was wrong, if something was:
-/// the build has to say what it has to, with no call after the one that failed, and the same build after it what a
-/// build from nothing says. Whether a call failed at all.
+/// Whether a build in which a call failed says what it has to, with no call after the one that failed.
+fn is_said(alloc: Global, place: &Fused, whole: &str, said: &str) -> Result<bool, Fail> {
+    let want = stopped(alloc, whole, last_line(said))?;
+    Ok(said == want.as_str() && place.failures() == 1 && place.late() == 0)
+}
+
+/// Adds the fault of a build in which a call failed to `told`, and what was wrong, if something was.
+fn tell(
+    alloc: Global,
+    place: &Fused,
+    whole: &str,
+    said: &str,
+    told: &mut String,
+) -> Result<(), Fail> {
+    if !is_said(alloc, place, whole, said)? {
+        told.push_str("wrong: ")?;
+    }
+    told.push_str(last_line(said))?;
+    told.push_str(", ")?;
+    Ok(())
+}
+
+/// Builds with this call failing, and tells how. Whether a call failed at all.
 fn fail_at(
     alloc: Global,
     place: &mut Fused,
@@ -65,37 +96,57 @@ fn fail_at(
 ) -> Result<bool, Fail> {
     place.fuse = number;
     let said = built(alloc, place)?;
+    place.fuse = 0;
     let is_failed = place.failures() > 0;
     if is_failed {
-        let fault = last_line(said.as_str());
-        let want = stopped(alloc, whole, fault)?;
-        if said != want || place.failures() != 1 || place.late() != 0 {
-            told.push_str("wrong: ")?;
-        }
-        told.push_str(fault)?;
-        told.push_str(", ")?;
-    }
-    place.fuse = 0;
-    let again = built(alloc, place)?;
-    if again.as_str() != whole {
-        told.push_str("wrong afterwards, ")?;
+        tell(alloc, place, whole, said.as_str(), told)?;
     }
     Ok(is_failed)
 }
 
-/// Lets each call fail in turn, until none does. The faults, and what was wrong.
-fn each_fails(
+/// Builds once more, and tells where this does not say what a build from nothing says.
+fn build_again(
     alloc: Global,
-    files: &str,
-    is_built: bool,
-    kind: StartFault,
-) -> Result<String, Fail> {
+    place: &mut Fused,
+    whole: &str,
+    told: &mut String,
+) -> Result<(), Fail> {
+    let again = built(alloc, place)?;
+    if again.as_str() != whole {
+        told.push_str("wrong afterwards, ")?;
+    }
+    Ok(())
+}
+
+/// Tries a trial in a fresh place with this call failing, and then once more. Whether a call failed at all.
+fn try_at(
+    alloc: Global,
+    place: &mut Fused,
+    trial: &Trial,
+    number: u64,
+    whole: &str,
+    told: &mut String,
+) -> Result<bool, Fail> {
+    prepare(alloc, place, trial.files, trial.is_built)?;
+    let is_failed = fail_at(alloc, place, number, whole, told)?;
+    build_again(alloc, place, whole, told)?;
+    Ok(is_failed)
+}
+
+/// What a build from nothing says in a fresh place.
+fn whole_of(alloc: Global, place: &mut Fused, files: &str) -> Result<String, Fail> {
+    prepare(alloc, place, files, false)?;
+    built(alloc, place)
+}
+
+/// Lets each call fail in turn, until none does. The faults, and what was wrong: the build has to say what it has to,
+/// with no call after the one that failed, and the same build after it what a build from nothing says.
+fn each_fails(alloc: Global, trial: &Trial) -> Result<String, Fail> {
     let mut told = String::new(alloc);
-    let mut fresh = place_of(alloc, files, false, kind)?;
-    let whole = built(alloc, &mut fresh)?;
+    let whole = whole_of(alloc, &mut Fused::new(alloc, trial.kind), trial.files)?;
     for number in 1..1000u64 {
-        let mut place = place_of(alloc, files, is_built, kind)?;
-        if !fail_at(alloc, &mut place, number, whole.as_str(), &mut told)? {
+        let mut place = Fused::new(alloc, trial.kind);
+        if !try_at(alloc, &mut place, trial, number, whole.as_str(), &mut told)? {
             return Ok(told);
         }
     }
@@ -103,29 +154,48 @@ fn each_fails(
     Ok(told)
 }
 
+/// The faults that all trials begin with.
+const FIRST: &str =
+    "fault RUSTC Device, fault RUSTFLAGS Device, fault CARGO_TARGET_DIR Device, fault /w/Cargo.toml Device, ";
+
+/// The trials.
+const TRIALS: &[Trial] = &[
+    Trial {
+        files: LIBRARY,
+        kind: StartFault::CannotStart,
+        is_built: true,
+        last: "fault a.target.lib CannotStart, fault a.target.lib Device, ",
+    },
+    Trial {
+        files: LIBRARY,
+        kind: StartFault::Died,
+        is_built: false,
+        last: "fault -vV Died, fault a.target.lib Device, fault a.target.lib Died, fault a.target.lib Device, ",
+    },
+    Trial {
+        files: SIDES,
+        kind: StartFault::Died,
+        is_built: true,
+        last: "fault r.target.lib Device, ",
+    },
+    Trial {
+        files: SIDES,
+        kind: StartFault::Capture,
+        is_built: false,
+        last: "fault r.target.lib Device, fault r.target.lib Capture, fault r.target.lib Device, ",
+    },
+];
+
+/// Whether nothing was wrong, from the first faults to these last.
+fn is_right(told: &str, last: &str) -> bool {
+    !told.contains("wrong") && told.starts_with(FIRST) && told.ends_with(last)
+}
+
 #[test]
 fn each_call_fails(rt: HostRuntime) -> Result<(), Fail> {
-    let alloc = rt.alloc();
-    let first =
-        "fault RUSTC Device, fault RUSTFLAGS Device, fault CARGO_TARGET_DIR Device, fault /w/Cargo.toml Device, ";
-    let cut = "fault a.target.lib CannotStart, fault a.target.lib Device, ";
-    let died =
-        "fault -vV Died, fault a.target.lib Device, fault a.target.lib Died, fault a.target.lib Device, ";
-    let lost = "fault r.target.lib Device, fault r.target.lib Capture, fault r.target.lib Device, ";
-    for (files, kind, is_built, last) in [
-        (LIBRARY, StartFault::CannotStart, true, cut),
-        (LIBRARY, StartFault::Died, false, died),
-        (SIDES, StartFault::Died, true, "fault r.target.lib Device, "),
-        (SIDES, StartFault::Capture, false, lost),
-    ] {
-        let told = each_fails(alloc, files, is_built, kind)?;
-        assert!(rt;
-            told.as_str().split_once("wrong").is_none(),
-            "{}",
-            told.as_str()
-        );
-        assert!(rt; told.as_str().starts_with(first), "{}", told.as_str());
-        assert!(rt; told.as_str().ends_with(last), "{}", told.as_str());
+    for trial in TRIALS {
+        let told = each_fails(rt.alloc(), trial)?;
+        assert!(rt; is_right(told.as_str(), trial.last), "{}", told.as_str());
     }
     Ok(())
 }

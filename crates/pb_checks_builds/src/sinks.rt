@@ -1,5 +1,7 @@
 //! Sessions over sinks that take all, a little at a time, or fail.
 
+ghost use Rattle.std.specs.Prelude.{◌≤◌, length};
+
 use pb_place::Over;
 use pb_program::run_session;
 use std::alloc::Global;
@@ -36,6 +38,16 @@ impl Write for Narrow {
     }
 }
 
+/// A writer that has taken nothing yet.
+fn writer_of(alloc: Global, most: usize, room: usize, heals: bool) -> Narrow {
+    Narrow {
+        taken: Vec::new(alloc),
+        most,
+        room,
+        heals,
+    }
+}
+
 /// Whether a session over such a writer ends with this status, tells that it is bad where that is not 0, and writes
 /// these bytes.
 fn gives(alloc: Global, session: &str, mut writer: Narrow, status: u8, bytes: &[u8]) -> bool {
@@ -58,6 +70,28 @@ fn broken_off(alloc: Global, messages: &[u8]) -> Result<Vec<u8>, Fail> {
     Ok(bytes)
 }
 
+/// Whether a session is right over a writer that fails after so many bytes, for good or once. The first `messages`
+/// bytes that are printed are the message lines.
+fn is_right_at(
+    alloc: Global,
+    session: &str,
+    printed: &[u8],
+    messages: usize,
+    room: usize,
+    heals: bool,
+) -> Result<bool, Fail>
+    requires { room ≤ length printed.now }
+{
+    let first = &printed[..room];
+    if heals && room < messages {
+        let bytes = broken_off(alloc, first)?;
+        let writer = writer_of(alloc, usize::MAX, room, true);
+        return Ok(gives(alloc, session, writer, 0, bytes.as_slice()));
+    }
+    let writer = writer_of(alloc, usize::MAX, room, heals);
+    Ok(gives(alloc, session, writer, 1, first))
+}
+
 /// Runs a session over writers that fail after each number of bytes, for good and once: among the message lines, which
 /// are the first so many bytes, or among the result lines. The first number that goes wrong.
 fn wrong_byte(
@@ -67,31 +101,24 @@ fn wrong_byte(
     messages: usize,
 ) -> Result<Option<usize>, Fail> {
     for room in 0..printed.len() {
-        let first = &printed[..room];
-        for heals in [false, true] {
-            let writer = Narrow {
-                taken: Vec::new(alloc),
-                most: usize::MAX,
-                room,
-                heals,
-            };
-            let is_right = if heals && room < messages {
-                gives(
-                    alloc,
-                    session,
-                    writer,
-                    0,
-                    broken_off(alloc, first)?.as_slice(),
-                )
-            } else {
-                gives(alloc, session, writer, 1, first)
-            };
-            if !is_right {
-                return Ok(Some(room));
-            }
+        if !is_right_at(alloc, session, printed, messages, room, false)?
+            || !is_right_at(alloc, session, printed, messages, room, true)?
+        {
+            return Ok(Some(room));
         }
     }
     Ok(None)
+}
+
+/// Runs a session over writers that take all, so many bytes at a time. The first such number that goes wrong.
+fn wrong_most(alloc: Global, session: &str, printed: &[u8]) -> Option<usize> {
+    for most in [usize::MAX, 7, 1] {
+        let writer = writer_of(alloc, most, printed.len(), false);
+        if !gives(alloc, session, writer, 0, printed) {
+            return Some(most);
+        }
+    }
+    None
 }
 
 /// A build that is refused.
@@ -112,7 +139,7 @@ const BROKEN_LINES: &str =
     "{\"reason\":\"compiler-message\",\"package_id\":\"path+file:///w#a@0.1.0\",\"manifest_path\":\"/w/Cargo.toml\",\"target\":{\"kind\":[\"lib\"],\"crate_types\":[\"lib\"],\"name\":\"a\",\"src_path\":\"/w/src/lib.rs\",\"edition\":\"2021\"},\"message\":{\"level\":\"error\",\"message\":\"no\",\"line\":1}}\n{\"reason\":\"build-finished\",\"success\":false}\n";
 
 /// Sessions of one build, its message lines, and its result line.
-const SESSIONS: [(&str, &str, &str); 3] = [
+const SESSIONS: &[(&str, &str, &str)] = &[
     (REFUSED, "", "refused NoManifest\n"),
     (LIBRARY, LIBRARY_LINES, "ok started=a.target.lib\n"),
     (
@@ -122,22 +149,21 @@ const SESSIONS: [(&str, &str, &str); 3] = [
     ),
 ];
 
+/// The message lines of a build, and then its result line.
+fn lines_of(alloc: Global, messages: &str, last: &str) -> Result<Vec<u8>, Fail> {
+    let mut printed = Vec::from_slice(alloc, messages.as_bytes())?;
+    printed.extend_from_slice(last.as_bytes())?;
+    Ok(printed)
+}
+
 #[test]
 fn sinks_at_each_byte(rt: HostRuntime) -> Result<(), Fail> {
     let alloc = rt.alloc();
-    for (session, messages, result) in SESSIONS {
-        let mut printed = Vec::from_slice(alloc, messages.as_bytes())?;
-        printed.extend_from_slice(result.as_bytes())?;
-        for most in [usize::MAX, 7, 1] {
-            let writer = Narrow {
-                taken: Vec::new(alloc),
-                most,
-                room: printed.len(),
-                heals: false,
-            };
-            let is_right = gives(alloc, session, writer, 0, printed.as_slice());
-            assert!(rt; is_right, "{session} by {most}");
-        }
+    for case in SESSIONS {
+        let (session, messages, last) = *case;
+        let printed = lines_of(alloc, messages, last)?;
+        let most = wrong_most(alloc, session, printed.as_slice());
+        assert!(rt; most.is_none(), "{session} by {most:?}");
         let wrong = wrong_byte(alloc, session, printed.as_slice(), messages.len())?;
         assert!(rt; wrong.is_none(), "{session} at {wrong:?}");
     }
