@@ -1,5 +1,6 @@
 //! Plans, against a table of plans written by hand.
 
+ghost use Rattle.std.specs.Prelude.{IfOk};
 ghost use Rattle.pb_workspace.specs.Settled.{IsSettled};
 
 use crate::asking::{files_in, options_of};
@@ -16,12 +17,18 @@ use std::alloc::Global;
 use std::process::Abort;
 use std::test::Fail;
 
-/// The profile that the words ask for.
+/// The profile that the words ask for, at their end.
 fn profile_in(words: &str) -> &str {
-    match words.split_once('@') {
-        Some((_, profile)) => profile,
-        None => "dev",
-    }
+    words.split('@').nth(1).unwrap_or("dev")
+}
+
+/// The workspace of these files.
+fn workspace_of(alloc: Global, files: &str) -> Result<Workspace, Fail>
+    ensures { IfOk result IsSettled }
+{
+    let mut memory = files_in(alloc, files)?;
+    let workspace = workspace_in(alloc, &mut memory)??;
+    Ok(workspace)
 }
 
 /// The plan of a workspace.
@@ -81,8 +88,7 @@ fn try_case(rt: &impl Abort, alloc: Global, case: &str) -> Result<usize, Fail> {
     let Some((files, questions)) = rest.split_once("---\n") else {
         return Ok(0);
     };
-    let mut memory = files_in(alloc, files)?;
-    let workspace = workspace_in(alloc, &mut memory)??;
+    let workspace = workspace_of(alloc, files)?;
     ask_all(rt, alloc, &workspace, questions)
 }
 
@@ -111,8 +117,10 @@ fn plans_with_scripts(rt: HostRuntime) -> Result<(), Fail> {
 fn many_binaries(alloc: Global, count: usize) -> Result<String, Fail> {
     let mut files = String::from_str(alloc, "@ /w/a/Cargo.toml\npackage.name = \"a\"\n")?;
     for number in 0..count {
-        let file = format!(in alloc; "@ /w/a/src/bin/b{number:05}.rs\n")?;
-        files.push_str(file.as_str())?;
+        let number = number.to_string(alloc)?;
+        files.push_str("@ /w/a/src/bin/b")?;
+        files.push_str(number.as_str())?;
+        files.push_str(".rs\n")?;
     }
     Ok(files)
 }
@@ -120,8 +128,7 @@ fn many_binaries(alloc: Global, count: usize) -> Result<String, Fail> {
 /// How the plan of a package with so many binaries ends.
 fn with_binaries(alloc: Global, count: usize) -> Result<String, Fail> {
     let files = many_binaries(alloc, count)?;
-    let mut memory = files_in(alloc, files.as_str())?;
-    let workspace = workspace_in(alloc, &mut memory)??;
+    let workspace = workspace_of(alloc, files.as_str())?;
     match plan_of(alloc, &workspace, "a")? {
         Ok(plan) => {
             let count = plan.units().len();
@@ -189,19 +196,23 @@ fn has_folders(alloc: Global, plan: &Plan) -> Result<bool, Fail> {
     )
 }
 
-/// The plan of `BOTH_SIDES` under the profile `bench`.
-fn plan_of_both(alloc: Global) -> Result<Plan, Fail> {
-    let mut memory = files_in(alloc, BOTH_SIDES)?;
-    let workspace = workspace_in(alloc, &mut memory)??;
+/// Whether the plan of `BOTH_SIDES` under the profile `bench` has these folders and levels.
+fn both_have_folders(alloc: Global) -> Result<bool, Fail> {
+    let workspace = workspace_of(alloc, BOTH_SIDES)?;
     let plan = plan_of(alloc, &workspace, "a @bench")??;
-    Ok(plan)
+    has_folders(alloc, &plan)
 }
 
 #[test]
 fn folders_and_settings(rt: HostRuntime) -> Result<(), Fail> {
-    let plan = plan_of_both(rt.alloc())?;
-    assert!(rt; has_folders(rt.alloc(), &plan)?);
+    assert!(rt; both_have_folders(rt.alloc())?);
     Ok(())
+}
+
+/// The key of a unit of the packages of `BOTH_SIDES`.
+fn key_of(alloc: Global, unit: &Unit) -> Result<Text, Fail> {
+    let workspace = workspace_of(alloc, BOTH_SIDES)?;
+    Ok(unit.key(alloc, &workspace)?)
 }
 
 /// Whether this is the key of a unit of the packages of `BOTH_SIDES`.
@@ -212,9 +223,8 @@ fn has_key(
     what: What,
     wanted: &str,
 ) -> Result<bool, Fail> {
-    let mut memory = files_in(alloc, BOTH_SIDES)?;
-    let workspace = workspace_in(alloc, &mut memory)??;
-    let key = Unit { owner, side, what }.key(alloc, &workspace)?;
+    let unit = Unit { owner, side, what };
+    let key = key_of(alloc, &unit)?;
     Ok(key.as_str() == wanted)
 }
 
