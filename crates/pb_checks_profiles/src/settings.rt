@@ -3,7 +3,7 @@
 use crate::cases::CASES;
 use crate::places::PLACES;
 use pb_data::{Items, Text};
-use pb_manifest::{Edition, Profile, Version, read_manifest};
+use pb_manifest::{Edition, ManifestFault, Profile, Version, read_manifest};
 use pb_place::PathText;
 use pb_profile::{ProfileFault, Settings, folder_of, lines_follow_inherits, values_are_found};
 use pb_workspace::{
@@ -32,16 +32,16 @@ fn nothing(alloc: Global) -> Text {
     Text::new(String::new(alloc))
 }
 
-/// The version `0.1.0`.
-fn first_version(alloc: Global) -> Result<Version, Fail> {
-    let text = Text::from_str(alloc, "0.1.0")?;
-    Ok(Version::read(alloc, text)?)
+/// The version that a text says.
+fn version_of(alloc: Global, text: &str) -> Result<Version, ManifestFault> {
+    let text = Text::from_str(alloc, text)?;
+    Version::read(alloc, text)
 }
 
 /// A package that has a name and nothing more.
 fn package_named(alloc: Global, name: &str, is_member: bool) -> Result<Package, Fail> {
     let name = Text::from_str(alloc, name)?;
-    let version = first_version(alloc)?;
+    let version = version_of(alloc, "0.1.0")?;
     let folder = PathText::parse(alloc, "/w")?;
     let manifest = PathText::parse(alloc, "/w/Cargo.toml")?;
     Ok(Package {
@@ -63,7 +63,7 @@ fn package_named(alloc: Global, name: &str, is_member: bool) -> Result<Package, 
 }
 
 /// The profiles that a manifest says.
-fn profiles_of(alloc: Global, manifest: &str) -> Result<Items<Profile>, Fail> {
+fn profiles_of(alloc: Global, manifest: &str) -> Result<Items<Profile>, ManifestFault> {
     let read = read_manifest(alloc, manifest.as_bytes())?;
     Ok(read.profiles)
 }
@@ -121,10 +121,24 @@ fn are_settings(
     owner: &Package,
     side: Side,
     wanted: &str,
-) -> Result<bool, AllocError> {
+) -> Result<bool, Fail> {
     let answer = Settings::settings(alloc, workspace, profile, owner, side);
     let found = shown(alloc, answer)?;
     Ok(found.as_str() == wanted)
+}
+
+/// Whether the settings of a package that has a name and nothing more are these.
+fn are_settings_of(
+    alloc: Global,
+    workspace: &Workspace,
+    profile: &str,
+    name: &str,
+    is_member: bool,
+    side: Side,
+    wanted: &str,
+) -> Result<bool, Fail> {
+    let owner = package_named(alloc, name, is_member)?;
+    are_settings(alloc, workspace, profile, &owner, side, wanted)
 }
 
 /// Whether a question `PROFILE NAME member|other target|host` has this answer.
@@ -143,9 +157,9 @@ fn is_answer(
     let Some((kind, side)) = rest.split_once(' ') else {
         return Ok(false);
     };
-    let owner = package_named(alloc, name, kind == "member")?;
+    let is_member = kind == "member";
     let side = side_of(side);
-    Ok(are_settings(alloc, workspace, profile, &owner, side, wanted)?)
+    are_settings_of(alloc, workspace, profile, name, is_member, side, wanted)
 }
 
 /// Asserts the answers to questions, one a line, each with its answer behind ` = `. How many there were.
