@@ -16,11 +16,15 @@ use std::alloc::{AllocError, Global};
 use std::process::Abort;
 use std::test::Fail;
 
+/// The answer to a manifest in one line.
+fn answer_to(alloc: Global, manifest: &[u8]) -> Result<String, Fail> {
+    shown(alloc, &read_manifest(alloc, manifest))
+}
+
 /// Whether the answer to a manifest is this.
 fn says(alloc: Global, manifest: &[u8], wanted: &str) -> Result<bool, Fail> {
-    let answer = read_manifest(alloc, manifest);
-    let found = shown(alloc, &answer)?;
-    Ok(found.as_str() == wanted)
+    let answer = answer_to(alloc, manifest)?;
+    Ok(answer.as_str() == wanted)
 }
 
 /// Asserts the answers to the manifests of a table. How many there are.
