@@ -64,19 +64,31 @@ impl Child for Echo {
     }
 }
 
+/// One path.
+fn one_path(alloc: Global, path: &str) -> Result<Items<PathText>, PathFault> {
+    let path = PathText::parse(alloc, path)?;
+    let mut paths = Items::new(alloc);
+    paths.push(path)?;
+    Ok(paths)
+}
+
 /// A command for the child: it says the file at `folder` and the variable NAME, and writes into `/w/target/out`.
 /// Of the target folder `/w/target` it sees what lies below `/w/target/dep`.
 pub fn say(alloc: Global, folder: &str) -> Result<Command, PathFault> {
-    let mut reads = Items::new(alloc);
-    reads.push(PathText::parse(alloc, "/w/target/dep")?)?;
+    let program = Text::from_str(alloc, "NAME")?;
+    let folder = PathText::parse(alloc, folder)?;
+    let out = PathText::parse(alloc, "/w/target/out")?;
+    let target = PathText::parse(alloc, "/w/target")?;
+    let toolchain = Bytes::from_slice(alloc, b"")?;
+    let reads = one_path(alloc, "/w/target/dep")?;
     Ok(Command {
-        program: Text::from_str(alloc, "NAME")?,
+        program,
         words: Items::new(alloc),
-        folder: PathText::parse(alloc, folder)?,
+        folder,
         pairs: Items::new(alloc),
-        out: Some(PathText::parse(alloc, "/w/target/out")?),
-        target: PathText::parse(alloc, "/w/target")?,
-        toolchain: Bytes::from_slice(alloc, b"")?,
+        out: Some(out),
+        target,
+        toolchain,
         reads,
     })
 }

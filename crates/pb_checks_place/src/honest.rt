@@ -157,13 +157,18 @@ fn says(alloc: Global, memory: &mut Memory<Echo>, path: &PathText) -> Result<boo
     Ok(ended.stdout.as_slice() == b"two".as_slice())
 }
 
-/// Whether a child that ran leaves a file, and may run again.
-fn leaves(alloc: Global, memory: &mut Memory<Echo>) -> Result<bool, Fail> {
+/// Whether a child runs again.
+fn runs(alloc: Global, memory: &mut Memory<Echo>) -> Result<bool, Fail> {
     let command = say(alloc, "/w/a")?;
     let ended = start_in_memory(alloc, memory, &command)?;
+    Ok(ended.status == 7)
+}
+
+/// Whether a child that ran has left a file.
+fn has_left(alloc: Global, memory: &mut Memory<Echo>) -> Result<bool, Fail> {
     let path = PathText::parse(alloc, "/w/target/out/a")?;
     let found = read_in_memory(alloc, memory, &path)?;
-    Ok(ended.status == 7 && found.is_some())
+    Ok(found.is_some())
 }
 
 /// Whether each of these holds, one after another.
@@ -178,7 +183,8 @@ fn hold_in_turn(
             && lists(alloc, memory, path, folder)?
             && removes(alloc, memory, path, folder)?
             && says(alloc, memory, path)?
-            && leaves(alloc, memory)?,
+            && runs(alloc, memory)?
+            && has_left(alloc, memory)?,
     )
 }
 
