@@ -246,17 +246,26 @@ fn prefixes_of_a_source(rt: HostRuntime) -> Result<(), Fail> {
 
 /// The reply of any child to a compile of `/s` into `/o`.
 fn reply_of<C: Child, V: View>(alloc: Global, child: &C, view: &V) -> Result<Reply, ViewFault> {
-    let command = Command {
-        program: Text::from_str(alloc, "mini")?,
-        words: words_of(alloc, "--crate-name|a|--crate-type|lib|--out-dir|/o|/s")?,
-        folder: root(alloc)?,
+    let command = compile(alloc)?;
+    child.reply(alloc, &command, view)
+}
+
+/// The compile of `/s` into `/o`.
+fn compile(alloc: Global) -> Result<Command, ViewFault> {
+    let program = Text::from_str(alloc, "mini")?;
+    let words = words_of(alloc, "--crate-name|a|--crate-type|lib|--out-dir|/o|/s")?;
+    let folder = root(alloc)?;
+    let target = root(alloc)?;
+    Ok(Command {
+        program,
+        words,
+        folder,
         pairs: Items::new(alloc),
         out: None,
-        target: root(alloc)?,
+        target,
         toolchain: Bytes::new(Vec::new(alloc)),
         reads: Items::new(alloc),
-    };
-    child.reply(alloc, &command, view)
+    })
 }
 
 /// The root as a path.
