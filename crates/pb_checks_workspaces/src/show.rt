@@ -2,7 +2,9 @@
 
 use pb_data::{Items, Text};
 use pb_manifest::{Edition, Feature, FeatureItem, Profile};
-use pb_workspace::{About, DefaultMembers, DependencyKind, Entry, LoadFault, Package, Workspace};
+use pb_workspace::{
+    About, Binary, DefaultMembers, DependencyKind, Entry, Library, LoadFault, Package, Workspace,
+};
 use std::alloc::Global;
 use std::fmt::Write;
 use std::test::Fail;
@@ -156,28 +158,32 @@ fn put_about(out: &mut String, about: &About) -> Result<(), Fail> {
     put_said(out, "rust-version", &about.rust_version)
 }
 
+fn put_library(out: &mut String, library: &Library) -> Result<(), Fail> {
+    let name = library.name.as_str();
+    let source = library.source.as_str();
+    write!(out, "  lib {name} {source}")?;
+    for crate_type in library.crate_types.as_slice() {
+        write!(out, " {crate_type:?}")?;
+    }
+    writeln!(out, "")?;
+    Ok(())
+}
+
+fn put_binary(out: &mut String, binary: &Binary) -> Result<(), Fail> {
+    let name = binary.name.as_str();
+    let source = binary.source.as_str();
+    write!(out, "  bin {name} {source}")?;
+    put_texts(out, &binary.required_features)?;
+    writeln!(out, "")?;
+    Ok(())
+}
+
 fn put_targets(out: &mut String, found: &Package) -> Result<(), Fail> {
     if let Some(library) = &found.library {
-        write!(
-            out,
-            "  lib {} {}",
-            library.name.as_str(),
-            library.source.as_str()
-        )?;
-        for crate_type in library.crate_types.as_slice() {
-            write!(out, " {crate_type:?}")?;
-        }
-        writeln!(out, "")?;
+        put_library(out, library)?;
     }
     for binary in found.binaries.as_slice() {
-        write!(
-            out,
-            "  bin {} {}",
-            binary.name.as_str(),
-            binary.source.as_str()
-        )?;
-        put_texts(out, &binary.required_features)?;
-        writeln!(out, "")?;
+        put_binary(out, binary)?;
     }
     if let Some(script) = &found.script {
         writeln!(out, "  script {}", script.as_str())?;

@@ -10,13 +10,20 @@ use std::alloc::Global;
 use std::process::Abort;
 use std::test::Fail;
 
-/// The options of a build of `-p NAME`, of all members for `*`, or of nothing named for `-`.
-fn options_of(alloc: Global, word: &str) -> Result<Options, Fail> {
-    let mut options = no_options(alloc)?;
-    options.workspace = word == "*";
-    if word != "-" && word != "*" {
+/// Adds what a word asks for: `-p NAME`, all members for `*`, or nothing for `-`.
+fn add_word(alloc: Global, options: &mut Options, word: &str) -> Result<(), Fail> {
+    if word == "*" {
+        options.workspace = true;
+    } else if word != "-" {
         options.packages.push(Text::from_str(alloc, word)?)?;
     }
+    Ok(())
+}
+
+/// The options of a build for which a word asks.
+fn options_of(alloc: Global, word: &str) -> Result<Options, Fail> {
+    let mut options = no_options(alloc)?;
+    add_word(alloc, &mut options, word)?;
     Ok(options)
 }
 
@@ -57,9 +64,11 @@ fn put_selections(
     Ok(())
 }
 
-/// What a case answers: the workspace, and a line for each word that stands for a selection.
-fn answered(alloc: Global, memory: &mut Memory<Silent>, words: &str) -> Result<String, Fail> {
-    let answer = workspace_in(alloc, memory)?;
+/// What a case of these files answers: the workspace, and a line for each word that stands for a selection.
+fn answered(alloc: Global, files: &str, words: &str) -> Result<String, Fail> {
+    let mut memory = Memory::new(alloc, Silent);
+    put_files(alloc, &mut memory, files)?;
+    let answer = workspace_in(alloc, &mut memory)?;
     let mut out = shown(alloc, &answer)?;
     if let Ok(workspace) = &answer {
         put_selections(alloc, workspace, words, &mut out)?;
@@ -79,9 +88,7 @@ fn try_case(rt: &impl Abort, alloc: Global, case: &str) -> Result<bool, Fail> {
         Some((_, words)) => words,
         None => "",
     };
-    let mut memory = Memory::new(alloc, Silent);
-    put_files(alloc, &mut memory, files)?;
-    let answer = answered(alloc, &mut memory, words)?;
+    let answer = answered(alloc, files, words)?;
     assert_eq!(rt; answer.as_str(), want);
     Ok(true)
 }
@@ -90,32 +97,40 @@ fn try_case(rt: &impl Abort, alloc: Global, case: &str) -> Result<bool, Fail> {
 fn workspaces(rt: HostRuntime) -> Result<(), Fail> {
     let mut count = 0usize;
     for case in CASES.split("=== ") {
-        if try_case(&rt, rt.alloc(), case)? {
-            count = count.saturating_add(1);
-        }
+        let is_case = try_case(&rt, rt.alloc(), case)?;
+        count = count.saturating_add(usize::from(is_case));
     }
     assert!(rt; count >= 60);
     Ok(())
 }
 
-/// A root manifest, and so many members, each with the shortest manifest.
-fn many(alloc: Global, count: usize) -> Result<Memory<Silent>, Fail> {
-    let mut memory = Memory::new(alloc, Silent);
-    let root = PathText::parse(alloc, "/w/Cargo.toml")?;
-    memory.put(alloc, &root, b"[workspace]\nmembers = [\"m*\"]\n")?;
+/// Puts the shortest manifest of a member.
+fn put_member(alloc: Global, memory: &mut Memory<Silent>, number: usize) -> Result<(), Fail> {
+    let path = format!(in alloc; "/w/m{number}/Cargo.toml")?;
+    let path = PathText::parse(alloc, path.as_str())?;
+    let text = format!(in alloc; "package.name = \"p{number}\"\n")?;
+    memory.put(alloc, &path, text.as_bytes())?;
+    Ok(())
+}
+
+/// Puts a root manifest, and so many members.
+fn put_many(alloc: Global, memory: &mut Memory<Silent>, count: usize) -> Result<(), Fail> {
+    put_files(
+        alloc,
+        memory,
+        "@ /w/Cargo.toml\n[workspace]\nmembers = [\"m*\"]\n",
+    )?;
     for number in 0..count {
-        let path = format!(in alloc; "/w/m{number}/Cargo.toml")?;
-        let path = PathText::parse(alloc, path.as_str())?;
-        let text = format!(in alloc; "package.name = \"p{number}\"\n")?;
-        memory.put(alloc, &path, text.as_bytes())?;
+        put_member(alloc, memory, number)?;
     }
-    Ok(memory)
+    Ok(())
 }
 
 /// How many packages are loaded of a root and so many members; none where these are too many. No call of the
 /// place fails, and nothing is started.
 fn count_loaded(rt: &impl Abort, alloc: Global, count: usize) -> Result<usize, Fail> {
-    let mut memory = many(alloc, count)?;
+    let mut memory = Memory::new(alloc, Silent);
+    put_many(alloc, &mut memory, count)?;
     let answer = workspace_in(alloc, &mut memory)?;
     assert_eq!(rt; memory.failures(), 0);
     assert_eq!(rt; memory.starts(), 0);
@@ -133,18 +148,28 @@ fn greatest_number_of_packages(rt: HostRuntime) -> Result<(), Fail> {
     Ok(())
 }
 
-/// Whether there is no manifest at a path, of a package whose manifests `/w/Cargo.toml` and `/w/other.toml`
-/// are.
+/// A package whose manifests `/w/Cargo.toml` and `/w/other.toml` are.
+const TWO_MANIFESTS: &str =
+    "@ /w/Cargo.toml\npackage.name = \"a\"\n@ /w/other.toml\npackage.name = \"a\"\n";
+
+/// Whether the loader finds no manifest at a path.
+fn finds_none(
+    alloc: Global,
+    memory: &mut Memory<Silent>,
+    manifest: &PathText,
+    target: &PathText,
+) -> bool {
+    let answer = load(memory, alloc, manifest, target);
+    matches!(answer, Err(LoadFault::NoManifest(_)))
+}
+
+/// Whether there is no manifest at a path, of the package of `TWO_MANIFESTS`.
 fn is_no_manifest(alloc: Global, manifest: &str, target: &str) -> Result<bool, Fail> {
-    let mut memory = Memory::new(alloc, Silent);
-    for path in ["/w/Cargo.toml", "/w/other.toml"] {
-        let path = PathText::parse(alloc, path)?;
-        memory.put(alloc, &path, b"package.name = \"a\"\n")?;
-    }
     let manifest = PathText::parse(alloc, manifest)?;
     let target = PathText::parse(alloc, target)?;
-    let answer = load(&mut memory, alloc, &manifest, &target);
-    Ok(matches!(answer, Err(LoadFault::NoManifest(_))))
+    let mut memory = Memory::new(alloc, Silent);
+    put_files(alloc, &mut memory, TWO_MANIFESTS)?;
+    Ok(finds_none(alloc, &mut memory, &manifest, &target))
 }
 
 #[test]
