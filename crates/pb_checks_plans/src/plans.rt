@@ -19,7 +19,10 @@ use std::test::Fail;
 
 /// The profile that the words ask for, at their end.
 fn profile_in(words: &str) -> &str {
-    words.split('@').nth(1).unwrap_or("dev")
+    match words.split_once("@") {
+        Some((_, profile)) => profile,
+        None => "dev",
+    }
 }
 
 /// The workspace of these files.
@@ -82,7 +85,7 @@ fn ask_all(
 
 /// Tries one case: a name, files, and after a line `---` the questions.
 fn try_case(rt: &impl Abort, alloc: Global, case: &str) -> Result<usize, Fail> {
-    let Some((_, rest)) = case.split_once('\n') else {
+    let Some((_, rest)) = case.split_once("\n") else {
         return Ok(0);
     };
     let Some((files, questions)) = rest.split_once("---\n") else {
@@ -117,10 +120,8 @@ fn plans_with_scripts(rt: HostRuntime) -> Result<(), Fail> {
 fn many_binaries(alloc: Global, count: usize) -> Result<String, Fail> {
     let mut files = String::from_str(alloc, "@ /w/a/Cargo.toml\npackage.name = \"a\"\n")?;
     for number in 0..count {
-        let number = number.to_string(alloc)?;
-        files.push_str("@ /w/a/src/bin/b")?;
-        files.push_str(number.as_str())?;
-        files.push_str(".rs\n")?;
+        let file = format!(in alloc; "@ /w/a/src/bin/b{number}.rs\n")?;
+        files.push_str(file.as_str())?;
     }
     Ok(files)
 }
