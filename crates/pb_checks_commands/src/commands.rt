@@ -23,7 +23,7 @@ fn ask(
     question: &str,
     want: &str,
 ) -> Result<(), Fail> {
-    let (key, what) = match question.split_once(' ') {
+    let (key, what) = match question.split_once(" ") {
         Some((key, what)) => (key, what),
         None => (question, ""),
     };
@@ -49,7 +49,7 @@ fn ask_all(rt: &impl Abort, alloc: Global, case: &Case, questions: &str) -> Resu
 
 /// Tries one case: words in its first line, files, and after a line `---` the questions.
 fn try_case(rt: &impl Abort, alloc: Global, text: &str) -> Result<usize, Fail> {
-    let (Some((head, rest)), true) = (text.split_once('\n'), text.contains("---\n")) else {
+    let (Some((head, rest)), true) = (text.split_once("\n"), text.contains("---\n")) else {
         return Ok(0);
     };
     let Some((files, questions)) = rest.split_once("---\n") else {

@@ -1,6 +1,5 @@
 //! Projects of tests, from files in memory.
 
-ghost use Rattle.std.specs.Prelude.{◌<◌, length, All};
 ghost use Rattle.pb_workspace.specs.Settled.{IsSettled};
 
 use pb_checks_files::{Silent, no_options, workspace_in};
@@ -10,7 +9,7 @@ use pb_directive::{Directives, read_directives};
 use pb_feature::resolve;
 use pb_place::{Memory, PathText};
 use pb_unit::{Plan, Planned, What};
-use pb_workspace::{Options, Selection, Workspace, selected};
+use pb_workspace::{Options, Workspace, selected};
 use std::alloc::Global;
 use std::test::Fail;
 
@@ -44,27 +43,21 @@ pub fn options_of(alloc: Global, words: &str) -> Result<Options, Fail> {
     Ok(options)
 }
 
-/// The project of a workspace, or none where it has no plan.
-fn planned(
-    alloc: Global,
-    workspace: Workspace,
-    selection: &Selection,
-    profile: Text,
-) -> Result<Option<Project>, Fail>
-    requires settled { IsSettled workspace }
-    requires within { All (λ place. place < length workspace.packages) selection.now.packages }
+/// The project of a workspace, or none where what is asked for is refused.
+fn planned(alloc: Global, workspace: Workspace, options: Options) -> Option<Project>
+    requires { IsSettled workspace }
 {
-    let Ok(features) = resolve(alloc, &workspace, selection) else {
-        return Ok(None);
-    };
-    match Plan::plan(alloc, &workspace, &features, selection, profile.as_str()) {
-        Ok(plan) => Ok(Some(Project {
+    let selection = selected(alloc, &workspace, &options).ok()?;
+    let features = resolve(alloc, &workspace, &selection).ok()?;
+    let profile = options.profile;
+    match Plan::plan(alloc, &workspace, &features, &selection, profile.as_str()) {
+        Ok(plan) => Some(Project {
             workspace,
             features,
             plan,
             profile,
-        })),
-        Err(_) => Ok(None),
+        }),
+        Err(_) => None,
     }
 }
 
@@ -74,11 +67,8 @@ pub fn project_of(
     memory: &mut Memory<Silent>,
     options: Options,
 ) -> Result<Option<Project>, Fail> {
-    let Ok(workspace) = workspace_in(alloc, memory)? else {
-        return Ok(None);
-    };
-    match selected(alloc, &workspace, &options) {
-        Ok(selection) => planned(alloc, workspace, &selection, options.profile),
+    match workspace_in(alloc, memory)? {
+        Ok(workspace) => Ok(planned(alloc, workspace, options)),
         Err(_) => Ok(None),
     }
 }
