@@ -73,22 +73,43 @@ fn command_in(alloc: Global, case: &Case, unit: &Planned) -> Result<Command, All
     command(alloc, &case.setup, &case.project, unit, done)
 }
 
-/// What an answer of this status gives. The output is the unit's file in `/said`, and the dep-info that in
-/// `/info`.
-fn answer_in(alloc: Global, case: &Case, unit: &Planned, status: i32) -> Result<String, Fail> {
-    let command = command_in(alloc, case, unit)?;
-    let stdout = match file_of(alloc, case.memory, "/said", unit)? {
-        Some(bytes) => bytes,
-        None => Bytes::from_slice(alloc, b"")?,
-    };
-    let ended = Ended {
+/// What a unit has printed, by its file in `/said`.
+fn output_of(alloc: Global, case: &Case, unit: &Planned) -> Result<Bytes, Fail> {
+    match file_of(alloc, case.memory, "/said", unit)? {
+        Some(bytes) => Ok(bytes),
+        None => Ok(Bytes::from_slice(alloc, b"")?),
+    }
+}
+
+/// The end of a unit's child with this status and its output.
+fn end_of(alloc: Global, case: &Case, unit: &Planned, status: i32) -> Result<Ended, Fail> {
+    let stdout = output_of(alloc, case, unit)?;
+    let stderr = Bytes::from_slice(alloc, b"")?;
+    Ok(Ended {
         status,
         stdout,
-        stderr: Bytes::from_slice(alloc, b"")?,
-    };
+        stderr,
+    })
+}
+
+/// What such an end gives. The dep-info is the unit's file in `/info`.
+fn judged(
+    alloc: Global,
+    case: &Case,
+    unit: &Planned,
+    command: &Command,
+    end: &Ended,
+) -> Result<String, Fail> {
     let info = file_of(alloc, case.memory, "/info", unit)?;
-    let answer = answered(alloc, &case.project, unit, &command, &ended, info.as_ref());
+    let answer = answered(alloc, &case.project, unit, command, end, info.as_ref());
     shown_answer(alloc, answer)
+}
+
+/// What an answer of this status gives.
+fn answer_in(alloc: Global, case: &Case, unit: &Planned, status: i32) -> Result<String, Fail> {
+    let command = command_in(alloc, case, unit)?;
+    let end = end_of(alloc, case, unit, status)?;
+    judged(alloc, case, unit, &command, &end)
 }
 
 /// A part of a command.

@@ -4,6 +4,7 @@ use crate::asking::{Case, asked, case_of};
 use crate::cases::CASES;
 use crate::making::{options_of, project_of};
 use pb_checks_files::{Silent, put_files};
+use pb_command::Project;
 use pb_place::Memory;
 use pb_unit::Planned;
 use std::alloc::Global;
@@ -47,6 +48,37 @@ fn ask_all(rt: &impl Abort, alloc: Global, case: &Case, questions: &str) -> Resu
     Ok(count)
 }
 
+/// Asks the questions of a case about its project.
+fn ask_of(
+    rt: &impl Abort,
+    alloc: Global,
+    memory: &Memory<Silent>,
+    project: Project,
+    head: &str,
+    questions: &str,
+) -> Result<usize, Fail> {
+    let case = case_of(alloc, memory, project, head)?;
+    ask_all(rt, alloc, &case, questions)
+}
+
+/// Puts the files of a case in a place, and asks its questions. How many there were.
+fn try_files(
+    rt: &impl Abort,
+    alloc: Global,
+    memory: &mut Memory<Silent>,
+    head: &str,
+    files: &str,
+    questions: &str,
+) -> Result<usize, Fail> {
+    put_files(alloc, memory, files)?;
+    let options = options_of(alloc, head)?;
+    let Some(project) = project_of(alloc, memory, options)? else {
+        assert_eq!(rt; "no project", head);
+        return Ok(0);
+    };
+    ask_of(rt, alloc, memory, project, head, questions)
+}
+
 /// Tries one case: words in its first line, files, and after a line `---` the questions.
 fn try_case(rt: &impl Abort, alloc: Global, text: &str) -> Result<usize, Fail> {
     let (Some((head, rest)), true) = (text.split_once("\n"), text.contains("---\n")) else {
@@ -56,14 +88,7 @@ fn try_case(rt: &impl Abort, alloc: Global, text: &str) -> Result<usize, Fail> {
         return Ok(0);
     };
     let mut memory = Memory::new(alloc, Silent);
-    put_files(alloc, &mut memory, files)?;
-    let options = options_of(alloc, head)?;
-    let Some(project) = project_of(alloc, &mut memory, options)? else {
-        assert_eq!(rt; "no project", head);
-        return Ok(0);
-    };
-    let case = case_of(alloc, &memory, project, head)?;
-    ask_all(rt, alloc, &case, questions)
+    try_files(rt, alloc, &mut memory, head, files, questions)
 }
 
 #[test]

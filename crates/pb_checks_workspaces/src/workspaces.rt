@@ -5,7 +5,7 @@ use crate::show::shown;
 use pb_checks_files::{Silent, no_options, put_files, workspace_in};
 use pb_data::Text;
 use pb_place::{Memory, PathText, Place};
-use pb_workspace::{LoadFault, Options, Workspace, load, selected};
+use pb_workspace::{LoadFault, Options, Selection, Workspace, load, selected};
 use std::alloc::Global;
 use std::process::Abort;
 use std::test::Fail;
@@ -27,7 +27,27 @@ fn options_of(alloc: Global, word: &str) -> Result<Options, Fail> {
     Ok(options)
 }
 
-/// Adds the selection of a word to what is shown: a line `WORD =` and the places, or the refusal.
+/// Adds places.
+fn put_places(alloc: Global, places: &[usize], out: &mut String) -> Result<(), Fail> {
+    for place in places {
+        out.push_str(format!(in alloc; " {place}")?.as_str())?;
+    }
+    Ok(())
+}
+
+/// Adds what is selected: the places, or the refusal.
+fn put_selected(
+    alloc: Global,
+    answer: &Result<Selection, LoadFault>,
+    out: &mut String,
+) -> Result<(), Fail> {
+    match answer {
+        Ok(selection) => put_places(alloc, selection.packages.as_slice(), out),
+        Err(fault) => Ok(out.push_str(format!(in alloc; " {fault:?}")?.as_str())?),
+    }
+}
+
+/// Adds the selection that a word stands for.
 fn put_selection(
     alloc: Global,
     workspace: &Workspace,
@@ -35,21 +55,10 @@ fn put_selection(
     out: &mut String,
 ) -> Result<(), Fail> {
     let options = options_of(alloc, word)?;
-    out.push_str(word)?;
-    out.push_str(" =")?;
-    match selected(alloc, workspace, &options) {
-        Ok(selection) => {
-            for place in selection.packages.as_slice() {
-                out.push_str(format!(in alloc; " {place}")?.as_str())?;
-            }
-        }
-        Err(fault) => out.push_str(format!(in alloc; " {fault:?}")?.as_str())?,
-    }
-    out.push_str("\n")?;
-    Ok(())
+    put_selected(alloc, &selected(alloc, workspace, &options), out)
 }
 
-/// Adds a line for each word that stands for a selection.
+/// Adds a line for each word that stands for a selection: `WORD =` and what is selected.
 fn put_selections(
     alloc: Global,
     workspace: &Workspace,
@@ -58,22 +67,29 @@ fn put_selections(
 ) -> Result<(), Fail> {
     for word in words.split(' ') {
         if word != "" {
+            out.push_str(word)?;
+            out.push_str(" =")?;
             put_selection(alloc, workspace, word, out)?;
+            out.push_str("\n")?;
         }
     }
     Ok(())
+}
+
+/// What an answer is, and a line for each word that stands for a selection in it.
+fn told(alloc: Global, answer: &Result<Workspace, LoadFault>, words: &str) -> Result<String, Fail> {
+    let mut out = shown(alloc, answer)?;
+    if let Ok(workspace) = answer {
+        put_selections(alloc, workspace, words, &mut out)?;
+    }
+    Ok(out)
 }
 
 /// What a case of these files answers: the workspace, and a line for each word that stands for a selection.
 fn answered(alloc: Global, files: &str, words: &str) -> Result<String, Fail> {
     let mut memory = Memory::new(alloc, Silent);
     put_files(alloc, &mut memory, files)?;
-    let answer = workspace_in(alloc, &mut memory)?;
-    let mut out = shown(alloc, &answer)?;
-    if let Ok(workspace) = &answer {
-        put_selections(alloc, workspace, words, &mut out)?;
-    }
-    Ok(out)
+    told(alloc, &workspace_in(alloc, &mut memory)?, words)
 }
 
 /// Tries one case: a name and words of selections, files, and after a line `---` the answer.
@@ -126,25 +142,33 @@ fn put_many(alloc: Global, memory: &mut Memory<Silent>, count: usize) -> Result<
     Ok(())
 }
 
-/// How many packages are loaded of a root and so many members; none where these are too many. No call of the
-/// place fails, and nothing is started.
-fn count_loaded(rt: &impl Abort, alloc: Global, count: usize) -> Result<usize, Fail> {
+/// How many packages an answer has; none where these are too many.
+fn count_in(answer: &Result<Workspace, LoadFault>) -> usize {
+    match answer {
+        Ok(found) => found.packages.len(),
+        Err(LoadFault::TooMany) => 0,
+        Err(_) => usize::MAX,
+    }
+}
+
+/// How many packages are loaded of what is at a place.
+fn count_found(alloc: Global, memory: &mut Memory<Silent>) -> Result<usize, Fail> {
+    Ok(count_in(&workspace_in(alloc, memory)?))
+}
+
+/// How many packages are loaded of a root and so many members, how many calls of the place failed, and how many
+/// children were started.
+fn count_loaded(alloc: Global, count: usize) -> Result<(usize, u64, u64), Fail> {
     let mut memory = Memory::new(alloc, Silent);
     put_many(alloc, &mut memory, count)?;
-    let answer = workspace_in(alloc, &mut memory)?;
-    assert_eq!(rt; memory.failures(), 0);
-    assert_eq!(rt; memory.starts(), 0);
-    match &answer {
-        Ok(found) => Ok(found.packages.len()),
-        Err(LoadFault::TooMany) => Ok(0),
-        Err(_) => Ok(usize::MAX),
-    }
+    let found = count_found(alloc, &mut memory)?;
+    Ok((found, memory.failures(), memory.starts()))
 }
 
 #[test]
 fn greatest_number_of_packages(rt: HostRuntime) -> Result<(), Fail> {
-    assert_eq!(rt; count_loaded(&rt, rt.alloc(), 256)?, 256);
-    assert_eq!(rt; count_loaded(&rt, rt.alloc(), 257)?, 0);
+    assert!(rt; count_loaded(rt.alloc(), 256)? == (256, 0, 0));
+    assert!(rt; count_loaded(rt.alloc(), 257)? == (0, 0, 0));
     Ok(())
 }
 
