@@ -1,15 +1,16 @@
 //! Projects of tests, from files in memory.
 
+ghost use Rattle.std.specs.Prelude.{◌<◌, All, length};
 ghost use Rattle.pb_workspace.specs.Settled.{IsSettled};
 
 use pb_checks_files::{Silent, no_options, workspace_in};
 use pb_command::Project;
 use pb_data::{Bytes, Items, Text};
 use pb_directive::{Directives, read_directives};
-use pb_feature::resolve;
+use pb_feature::{Features, resolve};
 use pb_place::{Memory, PathText};
 use pb_unit::{Plan, Planned, What};
-use pb_workspace::{Options, Workspace, selected};
+use pb_workspace::{Options, Selection, Workspace, selected};
 use std::alloc::Global;
 use std::test::Fail;
 
@@ -43,20 +44,50 @@ pub fn options_of(alloc: Global, words: &str) -> Result<Options, Fail> {
     Ok(options)
 }
 
-/// The project of a workspace, or none where what is asked for is refused.
-fn planned(alloc: Global, workspace: Workspace, options: Options) -> Option<Project>
-    requires { IsSettled workspace }
+/// The project of a selection with these features, or none where it has no plan.
+fn of_features(
+    alloc: Global,
+    workspace: Workspace,
+    features: Features,
+    selection: &Selection,
+    profile: Text,
+) -> Option<Project>
+    requires settled { IsSettled workspace }
+    requires within { All (λ place. place < length workspace.packages) selection.now.packages }
 {
-    let selection = selected(alloc, &workspace, &options).ok()?;
-    let features = resolve(alloc, &workspace, &selection).ok()?;
-    let profile = options.profile;
-    match Plan::plan(alloc, &workspace, &features, &selection, profile.as_str()) {
+    match Plan::plan(alloc, &workspace, &features, selection, profile.as_str()) {
         Ok(plan) => Some(Project {
             workspace,
             features,
             plan,
             profile,
         }),
+        Err(_) => None,
+    }
+}
+
+/// The project of a selection, or none where its features or its plan are refused.
+fn of_selection(
+    alloc: Global,
+    workspace: Workspace,
+    selection: &Selection,
+    profile: Text,
+) -> Option<Project>
+    requires settled { IsSettled workspace }
+    requires within { All (λ place. place < length workspace.packages) selection.now.packages }
+{
+    match resolve(alloc, &workspace, selection) {
+        Ok(features) => of_features(alloc, workspace, features, selection, profile),
+        Err(_) => None,
+    }
+}
+
+/// The project of a workspace, or none where what is asked for is refused.
+fn planned(alloc: Global, workspace: Workspace, options: Options) -> Option<Project>
+    requires { IsSettled workspace }
+{
+    match selected(alloc, &workspace, &options) {
+        Ok(selection) => of_selection(alloc, workspace, &selection, options.profile),
         Err(_) => None,
     }
 }
