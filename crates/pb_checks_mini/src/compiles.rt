@@ -1,6 +1,7 @@
 //! Worked compiles with their bytes.
 
 use super::views::{Broken, Files};
+use super::worlds::{add_file, words_of};
 use pb_data::{Bytes, Items, Text};
 use pb_mini::laws::{is_honest, tells_names};
 use pb_mini::{Mini, answer};
@@ -17,26 +18,14 @@ const WORDS: &str =
 /// The dep-info of `WORDS`.
 const DEP_INFO: &str = "/w/target/debug/a.target.lib/liba.rlib: /w/src/lib.rs\n";
 
-/// The words between the bars of a text; the empty text has none.
-fn words_of(alloc: Global, text: &str) -> Result<Items<Text>, AllocError> {
-    let mut words = Items::new(alloc);
-    if text.is_empty() {
-        return Ok(words);
-    }
-    for word in text.split('|') {
-        words.push(Text::from_str(alloc, word)?)?;
-    }
-    Ok(words)
-}
-
 /// A view of one file.
 fn one_file(alloc: Global, path: &str, bytes: &[u8]) -> Result<Files, AllocError> {
     let mut inside = Items::new(alloc);
-    inside.push((
-        Text::from_str(alloc, path)?,
-        Bytes::from_slice(alloc, bytes)?,
-    ))?;
-    Ok(Files { inside })
+    add_file(alloc, &mut inside, path, bytes)?;
+    Ok(Files {
+        inside,
+        variables: Items::new(alloc),
+    })
 }
 
 /// The answer to words where one file is shown.

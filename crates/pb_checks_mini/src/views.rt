@@ -9,11 +9,13 @@ use pb_data::{Bytes, Items, Text, TryCopy};
 use pb_place::{PathText, View, ViewFault};
 use std::alloc::{AllocError, Global};
 
-/// Files by their paths, of two at one path the first, and no variables.
+/// Files by their paths and variables by their names, of two with one name the first.
 #[derive(Drop)]
 pub struct Files {
     /// The paths and the bytes.
     pub inside: Items<(Text, Bytes)>,
+    /// The names and the values.
+    pub variables: Items<(Text, Text)>,
 }
 
 /// The bytes of the first file at a path.
@@ -29,11 +31,28 @@ fn file_at(alloc: Global, files: &[(Text, Bytes)], path: &str) -> Result<Option<
     Ok(None)
 }
 
+/// The value of the first variable of a name.
+fn value_of(
+    alloc: Global,
+    variables: &[(Text, Text)],
+    name: &str,
+) -> Result<Option<Text>, AllocError>
+    ensures { IfOk result (λ found. found ≡ finite.find (slice_cmp nat_cmp) name.now variables.now) }
+{
+    for variable in variables {
+        if name == variable.0.as_str() {
+            let value = variable.1.copy(alloc)?;
+            return Ok(Some(value));
+        }
+    }
+    Ok(None)
+}
+
 #[tactic(auto, using(crate::proofs::Shown::finds))]
 impl View for Files {
     ghost use Rattle.std.specs.FinMap as finite;
 
-    ghost shown = { λ v. record { files = finite.from_entries v.inside; variables = finite.empty } };
+    ghost shown = { λ v. record { files = finite.from_entries v.inside; variables = finite.from_entries v.variables } };
 
     ghost fails = { λ _. ⊥ };
 
@@ -42,8 +61,9 @@ impl View for Files {
         Ok(found)
     }
 
-    fn variable(&self, _: Global, _: &str) -> Result<Option<Text>, ViewFault> {
-        Ok(None)
+    fn variable(&self, alloc: Global, name: &str) -> Result<Option<Text>, ViewFault> {
+        let found = value_of(alloc, self.variables.as_slice(), name)?;
+        Ok(found)
     }
 }
 

@@ -45,9 +45,12 @@ const PAIRS: &[(&str, &str)] = &[
     ("CARGO_MANIFEST_DIR", "/w"),
 ];
 
-/// The words between the bars of a text.
-fn words_of(alloc: Global, text: &str) -> Result<Items<Text>, AllocError> {
+/// The words between the bars of a text; the empty text has none.
+pub fn words_of(alloc: Global, text: &str) -> Result<Items<Text>, AllocError> {
     let mut words = Items::new(alloc);
+    if text.is_empty() {
+        return Ok(words);
+    }
     for word in text.split('|') {
         words.push(Text::from_str(alloc, word)?)?;
     }
@@ -55,7 +58,7 @@ fn words_of(alloc: Global, text: &str) -> Result<Items<Text>, AllocError> {
 }
 
 /// Adds a file.
-fn add_file(
+pub fn add_file(
     alloc: Global,
     inside: &mut Items<(Text, Bytes)>,
     path: &str,
