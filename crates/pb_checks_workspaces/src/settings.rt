@@ -1,7 +1,7 @@
 //! Settings of packages under profiles, by a table of manifests with questions and answers.
 
-use crate::cases::CASES;
 use crate::places::PLACES;
+use crate::profiles::PROFILES;
 use pb_data::{Items, Text};
 use pb_manifest::{Edition, ManifestFault, Profile, Version, read_manifest};
 use pb_place::PathText;
@@ -203,7 +203,7 @@ fn assert_table(rt: &impl Abort, alloc: Global, table: &str) -> Result<usize, Fa
 
 #[test]
 fn settings(rt: HostRuntime) -> Result<(), Fail> {
-    assert!(rt; assert_table(&rt, rt.alloc(), CASES)? >= 60);
+    assert!(rt; assert_table(&rt, rt.alloc(), PROFILES)? >= 60);
     assert!(rt; assert_table(&rt, rt.alloc(), PLACES)? >= 55);
     lines_follow_inherits();
     values_are_found();

@@ -1,4 +1,5 @@
-//! Each key at each place, with the places before it and without: manifests and questions as in `cases`.
+//! Each key of a profile at each place, with the places before it and without: manifests and questions as in
+//! `profiles`.
 //! Neighbouring places set each key to values that differ.
 
 /// The cases.

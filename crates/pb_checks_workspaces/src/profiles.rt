@@ -1,9 +1,9 @@
-//! Manifests, and below `---` questions with the answers that the rules give: the settings of a package of
+//! Profiles: manifests, and below `---` questions with the answers that the rules give: the settings of a package of
 //! this name under a profile, a member or not, with the role of the target or of the host. An answer is
 //! opt-level, debug, debug-assertions, overflow-checks, lto, panic, codegen-units, rpath and strip.
 
 /// The cases.
-pub const CASES: &str = r#"=== workspace = {}
+pub const PROFILES: &str = r#"=== workspace = {}
 ---
 dev a member target = Zero Full true true ThinLocal Unwind 256 false Nothing
 test a member target = Zero Full true true ThinLocal Unwind 256 false Nothing
