@@ -1,4 +1,4 @@
-//! Workspaces of tests, and what is asked of them.
+//! The parts of a case, workspaces of tests, and what is asked of their plans.
 
 use pb_checks_files::{Silent, no_options, put_files};
 use pb_data::Text;
@@ -6,6 +6,12 @@ use pb_place::{Memory, PathText};
 use pb_workspace::Options;
 use std::alloc::Global;
 use std::test::Fail;
+
+/// The files and the questions of a case, which is a name, files, and after a line `---` the questions.
+pub fn parts_of(case: &str) -> Option<(&str, &str)> {
+    let (_, rest) = case.split_once('\n')?;
+    rest.split_once("---\n")
+}
 
 /// A root manifest in `/w`, all of whose folders with a manifest are members, and these files.
 pub fn files_in(alloc: Global, files: &str) -> Result<Memory<Silent>, Fail> {

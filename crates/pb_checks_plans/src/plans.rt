@@ -3,7 +3,7 @@
 ghost use Rattle.std.specs.Prelude.{IfOk};
 ghost use Rattle.pb_workspace.specs.Settled.{IsSettled};
 
-use crate::asking::{files_in, options_of};
+use crate::asking::{files_in, options_of, parts_of};
 use crate::cases::CASES;
 use crate::script_cases::SCRIPT_CASES;
 use crate::show::{shown_fault, shown_plan, shown_texts};
@@ -83,12 +83,9 @@ fn ask_all(
     Ok(count)
 }
 
-/// Tries one case: a name, files, and after a line `---` the questions.
+/// Tries one case. How many questions it has.
 fn try_case(rt: &impl Abort, alloc: Global, case: &str) -> Result<usize, Fail> {
-    let Some((_, rest)) = case.split_once("\n") else {
-        return Ok(0);
-    };
-    let Some((files, questions)) = rest.split_once("---\n") else {
+    let Some((files, questions)) = parts_of(case) else {
         return Ok(0);
     };
     let workspace = workspace_of(alloc, files)?;

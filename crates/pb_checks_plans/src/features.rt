@@ -2,8 +2,9 @@
 
 ghost use Rattle.pb_workspace.specs.Settled.{IsSettled};
 
-use crate::cases::CASES;
-use crate::show::shown;
+use crate::asking::parts_of;
+use crate::enabled::shown;
+use crate::resolutions::RESOLUTIONS;
 use pb_checks_files::{Silent, no_options, put_files, workspace_in};
 use pb_data::Text;
 use pb_feature::resolve;
@@ -70,12 +71,9 @@ fn ask_all(
     Ok(count)
 }
 
-/// Tries one case: a name, files, and after a line `---` the questions.
+/// Tries one case. How many questions it has.
 fn try_case(rt: &impl Abort, alloc: Global, case: &str) -> Result<usize, Fail> {
-    let Some((_, rest)) = case.split_once('\n') else {
-        return Ok(0);
-    };
-    let Some((files, questions)) = rest.split_once("---\n") else {
+    let Some((files, questions)) = parts_of(case) else {
         return Ok(0);
     };
     let mut memory = Memory::new(alloc, Silent);
@@ -87,7 +85,7 @@ fn try_case(rt: &impl Abort, alloc: Global, case: &str) -> Result<usize, Fail> {
 #[test]
 fn features(rt: HostRuntime) -> Result<(), Fail> {
     let mut count = 0usize;
-    for case in CASES.split("=== ") {
+    for case in RESOLUTIONS.split("=== ") {
         count = count.saturating_add(try_case(&rt, rt.alloc(), case)?);
     }
     assert_eq!(rt; count, 111);

@@ -4,7 +4,7 @@
 //! the two tables.
 
 /// The cases.
-pub const CASES: &str = r#"=== the sides of one package have features of their own
+pub const RESOLUTIONS: &str = r#"=== the sides of one package have features of their own
 @ /w/Cargo.toml
 package.name = "r"
 [dependencies]
