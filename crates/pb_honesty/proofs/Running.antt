@@ -1,8 +1,9 @@
 -- The small compiler is honest on the runs of scripts, and so on the command of every unit.
-use Rattle.std.proofs.Common.{◌≡◌, ℕ, ◌++◌, ◌⊎◌, inl, inr, true, cond, codes, List, [], ◌∷◌, Option, Some, None, unwrap_or, Ok, IfSome, refl, sym, ◌∙◌, ap, subst}
+use Rattle.std.proofs.Common.{◌≡◌, ℕ, ◌++◌, ◌⊎◌, inl, inr, true, cond, codes, List, [], ◌∷◌, length, Option, Some, None, unwrap_or, Ok, IfSome, refl, sym, ◌∙◌, ap, subst}
 use Rattle.std.specs.FinMap as finite
 use Rattle.std.specs.List.{AllByRecursion, flat_map}
 use Rattle.std.specs.Option.{option_or}
+use Rattle.std.proofs.lemmas.List.Elements.{recursion_from_All}
 use Rattle.pb_data.specs.Gives.{lifted}
 use Rattle.pb_data.specs.Mentions.{is_mentioned, once}
 use Rattle.pb_data.specs.Table.{value_at, table_of}
@@ -18,6 +19,7 @@ use Rattle.pb_place.proofs.PathLemmas.{parsed_path}
 use Rattle.pb_unit.specs.declared.plan.Planned.{Planned}
 use Rattle.pb_unit.specs.declared.unit.What.{What}
 use Rattle.pb_unit.specs.declared.unit.What.TheVariants as what
+use Rattle.pb_workspace.specs.Settled.{IsPackage}
 use Rattle.pb_workspace.specs.declared.package.Entry.{Entry}
 use Rattle.pb_workspace.specs.declared.package.Package.{Package}
 use Rattle.pb_command.specs.Answers.{ended_fault, path_or_none, path_said, paths_from, changed_path, changed_variable, marked_inputs, rerun_inputs, said_inputs, run_answered, answered_by}
@@ -152,6 +154,10 @@ module _ (setup : Setup) (project : Project) (u : Planned) (done : List (Option 
 -- ---- every unit
 
 module _ (setup : Setup) (project : Project) (u : Planned) (done : List (Option (List Directive))) (v : World) (small : IsSmall setup) (is_of : IsOfProject project u) where
+  -- the keys of its package's entries are names
+  its_keys : (p : Package) → package_of project u ≡ Some p → AllByRecursion (λ (entry : Entry). is_name entry.key ≡ true) p.entries
+  its_keys p there = recursion_from_All _ p.entries (all_at (IsPackage (length project.workspace.packages)) project.workspace.packages u.unit.owner p is_of.settled.packages there).entry_keys
+
   -- the unit's package is there
   of_package : (p : Package) → package_of project u ≡ Some p → (w : What) → u.unit.what ≡ w → CanTell (command_by w setup project u done p) v → (other : World) (a : Answered)
       → answered_by w (command_by w setup project u done p) (folder_of project u) (ended_by (small_compiler (command_by w setup project u done p) v)) (file_at (dep_info_of project u) (replied_files u.out (small_compiler (command_by w setup project u done p) v))) ≡ Ok a
@@ -159,13 +165,13 @@ module _ (setup : Setup) (project : Project) (u : Planned) (done : List (Option 
       → small_compiler (command_by w setup project u done p) other ≡ small_compiler (command_by w setup project u done p) v
   of_package p there what.Lib is tell other a found same folders =
       on_compiles setup project u done p is_of small.flags (subst (λ o. IfSome o (λ q. is_path (source_by q u.unit.what) ≡ true)) there is_of.source)
-      (all_at (λ (q : Package). AllByRecursion (λ (entry : Entry). is_name entry.key ≡ true) q.entries) project.workspace.packages u.unit.owner p is_of.keys there) v other a (ap (λ k. dep_info_by k u.out (crate_name_of project u)) is) found tell same folders
+      (its_keys p there) v other a (ap (λ k. dep_info_by k u.out (crate_name_of project u)) is) found tell same folders
   of_package p there (what.Bin name) is tell other a found same folders =
       on_compiles setup project u done p is_of small.flags (subst (λ o. IfSome o (λ q. is_path (source_by q u.unit.what) ≡ true)) there is_of.source)
-      (all_at (λ (q : Package). AllByRecursion (λ (entry : Entry). is_name entry.key ≡ true) q.entries) project.workspace.packages u.unit.owner p is_of.keys there) v other a (ap (λ k. dep_info_by k u.out (crate_name_of project u)) is) found tell same folders
+      (its_keys p there) v other a (ap (λ k. dep_info_by k u.out (crate_name_of project u)) is) found tell same folders
   of_package p there what.Script is tell other a found same folders =
       on_compiles setup project u done p is_of small.flags (subst (λ o. IfSome o (λ q. is_path (source_by q u.unit.what) ≡ true)) there is_of.source)
-      (all_at (λ (q : Package). AllByRecursion (λ (entry : Entry). is_name entry.key ≡ true) q.entries) project.workspace.packages u.unit.owner p is_of.keys there) v other a (ap (λ k. dep_info_by k u.out (crate_name_of project u)) is) found tell same folders
+      (its_keys p there) v other a (ap (λ k. dep_info_by k u.out (crate_name_of project u)) is) found tell same folders
   of_package p there what.Run is tell other a found same folders =
       on_runs setup project u done p is_of is small.runner v other a (ap (λ folder. run_answered (run_of setup project u done p) folder (ended_by (small_compiler (run_of setup project u done p) v))) (sym (ap (package_folder project.workspace.root) there)) ∙ found) tell same folders
 

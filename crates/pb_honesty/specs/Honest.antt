@@ -1,20 +1,17 @@
 -- That a child is honest on the commands of units: a good reply is given again wherever what it rests on is the same.
-use Rattle.std.specs.Prelude.{◌≡◌, ℕ, true, false, codes, List, [], ◌∷◌, Option, Some, Result, Ok, Err, All, IfSome, slice_get}
+use Rattle.std.specs.Prelude.{◌≡◌, ℕ, true, false, codes, List, [], ◌∷◌, Option, Some, Result, Ok, Err, IfSome, slice_get}
 use Rattle.std.specs.FinMap as finite
 use Rattle.std.specs.List.{AllByRecursion, list_any}
 use Rattle.pb_data.specs.Mentions.{is_mentioned}
 use Rattle.pb_data.specs.Table.{table_of}
 use Rattle.pb_directive.specs.Lines.{has_byte}
 use Rattle.pb_directive.specs.declared.directive.Directive.{Directive}
-use Rattle.pb_manifest.specs.Letters.{is_name}
 use Rattle.pb_place.specs.Paths.{below, is_path, is_at_or_below}
 use Rattle.pb_place.specs.World.{World, Answers}
 use Rattle.pb_place.specs.declared.child.Reply.{Reply}
 use Rattle.pb_place.specs.declared.command.Command.{Command}
 use Rattle.pb_workspace.specs.Settled.{IsSettled}
-use Rattle.pb_workspace.specs.declared.package.Entry.{Entry}
 use Rattle.pb_workspace.specs.declared.options.Selection.{Selection}
-use Rattle.pb_workspace.specs.declared.package.Package.{Package}
 use Rattle.pb_unit.specs.Plan.{IsPlan}
 use Rattle.pb_unit.specs.declared.plan.Planned.{Planned}
 use Rattle.pb_command.specs.Answers.{answered_of}
@@ -89,10 +86,9 @@ pub record IsSmall (setup : Setup) : Type 0 where
   pub flags : is_mentioned setup.flags (codes "--extern") ≡ false
   pub runner : RunsAlone setup.runner
 
--- a unit of a project that was read and planned: its paths are normalised absolute ones, and the keys of dependencies are names
+-- a unit of a project that was read and planned: as each that was read it is settled, it has its plan, and its paths are normalised absolute ones
 pub record IsOfProject (project : Project) (u : Planned) : Type 0 where
   pub settled : IsSettled project.workspace
-  pub keys : All (λ (p : Package). AllByRecursion (λ (entry : Entry). is_name entry.key ≡ true) p.entries) project.workspace.packages
   pub paths : HasPaths project
   pub source : IfSome (package_of project u) (λ p. is_path (source_by p u.unit.what) ≡ true)
   pub selection : Selection

@@ -146,6 +146,7 @@ package_kept count places d some below is = record {
   feature_names = All-from_recursion _ d.features is.3.named;
   features = is.3.order;
   leads = All-from_recursion _ _ (all_map (λ (entry : Entry). entry.to < count) (entry_at places) d.wanted (each d.wanted));
+  entry_keys = All-from_recursion _ _ (all_map (λ (entry : Entry). is_name entry.key ≡ true) (entry_at places) d.wanted is.4);
 }
   where
     each : (ws : List Wanted) → AllByRecursion (λ (w : Wanted). unwrap_or (value_of w.folder places) 0 < count) ws

@@ -1,5 +1,5 @@
--- What entries ask for stands in the order of the entries.
-use Rattle.std.proofs.Common.{◌≡◌, ℕ, Less, Bool, List, [], ◌∷◌, ◌++◌, Option, Some, None, Result, Ok, Err, map, refl, sym, ◌∙◌, ap, subst}
+-- What entries ask for stands in the order of the entries, under their keys.
+use Rattle.std.proofs.Common.{◌≡◌, ℕ, Less, Bool, true, List, [], ◌∷◌, ◌++◌, Option, Some, None, Result, Ok, Err, map, refl, sym, ◌∙◌, ap, subst}
 use Rattle.std.specs.List.{AllByRecursion}
 use Rattle.std.specs.List.Sorted.{IsStrictlySortedBy}
 use Rattle.std.specs.Ordering.{nat_cmp}
@@ -11,7 +11,9 @@ use Rattle.pb_manifest.specs.declared.dependency.Source.TheVariants.{Path, Works
 use Rattle.pb_manifest.specs.declared.dependency.WorkspaceDependency.{WorkspaceDependency}
 use Rattle.pb_manifest.specs.declared.dependency.WorkspaceSource.{WorkspaceSource}
 use Rattle.pb_manifest.specs.declared.dependency.WorkspaceSource.TheVariants as shared
+use Rattle.pb_manifest.specs.Letters.{is_name}
 use Rattle.pb_workspace.specs.ByKey.{table_key}
+use Rattle.pb_workspace.specs.Drafted.{IsKeyed, IsWantedKeyed}
 use Rattle.pb_workspace.specs.Settled.{IsAscending}
 use Rattle.pb_workspace.specs.Wanted.{each_wanted, shared_at, taken_from, wanted_by, wanted_of}
 use Rattle.pb_workspace.specs.declared.fault.LoadFault.{LoadFault}
@@ -97,3 +99,25 @@ wanted_ascend root folder manifest given ds bs normal script made one two at the
     let second : map key_of script ≡ map (keyed Build) bs = keys_kept root folder manifest given Build bs script then in
     let e : map key_of made ≡ map (keyed Normal) ds ++ map (keyed Build) bs = ap (map key_of) same ∙ map_both key_of normal script ∙ ap (λ ks. ks ++ map key_of script) first ∙ ap (λ ks. map (keyed Normal) ds ++ ks) second in
     subst IsAscending (sym e) (of_both ds bs (of_table Normal ds one) (of_table Build bs two))
+
+-- and their keys are names
+abbrev EndsInName : List ℕ → Type 0
+EndsInName [] = Unit {0}
+EndsInName (table ∷ key) = is_name key ≡ true
+
+named_keys : (kind : DependencyKind) (ds : List Dependency) → AllByRecursion IsKeyed ds → AllByRecursion EndsInName (map (keyed kind) ds)
+named_keys kind [] all = tt
+named_keys kind (d ∷ ds) all = (all.0, named_keys kind ds all.1)
+
+own_keys : (ws : List Wanted) → AllByRecursion EndsInName (map key_of ws) → AllByRecursion IsWantedKeyed ws
+own_keys [] all = tt
+own_keys (w ∷ ws) all = (all.0, own_keys ws all.1)
+
+pub wanted_named : (root folder manifest : List ℕ) (given : List WorkspaceDependency) (ds bs : List Dependency) (normal script made : List Wanted)
+    → AllByRecursion IsKeyed ds → AllByRecursion IsKeyed bs
+    → each_wanted (wanted_of root folder manifest given Normal) ds ≡ Ok normal → each_wanted (wanted_of root folder manifest given Build) bs ≡ Ok script
+    → made ≡ normal ++ script → AllByRecursion IsWantedKeyed made
+wanted_named root folder manifest given ds bs normal script made one two at then same =
+    let first : AllByRecursion IsWantedKeyed normal = own_keys normal (subst (AllByRecursion EndsInName) (sym (keys_kept root folder manifest given Normal ds normal at)) (named_keys Normal ds one)) in
+    let second : AllByRecursion IsWantedKeyed script = own_keys script (subst (AllByRecursion EndsInName) (sym (keys_kept root folder manifest given Build bs script then)) (named_keys Build bs two)) in
+    subst (AllByRecursion IsWantedKeyed) (sym same) (both_all IsWantedKeyed normal script first second)

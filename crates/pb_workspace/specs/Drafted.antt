@@ -13,6 +13,7 @@ use Rattle.pb_workspace.specs.declared.package.Binary.{Binary}
 use Rattle.pb_workspace.specs.declared.package.Library.{Library}
 use Rattle.pb_workspace.specs.declared.rounds.Reading.{Reading}
 use Rattle.pb_workspace.specs.declared.settling.Targets.{Targets}
+use Rattle.pb_workspace.specs.declared.wanted.Wanted.{Wanted}
 use Rattle.pb_workspace.specs.Settled.{IsAscending}
 
 -- the letters of names
@@ -30,6 +31,9 @@ IsWrittenFeature f = is_feature_name f.name ≡ true
 
 abbrev pub IsKeyed : Dependency → Type 0
 IsKeyed d = is_name d.key ≡ true
+
+abbrev pub IsWantedKeyed : Wanted → Type 0
+IsWantedKeyed w = is_name w.key ≡ true
 
 abbrev pub IsWrittenLibrary : WrittenLibrary → Type 0
 IsWrittenLibrary l = IfSome l.name (λ name. is_crate_name name ≡ true)
@@ -58,7 +62,7 @@ abbrev pub AreTargets : Targets → Type 0
 AreTargets t = IfSome t.library IsLibraryNamed × AreBinaries t.binaries
 
 abbrev pub IsDraft : Draft → Type 0
-IsDraft d = (is_name d.name ≡ true) × IfSome d.library IsLibraryNamed × AreBinaries d.binaries × AreFeatures d.features
+IsDraft d = (is_name d.name ≡ true) × IfSome d.library IsLibraryNamed × AreBinaries d.binaries × AreFeatures d.features × AllByRecursion IsWantedKeyed d.wanted
 
 -- a package stands at its own folder
 abbrev pub IsPut : List ℕ × Draft → Type 0

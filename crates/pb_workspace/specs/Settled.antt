@@ -1,4 +1,4 @@
--- What every workspace that was read is, whatever its files say: packages by folder and by name, entries that lead somewhere, features and binaries by name.
+-- What every workspace that was read is, whatever its files say: packages by folder and by name, entries that lead somewhere and whose keys are names, features and binaries by name.
 use Rattle.std.specs.Prelude.{◌≡◌, ℕ, ◌<◌, ◌≤◌, ◌||◌, true, List, map, All, IfSome, length}
 use Rattle.std.specs.Ordering.{nat_cmp}
 use Rattle.std.specs.Cmp.Lexicographic.{slice_cmp}
@@ -27,6 +27,7 @@ pub record IsPackage (count : ℕ) (p : Package) : Type 0 where
   pub feature_names : All (λ (feature : Feature). is_feature_name feature.name || is_name feature.name ≡ true) p.features
   pub features : IsAscending (map (λ (feature : Feature). feature.name) p.features)
   pub leads : All (λ (entry : Entry). entry.to < count) p.entries
+  pub entry_keys : All (λ (entry : Entry). is_name entry.key ≡ true) p.entries
 
 -- what `default-members` names, where it names members
 abbrev pub IfNamed : DefaultMembers → (List ℕ → Type 0) → Type 0

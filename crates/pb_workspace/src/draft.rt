@@ -8,7 +8,7 @@ ghost use Rattle.pb_workspace.specs.Causes.{is_failure, Told, Reads};
 ghost use Rattle.pb_workspace.specs.Drafts.{lists_of, draft_from, draft_with, draft_of};
 ghost use Rattle.pb_workspace.specs.declared.fault.LoadFault.TheVariants as load_fault;
 ghost use Rattle.std.specs.List.{AllByRecursion};
-ghost use Rattle.pb_workspace.specs.Drafted.{AreFeatures, ArePromised, IsDraft, IsKeyed, IsWrittenFeature};
+ghost use Rattle.pb_workspace.specs.Drafted.{AreFeatures, ArePromised, IsDraft, IsKeyed, IsWantedKeyed, IsWrittenFeature};
 ghost use Rattle.pb_workspace.specs.Settled.{IsAscending};
 
 use crate::by_key::WantedByKey;
@@ -104,6 +104,7 @@ fn lists_of(
     requires build_order { IsAscending (map (λ d. d.key) build.now) }
     ensures told { Gives load_fault.OutOfMemory (λ lists. lists) result (lists_of at.now given.now dependencies.now build.now features binaries.now) }
     ensures kept { IfOk result (λ lists. AreFeatures lists.features) }
+    ensures keys { IfOk result (λ lists. AllByRecursion IsWantedKeyed lists.wanted) }
     ensures here { IfErr result (λ e. is_failure e ≡ false) }
 {
     let wanted = wanted_in(alloc, at, given, dependencies, build)?;

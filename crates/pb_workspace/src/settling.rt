@@ -8,7 +8,7 @@ ghost use Rattle.pb_workspace.specs.Causes.{is_outside, is_failure, Reads};
 ghost use Rattle.pb_workspace.specs.Settling.{readme_found, wanted_in, discovered, targets_of, comes_again, has_same_binaries};
 ghost use Rattle.pb_workspace.specs.declared.fault.LoadFault.TheVariants as load_fault;
 ghost use Rattle.std.specs.List.{AllByRecursion};
-ghost use Rattle.pb_workspace.specs.Drafted.{IsBinaryNamed, IsWrittenLibrary, AreTargets};
+ghost use Rattle.pb_workspace.specs.Drafted.{IsBinaryNamed, IsKeyed, IsWantedKeyed, IsWrittenLibrary, AreTargets};
 ghost use Rattle.pb_workspace.specs.Settled.{IsAscending};
 
 use crate::binaries::{binaries_of, written_binaries};
@@ -90,7 +90,10 @@ pub fn wanted_in(
 ) -> Result<WantedByKey, LoadFault>
     requires normal { IsAscending (map (λ d. d.key) dependencies.now) }
     requires build { IsAscending (map (λ d. d.key) build.now) }
+    requires normal_keys { AllByRecursion IsKeyed dependencies.now }
+    requires build_keys { AllByRecursion IsKeyed build.now }
     ensures told { Gives load_fault.OutOfMemory (λ wanted. wanted) result (wanted_in at.now given.now dependencies.now build.now) }
+    ensures keys { IfOk result (AllByRecursion IsWantedKeyed) }
     ensures here { IfErr result (λ e. is_failure e ≡ false) }
 {
     let shared = &given.dependencies;
