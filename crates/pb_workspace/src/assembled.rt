@@ -2,7 +2,7 @@
 
 ghost use Rattle.std.specs.Prelude.{◌≡◌, ◌++◌, Bool, IfOk, OnOk, map, unwrap_or};
 ghost use Rattle.std.specs.List.{list_all, list_any};
-ghost use Rattle.pb_workspace.specs.Assembled.{entry_at, package_at, is_meant_member, is_known, is_default, default_members_of, assembled};
+ghost use Rattle.pb_workspace.specs.Assembled.{entry_at, package_at, packages_of, is_meant_member, is_known, is_default, default_members_of, assembled};
 ghost use Rattle.pb_workspace.specs.Members.{means, parts_match, parts_meant};
 ghost use Rattle.pb_workspace.specs.Between.{names_in};
 ghost use Rattle.pb_workspace.specs.ByFolder.{value_of};
@@ -220,20 +220,17 @@ fn default_members_of(
     Ok(DefaultMembers::Named(places))
 }
 
-/// The workspace of these packages. The one fault is want of memory.
-#[tactic(auto, unfolding(crate::specs::Assembled::assembled))]
-pub fn assembled(
+/// The packages of these drafts, and what `default-members` says of them.
+fn members_of(
     alloc: Global,
-    target: &PathText,
-    frame: Frame,
-    profiles: Items<Profile>,
+    frame: &Frame,
     places: &ByFolder<usize>,
     drafts: Items<Draft>,
-) -> Result<Workspace, AllocError>
+) -> Result<(Items<Package>, DefaultMembers), AllocError>
     requires { places.now ≡ places_of drafts }
-    ensures { IfOk result (λ made. made ≡ assembled target.now frame profiles drafts) }
+    ensures packages { IfOk result (λ made. made.0 ≡ packages_of drafts) }
+    ensures defaults { IfOk result (λ made. made.1 ≡ default_members_of frame.now.root (packages_of drafts) frame.now.default_members) }
 {
-    let target = target.copy(alloc)?;
     let packages = packages_of(alloc, places, drafts)?;
     let default_members = default_members_of(
         alloc,
@@ -241,9 +238,36 @@ pub fn assembled(
         packages.as_slice(),
         &frame.default_members,
     )?;
+    Ok((packages, default_members))
+}
+
+/// Copies of two paths.
+fn both(alloc: Global, one: &PathText, other: &PathText) -> Result<(PathText, PathText), AllocError>
+    ensures { IfOk result (λ made. (made.0 ≡ one.now) × (made.1 ≡ other.now)) }
+{
+    let one = one.copy(alloc)?;
+    let other = other.copy(alloc)?;
+    Ok((one, other))
+}
+
+/// The workspace of these packages. The one fault is want of memory.
+#[tactic(auto, unfolding(crate::specs::Assembled::assembled))]
+pub fn assembled(
+    alloc: Global,
+    target: &PathText,
+    frame: &Frame,
+    profiles: Items<Profile>,
+    places: &ByFolder<usize>,
+    drafts: Items<Draft>,
+) -> Result<Workspace, AllocError>
+    requires { places.now ≡ places_of drafts }
+    ensures { IfOk result (λ made. made ≡ assembled target.now frame.now profiles drafts) }
+{
     let root_package = place_in(places, &frame.root);
+    let (root, target) = both(alloc, &frame.root, target)?;
+    let (packages, default_members) = members_of(alloc, frame, places, drafts)?;
     Ok(Workspace {
-        root: frame.root,
+        root,
         target,
         packages,
         root_package,

@@ -157,11 +157,11 @@ fn packages_read<P: Place>(
 fn workspace_from(
     alloc: Global,
     target: &PathText,
-    frame: Frame,
+    frame: &Frame,
     profiles: Items<Profile>,
     drafts: Items<Draft>,
 ) -> Result<Workspace, LoadFault>
-    ensures told { Gives load_fault.OutOfMemory (λ ws. ws) result (workspace_from target.now frame profiles drafts) }
+    ensures told { Gives load_fault.OutOfMemory (λ ws. ws) result (workspace_from target.now frame.now profiles drafts) }
     ensures here { IfErr result (λ e. is_failure e ≡ false) }
 {
     let places = places_of(alloc, drafts.as_slice())?;
@@ -172,30 +172,16 @@ fn workspace_from(
     Ok(made)
 }
 
-/// The frame of a workspace.
-fn framed(
-    alloc: Global,
-    manifest: &PathText,
-    written: Option<WorkspaceTable>,
-) -> Result<Frame, AllocError>
-    requires { IfSome written HasSharedInOrder }
-    ensures { IfOk result (λ frame. frame ≡ frame_of (folder_of manifest.now) manifest.now written) }
-{
-    let root = manifest.folder(alloc)?;
-    let path = manifest.copy(alloc)?;
-    Ok(frame_of(alloc, root, path, written))
-}
-
 /// The workspace of what was read.
 fn finished(
     alloc: Global,
     target: &PathText,
-    frame: Frame,
+    frame: &Frame,
     profiles: Items<Profile>,
     read: Reading,
 ) -> Result<Workspace, LoadFault>
     requires { IsReading read }
-    ensures told { Gives load_fault.OutOfMemory (λ ws. ws) result (workspace_from target.now frame profiles (values_of read.found)) }
+    ensures told { Gives load_fault.OutOfMemory (λ ws. ws) result (workspace_from target.now frame.now profiles (values_of read.found)) }
     ensures settled { IfOk result IsSettled }
     ensures here { IfErr result (λ e. is_failure e ≡ false) }
 {
@@ -210,7 +196,7 @@ fn workspace_in<P: Place>(
     place: &mut P,
     alloc: Global,
     target: &PathText,
-    frame: Frame,
+    frame: &Frame,
     profiles: Items<Profile>,
     tables: Tables,
     found: Option<Package>,
@@ -218,12 +204,12 @@ fn workspace_in<P: Place>(
     requires binaries { All (λ b. is_name b.name ≡ true) tables.binaries }
     requires promised { ArePromised tables }
     requires found_name { IfSome found (λ p. is_name p.name ≡ true) }
-    ensures ok { IsTrue P.tells → Told result (workspace_in (from_nothing target.now (P.world place.old)) target.now frame profiles tables found) }
+    ensures ok { IsTrue P.tells → Told result (workspace_in (from_nothing target.now (P.world place.old)) target.now frame.now profiles tables found) }
     ensures settled { IfOk result IsSettled }
     ensures same { IsTrue P.tells → P.world place.new ≡ P.world place.old }
     ensures reads { Reads result (P.counts place.old) (P.counts place.new) }
 {
-    let read = packages_read(place, alloc, target, &frame, tables, found)?;
+    let read = packages_read(place, alloc, target, frame, tables, found)?;
     let made = finished(alloc, target, frame, profiles, read)?;
     Ok(made)
 }
@@ -251,13 +237,15 @@ pub fn load<P: Place>(
     ensures same { IsTrue P.tells → P.world place.new ≡ P.world place.old }
     ensures reads { Reads result (P.counts place.old) (P.counts place.new) }
 {
+    let root = manifest.folder(alloc)?;
+    let path = manifest.copy(alloc)?;
     let parts = root_parts(place, alloc, target, manifest)?;
-    let frame = framed(alloc, manifest, parts.workspace)?;
+    let frame = frame_of(alloc, root, path, parts.workspace);
     workspace_in(
         place,
         alloc,
         target,
-        frame,
+        &frame,
         parts.profiles,
         parts.tables,
         parts.found,

@@ -3,4 +3,4 @@ use Rattle.pb_workspace.proofs.Keeping.{workspace_settled}
 use Rattle.pb_workspace.proofs.loading.finished.Goals as goal
 
 pub returns-clause-settled : goal.returns-clause-settled
-returns-clause-settled c = workspace_settled c.args.target.now c.args.frame c.args.profiles c.args.read _ c.requires c.in_ok-drafts.ensures.order (search rules)
+returns-clause-settled c = workspace_settled c.args.target.now c.args.frame.now c.args.profiles c.args.read _ c.requires c.in_ok-drafts.ensures.order (search rules)

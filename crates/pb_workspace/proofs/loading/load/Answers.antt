@@ -1,4 +1,4 @@
-use Rattle.std.proofs.Common.{subst}
+use Rattle.std.proofs.Common.{ap, ◌∙◌, subst}
 use Rattle.pb_place.specs.World.{from_nothing}
 use Rattle.pb_workspace.proofs.Steps.{told_step, reads_step}
 use Rattle.pb_place.specs.Paths.{folder_of}
@@ -12,7 +12,9 @@ unfolding workspace_of
 returns-clause-ok g c told =
     told_step (λ w parts. workspace_in (from_nothing c.args.target.now w) c.args.target.now (frame_of (folder_of c.args.manifest.now) c.args.manifest.now parts.workspace) parts.profiles parts.tables parts.found) _ _ _ _ _
     (c.in_ok-parts.ensures.ok told) (c.in_ok-parts.ensures.same told)
-    (subst (λ f. Told c.workspace_in.result (workspace_in (from_nothing c.args.target.now (g.P.Place.world c.root_parts.new.place)) c.args.target.now f c.in_ok-parts.parts.profiles c.in_ok-parts.parts.tables c.in_ok-parts.parts.found)) c.in_ok-frame.ensures (c.workspace_in.ensures.ok told))
+    (subst (λ f. Told c.workspace_in.result (workspace_in (from_nothing c.args.target.now (g.P.Place.world c.root_parts.new.place)) c.args.target.now f c.in_ok-parts.parts.profiles c.in_ok-parts.parts.tables c.in_ok-parts.parts.found))
+    (c.frame_of-frame.ensures ∙ ap (λ root. frame_of root c.in_ok-path.path c.in_ok-parts.parts.workspace) c.in_ok-root.ensures ∙ ap (λ path. frame_of (folder_of c.args.manifest.now) path c.in_ok-parts.parts.workspace) c.in_ok-path.ensures)
+    (c.workspace_in.ensures.ok told))
 
 pub returns-clause-reads : goal.returns-clause-reads
 returns-clause-reads g c = reads_step c.workspace_in.result (g.P.Place.counts c.args.place.now) (g.P.Place.counts c.root_parts.new.place) (g.P.Place.counts c.workspace_in.new.place) c.in_ok-parts.ensures.reads.0 c.in_ok-parts.ensures.reads.1 c.workspace_in.ensures.reads
