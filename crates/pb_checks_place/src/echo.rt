@@ -1,7 +1,8 @@
 //! A child that says what it sees.
 
-ghost use Rattle.std.specs.Prelude.{◌≡◌, [], Option, IfOk};
+ghost use Rattle.std.specs.Prelude.{◌≡◌, ◌++◌, ◌∷◌, [], true, codes, Option, IfOk, OnOk};
 ghost use Rattle.std.specs.Option.{unwrap_or};
+ghost use Rattle.pb_place.specs.Paths.{is_relative};
 
 use pb_data::{Bytes, Items, Text, TryCopy};
 use pb_place::{Child, Command, PathFault, PathText, RelativePath, Reply, View, ViewFault};
@@ -33,6 +34,36 @@ fn text_of(alloc: Global, found: Option<Text>) -> Result<Bytes, AllocError>
     }
 }
 
+/// Adds a file with a copy of these bytes.
+fn leave(
+    alloc: Global,
+    files: &mut Items<(RelativePath, Bytes)>,
+    name: &str,
+    bytes: &Bytes,
+) -> Result<(), AllocError>
+    requires { is_relative name.now ≡ true }
+    ensures { OnOk result (files.new ≡ files.old ++ (name.now, bytes.now) ∷ []) }
+{
+    let name = RelativePath::name(alloc, name)?;
+    let bytes = bytes.copy(alloc)?;
+    files.push((name, bytes))
+}
+
+/// What the child leaves, which sees this file and this variable.
+fn left(
+    alloc: Global,
+    file: &Bytes,
+    value: &Bytes,
+) -> Result<Items<(RelativePath, Bytes)>, AllocError>
+    ensures { IfOk result (λ files. files ≡ (codes "a", file.now) ∷ (codes "d/b", value.now) ∷ (codes "d/b", file.now) ∷ []) }
+{
+    let mut files = Items::new(alloc);
+    leave(alloc, &mut files, "a", file)?;
+    leave(alloc, &mut files, "d/b", value)?;
+    leave(alloc, &mut files, "d/b", file)?;
+    Ok(files)
+}
+
 impl Child for Echo {
     ghost use Rattle.std.specs.Prelude.{[], ◌∷◌, pos, codes};
     ghost use Rattle.std.specs.Option.{unwrap_or};
@@ -51,10 +82,7 @@ impl Child for Echo {
     ) -> Result<Reply, ViewFault> {
         let stdout = bytes_of(alloc, view.file(alloc, &command.folder)?)?;
         let stderr = text_of(alloc, view.variable(alloc, command.program.as_str())?)?;
-        let mut files = Items::new(alloc);
-        files.push((RelativePath::name(alloc, "a")?, stdout.copy(alloc)?))?;
-        files.push((RelativePath::name(alloc, "d/b")?, stderr.copy(alloc)?))?;
-        files.push((RelativePath::name(alloc, "d/b")?, stdout.copy(alloc)?))?;
+        let files = left(alloc, &stdout, &stderr)?;
         Ok(Reply {
             status: 7,
             stdout,
