@@ -13,28 +13,24 @@ root=$(cd "$(dirname "$0")/.." && pwd)
 work=$(mktemp -d)
 trap 'rm -rf "$work"' EXIT
 mkdir "$work/crates"
-for name in pb_closure pb_command pb_data pb_directive pb_feature pb_manifest pb_order pb_place pb_profile pb_unit pb_workspace; do
+for name in pb_checks_files pb_closure pb_command pb_data pb_directive pb_feature pb_manifest pb_order pb_package pb_place pb_profile pb_project pb_unit pb_workspace; do
   cp -a "$root/crates/$name" "$work/crates/$name"
   rm -rf "$work/crates/$name/must-fail"
   grep "^$name:" "$root/crates.txt" >> "$work/crates.txt"
 done
-echo 'measure: pb_command pb_data pb_directive pb_feature pb_place pb_unit pb_workspace' >> "$work/crates.txt"
+echo 'measure: pb_checks_files pb_command pb_data pb_directive pb_feature pb_package pb_place pb_project pb_unit pb_workspace' >> "$work/crates.txt"
 mkdir -p "$work/crates/measure/src"
-for part in proofs src/child.rt src/making.rt; do
-  cp -a "$root/crates/pb_checks_commands/$part" "$work/crates/measure/$part"
-done
-find "$work/crates/measure" -type f -exec sed -i 's/pb_checks_commands/measure/g' {} +
+cp "$root/crates/pb_checks_plans/src/commands/making.rt" "$work/crates/measure/src/making.rt"
 cat > "$work/crates/measure/src/main.rt" <<'RATTLE'
 //! Times commands.
 #![tactic(auto)]
 
-mod child;
 mod making;
 
-use crate::child::Silent;
-use crate::making::{done_of, options_of, project_of, text};
+use crate::making::{done_of, options_of, project_of};
+use pb_checks_files::Silent;
 use pb_command::{Project, Setup, answered, command};
-use pb_data::{Bytes, Items};
+use pb_data::{Bytes, Items, Text};
 use pb_directive::Directives;
 use pb_place::{Command, Ended, Memory, PathText};
 use pb_unit::Planned;
@@ -93,8 +89,8 @@ fn place_of(alloc: Global, count: usize) -> Result<Memory<Silent>, Fail> {
 /// A setup without flags.
 fn setup(alloc: Global) -> Result<Setup, Fail> {
     Ok(Setup {
-        tool: text(alloc, "tool")?,
-        rustc: text(alloc, "rustc")?,
+        tool: Text::from_str(alloc, "tool")?,
+        rustc: Text::from_str(alloc, "rustc")?,
         flags: Items::new(alloc),
         runner: Items::new(alloc),
         toolchain: Bytes::from_slice(alloc, b"host: x\n")?,

@@ -18,7 +18,7 @@ program() {
         grep "^$crate:" "$top/crates.txt" >> "$folder/crates.txt"
     done
     echo "measure: $uses anyhow" >> "$folder/crates.txt"
-    cp "$top/crates/pb_checks_files/src/child.rt" "$folder/crates/measure/src/"
+    case " $uses " in *" pb_place "*) cp "$top/crates/pb_checks_files/src/child.rt" "$folder/crates/measure/src/" ;; esac
     cat > "$folder/crates/measure/src/main.rt"
     (cd "$folder/crates/measure" && ${TRY:-} rt "${MODE:-run}" -- none 0 0) > "$folder/built" 2>&1 || {
         tail -40 "$folder/built"

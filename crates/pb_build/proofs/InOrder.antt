@@ -2,7 +2,7 @@
 use Rattle.std.proofs.Common.{◌≡◌, ◌≢◌, ◌∙◌, ◌⊎◌, ◌<◌, ◌++◌, Bool, true, false, cond, List, [], ◌∷◌, ℕ, zero, suc, Some, Ok, Err, Result, refl, sym, ap, subst, arith, slice_get, map, option_map, inl, inr}
 use Rattle.std.proofs.lemmas.Option.{slice_get-map}
 use Rattle.pb_order.proofs.Elements.{all_at, pair_at, at_from_contains, contains_from_at}
-use Rattle.pb_workspace.specs.declared.package.Package.{Package}
+use Rattle.pb_package.specs.declared.package.Package.{Package}
 use Rattle.std.proofs.lemmas.Bool.{cases_Bool, false≢true}
 use Rattle.std.specs.Prelude.{AllPairs, Contains}
 use Rattle.std.specs.List.{AllByRecursion}
@@ -13,15 +13,15 @@ use Rattle.pb_place.proofs.Within.{goes_below, below_then_at, at_below}
 use Rattle.pb_profile.specs.Line.{Seen, folder_of, checked_line}
 use Rattle.pb_profile.specs.declared.fault.ProfileFault.{ProfileFault}
 use Rattle.pb_profile.specs.declared.fault.ProfileFault.TheVariants.{NoSuchProfile}
-use Rattle.pb_workspace.specs.declared.workspace.Workspace.{Workspace}
-use Rattle.pb_workspace.specs.declared.options.Selection.{Selection}
+use Rattle.pb_package.specs.declared.workspace.Workspace.{Workspace}
+use Rattle.pb_package.specs.declared.options.Selection.{Selection}
 use Rattle.pb_feature.specs.declared.resolved.Features.{Features}
 use Rattle.pb_unit.specs.Plan.{IsPlan, LieApart, ComesBefore, ArePlaces, HasSettings, above, level_at, level_of, profile_folder}
 use Rattle.pb_unit.specs.Units.{needs, Reaches, direct, onward, IsPlanned, key_of, name_at}
 use Rattle.pb_unit.specs.declared.plan.Plan.{Plan}
 use Rattle.pb_unit.specs.declared.plan.Planned.{Planned}
 use Rattle.pb_unit.specs.declared.unit.Unit.{Unit}
-use Rattle.pb_command.specs.declared.project.Project.{Project}
+use Rattle.pb_project.specs.declared.project.Project.{Project}
 use Rattle.pb_run.specs.Standing.{IsInOrder}
 
 -- an element of a list is at a place of it, and the other way round

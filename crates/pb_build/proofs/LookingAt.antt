@@ -5,13 +5,13 @@ use Rattle.pb_place.specs.Paths.{folder_of}
 use Rattle.pb_place.specs.World.{World, Answers, from_nothing}
 use Rattle.pb_place.proofs.Folders.{sources_alike, get-sources}
 use Rattle.pb_data.specs.Gives.{◌>>=◌}
-use Rattle.pb_command.specs.declared.project.Project.{Project}
-use Rattle.pb_report.specs.declared.fault.Refusal.{Refusal}
+use Rattle.pb_project.specs.declared.project.Project.{Project}
+use Rattle.pb_answer.specs.declared.fault.Refusal.{Refusal}
 use Rattle.pb_workspace.specs.Frames.{frame_of}
 use Rattle.pb_workspace.specs.Loaded.{root_parts, workspace_in, workspace_of}
-use Rattle.pb_workspace.specs.declared.fault.LoadFault.{LoadFault}
-use Rattle.pb_workspace.specs.declared.options.Options.{Options}
-use Rattle.pb_workspace.specs.declared.workspace.Workspace.{Workspace}
+use Rattle.pb_package.specs.declared.fault.LoadFault.{LoadFault}
+use Rattle.pb_package.specs.declared.options.Options.{Options}
+use Rattle.pb_package.specs.declared.workspace.Workspace.{Workspace}
 use Rattle.pb_build.specs.Environment.{environment_of}
 use Rattle.pb_build.specs.Laws.{LooksAtSources, GivesFromNothing}
 use Rattle.pb_build.specs.Planning.{IsProject, IsRefused, by_load, by_selection, by_feature, by_plan}

@@ -6,18 +6,18 @@ use Rattle.std.proofs.Math.Seq.{take-append-add}
 use Rattle.std.specs.FinMap as finite
 use Rattle.std.specs.Io.KnownBytes.{Appends}
 use Rattle.std.specs.List.{list_all}
-use Rattle.pb_command.specs.declared.fault.UnitFault.{UnitFault}
-use Rattle.pb_command.specs.declared.project.Project.{Project}
-use Rattle.pb_command.specs.declared.project.Setup.{Setup}
+use Rattle.pb_project.specs.declared.fault.UnitFault.{UnitFault}
+use Rattle.pb_project.specs.declared.project.Project.{Project}
+use Rattle.pb_project.specs.declared.project.Setup.{Setup}
 use Rattle.pb_directive.specs.declared.directive.Directive.{Directive}
 use Rattle.pb_message.specs.declared.message.Message.{Message}
-use Rattle.pb_place.specs.Counts.{Counts, up}
+use Rattle.pb_place.specs.Counts.{Counts, Starts, up, up_starts}
 use Rattle.pb_place.specs.Folders.{files_in}
 use Rattle.pb_place.specs.Paths.{is_at_or_below}
 use Rattle.pb_place.specs.World.{World, Map, Answers, ChangesOnly, from_nothing}
-use Rattle.pb_report.specs.declared.fault.BuildFault.{BuildFault}
-use Rattle.pb_report.specs.declared.fault.BuildFault.TheVariants.{Plan, Toolchain, Child, Device, Sink, OutOfMemory}
-use Rattle.pb_report.specs.declared.summary.Summary.{Summary}
+use Rattle.pb_answer.specs.declared.fault.BuildFault.{BuildFault}
+use Rattle.pb_answer.specs.declared.fault.BuildFault.TheVariants.{Plan, Toolchain, Child, Device, Sink, OutOfMemory}
+use Rattle.pb_answer.specs.declared.summary.Summary.{Summary}
 use Rattle.pb_run.specs.Causes.{FailedLast, HasCause}
 use Rattle.pb_place.specs.declared.place.Failure.{Failure}
 use Rattle.pb_place.specs.declared.place.Failure.TheVariants.{Called, Started}
@@ -60,7 +60,7 @@ before (suc i) (suc n) lt = elim (before i n (omega (arith, lt))) [
   | inr b ↦ inr (ap suc b)
 ]
 
-pub up_more : (n k s : ℕ) → n ≡ suc k → upped n s ≡ up (upped k s)
+pub up_more : (n k : ℕ) (s : Starts) → n ≡ suc k → upped n s ≡ up_starts (upped k s)
 up_more n k s is = ap (λ m. upped m s) is
 
 -- the outcomes and the rows that the sources give
@@ -302,14 +302,14 @@ module _ (child : Answers) (setup : Setup) (project : Project) (old now new : Mo
   starts_flags = starts ∙ ap (λ (keys : List (List ℕ)). upped (length keys) old.counts.starts) state.keys
 
   -- and after a unit whose child was started
-  starts_next : (ran : Ran) → GivesAt child setup project now.world i u new.world ran → new.counts.starts ≡ up now.counts.starts
+  starts_next : (ran : Ran) → GivesAt child setup project now.world i u new.world ran → new.counts.starts ≡ up_starts now.counts.starts
       → new.counts.starts ≡ upped (length (started_keys (state.flags ++ ran.started ∷ []) the_rows)) old.counts.starts
   starts_next ran gives more =
       let grown : started_keys (state.flags ++ ran.started ∷ []) the_rows ≡ started_keys state.flags the_rows ++ u.key ∷ [] =
       keys child setup project old now new u order state.flags state.going at_flags only ran (gives_flags ran gives) ∙ ap (λ b. started_keys state.flags the_rows ++ key_if b u.key) gives.started in
       let long : length (started_keys (state.flags ++ ran.started ∷ []) the_rows) ≡ suc (length (started_keys state.flags the_rows)) =
       ap length grown ∙ omega (arith, length-append (started_keys state.flags the_rows) (u.key ∷ [])) in
-      more ∙ ap up starts_flags ∙ sym (up_more _ _ old.counts.starts long)
+      more ∙ ap up_starts starts_flags ∙ sym (up_more _ _ old.counts.starts long)
 
   shifted : (k n : ℕ) → n ≡ k → new.counts.starts ≡ upped k old.counts.starts → new.counts.starts ≡ upped n old.counts.starts
   shifted k n e is = is ∙ ap (λ m. upped m old.counts.starts) (sym e)
@@ -333,8 +333,8 @@ module _ (child : Answers) (setup : Setup) (project : Project) (old now new : Mo
   none_more : new.counts.starts ≡ now.counts.starts → new.counts.starts ≡ upped (0 + length (started_keys state.flags the_rows)) old.counts.starts
   none_more same = shifted (length (started_keys state.flags the_rows)) (0 + length (started_keys state.flags the_rows)) (omega arith) (same ∙ starts_flags)
 
-  one_more : new.counts.starts ≡ up now.counts.starts → new.counts.starts ≡ upped (1 + length (started_keys state.flags the_rows)) old.counts.starts
-  one_more more = shifted (suc (length (started_keys state.flags the_rows))) (1 + length (started_keys state.flags the_rows)) (omega arith) (more ∙ ap up starts_flags)
+  one_more : new.counts.starts ≡ up_starts now.counts.starts → new.counts.starts ≡ upped (1 + length (started_keys state.flags the_rows)) old.counts.starts
+  one_more more = shifted (suc (length (started_keys state.flags the_rows))) (1 + length (started_keys state.flags the_rows)) (omega arith) (more ∙ ap up_starts starts_flags)
 
   -- a fault of the unit's step ends the build
   pub unit_failed : (e : BuildFault) → MayTell u.key e now.counts.starts new.counts.starts → HasCause e now.counts new.counts → UnitSays project u (GivesAt child setup project now.world i u new.world) (Err e) now.heard new.heard
@@ -369,12 +369,12 @@ module _ (child : Answers) (setup : Setup) (project : Project) (old now new : Mo
     failures = cause ∙ failures;
   }
     where
-      also : (new.counts.starts ≡ now.counts.starts) ⊎ (new.counts.starts ≡ up now.counts.starts) → (k : ℕ) × (k ≤ 1) × (new.counts.starts ≡ upped ((k + 0) + length (started_keys state.flags the_rows)) old.counts.starts)
+      also : (new.counts.starts ≡ now.counts.starts) ⊎ (new.counts.starts ≡ up_starts now.counts.starts) → (k : ℕ) × (k ≤ 1) × (new.counts.starts ≡ upped ((k + 0) + length (started_keys state.flags the_rows)) old.counts.starts)
       also (inl same) = (0, omega arith, shifted (length (started_keys state.flags the_rows)) ((0 + 0) + length (started_keys state.flags the_rows)) (omega arith) (same ∙ starts_flags))
-      also (inr more) = (1, omega arith, shifted (suc (length (started_keys state.flags the_rows))) ((1 + 0) + length (started_keys state.flags the_rows)) (omega arith) (more ∙ ap up starts_flags))
+      also (inr more) = (1, omega arith, shifted (suc (length (started_keys state.flags the_rows))) ((1 + 0) + length (started_keys state.flags the_rows)) (omega arith) (more ∙ ap up_starts starts_flags))
 
   -- the unit ended, and its lines are written
-  module _ (ran : Ran) (ended : UnitSays project u (GivesAt child setup project now.world i u new.world) (Ok ran) now.heard new.heard) (more : new.counts.starts ≡ up now.counts.starts) (same : new.counts.failures ≡ now.counts.failures) where
+  module _ (ran : Ran) (ended : UnitSays project u (GivesAt child setup project now.world i u new.world) (Ok ran) now.heard new.heard) (more : new.counts.starts ≡ up_starts now.counts.starts) (same : new.counts.failures ≡ now.counts.failures) where
     abbrev next_flags : List Bool
     next_flags = state.flags ++ ran.started ∷ []
 
@@ -475,7 +475,7 @@ all_ended child setup project old now i noted state past failures starts =
     take_all zero (x ∷ xs) le = absurd (omega (arith, le))
     take_all (suc n) (x ∷ xs) le = ap (λ ys. x ∷ ys) (take_all n xs (omega (arith, le)))
 
-moved : (k n s t : ℕ) → n ≡ k → t ≡ upped k s → t ≡ upped n s
+moved : (k n : ℕ) (s t : Starts) → n ≡ k → t ≡ upped k s → t ≡ upped n s
 moved k n s t e is = is ∙ ap (λ m. upped m s) (sym e)
 
 -- the counters alone: a fault of a unit's step
@@ -483,35 +483,35 @@ pub takes_failed : (n : ℕ) (key : List ℕ) (old now new : Counts) → now.fai
     → (e : BuildFault) → MayTell key e now.starts new.starts → HasCause e now new → MayTellAll e old.starts new.starts × HasCause e old new
 takes_failed n key old now new failures starts (Plan why) tells cause = absurd tells
 takes_failed n key old now new failures starts Toolchain tells cause = absurd tells
-takes_failed n key old now new failures starts (Child unit fault) tells cause = ((n, tells.1 ∙ ap up starts ∙ sym (up_more (n + 1) n old.starts (omega arith))), (cause.0 ∙ ap up failures, cause.1, cause.2))
+takes_failed n key old now new failures starts (Child unit fault) tells cause = ((n, tells.1 ∙ ap up_starts starts ∙ sym (up_more (n + 1) n old.starts (omega arith))), (cause.0 ∙ ap up failures, cause.1, cause.2))
 takes_failed n key old now new failures starts (Device unit fault) tells cause = (
   elim tells.1 [
     | inl removing ↦ (n, moved n (n + 0) old.starts new.starts (omega arith) (removing.1 ∙ starts))
-    | inr reading ↦ (suc n, moved (suc n) (suc n + 0) old.starts new.starts (omega arith) (reading.1 ∙ ap up starts))
+    | inr reading ↦ (suc n, moved (suc n) (suc n + 0) old.starts new.starts (omega arith) (reading.1 ∙ ap up_starts starts))
   ],
   (cause.0 ∙ ap up failures, cause.1, cause.2),
 )
-takes_failed n key old now new failures starts Sink tells cause = ((n, tells ∙ ap up starts ∙ sym (up_more (n + 1) n old.starts (omega arith))), cause ∙ failures)
+takes_failed n key old now new failures starts Sink tells cause = ((n, tells ∙ ap up_starts starts ∙ sym (up_more (n + 1) n old.starts (omega arith))), cause ∙ failures)
 takes_failed n key old now new failures starts OutOfMemory tells cause = (
   elim tells [
     | inl same ↦ (n, moved n (n + 0) old.starts new.starts (omega arith) (same ∙ starts))
-    | inr more ↦ (suc n, moved (suc n) (suc n + 0) old.starts new.starts (omega arith) (more ∙ ap up starts))
+    | inr more ↦ (suc n, moved (suc n) (suc n + 0) old.starts new.starts (omega arith) (more ∙ ap up_starts starts))
   ],
   cause ∙ failures,
 )
 
-pub none_started : (started : List (List ℕ)) (s : ℕ) → started ≡ [] → s ≡ upped (length started) s
+pub none_started : (started : List (List ℕ)) (s : Starts) → started ≡ [] → s ≡ upped (length started) s
 none_started started s none = ap (λ (k : List (List ℕ)). upped (length k) s) (sym none)
 
 -- a unit that ended
-pub takes_more : (started after : List (List ℕ)) (key : List ℕ) (b : Bool) (s n t : ℕ) → after ≡ started ++ key_if b key → b ≡ true → n ≡ upped (length started) s → t ≡ up n → t ≡ upped (length after) s
+pub takes_more : (started after : List (List ℕ)) (key : List ℕ) (b : Bool) (s n t : Starts) → after ≡ started ++ key_if b key → b ≡ true → n ≡ upped (length started) s → t ≡ up_starts n → t ≡ upped (length after) s
 takes_more started after key b s n t is was starts more =
     let long : length after ≡ suc (length started) = ap length (is ∙ ap (λ x. started ++ key_if x key) was) ∙ omega (arith, length-append started (key ∷ [])) in
-    more ∙ ap up starts ∙ sym (up_more (length after) (length started) s long)
+    more ∙ ap up_starts starts ∙ sym (up_more (length after) (length started) s long)
 
-pub takes_short : (n : ℕ) (old now new : Counts) → now.failures ≡ old.failures → now.starts ≡ upped n old.starts → new.failures ≡ now.failures → new.starts ≡ up now.starts
+pub takes_short : (n : ℕ) (old now new : Counts) → now.failures ≡ old.failures → now.starts ≡ upped n old.starts → new.failures ≡ now.failures → new.starts ≡ up_starts now.starts
     → MayTellAll OutOfMemory old.starts new.starts × HasCause OutOfMemory old new
-takes_short n old now new failures starts same more = ((suc n, moved (suc n) (suc n + 0) old.starts new.starts (omega arith) (more ∙ ap up starts)), same ∙ failures)
+takes_short n old now new failures starts same more = ((suc n, moved (suc n) (suc n + 0) old.starts new.starts (omega arith) (more ∙ ap up_starts starts)), same ∙ failures)
 
 -- whether a unit is bad
 pub bad_some : (key : List ℕ) (f : Option UnitFault) (x : List ℕ × UnitFault) → bad_at key f ≡ Some x → (fault : UnitFault) × (f ≡ Some fault)

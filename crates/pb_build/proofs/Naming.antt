@@ -17,13 +17,13 @@ use Rattle.pb_workspace.specs.Frames.{frame_of}
 use Rattle.pb_workspace.specs.Loaded.{packages_read, root_parts, unless, workspace_from, workspace_in, workspace_of}
 use Rattle.pb_workspace.specs.Places.{places_of}
 use Rattle.pb_workspace.specs.declared.draft.Draft.{Draft}
-use Rattle.pb_workspace.specs.declared.fault.LoadFault.{LoadFault}
-use Rattle.pb_workspace.specs.declared.fault.LoadFault.TheVariants.{SameName}
+use Rattle.pb_package.specs.declared.fault.LoadFault.{LoadFault}
+use Rattle.pb_package.specs.declared.fault.LoadFault.TheVariants.{SameName}
 use Rattle.pb_workspace.specs.declared.frame.Frame.{Frame}
-use Rattle.pb_workspace.specs.declared.package.Package.{Package}
+use Rattle.pb_package.specs.declared.package.Package.{Package}
 use Rattle.pb_workspace.specs.declared.rounds.Parts.{Parts}
 use Rattle.pb_workspace.specs.declared.rounds.Reading.{Reading}
-use Rattle.pb_workspace.specs.declared.workspace.Workspace.{Workspace}
+use Rattle.pb_package.specs.declared.workspace.Workspace.{Workspace}
 
 -- what came after a step that went well
 bound : {A B : Type 0} (m : Result A LoadFault) (next : A → Result B LoadFault) (y : B) → (m >>= next) ≡ Ok y → (x : A) × (next x ≡ Ok y)

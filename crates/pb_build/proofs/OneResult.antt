@@ -13,22 +13,22 @@ use Rattle.pb_feature.specs.Faults.{IsFirstFault, package_fault, by_item, by_ask
 use Rattle.pb_feature.specs.declared.fault.FeatureFault.{FeatureFault}
 use Rattle.pb_feature.specs.Resolved.{IsResolved, features_at, is_enabled}
 use Rattle.pb_feature.specs.declared.resolved.Features.{Features}
-use Rattle.pb_command.specs.declared.project.Project.{Project}
-use Rattle.pb_command.specs.declared.project.Setup.{Setup}
+use Rattle.pb_project.specs.declared.project.Project.{Project}
+use Rattle.pb_project.specs.declared.project.Setup.{Setup}
 use Rattle.pb_place.specs.World.{World, Answers, from_nothing}
-use Rattle.pb_report.specs.declared.fault.Refusal.{Refusal}
-use Rattle.pb_report.specs.declared.fault.Refusal.TheVariants as refusal
+use Rattle.pb_answer.specs.declared.fault.Refusal.{Refusal}
+use Rattle.pb_answer.specs.declared.fault.Refusal.TheVariants as refusal
 use Rattle.pb_unit.specs.Plan as plan
 use Rattle.pb_unit.specs.declared.fault.PlanFault.{PlanFault}
 use Rattle.pb_unit.specs.declared.plan.Plan.{Plan}
 use Rattle.pb_workspace.specs.Loaded.{workspace_of}
 use Rattle.pb_workspace.specs.Selected.{selected}
-use Rattle.pb_workspace.specs.declared.fault.LoadFault.{LoadFault}
-use Rattle.pb_workspace.specs.declared.options.Options.{Options}
-use Rattle.pb_workspace.specs.declared.options.Selection.{Selection}
-use Rattle.pb_workspace.specs.declared.package.Side.{Side}
-use Rattle.pb_workspace.specs.declared.package.Package.{Package}
-use Rattle.pb_workspace.specs.declared.workspace.Workspace.{Workspace}
+use Rattle.pb_package.specs.declared.fault.LoadFault.{LoadFault}
+use Rattle.pb_package.specs.declared.options.Options.{Options}
+use Rattle.pb_package.specs.declared.options.Selection.{Selection}
+use Rattle.pb_package.specs.declared.package.Side.{Side}
+use Rattle.pb_package.specs.declared.package.Package.{Package}
+use Rattle.pb_package.specs.declared.workspace.Workspace.{Workspace}
 use Rattle.pb_build.specs.Environment.{environment_of}
 use Rattle.pb_build.specs.Laws.{IsSame, HasOneResult}
 use Rattle.pb_build.specs.Planning as planning

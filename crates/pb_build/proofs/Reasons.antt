@@ -18,10 +18,10 @@ use Rattle.pb_unit.specs.declared.fault.PlanFault.TheVariants.{Cycle, Profile}
 use Rattle.pb_unit.specs.declared.unit.Unit.{Unit}
 use Rattle.pb_unit.specs.declared.unit.What.{What}
 use Rattle.pb_unit.specs.declared.unit.What.TheVariants.{Lib, Bin, Script, Run}
-use Rattle.pb_workspace.specs.declared.options.Selection.{Selection}
-use Rattle.pb_workspace.specs.declared.package.Side.{Side}
-use Rattle.pb_workspace.specs.declared.package.Side.TheVariants.{Target, Host}
-use Rattle.pb_workspace.specs.declared.workspace.Workspace.{Workspace}
+use Rattle.pb_package.specs.declared.options.Selection.{Selection}
+use Rattle.pb_package.specs.declared.package.Side.{Side}
+use Rattle.pb_package.specs.declared.package.Side.TheVariants.{Target, Host}
+use Rattle.pb_package.specs.declared.workspace.Workspace.{Workspace}
 use Rattle.pb_build.proofs.Crowd.{no_more}
 use Rattle.pb_build.proofs.Laid.{map_has, map_gives, pairs_map}
 use Rattle.pb_build.proofs.Once.{same_texts}

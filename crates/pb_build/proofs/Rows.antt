@@ -3,8 +3,8 @@ use Rattle.std.proofs.Common.{◌≡◌, ◌∙◌, ◌++◌, ◌&&◌, ◌<◌,
 use Rattle.std.proofs.lemmas.Bool.{false≢true}
 use Rattle.std.specs.List.{list_all}
 use Rattle.pb_place.proofs.PathLemmas.{and_left, and_right}
-use Rattle.pb_command.specs.declared.fault.UnitFault.{UnitFault}
-use Rattle.pb_command.specs.declared.project.Project.{Project}
+use Rattle.pb_project.specs.declared.fault.UnitFault.{UnitFault}
+use Rattle.pb_project.specs.declared.project.Project.{Project}
 use Rattle.pb_message.specs.declared.message.Message.{Message}
 use Rattle.pb_run.specs.Outcome.{Outcome, Waiting, Good, Bad, is_good, directives_in}
 use Rattle.pb_run.specs.Telling.{unit_lines}

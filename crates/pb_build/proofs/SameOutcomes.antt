@@ -6,12 +6,12 @@ use Rattle.pb_command.specs.Externs.{dependency_words, entry_extern, entry_name,
 use Rattle.pb_command.specs.Answers.{answered_of}
 use Rattle.pb_command.specs.Pairs.{about_pairs, package_pairs, version_pairs, building_pairs, feature_pair, links_pairs, own_pairs, pairs_of, passed_at, passed_pairs}
 use Rattle.pb_command.specs.Said.{said_words}
-use Rattle.pb_command.specs.Targets.{library_file, dep_info_of, made_file_of, package_of}
+use Rattle.pb_project.specs.Targets.{library_file, dep_info_of, made_file_of, package_of}
 use Rattle.pb_command.specs.Words.{active_words, crate_words, expected_words, feature_word, output_words, settings_words}
-use Rattle.pb_command.specs.declared.answer.Answered.{Answered}
-use Rattle.pb_command.specs.declared.fault.UnitFault.{UnitFault}
-use Rattle.pb_command.specs.declared.project.Project.{Project}
-use Rattle.pb_command.specs.declared.project.Setup.{Setup}
+use Rattle.pb_project.specs.declared.answer.Answered.{Answered}
+use Rattle.pb_project.specs.declared.fault.UnitFault.{UnitFault}
+use Rattle.pb_project.specs.declared.project.Project.{Project}
+use Rattle.pb_project.specs.declared.project.Setup.{Setup}
 use Rattle.pb_directive.specs.declared.directive.Directive.{Directive}
 use Rattle.pb_feature.specs.Resolved.{features_at, is_enabled}
 use Rattle.pb_feature.specs.declared.resolved.Features.{Features}
@@ -22,11 +22,12 @@ use Rattle.pb_place.specs.declared.child.Reply.{Reply}
 use Rattle.pb_place.specs.declared.command.Command.{Command}
 use Rattle.pb_run.specs.Outcome.{Outcome, Waiting, directives_of, ended_by, file_at, tabled_from, is_good_at, view_of, ran_by, outcome_by, replied_files, judged, command_after, outcome_of}
 use Rattle.pb_run.specs.Telling.{artifacts, compiler_messages, good_messages, is_binary}
+use Rattle.pb_place.specs.declared.command.Ended.{Ended}
 use Rattle.pb_unit.specs.declared.plan.Planned.{Planned}
 use Rattle.pb_unit.specs.declared.unit.What.{What}
 use Rattle.pb_unit.specs.declared.unit.What.TheVariants.{Lib, Bin, Script, Run}
-use Rattle.pb_workspace.specs.declared.package.Package.{Package}
-use Rattle.pb_workspace.specs.declared.package.Side.{Side}
+use Rattle.pb_package.specs.declared.package.Package.{Package}
+use Rattle.pb_package.specs.declared.package.Side.{Side}
 use Rattle.pb_build.specs.Result.{rows_of, to_first_bad}
 use Rattle.pb_build.proofs.Reasons.{placed_same}
 
@@ -97,13 +98,13 @@ module _ (p : Project) (g : Features) (names : (o : ℕ) (s : Side) → features
   messages_same u stderr None = ap (λ ms. compiler_messages stderr ++ ms) (artifacts_same u (made_file_of p u))
   messages_same u stderr (Some directives) = refl
 
-  ran_same : (u : Planned) (stderr : List ℕ) (r : Result Answered UnitFault) → ran_by p u stderr r ≡ ran_by other u stderr r
-  ran_same u stderr (Ok a) = ap (λ (ms : List Message). record { started = true; fault = None; directives = a.directives; messages = ms }) (messages_same u stderr a.directives)
-  ran_same u stderr (Err e) = refl
+  ran_same : (u : Planned) (ended : Ended) (r : Result Answered UnitFault) → ran_by p u ended r ≡ ran_by other u ended r
+  ran_same u ended (Ok a) = ap (λ (ms : List Message). record { started = true; fault = None; directives = a.directives; messages = ms }) (messages_same u ended.stderr a.directives)
+  ran_same u ended (Err e) = refl
 
   judged_same : (u : Planned) (c : Command) (r : Reply) → judged p u c r ≡ judged other u c r
   judged_same u c r =
-      ap (outcome_by (replied_files u.out r)) (ran_same u r.stderr (answered_of p u c (ended_by r) (file_at (dep_info_of p u) (replied_files u.out r))))
+      ap (outcome_by (replied_files u.out r)) (ran_same u (ended_by r) (answered_of p u c (ended_by r) (file_at (dep_info_of p u) (replied_files u.out r))))
 
   outcome_same : (child : Answers) (setup : Setup) (sources : World) (done : List Outcome) (u : Planned) → outcome_of child setup p sources done u ≡ outcome_of child setup other sources done u
   outcome_same child setup sources done u =

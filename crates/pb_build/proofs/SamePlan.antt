@@ -15,9 +15,9 @@ use Rattle.pb_unit.specs.Units.{key_of, role_of, needs, Reaches}
 use Rattle.pb_unit.specs.declared.plan.Plan.{Plan}
 use Rattle.pb_unit.specs.declared.plan.Planned.{Planned}
 use Rattle.pb_unit.specs.declared.unit.Unit.{Unit}
-use Rattle.pb_workspace.specs.declared.options.Selection.{Selection}
-use Rattle.pb_workspace.specs.declared.package.Package.{Package}
-use Rattle.pb_workspace.specs.declared.workspace.Workspace.{Workspace}
+use Rattle.pb_package.specs.declared.options.Selection.{Selection}
+use Rattle.pb_package.specs.declared.package.Package.{Package}
+use Rattle.pb_package.specs.declared.workspace.Workspace.{Workspace}
 use Rattle.pb_build.proofs.Laid.{HasLevels, HasPlaces, Earlier, same_place, same_length, same_wanted, same_list}
 use Rattle.pb_build.proofs.Once.{same_texts}
 use Rattle.pb_build.proofs.Reasons.{enabled_same, needs_same, planned_too, reaches_too}

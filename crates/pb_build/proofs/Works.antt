@@ -2,18 +2,18 @@
 use Rattle.std.proofs.Common.{◌≡◌, ◌∙◌, ◌+◌, Bool, List, ℕ, zero, suc, Option, Some, None, Result, Ok, Err, refl, sym, ap, subst, arith, length, take, inl, inr}
 use Rattle.std.specs.Io.KnownBytes.{Appends}
 use Rattle.pb_command.specs.Command.{query_of}
-use Rattle.pb_command.specs.declared.project.Project.{Project}
-use Rattle.pb_command.specs.declared.project.Setup.{Setup}
-use Rattle.pb_place.specs.Counts.{Counts, up}
+use Rattle.pb_project.specs.declared.project.Project.{Project}
+use Rattle.pb_project.specs.declared.project.Setup.{Setup}
+use Rattle.pb_place.specs.Counts.{Counts, Starts, up, up_starts}
 use Rattle.pb_place.specs.World.{World, Answers, Ends, seen_by, from_nothing}
 use Rattle.pb_place.specs.declared.child.Reply.{Reply}
 use Rattle.pb_place.specs.declared.command.Command.{Command}
 use Rattle.pb_place.specs.declared.command.Ended.{Ended}
 use Rattle.pb_place.proofs.Folders.{sees_sources, sources_alike}
 use Rattle.pb_place.proofs.Within.{at_below, outside_within}
-use Rattle.pb_report.specs.declared.fault.BuildFault.{BuildFault}
-use Rattle.pb_report.specs.declared.fault.BuildFault.TheVariants.{Plan, Toolchain, Child, Device, Sink, OutOfMemory}
-use Rattle.pb_report.specs.declared.summary.Summary.{Summary}
+use Rattle.pb_answer.specs.declared.fault.BuildFault.{BuildFault}
+use Rattle.pb_answer.specs.declared.fault.BuildFault.TheVariants.{Plan, Toolchain, Child, Device, Sink, OutOfMemory}
+use Rattle.pb_answer.specs.declared.summary.Summary.{Summary}
 use Rattle.pb_run.specs.Causes.{FailedLast, HasCause, Takes}
 use Rattle.pb_place.specs.declared.place.Failure.{Failure}
 use Rattle.pb_place.specs.declared.place.Failure.TheVariants.{Called, Started}
@@ -28,10 +28,10 @@ use Rattle.pb_workspace.specs.Checks.{fault_of}
 use Rattle.pb_workspace.specs.Frames.{frame_of}
 use Rattle.pb_workspace.specs.Loaded.{root_parts, packages_read, unless, workspace_from, workspace_in, workspace_of}
 use Rattle.pb_workspace.specs.declared.draft.Draft.{Draft}
-use Rattle.pb_workspace.specs.declared.fault.LoadFault.{LoadFault}
+use Rattle.pb_package.specs.declared.fault.LoadFault.{LoadFault}
 use Rattle.pb_workspace.specs.declared.frame.Frame.{Frame}
-use Rattle.pb_workspace.specs.declared.options.Options.{Options}
-use Rattle.pb_workspace.specs.declared.workspace.Workspace.{Workspace}
+use Rattle.pb_package.specs.declared.options.Options.{Options}
+use Rattle.pb_package.specs.declared.workspace.Workspace.{Workspace}
 use Rattle.pb_build.specs.Causes.{upped, SomeStarts, UnitStarts, MayTellAll, MayAsk, MayPlan, MayBuild, BuildStarts}
 use Rattle.pb_build.specs.Ending.{Heard, Moment, said_by, started_keys, OnlyIn, Worked, Stopped, UnitsEnd, Still, PlanningEnds, QueryEnds, ProjectEnds, WorksWith}
 use Rattle.pb_build.specs.Environment.{environment_of}
@@ -84,14 +84,14 @@ units_stay more project rows old new (Err (Device key fault)) order ends = elim 
 units_stay more project rows old new (Err Sink) order ends = only_sources project _ old.world new.world order ends.worked.only
 units_stay more project rows old new (Err OutOfMemory) order ends = only_sources project _ old.world new.world order ends.worked.only
 
-upped_up : (k n : ℕ) → upped k (up n) ≡ up (upped k n)
+upped_up : (k : ℕ) (n : Starts) → upped k (up_starts n) ≡ up_starts (upped k n)
 upped_up zero n = refl
-upped_up (suc k) n = ap up (upped_up k n)
+upped_up (suc k) n = ap up_starts (upped_up k n)
 
 -- so many more, and then so many
-upped_on : (m k n : ℕ) → upped m (upped k n) ≡ upped (m + k) n
+upped_on : (m k : ℕ) (n : Starts) → upped m (upped k n) ≡ upped (m + k) n
 upped_on zero k n = let same : k ≡ 0 + k = omega arith in ap (λ j. upped j n) same
-upped_on (suc m) k n = ap up (upped_on m k n) ∙ sym (up_more (suc m + k) (m + k) n (omega arith))
+upped_on (suc m) k n = ap up_starts (upped_on m k n) ∙ sym (up_more (suc m + k) (m + k) n (omega arith))
 
 -- after so many starts more, nothing else being changed
 module _ (project : Project) (rows : List Row) (k : ℕ) (old mid new : Moment) (world : mid.world ≡ old.world) (heard : mid.heard ≡ old.heard) (starts : mid.counts.starts ≡ upped k old.counts.starts) (failures : mid.counts.failures ≡ old.counts.failures) where
@@ -154,7 +154,7 @@ module _ (project : Project) (rows : List Row) (k : ℕ) (old mid new : Moment) 
 
 -- the query went well: the units' end is that of the project
 pub project_ends : (child : Answers) (options : Options) (environment : Environment) (project : Project) (setup : Setup) (toolchain : List ℕ) (old mid new : Moment) (result : Result Summary BuildFault)
-    → mid.world ≡ old.world → mid.heard ≡ old.heard → mid.counts.starts ≡ up old.counts.starts → mid.counts.failures ≡ old.counts.failures → setup ≡ setup_of options environment toolchain
+    → mid.world ≡ old.world → mid.heard ≡ old.heard → mid.counts.starts ≡ up_starts old.counts.starts → mid.counts.failures ≡ old.counts.failures → setup ≡ setup_of options environment toolchain
     → toolchain_of child environment project (from_nothing project.workspace.target old.world) ≡ Some toolchain
     → UnitsEnd 0 project (rows_of child setup project (from_nothing project.workspace.target mid.world)) result mid new
     → ProjectEnds child options environment (from_nothing project.workspace.target old.world) project result old new
@@ -186,11 +186,11 @@ module _ (child : Answers) (options : Options) (environment : Environment) (old 
   query_before : (says : Option (List ℕ)) (result : Result Summary BuildFault) → QueryEnds says result mid new → QueryEnds says result old new
   query_before says (Ok summary) ends = absurd ends
   query_before says (Err (Plan why)) ends = absurd ends
-  query_before says (Err Toolchain) (silent, still, begun, none) = (silent, still_before still, begun ∙ ap up starts, none ∙ failures)
-  query_before says (Err (Child key fault)) (named, still, begun, failed) = (named, still_before still, begun ∙ ap up starts, failed_before (Started fault) failed)
+  query_before says (Err Toolchain) (silent, still, begun, none) = (silent, still_before still, begun ∙ ap up_starts starts, none ∙ failures)
+  query_before says (Err (Child key fault)) (named, still, begun, failed) = (named, still_before still, begun ∙ ap up_starts starts, failed_before (Started fault) failed)
   query_before says (Err (Device key fault)) ends = absurd ends
   query_before says (Err Sink) ends = absurd ends
-  query_before says (Err OutOfMemory) (still, begun, none) = (still_before still, elim begun [ inl same ↦ inl (same ∙ starts) | inr more ↦ inr (more ∙ ap up starts) ], none ∙ failures)
+  query_before says (Err OutOfMemory) (still, begun, none) = (still_before still, elim begun [ inl same ↦ inl (same ∙ starts) | inr more ↦ inr (more ∙ ap up_starts starts) ], none ∙ failures)
 
   pub project_before : (sources : World) (project : Project) (result : Result Summary BuildFault) → ProjectEnds child options environment sources project result mid new → ProjectEnds child options environment sources project result old new
   project_before sources project result (inl query) = inl (query_before (toolchain_of child environment project sources) result query)
@@ -227,7 +227,7 @@ project_works child options environment project at new result is ends =
     inr (project, is, subst (λ (t : List ℕ). ProjectEnds child options environment (from_nothing t at.world) project result at new) same ends)
 
 -- the counters alone: the faults of the query, and of the planning, are faults of a build
-pub ask_may : (e : BuildFault) (old new : ℕ) → MayAsk e old new → MayEnd e old new
+pub ask_may : (e : BuildFault) (old new : Starts) → MayAsk e old new → MayEnd e old new
 ask_may (Plan why) old new may = absurd may
 ask_may Toolchain old new may = may
 ask_may (Child key fault) old new may = (0, may.1)
@@ -236,7 +236,7 @@ ask_may Sink old new may = absurd may
 ask_may OutOfMemory old new (inl same) = (0, same)
 ask_may OutOfMemory old new (inr more) = (1, more)
 
-pub plan_may : (e : BuildFault) (old new : ℕ) → MayPlan e old new → MayBuild e old new
+pub plan_may : (e : BuildFault) (old new : Starts) → MayPlan e old new → MayBuild e old new
 plan_may (Plan why) old new may = may
 plan_may Toolchain old new may = absurd may
 plan_may (Child key fault) old new may = absurd may
@@ -245,13 +245,13 @@ plan_may Sink old new may = absurd may
 plan_may OutOfMemory old new may = (0, may)
 
 -- the counters alone: the units, after one start
-some_after : (least old mid new : ℕ) → mid ≡ up old → SomeStarts least mid new → SomeStarts (suc least) old new
+some_after : (least : ℕ) (old mid new : Starts) → mid ≡ up_starts old → SomeStarts least mid new → SomeStarts (suc least) old new
 some_after least old mid new starts (n, is) = (n, is ∙ ap (upped (n + least)) starts ∙ upped_up (n + least) old ∙ sym (up_more (n + suc least) (n + least) old (omega arith)))
 
-fewer : (least more old new : ℕ) → more ≡ suc least → SomeStarts more old new → SomeStarts least old new
+fewer : (least more : ℕ) (old new : Starts) → more ≡ suc least → SomeStarts more old new → SomeStarts least old new
 fewer least more old new is (n, grown) = (n + 1, grown ∙ ap (λ k. upped k old) (omega (arith, is)))
 
-pub units_take : (old mid new : Counts) (result : Result Summary BuildFault) → mid.starts ≡ up old.starts → mid.failures ≡ old.failures → Takes UnitStarts MayTellAll result mid new → Takes BuildStarts MayEnd result old new
+pub units_take : (old mid new : Counts) (result : Result Summary BuildFault) → mid.starts ≡ up_starts old.starts → mid.failures ≡ old.failures → Takes UnitStarts MayTellAll result mid new → Takes BuildStarts MayEnd result old new
 units_take old mid new (Ok summary) starts failures takes =
     (takes.0 ∙ failures, takes.1 ∙ ap (upped (length summary.started)) starts ∙ upped_up (length summary.started) old.starts ∙ sym (up_more (1 + length summary.started) (length summary.started) old.starts (omega arith)))
 units_take old mid new (Err e) starts failures takes = (may e takes.0, caused e takes.1)

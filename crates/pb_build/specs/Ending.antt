@@ -5,23 +5,23 @@ use Rattle.std.specs.FinMap as map
 use Rattle.pb_directive.specs.declared.directive.Directive.{Directive}
 use Rattle.pb_message.specs.Message.{finish_line}
 use Rattle.pb_message.specs.declared.message.Message.{Message}
-use Rattle.pb_place.specs.Counts.{Counts, up}
+use Rattle.pb_place.specs.Counts.{Counts, Starts, up, up_starts}
 use Rattle.pb_place.specs.Folders.{files_in}
 use Rattle.pb_place.specs.Paths.{is_at_or_below}
 use Rattle.pb_place.specs.World.{World, Map, Answers, from_nothing}
 use Rattle.pb_place.specs.declared.place.Failure.{Failure}
 use Rattle.pb_place.specs.declared.place.Failure.TheVariants.{Called, Started}
 use Rattle.pb_place.specs.declared.place.PlaceFault.TheVariants as place
-use Rattle.pb_command.specs.declared.fault.UnitFault.{UnitFault}
-use Rattle.pb_command.specs.declared.project.Project.{Project}
-use Rattle.pb_report.specs.declared.fault.BuildFault.{BuildFault}
-use Rattle.pb_report.specs.declared.fault.BuildFault.TheVariants.{Plan, Toolchain, Child, Device, Sink, OutOfMemory}
-use Rattle.pb_report.specs.declared.summary.Summary.{Summary}
+use Rattle.pb_project.specs.declared.fault.UnitFault.{UnitFault}
+use Rattle.pb_project.specs.declared.project.Project.{Project}
+use Rattle.pb_answer.specs.declared.fault.BuildFault.{BuildFault}
+use Rattle.pb_answer.specs.declared.fault.BuildFault.TheVariants.{Plan, Toolchain, Child, Device, Sink, OutOfMemory}
+use Rattle.pb_answer.specs.declared.summary.Summary.{Summary}
 use Rattle.pb_run.specs.Causes.{FailedLast, Takes}
 use Rattle.pb_run.specs.Outcome.{Outcome, Waiting, Good, Bad, directives_in}
 use Rattle.pb_run.specs.Telling.{unit_lines}
 use Rattle.pb_unit.specs.declared.plan.Planned.{Planned}
-use Rattle.pb_workspace.specs.declared.options.Options.{Options}
+use Rattle.pb_package.specs.declared.options.Options.{Options}
 use Rattle.pb_build.specs.Causes.{upped, BuildStarts, MayBuild}
 use Rattle.pb_build.specs.Environment.{environment_of}
 use Rattle.pb_build.specs.Planning.{IsProject, IsRefused}
@@ -195,12 +195,12 @@ PlanningEnds options (Err OutOfMemory) old new = Still old new × (new.counts.st
 abbrev pub QueryEnds : Option (List ℕ) → Result Summary BuildFault → Moment → Moment → Type 0
 QueryEnds says (Ok summary) old new = ⊥
 QueryEnds says (Err (Plan why)) old new = ⊥
-QueryEnds says (Err Toolchain) old new = (says ≡ None) × Still old new × (new.counts.starts ≡ up old.counts.starts) × (new.counts.failures ≡ old.counts.failures)
+QueryEnds says (Err Toolchain) old new = (says ≡ None) × Still old new × (new.counts.starts ≡ up_starts old.counts.starts) × (new.counts.failures ≡ old.counts.failures)
 QueryEnds says (Err (Child key fault)) old new =
-    (key ≡ codes "-vV") × Still old new × (new.counts.starts ≡ up old.counts.starts) × FailedLast (Started fault) old.counts new.counts
+    (key ≡ codes "-vV") × Still old new × (new.counts.starts ≡ up_starts old.counts.starts) × FailedLast (Started fault) old.counts new.counts
 QueryEnds says (Err (Device key fault)) old new = ⊥
 QueryEnds says (Err Sink) old new = ⊥
-QueryEnds says (Err OutOfMemory) old new = Still old new × ((new.counts.starts ≡ old.counts.starts) ⊎ (new.counts.starts ≡ up old.counts.starts)) × (new.counts.failures ≡ old.counts.failures)
+QueryEnds says (Err OutOfMemory) old new = Still old new × ((new.counts.starts ≡ old.counts.starts) ⊎ (new.counts.starts ≡ up_starts old.counts.starts)) × (new.counts.failures ≡ old.counts.failures)
 
 -- the query ended it, or the units did
 abbrev pub ProjectEnds : Answers → Options → Environment → World → Project → Result Summary BuildFault → Moment → Moment → Type 0

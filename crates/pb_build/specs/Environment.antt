@@ -5,7 +5,7 @@ use Rattle.pb_directive.specs.Directives as line
 use Rattle.pb_place.specs.Paths.{joined, below, folder_of}
 use Rattle.pb_place.specs.declared.path.PathFault.{PathFault}
 use Rattle.pb_place.specs.World.{Map}
-use Rattle.pb_workspace.specs.declared.options.Options.{Options}
+use Rattle.pb_package.specs.declared.options.Options.{Options}
 use Rattle.pb_build.specs.declared.environment.Environment.{Environment}
 
 -- a variable that is empty counts as absent

@@ -1,7 +1,7 @@
 -- Laws of what a build gives, in the words of the rules.
 use Rattle.std.specs.Prelude.{◌≡◌}
 use Rattle.pb_place.specs.World.{World, Answers, from_nothing}
-use Rattle.pb_workspace.specs.declared.options.Options.{Options}
+use Rattle.pb_package.specs.declared.options.Options.{Options}
 use Rattle.pb_build.specs.Environment.{environment_of}
 use Rattle.pb_build.specs.Result.{BuildResult, Refused, NoToolchain, Finished, IsResult}
 

@@ -3,21 +3,21 @@ use Rattle.std.specs.Prelude.{◌≡◌, ℕ, List, Ok, Err}
 use Rattle.pb_place.specs.World.{World}
 use Rattle.pb_workspace.specs.Loaded.{workspace_of}
 use Rattle.pb_workspace.specs.Selected.{selected}
-use Rattle.pb_workspace.specs.declared.fault.LoadFault.{LoadFault}
-use Rattle.pb_workspace.specs.declared.options.Options.{Options}
-use Rattle.pb_workspace.specs.declared.options.Selection.{Selection}
-use Rattle.pb_workspace.specs.declared.workspace.Workspace.{Workspace}
+use Rattle.pb_package.specs.declared.fault.LoadFault.{LoadFault}
+use Rattle.pb_package.specs.declared.options.Options.{Options}
+use Rattle.pb_package.specs.declared.options.Selection.{Selection}
+use Rattle.pb_package.specs.declared.workspace.Workspace.{Workspace}
 use Rattle.pb_feature.specs.Faults as feature
 use Rattle.pb_feature.specs.Resolved.{IsResolved}
 use Rattle.pb_feature.specs.declared.fault.FeatureFault.{FeatureFault}
 use Rattle.pb_feature.specs.declared.resolved.Features.{Features}
 use Rattle.pb_unit.specs.Plan as plan
 use Rattle.pb_unit.specs.declared.fault.PlanFault.{PlanFault}
-use Rattle.pb_command.specs.declared.project.Project.{Project}
-use Rattle.pb_report.specs.declared.fault.BuildFault.{BuildFault}
-use Rattle.pb_report.specs.declared.fault.BuildFault.TheVariants as told
-use Rattle.pb_report.specs.declared.fault.Refusal.{Refusal}
-use Rattle.pb_report.specs.declared.fault.Refusal.TheVariants.{Load, Feature, Plan}
+use Rattle.pb_project.specs.declared.project.Project.{Project}
+use Rattle.pb_answer.specs.declared.fault.BuildFault.{BuildFault}
+use Rattle.pb_answer.specs.declared.fault.BuildFault.TheVariants as told
+use Rattle.pb_answer.specs.declared.fault.Refusal.{Refusal}
+use Rattle.pb_answer.specs.declared.fault.Refusal.TheVariants.{Load, Feature, Plan}
 
 -- these packages of the workspace are selected
 pub record IsSelected (options : Options) (target : List ℕ) (w : World) (ws : Workspace) (selection : Selection) : Type 0 where

@@ -2,33 +2,33 @@
 use Rattle.std.specs.Prelude.{◌≡◌, ℕ, true, List, Some, take, slice_get, Result, Ok, Err, MatchResult}
 use Rattle.std.specs.FinMap as finite
 use Rattle.std.specs.Io.KnownBytes.{Appends}
-use Rattle.pb_place.specs.Counts.{Counts, up}
-use Rattle.pb_command.specs.declared.project.Project.{Project}
-use Rattle.pb_report.specs.declared.fault.BuildFault.{BuildFault}
-use Rattle.pb_report.specs.declared.fault.BuildFault.TheVariants.{Plan, Toolchain, Child, Device, Sink, OutOfMemory}
+use Rattle.pb_place.specs.Counts.{Counts, Starts, up, up_starts}
+use Rattle.pb_project.specs.declared.project.Project.{Project}
+use Rattle.pb_answer.specs.declared.fault.BuildFault.{BuildFault}
+use Rattle.pb_answer.specs.declared.fault.BuildFault.TheVariants.{Plan, Toolchain, Child, Device, Sink, OutOfMemory}
 use Rattle.pb_run.specs.Telling.{unit_lines}
 use Rattle.pb_run.specs.declared.ran.Ran.{Ran}
 use Rattle.pb_unit.specs.declared.plan.Planned.{Planned}
-use Rattle.pb_workspace.specs.declared.fault.LoadFault.{LoadFault}
-use Rattle.pb_workspace.specs.declared.fault.LoadFault.TheVariants as load
-use Rattle.pb_workspace.specs.declared.options.Options.{Options}
-use Rattle.pb_command.specs.declared.project.Setup.{Setup}
+use Rattle.pb_package.specs.declared.fault.LoadFault.{LoadFault}
+use Rattle.pb_package.specs.declared.fault.LoadFault.TheVariants as load
+use Rattle.pb_package.specs.declared.options.Options.{Options}
+use Rattle.pb_project.specs.declared.project.Setup.{Setup}
 use Rattle.pb_place.specs.Folders.{files_in}
 use Rattle.pb_place.specs.World.{World, Answers, from_nothing}
 use Rattle.pb_run.specs.Outcome.{outcomes, outcome_by, directives_in}
-use Rattle.pb_report.specs.declared.fault.Refusal.TheVariants as refusal
+use Rattle.pb_answer.specs.declared.fault.Refusal.TheVariants as refusal
 use Rattle.pb_build.specs.Causes.{SomeStarts}
 use Rattle.pb_build.specs.Ending.{Heard}
 use Rattle.pb_build.specs.Planning.{IsFeatured}
 use Rattle.pb_feature.specs.Faults as feature
 use Rattle.pb_feature.specs.declared.fault.FeatureFault.{FeatureFault}
 use Rattle.pb_feature.specs.declared.resolved.Features.{Features}
-use Rattle.pb_report.specs.declared.fault.Refusal.{Refusal}
+use Rattle.pb_answer.specs.declared.fault.Refusal.{Refusal}
 use Rattle.pb_unit.specs.Plan as plan
 use Rattle.pb_unit.specs.declared.fault.PlanFault.{PlanFault}
 use Rattle.pb_workspace.specs.Selected.{selected}
-use Rattle.pb_workspace.specs.declared.options.Selection.{Selection}
-use Rattle.pb_workspace.specs.declared.workspace.Workspace.{Workspace}
+use Rattle.pb_package.specs.declared.options.Selection.{Selection}
+use Rattle.pb_package.specs.declared.workspace.Workspace.{Workspace}
 
 -- all of these bytes, the first of them where the sink failed, none where memory was refused
 abbrev pub Says : {T : Type 0} → List ℕ → Result T BuildFault → Heard → Heard → Type 0
@@ -109,9 +109,9 @@ IsRefusedOf options ws Sink = ⊥
 IsRefusedOf options ws OutOfMemory = Unit {0}
 
 -- the faults of a build after its planning
-abbrev pub MayEnd : BuildFault → ℕ → ℕ → Type 0
+abbrev pub MayEnd : BuildFault → Starts → Starts → Type 0
 MayEnd (Plan why) old new = ⊥
-MayEnd Toolchain old new = new ≡ up old
+MayEnd Toolchain old new = new ≡ up_starts old
 MayEnd (Child unit fault) old new = SomeStarts 1 old new
 MayEnd (Device unit fault) old new = SomeStarts 0 old new
 MayEnd Sink old new = SomeStarts 2 old new

@@ -6,12 +6,12 @@ use Rattle.pb_place.specs.World.{World, Answers, from_nothing}
 use Rattle.pb_place.specs.declared.command.Ended.{Ended}
 use Rattle.pb_command.specs.Answers.{ended_fault}
 use Rattle.pb_command.specs.Command.{query_of}
-use Rattle.pb_command.specs.declared.project.Project.{Project}
-use Rattle.pb_command.specs.declared.project.Setup.{Setup}
-use Rattle.pb_report.specs.declared.fault.Refusal.{Refusal}
+use Rattle.pb_project.specs.declared.project.Project.{Project}
+use Rattle.pb_project.specs.declared.project.Setup.{Setup}
+use Rattle.pb_answer.specs.declared.fault.Refusal.{Refusal}
 use Rattle.pb_run.specs.Outcome.{Outcome, Waiting, Good, Bad, outcomes, ended_by}
 use Rattle.pb_unit.specs.declared.plan.Planned.{Planned}
-use Rattle.pb_workspace.specs.declared.options.Options.{Options}
+use Rattle.pb_package.specs.declared.options.Options.{Options}
 use Rattle.pb_build.specs.Environment.{environment_of}
 use Rattle.pb_build.specs.Planning.{IsProject, IsRefused}
 use Rattle.pb_build.specs.declared.environment.Environment.{Environment}

@@ -1,7 +1,7 @@
 -- A session: edits and builds, one after another. Each build's end and its cause are handed on.
 use Rattle.std.specs.Prelude.{◌≡◌, ◌↔◌, ⊤, ℕ, true, List, [], ◌∷◌, ◌++◌, Option}
 use Rattle.pb_place.specs.World.{World, Answers, written, removed}
-use Rattle.pb_place.specs.Memory.{Held, set, unset}
+use Rattle.pb_place.specs.Memory.{Held, counts_in, set, unset}
 use Rattle.pb_session.specs.declared.step.SessionStep.{SessionStep}
 use Rattle.pb_session.specs.declared.step.SessionStep.TheVariants.{Write, Remove, Set, Unset, Build}
 use Rattle.pb_build.specs.declared.sessions.Answer.{Answer}
@@ -9,7 +9,7 @@ use Rattle.pb_build.specs.Ending.{Moment, moment, Builds}
 use Rattle.pb_build.specs.Environment.{environment_of}
 use Rattle.pb_build.specs.Kept.{SourcesStay}
 use Rattle.pb_build.specs.Result.{BuildResult, IsResult}
-use Rattle.pb_workspace.specs.declared.options.Options.{Options}
+use Rattle.pb_package.specs.declared.options.Options.{Options}
 
 -- a moment of a session, and the answers of the builds so far
 pub record Point : Type 0 where
@@ -18,7 +18,7 @@ pub record Point : Type 0 where
 
 -- with a place in memory
 abbrev pub point : Held → Option (List ℕ) → ℕ → List Answer → Point
-point memory taken faults answers = record { moment = moment memory.world memory.counts taken faults; answers = answers }
+point memory taken faults answers = record { moment = moment memory.world (counts_in memory) taken faults; answers = answers }
 
 -- an edit makes this of the world, and nothing else happens
 abbrev pub Edits : World → Point → Point → Type 0

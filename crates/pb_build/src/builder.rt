@@ -10,19 +10,19 @@ ghost use Rattle.pb_build.specs.Planning.{IsProject, IsToldRefusal};
 ghost use Rattle.pb_build.specs.Private.{MayEnd};
 ghost use Rattle.pb_build.specs.Result.{setup_of};
 ghost use Rattle.pb_run.specs.Causes.{Takes, NoStart};
-ghost use Rattle.pb_command.specs.declared.project.Project.{Project};
+ghost use Rattle.pb_project.specs.declared.project.Project.{Project};
 ghost use Rattle.pb_run.specs.Standing.{IsInOrder};
 
 use crate::environment::{Environment, environment_of};
 use crate::planning::planned;
 use crate::toolchain::ask;
 use crate::units::run_units;
-use pb_command::{Project, Setup};
+use pb_answer::{BuildFault, Summary};
 use pb_data::{Bytes, Items, Text, TryCopy};
 use pb_message::{finish_line, write_lines};
+use pb_package::Options;
 use pb_place::{Out, Place};
-use pb_report::{BuildFault, Summary};
-use pb_workspace::Options;
+use pb_project::{Project, Setup};
 use std::alloc::{AllocError, Global};
 
 /// How things are compiled.
@@ -60,7 +60,7 @@ fn build_project<P: Place, O: Out>(
     ensures takes { Takes BuildStarts MayEnd result (P.counts place.old) (P.counts place.new) }
     ensures kept { IsTrue P.tells → SourcesStay project.now.workspace.target (P.world place.old) (P.world place.new) }
 {
-    let toolchain = match ask(place, alloc, &environment, project) {
+    let toolchain = match ask(alloc, place, &environment, project) {
         Ok(toolchain) => toolchain,
         Err(fault) => return Err(fault),
     };
@@ -85,7 +85,7 @@ fn work_with<P: Place, O: Out>(
     ensures takes { Takes BuildStarts MayBuild result (P.counts place.old) (P.counts place.new) }
     ensures kept { IsTrue P.tells → SourcesStay environment.target (P.world place.old) (P.world place.new) }
 {
-    let project = match planned(place, alloc, options, &environment.target) {
+    let project = match planned(alloc, place, options, &environment.target) {
         Ok(project) => project,
         Err(fault) => return Err(fault),
     };
@@ -104,7 +104,7 @@ fn work<P: Place, O: Out>(
     ensures takes { Takes BuildStarts MayBuild result (P.counts place.old) (P.counts place.new) }
     ensures kept { IsTrue P.tells → SourcesStay (environment_of options.now (P.world place.old).variables).target (P.world place.old) (P.world place.new) }
 {
-    let environment = match environment_of(place, alloc, options) {
+    let environment = match environment_of(alloc, place, options) {
         Ok(environment) => environment,
         Err(fault) => return Err(fault),
     };
@@ -177,11 +177,11 @@ pub fn missing_libraries<P: Place>(
     ensures refused { IsTrue P.tells → IfErr result (IsToldRefusal options.now (environment_of options.now (P.world place.old).variables).target (P.world place.old)) }
     ensures takes { Takes NoStart MayPlan result (P.counts place.old) (P.counts place.new) }
 {
-    let environment = match environment_of(place, alloc, options) {
+    let environment = match environment_of(alloc, place, options) {
         Ok(environment) => environment,
         Err(fault) => return Err(fault),
     };
-    match planned(place, alloc, options, &environment.target) {
+    match planned(alloc, place, options, &environment.target) {
         Ok(project) => Ok(without_library(project)),
         Err(fault) => Err(fault),
     }

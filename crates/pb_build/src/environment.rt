@@ -9,16 +9,16 @@ ghost use Rattle.pb_build.specs.Environment.{set_text, rustc_of, flags_of, told_
 ghost use Rattle.pb_build.specs.Private.{NamesCall, IsUnrefused};
 ghost use Rattle.pb_run.specs.Causes.{Takes, NoStart};
 
+use pb_answer::BuildFault;
 use pb_data::{Items, Text, TryCopy};
 use pb_directive::words::words_of;
+use pb_package::Options;
 use pb_place::{PathFault, PathText, Place, RelativePath};
-use pb_report::BuildFault;
 use pb_run::deviceless;
-use pb_workspace::Options;
 use std::alloc::{AllocError, Global};
 
 /// What the variables and the options say of a build.
-#[derive(Debug, Drop)]
+#[derive(Drop)]
 pub struct Environment {
     /// The compiler: `RUSTC`, else `rustc` (The Cargo Book, Environment Variables).
     pub rustc: Text,
@@ -46,7 +46,7 @@ fn filled(found: Option<Text>) -> Option<Text>
 }
 
 /// A variable that is set to some text: an empty one counts as absent (our own choice).
-fn variable<P: Place>(place: &mut P, alloc: Global, name: &str) -> Result<Option<Text>, BuildFault>
+fn variable<P: Place>(alloc: Global, place: &mut P, name: &str) -> Result<Option<Text>, BuildFault>
     ensures ok { IsTrue P.tells → IfOk result (λ found. found ≡ set_text (finite.get (P.world place.old).variables name.now)) }
     ensures same { IsTrue P.tells → P.world place.new ≡ P.world place.old }
     ensures takes { Takes NoStart MayPlan result (P.counts place.old) (P.counts place.new) }
@@ -160,8 +160,8 @@ fn environment_with(
 /// What the variables and the options say. `RUSTC` is read first, then `RUSTFLAGS`, then `CARGO_TARGET_DIR`. Faults:
 /// Device, with the variable's name; OutOfMemory.
 pub(crate) fn environment_of<P: Place>(
-    place: &mut P,
     alloc: Global,
+    place: &mut P,
     options: &Options,
 ) -> Result<Environment, BuildFault>
     ensures ok { IsTrue P.tells → IfOk result (λ environment. environment ≡ environment_of options.now (P.world place.old).variables) }
@@ -170,15 +170,15 @@ pub(crate) fn environment_of<P: Place>(
     ensures names { NamesCall result (P.counts place.new) }
     ensures unrefused { IfErr result IsUnrefused }
 {
-    let rustc = match variable(place, alloc, "RUSTC") {
+    let rustc = match variable(alloc, place, "RUSTC") {
         Ok(rustc) => rustc,
         Err(fault) => return Err(fault),
     };
-    let flags = match variable(place, alloc, "RUSTFLAGS") {
+    let flags = match variable(alloc, place, "RUSTFLAGS") {
         Ok(flags) => flags,
         Err(fault) => return Err(fault),
     };
-    let target = match variable(place, alloc, "CARGO_TARGET_DIR") {
+    let target = match variable(alloc, place, "CARGO_TARGET_DIR") {
         Ok(target) => target,
         Err(fault) => return Err(fault),
     };

@@ -8,25 +8,26 @@ ghost use Rattle.pb_build.specs.Private.{NamesCall, IsRefusedOf, unread};
 ghost use Rattle.pb_build.specs.declared.environment.Environment.{Environment};
 ghost use Rattle.pb_workspace.specs.Loaded.{workspace_of};
 ghost use Rattle.pb_workspace.specs.Selected.{selected};
-ghost use Rattle.pb_workspace.specs.Settled.{IsSettled};
+ghost use Rattle.pb_package.specs.Settled.{IsSettled};
 ghost use Rattle.pb_feature.specs.Faults as feature;
 ghost use Rattle.pb_unit.specs.Plan as plan;
-ghost use Rattle.pb_report.specs.declared.fault.BuildFault.TheVariants as build_fault;
-ghost use Rattle.pb_report.specs.declared.fault.Refusal.TheVariants as refusal;
+ghost use Rattle.pb_answer.specs.declared.fault.BuildFault.TheVariants as build_fault;
+ghost use Rattle.pb_answer.specs.declared.fault.Refusal.TheVariants as refusal;
 ghost use Rattle.pb_feature.specs.declared.fault.FeatureFault.{FeatureFault};
 ghost use Rattle.pb_unit.specs.declared.fault.PlanFault.{PlanFault};
-ghost use Rattle.pb_workspace.specs.declared.fault.LoadFault.{LoadFault};
-ghost use Rattle.pb_workspace.specs.declared.options.Selection.{Selection};
+ghost use Rattle.pb_package.specs.declared.fault.LoadFault.{LoadFault};
+ghost use Rattle.pb_package.specs.declared.options.Selection.{Selection};
 ghost use Rattle.pb_run.specs.Causes.{Takes, NoStart};
 ghost use Rattle.pb_run.specs.Standing.{IsInOrder};
 
-use pb_command::Project;
+use pb_answer::{BuildFault, Refusal};
 use pb_data::TryCopy;
 use pb_feature::{FeatureFault, Features, resolve};
+use pb_package::{LoadFault, Options, Selection, Workspace};
 use pb_place::{PathText, Place};
-use pb_report::{BuildFault, Refusal};
+use pb_project::Project;
 use pb_unit::{Plan, PlanFault};
-use pb_workspace::{LoadFault, Options, Selection, Workspace, load, selected};
+use pb_workspace::{load, selected};
 use std::alloc::Global;
 
 /// The fault of a build whose workspace cannot be read.
@@ -45,8 +46,8 @@ fn unread(fault: LoadFault) -> BuildFault
 
 /// Reads the workspace that the options name.
 fn read<P: Place>(
-    place: &mut P,
     alloc: Global,
+    place: &mut P,
     options: &Options,
     target: &PathText,
 ) -> Result<Workspace, BuildFault>
@@ -57,7 +58,7 @@ fn read<P: Place>(
     ensures takes { Takes NoStart MayPlan result (P.counts place.old) (P.counts place.new) }
     ensures names { NamesCall result (P.counts place.new) }
 {
-    match load(place, alloc, &options.manifest, target) {
+    match load(alloc, place, &options.manifest, target) {
         Ok(workspace) => Ok(workspace),
         Err(fault) => Err(unread(fault)),
     }
@@ -152,8 +153,8 @@ fn project_of(alloc: Global, options: &Options, workspace: Workspace) -> Result<
 /// Reads the workspace, and plans the build. Faults: Plan, with the first refusal; Device, with the path of the call
 /// that failed; OutOfMemory. No child is started and no file changed.
 pub(crate) fn planned<P: Place>(
-    place: &mut P,
     alloc: Global,
+    place: &mut P,
     options: &Options,
     target: &PathText,
 ) -> Result<Project, BuildFault>
@@ -164,7 +165,7 @@ pub(crate) fn planned<P: Place>(
     ensures takes { Takes NoStart MayPlan result (P.counts place.old) (P.counts place.new) }
     ensures names { NamesCall result (P.counts place.new) }
 {
-    let workspace = match read(place, alloc, options, target) {
+    let workspace = match read(alloc, place, options, target) {
         Ok(workspace) => workspace,
         Err(fault) => return Err(fault),
     };

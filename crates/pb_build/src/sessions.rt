@@ -5,15 +5,15 @@ ghost use Rattle.pb_session.specs.declared.step.SessionStep.TheVariants.{Build};
 ghost use Rattle.pb_build.specs.Session.{Takes, Course, point};
 
 use crate::builder::build;
+use pb_answer::{BuildFault, Summary};
 use pb_data::Items;
+use pb_package::Options;
 use pb_place::{Child, Memory, Out};
-use pb_report::{BuildFault, Summary};
 use pb_session::SessionStep;
-use pb_workspace::Options;
 use std::alloc::{AllocError, Global};
 
 /// What one build of a session answered.
-#[derive(Debug, Drop)]
+#[derive(Drop)]
 pub struct Answer {
     /// The build's summary, or the fault that ended it.
     pub result: Result<Summary, BuildFault>,

@@ -6,16 +6,17 @@ ghost use Rattle.pb_place.specs.World.{World, from_nothing};
 ghost use Rattle.pb_build.specs.Causes.{MayAsk};
 ghost use Rattle.pb_build.specs.Result.{is_host, says_host, toolchain_in, toolchain_of};
 ghost use Rattle.pb_directive.specs.Lines.{lines_of};
-ghost use Rattle.pb_report.specs.declared.fault.BuildFault.TheVariants as build_fault;
+ghost use Rattle.pb_answer.specs.declared.fault.BuildFault.TheVariants as build_fault;
 ghost use Rattle.pb_run.specs.Causes.{Takes, OneStart};
 
 use crate::environment::Environment;
-use pb_command::{Project, ended_fault, query};
+use pb_answer::BuildFault;
+use pb_command::{ended_fault, query};
 use pb_data::Bytes;
 use pb_directive::lines::lines_of;
 use pb_directive::texts::text_of;
 use pb_place::{Ended, Place};
-use pb_report::BuildFault;
+use pb_project::Project;
 use pb_run::start;
 use std::alloc::Global;
 
@@ -60,8 +61,8 @@ fn toolchain_in(ended: Ended) -> Option<Bytes>
 /// Asks the compiler for its version. Toolchain where it does not say its host; Child, with `-vV`, where it gave no
 /// answer.
 pub(crate) fn ask<P: Place>(
-    place: &mut P,
     alloc: Global,
+    place: &mut P,
     environment: &Environment,
     project: &Project,
 ) -> Result<Bytes, BuildFault>
@@ -74,7 +75,7 @@ pub(crate) fn ask<P: Place>(
         Ok(command) => command,
         Err(_) => return Err(BuildFault::OutOfMemory),
     };
-    let ended = match start(place, alloc, "-vV", &command) {
+    let ended = match start(alloc, place, "-vV", &command) {
         Ok(ended) => ended,
         Err(fault) => return Err(fault),
     };

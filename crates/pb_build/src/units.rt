@@ -13,18 +13,18 @@ ghost use Rattle.pb_run.specs.Outcome.{outcomes, directives_of, is_good};
 ghost use Rattle.pb_run.specs.Standing.{IsInOrder, IsStanding};
 ghost use Rattle.pb_run.specs.Telling.{unit_lines};
 
-use pb_command::{Project, Setup, UnitFault};
+use pb_answer::{BuildFault, Summary};
 use pb_data::{Items, Text, TryCopy};
 use pb_directive::Directives;
 use pb_message::write_lines;
 use pb_place::{Out, Place};
-use pb_report::{BuildFault, Summary};
+use pb_project::{Project, Setup, UnitFault};
 use pb_run::{Ran, lines_of_unit, run_unit};
 use pb_unit::Planned;
 use std::alloc::{AllocError, Global};
 
 /// What a build has noted of the units that have ended.
-#[derive(Debug, Drop)]
+#[derive(Drop)]
 pub struct Noted {
     /// The keys of those whose child was started.
     pub started: Items<Text>,
@@ -76,7 +76,7 @@ fn tell_unit<P: Place, O: Out>(
     ensures started { IfOk result (λ ran. ran.started ≡ true) }
     ensures takes { Takes OneStart (MayTell unit.now.key) result (P.counts place.old) (P.counts place.new) }
 {
-    let ran = match run_unit(place, alloc, setup, project, done, index, unit) {
+    let ran = match run_unit(alloc, place, setup, project, done, index, unit) {
         Ok(ran) => ran,
         Err(fault) => return Err(fault),
     };

@@ -1,11 +1,11 @@
 //! Builds of the workspace at `/w`, with the small compiler.
 
+use pb_answer::result_line;
 use pb_build::build;
 use pb_checks_files::no_options;
 use pb_data::{Items, Text};
+use pb_package::Options;
 use pb_place::{Over, Place};
-use pb_report::result_line;
-use pb_workspace::Options;
 use std::alloc::{AllocError, Global};
 use std::test::Fail;
 

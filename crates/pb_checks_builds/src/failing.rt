@@ -1,9 +1,9 @@
 //! Builds of which one call of the place fails, each call in turn, and the builds after them.
 
 use crate::building::{built, last_line};
-use crate::fused::Fused;
 use pb_checks_files::put_files;
-use pb_place::{Place, StartFault};
+use pb_mini::Mini;
+use pb_place::{Memory, Place};
 use std::alloc::Global;
 use std::test::Fail;
 
@@ -21,8 +21,6 @@ const EDIT: &str = "@ /w/src/lib.rs\nprint edited\n";
 struct Trial {
     /// The files.
     files: &'static str,
-    /// How a start fails.
-    kind: StartFault,
     /// Whether they are built once before they are edited.
     is_built: bool,
     /// The last faults, behind those that all trials begin with.
@@ -30,12 +28,17 @@ struct Trial {
 }
 
 /// Puts the files of a trial, builds them once where that is asked for, and edits them.
-fn prepare(alloc: Global, place: &mut Fused, files: &str, is_built: bool) -> Result<(), Fail> {
-    put_files(alloc, &mut place.memory, files)?;
+fn prepare(
+    alloc: Global,
+    place: &mut Memory<Mini>,
+    files: &str,
+    is_built: bool,
+) -> Result<(), Fail> {
+    put_files(alloc, place, files)?;
     if is_built {
         built(alloc, place)?;
     }
-    put_files(alloc, &mut place.memory, EDIT)?;
+    put_files(alloc, place, EDIT)?;
     Ok(())
 }
 
@@ -65,7 +68,7 @@ fn stopped(alloc: Global, whole: &str, fault: &str) -> Result<String, Fail> {
 }
 
 /// Whether a build in which a call failed says what it has to, with no call after the one that failed.
-fn is_said(alloc: Global, place: &Fused, whole: &str, said: &str) -> Result<bool, Fail> {
+fn is_said(alloc: Global, place: &Memory<Mini>, whole: &str, said: &str) -> Result<bool, Fail> {
     let want = stopped(alloc, whole, last_line(said))?;
     Ok(said == want.as_str() && place.failures() == 1 && place.late() == 0)
 }
@@ -73,7 +76,7 @@ fn is_said(alloc: Global, place: &Fused, whole: &str, said: &str) -> Result<bool
 /// Adds the fault of a build in which a call failed to `told`, and what was wrong, if something was.
 fn tell(
     alloc: Global,
-    place: &Fused,
+    place: &Memory<Mini>,
     whole: &str,
     said: &str,
     told: &mut String,
@@ -89,14 +92,14 @@ fn tell(
 /// Builds with this call failing, and tells how. Whether a call failed at all.
 fn fail_at(
     alloc: Global,
-    place: &mut Fused,
+    place: &mut Memory<Mini>,
     number: u64,
     whole: &str,
     told: &mut String,
 ) -> Result<bool, Fail> {
-    place.fuse = number;
+    place.fuse(number);
     let said = built(alloc, place)?;
-    place.fuse = 0;
+    place.fuse(0);
     let is_failed = place.failures() > 0;
     if is_failed {
         tell(alloc, place, whole, said.as_str(), told)?;
@@ -107,7 +110,7 @@ fn fail_at(
 /// Builds once more, and tells where this does not say what a build from nothing says.
 fn build_again(
     alloc: Global,
-    place: &mut Fused,
+    place: &mut Memory<Mini>,
     whole: &str,
     told: &mut String,
 ) -> Result<(), Fail> {
@@ -121,7 +124,7 @@ fn build_again(
 /// Tries a trial in a fresh place with this call failing, and then once more. Whether a call failed at all.
 fn try_at(
     alloc: Global,
-    place: &mut Fused,
+    place: &mut Memory<Mini>,
     trial: &Trial,
     number: u64,
     whole: &str,
@@ -134,7 +137,7 @@ fn try_at(
 }
 
 /// What a build from nothing says in a fresh place.
-fn whole_of(alloc: Global, place: &mut Fused, files: &str) -> Result<String, Fail> {
+fn whole_of(alloc: Global, place: &mut Memory<Mini>, files: &str) -> Result<String, Fail> {
     prepare(alloc, place, files, false)?;
     built(alloc, place)
 }
@@ -143,9 +146,9 @@ fn whole_of(alloc: Global, place: &mut Fused, files: &str) -> Result<String, Fai
 /// with no call after the one that failed, and the same build after it what a build from nothing says.
 fn each_fails(alloc: Global, trial: &Trial) -> Result<String, Fail> {
     let mut told = String::new(alloc);
-    let whole = whole_of(alloc, &mut Fused::new(alloc, trial.kind), trial.files)?;
+    let whole = whole_of(alloc, &mut Memory::new(alloc, Mini), trial.files)?;
     for number in 1..1000u64 {
-        let mut place = Fused::new(alloc, trial.kind);
+        let mut place = Memory::new(alloc, Mini);
         if !try_at(alloc, &mut place, trial, number, whole.as_str(), &mut told)? {
             return Ok(told);
         }
@@ -158,31 +161,35 @@ fn each_fails(alloc: Global, trial: &Trial) -> Result<String, Fail> {
 const FIRST: &str =
     "fault RUSTC Device, fault RUSTFLAGS Device, fault CARGO_TARGET_DIR Device, fault /w/Cargo.toml Device, ";
 
+/// The last faults of a library and of a package: a start that fails at its spawn, and at the end of its child, and a
+/// dep-info that cannot be read.
+const LAST_OF_LIBRARY: &str =
+    "fault -vV CannotStart, fault -vV Died, fault a.target.lib Device, fault a.target.lib CannotStart, fault a.target.lib Died, fault a.target.lib Device, ";
+
+const LAST_OF_SIDES: &str =
+    "fault r.target.lib Device, fault r.target.lib CannotStart, fault r.target.lib Died, fault r.target.lib Device, ";
+
 /// The trials.
 const TRIALS: &[Trial] = &[
     Trial {
         files: LIBRARY,
-        kind: StartFault::CannotStart,
         is_built: true,
-        last: "fault a.target.lib CannotStart, fault a.target.lib Device, ",
+        last: LAST_OF_LIBRARY,
     },
     Trial {
         files: LIBRARY,
-        kind: StartFault::Died,
         is_built: false,
-        last: "fault -vV Died, fault a.target.lib Device, fault a.target.lib Died, fault a.target.lib Device, ",
+        last: LAST_OF_LIBRARY,
     },
     Trial {
         files: SIDES,
-        kind: StartFault::Died,
         is_built: true,
-        last: "fault r.target.lib Device, ",
+        last: LAST_OF_SIDES,
     },
     Trial {
         files: SIDES,
-        kind: StartFault::Capture,
         is_built: false,
-        last: "fault r.target.lib Device, fault r.target.lib Capture, fault r.target.lib Device, ",
+        last: LAST_OF_SIDES,
     },
 ];
 

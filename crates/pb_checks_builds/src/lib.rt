@@ -7,6 +7,4 @@ mod building;
 #[cfg(test)]
 mod failing;
 #[cfg(test)]
-mod fused;
-#[cfg(test)]
 mod sinks;

@@ -3,7 +3,7 @@
 ghost use Rattle.std.specs.Prelude.{◌≤◌, length};
 
 use pb_place::Over;
-use pb_program::run_session;
+use pb_tool_program::run_session;
 use std::alloc::Global;
 use std::io::{self, Write};
 use std::test::Fail;

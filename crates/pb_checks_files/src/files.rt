@@ -1,10 +1,11 @@
 //! Files in memory, and the workspace of them.
 
 ghost use Rattle.std.specs.Prelude.{IfOk};
-ghost use Rattle.pb_workspace.specs.Settled.{IsSettled};
+ghost use Rattle.pb_package.specs.Settled.{IsSettled};
 
+use pb_package::{LoadFault, Workspace};
 use pb_place::{Child, Memory, PathFault, PathText};
-use pb_workspace::{LoadFault, Workspace, load};
+use pb_workspace::load;
 use std::alloc::Global;
 
 /// Puts the files of a text, each behind a line `@ PATH`.
@@ -31,5 +32,5 @@ pub fn workspace_in<C: Child>(
 {
     let manifest = PathText::parse(alloc, "/w/Cargo.toml")?;
     let target = PathText::parse(alloc, "/w/target")?;
-    Ok(load(memory, alloc, &manifest, &target))
+    Ok(load(alloc, memory, &manifest, &target))
 }

@@ -1,8 +1,8 @@
 //! The options of a build.
 
 use pb_data::{Items, Text};
+use pb_package::Options;
 use pb_place::{PathFault, PathText};
-use pb_workspace::Options;
 use std::alloc::Global;
 
 /// The options of a build of the workspace in `/w` for which nothing is asked.

@@ -46,10 +46,10 @@ fn past_fault(failure: Failure, before: Counters) -> Counters
 
 /// The counters after a call on files or variables.
 fn after_call(answer: Result<(), PlaceFault>, before: Counters) -> Counters
-    ensures failures { result.failures ≡ (counted [] answer record { failures = before.failures; starts = before.starts; late = before.late; last = before.last; named = [] }).failures }
-    ensures starts { result.starts ≡ (counted [] answer record { failures = before.failures; starts = before.starts; late = before.late; last = before.last; named = [] }).starts }
-    ensures late { result.late ≡ (counted [] answer record { failures = before.failures; starts = before.starts; late = before.late; last = before.last; named = [] }).late }
-    ensures last { result.last ≡ (counted [] answer record { failures = before.failures; starts = before.starts; late = before.late; last = before.last; named = [] }).last }
+    ensures failures { result.failures ≡ (counted [] answer record { failures = before.failures; starts = record { count = before.starts; flying = [] }; late = before.late; last = before.last; named = [] }).failures }
+    ensures starts { result.starts ≡ (counted [] answer record { failures = before.failures; starts = record { count = before.starts; flying = [] }; late = before.late; last = before.last; named = [] }).starts.count }
+    ensures late { result.late ≡ (counted [] answer record { failures = before.failures; starts = record { count = before.starts; flying = [] }; late = before.late; last = before.last; named = [] }).late }
+    ensures last { result.last ≡ (counted [] answer record { failures = before.failures; starts = record { count = before.starts; flying = [] }; late = before.late; last = before.last; named = [] }).last }
 {
     match answer {
         Ok(()) => past_call(before),
@@ -60,10 +60,10 @@ fn after_call(answer: Result<(), PlaceFault>, before: Counters) -> Counters
 
 /// The counters after a start.
 fn after_start(answer: Result<(), StartFault>, before: Counters) -> Counters
-    ensures failures { result.failures ≡ (counted_start answer record { failures = before.failures; starts = before.starts; late = before.late; last = before.last; named = [] }).failures }
-    ensures starts { result.starts ≡ (counted_start answer record { failures = before.failures; starts = before.starts; late = before.late; last = before.last; named = [] }).starts }
-    ensures late { result.late ≡ (counted_start answer record { failures = before.failures; starts = before.starts; late = before.late; last = before.last; named = [] }).late }
-    ensures last { result.last ≡ (counted_start answer record { failures = before.failures; starts = before.starts; late = before.late; last = before.last; named = [] }).last }
+    ensures failures { result.failures ≡ (counted_start answer record { failures = before.failures; starts = record { count = before.starts; flying = [] }; late = before.late; last = before.last; named = [] }).failures }
+    ensures starts { result.starts ≡ (counted_start answer record { failures = before.failures; starts = record { count = before.starts; flying = [] }; late = before.late; last = before.last; named = [] }).starts.count }
+    ensures late { result.late ≡ (counted_start answer record { failures = before.failures; starts = record { count = before.starts; flying = [] }; late = before.late; last = before.last; named = [] }).late }
+    ensures last { result.last ≡ (counted_start answer record { failures = before.failures; starts = record { count = before.starts; flying = [] }; late = before.late; last = before.last; named = [] }).last }
 {
     let begun = Counters {
         starts: before.starts.saturating_add(1),

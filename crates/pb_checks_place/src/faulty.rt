@@ -1,66 +1,30 @@
 //! A place whose every call fails: so the clauses can be met by calls that fail, and each sets the last fault.
 
-ghost use Rattle.std.specs.Prelude.{◌≡◌, ◌≢◌, ◌⊎◌};
-ghost use Rattle.pb_place.specs.Counts.{past_place_fault};
-ghost use Rattle.pb_place.specs.declared.place.PlaceFault.TheVariants.{OutOfMemory};
-
 use pb_data::{Bytes, Items, Text};
-use pb_place::{Command, Ended, Failure, PathText, Place, PlaceFault, StartFault};
+use pb_place::{Command, Ended, PathText, Place, PlaceFault, StartFault, Tally};
 use std::alloc::Global;
 use std::test::Fail;
 
-/// A place without files, whose every call fails.
+/// A place without files, whose every call fails. No child ever flies there.
 #[derive(Drop)]
 struct Faulty {
-    failures: u64,
-    starts: u64,
-    late: u64,
-    last: Option<Failure>,
-    named: Text,
+    tally: Tally,
 }
 
 impl Faulty {
     /// A place of which no call was made.
     fn new(alloc: Global) -> Faulty {
         Faulty {
-            failures: 0,
-            starts: 0,
-            late: 0,
-            last: None,
-            named: Text::new(String::new(alloc)),
-        }
-    }
-
-    /// Counts a failing call on what has this name. Where memory is refused, nothing failed.
-    fn fail(&mut self, alloc: Global, fault: PlaceFault, name: &str) -> PlaceFault
-        requires real { fault ≢ OutOfMemory }
-        ensures told { (result ≡ OutOfMemory) ⊎ (result ≡ fault) }
-        ensures counts { record { failures = self.new.failures; starts = self.new.starts; late = self.new.late; last = self.new.last; named = self.new.named } ≡ past_place_fault name.now result record { failures = self.old.failures; starts = self.old.starts; late = self.old.late; last = self.old.last; named = self.old.named } }
-    {
-        match Text::from_str(alloc, name) {
-            Ok(named) => {
-                self.failures = self.failures.saturating_add(1);
-                self.late = 0;
-                self.last = Some(Failure::Called(fault));
-                self.named = named;
-                fault
-            }
-            Err(_) => {
-                self.late = if self.failures == 0 {
-                    0
-                } else {
-                    self.late.saturating_add(1)
-                };
-                PlaceFault::OutOfMemory
-            }
+            tally: Tally::new(alloc),
         }
     }
 }
 
-#[tactic(auto, using(pb_place::proofs::Worlds::failing_laws))]
+#[tactic(auto, using(pb_place::proofs::Worlds::failing_laws, pb_place::proofs::InFlight::tally_laws))]
 impl Place for Faulty {
     ghost use Rattle.std.specs.Prelude.{true, pos, []};
     ghost use Rattle.std.specs.FinMap as map;
+    ghost use Rattle.pb_place.specs.Tallies.{with_flights};
 
     ghost tells = { true };
 
@@ -68,64 +32,74 @@ impl Place for Faulty {
 
     ghost child = { λ _ _. record { status = pos 0; stdout = []; stderr = []; files = [] } };
 
-    ghost counts = { λ place. record { failures = place.failures; starts = place.starts; late = place.late; last = place.last; named = place.named } };
+    ghost counts = { λ place. with_flights [] place.tally };
+
+    ghost most = { λ _. 0 };
+
+    ghost still = { λ _ _. Unit {0} };
 
     ghost fails = { λ _. Unit {0} };
 
     fn read(&mut self, alloc: Global, path: &PathText) -> Result<Option<Bytes>, PlaceFault> {
-        Err(self.fail(alloc, PlaceFault::Read, path.as_str()))
+        Err(self.tally.fault(alloc, path.as_str(), PlaceFault::Read))
     }
 
     fn list(&mut self, alloc: Global, folder: &PathText) -> Result<Items<PathText>, PlaceFault> {
-        Err(self.fail(alloc, PlaceFault::List, folder.as_str()))
+        Err(self.tally.fault(alloc, folder.as_str(), PlaceFault::List))
+    }
+
+    fn list_outside(
+        &mut self,
+        alloc: Global,
+        folder: &PathText,
+        _: &PathText,
+    ) -> Result<Items<PathText>, PlaceFault> {
+        Err(self.tally.fault(alloc, folder.as_str(), PlaceFault::List))
     }
 
     fn write(&mut self, alloc: Global, path: &PathText, _: &[u8]) -> Result<(), PlaceFault> {
-        Err(self.fail(alloc, PlaceFault::Write, path.as_str()))
+        Err(self.tally.fault(alloc, path.as_str(), PlaceFault::Write))
     }
 
     fn remove_tree(&mut self, alloc: Global, path: &PathText) -> Result<(), PlaceFault> {
-        Err(self.fail(alloc, PlaceFault::Remove, path.as_str()))
+        Err(self.tally.fault(alloc, path.as_str(), PlaceFault::Remove))
     }
 
     fn variable(&mut self, alloc: Global, name: &str) -> Result<Option<Text>, PlaceFault> {
-        Err(self.fail(alloc, PlaceFault::Variable, name))
+        Err(self.tally.fault(alloc, name, PlaceFault::Variable))
     }
 
-    fn start(&mut self, _: Global, _: &Command) -> Result<Ended, StartFault> {
-        self.starts = self.starts.saturating_add(1);
-        self.failures = self.failures.saturating_add(1);
-        self.late = 0;
-        self.last = Some(Failure::Started(StartFault::Died));
-        Err(StartFault::Died)
+    fn spawn(&mut self, _: Global, _: &Command) -> Result<u64, StartFault> {
+        self.tally.count_start(Err(StartFault::CannotStart))
+    }
+
+    fn finish(&mut self, _: Global, _: u64) -> Result<Ended, StartFault> {
+        self.tally.count_finish(Err(StartFault::Died))
     }
 
     fn failures(&self) -> u64 {
-        self.failures
+        self.tally.failures()
     }
 
     fn starts(&self) -> u64 {
-        self.starts
+        self.tally.starts()
     }
 
     fn late(&self) -> u64 {
-        self.late
+        self.tally.late()
+    }
+
+    fn most(&self) -> u64 {
+        0
     }
 }
 
-/// Whether this fault was the last, of this name.
-fn is_last(place: &Faulty, fault: PlaceFault, name: &str) -> bool {
-    place.last == Some(Failure::Called(fault)) && place.named.as_str() == name
-}
-
-/// Whether a call of each kind fails, and is the last fault then.
+/// Whether a call of each kind fails.
 fn calls_fail(alloc: Global, place: &mut Faulty, path: &PathText) -> bool {
     place.read(alloc, path).is_err()
-        && is_last(place, PlaceFault::Read, "/a")
         && place.variable(alloc, "V").is_err()
-        && is_last(place, PlaceFault::Variable, "V")
         && place.write(alloc, path, b"x").is_err()
-        && is_last(place, PlaceFault::Write, "/a")
+        && place.list_outside(alloc, path, path).is_err()
 }
 
 #[test]
@@ -133,6 +107,6 @@ fn each_call_fails(rt: HostRuntime) -> Result<(), Fail> {
     let path = PathText::parse(rt.alloc(), "/a")?;
     let mut place = Faulty::new(rt.alloc());
     let fail = calls_fail(rt.alloc(), &mut place, &path);
-    assert!(rt; fail && place.failures == 3 && place.late == 0);
+    assert!(rt; fail && place.failures() == 4 && place.late() == 0);
     Ok(())
 }

@@ -1,11 +1,12 @@
 //! What the clauses of a place alone say of calls in turn, for any place that tells its maps.
 
-ghost use Rattle.std.specs.Prelude.{◌≡◌, true, not, None, Some, if◌then◌else◌, IsTrue, IfOk, IfErr, OnOk};
+ghost use Rattle.std.specs.Prelude.{◌≡◌, true, false, not, None, Some, if◌then◌else◌, IsTrue, IfOk, IfErr, OnOk};
 ghost use Rattle.std.specs.List.{list_any};
 ghost use Rattle.std.specs.FinMap as map;
 ghost use Rattle.pb_place.specs.Paths.{is_below, is_at_or_below};
 ghost use Rattle.pb_place.specs.World.{is_same_path, seen_by, written, removed, put_reply};
-ghost use Rattle.pb_place.specs.Counts.{up};
+ghost use Rattle.pb_place.specs.Counts.{up_starts};
+ghost use Rattle.pb_place.specs.Memory.{may_fail};
 
 use super::echo::{Echo, say};
 use pb_data::{Bytes, Items};
@@ -72,7 +73,7 @@ fn started_then_read<P: Place>(
     ensures stdout { IsTrue P.tells → IfOk result (λ answer. answer.0.stdout ≡ (P.child command.now (seen_by command.now (P.world place.old))).stdout) }
     ensures found { IsTrue P.tells → IfOk result (λ answer. answer.1 ≡ map.get (put_reply command.now.out (P.child command.now (seen_by command.now (P.world place.old))).files (P.world place.old)).files path.now) }
     ensures world { IsTrue P.tells → OnOk result (P.world place.new ≡ put_reply command.now.out (P.child command.now (seen_by command.now (P.world place.old))).files (P.world place.old)) }
-    ensures starts { OnOk result ((P.counts place.new).starts ≡ up (P.counts place.old).starts) }
+    ensures starts { OnOk result ((P.counts place.new).starts ≡ up_starts (P.counts place.old).starts) }
     ensures quiet { OnOk result ((P.counts place.new).failures ≡ (P.counts place.old).failures) }
 {
     let ended = place.start(alloc, command)?;
@@ -91,7 +92,7 @@ fn written_started_removed<P: Place>(
 ) -> Result<Ended, Fail>
     ensures stdout { IsTrue P.tells → IfOk result (λ ended. ended.stdout ≡ (P.child command.now (seen_by command.now (written path.now bytes.now (P.world place.old)))).stdout) }
     ensures world { IsTrue P.tells → OnOk result (P.world place.new ≡ removed path.now (put_reply command.now.out (P.child command.now (seen_by command.now (written path.now bytes.now (P.world place.old)))).files (written path.now bytes.now (P.world place.old)))) }
-    ensures starts { OnOk result ((P.counts place.new).starts ≡ up (P.counts place.old).starts) }
+    ensures starts { OnOk result ((P.counts place.new).starts ≡ up_starts (P.counts place.old).starts) }
     ensures quiet { OnOk result ((P.counts place.new).failures ≡ (P.counts place.old).failures) }
 {
     written_then_read(alloc, place, path, bytes)?;
@@ -100,24 +101,24 @@ fn written_started_removed<P: Place>(
     Ok(ended)
 }
 
-/// What is read at a place in memory, which fails for want of memory alone.
+/// What is read at a place in memory, which fails for want of memory alone where no fuse is set and no death waits.
 fn read_in_memory<C: Child>(
     alloc: Global,
     memory: &mut Memory<C>,
     path: &PathText,
 ) -> Result<Option<Bytes>, PlaceFault>
-    ensures { IfErr result (λ e. e ≡ PlaceFault.OutOfMemory) }
+    ensures { IfErr result (λ e. may_fail memory.old ≡ false → e ≡ PlaceFault.OutOfMemory) }
 {
     memory.read(alloc, path)
 }
 
-/// How a child ended at a place in memory, where a start fails for want of memory alone.
+/// How a child ended at a place in memory, where a start fails for want of memory alone, as a read does.
 fn start_in_memory<C: Child>(
     alloc: Global,
     memory: &mut Memory<C>,
     command: &Command,
 ) -> Result<Ended, StartFault>
-    ensures { IfErr result (λ e. e ≡ StartFault.OutOfMemory) }
+    ensures { IfErr result (λ e. may_fail memory.old ≡ false → e ≡ StartFault.OutOfMemory) }
 {
     memory.start(alloc, command)
 }

@@ -1,6 +1,6 @@
-//! Tests of paths, of sinks and of places, against worked examples: the place in memory by each of its calls, any place
-//! by the clauses of the trait alone, and what the calls of a place count and leave. The crate holds nothing else: a
-//! crate with tests is proved twice, so none that others stand on has any.
+//! Tests of paths, of sinks and of places, against worked examples: the place in memory by each of its calls, the machine's
+//! over real folders and children, any place by the clauses of the trait alone, and what the calls of a place count and
+//! leave. The crate holds nothing else: a crate with tests is proved twice, so none that others stand on has any.
 #![tactic(auto)]
 
 #[cfg(test)]
@@ -14,9 +14,13 @@ mod failing;
 #[cfg(test)]
 mod faulty;
 #[cfg(test)]
+mod flights;
+#[cfg(test)]
 mod honest;
 #[cfg(test)]
 mod host_view;
+#[cfg(test)]
+mod machine;
 #[cfg(test)]
 mod memory;
 #[cfg(test)]

@@ -2,8 +2,8 @@
 
 use pb_checks_files::{Silent, no_options, put_files};
 use pb_data::Text;
+use pb_package::Options;
 use pb_place::{Memory, PathText};
-use pb_workspace::Options;
 use std::alloc::Global;
 use std::test::Fail;
 

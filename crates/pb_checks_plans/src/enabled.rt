@@ -2,7 +2,7 @@
 
 use pb_data::Text;
 use pb_feature::Features;
-use pb_workspace::{DependencyKind, Entry, Package, Side};
+use pb_package::{DependencyKind, Entry, Package, Side};
 use std::alloc::Global;
 use std::test::Fail;
 

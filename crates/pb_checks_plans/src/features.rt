@@ -1,6 +1,6 @@
 //! Features, by a table of manifests with what is asked for and what is on.
 
-ghost use Rattle.pb_workspace.specs.Settled.{IsSettled};
+ghost use Rattle.pb_package.specs.Settled.{IsSettled};
 
 use crate::asking::parts_of;
 use crate::enabled::shown;
@@ -8,8 +8,9 @@ use crate::resolutions::RESOLUTIONS;
 use pb_checks_files::{Silent, no_options, put_files, workspace_in};
 use pb_data::Text;
 use pb_feature::resolve;
+use pb_package::{Options, Workspace};
 use pb_place::Memory;
-use pb_workspace::{Options, Workspace, selected};
+use pb_workspace::selected;
 use std::alloc::Global;
 use std::process::Abort;
 use std::test::Fail;

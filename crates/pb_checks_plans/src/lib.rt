@@ -1,11 +1,14 @@
-//! Tests of features, and of units and plans: which packages, features and entries are on, on each of two sides, or which
-//! refusal comes; and plans, against plans written by hand.
+//! Tests of what lies between manifests and children: which packages are loaded and selected, or which refusal comes; the
+//! settings of packages; which packages, features and entries are on; plans; commands, and what their answers give. All
+//! are tables of cases, written by hand from the rules.
 #![tactic(auto)]
 
 #[cfg(test)]
 mod asking;
 #[cfg(test)]
 mod cases;
+#[cfg(test)]
+mod commands;
 #[cfg(test)]
 mod enabled;
 #[cfg(test)]
@@ -18,3 +21,5 @@ mod resolutions;
 mod script_cases;
 #[cfg(test)]
 mod show;
+#[cfg(test)]
+mod workspaces;

@@ -1,7 +1,7 @@
 //! Plans, against a table of plans written by hand.
 
 ghost use Rattle.std.specs.Prelude.{IfOk};
-ghost use Rattle.pb_workspace.specs.Settled.{IsSettled};
+ghost use Rattle.pb_package.specs.Settled.{IsSettled};
 
 use crate::asking::{files_in, options_of, parts_of};
 use crate::cases::CASES;
@@ -11,8 +11,9 @@ use pb_checks_files::workspace_in;
 use pb_data::Text;
 use pb_feature::resolve;
 use pb_manifest::OptLevel;
+use pb_package::{Side, Workspace};
 use pb_unit::{Plan, PlanFault, Unit, What};
-use pb_workspace::{Side, Workspace, selected};
+use pb_workspace::selected;
 use std::alloc::Global;
 use std::process::Abort;
 use std::test::Fail;

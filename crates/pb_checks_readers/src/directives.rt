@@ -27,6 +27,7 @@ fn put_directive(out: &mut String, directive: &Directive) -> Result<(), AllocErr
         Directive::Env(name, value) => put_call(out, "env", name.as_str(), value.as_str()),
         Directive::Metadata(key, value) => put_call(out, "metadata", key.as_str(), value.as_str()),
         Directive::Warning(text) => put_call(out, "warning", text.as_str(), ""),
+        Directive::Error(text) => put_call(out, "error", text.as_str(), ""),
     }
 }
 
@@ -113,7 +114,8 @@ const LINES: &[(&[u8], &str)] = &[
         b"\ncargo::rustc-cfg=\ncargo::x=y\ncargo::rustc-flags=x\n",
         "BadValue 2",
     ),
-    (b"cargo::error=e", "UnknownKey 1"),
+    (b"cargo::error=e\ncargo::error=", "error<e><>;error<><>;"),
+    (b"cargo::error", "BadValue 1"),
     (
         b"cargo:error=e\ncargo:metadata=a=b",
         "metadata<error><e>;metadata<metadata><a=b>;",

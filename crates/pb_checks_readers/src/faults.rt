@@ -1,12 +1,12 @@
 //! Faults for tests, by their names: they hold owned values, so no table can.
 
-use pb_command::UnitFault;
+use pb_answer::{BuildFault, Refusal};
 use pb_data::{Items, Text};
 use pb_manifest::ManifestFault;
+use pb_package::LoadFault;
 use pb_place::{PathFault, PathText, PlaceFault, StartFault};
-use pb_report::{BuildFault, Refusal};
+use pb_project::UnitFault;
 use pb_unit::PlanFault;
-use pb_workspace::LoadFault;
 use std::alloc::{AllocError, Global};
 
 /// The keys that a text has, with spaces between them.
@@ -21,6 +21,7 @@ pub fn keys(alloc: Global, text: &str) -> Result<Items<Text>, AllocError> {
 /// The fault of a unit that has this name; the foreign input is `/w/target/x`.
 pub fn unit_fault(alloc: Global, name: &str) -> Result<UnitFault, PathFault> {
     Ok(match name {
+        "ScriptError" => UnitFault::ScriptError,
         "NoDepInfo" => UnitFault::NoDepInfo,
         "ForeignInput" => UnitFault::ForeignInput(PathText::parse(alloc, "/w/target/x")?),
         "OutputTooLong" => UnitFault::OutputTooLong,

@@ -1,6 +1,7 @@
-//! Tests of the base types, of the readers but that of manifests (the output of scripts, dep-info, session files) and
-//! of what is written (JSON strings, result lines, faults in words), against worked examples. The crate holds nothing
-//! else: a crate with tests is proved twice, so none that others stand on has any.
+//! Tests of the base types, of the readers (manifests, the output of scripts, dep-info, session files, records), of what
+//! is written (JSON strings, message lines, result lines, faults in words), of the small compiler and of the flight table,
+//! against worked examples. The crate holds nothing else: a crate with tests is proved twice, so none that others stand
+//! on has any.
 #![tactic(auto)]
 
 #[cfg(test)]
@@ -10,9 +11,19 @@ mod directives;
 #[cfg(test)]
 mod faults;
 #[cfg(test)]
+mod flight;
+#[cfg(test)]
 mod json;
 #[cfg(test)]
+mod manifests;
+#[cfg(test)]
+mod messages;
+#[cfg(test)]
 mod metadata;
+#[cfg(test)]
+mod mini;
+#[cfg(test)]
+mod records;
 #[cfg(test)]
 mod results;
 #[cfg(test)]

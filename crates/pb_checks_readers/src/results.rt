@@ -1,20 +1,20 @@
 //! Result lines, and which faults come from outside the rules, against worked examples.
 
 ghost use Rattle.std.specs.Prelude.{◌≡◌};
-ghost use Rattle.pb_report.specs.Faults.{is_outside};
+ghost use Rattle.pb_answer.specs.Faults.{is_outside};
 
 use crate::faults::{
     build_fault, child_fault, device_fault, keys, refused_manifest, refused_plan,
     refused_workspace, unit_fault,
 };
-use pb_command::UnitFault;
+use pb_answer::{BuildFault, Refusal, Summary, result_line};
 use pb_data::{Items, Text};
 use pb_directive::LineFault;
 use pb_feature::FeatureFault;
 use pb_manifest::{Key, ManifestFault};
 use pb_place::{PathFault, PlaceFault, StartFault};
 use pb_profile::ProfileFault;
-use pb_report::{BuildFault, Refusal, Summary, result_line};
+use pb_project::UnitFault;
 use pb_unit::PlanFault;
 use std::alloc::{AllocError, Global};
 use std::test::Fail;
@@ -145,6 +145,7 @@ fn bad_lines(rt: HostRuntime) -> Result<(), Fail> {
 
 /// The other faults of a unit, and the line.
 const BAD_ENDS: &[(&str, &str)] = &[
+    ("ScriptError", "bad a.target.lib ScriptError started=b"),
     ("NoDepInfo", "bad a.target.lib NoDepInfo started=b"),
     ("ForeignInput", "bad a.target.lib ForeignInput started=b"),
     ("OutputTooLong", "bad a.target.lib OutputTooLong started=b"),

@@ -2,8 +2,8 @@
 
 use crate::shown::{put, put_call, put_each};
 use pb_data::Text;
+use pb_package::Options;
 use pb_session::{BadSession, SessionStep, read_session};
-use pb_workspace::Options;
 use std::alloc::{AllocError, Global};
 use std::test::Fail;
 

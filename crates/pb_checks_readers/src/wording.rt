@@ -1,11 +1,11 @@
 //! What faults are in words, against worked examples.
 
 use crate::faults::{build_fault, refused_manifest, refused_workspace, unit_fault};
-use pb_command::UnitFault;
+use pb_answer::BuildFault;
 use pb_directive::LineFault;
 use pb_manifest::{Key, ManifestFault};
 use pb_place::PathFault;
-use pb_report::BuildFault;
+use pb_project::UnitFault;
 use std::alloc::{AllocError, Global};
 use std::test::Fail;
 
@@ -77,6 +77,7 @@ fn unit_reads(alloc: Global, fault: UnitFault, wanted: &str) -> Result<bool, All
 
 /// Faults of a unit, and what they are in words.
 const UNIT_WORDS: &[(&str, &str)] = &[
+    ("ScriptError", "the script told of an error"),
     ("NoDepInfo", "no dep-info that can be read"),
     ("ForeignInput", "`/w/target/x` lies in the target folder"),
     ("OutputTooLong", "a stream is too long"),

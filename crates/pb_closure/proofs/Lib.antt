@@ -2,9 +2,7 @@ pub mod Membership
 pub mod Marking
 pub mod Closing
 pub mod Looking
-pub mod OnePremise
 pub mod Linking
 pub mod Walking
 pub mod Indexing
-pub mod Coding
 pub mod Placed

@@ -2,4 +2,3 @@ pub mod Closure
 pub mod Table
 pub mod Index
 pub mod Placed
-pub mod Numbered

@@ -11,7 +11,7 @@ use crate::table::Rule;
 use std::alloc::{AllocError, Global};
 
 /// What a thing needs beside it, and what the two give.
-#[derive(Clone, Copy, Debug)]
+#[derive(Clone, Copy)]
 pub(crate) struct Link {
     /// What it needs beside it.
     pub with: usize,

@@ -3,10 +3,8 @@
 #![tactic(auto)]
 
 pub mod closure;
-pub mod graph;
 mod index;
 pub mod table;
 
 pub use closure::{Rules, least};
-pub use graph::{Graph, reached};
 pub use table::{Rule, derived};

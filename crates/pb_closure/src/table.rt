@@ -9,7 +9,7 @@ use crate::index::{Index, index_of, put_linked};
 use std::alloc::{AllocError, Global};
 
 /// Two things that give a third together. A rule with one premise names it twice.
-#[derive(Clone, Copy, Debug)]
+#[derive(Clone, Copy)]
 pub struct Rule {
     pub first: usize,
     pub second: usize,

@@ -8,13 +8,13 @@ use Rattle.pb_place.specs.Paths.{is_path}
 use Rattle.pb_unit.specs.declared.plan.Planned.{Planned}
 use Rattle.pb_unit.specs.declared.unit.What.{What}
 use Rattle.pb_unit.specs.declared.unit.What.TheVariants.{Lib, Bin, Script, Run}
-use Rattle.pb_workspace.specs.declared.package.Package.{Package}
-use Rattle.pb_command.specs.declared.project.Project.{Project}
-use Rattle.pb_command.specs.declared.project.Setup.{Setup}
+use Rattle.pb_package.specs.declared.package.Package.{Package}
+use Rattle.pb_project.specs.declared.project.Project.{Project}
+use Rattle.pb_project.specs.declared.project.Setup.{Setup}
 use Rattle.pb_command.specs.Command.{command_by, command_for}
 use Rattle.pb_command.specs.Externs.{folder_in, read_at}
 use Rattle.pb_command.specs.Laws.{HasPaths, IsAbsolute, CommandsAreAbsolute}
-use Rattle.pb_command.specs.Targets.{package_of, unit_at}
+use Rattle.pb_project.specs.Targets.{package_of, unit_at}
 
 module _ (project : Project) (has : HasPaths project) where
   one_read : (place : ℕ) (unit : Option Planned) → slice_get project.plan.planned place ≡ unit → All (λ folder. is_path folder ≡ true) (folder_in unit)

@@ -18,14 +18,14 @@ use Rattle.pb_directive.specs.declared.directive.Directive.{Directive}
 use Rattle.pb_unit.specs.declared.plan.Planned.{Planned}
 use Rattle.pb_unit.specs.declared.unit.What.{What}
 use Rattle.pb_unit.specs.declared.unit.What.TheVariants.{Lib, Bin, Script, Run}
-use Rattle.pb_workspace.specs.declared.package.Package.{Package}
-use Rattle.pb_command.specs.declared.project.Project.{Project}
-use Rattle.pb_command.specs.declared.project.Setup.{Setup}
+use Rattle.pb_package.specs.declared.package.Package.{Package}
+use Rattle.pb_project.specs.declared.project.Project.{Project}
+use Rattle.pb_project.specs.declared.project.Setup.{Setup}
 use Rattle.pb_command.specs.Command.{command_by, command_for}
 use Rattle.pb_command.specs.Externs.{all_set, in_order}
 use Rattle.pb_command.specs.Laws.{PairsRise}
 use Rattle.pb_command.specs.Pairs.{composed}
-use Rattle.pb_command.specs.Targets.{package_of}
+use Rattle.pb_project.specs.Targets.{package_of}
 
 -- Names rise.
 

@@ -1,5 +1,5 @@
 -- How the answer of a unit's child is judged, and which inputs it has (The Cargo Book, Build Cache, Build Scripts).
-use Rattle.std.specs.Prelude.{ℕ, Bool, not, ◌||◌, ◌&&◌, nat_lt, if◌then◌else◌, List, [], ◌∷◌, ◌++◌, map, filter, length, Option, Some, None, pos, Result, Ok, Err}
+use Rattle.std.specs.Prelude.{ℕ, Bool, true, false, not, ◌||◌, ◌&&◌, nat_lt, if◌then◌else◌, List, [], ◌∷◌, ◌++◌, map, filter, length, Option, Some, None, pos, Result, Ok, Err}
 use Rattle.std.specs.List.{flat_map, find, list_any}
 use Rattle.std.specs.Ordering.{int_eq}
 use Rattle.pb_data.specs.Gives.{◌>>=◌, lifted}
@@ -8,7 +8,7 @@ use Rattle.pb_directive.specs.DepInfo.{dep_info_of}
 use Rattle.pb_directive.specs.Directives.{directives_of}
 use Rattle.pb_directive.specs.declared.dep_info.DepInfo.{DepInfo}
 use Rattle.pb_directive.specs.declared.directive.Directive.{Directive}
-use Rattle.pb_directive.specs.declared.directive.Directive.TheVariants.{RerunIfChanged, RerunIfEnvChanged}
+use Rattle.pb_directive.specs.declared.directive.Directive.TheVariants.{Error, RerunIfChanged, RerunIfEnvChanged}
 use Rattle.pb_directive.specs.declared.fault.LineFault.{LineFault}
 use Rattle.pb_place.specs.Paths.{joined, is_at_or_below}
 use Rattle.pb_place.specs.declared.command.Command.{Command}
@@ -17,13 +17,13 @@ use Rattle.pb_place.specs.declared.path.PathFault.{PathFault}
 use Rattle.pb_unit.specs.declared.plan.Planned.{Planned}
 use Rattle.pb_unit.specs.declared.unit.What.{What}
 use Rattle.pb_unit.specs.declared.unit.What.TheVariants.{Lib, Bin, Script, Run}
-use Rattle.pb_command.specs.declared.answer.Answered.{Answered}
-use Rattle.pb_command.specs.declared.answer.InputName.{InputName}
-use Rattle.pb_command.specs.declared.answer.InputName.TheVariants.{Path, Variable}
-use Rattle.pb_command.specs.declared.fault.UnitFault.{UnitFault}
-use Rattle.pb_command.specs.declared.fault.UnitFault.TheVariants as unit_fault
-use Rattle.pb_command.specs.declared.project.Project.{Project}
-use Rattle.pb_command.specs.Targets.{folder_of}
+use Rattle.pb_project.specs.declared.answer.Answered.{Answered}
+use Rattle.pb_project.specs.declared.answer.InputName.{InputName}
+use Rattle.pb_project.specs.declared.answer.InputName.TheVariants.{Path, Variable}
+use Rattle.pb_project.specs.declared.fault.UnitFault.{UnitFault}
+use Rattle.pb_project.specs.declared.fault.UnitFault.TheVariants as unit_fault
+use Rattle.pb_project.specs.declared.project.Project.{Project}
+use Rattle.pb_project.specs.Targets.{folder_of}
 
 -- How it ended.
 
@@ -124,9 +124,20 @@ rerun_inputs command folder (path ∷ paths) names = marked_inputs command folde
 abbrev pub said_inputs : Command → List ℕ → List Directive → Result (List InputName) UnitFault
 said_inputs command folder said = rerun_inputs command folder (flat_map changed_path said) (flat_map changed_variable said)
 
+abbrev pub is_error : Directive → Bool
+is_error (Error text) = true
+is_error _ = false
+
+abbrev pub unless_error : List Directive → Result (List Directive) UnitFault
+unless_error said = if list_any is_error said then Err unit_fault.ScriptError else Ok said
+
+-- the lines of a run: each of them reads, and none tells of an error
+abbrev pub said_in : Ended → Result (List Directive) UnitFault
+said_in ended = lifted unit_fault.Directive (directives_of ended.stdout) >>= unless_error
+
 abbrev pub run_answered : Command → List ℕ → Ended → Result Answered UnitFault
 run_answered command folder ended =
-    lifted unit_fault.Directive (directives_of ended.stdout) >>= (λ said. said_inputs command folder said >>= (λ inputs. Ok record { directives = Some said; inputs = inputs }))
+    said_in ended >>= (λ said. said_inputs command folder said >>= (λ inputs. Ok record { directives = Some said; inputs = inputs }))
 
 -- Answers.
 

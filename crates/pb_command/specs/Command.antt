@@ -5,10 +5,10 @@ use Rattle.pb_place.specs.declared.command.Command.{Command}
 use Rattle.pb_unit.specs.declared.plan.Planned.{Planned}
 use Rattle.pb_unit.specs.declared.unit.What.{What}
 use Rattle.pb_unit.specs.declared.unit.What.TheVariants.{Lib, Bin, Script, Run}
-use Rattle.pb_workspace.specs.declared.package.Package.{Package}
-use Rattle.pb_command.specs.declared.project.Project.{Project}
-use Rattle.pb_command.specs.declared.project.Setup.{Setup}
-use Rattle.pb_command.specs.Targets.{package_of, script_file, script_source}
+use Rattle.pb_package.specs.declared.package.Package.{Package}
+use Rattle.pb_project.specs.declared.project.Project.{Project}
+use Rattle.pb_project.specs.declared.project.Setup.{Setup}
+use Rattle.pb_project.specs.Targets.{package_of, script_file, script_source}
 use Rattle.pb_command.specs.Words.{crate_words, output_words, settings_words, feature_words}
 use Rattle.pb_command.specs.Externs.{library_words, reads_of}
 use Rattle.pb_command.specs.Said.{said_words}

@@ -10,11 +10,11 @@ use Rattle.pb_unit.specs.Units.{is_normal, is_build}
 use Rattle.pb_unit.specs.declared.plan.Planned.{Planned}
 use Rattle.pb_unit.specs.declared.unit.What.{What}
 use Rattle.pb_unit.specs.declared.unit.What.TheVariants.{Lib, Bin, Script, Run}
-use Rattle.pb_workspace.specs.declared.package.DependencyKind.{DependencyKind}
-use Rattle.pb_workspace.specs.declared.package.Package.{Package}
-use Rattle.pb_workspace.specs.declared.package.Entry.{Entry}
-use Rattle.pb_command.specs.declared.project.Project.{Project}
-use Rattle.pb_command.specs.Targets.{unit_at, library_in, library_name, library_file, is_library}
+use Rattle.pb_package.specs.declared.package.DependencyKind.{DependencyKind}
+use Rattle.pb_package.specs.declared.package.Package.{Package}
+use Rattle.pb_package.specs.declared.package.Entry.{Entry}
+use Rattle.pb_project.specs.declared.project.Project.{Project}
+use Rattle.pb_project.specs.Targets.{unit_at, library_in, library_name, library_file, is_library}
 use Rattle.pb_command.specs.Words.{option}
 
 -- the output folder of a unit that is reached

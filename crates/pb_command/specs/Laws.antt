@@ -7,10 +7,10 @@ use Rattle.pb_directive.specs.declared.directive.Directive.{Directive}
 use Rattle.pb_place.specs.Paths.{is_path, has_byte_0}
 use Rattle.pb_place.specs.declared.command.Command.{Command}
 use Rattle.pb_unit.specs.declared.plan.Planned.{Planned}
-use Rattle.pb_workspace.specs.Settled.{IsAscending}
-use Rattle.pb_workspace.specs.declared.package.Package.{Package}
-use Rattle.pb_command.specs.declared.project.Project.{Project}
-use Rattle.pb_command.specs.declared.project.Setup.{Setup}
+use Rattle.pb_package.specs.Settled.{IsAscending}
+use Rattle.pb_package.specs.declared.package.Package.{Package}
+use Rattle.pb_project.specs.declared.project.Project.{Project}
+use Rattle.pb_project.specs.declared.project.Setup.{Setup}
 use Rattle.pb_command.specs.Command.{command_of}
 use Rattle.pb_command.specs.Externs.{extern_key}
 use Rattle.pb_command.specs.Pairs.{composed, pairs_of}

@@ -1,4 +1,3 @@
-pub mod Targets
 pub mod Words
 pub mod Externs
 pub mod Said

@@ -18,11 +18,11 @@ use Rattle.pb_profile.specs.declared.settings.Settings.{Settings}
 use Rattle.pb_unit.specs.declared.plan.Planned.{Planned}
 use Rattle.pb_unit.specs.declared.unit.What.{What}
 use Rattle.pb_unit.specs.declared.unit.What.TheVariants.{Lib, Bin, Script, Run}
-use Rattle.pb_workspace.specs.declared.package.About.{About}
-use Rattle.pb_workspace.specs.declared.package.Package.{Package}
-use Rattle.pb_command.specs.declared.project.Project.{Project}
-use Rattle.pb_command.specs.declared.project.Setup.{Setup}
-use Rattle.pb_command.specs.Targets.{package_of, unit_at, crate_name_of, is_run, own_run, said_at}
+use Rattle.pb_package.specs.declared.package.About.{About}
+use Rattle.pb_package.specs.declared.package.Package.{Package}
+use Rattle.pb_project.specs.declared.project.Project.{Project}
+use Rattle.pb_project.specs.declared.project.Setup.{Setup}
+use Rattle.pb_project.specs.Targets.{package_of, unit_at, crate_name_of, is_run, own_run, said_at}
 use Rattle.pb_command.specs.Externs.{in_order}
 
 -- Of all units.

@@ -7,10 +7,10 @@ use Rattle.pb_directive.specs.declared.directive.Directive.TheVariants.{LinkSear
 use Rattle.pb_unit.specs.declared.plan.Planned.{Planned}
 use Rattle.pb_unit.specs.declared.unit.What.{What}
 use Rattle.pb_unit.specs.declared.unit.What.TheVariants.{Lib, Bin, Script, Run}
-use Rattle.pb_workspace.specs.declared.package.Library.{Library}
-use Rattle.pb_workspace.specs.declared.package.Package.{Package}
-use Rattle.pb_command.specs.declared.project.Project.{Project}
-use Rattle.pb_command.specs.Targets.{said_at, own_said}
+use Rattle.pb_package.specs.declared.package.Library.{Library}
+use Rattle.pb_package.specs.declared.package.Package.{Package}
+use Rattle.pb_project.specs.declared.project.Project.{Project}
+use Rattle.pb_project.specs.Targets.{said_at, own_said}
 use Rattle.pb_command.specs.Words.{option, setting}
 
 -- What one directive gives.

@@ -22,9 +22,9 @@ use Rattle.pb_feature.specs.Resolved.{features_at}
 use Rattle.pb_unit.specs.declared.plan.Planned.{Planned}
 use Rattle.pb_unit.specs.declared.unit.What.{What}
 use Rattle.pb_unit.specs.declared.unit.What.TheVariants.{Lib, Bin, Script, Run}
-use Rattle.pb_workspace.specs.declared.package.Package.{Package}
-use Rattle.pb_command.specs.declared.project.Project.{Project}
-use Rattle.pb_command.specs.Targets.{crate_name_of, crate_types, source_by}
+use Rattle.pb_package.specs.declared.package.Package.{Package}
+use Rattle.pb_project.specs.declared.project.Project.{Project}
+use Rattle.pb_project.specs.Targets.{crate_name_of, crate_types, source_by}
 
 -- an option and its value, as two words
 unfoldable pub option : List ℕ → List ℕ → List (List ℕ)

@@ -3,18 +3,16 @@
 ghost use Rattle.std.specs.Prelude.{◌≡◌, ◌++◌, ◌∷◌, IfOk, OnOk, string_bytes};
 ghost use Rattle.std.specs.List.{flat_map};
 ghost use Rattle.pb_closure.specs.Placed.{placed};
-ghost use Rattle.pb_command.specs.Targets.{library_file};
+ghost use Rattle.pb_project.specs.Targets.{library_file};
 ghost use Rattle.pb_command.specs.Externs.{read_at, reads_of, folder_words, folder_words_at, dependency_words, leads, entry_name, extern, entry_extern, own_extern, externs, all_set, in_order, extern_key, extern_text, extern_word, extern_words, library_words};
 
-use crate::needed::{is_library, library_file, unit_at};
-use crate::project::Project;
-use crate::targets::library_name;
 use crate::words::{joined, push_option};
 use pb_data::{Items, Text, TryCopy};
 use pb_manifest::crate_name;
+use pb_package::{DependencyKind, Entry, Package};
 use pb_place::{PathText, TextMap};
+use pb_project::{Project, is_library, library_file, library_name, unit_at};
 use pb_unit::{Planned, What};
-use pb_workspace::{DependencyKind, Entry, Package};
 use std::alloc::{AllocError, Global};
 
 /// Adds the output folder of the unit at a place.

@@ -1,21 +1,18 @@
 //! The judgement of an answer.
 
 ghost use Rattle.std.specs.Prelude.{◌≡◌, ◌++◌, ◌∷◌, [], IfOk, OnOk, option_map};
-ghost use Rattle.std.specs.List.{flat_map};
+ghost use Rattle.std.specs.List.{flat_map, list_any};
 ghost use Rattle.pb_data.specs.Gives.{Gives, lifted};
 ghost use Rattle.pb_directive.specs.Directives.{directives_of};
-ghost use Rattle.pb_command.specs.Targets.{folder_of};
-ghost use Rattle.pb_command.specs.Answers.{is_too_long, greatest_length, ended_fault, info_in, read_info, inputs_of, info_inputs, compile_answered, changed_path, changed_variable, marked_inputs, rerun_inputs, said_inputs, run_answered, answered_by, answered_of};
-ghost use Rattle.pb_command.specs.declared.fault.UnitFault.TheVariants as unit_fault;
+ghost use Rattle.pb_project.specs.Targets.{folder_of};
+ghost use Rattle.pb_command.specs.Answers.{is_too_long, greatest_length, ended_fault, info_in, read_info, inputs_of, info_inputs, compile_answered, changed_path, changed_variable, is_error, unless_error, said_in, marked_inputs, rerun_inputs, said_inputs, run_answered, answered_by, answered_of};
+ghost use Rattle.pb_project.specs.declared.fault.UnitFault.TheVariants as unit_fault;
 
-use crate::answer::{Answered, InputName};
-use crate::fault::UnitFault;
 use crate::inputs::{inherited, inputs_of, once, paths_from};
-use crate::project::Project;
-use crate::targets::folder_of;
 use pb_data::{Bytes, Items, Text, TryCopy};
 use pb_directive::{DepInfo, Directive, LineFault, read_dep_info, read_directives};
 use pb_place::{Command, Ended, PathText};
+use pb_project::{Answered, InputName, Project, UnitFault, folder_of};
 use pb_unit::{Planned, What};
 use std::alloc::{AllocError, Global};
 
@@ -215,8 +212,15 @@ fn said_inputs(
     rerun_inputs(alloc, command, folder, paths.as_slice(), names.as_slice())
 }
 
-/// What the lines of a run give.
-fn said_in(alloc: Global, ended: &Ended) -> Result<Items<Directive>, UnitFault>
+/// Whether a line tells of an error.
+fn is_error(directive: &Directive) -> bool
+    ensures { result ≡ is_error directive.now }
+{
+    matches!(directive, Directive::Error(_))
+}
+
+/// What the lines of a run give, each by itself.
+fn lines_in(alloc: Global, ended: &Ended) -> Result<Items<Directive>, UnitFault>
     ensures { Gives unit_fault.OutOfMemory (λ said. said) result (lifted unit_fault.Directive (directives_of ended.now.stdout)) }
 {
     match read_directives(alloc, ended.stdout.as_slice()) {
@@ -224,6 +228,31 @@ fn said_in(alloc: Global, ended: &Ended) -> Result<Items<Directive>, UnitFault>
         Err(LineFault::OutOfMemory) => Err(UnitFault::OutOfMemory),
         Err(fault) => Err(UnitFault::Directive(fault)),
     }
+}
+
+/// Whether one of some lines tells of an error.
+fn tells_error(said: &[Directive]) -> bool
+    ensures { result ≡ list_any is_error said.now }
+{
+    said.iter().any(is_error)
+}
+
+/// Lines, unless one of them tells of an error.
+fn unless_error(said: Items<Directive>) -> Result<Items<Directive>, UnitFault>
+    ensures { result ≡ unless_error said }
+{
+    if tells_error(said.as_slice()) {
+        return Err(UnitFault::ScriptError);
+    }
+    Ok(said)
+}
+
+/// What the lines of a run give, unless one tells of an error.
+fn said_in(alloc: Global, ended: &Ended) -> Result<Items<Directive>, UnitFault>
+    ensures { Gives unit_fault.OutOfMemory (λ said. said) result (said_in ended.now) }
+{
+    let said = lines_in(alloc, ended)?;
+    unless_error(said)
 }
 
 /// What the answer of a run gives.
@@ -264,7 +293,7 @@ fn answered_by(
 /// `dep_info_path` holds, or none where no file is there; for a run it is not looked at.
 ///
 /// In this order: OutputTooLong and Status, by `ended_fault`; for a run, Directive where a line of its output
-/// has a fault; for a compile, NoDepInfo where its dep-info is not there, does not read or is over 4,194,304
+/// has a fault, and ScriptError where one is `cargo::error`; for a compile, NoDepInfo where its dep-info is not there, does not read or is over 4,194,304
 /// bytes; ForeignInput where an input lies at or below the target folder and in no folder of a unit that was
 /// reached, the first such path.
 ///

@@ -3,20 +3,18 @@
 ghost use Rattle.std.specs.Prelude.{◌≡◌, ◌++◌, IfOk, OnOk, string_bytes};
 ghost use Rattle.std.specs.Fmt.{decimal};
 ghost use Rattle.std.specs.List.{flat_map};
-ghost use Rattle.pb_command.specs.Targets.{unit_at};
+ghost use Rattle.pb_project.specs.Targets.{unit_at};
 ghost use Rattle.pb_command.specs.Externs.{all_set};
 ghost use Rattle.pb_command.specs.Pairs.{package_pairs, about_pairs, version_numbers, version_texts, version_pairs, crate_pairs, binary_pairs, env_pair, out_pairs, run_at, own_run_pairs, own_pairs, pairs_of};
 
-use crate::needed::{own_run, said_at, unit_at};
-use crate::project::{Project, Setup};
 use crate::run_pairs::set_run;
-use crate::targets::crate_name_of;
 use pb_data::{Items, Text};
 use pb_directive::{Directive, Directives};
 use pb_manifest::Version;
+use pb_package::{About, Package};
 use pb_place::TextMap;
+use pb_project::{Project, Setup, crate_name_of, own_run, said_at, unit_at};
 use pb_unit::{Planned, What};
-use pb_workspace::{About, Package};
 use std::alloc::{AllocError, Global};
 
 /// Sets the variables of the builder and of the package.

@@ -4,21 +4,19 @@ ghost use Rattle.std.specs.Prelude.{◌≡◌, ◌++◌, ◌∷◌, [], IfOk, On
 ghost use Rattle.std.specs.List.{flat_map};
 ghost use Rattle.pb_directive.specs.Metadata.{dep_pairs};
 ghost use Rattle.pb_feature.specs.Resolved.{features_at};
-ghost use Rattle.pb_command.specs.Targets.{unit_at};
+ghost use Rattle.pb_project.specs.Targets.{unit_at};
 ghost use Rattle.pb_command.specs.Externs.{all_set};
 ghost use Rattle.pb_command.specs.Pairs.{links_pairs, feature_name, feature_pair, described_pairs, triple_of, is_debugged, truth_text, profile_word, platform_pairs, settings_pairs, encoded, compiler_pairs, out_pairs, building_pairs, linked_pairs, links_in, passed_by, passed_at, passed_pairs, run_pairs};
 
-use crate::needed::{is_run, unit_at};
 use crate::platform::{profile_word, triple_of};
-use crate::project::{Project, Setup};
-use crate::targets::package_of;
 use pb_data::{Items, Text};
 use pb_directive::{Directives, dep_pairs, underscored};
 use pb_manifest::DebugInfo;
+use pb_package::Package;
 use pb_place::TextMap;
 use pb_profile::{Settings, opt_level_text};
+use pb_project::{Project, Setup, is_run, package_of, unit_at};
 use pb_unit::Planned;
-use pb_workspace::Package;
 use std::alloc::{AllocError, Global};
 
 /// Sets the native library that a package links.

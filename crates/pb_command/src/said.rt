@@ -2,17 +2,16 @@
 
 ghost use Rattle.std.specs.Prelude.{◌≡◌, ◌++◌, OnOk};
 ghost use Rattle.std.specs.List.{flat_map};
-ghost use Rattle.pb_command.specs.Targets.{said_at};
+ghost use Rattle.pb_project.specs.Targets.{said_at};
 ghost use Rattle.pb_command.specs.Said.{search_word, link_word, condition_word, check_word, argument_word, binaries_word, binary_word, searched_words, search_words, condition_words, argument_words, binary_link_words, own_words, said_words};
 
-use crate::needed::{own_said, said_at};
-use crate::project::Project;
 use crate::settings::push_setting;
 use crate::words::push_option;
 use pb_data::{Items, Text};
 use pb_directive::{Directive, Directives};
+use pb_package::{Library, Package};
+use pb_project::{Project, own_said, said_at};
 use pb_unit::{Planned, What};
-use pb_workspace::{Library, Package};
 use std::alloc::{AllocError, Global};
 
 /// Adds a folder in which libraries are looked for, where a directive says it.

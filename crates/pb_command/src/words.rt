@@ -3,15 +3,14 @@
 ghost use Rattle.std.specs.Prelude.{◌≡◌, ◌++◌, ◌∷◌, [], IfOk, OnOk, string_bytes, codes};
 ghost use Rattle.std.specs.List.{flat_map, join_by};
 ghost use Rattle.pb_manifest.specs.declared.feature.Feature.{Feature};
-ghost use Rattle.pb_command.specs.Targets.{crate_name_of, crate_types, source_by};
+ghost use Rattle.pb_project.specs.Targets.{crate_name_of, crate_types, source_by};
 ghost use Rattle.pb_command.specs.Words.{option, name_words, edition_word, format_words, crate_words, type_word, type_words, emit_words, out_words, output_words, quoted, feature_text, feature_word, expected_text, active_words, expected_words, feature_words};
 
-use crate::project::Project;
-use crate::targets::{crate_name_of, source_by};
 use pb_data::{Items, Text, TryCopy};
 use pb_manifest::{CrateType, Edition, Feature};
+use pb_package::{Library, Package};
+use pb_project::{Project, crate_name_of, source_by};
 use pb_unit::{Planned, What};
-use pb_workspace::{Library, Package};
 use std::alloc::{AllocError, Global};
 
 /// Adds a word.

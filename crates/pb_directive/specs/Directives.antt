@@ -113,7 +113,8 @@ key_of name =
 abbrev pub new_key_of : List ℕ → Option Key
 new_key_of name =
     if bytes_eq name (codes "metadata") then Some key.Metadata
-    else key_of name
+    else (if bytes_eq name (codes "error") then Some key.Error
+    else key_of name)
 
 abbrev pub one : Directive → Result (List Directive) Problem
 one directive = Ok (directive ∷ [])
@@ -137,6 +138,7 @@ directives_at key.Flags value = plain value >>= (λ text. flags_of (words_of tex
 directives_at key.Env value = named_value value >>= (λ p. one (says.Env p.0 p.1))
 directives_at key.Metadata value = named_value value >>= (λ p. one (says.Metadata p.0 p.1))
 directives_at key.Warning value = one (says.Warning value)
+directives_at key.Error value = one (says.Error value)
 
 -- ---- a line
 

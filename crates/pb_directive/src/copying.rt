@@ -29,6 +29,7 @@ impl TryCopy for Directive {
                 value.copy(alloc)?,
             ),
             Directive::Warning(text) => Directive::Warning(text.copy(alloc)?),
+            Directive::Error(text) => Directive::Error(text.copy(alloc)?),
         })
     }
 }

@@ -8,7 +8,7 @@ use std::alloc::Global;
 
 /// What the dep-info of a compiler names (The Cargo Book, "Build Cache"), each name once, in order
 /// of first mention.
-#[derive(Debug, Drop)]
+#[derive(Drop)]
 pub struct DepInfo {
     /// The words of its rules: paths, of which a relative one starts at the compiler's folder.
     pub words: Mentions,

@@ -38,13 +38,15 @@ pub enum Directive {
     Metadata(Text, Text),
     /// `warning`: a text for the user.
     Warning(Text),
+    /// `error`: a text for the user; the script is bad, whatever its status.
+    Error(Text),
 }
 
 /// What the lines of a build script's output give, in printed order.
 pub type Directives = Items<Directive>;
 
 /// A key that a line may have (The Cargo Book, "Build Scripts").
-#[derive(Clone, Copy, Debug, PartialEq, Eq)]
+#[derive(Clone, Copy, PartialEq, Eq)]
 pub enum Key {
     /// `rerun-if-changed`
     RerunIfChanged,
@@ -80,4 +82,6 @@ pub enum Key {
     Metadata,
     /// `warning`
     Warning,
+    /// `error`, a key after `cargo::` alone
+    Error,
 }

@@ -36,6 +36,7 @@ pub fn new_key_of(name: &str) -> Option<Key>
 {
     match name {
         "metadata" => Some(Key::Metadata),
+        "error" => Some(Key::Error),
         _ => key_of(name),
     }
 }

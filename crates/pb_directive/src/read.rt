@@ -51,6 +51,7 @@ fn add_at(alloc: Global, key: Key, value: &str, found: &mut Directives) -> Resul
             Directive::Metadata(name, value)
         }
         Key::Warning => Directive::Warning(Text::from_str(alloc, value)?),
+        Key::Error => Directive::Error(Text::from_str(alloc, value)?),
     };
     found.push(directive)?;
     Ok(())

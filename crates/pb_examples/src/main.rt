@@ -13,7 +13,7 @@
 
 use pb_mini_program::compiler;
 use pb_place::Over;
-use pb_program::{run_session, tool};
+use pb_tool_program::{run_session, tool};
 use std::os::unix::fs::symlink;
 use std::process::{Command, ExitCode};
 use std::rt::Env;

@@ -11,16 +11,16 @@ use Rattle.std.proofs.lemmas.Bool.{lt-ltb, le-ltb, ltb-true, ltb-false, false≢
 use Rattle.std.proofs.lemmas.Option.{slice_get_past}
 use Rattle.std.proofs.lemmas.Cmp.{nat_list_cmp_total, tied_itself}
 use Rattle.pb_manifest.specs.declared.feature.Feature.{Feature}
-use Rattle.pb_workspace.specs.ByKey.{table_key}
-use Rattle.pb_workspace.specs.Workspace.{has_feature_named}
-use Rattle.pb_workspace.specs.declared.package.DependencyKind.{DependencyKind}
-use Rattle.pb_workspace.specs.declared.package.DependencyKind.TheVariants.{Normal, Build}
+use Rattle.pb_package.specs.ByKey.{table_key}
+use Rattle.pb_package.specs.Workspace.{has_feature_named}
+use Rattle.pb_package.specs.declared.package.DependencyKind.{DependencyKind}
+use Rattle.pb_package.specs.declared.package.DependencyKind.TheVariants.{Normal, Build}
 use Rattle.pb_manifest.specs.declared.feature.FeatureItem.{FeatureItem}
 use Rattle.pb_manifest.specs.declared.feature.FeatureItem.TheVariants.{Own, Dependency, Of, OfEnabled}
-use Rattle.pb_workspace.specs.declared.package.Entry.{Entry}
-use Rattle.pb_workspace.specs.declared.package.Package.{Package}
-use Rattle.pb_workspace.specs.declared.package.Side.{Side}
-use Rattle.pb_workspace.specs.declared.package.Side.TheVariants.{Target, Host}
+use Rattle.pb_package.specs.declared.package.Entry.{Entry}
+use Rattle.pb_package.specs.declared.package.Package.{Package}
+use Rattle.pb_package.specs.declared.package.Side.{Side}
+use Rattle.pb_package.specs.declared.package.Side.TheVariants.{Target, Host}
 use Rattle.pb_closure.specs.Placed.{placed}
 use Rattle.pb_closure.specs.declared.table.Rule.{Rule}
 use Rattle.pb_feature.specs.Found.{entry_named, given_by, found, is_optional}

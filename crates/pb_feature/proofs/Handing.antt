@@ -1,11 +1,11 @@
 -- The laws of what is computed, in the words of the calls that compute it.
 use Rattle.std.proofs.Common.{◌≡◌, ◌≢◌, ◌⊎◌, inl, inr, ℕ, ◌*◌, ◌<◌, Bool, true, List, Contains, All, length, sym, ◌∙◌, ap, subst}
 use Rattle.std.specs.Prelude.{slice_get}
-use Rattle.pb_workspace.specs.declared.package.Package.{Package}
-use Rattle.pb_workspace.specs.declared.options.Selection.{Selection}
-use Rattle.pb_workspace.specs.declared.workspace.Workspace.{Workspace}
-use Rattle.pb_workspace.specs.Workspace.{has_feature_named}
-use Rattle.pb_workspace.specs.Settled.{IsSettled}
+use Rattle.pb_package.specs.declared.package.Package.{Package}
+use Rattle.pb_package.specs.declared.options.Selection.{Selection}
+use Rattle.pb_package.specs.declared.workspace.Workspace.{Workspace}
+use Rattle.pb_package.specs.Workspace.{has_feature_named}
+use Rattle.pb_package.specs.Settled.{IsSettled}
 use Rattle.pb_closure.specs.declared.table.Rule.{Rule}
 use Rattle.pb_closure.specs.Closure.{Least, IsLeast, is_on}
 use Rattle.pb_closure.specs.Table.{IsInRange, joined_by}

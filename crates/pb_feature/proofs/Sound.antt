@@ -8,14 +8,14 @@ use Rattle.std.proofs.lemmas.List.Elements.{Contains-append_cases}
 use Rattle.pb_manifest.specs.declared.feature.Feature.{Feature}
 use Rattle.pb_manifest.specs.declared.feature.FeatureItem.{FeatureItem}
 use Rattle.pb_manifest.specs.declared.feature.FeatureItem.TheVariants.{Own, Dependency, Of, OfEnabled}
-use Rattle.pb_workspace.specs.declared.package.Side.{Side}
-use Rattle.pb_workspace.specs.declared.package.Side.TheVariants.{Target, Host}
-use Rattle.pb_workspace.specs.declared.package.Package.{Package}
-use Rattle.pb_workspace.specs.declared.package.Entry.{Entry}
-use Rattle.pb_workspace.specs.declared.options.Selection.{Selection}
-use Rattle.pb_workspace.specs.declared.workspace.Workspace.{Workspace}
-use Rattle.pb_workspace.specs.Workspace.{side_of, HasEntry, ListsItem, HasFeature}
-use Rattle.pb_workspace.specs.Settled.{IsSettled, IsPackage}
+use Rattle.pb_package.specs.declared.package.Side.{Side}
+use Rattle.pb_package.specs.declared.package.Side.TheVariants.{Target, Host}
+use Rattle.pb_package.specs.declared.package.Package.{Package}
+use Rattle.pb_package.specs.declared.package.Entry.{Entry}
+use Rattle.pb_package.specs.declared.options.Selection.{Selection}
+use Rattle.pb_package.specs.declared.workspace.Workspace.{Workspace}
+use Rattle.pb_package.specs.Workspace.{side_of, HasEntry, ListsItem, HasFeature}
+use Rattle.pb_package.specs.Settled.{IsSettled, IsPackage}
 use Rattle.pb_closure.specs.declared.table.Rule.{Rule}
 use Rattle.pb_closure.specs.Placed.{placed}
 use Rattle.pb_closure.proofs.Membership.{none, single, cases, head}

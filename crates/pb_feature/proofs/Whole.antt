@@ -10,14 +10,14 @@ use Rattle.std.proofs.lemmas.List.Elements.{Contains-append_left, Contains-appen
 use Rattle.pb_manifest.specs.declared.feature.Feature.{Feature}
 use Rattle.pb_manifest.specs.declared.feature.FeatureItem.{FeatureItem}
 use Rattle.pb_manifest.specs.declared.feature.FeatureItem.TheVariants.{Own, Dependency, Of, OfEnabled}
-use Rattle.pb_workspace.specs.declared.package.Side.{Side}
-use Rattle.pb_workspace.specs.declared.package.Side.TheVariants.{Target, Host}
-use Rattle.pb_workspace.specs.declared.package.Package.{Package}
-use Rattle.pb_workspace.specs.declared.package.Entry.{Entry}
-use Rattle.pb_workspace.specs.declared.options.Selection.{Selection}
-use Rattle.pb_workspace.specs.declared.workspace.Workspace.{Workspace}
-use Rattle.pb_workspace.specs.Workspace.{side_of, has_feature_named, HasEntry, ListsItem, HasFeature}
-use Rattle.pb_workspace.specs.Settled.{IsSettled, IsPackage}
+use Rattle.pb_package.specs.declared.package.Side.{Side}
+use Rattle.pb_package.specs.declared.package.Side.TheVariants.{Target, Host}
+use Rattle.pb_package.specs.declared.package.Package.{Package}
+use Rattle.pb_package.specs.declared.package.Entry.{Entry}
+use Rattle.pb_package.specs.declared.options.Selection.{Selection}
+use Rattle.pb_package.specs.declared.workspace.Workspace.{Workspace}
+use Rattle.pb_package.specs.Workspace.{side_of, has_feature_named, HasEntry, ListsItem, HasFeature}
+use Rattle.pb_package.specs.Settled.{IsSettled, IsPackage}
 use Rattle.pb_closure.specs.declared.table.Rule.{Rule}
 use Rattle.pb_closure.specs.Closure.{Least, seed, joined}
 use Rattle.pb_closure.specs.Table.{joined_by}

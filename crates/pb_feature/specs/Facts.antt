@@ -1,12 +1,12 @@
 -- Which packages, features and entries are on: the least set of facts closed under the rules of The Cargo Book, Features (resolver 2).
 use Rattle.std.specs.Prelude.{◌≡◌, ℕ, true, false, codes, List, ◌∷◌, ◌++◌, Contains}
 use Rattle.pb_manifest.specs.declared.feature.FeatureItem.TheVariants.{Own, Dependency, Of, OfEnabled}
-use Rattle.pb_workspace.specs.declared.package.Side.{Side}
-use Rattle.pb_workspace.specs.declared.package.Side.TheVariants.{Target}
-use Rattle.pb_workspace.specs.declared.package.Entry.{Entry}
-use Rattle.pb_workspace.specs.declared.options.Selection.{Selection}
-use Rattle.pb_workspace.specs.declared.workspace.Workspace.{Workspace}
-use Rattle.pb_workspace.specs.Workspace.{side_of, HasEntry, ListsItem, HasFeature}
+use Rattle.pb_package.specs.declared.package.Side.{Side}
+use Rattle.pb_package.specs.declared.package.Side.TheVariants.{Target}
+use Rattle.pb_package.specs.declared.package.Entry.{Entry}
+use Rattle.pb_package.specs.declared.options.Selection.{Selection}
+use Rattle.pb_package.specs.declared.workspace.Workspace.{Workspace}
+use Rattle.pb_package.specs.Workspace.{side_of, HasEntry, ListsItem, HasFeature}
 
 -- a package, known by its place, is on at a side; it has a feature there; its entry at a place is enabled there; a feature is asked of the package of that entry
 pub data Fact : Type 0 where

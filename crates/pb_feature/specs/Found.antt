@@ -2,7 +2,7 @@
 use Rattle.std.specs.Prelude.{ℕ, Bool, List, Option, Some, None, slice_get}
 use Rattle.pb_manifest.specs.declared.feature.FeatureItem.{FeatureItem}
 use Rattle.pb_manifest.specs.declared.feature.FeatureItem.TheVariants.{Own, Dependency, Of, OfEnabled}
-use Rattle.pb_workspace.specs.declared.package.Entry.{Entry}
+use Rattle.pb_package.specs.declared.package.Entry.{Entry}
 
 -- the name of the entries that an item names
 abbrev pub entry_named : FeatureItem → Option (List ℕ)

@@ -1,10 +1,10 @@
 -- What is on, as it is handed out, and what it has to say.
 use Rattle.std.specs.Prelude.{◌↔◌, ℕ, Bool, false, IsTrue, List, [], Contains, Option, Some, None, slice_get, slice_index_or}
-use Rattle.pb_workspace.specs.declared.package.Side.{Side}
-use Rattle.pb_workspace.specs.declared.package.Side.TheVariants.{Target, Host}
-use Rattle.pb_workspace.specs.declared.options.Selection.{Selection}
-use Rattle.pb_workspace.specs.declared.workspace.Workspace.{Workspace}
-use Rattle.pb_workspace.specs.Settled.{IsAscending}
+use Rattle.pb_package.specs.declared.package.Side.{Side}
+use Rattle.pb_package.specs.declared.package.Side.TheVariants.{Target, Host}
+use Rattle.pb_package.specs.declared.options.Selection.{Selection}
+use Rattle.pb_package.specs.declared.workspace.Workspace.{Workspace}
+use Rattle.pb_package.specs.Settled.{IsAscending}
 use Rattle.pb_feature.specs.declared.resolved.Part.{Part}
 use Rattle.pb_feature.specs.declared.resolved.Sides.{Sides}
 use Rattle.pb_feature.specs.declared.resolved.Features.{Features}

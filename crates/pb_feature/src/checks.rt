@@ -5,7 +5,7 @@ ghost use Rattle.pb_feature.specs.Checked.{is_lesser, is_lesser_at, picked, IsFi
 
 use crate::fault::FeatureFault;
 use crate::items::package_fault;
-use pb_workspace::Package;
+use pb_package::Package;
 
 /// A package whose items are wrong.
 #[derive(Clone, Copy)]

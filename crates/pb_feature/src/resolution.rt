@@ -2,10 +2,10 @@
 //! what the rules give.
 
 ghost use Rattle.std.specs.Prelude.{◌≡◌, ℕ, ◌*◌, ◌<◌, ◌⊎◌, ◌||◌, IfOk, IfErr, OnOk, All, Contains, length};
-ghost use Rattle.pb_workspace.specs.Settled.{IsSettled};
+ghost use Rattle.pb_package.specs.Settled.{IsSettled};
 ghost use Rattle.pb_closure.specs.Closure.{Least, IsLeast, is_on};
 ghost use Rattle.pb_closure.specs.Table.{joined_by};
-ghost use Rattle.pb_workspace.specs.declared.package.Side.TheVariants.{Target, Host};
+ghost use Rattle.pb_package.specs.declared.package.Side.TheVariants.{Target, Host};
 ghost use Rattle.pb_feature.specs.Faults.{IsMissing, Refuses};
 ghost use Rattle.pb_feature.specs.declared.fault.FeatureFault.{FeatureFault};
 ghost use Rattle.pb_feature.specs.Numbers.{bases_from, end_from, has};
@@ -22,7 +22,7 @@ use crate::resolved::{Features, features_marked, is_marked};
 use crate::rules::rules_of;
 use crate::seeds::seeds_of;
 use pb_closure::derived;
-use pb_workspace::{Selection, Side, Workspace};
+use pb_package::{Selection, Side, Workspace};
 use std::alloc::{AllocError, Global};
 
 /// Which numbers follow from what is chosen.

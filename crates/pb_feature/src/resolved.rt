@@ -10,11 +10,11 @@ ghost use Rattle.pb_feature.specs.Resolved.{part_of, is_active, features_at, is_
 use crate::numbers::Ground;
 use pb_data::{Items, Text, TryCopy};
 use pb_manifest::Feature;
-use pb_workspace::{Entry, Package, Side};
+use pb_package::{Entry, Package, Side};
 use std::alloc::{AllocError, Global};
 
 /// What is on of a package, on one side.
-#[derive(Debug, Drop)]
+#[derive(Drop)]
 pub struct Part {
     /// Whether the package is on.
     pub active: bool,
@@ -25,7 +25,7 @@ pub struct Part {
 }
 
 /// What is on of a package, on each side.
-#[derive(Debug, Drop)]
+#[derive(Drop)]
 pub struct Sides {
     /// What is made for the target.
     pub target: Part,
@@ -34,7 +34,7 @@ pub struct Sides {
 }
 
 /// What is on in a workspace, for each package by its place.
-#[derive(Debug, Drop)]
+#[derive(Drop)]
 pub struct Features {
     /// For each package, by its place in the workspace.
     pub packages: Items<Sides>,

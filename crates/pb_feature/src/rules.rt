@@ -7,7 +7,7 @@ use crate::numbers::Ground;
 use crate::rules_of_entries::add_both_entries;
 use crate::rules_of_items::add_feature;
 use pb_closure::Rule;
-use pb_workspace::Package;
+use pb_package::Package;
 use std::alloc::{AllocError, Global};
 
 /// The rules of a package, on both sides.

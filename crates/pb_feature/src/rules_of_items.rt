@@ -3,7 +3,7 @@
 
 ghost use Rattle.std.specs.Prelude.{◌≡◌, ◌+◌, ◌++◌, [], ◌∷◌, Some, OnOk, if◌then◌else◌};
 ghost use Rattle.std.specs.Option.{option_copied};
-ghost use Rattle.pb_workspace.specs.Workspace.{side_of};
+ghost use Rattle.pb_package.specs.Workspace.{side_of};
 ghost use Rattle.pb_closure.specs.Placed.{placed};
 ghost use Rattle.pb_feature.specs.Found.{entry_named, found};
 ghost use Rattle.pb_feature.specs.Numbers.{has, enabled, slot};
@@ -14,7 +14,7 @@ use crate::rules_of_entries::{add_alone, add_there, side_made};
 use pb_closure::Rule;
 use pb_data::Text;
 use pb_manifest::FeatureItem;
-use pb_workspace::{DependencyKind, Entry, FeaturesByName, Package, Side};
+use pb_package::{DependencyKind, Entry, FeaturesByName, Package, Side};
 use std::alloc::AllocError;
 
 /// The rule of a feature that lists one of its own package, by their places.

@@ -9,7 +9,7 @@ ghost use Rattle.pb_feature.specs.Rules.{is_text_of, is_chosen, chosen_seeds, ow
 use crate::numbers::Ground;
 use pb_data::Text;
 use pb_manifest::Feature;
-use pb_workspace::{Package, Selection, Side};
+use pb_package::{Package, Selection, Side};
 use std::alloc::{AllocError, Global};
 
 /// The text `PACKAGE/FEATURE`.

@@ -19,20 +19,20 @@ use Rattle.pb_place.specs.declared.command.Command.{Command}
 use Rattle.pb_place.specs.declared.path.PathFault.{PathFault}
 use Rattle.pb_place.proofs.Within.{at_below}
 use Rattle.pb_unit.specs.declared.plan.Planned.{Planned}
-use Rattle.pb_workspace.specs.declared.package.Entry.{Entry}
-use Rattle.pb_workspace.specs.declared.package.Package.{Package}
+use Rattle.pb_package.specs.declared.package.Entry.{Entry}
+use Rattle.pb_package.specs.declared.package.Package.{Package}
 use Rattle.pb_manifest.specs.Letters.{is_name}
 use Rattle.pb_command.specs.Answers.{is_too_long, read_or_none, info_in, read_info, info_inputs, paths_from, inherited, compile_answered, unless_fault}
 use Rattle.pb_command.specs.Command.{crate_part, asked_part, words_of, compile_of}
-use Rattle.pb_command.specs.Targets.{crate_name_of, dep_info_of, file_in, source_by}
+use Rattle.pb_project.specs.Targets.{crate_name_of, dep_info_of, file_in, source_by}
 use Rattle.pb_command.specs.Externs.{library_words}
 use Rattle.pb_command.specs.Said.{said_words}
 use Rattle.pb_command.specs.Words.{option, name_words, edition_word, format_words, output_words, settings_words, feature_words}
-use Rattle.pb_command.specs.declared.answer.Answered.{Answered}
-use Rattle.pb_command.specs.declared.fault.UnitFault.{UnitFault}
-use Rattle.pb_command.specs.declared.fault.UnitFault.TheVariants.{NoDepInfo}
-use Rattle.pb_command.specs.declared.project.Project.{Project}
-use Rattle.pb_command.specs.declared.project.Setup.{Setup}
+use Rattle.pb_project.specs.declared.answer.Answered.{Answered}
+use Rattle.pb_project.specs.declared.fault.UnitFault.{UnitFault}
+use Rattle.pb_project.specs.declared.fault.UnitFault.TheVariants.{NoDepInfo}
+use Rattle.pb_project.specs.declared.project.Project.{Project}
+use Rattle.pb_project.specs.declared.project.Setup.{Setup}
 use Rattle.pb_run.specs.Outcome.{replied_files, file_at}
 use Rattle.pb_mini.specs.Answer.{request_of, replied_if}
 use Rattle.pb_mini.specs.CommandLine as line
@@ -40,6 +40,7 @@ use Rattle.pb_mini.specs.DepInfo.{dep_info_text}
 use Rattle.pb_mini.specs.Honesty.{SameFile, is_below_some, GivenBelow, names_if, names_read, file_named, each_once}
 use Rattle.pb_mini.specs.declared.command_line.Arguments.{Arguments}
 use Rattle.pb_mini.specs.declared.command_line.CommandLine.{CommandLine}
+use Rattle.pb_mini.specs.declared.command_line.Settled.{Settled}
 use Rattle.pb_mini.specs.declared.command_line.CommandLineFault.{CommandLineFault}
 use Rattle.pb_mini.specs.declared.command_line.CommandLineFault.TheVariants.{Bad}
 use Rattle.pb_mini.specs.declared.command_line.Role.TheVariants.{CrateName}
@@ -47,8 +48,8 @@ use Rattle.pb_mini.specs.declared.dep_info.Names.{Names}
 use Rattle.pb_mini.specs.declared.request.Request.{Request}
 use Rattle.pb_mini.specs.declared.request.Request.TheVariants.{Compile}
 use Rattle.pb_mini.proofs.HonestyLemmas.{honest, tells}
-use Rattle.pb_mini_laws.specs.ReadBack.{CanBeTold, CanBeAsked, AreAmong}
-use Rattle.pb_mini_laws.proofs.Reading.{reads_back}
+use Rattle.pb_honesty.specs.ReadBack.{CanBeTold, CanBeAsked, AreAmong}
+use Rattle.pb_honesty.proofs.Reading.{reads_back}
 use Rattle.pb_honesty.specs.Honest.{SameInput, SameFolders, small_compiler, CanBeSpelled, CanTellOf, CanTell, IsOfProject}
 use Rattle.pb_honesty.proofs.Agreeing.{same_paths, same_variables, among_paths, among_inherited}
 use Rattle.pb_honesty.proofs.Given.{NamesBelow, given_below}
@@ -84,17 +85,33 @@ folder_path (Err e) path is = absurd (cc)
 pub same_ok : {A E : Type 0} (x y : A) (first : Result A E) → first ≡ Ok x → first ≡ Ok y → x ≡ y
 same_ok x y first one other = let both : Ok x ≡ Ok y = sym one ∙ other in cc
 
+-- what was settled, with the libraries and the conditions
+abbrev with_lists : Arguments → Settled → CommandLine
+with_lists said settled = record {
+  crate_type = settled.crate_type;
+  crate_name = settled.crate_name;
+  image = settled.image;
+  dep_info = settled.dep_info;
+  out_dir = settled.out_dir;
+  source = settled.source;
+  externs = said.externs;
+  conditions = said.conditions;
+}
+
 says : (words : List (List ℕ)) (l : CommandLine) → line.command_line_of words ≡ Ok l → Says words l
 says words l is =
     let (said, first, is_1) = opened (line.arguments_after None words) _ l is in
-    let (name, second, is_2) = opened (line.only said.crate_names) _ l is_1 in
-    let (type, third, is_3) = opened (line.first said.crate_types) _ l is_2 in
-    let (folder, fourth, is_4) = opened (line.only said.out_dirs) _ l is_3 in
-    let (source, fifth, is_5) = opened (line.only said.sources) _ l is_4 in
-    let (image, sixth, is_6) = opened (line.file_named (line.image_name (line.crate_type_of type) name)) _ l is_5 in
-    let (dep_info, seventh, is_7) = opened (line.file_named (line.dep_info_name name)) _ l is_6 in
-    let (out_dir, eighth, is_8) = opened (line.folder_of folder) _ l is_7 in
-    let whole : record { crate_type = line.crate_type_of type; crate_name = name; image = image; dep_info = dep_info; out_dir = out_dir; source = source; externs = said.externs; conditions = said.conditions } ≡ l = same_ok {E = CommandLineFault} _ l _ refl is_8 in
+    let (settled, of_settled, is_whole) = opened (line.settled_by said) _ l is_1 in
+    let (name, second, is_2) = opened (line.only said.crate_names) _ settled of_settled in
+    let (type, third, is_3) = opened (line.first said.crate_types) _ settled is_2 in
+    let (folder, fourth, is_4) = opened (line.only said.out_dirs) _ settled is_3 in
+    let (source, fifth, is_5) = opened (line.only said.sources) _ settled is_4 in
+    let (image, sixth, is_6) = opened (line.file_named (line.image_name (line.crate_type_of type) name)) _ settled is_5 in
+    let (dep_info, seventh, is_7) = opened (line.file_named (line.dep_info_name name)) _ settled is_6 in
+    let (out_dir, eighth, is_8) = opened (line.folder_of folder) _ settled is_7 in
+    let made : record { crate_type = line.crate_type_of type; crate_name = name; image = image; dep_info = dep_info; out_dir = out_dir; source = source } ≡ settled = same_ok {E = CommandLineFault} _ settled _ refl is_8 in
+    let whole : with_lists said record { crate_type = line.crate_type_of type; crate_name = name; image = image; dep_info = dep_info; out_dir = out_dir; source = source } ≡ l =
+    ap (with_lists said) made ∙ same_ok {E = CommandLineFault} _ l _ refl is_whole in
     let (same, relative) = relative_file (line.dep_info_name name) dep_info seventh in
     record {
       arguments = said;

@@ -13,3 +13,4 @@ pub mod Reaching
 pub mod Running
 pub mod Saying
 pub mod Setting
+pub mod Reading

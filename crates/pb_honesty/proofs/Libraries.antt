@@ -18,13 +18,13 @@ use Rattle.pb_place.proofs.PathLemmas.{below_is_below, below_is_path, parsed_pat
 use Rattle.pb_unit.specs.declared.plan.Planned.{Planned}
 use Rattle.pb_unit.specs.declared.unit.What.{What}
 use Rattle.pb_unit.specs.declared.unit.What.TheVariants.{Lib, Bin, Script, Run}
-use Rattle.pb_workspace.specs.Settled.{IsPackage}
-use Rattle.pb_workspace.specs.declared.package.Entry.{Entry}
-use Rattle.pb_workspace.specs.declared.package.Library.{Library}
-use Rattle.pb_workspace.specs.declared.package.Package.{Package}
+use Rattle.pb_package.specs.Settled.{IsPackage}
+use Rattle.pb_package.specs.declared.package.Entry.{Entry}
+use Rattle.pb_package.specs.declared.package.Library.{Library}
+use Rattle.pb_package.specs.declared.package.Package.{Package}
 use Rattle.pb_command.specs.Externs.{folder_in, read_at, reads_of, leads, library_name_at, entry_name, extern_text, extern, entry_extern, own_extern, externs, all_set, in_order}
-use Rattle.pb_command.specs.Targets.{unit_at, library_in, library_name, file_in, file_by, crate_name_of, is_library, is_one_of, needed, file_there, file_at, library_file}
-use Rattle.pb_command.specs.declared.project.Project.{Project}
+use Rattle.pb_project.specs.Targets.{unit_at, library_in, library_name, file_in, file_by, crate_name_of, is_library, is_one_of, needed, file_there, file_at, library_file}
+use Rattle.pb_project.specs.declared.project.Project.{Project}
 use Rattle.pb_mini.specs.Honesty.{is_below_some}
 use Rattle.pb_mini.specs.Lines.{value_in}
 use Rattle.pb_mini.specs.Lookups.{path_of, path_said}

@@ -7,8 +7,8 @@ use Rattle.pb_unit.specs.Plan.{ArePlaces, IsPlan}
 use Rattle.pb_unit.specs.Units.{needs, Reaches, direct}
 use Rattle.pb_unit.specs.declared.plan.Plan.{Plan}
 use Rattle.pb_unit.specs.declared.plan.Planned.{Planned}
-use Rattle.pb_workspace.specs.declared.options.Selection.{Selection}
-use Rattle.pb_workspace.specs.declared.workspace.Workspace.{Workspace}
+use Rattle.pb_package.specs.declared.options.Selection.{Selection}
+use Rattle.pb_package.specs.declared.workspace.Workspace.{Workspace}
 
 all_contained : {A : Type 0} (P : A → Type 0) (xs : List A) → ((x : A) → Contains xs x → P x) → AllByRecursion P xs
 all_contained P [] each = tt

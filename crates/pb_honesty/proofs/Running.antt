@@ -1,7 +1,7 @@
 -- The small compiler is honest on the runs of scripts, and so on the command of every unit.
-use Rattle.std.proofs.Common.{◌≡◌, ℕ, ◌++◌, ◌⊎◌, inl, inr, true, cond, codes, List, [], ◌∷◌, length, Option, Some, None, unwrap_or, Ok, IfSome, refl, sym, ◌∙◌, ap, subst}
+use Rattle.std.proofs.Common.{◌≡◌, ℕ, ◌++◌, ◌⊎◌, inl, inr, Bool, true, false, cond, codes, List, [], ◌∷◌, length, Option, Some, None, unwrap_or, Result, Ok, Err, IfSome, refl, sym, ◌∙◌, ap, subst}
 use Rattle.std.specs.FinMap as finite
-use Rattle.std.specs.List.{AllByRecursion, flat_map}
+use Rattle.std.specs.List.{AllByRecursion, flat_map, list_any}
 use Rattle.std.specs.Option.{option_or}
 use Rattle.std.proofs.lemmas.List.Elements.{recursion_from_All}
 use Rattle.pb_data.specs.Gives.{lifted}
@@ -19,18 +19,18 @@ use Rattle.pb_place.proofs.PathLemmas.{parsed_path}
 use Rattle.pb_unit.specs.declared.plan.Planned.{Planned}
 use Rattle.pb_unit.specs.declared.unit.What.{What}
 use Rattle.pb_unit.specs.declared.unit.What.TheVariants as what
-use Rattle.pb_workspace.specs.Settled.{IsPackage}
-use Rattle.pb_workspace.specs.declared.package.Entry.{Entry}
-use Rattle.pb_workspace.specs.declared.package.Package.{Package}
-use Rattle.pb_command.specs.Answers.{ended_fault, path_or_none, path_said, paths_from, changed_path, changed_variable, marked_inputs, rerun_inputs, said_inputs, run_answered, answered_by}
+use Rattle.pb_package.specs.Settled.{IsPackage}
+use Rattle.pb_package.specs.declared.package.Entry.{Entry}
+use Rattle.pb_package.specs.declared.package.Package.{Package}
+use Rattle.pb_command.specs.Answers.{ended_fault, path_or_none, path_said, paths_from, changed_path, changed_variable, is_error, unless_error, said_in, marked_inputs, rerun_inputs, said_inputs, run_answered, answered_by}
 use Rattle.pb_command.specs.Command.{script_path, run_words, run_of, command_by, command_for}
 use Rattle.pb_command.specs.Pairs.{composed}
-use Rattle.pb_command.specs.Targets.{package_of, package_folder, folder_of, script_source, script_file, needed, is_script, dep_info_by, dep_info_of, source_by, crate_name_of}
-use Rattle.pb_command.specs.declared.answer.Answered.{Answered}
-use Rattle.pb_command.specs.declared.fault.UnitFault.{UnitFault}
-use Rattle.pb_command.specs.declared.fault.UnitFault.TheVariants as unit_fault
-use Rattle.pb_command.specs.declared.project.Project.{Project}
-use Rattle.pb_command.specs.declared.project.Setup.{Setup}
+use Rattle.pb_project.specs.Targets.{package_of, package_folder, folder_of, script_source, script_file, needed, is_script, dep_info_by, dep_info_of, source_by, crate_name_of}
+use Rattle.pb_project.specs.declared.answer.Answered.{Answered}
+use Rattle.pb_project.specs.declared.fault.UnitFault.{UnitFault}
+use Rattle.pb_project.specs.declared.fault.UnitFault.TheVariants as unit_fault
+use Rattle.pb_project.specs.declared.project.Project.{Project}
+use Rattle.pb_project.specs.declared.project.Setup.{Setup}
 use Rattle.pb_run.specs.Outcome.{ended_by, replied_files, file_at}
 use Rattle.pb_mini.specs.Answer.{request_of, answered, replied_if}
 use Rattle.pb_mini.specs.Honesty.{SameFile, SameValue, SameAt, GivenBelow, is_below_some, names_if, names_of_image}
@@ -56,6 +56,16 @@ use Rattle.pb_honesty.proofs.Parsing.{opened}
 words_cases : (runner : List (List ℕ)) (script : List ℕ) → RunsAlone runner → (run_words runner script ≡ []) ⊎ (run_words runner script ≡ codes "--run" ∷ script ∷ [])
 words_cases [] script alone = inl refl
 words_cases (program ∷ words) script alone = inr (ap (λ ws. ws ++ script ∷ []) alone)
+
+-- ---- its lines
+
+-- lines that tell of no error are what was said
+not_an_error : (lines said : List Directive) → unless_error lines ≡ Ok said → lines ≡ said
+not_an_error lines said is = by (list_any is_error lines) is
+  where
+    by : (r : Bool) → cond r (Err unit_fault.ScriptError) (Ok lines) ≡ Ok said → lines ≡ said
+    by true is = absurd (cc)
+    by false is = cc
 
 -- ---- its inputs
 
@@ -146,7 +156,9 @@ module _ (setup : Setup) (project : Project) (u : Planned) (done : List (Option 
       by : (run_words setup.runner script ≡ []) ⊎ (run_words setup.runner script ≡ codes "--run" ∷ script ∷ []) → small_compiler c w ≡ small_compiler c v
       by (inl none) = ap (λ ws. answered ws c.pairs w) none ∙ sym (ap (λ ws. answered ws c.pairs v) none)
       by (inr words) =
-          let (said, first, is_1) = opened (lifted unit_fault.Directive (directives_of (small_compiler c v).stdout)) _ a found in
+          let (said, both, is_1) = opened (said_in (ended_by (small_compiler c v))) _ a found in
+          let (lines, one, other) = opened (lifted unit_fault.Directive (directives_of (small_compiler c v).stdout)) unless_error said both in
+          let first : lifted unit_fault.Directive (directives_of (small_compiler c v).stdout) ≡ Ok said = one ∙ ap Ok (not_an_error lines said other) in
           let (inputs, second, is_2) = opened (said_inputs c p.folder said) _ a is_1 in
           let whole : record { directives = Some said; inputs = inputs } ≡ a = same_ok {E = UnitFault} _ a _ refl is_2 in
           run_again v w said a (second ∙ ap (λ (x : Answered). Ok x.inputs) whole) same folders (ap request_of words) tell (lifted_ok unit_fault.Directive (directives_of (small_compiler c v).stdout) said first)

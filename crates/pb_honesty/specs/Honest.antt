@@ -10,20 +10,20 @@ use Rattle.pb_place.specs.Paths.{below, is_path, is_at_or_below}
 use Rattle.pb_place.specs.World.{World, Answers}
 use Rattle.pb_place.specs.declared.child.Reply.{Reply}
 use Rattle.pb_place.specs.declared.command.Command.{Command}
-use Rattle.pb_workspace.specs.Settled.{IsSettled}
-use Rattle.pb_workspace.specs.declared.options.Selection.{Selection}
+use Rattle.pb_package.specs.Settled.{IsSettled}
+use Rattle.pb_package.specs.declared.options.Selection.{Selection}
 use Rattle.pb_unit.specs.Plan.{IsPlan}
 use Rattle.pb_unit.specs.declared.plan.Planned.{Planned}
 use Rattle.pb_command.specs.Answers.{answered_of}
 use Rattle.pb_command.specs.Command.{command_of}
 use Rattle.pb_command.specs.Laws.{HasPaths}
-use Rattle.pb_command.specs.Targets.{package_of, dep_info_of, source_by}
-use Rattle.pb_command.specs.declared.answer.Answered.{Answered}
-use Rattle.pb_command.specs.declared.answer.InputName.{InputName}
-use Rattle.pb_command.specs.declared.answer.InputName.TheVariants.{Path, Variable}
-use Rattle.pb_command.specs.declared.fault.UnitFault.{UnitFault}
-use Rattle.pb_command.specs.declared.project.Project.{Project}
-use Rattle.pb_command.specs.declared.project.Setup.{Setup}
+use Rattle.pb_project.specs.Targets.{package_of, dep_info_of, source_by}
+use Rattle.pb_project.specs.declared.answer.Answered.{Answered}
+use Rattle.pb_project.specs.declared.answer.InputName.{InputName}
+use Rattle.pb_project.specs.declared.answer.InputName.TheVariants.{Path, Variable}
+use Rattle.pb_project.specs.declared.fault.UnitFault.{UnitFault}
+use Rattle.pb_project.specs.declared.project.Project.{Project}
+use Rattle.pb_project.specs.declared.project.Setup.{Setup}
 use Rattle.pb_run.specs.Outcome.{ended_by, replied_files, file_at}
 use Rattle.pb_mini.specs.Answer.{request_of, answered}
 use Rattle.pb_mini.specs.Honesty.{SameFile, names_read}
@@ -33,7 +33,7 @@ use Rattle.pb_mini.specs.declared.command_line.CommandLineFault.{CommandLineFaul
 use Rattle.pb_mini.specs.declared.dep_info.Names.{Names}
 use Rattle.pb_mini.specs.declared.request.Request.{Request}
 use Rattle.pb_mini.specs.declared.request.Request.TheVariants.{Version, Run, Compile}
-use Rattle.pb_mini_laws.specs.ReadBack.{CanBeTold, CanBeAsked}
+use Rattle.pb_honesty.specs.ReadBack.{CanBeTold, CanBeAsked}
 use Rattle.pb_honesty.specs.Said.{CanBeSaid, declared_in_image}
 
 -- What a reply rests on.

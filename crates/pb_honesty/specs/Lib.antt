@@ -1,2 +1,3 @@
 pub mod Honest
 pub mod Said
+pub mod ReadBack

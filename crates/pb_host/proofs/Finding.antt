@@ -1,11 +1,11 @@
 -- What is found below a folder.
-use Rattle.std.proofs.Common.{◌≡◌, true, ℕ, List, [], ◌∷◌, ◌++◌, Option, Some, IfSome, All, sym, subst}
+use Rattle.std.proofs.Common.{◌≡◌, true, false, ℕ, List, [], ◌∷◌, ◌++◌, Option, Some, IfSome, All, sym, subst}
 use Rattle.std.proofs.lemmas.List.Elements.{All-nil, All-push, All-pop}
 use Rattle.std.specs.Option.{option_to_list}
 use Rattle.pb_place.specs.Paths.{is_below, is_at_or_below}
 use Rattle.pb_place.proofs.Within.{at_itself, at_then_below, at_below}
 use Rattle.pb_host.specs.declared.listing.Waiting.{Waiting}
-use Rattle.pb_host.specs.Listing.{AreBelow}
+use Rattle.pb_host.specs.Listing.{AreBelow, AreOutside, is_left_out}
 
 -- one file more
 pub file_found : (above folder path : List ℕ) (old new : List (List ℕ)) → is_at_or_below above folder ≡ true → is_below folder path ≡ true → AreBelow above old → new ≡ old ++ path ∷ [] → AreBelow above new
@@ -19,6 +19,9 @@ folder_found above folder waiting old new at inside all is =
 -- before the first folder is taken
 pub none_found : (above : List ℕ) (files : List (List ℕ)) → files ≡ [] → AreBelow above files
 none_found above files is = subst (AreBelow above) (sym is) (All-nil (λ p. is_below above p ≡ true))
+
+pub none_outside : (left_out : Option (List ℕ)) (files : List (List ℕ)) → files ≡ [] → AreOutside left_out files
+none_outside left_out files is = subst (AreOutside left_out) (sym is) (All-nil (λ p. is_left_out left_out p ≡ false))
 
 pub first_waits : (folder : List ℕ) (waiting : Waiting) (old new : List Waiting) → folder ≡ waiting.folder → old ≡ [] → new ≡ old ++ waiting ∷ [] → All (λ (w : Waiting). is_at_or_below folder w.folder ≡ true) new
 first_waits folder waiting old new same none is =

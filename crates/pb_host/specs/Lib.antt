@@ -1,3 +1,3 @@
+pub mod Flying
 pub mod Listing
 pub mod Starting
-pub mod Tallies

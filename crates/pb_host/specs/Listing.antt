@@ -1,5 +1,5 @@
 -- What is found below a folder.
-use Rattle.std.specs.Prelude.{◌≡◌, true, ℕ, List, All}
+use Rattle.std.specs.Prelude.{◌≡◌, true, false, Bool, ℕ, List, Option, Some, None, All}
 use Rattle.std.specs.List.Sorted.{IsSorted}
 use Rattle.std.specs.Ordering.{nat_cmp}
 use Rattle.std.specs.Cmp.Lexicographic.{slice_cmp}
@@ -9,6 +9,15 @@ use Rattle.pb_host.specs.declared.listing.Found.{Found}
 -- each of these paths lies strictly below the folder
 abbrev pub AreBelow : List ℕ → List (List ℕ) → Type 0
 AreBelow folder paths = All (λ path. is_below folder path ≡ true) paths
+
+-- whether a path lies at or below what is left out
+abbrev pub is_left_out : Option (List ℕ) → List ℕ → Bool
+is_left_out None path = false
+is_left_out (Some folder) path = is_at_or_below folder path
+
+-- and none of them does
+abbrev pub AreOutside : Option (List ℕ) → List (List ℕ) → Type 0
+AreOutside left_out paths = All (λ path. is_left_out left_out path ≡ false) paths
 
 -- in byte order
 abbrev pub AreOrdered : List (List ℕ) → Type 0

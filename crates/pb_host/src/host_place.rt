@@ -1,20 +1,27 @@
 //! A place of real files, variables and children.
 
-ghost use Rattle.std.specs.Prelude.{◌≡◌};
-ghost use Rattle.pb_place.specs.Counts.{no_calls};
+ghost use Rattle.std.specs.Prelude.{◌≡◌, ◌≢◌, ◌⊎◌, ℕ, ◌+◌, ◌<◌, ◌++◌, ◌∷◌, [], true, false, length, max, IfOk, IfErr, OnOk, OnErr, IfSome};
+ghost use Rattle.std.specs.FinMap as map;
+ghost use Rattle.pb_place.specs.Counts.{no_calls, without};
+ghost use Rattle.pb_place.specs.Flights.{is_flying, most_after};
+ghost use Rattle.pb_place.specs.InFlight.{flights_in};
+ghost use Rattle.pb_place.specs.Tallies.{flown};
+ghost use Rattle.std.specs.Vec.{vec_len, vec_capacity};
+ghost use Rattle.pb_host.specs.Flying.{silent_flight};
 ghost use Rattle.pb_place.specs.declared.child.ViewFault.TheVariants as view_fault;
 ghost use Rattle.pb_place.specs.declared.place.PlaceFault.TheVariants as place_fault;
-ghost use Rattle.pb_host.specs.Tallies.{counts_of};
 
-use crate::listing::files_below;
+use crate::listing::{files_below, files_outside};
 use crate::reading::{file_at, variable_of};
-use crate::starting::run;
-use crate::tally::Tally;
+use crate::starting::{finish, spawn};
 use crate::writing::{remove_tree, write_file};
-use pb_data::{Bytes, Items, Text};
-use pb_place::{Command, Ended, PathText, Place, PlaceFault, StartFault, ViewFault};
-use std::alloc::Global;
-use std::process::Processes;
+use pb_data::{Bytes, Items, Text, TryCopy};
+use pb_place::in_flight::{Flying, flies, free_ticket, take_out};
+use pb_place::{
+    Command, Ended, FileMap, Flight, PathText, Place, PlaceFault, StartFault, Tally, ViewFault,
+};
+use std::alloc::{AllocError, Global};
+use std::process::{Child, Processes};
 use std::rt::{Env, Files};
 
 /// A place of real files, variables and children, by a runtime. It does not tell its maps, since no contract can say
@@ -27,11 +34,15 @@ use std::rt::{Env, Files};
 /// formats.
 ///
 /// A child inherits the variables of this process under those of its command, starts in the folder of the command, and
-/// has an empty standard input. What it changes on the disk is its own doing.
+/// has an empty standard input. What it changes on the disk is its own doing. Children in flight run side by side;
+/// what one writes past what a pipe holds waits for its `finish`. They stay in the process group of this program, and
+/// one whose place is dropped before its `finish` is neither waited for nor ended.
 #[derive(Drop)]
-pub struct HostPlace<'a, R> {
+pub struct HostPlace<'a, R: Processes> {
     runtime: &'a R,
     tally: Tally,
+    flying: Vec<Flying<Child<R::Started>>>,
+    most: u64,
 }
 
 impl<'a, R: Files + Env + Processes + AllocGlobal> HostPlace<'a, R> {
@@ -42,8 +53,87 @@ impl<'a, R: Files + Env + Processes + AllocGlobal> HostPlace<'a, R> {
         HostPlace {
             runtime,
             tally: Tally::new(alloc),
+            flying: Vec::new(alloc),
+            most: 0,
         }
     }
+
+    /// Whether a child of this ticket is in flight. It is no call of the place and takes no memory.
+    pub fn flies(&self, ticket: u64) -> bool
+        ensures { result ≡ is_flying ticket (⟦<HostPlace<'a, R> as Place>⟧.counts self.now).starts.flying }
+    {
+        flies(self.flying.as_slice(), ticket)
+    }
+
+    /// Begins the child of a command. Room for it among those in flight is made before, so no child that was begun
+    /// is lost to want of memory.
+    fn begin(&mut self, alloc: Global, command: &Command) -> Result<u64, StartFault>
+        ensures fresh { IfOk result (λ ticket. is_flying ticket (flights_in self.old.flying.items) ≡ false) }
+        ensures fault { IfErr result (λ e. e ≢ StartFault.OutOfMemory → e ≡ StartFault.CannotStart) }
+        ensures flights { flights_in self.new.flying.items ≡ flown (silent_flight command.now) result (flights_in self.old.flying.items) }
+        ensures most { self.new.most ≡ most_after result (length (flights_in self.old.flying.items) + 1) self.old.most }
+        ensures tally { self.new.tally ≡ self.old.tally }
+    {
+        let Some(ticket) = free_ticket(self.flying.as_slice()) else {
+            return Err(StartFault::OutOfMemory);
+        };
+        self.flying.reserve(1)?;
+        let flight = flight(alloc, command, ticket)?;
+        let child = spawn(self.runtime, alloc, command)?;
+        self.most = add_child(
+            &mut self.flying,
+            self.most,
+            Flying {
+                flight,
+                kept: child,
+            },
+        );
+        Ok(ticket)
+    }
+
+    /// Ends a child.
+    fn end(&mut self, alloc: Global, ticket: u64) -> Result<Ended, StartFault>
+        requires flies { is_flying ticket (flights_in self.old.flying.items) ≡ true }
+        ensures fault { IfErr result (λ e. e ≢ StartFault.OutOfMemory → (e ≡ StartFault.Died) ⊎ (e ≡ StartFault.Capture)) }
+        ensures flights { flights_in self.new.flying.items ≡ without ticket (flights_in self.old.flying.items) }
+        ensures most { self.new.most ≡ self.old.most }
+        ensures tally { self.new.tally ≡ self.old.tally }
+    {
+        let Some(flying) = take_out(&mut self.flying, ticket) else {
+            unreachable!();
+        };
+        finish(alloc, flying.kept)
+    }
+}
+
+/// What is told of a child in flight: its ticket and its command.
+#[tactic(auto, using(crate::proofs::Silence::silence_laws))]
+fn flight(alloc: Global, command: &Command, ticket: u64) -> Result<Flight, AllocError>
+    ensures { IfOk result (λ f. f ≡ silent_flight command.now ticket) }
+{
+    let command = command.copy(alloc)?;
+    Ok(Flight {
+        ticket,
+        command,
+        ended: Ended {
+            status: 0,
+            stdout: Bytes::new(Vec::new(alloc)),
+            stderr: Bytes::new(Vec::new(alloc)),
+        },
+        files: Items::new(alloc),
+        before: FileMap::new(alloc),
+    })
+}
+
+/// Adds a child in flight for which there is room, and gives the most that ever were.
+#[tactic(auto, using(pb_place::proofs::InFlight::fly_laws))]
+fn add_child<K: Drop>(flying: &mut Vec<Flying<K>>, most: u64, one: Flying<K>) -> u64
+    requires room { vec_len flying.old < vec_capacity flying.old }
+    ensures flights { flights_in flying.new.items ≡ flights_in flying.old.items ++ one.flight ∷ [] }
+    ensures most { result ≡ max most (length (flights_in flying.old.items) + 1) }
+{
+    flying.push_reserved(one);
+    most.max(flying.len() as u64)
 }
 
 /// The fault of a call for a view's fault: want of memory, or the call's own.
@@ -57,17 +147,24 @@ fn fault_of(fault: ViewFault, own: PlaceFault) -> PlaceFault
     }
 }
 
+#[tactic(auto, using(pb_place::proofs::InFlight::tally_laws))]
 impl<'a, R: Files + Env + Processes + AllocGlobal> Place for HostPlace<'a, R> {
-    ghost use Rattle.std.specs.Prelude.{false, pos, []};
-    ghost use Rattle.std.specs.FinMap as map;
+    ghost use Rattle.std.specs.Prelude.{false};
+    ghost use Rattle.pb_place.specs.InFlight.{flights_in};
+    ghost use Rattle.pb_place.specs.Tallies.{with_flights};
+    ghost use Rattle.pb_host.specs.Flying.{no_world, silent};
 
     ghost tells = { false };
 
-    ghost world = { λ _. record { files = map.empty; variables = map.empty } };
+    ghost world = { λ _. no_world };
 
-    ghost child = { λ _ _. record { status = pos 0; stdout = []; stderr = []; files = [] } };
+    ghost child = { silent };
 
-    ghost counts = { λ p. counts_of p.tally };
+    ghost counts = { λ p. with_flights (flights_in p.flying.items) p.tally };
+
+    ghost most = { λ p. p.most };
+
+    ghost still = { λ _ _. Unit {0} };
 
     ghost fails = { λ _. Unit {0} };
 
@@ -83,6 +180,17 @@ impl<'a, R: Files + Env + Processes + AllocGlobal> Place for HostPlace<'a, R> {
     fn list(&mut self, alloc: Global, folder: &PathText) -> Result<Items<PathText>, PlaceFault> {
         let name = self.tally.name(alloc, folder.as_str())?;
         let answer = files_below(self.runtime, alloc, folder);
+        self.tally.count(name, answer)
+    }
+
+    fn list_outside(
+        &mut self,
+        alloc: Global,
+        folder: &PathText,
+        left_out: &PathText,
+    ) -> Result<Items<PathText>, PlaceFault> {
+        let name = self.tally.name(alloc, folder.as_str())?;
+        let answer = files_outside(self.runtime, alloc, folder, left_out);
         self.tally.count(name, answer)
     }
 
@@ -107,9 +215,14 @@ impl<'a, R: Files + Env + Processes + AllocGlobal> Place for HostPlace<'a, R> {
         self.tally.count(copy, answer)
     }
 
-    fn start(&mut self, alloc: Global, command: &Command) -> Result<Ended, StartFault> {
-        let answer = run(self.runtime, alloc, command);
+    fn spawn(&mut self, alloc: Global, command: &Command) -> Result<u64, StartFault> {
+        let answer = self.begin(alloc, command);
         self.tally.count_start(answer)
+    }
+
+    fn finish(&mut self, alloc: Global, ticket: u64) -> Result<Ended, StartFault> {
+        let answer = self.end(alloc, ticket);
+        self.tally.count_finish(answer)
     }
 
     fn failures(&self) -> u64 {
@@ -122,5 +235,9 @@ impl<'a, R: Files + Env + Processes + AllocGlobal> Place for HostPlace<'a, R> {
 
     fn late(&self) -> u64 {
         self.tally.late()
+    }
+
+    fn most(&self) -> u64 {
+        self.most
     }
 }

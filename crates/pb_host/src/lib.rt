@@ -6,7 +6,6 @@ pub mod host_view;
 pub mod listing;
 pub mod reading;
 pub mod starting;
-pub mod tally;
 pub mod writing;
 
 pub use host_place::HostPlace;

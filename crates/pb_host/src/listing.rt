@@ -1,8 +1,9 @@
 //! Listing real folders.
 
-ghost use Rattle.std.specs.Prelude.{◌≡◌, ◌≢◌, ℕ, List, true, IfOk, IfErr, OnOk};
+ghost use Rattle.std.specs.Prelude.{◌≡◌, ◌≢◌, ℕ, List, true, Some, IfOk, IfErr, OnOk};
 ghost use Rattle.pb_place.specs.Paths.{is_below, is_at_or_below};
-ghost use Rattle.pb_host.specs.Listing.{AreBelow, AreOrdered, StaysBelow};
+ghost use Rattle.std.specs.Option.{option_copied};
+ghost use Rattle.pb_host.specs.Listing.{AreBelow, AreOutside, AreOrdered, StaysBelow, is_left_out};
 
 use crate::reading::{Standing, says_absent, standing_at, standing_of};
 use crate::writing::fault_of;
@@ -14,6 +15,16 @@ use std::{fs, io};
 
 /// How many folders a folder may lie below the one that is listed.
 const DEEPEST: u8 = 128;
+
+/// Whether a path lies at or below what is left out.
+fn is_left_out(left_out: Option<&PathText>, path: &PathText) -> bool
+    ensures { result ≡ is_left_out (option_copied left_out.entry) path.now }
+{
+    match left_out {
+        Some(folder) => path.starts_with(folder),
+        None => false,
+    }
+}
 
 /// A folder that is not yet listed.
 #[derive(Drop)]
@@ -81,14 +92,19 @@ fn standing_in<R: Files + AllocGlobal>(
 fn take_entry<R: Files + AllocGlobal>(
     runtime: &R,
     alloc: Global,
+    left_out: Option<&PathText>,
     found: &mut Found,
     here: &Waiting,
     name: &str,
 ) -> Result<(), PlaceFault>
     ensures below { OnOk result ((above : List ℕ) → is_at_or_below above here.now.folder ≡ true → StaysBelow above found.old → StaysBelow above found.new) }
+    ensures outside { OnOk result (AreOutside (option_copied left_out.entry) found.old.files.items → AreOutside (option_copied left_out.entry) found.new.files.items) }
     ensures fault { IfErr result (λ e. e ≢ PlaceFault.OutOfMemory → e ≡ PlaceFault.List) }
 {
     let path = path_of(alloc, &here.folder, name)?;
+    if is_left_out(left_out, &path) {
+        return Ok(());
+    }
     match standing_in(runtime, alloc, &here.folder, &path, name) {
         Ok(Standing::File(_)) => found.files.push(path)?,
         Ok(Standing::Folder) => {
@@ -110,10 +126,12 @@ fn take_entry<R: Files + AllocGlobal>(
 fn take_folder<R: Files + AllocGlobal>(
     runtime: &R,
     alloc: Global,
+    left_out: Option<&PathText>,
     found: &mut Found,
     here: &Waiting,
 ) -> Result<(), PlaceFault>
     ensures below { OnOk result ((above : List ℕ) → is_at_or_below above here.now.folder ≡ true → StaysBelow above found.old → StaysBelow above found.new) }
+    ensures outside { OnOk result (AreOutside (option_copied left_out.entry) found.old.files.items → AreOutside (option_copied left_out.entry) found.new.files.items) }
     ensures fault { IfErr result (λ e. e ≢ PlaceFault.OutOfMemory → e ≡ PlaceFault.List) }
 {
     let entries = match fs::read_dir(&runtime, here.folder.as_str()) {
@@ -122,20 +140,23 @@ fn take_folder<R: Files + AllocGlobal>(
     };
     for entry in entries {
         match entry {
-            Ok(entry) => take_entry(runtime, alloc, found, here, entry.file_name())?,
+            Ok(entry) => take_entry(runtime, alloc, left_out, found, here, entry.file_name())?,
             Err(error) => return Err(fault_of(error, PlaceFault::List)),
         }
     }
     Ok(())
 }
 
-/// All files below a folder, as they come. One folder after another is taken, the one found last first.
+/// All files below a folder that are not left out, as they come. One folder after another is taken, the one found last
+/// first.
 fn files_found<R: Files + AllocGlobal>(
     runtime: &R,
     alloc: Global,
+    left_out: Option<&PathText>,
     folder: &PathText,
 ) -> Result<Vec<PathText>, PlaceFault>
     ensures below { IfOk result (λ files. AreBelow folder.now files.items) }
+    ensures outside { IfOk result (λ files. AreOutside (option_copied left_out.entry) files.items) }
     ensures fault { IfErr result (λ e. e ≢ PlaceFault.OutOfMemory → e ≡ PlaceFault.List) }
 {
     let mut found = Found {
@@ -148,11 +169,34 @@ fn files_found<R: Files + AllocGlobal>(
     })?;
     for _ in 0..u64::MAX {
         match found.waiting.pop() {
-            Some(here) => take_folder(runtime, alloc, &mut found, &here)?,
+            Some(here) => take_folder(runtime, alloc, left_out, &mut found, &here)?,
             None => return Ok(found.files),
         }
     }
     Err(PlaceFault::List)
+}
+
+/// The paths of all files below a folder that are not left out, in byte order; none where no folder stands at the path.
+fn files_listed<R: Files + AllocGlobal>(
+    runtime: &R,
+    alloc: Global,
+    left_out: Option<&PathText>,
+    folder: &PathText,
+) -> Result<Items<PathText>, PlaceFault>
+    ensures below { IfOk result (λ paths. AreBelow folder.now paths) }
+    ensures outside { IfOk result (λ paths. AreOutside (option_copied left_out.entry) paths) }
+    ensures ordered { IfOk result AreOrdered }
+    ensures fault { IfErr result (λ e. e ≢ PlaceFault.OutOfMemory → e ≡ PlaceFault.List) }
+{
+    match standing_at(runtime, folder.as_str()) {
+        Ok(Standing::Folder) => {}
+        Ok(_) => return Ok(Items::new(alloc)),
+        Err(ViewFault::Failed) => return Err(PlaceFault::List),
+        Err(ViewFault::OutOfMemory) => return Err(PlaceFault::OutOfMemory),
+    }
+    let mut files = files_found(runtime, alloc, left_out, folder)?;
+    files.sort()?;
+    Ok(Items::from_vec(files))
 }
 
 /// The paths of all files below a folder, in byte order; none where no folder stands at the path. Links are followed,
@@ -169,13 +213,23 @@ pub(crate) fn files_below<R: Files + AllocGlobal>(
     ensures ordered { IfOk result AreOrdered }
     ensures fault { IfErr result (λ e. e ≢ PlaceFault.OutOfMemory → e ≡ PlaceFault.List) }
 {
-    match standing_at(runtime, folder.as_str()) {
-        Ok(Standing::Folder) => {}
-        Ok(_) => return Ok(Items::new(alloc)),
-        Err(ViewFault::Failed) => return Err(PlaceFault::List),
-        Err(ViewFault::OutOfMemory) => return Err(PlaceFault::OutOfMemory),
+    files_listed(runtime, alloc, None, folder)
+}
+
+/// The same, but for what lies at or below another path: there nothing is looked at, so nothing there is a failure.
+pub(crate) fn files_outside<R: Files + AllocGlobal>(
+    runtime: &R,
+    alloc: Global,
+    folder: &PathText,
+    left_out: &PathText,
+) -> Result<Items<PathText>, PlaceFault>
+    ensures below { IfOk result (λ paths. AreBelow folder.now paths) }
+    ensures outside { IfOk result (λ paths. AreOutside (Some left_out.now) paths) }
+    ensures ordered { IfOk result AreOrdered }
+    ensures fault { IfErr result (λ e. e ≢ PlaceFault.OutOfMemory → e ≡ PlaceFault.List) }
+{
+    if folder.starts_with(left_out) {
+        return Ok(Items::new(alloc));
     }
-    let mut files = files_found(runtime, alloc, folder)?;
-    files.sort()?;
-    Ok(Items::from_vec(files))
+    files_listed(runtime, alloc, Some(left_out), folder)
 }

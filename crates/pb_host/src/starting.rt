@@ -1,4 +1,4 @@
-//! Starting real children.
+//! Starting real children, and waiting for their end.
 
 ghost use Rattle.std.specs.Prelude.{◌≡◌, ◌≢◌, ◌⊎◌, ◌++◌, ℕ, List, Some, if◌then◌else◌, OnOk, IfOk, IfErr};
 ghost use Rattle.std.specs.Str.{bytes_eq};
@@ -11,7 +11,7 @@ use pb_data::{Bytes, Text};
 use pb_place::{Command, Ended, StartFault};
 use std::alloc::{AllocError, Global};
 use std::io::ErrorKind;
-use std::process::{Output, Processes, Stdio};
+use std::process::{Child, OpenProcess, Output, Processes, Stdio};
 use std::rt::Files;
 use std::{fs, io, process};
 
@@ -75,29 +75,60 @@ fn process_of(alloc: Global, command: &Command) -> Result<process::Command, Allo
     Ok(made)
 }
 
-/// Starts a process and takes in what it writes until it ends. Its standard input is empty.
-fn output_of<R: Processes>(
+/// Starts a process with an empty standard input, whose output is taken in later.
+fn begin<R: Processes>(
     runtime: &R,
-    alloc: Global,
     mut made: process::Command,
-) -> Result<Output, StartFault>
-    ensures fault { IfErr result (λ e. (e ≡ StartFault.OutOfMemory) ⊎ ((e ≡ StartFault.CannotStart) ⊎ (e ≡ StartFault.Capture))) }
+) -> Result<Child<R::Started>, StartFault>
+    ensures fault { IfErr result (λ e. e ≢ StartFault.OutOfMemory → e ≡ StartFault.CannotStart) }
 {
     made.stdin(Stdio::null());
     made.stdout(Stdio::piped());
     made.stderr(Stdio::piped());
-    let child = match made.spawn(runtime) {
-        Ok(child) => child,
-        Err(error) => return Err(fault_of(error, StartFault::CannotStart)),
-    };
+    match made.spawn(runtime) {
+        Ok(child) => Ok(child),
+        Err(error) => Err(fault_of(error, StartFault::CannotStart)),
+    }
+}
+
+/// Starts the child of a command, once its output folder is made.
+///
+/// CannotStart where the output folder cannot be made or the program cannot be started.
+pub(crate) fn spawn<R: Files + Processes>(
+    runtime: &R,
+    alloc: Global,
+    command: &Command,
+) -> Result<Child<R::Started>, StartFault>
+    ensures fault { IfErr result (λ e. e ≢ StartFault.OutOfMemory → e ≡ StartFault.CannotStart) }
+{
+    if let Some(out) = &command.out {
+        if let Err(error) = fs::create_dir_all(runtime, out.as_str()) {
+            return Err(fault_of(error, StartFault::CannotStart));
+        }
+    }
+    let made = process_of(alloc, command)?;
+    begin(runtime, made)
+}
+
+/// Waits for the end of a child and takes in what it writes until then.
+///
+/// Capture where what the child writes cannot be taken in, Died where it ends without a status code.
+pub(crate) fn finish<S: OpenProcess + Drop>(
+    alloc: Global,
+    child: Child<S>,
+) -> Result<Ended, StartFault>
+    ensures fault { IfErr result (λ e. e ≢ StartFault.OutOfMemory → (e ≡ StartFault.Died) ⊎ (e ≡ StartFault.Capture)) }
+{
     match child.wait_with_output(alloc) {
-        Ok(output) => Ok(output),
+        Ok(output) => ended(output),
         Err(error) => Err(fault_of(error, StartFault::Capture)),
     }
 }
 
 /// How a child ended. Died where it has no status code.
-fn ended(output: Output) -> Result<Ended, StartFault> {
+fn ended(output: Output) -> Result<Ended, StartFault>
+    ensures fault { IfErr result (λ e. e ≡ StartFault.Died) }
+{
     match output.status.code() {
         Some(status) => Ok(Ended {
             status,
@@ -106,22 +137,4 @@ fn ended(output: Output) -> Result<Ended, StartFault> {
         }),
         None => Err(StartFault::Died),
     }
-}
-
-/// Starts the child of a command, once its output folder is made, and waits for its end.
-///
-/// CannotStart where the output folder cannot be made or the program cannot be started, Capture where what the child
-/// writes cannot be taken in, Died where it ends without a status code.
-pub(crate) fn run<R: Files + Processes>(
-    runtime: &R,
-    alloc: Global,
-    command: &Command,
-) -> Result<Ended, StartFault> {
-    if let Some(out) = &command.out {
-        if let Err(error) = fs::create_dir_all(runtime, out.as_str()) {
-            return Err(fault_of(error, StartFault::CannotStart));
-        }
-    }
-    let made = process_of(alloc, command)?;
-    ended(output_of(runtime, alloc, made)?)
 }

@@ -19,7 +19,7 @@ use std::alloc::{AllocError, Global};
 use toml::{Table, Value};
 
 /// The package that an entry with a path asks for.
-#[derive(Debug, Drop)]
+#[derive(Drop)]
 pub struct PathSource {
     /// The package's folder: from the folder of the manifest, and in `[workspace.dependencies]`
     /// that of the workspace's root.
@@ -47,7 +47,7 @@ impl TryCopy for PathSource {
 }
 
 /// Where a package's own dependency comes from.
-#[derive(Debug, Drop)]
+#[derive(Drop)]
 pub enum Source {
     /// A folder.
     Path(PathSource),
@@ -62,7 +62,7 @@ pub enum Source {
 }
 
 /// An entry of `[dependencies]` or `[build-dependencies]`.
-#[derive(Debug, Drop)]
+#[derive(Drop)]
 pub struct Dependency {
     /// The name by which the manifest knows it: the letters of a package's name.
     pub key: Text,
@@ -76,7 +76,7 @@ pub struct Dependency {
 }
 
 /// Where an entry of `[workspace.dependencies]` comes from.
-#[derive(Debug, Drop)]
+#[derive(Drop)]
 pub enum WorkspaceSource {
     /// A folder.
     Path(PathSource),
@@ -85,7 +85,7 @@ pub enum WorkspaceSource {
 }
 
 /// An entry of `[workspace.dependencies]`. Its `optional` has no effect.
-#[derive(Debug, Drop)]
+#[derive(Drop)]
 pub struct WorkspaceDependency {
     /// The name by which packages take it: the letters of a package's name.
     pub key: Text,

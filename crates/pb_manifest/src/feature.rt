@@ -14,7 +14,7 @@ use std::alloc::Global;
 use toml::{Table, Value};
 
 /// What a feature turns on (The Cargo Book, Features).
-#[derive(Debug, Drop)]
+#[derive(Drop)]
 pub enum FeatureItem {
     /// `F`: a feature of the package itself.
     Own(Text),
@@ -27,7 +27,7 @@ pub enum FeatureItem {
 }
 
 /// A feature and what it turns on, in the manifest's order.
-#[derive(Debug, Drop)]
+#[derive(Drop)]
 pub struct Feature {
     /// ASCII letters, digits and `_`, and after the first also `-`, `+` and `.`; not empty.
     pub name: Text,

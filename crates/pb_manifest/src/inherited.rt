@@ -1,7 +1,7 @@
 //! What a package may take from its workspace (The Cargo Book, Workspaces).
 
 /// A value that is there: written in the manifest, or taken from the workspace.
-#[derive(Debug, Drop)]
+#[derive(Drop)]
 pub enum Inherited<T> {
     /// The value stands here.
     Written(T),
@@ -10,7 +10,7 @@ pub enum Inherited<T> {
 }
 
 /// A value that may be left out.
-#[derive(Debug, Drop)]
+#[derive(Drop)]
 pub enum Inheritable<T> {
     /// The value stands here.
     Written(T),

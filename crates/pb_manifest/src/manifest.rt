@@ -11,7 +11,7 @@ use pb_data::{Items, Text};
 
 /// The table `[workspace.package]`: what members inherit (The Cargo Book, Workspaces). Paths are
 /// relative to the workspace's root.
-#[derive(Debug, Drop)]
+#[derive(Drop)]
 pub struct WorkspacePackage {
     /// `authors`. None where it is not written.
     pub authors: Option<Items<Text>>,
@@ -36,7 +36,7 @@ pub struct WorkspacePackage {
 }
 
 /// The table `[workspace]` (The Cargo Book, Workspaces).
-#[derive(Debug, Drop)]
+#[derive(Drop)]
 pub struct WorkspaceTable {
     /// Paths and globs, in the manifest's order.
     pub members: Items<WrittenPath>,
@@ -51,7 +51,7 @@ pub struct WorkspaceTable {
 }
 
 /// A manifest. A table that is not written has no entries.
-#[derive(Debug, Drop)]
+#[derive(Drop)]
 pub struct Manifest {
     /// None in a manifest that has `[workspace]` alone.
     pub package: Option<Package>,

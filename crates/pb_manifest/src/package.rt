@@ -34,7 +34,7 @@ pub enum Edition {
 }
 
 /// What `build` says of the build script (The Cargo Book, Manifest Format).
-#[derive(Debug, Drop)]
+#[derive(Drop)]
 pub enum Build {
     /// Nothing is written: `build.rs` is the script where that file is there.
     Discovered,
@@ -47,7 +47,7 @@ pub enum Build {
 }
 
 /// What `readme` says.
-#[derive(Debug, Drop)]
+#[derive(Drop)]
 pub enum Readme {
     /// `readme = true`, which stands for `README.md`.
     Standard,
@@ -71,7 +71,7 @@ impl TryCopy for Readme {
 }
 
 /// The table `[package]`: the keys of The Cargo Book's chapter Manifest Format that a build uses.
-#[derive(Debug, Drop)]
+#[derive(Drop)]
 pub struct Package {
     /// In the manifest's order.
     pub authors: Inheritable<Items<Text>>,

@@ -84,7 +84,7 @@ pub enum Strip {
 }
 
 /// The keys that a profile or an override sets. None where one is not written.
-#[derive(Clone, Copy, Debug, PartialEq, Eq)]
+#[derive(Clone, Copy, PartialEq, Eq)]
 pub struct ProfileKeys {
     /// From 1 to 65,536.
     pub codegen_units: Option<u32>,
@@ -107,7 +107,7 @@ pub struct ProfileKeys {
 }
 
 /// A table of `[profile.NAME.package]`.
-#[derive(Debug, Drop)]
+#[derive(Drop)]
 pub struct ProfileOverride {
     /// A package's name, or `*` for every package that is no member.
     pub name: Text,
@@ -116,7 +116,7 @@ pub struct ProfileOverride {
 }
 
 /// A table of `[profile]`.
-#[derive(Debug, Drop)]
+#[derive(Drop)]
 pub struct Profile {
     /// `dev`, `release`, `test`, `bench`, or a custom profile's: the letters of a package's name,
     /// not `debug`.

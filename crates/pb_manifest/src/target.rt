@@ -30,7 +30,7 @@ pub enum CrateType {
 }
 
 /// The table `[lib]`.
-#[derive(Debug, Drop)]
+#[derive(Drop)]
 pub struct Library {
     /// In the manifest's order. Empty where none is written, which stands for `lib`.
     pub crate_types: Items<CrateType>,
@@ -42,7 +42,7 @@ pub struct Library {
 }
 
 /// A table of `[[bin]]`.
-#[derive(Debug, Drop)]
+#[derive(Drop)]
 pub struct Binary {
     /// ASCII letters, digits, `-` and `_`, not empty.
     pub name: Text,

@@ -19,7 +19,7 @@ use toml::{Table, Value};
 
 /// A version of Semantic Versioning 2.0.0. Contracts see its text, which is one that `semver`
 /// reads.
-#[derive(Debug, Drop)]
+#[derive(Drop)]
 pub struct Version {
     text: Text,
     number: semver::Version,
@@ -79,7 +79,7 @@ impl TryCopy for Version {
 }
 
 /// A version requirement. Contracts see its text, which is one that `semver` reads.
-#[derive(Debug, Drop)]
+#[derive(Drop)]
 pub struct Requirement {
     text: Text,
     parsed: semver::VersionReq,

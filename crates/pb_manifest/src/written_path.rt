@@ -10,7 +10,7 @@ use std::marker::Model;
 
 /// A path as a manifest writes it: any text without byte 0, also an empty one. Contracts see the
 /// text.
-#[derive(Debug, Drop)]
+#[derive(Drop)]
 pub struct WrittenPath {
     text: Text,
 }

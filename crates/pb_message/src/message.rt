@@ -14,7 +14,7 @@ pub enum Level {
 }
 
 /// A file that a compile made.
-#[derive(Debug, Drop)]
+#[derive(Drop)]
 pub struct Artifact {
     /// The settings under which it was compiled.
     pub settings: Settings,
@@ -27,7 +27,7 @@ pub struct Artifact {
 }
 
 /// What a build script gives the compiler, each list in printed order.
-#[derive(Debug, Drop)]
+#[derive(Drop)]
 pub struct Executed {
     /// Libraries to link.
     pub linked_libraries: Items<Text>,
@@ -42,7 +42,7 @@ pub struct Executed {
 }
 
 /// What a unit has to tell (The Cargo Book, External Tools).
-#[derive(Debug, Drop)]
+#[derive(Drop)]
 pub enum Message {
     /// A line of the compiler's standard error that reads as a JSON object.
     CompilerMessage(Text),

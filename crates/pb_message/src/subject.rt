@@ -10,7 +10,7 @@ use pb_place::PathText;
 use std::alloc::{AllocError, Global};
 
 /// A target of a package, as lines show it (The Cargo Book, External Tools).
-#[derive(Debug, Drop)]
+#[derive(Drop)]
 pub struct Target {
     /// What it is: a library's crate types, `bin`, or `custom-build` for a script.
     pub kinds: Items<Text>,
@@ -28,7 +28,7 @@ pub struct Target {
 }
 
 /// The package and the target of lines.
-#[derive(Debug, Drop)]
+#[derive(Drop)]
 pub struct Subject {
     /// The package's name.
     pub name: Text,

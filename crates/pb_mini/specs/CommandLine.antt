@@ -9,6 +9,7 @@ use Rattle.pb_mini.specs.declared.command_line.Role.TheVariants.{CrateName, Crat
 use Rattle.pb_mini.specs.declared.command_line.CrateType as kind
 use Rattle.pb_mini.specs.declared.command_line.CrateType.TheVariants.{Bin, Lib}
 use Rattle.pb_mini.specs.declared.command_line.Arguments.{Arguments}
+use Rattle.pb_mini.specs.declared.command_line.Settled.{Settled}
 use Rattle.pb_mini.specs.declared.command_line.CommandLine.{CommandLine}
 use Rattle.pb_mini.specs.declared.command_line.CommandLineFault.{CommandLineFault}
 use Rattle.pb_mini.specs.declared.command_line.CommandLineFault.TheVariants.{Bad}
@@ -110,9 +111,8 @@ abbrev pub folder_of : List ℕ → Result (List ℕ) CommandLineFault
 folder_of text = folder_in (parsed text)
 
 -- crate name and out folder stand once, a crate type at least once, and there is one source
-abbrev pub command_line_of : List (List ℕ) → Result CommandLine CommandLineFault
-command_line_of words =
-    arguments_after None words >>= (λ said.
+abbrev pub settled_by : Arguments → Result Settled CommandLineFault
+settled_by said =
     only said.crate_names >>= (λ name.
     first said.crate_types >>= (λ type.
     only said.out_dirs >>= (λ folder.
@@ -127,6 +127,20 @@ command_line_of words =
       dep_info = dep_info;
       out_dir = out_dir;
       source = source;
+    })))))))
+
+-- with that, the libraries and the conditions that are given
+abbrev pub command_line_of : List (List ℕ) → Result CommandLine CommandLineFault
+command_line_of words =
+    arguments_after None words >>= (λ said.
+    settled_by said >>= (λ settled.
+    Ok record {
+      crate_type = settled.crate_type;
+      crate_name = settled.crate_name;
+      image = settled.image;
+      dep_info = settled.dep_info;
+      out_dir = settled.out_dir;
+      source = settled.source;
       externs = said.externs;
       conditions = said.conditions;
-    }))))))))
+    }))

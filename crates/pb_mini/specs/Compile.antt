@@ -14,6 +14,7 @@ use Rattle.pb_mini.specs.Verbs.{effects_from}
 use Rattle.pb_mini.specs.declared.command_line.CrateType.{CrateType}
 use Rattle.pb_mini.specs.declared.command_line.CrateType.TheVariants.{Bin, Lib}
 use Rattle.pb_mini.specs.declared.command_line.CommandLine.{CommandLine}
+use Rattle.pb_mini.specs.declared.compile.Source.{Source}
 use Rattle.pb_mini.specs.declared.dep_info.Names.{Names}
 use Rattle.pb_mini.specs.declared.diagnostic.Level.TheVariants.{Error}
 use Rattle.pb_mini.specs.declared.effects.Effects.{Effects}
@@ -25,6 +26,10 @@ text_of bytes = if is_utf8 bytes then Some bytes else None
 -- the text of the file at a path, if there is a path and a file, and it is UTF-8
 abbrev pub text_at : World → Option (List ℕ) → Option (List ℕ)
 text_at w path = option_and_then text_of (file_at w path)
+
+-- the source of a compile: its path, and its text
+abbrev pub source_of : CommandLine → World → Source
+source_of line w = record { path = path_of line.source; text = text_at w (path_of line.source) }
 
 -- a source that has no path, is not there or is no text is told of line 0
 abbrev pub no_source : Effects

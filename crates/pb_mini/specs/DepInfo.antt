@@ -25,6 +25,10 @@ abbrev pub variables_text : List (List ℕ × Option (List ℕ)) → List ℕ
 variables_text [] = []
 variables_text (variable ∷ variables) = variable_text variable ++ variables_text variables
 
--- `OUTPUT: PATHS` and a line feed, then the variables
+-- `OUTPUT: PATHS` and a line feed
+abbrev pub rule_text : List ℕ → List (List ℕ) → List ℕ
+rule_text output paths = spelled output ++ 58 ∷ paths_text paths ++ 10 ∷ []
+
+-- the rule, then the variables
 abbrev pub dep_info_text : List ℕ → Names → List ℕ
 dep_info_text output names = spelled output ++ 58 ∷ paths_text names.paths ++ 10 ∷ variables_text names.variables

@@ -2,7 +2,7 @@
 
 ghost use Rattle.std.specs.Prelude.{◌≡◌, Ok, None, IfOk, OnOk, List, ◌∷◌, ℕ};
 ghost use Rattle.pb_data.specs.Gives.{Gives};
-ghost use Rattle.pb_mini.specs.CommandLine.{takes_value, role_of, role_alone, with_value, joined, arguments_after, after, no_arguments, only, first, crate_type_of, image_name, dep_info_name, file_named, folder_of, command_line_of};
+ghost use Rattle.pb_mini.specs.CommandLine.{takes_value, role_of, role_alone, with_value, joined, arguments_after, after, no_arguments, only, first, crate_type_of, image_name, dep_info_name, file_named, folder_of, settled_by, command_line_of};
 ghost use Rattle.pb_mini.specs.declared.command_line.CommandLineFault.TheVariants as fault;
 ghost use Rattle.pb_mini.specs.declared.command_line.Arguments.{Arguments};
 
@@ -39,7 +39,7 @@ impl<T: Drop> From<AllocFailed<T>> for CommandLineFault {
 }
 
 /// What a word of the command line is for.
-#[derive(Clone, Copy, Debug)]
+#[derive(Clone, Copy)]
 pub enum Role {
     /// The name of the crate.
     CrateName,
@@ -58,7 +58,7 @@ pub enum Role {
 }
 
 /// What a compile makes.
-#[derive(Clone, Copy, Debug)]
+#[derive(Clone, Copy)]
 pub enum CrateType {
     /// A program.
     Bin,
@@ -67,7 +67,7 @@ pub enum CrateType {
 }
 
 /// The values of a command line by what they are for, each list in the order of the words.
-#[derive(Debug, Drop)]
+#[derive(Drop)]
 pub struct Arguments {
     /// Those after `--crate-name`.
     pub crate_names: Items<Text>,
@@ -84,7 +84,7 @@ pub struct Arguments {
 }
 
 /// A compile, as its words say it.
-#[derive(Debug, Drop)]
+#[derive(Drop)]
 pub struct CommandLine {
     /// What is made, as the first crate type says.
     pub crate_type: CrateType,
@@ -103,6 +103,23 @@ pub struct CommandLine {
     pub externs: Items<Text>,
     /// The conditions that are given.
     pub conditions: Items<Text>,
+}
+
+/// What of a compile stands once, or follows from what does.
+#[derive(Drop)]
+pub struct Settled {
+    /// What is made.
+    pub crate_type: CrateType,
+    /// The name of the crate.
+    pub crate_name: Text,
+    /// The file of the image inside `out_dir`.
+    pub image: RelativePath,
+    /// The file of the dep-info inside `out_dir`.
+    pub dep_info: RelativePath,
+    /// The folder into which files are written.
+    pub out_dir: PathText,
+    /// The source, as written.
+    pub source: Text,
 }
 
 /// Whether the next word is the value of this one.
@@ -289,6 +306,27 @@ fn folder_of(alloc: Global, text: &str) -> Result<PathText, CommandLineFault>
     }
 }
 
+/// What the values settle. Bad where one that must stand once does not, or where a name or a folder is none.
+fn settled_by(alloc: Global, said: &Arguments) -> Result<Settled, CommandLineFault>
+    ensures { Gives fault.OutOfMemory (λ settled. settled) result (settled_by said.now) }
+{
+    let crate_name = only(alloc, said.crate_names.as_slice())?;
+    let crate_type = crate_type_of(first(said.crate_types.as_slice())?.as_str());
+    let folder = only(alloc, said.out_dirs.as_slice())?;
+    let source = only(alloc, said.sources.as_slice())?;
+    let image = file_named(alloc, image_name(alloc, crate_type, crate_name.as_str())?)?;
+    let dep_info = file_named(alloc, dep_info_name(alloc, crate_name.as_str())?)?;
+    let out_dir = folder_of(alloc, folder.as_str())?;
+    Ok(Settled {
+        crate_type,
+        crate_name,
+        image,
+        dep_info,
+        out_dir,
+        source,
+    })
+}
+
 /// The compile that words say: `--crate-name` and `--out-dir` once, `--crate-type` at least once, any of the
 /// other options with their values, settings in one word, and one word more, the source. Bad for anything else,
 /// and, by our own choice, for an out folder that is no absolute path and for a crate name that names no files
@@ -300,20 +338,14 @@ pub(crate) fn command_line_of(
     ensures { Gives fault.OutOfMemory (λ line. line) result (command_line_of words.now) }
 {
     let said = arguments_of(alloc, words)?;
-    let crate_name = only(alloc, said.crate_names.as_slice())?;
-    let crate_type = crate_type_of(first(said.crate_types.as_slice())?.as_str());
-    let folder = only(alloc, said.out_dirs.as_slice())?;
-    let source = only(alloc, said.sources.as_slice())?;
-    let image = file_named(alloc, image_name(alloc, crate_type, crate_name.as_str())?)?;
-    let dep_info = file_named(alloc, dep_info_name(alloc, crate_name.as_str())?)?;
-    let out_dir = folder_of(alloc, folder.as_str())?;
+    let settled = settled_by(alloc, &said)?;
     Ok(CommandLine {
-        crate_type,
-        crate_name,
-        image,
-        dep_info,
-        out_dir,
-        source,
+        crate_type: settled.crate_type,
+        crate_name: settled.crate_name,
+        image: settled.image,
+        dep_info: settled.dep_info,
+        out_dir: settled.out_dir,
+        source: settled.source,
         externs: said.externs,
         conditions: said.conditions,
     })

@@ -1,10 +1,12 @@
 //! A compile: its source, its image and its reply.
 
 ghost use Rattle.std.specs.Prelude.{◌≡◌, ◌++◌, [], IfOk, OnOk, IfErr, IsTrue, ℕ, List};
-ghost use Rattle.pb_mini.specs.Effects.{followed_by, names_once};
+ghost use Rattle.pb_mini.specs.Effects.{Does, followed_by, names_once, no_effects, reads};
 ghost use Rattle.pb_mini.specs.Lines.{lines_of};
 ghost use Rattle.pb_mini.specs.Verbs.{effects_from};
-ghost use Rattle.pb_mini.specs.Compile.{text_of, text_at, no_source, source_effects, effects_of, title, image_text, replied, files_of, compiled};
+ghost use Rattle.pb_mini.specs.Compile.{text_of, text_at, no_source, source_of, source_effects, effects_of, title, image_text, replied, files_of, compiled};
+ghost use Rattle.pb_mini.specs.DepInfo.{dep_info_text};
+ghost use Rattle.pb_place.specs.Paths.{below};
 ghost use Rattle.pb_place.specs.declared.child.ViewFault.TheVariants as view_fault;
 
 use crate::buffer::Buffer;
@@ -87,16 +89,44 @@ fn add_source<V: View>(
     ensures done { IsTrue V.tells → OnOk result (effects.new ≡ followed_by effects.old (source_effects line.now pairs (V.shown view.now) source.now text.now)) }
     ensures failed { IfErr result (λ e. e ≡ ViewFault.Failed → V.fails view.now) }
 {
-    let Some(source) = source else {
-        add_no_source(alloc, effects)?;
-        return Ok(());
-    };
-    let Some(text) = text else {
-        add_no_source(alloc, effects)?;
-        return Ok(());
-    };
-    let scope = Scope::new(alloc, line, pairs, source)?;
-    add_text(alloc, effects, &scope, view, text.as_str())
+    match (source, text) {
+        (Some(source), Some(text)) => {
+            let scope = Scope::new(alloc, line, pairs, source)?;
+            add_text(alloc, effects, &scope, view, text.as_str())
+        }
+        _ => {
+            add_no_source(alloc, effects)?;
+            Ok(())
+        }
+    }
+}
+
+/// The path of a source, and its text.
+#[derive(Drop)]
+pub struct Source {
+    /// None where the words name no absolute path.
+    pub path: Option<PathText>,
+    /// None where no file is there, or it is not UTF-8.
+    pub text: Option<Text>,
+}
+
+/// The source of a compile.
+fn source_of<V: View>(alloc: Global, line: &CommandLine, view: &V) -> Result<Source, ViewFault>
+    ensures source { IsTrue V.tells → IfOk result (λ source. source ≡ source_of line.now (V.shown view.now)) }
+    ensures failed { IfErr result (λ e. e ≡ ViewFault.Failed → V.fails view.now) }
+{
+    let path = path_of(alloc, line.source.as_str())?;
+    let text = text_at(alloc, view, &path)?;
+    Ok(Source { path, text })
+}
+
+/// That a source was read.
+fn read_effects(alloc: Global, source: &Option<PathText>) -> Result<Effects, AllocError>
+    ensures { IfOk result (λ effects. Does effects no_effects (reads source.now)) }
+{
+    let mut effects = Effects::new(alloc);
+    add_path(&mut effects, source.copy(alloc)?)?;
+    Ok(effects)
 }
 
 /// All that a compile does, each name once.
@@ -109,11 +139,17 @@ fn effects_of<V: View>(
     ensures effects { IsTrue V.tells → IfOk result (λ effects. effects ≡ names_once (effects_of line.now pairs (V.shown view.now))) }
     ensures failed { IfErr result (λ e. e ≡ ViewFault.Failed → V.fails view.now) }
 {
-    let source = path_of(alloc, line.source.as_str())?;
-    let text = text_at(alloc, view, &source)?;
-    let mut effects = Effects::new(alloc);
-    add_path(&mut effects, source.copy(alloc)?)?;
-    add_source(alloc, &mut effects, line, pairs, view, &source, &text)?;
+    let source = source_of(alloc, line, view)?;
+    let mut effects = read_effects(alloc, &source.path)?;
+    add_source(
+        alloc,
+        &mut effects,
+        line,
+        pairs,
+        view,
+        &source.path,
+        &source.text,
+    )?;
     Ok(effects)
 }
 
@@ -138,6 +174,33 @@ fn image_text(alloc: Global, line: &CommandLine, lines: &[u8]) -> Result<Bytes, 
     Ok(text.into_bytes())
 }
 
+/// The image as a file.
+fn image_file(
+    alloc: Global,
+    line: &CommandLine,
+    lines: &[u8],
+) -> Result<(RelativePath, Bytes), AllocError>
+    ensures { IfOk result (λ file. file ≡ (line.now.image, image_text line.now lines.now)) }
+{
+    let path = line.image.copy(alloc)?;
+    let text = image_text(alloc, line, lines)?;
+    Ok((path, text))
+}
+
+/// The dep-info as a file.
+fn dep_info_file(
+    alloc: Global,
+    line: &CommandLine,
+    names: Names,
+) -> Result<(RelativePath, Bytes), AllocError>
+    ensures { IfOk result (λ file. file ≡ (line.now.dep_info, dep_info_text (below line.now.out_dir line.now.image) names)) }
+{
+    let output = line.out_dir.below(alloc, &line.image)?;
+    let text = dep_info_text(alloc, &output, names)?;
+    let path = line.dep_info.copy(alloc)?;
+    Ok((path, Bytes::new(text)))
+}
+
 /// The files of a compile: the image where it is good, and the dep-info.
 fn files_of(
     alloc: Global,
@@ -148,14 +211,12 @@ fn files_of(
 ) -> Result<Items<(RelativePath, Bytes)>, AllocError>
     ensures { IfOk result (λ files. files ≡ files_of line.now is_bad lines.now names) }
 {
+    let dep_info = dep_info_file(alloc, line, names)?;
     let mut files = Items::new(alloc);
     if !is_bad {
-        let image = image_text(alloc, line, lines)?;
-        files.push((line.image.copy(alloc)?, image))?;
+        files.push(image_file(alloc, line, lines)?)?;
     }
-    let output = line.out_dir.below(alloc, &line.image)?;
-    let dep_info = dep_info_text(alloc, &output, names)?;
-    files.push((line.dep_info.copy(alloc)?, Bytes::new(dep_info)))?;
+    files.push(dep_info)?;
     Ok(files)
 }
 

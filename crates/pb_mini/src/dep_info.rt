@@ -1,7 +1,7 @@
 //! The dep-info file: what a compile read.
 
 ghost use Rattle.std.specs.Prelude.{◌≡◌, ◌++◌, IfOk, OnOk, ℕ, List};
-ghost use Rattle.pb_mini.specs.DepInfo.{spelled, paths_text, value_text, variable_text, variables_text, dep_info_text};
+ghost use Rattle.pb_mini.specs.DepInfo.{rule_text, spelled, paths_text, value_text, variable_text, variables_text, dep_info_text};
 
 use pb_data::{Mentions, Table, Text};
 use pb_place::PathText;
@@ -9,7 +9,7 @@ use std::alloc::{AllocError, Global};
 
 /// The names of all that a compile read, each once, in order of first mention. The small compiler's reply rests on
 /// nothing else that may change, but for the files of other units.
-#[derive(Debug, Drop)]
+#[derive(Drop)]
 pub struct Names {
     /// Files, also those that were not there.
     pub paths: Mentions,
@@ -65,6 +65,18 @@ fn push_variables(text: &mut Vec<u8>, variables: &[(Text, Option<Text>)]) -> Res
     Ok(())
 }
 
+/// The rule: the output, a colon, and the paths.
+fn rule_text(alloc: Global, output: &PathText, paths: &[Text]) -> Result<Vec<u8>, AllocError>
+    ensures { IfOk result (λ text. text.items ≡ rule_text output.now paths.now) }
+{
+    let mut text = Vec::new(alloc);
+    push_spelled(&mut text, output.as_str())?;
+    text.push(b':')?;
+    push_paths(&mut text, paths)?;
+    text.push(b'\n')?;
+    Ok(text)
+}
+
 /// The dep-info of a compile, in the form that The Cargo Book, in "Build Cache", says is like a makefile's: the output,
 /// a colon, and the paths, with `\ ` for each space. Then a line `# env-dep:NAME=VALUE` for each variable, without
 /// `=VALUE` where it is not set, as real compilers add them.
@@ -75,11 +87,7 @@ pub(crate) fn dep_info_text(
 ) -> Result<Vec<u8>, AllocError>
     ensures { IfOk result (λ text. text.items ≡ dep_info_text output.now names) }
 {
-    let mut text = Vec::new(alloc);
-    push_spelled(&mut text, output.as_str())?;
-    text.push(b':')?;
-    push_paths(&mut text, names.paths.as_slice())?;
-    text.push(b'\n')?;
+    let mut text = rule_text(alloc, output, names.paths.as_slice())?;
     let variables = names.variables.into_items(alloc)?;
     push_variables(&mut text, variables.as_slice())?;
     Ok(text)

@@ -8,7 +8,7 @@ use pb_json::json_string;
 use std::alloc::{AllocError, Global};
 
 /// How bad a diagnostic is.
-#[derive(Clone, Copy, Debug)]
+#[derive(Clone, Copy)]
 pub enum Level {
     /// The compile goes on, and is good if nothing else is wrong.
     Warning,
@@ -17,7 +17,7 @@ pub enum Level {
 }
 
 /// What the compiler says of a line.
-#[derive(Debug, Drop)]
+#[derive(Drop)]
 pub struct Diagnostic {
     /// How bad it is.
     pub level: Level,

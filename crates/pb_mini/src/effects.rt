@@ -12,7 +12,7 @@ use pb_place::PathText;
 use std::alloc::{AllocError, Global};
 
 /// What the lines of a source do together.
-#[derive(Debug, Drop)]
+#[derive(Drop)]
 pub struct Effects {
     /// The lines of the image after its first, each with its line feed.
     pub image: Buffer,

@@ -9,7 +9,7 @@ use pb_place::{RelativePath, Reply};
 use std::alloc::Global;
 
 /// What a script has written so far.
-#[derive(Debug, Drop)]
+#[derive(Drop)]
 pub struct Output {
     /// All that it wrote to standard output.
     pub stdout: Buffer,

@@ -10,7 +10,7 @@ use pb_data::{Text, TryCopy};
 use std::alloc::Global;
 
 /// What words ask for.
-#[derive(Debug, Drop)]
+#[derive(Drop)]
 pub enum Request {
     /// The version of the compiler.
     Version,

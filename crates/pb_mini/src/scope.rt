@@ -11,7 +11,7 @@ use pb_place::PathText;
 use std::alloc::{AllocError, Global};
 
 /// What the lines of a source may name: libraries, conditions and variables, and the folder at which paths begin.
-#[derive(Debug, Drop)]
+#[derive(Drop)]
 pub struct Scope {
     /// The folder of the source.
     pub folder: PathText,

@@ -17,7 +17,7 @@ use pb_place::{PathText, RelativePath, Reply, View, ViewFault};
 use std::alloc::{AllocError, Global};
 
 /// What the first word of a line says to do.
-#[derive(Clone, Copy, Debug)]
+#[derive(Clone, Copy)]
 pub enum Deed {
     /// To print the rest.
     Print,

@@ -18,7 +18,7 @@ use pb_place::{PathText, View, ViewFault};
 use std::alloc::{AllocError, Global};
 
 /// The first word of a line.
-#[derive(Clone, Copy, Debug)]
+#[derive(Clone, Copy)]
 pub enum Verb {
     /// The lines of a library go into the image.
     Use,

@@ -10,11 +10,12 @@ use Rattle.pb_place.specs.Paths.{parsed}
 use Rattle.pb_place.specs.declared.path.PathFault.{PathFault}
 use Rattle.pb_place.specs.World.{World, put_reply}
 use Rattle.pb_mini.specs.Answer.{request_of, replied_if, answered, compile_in}
-use Rattle.pb_mini.specs.CommandLine.{takes_value, role_of, role_alone, is_setting, no_arguments, with_value, arguments_after, only, first, file_named, image_name, dep_info_name, crate_type_of, command_line_of, folder_in}
+use Rattle.pb_mini.specs.CommandLine.{takes_value, role_of, role_alone, is_setting, no_arguments, with_value, arguments_after, only, first, file_named, image_name, dep_info_name, crate_type_of, settled_by, command_line_of, folder_in}
 use Rattle.pb_mini.specs.declared.command_line.Role.{Role}
 use Rattle.pb_mini.specs.declared.command_line.Role.TheVariants.{CrateName, CrateType, OutDir, Source, Extern, Condition, Unused}
 use Rattle.pb_mini.specs.declared.command_line.Arguments.{Arguments}
 use Rattle.pb_mini.specs.declared.command_line.CommandLine.{CommandLine}
+use Rattle.pb_mini.specs.declared.command_line.Settled.{Settled}
 use Rattle.pb_mini.specs.declared.command_line.CommandLineFault.{CommandLineFault}
 use Rattle.pb_mini.specs.declared.request.Request.{Request}
 use Rattle.pb_mini.specs.declared.request.Request.TheVariants.{Version, Run, Compile}
@@ -139,18 +140,25 @@ line_ok line = Ok line
 same_line : (a b : CommandLine) → line_ok a ≡ line_ok b → a ≡ b
 same_line a b h = cc
 
+abbrev settled_ok : Settled → Result Settled CommandLineFault
+settled_ok settled = Ok settled
+
+same_settled : (a b : Settled) → settled_ok a ≡ settled_ok b → a ≡ b
+same_settled a b h = cc
+
 compile_line : (words : List (List ℕ)) (line : CommandLine) → command_line_of words ≡ Ok line → option_and_then path_of (first_out_dir None words) ≡ Some line.out_dir
 compile_line words line is =
     let said = bind_ok (arguments_after None words) _ line is in
-    let name = bind_ok (only said.0.crate_names) _ line said.1.1 in
-    let type = bind_ok (first said.0.crate_types) _ line name.1.1 in
-    let folder = bind_ok (only said.0.out_dirs) _ line type.1.1 in
-    let source = bind_ok (only said.0.sources) _ line folder.1.1 in
-    let image = bind_ok (file_named (image_name (crate_type_of type.0) name.0)) _ line source.1.1 in
-    let dep_info = bind_ok (file_named (dep_info_name name.0)) _ line image.1.1 in
-    let out_dir = bind_ok (folder_in (parsed folder.0)) _ line dep_info.1.1 in
+    let settled = bind_ok (settled_by said.0) _ line said.1.1 in
+    let name = bind_ok (only said.0.crate_names) _ settled.0 settled.1.0 in
+    let type = bind_ok (first said.0.crate_types) _ settled.0 name.1.1 in
+    let folder = bind_ok (only said.0.out_dirs) _ settled.0 type.1.1 in
+    let source = bind_ok (only said.0.sources) _ settled.0 folder.1.1 in
+    let image = bind_ok (file_named (image_name (crate_type_of type.0) name.0)) _ settled.0 source.1.1 in
+    let dep_info = bind_ok (file_named (dep_info_name name.0)) _ settled.0 image.1.1 in
+    let out_dir = bind_ok (folder_in (parsed folder.0)) _ settled.0 dep_info.1.1 in
     ap (option_and_then path_of) (first_is None words said.0 folder.0 said.1.0 folder.1.0) ∙ folder_path (parsed folder.0) out_dir.0 out_dir.1.0
-    ∙ ap (λ l. Some l.out_dir) (same_line _ line out_dir.1.1)
+    ∙ ap (λ s. Some s.out_dir) (same_settled _ settled.0 out_dir.1.1) ∙ ap (λ l. Some l.out_dir) (same_line _ line settled.1.1)
 
 -- words that ask for a compile
 abbrev asked : CommandLine → Result Request CommandLineFault

@@ -13,7 +13,7 @@ use pb_place::{PathFault, PathText, View, ViewFault};
 use std::alloc::{AllocError, Global};
 
 /// An option that waits for its value.
-#[derive(Clone, Copy, Debug, PartialEq, Eq)]
+#[derive(Clone, Copy, PartialEq, Eq)]
 pub(crate) enum Waiting {
     /// The one that says the out folder.
     Folder,

@@ -4,7 +4,7 @@ use pb_data::{Items, Text};
 use std::alloc::{AllocError, AllocFailed};
 
 /// A node of the graph.
-#[derive(Debug, Drop)]
+#[derive(Drop)]
 pub struct Node {
     /// What it is known by; no two nodes have the same.
     pub key: Text,
@@ -13,7 +13,7 @@ pub struct Node {
 }
 
 /// A node in its place in an order.
-#[derive(Debug, Drop)]
+#[derive(Drop)]
 pub struct Step {
     /// The number of the node.
     pub node: usize,

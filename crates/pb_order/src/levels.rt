@@ -9,7 +9,7 @@ use crate::graph::Node;
 use std::alloc::{AllocError, Global};
 
 /// How much a node reaches.
-#[derive(Clone, Copy, Debug)]
+#[derive(Clone, Copy)]
 pub struct Extent {
     pub node: usize,
     /// How many nodes it reaches.

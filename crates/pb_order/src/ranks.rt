@@ -10,7 +10,7 @@ use pb_data::{Text, TryCopy};
 use std::alloc::{AllocError, Global};
 
 /// A node's place in the order: by level, and then by the bytes of the key.
-#[derive(Debug, Drop, PartialEq, Eq, PartialOrd, Ord)]
+#[derive(Drop, PartialEq, Eq, PartialOrd, Ord)]
 pub struct Rank {
     pub level: usize,
     pub key: Text,

@@ -1,36 +1,83 @@
--- What a place in memory tells: its maps, its counters and its last fault.
-use Rattle.std.specs.Prelude.{ℕ, List, [], Option, None, refl}
+-- What a place in memory tells: its maps, its counters and its last fault, its children in flight, and which calls will fail.
+use Rattle.std.specs.Prelude.{◌≡◌, ℕ, ◌==◌, ◌||◌, ◌-◌, Bool, true, false, not, List, [], ◌∷◌, Option, Some, None, refl, if◌then◌else◌}
+use Rattle.std.specs.List.{list_any}
 use Rattle.std.specs.FinMap as map
-use Rattle.std.specs.BTreeMap.{BTreeMap}
+use Rattle.std.specs.Str.{bytes_eq}
 use Rattle.std.specs.Coded.{Coded, code_by, coded×, coded_ℕ, coded_list, coded_option}
-use Rattle.pb_place.specs.World.{World, Map}
-use Rattle.pb_place.specs.Counts.{Counts}
-use Rattle.pb_place.specs.Private.{failure_code}
-use Rattle.pb_place.specs.declared.place.Failure.{Failure}
-use Rattle.pb_place.specs.declared.memory.Tally.{Tally}
+use Rattle.pb_place.specs.Paths.{last_part}
+use Rattle.pb_place.specs.World.{World}
+use Rattle.pb_place.specs.Counts.{Counts, no_calls}
+use Rattle.pb_place.specs.Codes.{flight_code, world_code, counts_code}
+use Rattle.pb_place.specs.Private.{start_code}
+use Rattle.pb_place.specs.InFlight.{flights_in, entry_at}
+use Rattle.pb_place.specs.Tallies.{with_flights}
+use Rattle.pb_place.specs.declared.in_flight.Flying.{Flying}
+use Rattle.pb_place.specs.declared.in_flight.Death.{Death}
+use Rattle.pb_place.specs.declared.place.StartFault.{StartFault}
 
--- what a place in memory holds
+-- what a place in memory holds: its maps, its counters without what flies, and the children in flight, each with the fault of its end if it has one; the most that ever flew; the fuse, 0 where no call is to fail, and else the number of calls to the one that fails; and the starts that will fail
 pub record Held : Type 0 where
   pub world : World
-  pub counts : Counts
+  pub tally : Counts
+  pub flying : List (Flying (Option StartFault))
+  pub most : ℕ
+  pub fuse : ℕ
+  pub deaths : List Death
 
-abbrev pub map_code : Coded Map
-map_code = map.code (coded_list coded_ℕ) (coded_list coded_ℕ)
+-- its counters
+abbrev pub counts_in : Held → Counts
+counts_in h = with_flights (flights_in h.flying) h.tally
 
--- as a tuple of its maps, its counters, the last fault and where it came
+-- a place in memory that holds nothing, of which no call was made
+abbrev pub no_held : Held
+no_held = record { world = record { files = map.empty; variables = map.empty }; tally = no_calls; flying = []; most = 0; fuse = 0; deaths = [] }
+
+-- whether a call may fail: a fuse is set, a death waits, or a child in flight will not answer
+abbrev pub is_doomed : Flying (Option StartFault) → Bool
+is_doomed f = not (is_none f.kept)
+  where
+    is_none : Option StartFault → Bool
+    is_none None = true
+    is_none (Some e) = false
+
+abbrev pub may_fail : Held → Bool
+may_fail h = not (h.fuse == 0) || (has_some h.deaths || list_any is_doomed h.flying)
+  where
+    has_some : List Death → Bool
+    has_some [] = false
+    has_some (d ∷ ds) = true
+
+-- the fault with which the end of a ticket will be answered, if one will
+abbrev pub fate_in : Option (Flying (Option StartFault)) → Option StartFault
+fate_in None = None
+fate_in (Some f) = f.kept
+
+abbrev pub fate_at : ℕ → List (Flying (Option StartFault)) → Option StartFault
+fate_at ticket flying = fate_in (entry_at ticket flying)
+
+-- the first death that waits for a child with this folder, and the others
+abbrev pub is_for : Option (List ℕ) → Death → Bool
+is_for None d = false
+is_for (Some out) d = bytes_eq d.key (last_part out)
+
+abbrev pub fate_of : Option (List ℕ) → List Death → Option StartFault
+fate_of out [] = None
+fate_of out (d ∷ ds) = if is_for out d then Some d.kind else fate_of out ds
+
+abbrev pub other_deaths : Option (List ℕ) → List Death → List Death
+other_deaths out [] = []
+other_deaths out (d ∷ ds) = if is_for out d then ds else d ∷ other_deaths out ds
+
+abbrev pub flying_code : Coded (Flying (Option StartFault))
+flying_code = code_by _ (coded× flight_code (coded_option start_code)) (λ f. (f.flight, f.kept)) (λ t. record { flight = t.0; kept = t.1 }) (λ _. refl)
+
+abbrev pub death_code : Coded Death
+death_code = code_by _ (coded× (coded_list coded_ℕ) start_code) (λ d. (d.key, d.kind)) (λ t. record { key = t.0; kind = t.1 }) (λ _. refl)
+
 abbrev pub held_code : Coded Held
-held_code =
-    code_by (Map × (Map × (ℕ × (ℕ × (ℕ × (Option Failure × List ℕ)))))) (coded× map_code (coded× map_code (coded× coded_ℕ (coded× coded_ℕ (coded× coded_ℕ (coded× (coded_option failure_code) (coded_list coded_ℕ)))))))
-    (λ h. (h.world.files, (h.world.variables, (h.counts.failures, (h.counts.starts, (h.counts.late, (h.counts.last, h.counts.named)))))))
-    (λ t. record {
-      world = record { files = t.0; variables = t.1.0 };
-      counts = record { failures = t.1.1.0; starts = t.1.1.1.0; late = t.1.1.1.1.0; last = t.1.1.1.1.1.0; named = t.1.1.1.1.1.1 };
-    })
-    (λ _. refl)
-
--- the files of a sorted map
-abbrev pub files_of : BTreeMap (List ℕ) (List ℕ) → Map
-files_of m = map.from_entries m.entries
+held_code = code_by _ (coded× world_code (coded× counts_code (coded× (coded_list flying_code) (coded× coded_ℕ (coded× coded_ℕ (coded_list death_code))))))
+    (λ h. (h.world, (h.tally, (h.flying, (h.most, (h.fuse, h.deaths))))))
+    (λ t. record { world = t.0; tally = t.1.0; flying = t.1.1.0; most = t.1.1.1.0; fuse = t.1.1.1.1.0; deaths = t.1.1.1.1.1 }) (λ _. refl)
 
 -- the world with a variable set, and with one taken away
 abbrev pub set : List ℕ → List ℕ → World → World
@@ -38,7 +85,3 @@ set name value w = record w { variables = map.insert w.variables name value }
 
 abbrev pub unset : List ℕ → World → World
 unset name w = record w { variables = map.remove w.variables name }
-
--- the counters of a tally. No call of a place in memory fails but for want of memory, so no fault came
-abbrev pub counts_of : Tally → Counts
-counts_of t = record { failures = t.failures; starts = t.starts; late = t.late; last = None; named = [] }

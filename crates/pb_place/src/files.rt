@@ -12,10 +12,11 @@ ghost use Rattle.std.specs.BTreeMap.Range.{entries_between};
 ghost use Rattle.std.specs.FinMap as map;
 ghost use Rattle.std.specs.Option.{option_copied};
 ghost use Rattle.pb_place.specs.Paths.{is_path, stem, is_below, is_at_or_below};
-ghost use Rattle.pb_place.specs.World.{is_same_path};
-ghost use Rattle.pb_place.specs.Memory.{files_of};
+ghost use Rattle.pb_place.specs.World.{is_same_path, AgreeBut, PartlyRemovedAt};
+ghost use Rattle.pb_place.specs.Copies.{put_one, put_from, half_removed};
+ghost use Rattle.pb_place.specs.Maps.{files_of};
 
-use crate::path::{PathText, stem};
+use crate::path::{PathText, is_at_or_below, stem};
 use pb_data::{Bytes, Items, Text, TryCopy};
 use std::alloc::{AllocError, Global};
 use std::collections::BTreeMap;
@@ -34,7 +35,7 @@ impl Model for FileMap {
     ghost use Rattle.std.specs.List.{list_all};
     ghost use Rattle.std.specs.FinMap as map;
     ghost use Rattle.pb_place.specs.World.{Map};
-    ghost use Rattle.pb_place.specs.Memory.{map_code};
+    ghost use Rattle.pb_place.specs.Maps.{map_code};
     ghost use Rattle.pb_place.specs.Paths.{is_path};
 
     ghost Value = { Map };
@@ -84,6 +85,20 @@ impl FileMap {
         Ok(paths_of(alloc, names)?)
     }
 
+    /// The paths of the files below a folder that are not at or below another path, in byte order.
+    pub fn list_outside(
+        &self,
+        alloc: Global,
+        folder: &PathText,
+        left_out: &PathText,
+    ) -> Result<Items<PathText>, AllocError>
+        ensures { IfOk result (λ paths. paths ≡ map.keys (map.retain_keys (map.retain_keys self.now (λ q. not (is_at_or_below left_out.now q))) (is_below folder.now))) }
+    {
+        let names = names_below(alloc, &self.inside, folder.as_str())?;
+        let names = names_outside(alloc, names, left_out)?;
+        Ok(paths_of(alloc, names)?)
+    }
+
     /// Removes the file at a path and the files below it. Where memory is refused, nothing changes.
     pub fn remove(&mut self, alloc: Global, path: &PathText) -> Result<(), AllocError>
         ensures ok { OnOk result (self.new ≡ map.retain_keys self.old (λ q. not (is_at_or_below path.now q))) }
@@ -92,6 +107,63 @@ impl FileMap {
         let names = names_below(alloc, &self.inside, path.as_str())?;
         remove_names(&mut self.inside, names.as_slice());
         self.inside.remove(path.as_text());
+        Ok(())
+    }
+}
+
+impl FileMap {
+    /// Removes the files strictly below a folder. Where memory is refused, nothing changes.
+    pub fn remove_below(&mut self, alloc: Global, folder: &PathText) -> Result<(), AllocError>
+        ensures ok { OnOk result (self.new ≡ map.retain_keys self.old (λ q. not (is_below folder.now q))) }
+        ensures err { OnErr result (self.new ≡ self.old) }
+    {
+        let names = names_below(alloc, &self.inside, folder.as_str())?;
+        remove_names(&mut self.inside, names.as_slice());
+        Ok(())
+    }
+
+    /// Removes the first half, rounded down and in byte order, of the file at a path and the files below it. Where
+    /// memory is refused, nothing changes.
+    pub fn remove_half(&mut self, alloc: Global, path: &PathText) -> Result<(), AllocError>
+        ensures ok { OnOk result (self.new ≡ half_removed path.now self.old) }
+        ensures partly { OnOk result (PartlyRemovedAt path.now self.old self.new) }
+        ensures err { OnErr result (self.new ≡ self.old) }
+    {
+        let names = names_at_or_below(alloc, &self.inside, path)?;
+        let names = names.as_slice();
+        remove_names(&mut self.inside, &names[..names.len() / 2]);
+        Ok(())
+    }
+
+    /// Puts the file of another map that stands at a path, if one does. Where memory is refused, nothing changes.
+    fn take_over(
+        &mut self,
+        alloc: Global,
+        from: &FileMap,
+        path: &PathText,
+    ) -> Result<(), AllocError>
+        ensures ok { OnOk result (self.new ≡ put_one path.now (map.get from.now path.now) self.old) }
+        ensures err { OnErr result (self.new ≡ self.old) }
+    {
+        match from.get(path) {
+            Some(bytes) => self.insert(alloc, path, bytes.as_slice()),
+            None => Ok(()),
+        }
+    }
+
+    /// Puts the files of another map that stand at some paths, in turn. Where memory is refused, some of them.
+    pub fn put_from(
+        &mut self,
+        alloc: Global,
+        from: &FileMap,
+        paths: &[PathText],
+    ) -> Result<(), AllocError>
+        ensures ok { OnOk result (self.new ≡ put_from from.now paths.now self.old) }
+        ensures only { (may : List ℕ → Bool) → AgreeBut may map.empty from.now → AgreeBut may self.old self.new }
+    {
+        for path in paths {
+            self.take_over(alloc, from, path)?;
+        }
         Ok(())
     }
 }
@@ -132,11 +204,47 @@ fn names_below(
 ) -> Result<Vec<Text>, AllocError>
     ensures part { IfOk result (λ names. names.items ≡ keys_of (filter (λ e. is_below folder.now e.0) files.now.entries)) }
     ensures keys { IfOk result (λ names. names.items ≡ map.keys (map.retain_keys (files_of files.now) (is_below folder.now))) }
+    ensures ordered { OnOk result (IsOrdered (slice_cmp nat_cmp) files.now) }
 {
     let low = bound(alloc, folder, "/")?;
     let high = bound(alloc, folder, "0")?;
     let names = names_between(alloc, files, &low, &high)?;
     Ok(names)
+}
+
+/// The keys at or below a path, in byte order.
+fn names_at_or_below(
+    alloc: Global,
+    files: &BTreeMap<Text, Bytes>,
+    path: &PathText,
+) -> Result<Vec<Text>, AllocError>
+    ensures part { IfOk result (λ names. names.items ≡ keys_of (filter (λ e. is_at_or_below path.now e.0) files.now.entries)) }
+    ensures ordered { OnOk result (IsOrdered (slice_cmp nat_cmp) files.now) }
+{
+    let mut names = Vec::new(alloc);
+    for (name, _) in files {
+        if is_at_or_below(path.as_str(), name.as_str()) {
+            names.push(name.copy(alloc)?)?;
+        }
+    }
+    Ok(names)
+}
+
+/// Those of some texts that are neither a folder nor below it.
+fn names_outside(
+    alloc: Global,
+    names: Vec<Text>,
+    left_out: &PathText,
+) -> Result<Vec<Text>, AllocError>
+    ensures { IfOk result (λ kept. kept.items ≡ filter (λ q. not (is_at_or_below left_out.now q)) names.items) }
+{
+    let mut kept = Vec::new(alloc);
+    for name in names {
+        if !is_at_or_below(left_out.as_str(), name.as_str()) {
+            kept.push(name)?;
+        }
+    }
+    Ok(kept)
 }
 
 /// Paths of texts that are paths.
@@ -171,7 +279,7 @@ pub struct TextMap {
 impl Model for TextMap {
     ghost use Rattle.std.specs.FinMap as map;
     ghost use Rattle.pb_place.specs.World.{Map};
-    ghost use Rattle.pb_place.specs.Memory.{map_code};
+    ghost use Rattle.pb_place.specs.Maps.{map_code};
 
     ghost Value = { Map };
 

@@ -4,18 +4,23 @@
 pub mod child;
 pub mod command;
 pub mod files;
+pub mod flight;
+pub mod in_flight;
 pub mod laws;
 pub mod memory;
 pub mod path;
 pub mod place;
 pub mod relative;
+pub mod seen;
 pub mod sink;
 pub mod taken_apart;
+pub mod tally;
 pub mod whole;
 
 pub use child::{Child, Reply, View, ViewFault};
 pub use command::{Command, Ended};
 pub use files::{FileMap, TextMap};
+pub use flight::Flight;
 pub use laws::{
     changes_stay_in_folders, children_see_sources_and_folders, failing_calls_are_told,
     failing_calls_spare, folders_nest, last_word_stands, maps_look_up, parsing_keeps_paths,
@@ -25,5 +30,7 @@ pub use memory::Memory;
 pub use path::{PathFault, PathText};
 pub use place::{Failure, Place, PlaceFault, StartFault};
 pub use relative::RelativePath;
+pub use seen::Seen;
 pub use sink::{Out, Over};
+pub use tally::Tally;
 pub use whole::write_all;

@@ -1,9 +1,10 @@
 //! The outside world: files, variables and children, each call counted.
 
-ghost use Rattle.std.specs.Prelude.{◌≡◌, ◌≢◌, ◌⊎◌, Bool, IfOk, IfErr, OnOk, OnErr, IsTrue};
+ghost use Rattle.std.specs.Prelude.{◌≡◌, ◌≢◌, ◌⊎◌, ℕ, ◌+◌, ◌≤◌, Bool, true, false, max, length, IfOk, IfErr, OnOk, OnErr, IsTrue, IfSome};
 ghost use Rattle.std.specs.FinMap as map;
 ghost use Rattle.pb_place.specs.World.{World, Answers, written, removed, listed, Torn, PartlyRemoved, ChangesOnlyInSome, Ends};
-ghost use Rattle.pb_place.specs.Counts.{Counts, counted, counted_start};
+ghost use Rattle.pb_place.specs.Counts.{Counts, counted, counted_start, counted_spawn, counted_finish};
+ghost use Rattle.pb_place.specs.Flights.{flight_of, is_flying, flight_at, most_after, StaysStill, StaysStillBut, LandsAs};
 ghost use Rattle.pb_place.specs.declared.place.PlaceFault.TheVariants as place_fault;
 ghost use Rattle.pb_place.specs.declared.place.StartFault.TheVariants as start_fault;
 
@@ -114,6 +115,13 @@ pub trait Place {
     /// answers and to what it was called with.
     ghost counts: { Self → Counts };
 
+    /// The most children that ever were in flight at one moment.
+    ghost most: { Self → ℕ };
+
+    /// What the child of this ticket sees, and what its folder holds, stood still since it was spawned. Each
+    /// call keeps it for the children for which it left both alone.
+    ghost still: { Self → ℕ → Type 0 };
+
     /// Whether a call may fail for another reason than want of memory.
     ghost fails: { Self → Type 0 };
 
@@ -123,7 +131,9 @@ pub trait Place {
         ensures same { IsTrue tells → world self.new ≡ world self.old }
         ensures fault { IfErr result (λ e. e ≢ PlaceFault.OutOfMemory → e ≡ PlaceFault.Read) }
         ensures fails { IfErr result (λ e. e ≢ PlaceFault.OutOfMemory → fails self.old) }
-        ensures counts { counts self.new ≡ counted path.now result (counts self.old) };
+        ensures counts { counts self.new ≡ counted path.now result (counts self.old) }
+        ensures most { most self.new ≡ most self.old }
+        ensures still { StaysStill (counts self.old).starts.flying (world self.old) (world self.new) (still self.old) (still self.new) };
 
     /// The paths of all files below a folder, in byte order. The folder's own path is not among them.
     fn list(&mut self, alloc: Global, folder: &PathText) -> Result<Items<PathText>, PlaceFault>
@@ -131,7 +141,25 @@ pub trait Place {
         ensures same { IsTrue tells → world self.new ≡ world self.old }
         ensures fault { IfErr result (λ e. e ≢ PlaceFault.OutOfMemory → e ≡ PlaceFault.List) }
         ensures fails { IfErr result (λ e. e ≢ PlaceFault.OutOfMemory → fails self.old) }
-        ensures counts { counts self.new ≡ counted folder.now result (counts self.old) };
+        ensures counts { counts self.new ≡ counted folder.now result (counts self.old) }
+        ensures most { most self.new ≡ most self.old }
+        ensures still { StaysStill (counts self.old).starts.flying (world self.old) (world self.new) (still self.old) (still self.new) };
+
+    /// The paths of all files below a folder but those at or below another path, in byte order, without looking
+    /// at or below that one.
+    fn list_outside(
+        &mut self,
+        alloc: Global,
+        folder: &PathText,
+        left_out: &PathText,
+    ) -> Result<Items<PathText>, PlaceFault>
+        ensures ok { IsTrue tells → IfOk result (λ paths. paths ≡ listed folder.now (removed left_out.now (world self.old))) }
+        ensures same { IsTrue tells → world self.new ≡ world self.old }
+        ensures fault { IfErr result (λ e. e ≢ PlaceFault.OutOfMemory → e ≡ PlaceFault.List) }
+        ensures fails { IfErr result (λ e. e ≢ PlaceFault.OutOfMemory → fails self.old) }
+        ensures counts { counts self.new ≡ counted folder.now result (counts self.old) }
+        ensures most { most self.new ≡ most self.old }
+        ensures still { StaysStill (counts self.old).starts.flying (world self.old) (world self.new) (still self.old) (still self.new) };
 
     /// Writes a file and makes the folders above it. After an error the old file is there, or none, or the
     /// first of the new bytes.
@@ -140,7 +168,9 @@ pub trait Place {
         ensures err { IsTrue tells → OnErr result (Torn path.now bytes.now (world self.old) (world self.new)) }
         ensures fault { IfErr result (λ e. e ≢ PlaceFault.OutOfMemory → e ≡ PlaceFault.Write) }
         ensures fails { IfErr result (λ e. e ≢ PlaceFault.OutOfMemory → fails self.old) }
-        ensures counts { counts self.new ≡ counted path.now result (counts self.old) };
+        ensures counts { counts self.new ≡ counted path.now result (counts self.old) }
+        ensures most { most self.new ≡ most self.old }
+        ensures still { StaysStill (counts self.old).starts.flying (world self.old) (world self.new) (still self.old) (still self.new) };
 
     /// Removes the file at a path and all files below it; where nothing is there, nothing is done. After an
     /// error each of them is there or not.
@@ -149,7 +179,9 @@ pub trait Place {
         ensures err { IsTrue tells → OnErr result (PartlyRemoved path.now (world self.old) (world self.new)) }
         ensures fault { IfErr result (λ e. e ≢ PlaceFault.OutOfMemory → e ≡ PlaceFault.Remove) }
         ensures fails { IfErr result (λ e. e ≢ PlaceFault.OutOfMemory → fails self.old) }
-        ensures counts { counts self.new ≡ counted path.now result (counts self.old) };
+        ensures counts { counts self.new ≡ counted path.now result (counts self.old) }
+        ensures most { most self.new ≡ most self.old }
+        ensures still { StaysStill (counts self.old).starts.flying (world self.old) (world self.new) (still self.old) (still self.new) };
 
     /// The value of a variable, or none where it is not set.
     fn variable(&mut self, alloc: Global, name: &str) -> Result<Option<Text>, PlaceFault>
@@ -157,27 +189,66 @@ pub trait Place {
         ensures same { IsTrue tells → world self.new ≡ world self.old }
         ensures fault { IfErr result (λ e. e ≢ PlaceFault.OutOfMemory → e ≡ PlaceFault.Variable) }
         ensures fails { IfErr result (λ e. e ≢ PlaceFault.OutOfMemory → fails self.old) }
-        ensures counts { counts self.new ≡ counted name.now result (counts self.old) };
+        ensures counts { counts self.new ≡ counted name.now result (counts self.old) }
+        ensures most { most self.new ≡ most self.old }
+        ensures still { StaysStill (counts self.old).starts.flying (world self.old) (world self.new) (still self.old) (still self.new) };
 
-    /// Starts a child and waits for its end. It makes the folder `command.out` first (the maps know files
-    /// alone, so no clause shows that). It changes files inside `out` alone, and after an error anything may
-    /// stand there.
+    /// Spawns a child, and gives the ticket by which its end is asked for: a number that no child in flight has.
+    /// Inside `command.out`, which it makes, anything may stand from then on until its end was asked for. It fails
+    /// with CannotStart alone, and then no child is in flight.
+    fn spawn(&mut self, alloc: Global, command: &Command) -> Result<u64, StartFault>
+        ensures only { IsTrue tells → ChangesOnlyInSome command.now.out (world self.old) (world self.new) }
+        ensures fresh { IfOk result (λ ticket. is_flying ticket (counts self.old).starts.flying ≡ false) }
+        ensures fault { IfErr result (λ e. e ≢ StartFault.OutOfMemory → e ≡ StartFault.CannotStart) }
+        ensures fails { IfErr result (λ e. e ≢ StartFault.OutOfMemory → fails self.old) }
+        ensures later { fails self.new → fails self.old }
+        ensures counts { counts self.new ≡ counted_spawn (flight_of (child command.now) command.now (world self.old)) result (counts self.old) }
+        ensures most { most self.new ≡ most_after result (length (counts self.old).starts.flying + 1) (most self.old) }
+        ensures stands { IfOk result (λ ticket. still self.new ticket) }
+        ensures still { StaysStill (counts self.old).starts.flying (world self.old) (world self.new) (still self.old) (still self.new) };
+
+    /// Waits for the end of a child in flight, and ends its ticket, whatever it answers. Where the child answers,
+    /// and what it sees and what its folder holds stood still since it was spawned, its answer and its folder are
+    /// what its reply to the world in which it was spawned makes of them.
+    fn finish(&mut self, alloc: Global, ticket: u64) -> Result<Ended, StartFault>
+        requires flies { is_flying ticket (counts self.old).starts.flying ≡ true }
+        ensures ok { IsTrue tells → still self.old ticket → IfOk result (λ ended. IfSome (flight_at ticket (counts self.old).starts.flying) (λ flight. LandsAs flight (world self.old) ended (world self.new))) }
+        ensures only { IsTrue tells → IfSome (flight_at ticket (counts self.old).starts.flying) (λ flight. ChangesOnlyInSome flight.command.out (world self.old) (world self.new)) }
+        ensures fault { IfErr result (λ e. e ≢ StartFault.OutOfMemory → (e ≡ StartFault.Died) ⊎ (e ≡ StartFault.Capture)) }
+        ensures fails { IfErr result (λ e. e ≢ StartFault.OutOfMemory → fails self.old) }
+        ensures counts { counts self.new ≡ counted_finish ticket result (counts self.old) }
+        ensures most { most self.new ≡ most self.old }
+        ensures still { StaysStillBut ticket (counts self.old).starts.flying (world self.old) (world self.new) (still self.old) (still self.new) };
+
+    /// Starts a child and waits for its end: `spawn` and `finish` in turn. It makes the folder `command.out` first
+    /// (the maps know files alone, so no clause shows that). It changes files inside `out` alone, and after an error
+    /// anything may stand there.
     fn start(&mut self, alloc: Global, command: &Command) -> Result<Ended, StartFault>
         ensures ok { IsTrue tells → IfOk result (λ ended. Ends (child command.now) command.now (world self.old) ended (world self.new)) }
         ensures only { IsTrue tells → ChangesOnlyInSome command.now.out (world self.old) (world self.new) }
         ensures fails { IfErr result (λ e. e ≢ StartFault.OutOfMemory → fails self.old) }
-        ensures counts { counts self.new ≡ counted_start result (counts self.old) };
+        ensures counts { counts self.new ≡ counted_start result (counts self.old) }
+        ensures most { OnOk result (most self.new ≡ max (most self.old) (length (counts self.old).starts.flying + 1)) }
+        ensures at_most { most self.old ≤ most self.new }
+    {
+        let ticket = self.spawn(alloc, command)?;
+        self.finish(alloc, ticket)
+    }
 
     /// How many calls failed, at most `u64::MAX`. It takes no memory.
     fn failures(&self) -> u64
         ensures { result ≡ (counts self.now).failures };
 
-    /// How many times `start` was called, at most `u64::MAX`. It takes no memory.
+    /// How many times `spawn` was called, at most `u64::MAX`. It takes no memory.
     fn starts(&self) -> u64
-        ensures { result ≡ (counts self.now).starts };
+        ensures { result ≡ (counts self.now).starts.count };
 
-    /// How many calls but this one, `failures` and `starts` came since the last that failed, at most
+    /// How many calls but this one, `finish`, `failures`, `starts` and `most` came since the last that failed, at most
     /// `u64::MAX`; 0 where none failed. It takes no memory.
     fn late(&self) -> u64
         ensures { result ≡ (counts self.now).late };
+
+    /// The most children that were ever in flight at one moment. It takes no memory.
+    fn most(&self) -> u64
+        ensures { result ≡ most self.now };
 }

@@ -10,7 +10,7 @@ use Rattle.pb_manifest.specs.declared.profile.DebugInfo.TheVariants as debug
 use Rattle.pb_manifest.specs.declared.profile.Lto.TheVariants as lto
 use Rattle.pb_manifest.specs.declared.profile.Panic.TheVariants as panic
 use Rattle.pb_manifest.specs.declared.profile.Strip.TheVariants as strip
-use Rattle.pb_workspace.specs.declared.package.Side.{Side}
+use Rattle.pb_package.specs.declared.package.Side.{Side}
 use Rattle.pb_profile.specs.declared.settings.Settings.{Settings}
 use Rattle.pb_profile.specs.declared.keys.Source.{Source}
 use Rattle.pb_profile.specs.declared.keys.Source.TheVariants.{Package, BuildOverride, OfHosts, Own, BuiltIn}

@@ -13,10 +13,10 @@ use Rattle.pb_manifest.specs.declared.profile.DebugInfo.TheVariants as debug
 use Rattle.pb_manifest.specs.declared.profile.Lto.TheVariants as lto
 use Rattle.pb_manifest.specs.declared.profile.Panic.TheVariants as panic
 use Rattle.pb_manifest.specs.declared.profile.Strip.TheVariants as strip
-use Rattle.pb_workspace.specs.declared.package.Package.{Package}
-use Rattle.pb_workspace.specs.declared.package.Side.{Side}
-use Rattle.pb_workspace.specs.declared.package.Side.TheVariants.{Target, Host}
-use Rattle.pb_workspace.specs.declared.workspace.Workspace.{Workspace}
+use Rattle.pb_package.specs.declared.package.Package.{Package}
+use Rattle.pb_package.specs.declared.package.Side.{Side}
+use Rattle.pb_package.specs.declared.package.Side.TheVariants.{Target, Host}
+use Rattle.pb_package.specs.declared.workspace.Workspace.{Workspace}
 use Rattle.pb_profile.specs.declared.fault.ProfileFault.{ProfileFault}
 use Rattle.pb_profile.specs.declared.settings.Settings.{Settings}
 use Rattle.pb_profile.specs.Line.{Seen, checked_line}

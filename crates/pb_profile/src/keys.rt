@@ -7,7 +7,7 @@ ghost use Rattle.pb_profile.specs.Merging.{keys_or, keys_along, keys_at, sought,
 
 use crate::line::Ancestor;
 use pb_manifest::{DebugInfo, Lto, OptLevel, Panic, Profile, ProfileKeys, Strip};
-use pb_workspace::{Package, Side};
+use pb_package::{Package, Side};
 
 /// No key is set.
 pub(crate) fn no_keys() -> ProfileKeys
@@ -44,7 +44,7 @@ pub(crate) fn keys_or(first: &ProfileKeys, second: &ProfileKeys) -> ProfileKeys
 }
 
 /// Where keys are sought.
-#[derive(Clone, Copy, Debug)]
+#[derive(Clone, Copy)]
 pub(crate) enum Source<'a> {
     /// In the override of a package of this name.
     Package(&'a str),

@@ -11,7 +11,7 @@ use pb_manifest::{Profile, ProfileKeys, ProfileOverride};
 use std::alloc::Global;
 
 /// A profile of a line.
-#[derive(Debug, Drop)]
+#[derive(Drop)]
 pub struct Ancestor<'a> {
     /// Its name.
     pub name: &'a str,

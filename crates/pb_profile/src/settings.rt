@@ -11,11 +11,11 @@ use crate::fault::ProfileFault;
 use crate::keys::keys_at;
 use crate::line::{Ancestor, line_of};
 use pb_manifest::{DebugInfo, Lto, OptLevel, Panic, ProfileKeys, Strip};
-use pb_workspace::{Package, Side, Workspace};
+use pb_package::{Package, Side, Workspace};
 use std::alloc::Global;
 
 /// The settings of a package in a role: one value for each key of a profile (The Cargo Book, Profiles).
-#[derive(Clone, Copy, Debug, PartialEq, Eq)]
+#[derive(Clone, Copy, PartialEq, Eq)]
 pub struct Settings {
     /// `opt-level`.
     pub opt_level: OptLevel,

@@ -19,11 +19,11 @@ use Rattle.pb_place.proofs.Within.{at_below}
 use Rattle.pb_unit.specs.declared.plan.Planned.{Planned}
 use Rattle.pb_unit.specs.declared.unit.What.{What}
 use Rattle.pb_unit.specs.declared.unit.What.TheVariants.{Lib, Bin, Script, Run}
-use Rattle.pb_command.specs.declared.project.Project.{Project}
-use Rattle.pb_command.specs.declared.project.Setup.{Setup}
+use Rattle.pb_project.specs.declared.project.Project.{Project}
+use Rattle.pb_project.specs.declared.project.Setup.{Setup}
 use Rattle.pb_command.specs.Answers.{answered_of}
 use Rattle.pb_command.specs.Command.{command_of}
-use Rattle.pb_command.specs.Targets.{dep_info_of, dep_info_by, file_in, crate_name_of}
+use Rattle.pb_project.specs.Targets.{dep_info_of, dep_info_by, file_in, crate_name_of}
 use Rattle.pb_run.specs.declared.ran.Ran.{Ran}
 use Rattle.pb_run.specs.Outcome.{Outcome, Waiting, Good, Bad, is_good, is_good_at, file_at, replied_files, ran_of, ran_by, outcome_by, judged, ended_by, view_of, command_after, directives_of, outcome_of, outcomes}
 use Rattle.pb_run.specs.Standing.{IsInOrder, IsStanding, HasPackage}
@@ -95,7 +95,7 @@ pub ran_gives : (child : Answers) (setup : Setup) (project : Project) (sources w
     → IsInOrder project → slice_get project.plan.planned i ≡ Some u → done ≡ directives_of (take i (outcomes child setup project sources))
     → list_all is_good (take i (outcomes child setup project sources)) ≡ true → IsStanding project sources (take i (outcomes child setup project sources)) w0
     → c ≡ command_of setup project u done → w1 ≡ removed u.out w0 → Ends (child c) c w1 ended w2
-    → dep_info ≡ file_at (dep_info_of project u) w2.files → ran ≡ ran_by project u ended.stderr (answered_of project u c ended dep_info)
+    → dep_info ≡ file_at (dep_info_of project u) w2.files → ran ≡ ran_by project u ended (answered_of project u c ended dep_info)
     → slice_get (outcomes child setup project sources) i ≡ Some (outcome_by (files_in u.out w2.files) ran)
 ran_gives child setup project sources w0 w1 w2 i u said c ended dep_info ran order at is_said good standing is_command emptied ends is_info is_ran =
     let done = take i (outcomes child setup project sources) in
@@ -122,9 +122,9 @@ ran_gives child setup project sources w0 w1 w2 i u said c ended dep_info ran ord
     let info : dep_info ≡ file_at (dep_info_of project u) (replied_files u.out reply) =
     is_info ∙ sym (inside_file u.out (dep_info_of project u) w2.files (λ q is. dep_info_inside project u u.unit.what (crate_name_of project u) q is)) ∙ ap (file_at (dep_info_of project u)) made in
     let comes : ran ≡ ran_of project u command (ended_by reply) (replied_files u.out reply) =
-    is_ran ∙ ap (λ (d : Command). ran_by project u ended.stderr (answered_of project u d ended dep_info)) commanded
-    ∙ ap (λ (e : Ended). ran_by project u e.stderr (answered_of project u command e dep_info)) is_ended
-    ∙ ap (λ (x : Option (List ℕ)). ran_by project u reply.stderr (answered_of project u command (ended_by reply) x)) info in
+    is_ran ∙ ap (λ (d : Command). ran_by project u ended (answered_of project u d ended dep_info)) commanded
+    ∙ ap (λ (e : Ended). ran_by project u e (answered_of project u command e dep_info)) is_ended
+    ∙ ap (λ (x : Option (List ℕ)). ran_by project u (ended_by reply) (answered_of project u command (ended_by reply) x)) info in
     tabled-unfold (outcome_of child setup project sources) project.plan.planned i u at
     ∙ ap (λ b. Some (cond b (judged project u command reply) Waiting)) needs
     ∙ sym (ap (λ (m : Map). Some (outcome_by m ran)) made ∙ ap (λ (r : Ran). Some (outcome_by (replied_files u.out reply) r)) comes)

@@ -10,13 +10,13 @@ use Rattle.pb_place.specs.declared.command.Command.{Command}
 use Rattle.pb_unit.specs.declared.plan.Planned.{Planned}
 use Rattle.pb_unit.specs.declared.unit.What.{What}
 use Rattle.pb_unit.specs.declared.unit.What.TheVariants.{Lib, Bin, Script, Run}
-use Rattle.pb_workspace.specs.declared.package.Package.{Package}
+use Rattle.pb_package.specs.declared.package.Package.{Package}
 use Rattle.pb_directive.specs.declared.directive.Directive.{Directive}
-use Rattle.pb_command.specs.declared.project.Project.{Project}
-use Rattle.pb_command.specs.declared.project.Setup.{Setup}
+use Rattle.pb_project.specs.declared.project.Project.{Project}
+use Rattle.pb_project.specs.declared.project.Setup.{Setup}
 use Rattle.pb_command.specs.Command.{command_of, command_by, command_for}
 use Rattle.pb_command.specs.Externs.{folder_in, reads_of}
-use Rattle.pb_command.specs.Targets.{unit_at}
+use Rattle.pb_project.specs.Targets.{unit_at}
 use Rattle.pb_run.specs.Outcome.{Outcome, Waiting, Good, Bad, is_good_at, files_at, with_made, view_of, command_after, directives_of}
 use Rattle.pb_run.specs.Standing.{IsStanding, HasPackage, ShowsView}
 

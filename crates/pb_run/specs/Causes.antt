@@ -1,14 +1,14 @@
 -- Why a step of a build ends with a fault: which call failed, with which fault, after how many starts.
 use Rattle.std.specs.Prelude.{◌≡◌, ◌⊎◌, ℕ, List, Some, Result, MatchResult}
-use Rattle.pb_place.specs.Counts.{Counts, up}
+use Rattle.pb_place.specs.Counts.{Counts, Starts, up, up_starts}
 use Rattle.pb_place.specs.declared.place.Failure.{Failure}
 use Rattle.pb_place.specs.declared.place.Failure.TheVariants.{Called, Started}
 use Rattle.pb_place.specs.declared.place.PlaceFault.{PlaceFault}
 use Rattle.pb_place.specs.declared.place.PlaceFault.TheVariants as place
 use Rattle.pb_place.specs.declared.place.StartFault.{StartFault}
 use Rattle.pb_place.specs.declared.place.StartFault.TheVariants as start
-use Rattle.pb_report.specs.declared.fault.BuildFault.{BuildFault}
-use Rattle.pb_report.specs.declared.fault.BuildFault.TheVariants.{Plan, Toolchain, Child, Device, Sink, OutOfMemory}
+use Rattle.pb_answer.specs.declared.fault.BuildFault.{BuildFault}
+use Rattle.pb_answer.specs.declared.fault.BuildFault.TheVariants.{Plan, Toolchain, Child, Device, Sink, OutOfMemory}
 
 -- The fault of a step, by that of the call which ended it.
 
@@ -41,28 +41,28 @@ HasCause (Device unit fault) old new = FailedLast (Called fault) old new
 HasCause Sink old new = new.failures ≡ old.failures
 HasCause OutOfMemory old new = new.failures ≡ old.failures
 
--- what a step says of the counters. Where it ended well: no call failed, and so many children were started. Else: that it may tell this fault after so many starts, and the fault's cause
-abbrev pub Takes : {T : Type 0} → (T → ℕ → ℕ → Type 0) → (BuildFault → ℕ → ℕ → Type 0) → Result T BuildFault → Counts → Counts → Type 0
-Takes Starts May result old new = MatchResult result (λ x. (new.failures ≡ old.failures) × Starts x old.starts new.starts) (λ e. May e old.starts new.starts × HasCause e old new)
+-- what a step says of the counters. Where it ended well: no call failed, and so many children were started; as many fly as before. Else: that it may tell this fault after so many starts, and the fault's cause
+abbrev pub Takes : {T : Type 0} → (T → Starts → Starts → Type 0) → (BuildFault → Starts → Starts → Type 0) → Result T BuildFault → Counts → Counts → Type 0
+Takes Begins May result old new = MatchResult result (λ x. (new.failures ≡ old.failures) × Begins x old.starts new.starts) (λ e. May e old.starts new.starts × HasCause e old new)
 
 -- no child was started, and one was
-abbrev pub NoStart : {T : Type 0} → T → ℕ → ℕ → Type 0
+abbrev pub NoStart : {T : Type 0} → T → Starts → Starts → Type 0
 NoStart x old new = new ≡ old
 
-abbrev pub OneStart : {T : Type 0} → T → ℕ → ℕ → Type 0
-OneStart x old new = new ≡ up old
+abbrev pub OneStart : {T : Type 0} → T → Starts → Starts → Type 0
+OneStart x old new = new ≡ up_starts old
 
 -- the faults of a step that starts a child of this name
-abbrev pub MayStart : List ℕ → BuildFault → ℕ → ℕ → Type 0
+abbrev pub MayStart : List ℕ → BuildFault → Starts → Starts → Type 0
 MayStart name (Plan refusal) old new = ⊥
 MayStart name Toolchain old new = ⊥
-MayStart name (Child unit fault) old new = (unit ≡ name) × (new ≡ up old)
+MayStart name (Child unit fault) old new = (unit ≡ name) × (new ≡ up_starts old)
 MayStart name (Device unit fault) old new = ⊥
 MayStart name Sink old new = ⊥
-MayStart name OutOfMemory old new = (new ≡ old) ⊎ (new ≡ up old)
+MayStart name OutOfMemory old new = (new ≡ old) ⊎ (new ≡ up_starts old)
 
 -- of one that removes the files of the unit of this key
-abbrev pub MayRemove : List ℕ → BuildFault → ℕ → ℕ → Type 0
+abbrev pub MayRemove : List ℕ → BuildFault → Starts → Starts → Type 0
 MayRemove key (Plan refusal) old new = ⊥
 MayRemove key Toolchain old new = ⊥
 MayRemove key (Child unit fault) old new = ⊥
@@ -71,7 +71,7 @@ MayRemove key Sink old new = ⊥
 MayRemove key OutOfMemory old new = new ≡ old
 
 -- of one that reads a file of the unit of this key
-abbrev pub MayRead : List ℕ → BuildFault → ℕ → ℕ → Type 0
+abbrev pub MayRead : List ℕ → BuildFault → Starts → Starts → Type 0
 MayRead key (Plan refusal) old new = ⊥
 MayRead key Toolchain old new = ⊥
 MayRead key (Child unit fault) old new = ⊥
@@ -80,19 +80,19 @@ MayRead key Sink old new = ⊥
 MayRead key OutOfMemory old new = new ≡ old
 
 -- of one that removes them, and then starts the unit's child
-abbrev pub MayBegin : List ℕ → BuildFault → ℕ → ℕ → Type 0
+abbrev pub MayBegin : List ℕ → BuildFault → Starts → Starts → Type 0
 MayBegin key (Plan refusal) old new = ⊥
 MayBegin key Toolchain old new = ⊥
-MayBegin key (Child unit fault) old new = (unit ≡ key) × (new ≡ up old)
+MayBegin key (Child unit fault) old new = (unit ≡ key) × (new ≡ up_starts old)
 MayBegin key (Device unit fault) old new = (unit ≡ key) × (fault ≡ place.Remove) × (new ≡ old)
 MayBegin key Sink old new = ⊥
-MayBegin key OutOfMemory old new = (new ≡ old) ⊎ (new ≡ up old)
+MayBegin key OutOfMemory old new = (new ≡ old) ⊎ (new ≡ up_starts old)
 
 -- and of a unit's run: its files are removed, its child is started, its dep-info is read
-abbrev pub MayRun : List ℕ → BuildFault → ℕ → ℕ → Type 0
+abbrev pub MayRun : List ℕ → BuildFault → Starts → Starts → Type 0
 MayRun key (Plan refusal) old new = ⊥
 MayRun key Toolchain old new = ⊥
-MayRun key (Child unit fault) old new = (unit ≡ key) × (new ≡ up old)
-MayRun key (Device unit fault) old new = (unit ≡ key) × (((fault ≡ place.Remove) × (new ≡ old)) ⊎ ((fault ≡ place.Read) × (new ≡ up old)))
+MayRun key (Child unit fault) old new = (unit ≡ key) × (new ≡ up_starts old)
+MayRun key (Device unit fault) old new = (unit ≡ key) × (((fault ≡ place.Remove) × (new ≡ old)) ⊎ ((fault ≡ place.Read) × (new ≡ up_starts old)))
 MayRun key Sink old new = ⊥
-MayRun key OutOfMemory old new = (new ≡ old) ⊎ (new ≡ up old)
+MayRun key OutOfMemory old new = (new ≡ old) ⊎ (new ≡ up_starts old)

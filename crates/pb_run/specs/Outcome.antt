@@ -10,12 +10,12 @@ use Rattle.pb_place.specs.declared.command.Ended.{Ended}
 use Rattle.pb_directive.specs.declared.directive.Directive.{Directive}
 use Rattle.pb_message.specs.declared.message.Message.{Message}
 use Rattle.pb_unit.specs.declared.plan.Planned.{Planned}
-use Rattle.pb_command.specs.declared.project.Project.{Project}
-use Rattle.pb_command.specs.declared.project.Setup.{Setup}
-use Rattle.pb_command.specs.declared.answer.Answered.{Answered}
-use Rattle.pb_command.specs.declared.fault.UnitFault.{UnitFault}
+use Rattle.pb_project.specs.declared.project.Project.{Project}
+use Rattle.pb_project.specs.declared.project.Setup.{Setup}
+use Rattle.pb_project.specs.declared.answer.Answered.{Answered}
+use Rattle.pb_project.specs.declared.fault.UnitFault.{UnitFault}
 use Rattle.pb_command.specs.Command.{command_of}
-use Rattle.pb_command.specs.Targets.{dep_info_of}
+use Rattle.pb_project.specs.Targets.{dep_info_of}
 use Rattle.pb_command.specs.Answers.{answered_of}
 use Rattle.pb_run.specs.Telling.{good_messages, bad_messages}
 use Rattle.pb_run.specs.declared.ran.Ran.{Ran}
@@ -73,9 +73,9 @@ file_at None files = None
 file_at (Some path) files = finite.get files path
 
 -- what comes of a unit whose child gave this answer
-abbrev pub ran_by : Project → Planned → List ℕ → Result Answered UnitFault → Ran
-ran_by project u stderr (Ok a) = record { started = true; fault = None; directives = a.directives; messages = good_messages project u stderr a.directives }
-ran_by project u stderr (Err e) = record { started = true; fault = Some e; directives = None; messages = bad_messages u.unit.what e stderr }
+abbrev pub ran_by : Project → Planned → Ended → Result Answered UnitFault → Ran
+ran_by project u e (Ok a) = record { started = true; fault = None; directives = a.directives; messages = good_messages project u e.stderr a.directives }
+ran_by project u e (Err fault) = record { started = true; fault = Some fault; directives = None; messages = bad_messages u.unit.what fault e }
 
 abbrev pub outcome_from : Option UnitFault → Map → Option (List Directive) → List Message → Outcome
 outcome_from None files directives messages = Good files directives messages
@@ -87,7 +87,7 @@ outcome_by files ran = outcome_from ran.fault files ran.directives ran.messages
 
 -- what comes of a unit whose child ended so and left these files
 abbrev pub ran_of : Project → Planned → Command → Ended → Map → Ran
-ran_of project u c e files = ran_by project u e.stderr (answered_of project u c e (file_at (dep_info_of project u) files))
+ran_of project u c e files = ran_by project u e (answered_of project u c e (file_at (dep_info_of project u) files))
 
 -- the reply of a child to a unit's command, judged
 abbrev pub judged : Project → Planned → Command → Reply → Outcome

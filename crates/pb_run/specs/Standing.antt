@@ -7,9 +7,9 @@ use Rattle.pb_place.specs.Paths.{is_below, is_at_or_below}
 use Rattle.pb_place.specs.World.{World, Map, from_nothing, seen_by}
 use Rattle.pb_message.specs.declared.message.Message.{Message}
 use Rattle.pb_unit.specs.declared.plan.Planned.{Planned}
-use Rattle.pb_workspace.specs.declared.package.Package.{Package}
-use Rattle.pb_command.specs.declared.project.Project.{Project}
-use Rattle.pb_command.specs.declared.project.Setup.{Setup}
+use Rattle.pb_package.specs.declared.package.Package.{Package}
+use Rattle.pb_project.specs.declared.project.Project.{Project}
+use Rattle.pb_project.specs.declared.project.Setup.{Setup}
 use Rattle.pb_run.specs.Outcome.{Outcome, Good, is_good_at, view_of, command_after}
 
 -- the package of a unit is there

@@ -4,29 +4,31 @@ use Rattle.std.specs.List.{filter_map}
 use Rattle.std.specs.Str.{bytes_eq}
 use Rattle.pb_directive.specs.declared.directive.Directive.{Directive}
 use Rattle.pb_directive.specs.declared.directive.Directive.TheVariants as says
+use Rattle.pb_directive.specs.declared.fault.LineFault.{LineFault}
+use Rattle.pb_directive.specs.Directives.{directives_of}
 use Rattle.pb_message.specs.Diagnostics.{diagnostics_of}
 use Rattle.pb_message.specs.Message.{lines_of}
 use Rattle.pb_message.specs.Targets.{library_target, binary_target, script_target}
 use Rattle.pb_message.specs.declared.message.Artifact.{Artifact}
 use Rattle.pb_message.specs.declared.message.Executed.{Executed}
-use Rattle.pb_message.specs.declared.message.Level.TheVariants.{Warning}
+use Rattle.pb_message.specs.declared.message.Level.TheVariants.{Warning, Error}
 use Rattle.pb_message.specs.declared.message.Message.{Message}
 use Rattle.pb_message.specs.declared.message.Message.TheVariants.{CompilerMessage, CompilerArtifact, BuildScriptNote, BuildScriptExecuted}
 use Rattle.pb_message.specs.declared.subject.Subject.{Subject}
 use Rattle.pb_message.specs.declared.subject.Target.{Target}
 use Rattle.pb_place.specs.declared.command.Ended.{Ended}
-use Rattle.pb_workspace.specs.declared.package.Package.{Package}
-use Rattle.pb_workspace.specs.declared.package.Library.{Library}
-use Rattle.pb_workspace.specs.declared.package.Binary.{Binary}
+use Rattle.pb_package.specs.declared.package.Package.{Package}
+use Rattle.pb_package.specs.declared.package.Library.{Library}
+use Rattle.pb_package.specs.declared.package.Binary.{Binary}
 use Rattle.pb_feature.specs.Resolved.{features_at}
 use Rattle.pb_unit.specs.declared.plan.Planned.{Planned}
 use Rattle.pb_unit.specs.declared.unit.What.{What}
 use Rattle.pb_unit.specs.declared.unit.What.TheVariants.{Lib, Bin, Script, Run}
-use Rattle.pb_command.specs.declared.project.Project.{Project}
-use Rattle.pb_command.specs.declared.answer.Answered.{Answered}
-use Rattle.pb_command.specs.declared.fault.UnitFault.{UnitFault}
-use Rattle.pb_command.specs.declared.fault.UnitFault.TheVariants as fault
-use Rattle.pb_command.specs.Targets.{made_file_of}
+use Rattle.pb_project.specs.declared.project.Project.{Project}
+use Rattle.pb_project.specs.declared.answer.Answered.{Answered}
+use Rattle.pb_project.specs.declared.fault.UnitFault.{UnitFault}
+use Rattle.pb_project.specs.declared.fault.UnitFault.TheVariants as fault
+use Rattle.pb_project.specs.Targets.{made_file_of}
 
 -- Whose lines they are.
 
@@ -83,6 +85,7 @@ compiler_messages stderr = map CompilerMessage (diagnostics_of stderr)
 
 abbrev pub note_in : Directive → Option Message
 note_in (says.Warning text) = Some (BuildScriptNote Warning text)
+note_in (says.Error text) = Some (BuildScriptNote Error text)
 note_in _ = None
 
 abbrev pub library_in : Directive → Option (List ℕ)
@@ -122,9 +125,20 @@ gives_diagnostics Run e = false
 gives_diagnostics w fault.OutputTooLong = false
 gives_diagnostics w e = true
 
--- of one whose answer is bad
-abbrev pub bad_messages : What → UnitFault → List ℕ → List Message
-bad_messages w e stderr = if gives_diagnostics w e then compiler_messages stderr else []
+-- the notes of a script's output, where it reads
+abbrev pub notes_in : Result (List Directive) LineFault → List Message
+notes_in (Ok directives) = filter_map note_in directives
+notes_in (Err e) = []
+
+abbrev pub is_script_error : UnitFault → Bool
+is_script_error fault.ScriptError = true
+is_script_error e = false
+
+-- of one whose answer is bad: a script that told of an error gives its notes in printed order
+abbrev pub bad_messages : What → UnitFault → Ended → List Message
+bad_messages w e ended =
+    if is_script_error e then notes_in (directives_of ended.stdout)
+    else (if gives_diagnostics w e then compiler_messages ended.stderr else [])
 
 -- Lines.
 

@@ -2,8 +2,8 @@
 use Rattle.std.specs.Prelude.{◌≡◌, ℕ, List, Some, slice_get, take, length}
 use Rattle.pb_place.specs.World.{World, Answers}
 use Rattle.pb_unit.specs.declared.plan.Planned.{Planned}
-use Rattle.pb_command.specs.declared.project.Project.{Project}
-use Rattle.pb_command.specs.declared.project.Setup.{Setup}
+use Rattle.pb_project.specs.declared.project.Project.{Project}
+use Rattle.pb_project.specs.declared.project.Setup.{Setup}
 use Rattle.pb_run.specs.Outcome.{outcome_of, outcomes}
 
 -- the outcome of a unit is made of those of the units before it

@@ -3,9 +3,9 @@
 ghost use Rattle.std.specs.Prelude.{◌≡◌};
 ghost use Rattle.pb_run.specs.Causes.{child_fault, device_fault};
 
+use pb_answer::BuildFault;
 use pb_data::Text;
 use pb_place::{PlaceFault, StartFault};
-use pb_report::BuildFault;
 
 /// The fault of a child that gave no answer: `-vV` for the query, else the unit's key. Want of memory stays so.
 pub fn childless(unit: Text, fault: StartFault) -> BuildFault

@@ -1,14 +1,16 @@
 //! What a unit tells: the messages that come of its child's answer.
 
-ghost use Rattle.std.specs.Prelude.{◌≡◌, ◌++◌, ◌∷◌, [], IfOk, OnOk, map};
+ghost use Rattle.std.specs.Prelude.{◌≡◌, ◌++◌, ◌∷◌, [], if◌then◌else◌, IfOk, OnOk, map};
+ghost use Rattle.pb_directive.specs.Directives.{directives_of};
 ghost use Rattle.std.specs.List.{filter_map};
-ghost use Rattle.pb_command.specs.Targets.{made_file_of};
-ghost use Rattle.pb_run.specs.Telling.{artifacts, compiler_messages, note_in, library_in, search_in, condition_in, variable_in, executed, good_messages, gives_diagnostics, bad_messages, is_binary};
+ghost use Rattle.pb_project.specs.Targets.{made_file_of};
+ghost use Rattle.pb_run.specs.Telling.{artifacts, compiler_messages, note_in, notes_in, library_in, search_in, condition_in, variable_in, executed, good_messages, gives_diagnostics, bad_messages, is_binary};
 
-use pb_command::{Project, UnitFault, made_file};
 use pb_data::{Bytes, Items, Text, TryCopy};
-use pb_directive::{Directive, Directives};
+use pb_directive::{Directive, Directives, LineFault, read_directives};
 use pb_message::{Artifact, Executed, Level, Message, diagnostics};
+use pb_place::Ended;
+use pb_project::{Project, UnitFault, made_file};
 use pb_unit::{Planned, What};
 use std::alloc::{AllocError, Global};
 
@@ -76,6 +78,10 @@ fn note_in(alloc: Global, directive: &Directive) -> Result<Option<Message>, Allo
     match directive {
         Directive::Warning(text) => Ok(Some(Message::BuildScriptNote(
             Level::Warning,
+            text.copy(alloc)?,
+        ))),
+        Directive::Error(text) => Ok(Some(Message::BuildScriptNote(
+            Level::Error,
             text.copy(alloc)?,
         ))),
         _ => Ok(None),
@@ -243,18 +249,49 @@ fn gives_diagnostics(what: &What, fault: &UnitFault) -> bool
     }
 }
 
-/// The messages of a unit whose child's answer is bad. The one fault is want of memory.
-pub fn bad_messages(
+/// The notes of a script's output, where it reads.
+fn notes_of(alloc: Global, stdout: &Bytes) -> Result<Items<Message>, AllocError>
+    ensures { IfOk result (λ messages. messages ≡ notes_in (directives_of stdout.now)) }
+{
+    let mut messages = Items::new(alloc);
+    match read_directives(alloc, stdout.as_slice()) {
+        Ok(said) => {
+            add_notes(alloc, &mut messages, said.as_slice())?;
+            Ok(messages)
+        }
+        Err(LineFault::OutOfMemory) => Err(AllocError),
+        Err(_) => Ok(messages),
+    }
+}
+
+/// The diagnostics of a bad unit, where it gives them.
+fn diagnostics_by(
     alloc: Global,
     what: &What,
     fault: &UnitFault,
     stderr: &Bytes,
 ) -> Result<Items<Message>, AllocError>
-    ensures { IfOk result (λ messages. messages ≡ bad_messages what.now fault.now stderr.now) }
+    ensures { IfOk result (λ messages. messages ≡ (if gives_diagnostics what.now fault.now then compiler_messages stderr.now else [])) }
 {
     let mut messages = Items::new(alloc);
     if gives_diagnostics(what, fault) {
         add_diagnostics(alloc, &mut messages, stderr)?;
     }
     Ok(messages)
+}
+
+/// The messages of a unit whose child's answer is bad: a compile gives its diagnostics, and a script that told of
+/// an error its notes. The one fault is want of memory.
+pub fn bad_messages(
+    alloc: Global,
+    what: &What,
+    fault: &UnitFault,
+    ended: &Ended,
+) -> Result<Items<Message>, AllocError>
+    ensures { IfOk result (λ messages. messages ≡ bad_messages what.now fault.now ended.now) }
+{
+    match fault {
+        UnitFault::ScriptError => notes_of(alloc, &ended.stdout),
+        _ => diagnostics_by(alloc, what, fault, &ended.stderr),
+    }
 }

@@ -2,23 +2,24 @@
 
 ghost use Rattle.std.specs.Prelude.{◌≡◌, ◌≢◌, IfOk, Result, Ok, Err, true};
 ghost use Rattle.pb_command.specs.Answers.{answered_of};
-ghost use Rattle.pb_command.specs.declared.answer.Answered.{Answered};
-ghost use Rattle.pb_command.specs.declared.fault.UnitFault.{UnitFault};
-ghost use Rattle.pb_command.specs.declared.fault.UnitFault.TheVariants as unit_fault;
+ghost use Rattle.pb_project.specs.declared.answer.Answered.{Answered};
+ghost use Rattle.pb_project.specs.declared.fault.UnitFault.{UnitFault};
+ghost use Rattle.pb_project.specs.declared.fault.UnitFault.TheVariants as unit_fault;
 ghost use Rattle.std.specs.FinMap as finite;
 ghost use Rattle.pb_run.specs.Outcome.{ran_by, outcome_by, directives_in};
 
 use crate::messages::{bad_messages, good_messages};
-use pb_command::{Answered, Project, UnitFault, answered};
+use pb_command::answered;
 use pb_data::{Bytes, Items};
 use pb_directive::Directives;
 use pb_message::Message;
 use pb_place::{Command, Ended};
+use pb_project::{Answered, Project, UnitFault};
 use pb_unit::Planned;
 use std::alloc::{AllocError, Global};
 
 /// What came of a unit.
-#[derive(Debug, Drop)]
+#[derive(Drop)]
 pub struct Ran {
     /// Whether a child was started for it.
     pub started: bool,
@@ -35,15 +36,15 @@ fn good(
     alloc: Global,
     project: &Project,
     unit: &Planned,
-    stderr: &Bytes,
+    ended: &Ended,
     answered: Answered,
 ) -> Result<Ran, AllocError>
-    ensures ran { IfOk result (λ ran. ran ≡ ran_by project.now unit.now stderr.now (Ok answered)) }
+    ensures ran { IfOk result (λ ran. ran ≡ ran_by project.now unit.now ended.now (Ok answered)) }
     ensures started { IfOk result (λ ran. ran.started ≡ true) }
     ensures directives { IfOk result (λ ran. directives_in (outcome_by finite.empty ran) ≡ ran.directives) }
 {
     let directives = answered.directives;
-    let messages = good_messages(alloc, project, unit, stderr, &directives)?;
+    let messages = good_messages(alloc, project, unit, &ended.stderr, &directives)?;
     Ok(Ran {
         started: true,
         fault: None,
@@ -57,14 +58,14 @@ fn bad(
     alloc: Global,
     project: &Project,
     unit: &Planned,
-    stderr: &Bytes,
+    ended: &Ended,
     fault: UnitFault,
 ) -> Result<Ran, AllocError>
-    ensures ran { IfOk result (λ ran. ran ≡ ran_by project.now unit.now stderr.now (Err fault)) }
+    ensures ran { IfOk result (λ ran. ran ≡ ran_by project.now unit.now ended.now (Err fault)) }
     ensures started { IfOk result (λ ran. ran.started ≡ true) }
     ensures directives { IfOk result (λ ran. directives_in (outcome_by finite.empty ran) ≡ ran.directives) }
 {
-    let messages = bad_messages(alloc, &unit.unit.what, &fault, stderr)?;
+    let messages = bad_messages(alloc, &unit.unit.what, &fault, ended)?;
     Ok(Ran {
         started: true,
         fault: Some(fault),
@@ -83,13 +84,13 @@ pub fn judged(
     ended: &Ended,
     dep_info: &Option<Bytes>,
 ) -> Result<Ran, AllocError>
-    ensures ran { IfOk result (λ ran. ran ≡ ran_by project.now unit.now ended.now.stderr (answered_of project.now unit.now command.now ended.now dep_info.now)) }
+    ensures ran { IfOk result (λ ran. ran ≡ ran_by project.now unit.now ended.now (answered_of project.now unit.now command.now ended.now dep_info.now)) }
     ensures started { IfOk result (λ ran. ran.started ≡ true) }
     ensures directives { IfOk result (λ ran. directives_in (outcome_by finite.empty ran) ≡ ran.directives) }
 {
     match answered(alloc, project, unit, command, ended, dep_info.as_ref()) {
-        Ok(answered) => good(alloc, project, unit, &ended.stderr, answered),
+        Ok(answered) => good(alloc, project, unit, ended, answered),
         Err(UnitFault::OutOfMemory) => Err(AllocError),
-        Err(fault) => bad(alloc, project, unit, &ended.stderr, fault),
+        Err(fault) => bad(alloc, project, unit, ended, fault),
     }
 }

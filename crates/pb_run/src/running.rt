@@ -6,7 +6,7 @@ ghost use Rattle.std.specs.List.{list_all};
 ghost use Rattle.pb_place.specs.Paths.{is_at_or_below};
 ghost use Rattle.pb_place.specs.World.{World, Ends, ChangesOnly, ChangesOnlyInSome, removed, from_nothing};
 ghost use Rattle.pb_command.specs.Answers.{answered_of};
-ghost use Rattle.pb_command.specs.Targets.{dep_info_of};
+ghost use Rattle.pb_project.specs.Targets.{dep_info_of};
 ghost use Rattle.pb_place.specs.declared.command.Ended.{Ended};
 ghost use Rattle.pb_run.specs.Causes.{Takes, NoStart, OneStart, MayStart, MayRemove, MayBegin, MayRead, MayRun};
 ghost use Rattle.pb_place.specs.Folders.{files_in};
@@ -15,18 +15,19 @@ ghost use Rattle.pb_run.specs.Standing.{IsInOrder, IsStanding};
 
 use crate::faults::{childless, deviceless};
 use crate::ran::{Ran, judged};
-use pb_command::{Project, Setup, command, dep_info_path};
+use pb_answer::BuildFault;
+use pb_command::command;
 use pb_data::{Bytes, Text};
 use pb_directive::Directives;
 use pb_place::{Command, Ended, PathText, Place};
-use pb_report::BuildFault;
+use pb_project::{Project, Setup, dep_info_path};
 use pb_unit::Planned;
 use std::alloc::Global;
 
 /// Starts a child. Its faults have this name: `-vV` for the query of the compiler's version, else a unit's key.
 pub fn start<P: Place>(
-    place: &mut P,
     alloc: Global,
+    place: &mut P,
     name: &str,
     command: &Command,
 ) -> Result<Ended, BuildFault>
@@ -47,8 +48,8 @@ pub fn start<P: Place>(
 /// Empties the output folder of the unit of this key.
 #[tactic(auto, using(pb_place::proofs::Folders::change_laws))]
 fn empty<P: Place>(
-    place: &mut P,
     alloc: Global,
+    place: &mut P,
     key: &str,
     folder: &PathText,
 ) -> Result<(), BuildFault>
@@ -69,8 +70,8 @@ fn empty<P: Place>(
 /// Empties the output folder of the unit of this key, and starts its child.
 #[tactic(auto, using(pb_place::proofs::Folders::change_laws))]
 fn begin<P: Place>(
-    place: &mut P,
     alloc: Global,
+    place: &mut P,
     key: &str,
     folder: &PathText,
     command: &Command,
@@ -80,11 +81,11 @@ fn begin<P: Place>(
     ensures only { IsTrue P.tells → ChangesOnly (is_at_or_below folder.now) (P.world place.old) (P.world place.new) }
     ensures takes { Takes OneStart (MayBegin key.now) result (P.counts place.old) (P.counts place.new) }
 {
-    match empty(place, alloc, key, folder) {
+    match empty(alloc, place, key, folder) {
         Ok(()) => {}
         Err(fault) => return Err(fault),
     }
-    match start(place, alloc, key, command) {
+    match start(alloc, place, key, command) {
         Ok(ended) => Ok(ended),
         Err(fault) => Err(fault),
     }
@@ -92,8 +93,8 @@ fn begin<P: Place>(
 
 /// Reads a file of the unit of this key, where one is named.
 fn read_at<P: Place>(
-    place: &mut P,
     alloc: Global,
+    place: &mut P,
     key: &str,
     path: &Option<PathText>,
 ) -> Result<Option<Bytes>, BuildFault>
@@ -117,15 +118,15 @@ fn read_at<P: Place>(
 
 /// Empties the unit's output folder, starts this command and judges the answer.
 fn carry_out<P: Place>(
-    place: &mut P,
     alloc: Global,
+    place: &mut P,
     project: &Project,
     unit: &Planned,
     command: &Command,
 ) -> Result<Ran, BuildFault>
     requires out { command.now.out ≡ Some unit.now.out }
     ensures ran { IsTrue P.tells → IfOk result (λ ran. (ended : Ended) × Ends (P.child command.now) command.now (removed unit.now.out (P.world place.old)) ended (P.world place.new)
-        × (ran ≡ ran_by project.now unit.now ended.stderr (answered_of project.now unit.now command.now ended (file_at (dep_info_of project.now unit.now) (P.world place.new).files)))) }
+        × (ran ≡ ran_by project.now unit.now ended (answered_of project.now unit.now command.now ended (file_at (dep_info_of project.now unit.now) (P.world place.new).files)))) }
     ensures started { IfOk result (λ ran. ran.started ≡ true) }
     ensures directives { IfOk result (λ ran. directives_in (outcome_by finite.empty ran) ≡ ran.directives) }
     ensures only { IsTrue P.tells → ChangesOnly (is_at_or_below unit.now.out) (P.world place.old) (P.world place.new) }
@@ -135,11 +136,11 @@ fn carry_out<P: Place>(
         Ok(path) => path,
         Err(_) => return Err(BuildFault::OutOfMemory),
     };
-    let ended = match begin(place, alloc, unit.key.as_str(), &unit.out, command) {
+    let ended = match begin(alloc, place, unit.key.as_str(), &unit.out, command) {
         Ok(ended) => ended,
         Err(fault) => return Err(fault),
     };
-    let dep_info = match read_at(place, alloc, unit.key.as_str(), &path) {
+    let dep_info = match read_at(alloc, place, unit.key.as_str(), &path) {
         Ok(dep_info) => dep_info,
         Err(fault) => return Err(fault),
     };
@@ -156,8 +157,8 @@ fn carry_out<P: Place>(
 /// read; OutOfMemory. Each has the unit's key, and no call of the place comes after one that failed. A unit that is
 /// bad is no fault.
 pub fn run_unit<P: Place>(
-    place: &mut P,
     alloc: Global,
+    place: &mut P,
     setup: &Setup,
     project: &Project,
     done: &[Option<Directives>],
@@ -179,7 +180,7 @@ pub fn run_unit<P: Place>(
         Ok(command) => command,
         Err(_) => return Err(BuildFault::OutOfMemory),
     };
-    match carry_out(place, alloc, project, unit, &command) {
+    match carry_out(alloc, place, project, unit, &command) {
         Ok(ran) => Ok(ran),
         Err(fault) => Err(fault),
     }

@@ -4,12 +4,12 @@ ghost use Rattle.std.specs.Prelude.{◌≡◌, IfOk, find};
 ghost use Rattle.std.specs.Str.{bytes_eq};
 ghost use Rattle.pb_run.specs.Telling.{library_of, binary_of, script_of, target_of, subject_with, subject_in, subject_of, lines_by, unit_lines};
 
-use pb_command::Project;
 use pb_data::{Text, TryCopy};
 use pb_message::{Message, Subject, Target, lines_of};
+use pb_package::{Library, Package};
 use pb_place::PathText;
+use pb_project::Project;
 use pb_unit::{Planned, What};
-use pb_workspace::{Library, Package};
 use std::alloc::{AllocError, Global};
 
 /// The target of a package's library, where it has one.

@@ -7,7 +7,7 @@ use Rattle.pb_data.specs.Gives.{◌>>=◌, some_or}
 use Rattle.pb_session.specs.Faults.{Read}
 use Rattle.pb_session.specs.Values.{text_of, path_in, path_of, array_of}
 use Rattle.pb_session.specs.declared.fault.BadSession.TheVariants.{BadForm}
-use Rattle.pb_workspace.specs.declared.options.Options.{Options}
+use Rattle.pb_package.specs.declared.options.Options.{Options}
 
 -- the keys that the options of a build may have
 abbrev pub is_known : List ℕ → Bool

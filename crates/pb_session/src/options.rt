@@ -9,8 +9,8 @@ ghost use Rattle.pb_session.specs.Options.{are_known, is_known, texts_in, texts_
 use crate::fault::BadSession;
 use crate::value::{array_of, path_in, path_of, text_of};
 use pb_data::{Items, Text};
+use pb_package::Options;
 use pb_place::PathText;
-use pb_workspace::Options;
 use serde_json::{Map, Value};
 use std::alloc::{AllocError, Global};
 

@@ -1,11 +1,11 @@
 //! A step of a session.
 
 use pb_data::Text;
+use pb_package::Options;
 use pb_place::PathText;
-use pb_workspace::Options;
 
 /// A step of a session: an edit of what lies outside the builder, or a build.
-#[derive(Debug, Drop)]
+#[derive(Drop)]
 pub enum SessionStep {
     /// The file at this path has this text from now on.
     Write(PathText, Text),

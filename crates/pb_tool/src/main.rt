@@ -9,7 +9,7 @@
 //! that is bad.
 #![tactic(auto)]
 
-use pb_program::tool;
+use pb_tool_program::tool;
 use std::process::ExitCode;
 
 fn main(rt: HostRuntime) -> ExitCode {

@@ -19,13 +19,13 @@ use Rattle.pb_data.proofs.MentionLemmas.{bytes_eq_same}
 use Rattle.pb_closure.proofs.Placed.{placed_from, placed_to, where_true, at_true}
 use Rattle.pb_closure.proofs.Membership.{none, single, head}
 use Rattle.pb_order.proofs.Elements.{at_from_contains, contains_from_at, all_from_at, all_at, contains_cases}
-use Rattle.pb_workspace.specs.Settled.{IsSettled, IsPackage}
-use Rattle.pb_workspace.specs.declared.package.Side.{Side}
-use Rattle.pb_workspace.specs.declared.package.Side.TheVariants.{Target, Host}
-use Rattle.pb_workspace.specs.declared.package.Package.{Package}
-use Rattle.pb_workspace.specs.declared.package.Binary.{Binary}
-use Rattle.pb_workspace.specs.declared.options.Selection.{Selection}
-use Rattle.pb_workspace.specs.declared.workspace.Workspace.{Workspace}
+use Rattle.pb_package.specs.Settled.{IsSettled, IsPackage}
+use Rattle.pb_package.specs.declared.package.Side.{Side}
+use Rattle.pb_package.specs.declared.package.Side.TheVariants.{Target, Host}
+use Rattle.pb_package.specs.declared.package.Package.{Package}
+use Rattle.pb_package.specs.declared.package.Binary.{Binary}
+use Rattle.pb_package.specs.declared.options.Selection.{Selection}
+use Rattle.pb_package.specs.declared.workspace.Workspace.{Workspace}
 use Rattle.pb_feature.specs.declared.resolved.Features.{Features}
 use Rattle.pb_feature.specs.Resolved.{features_at}
 use Rattle.pb_manifest.specs.Letters as letters

@@ -8,13 +8,13 @@ use Rattle.pb_closure.proofs.Membership.{none, single}
 use Rattle.pb_order.specs.declared.graph.Node.{Node}
 use Rattle.pb_order.specs.Graph as graph
 use Rattle.pb_order.proofs.Elements.{contains_map, map_contains, contains_from_at, all_from_at, all_at}
-use Rattle.pb_workspace.specs.Settled.{IsSettled, IsPackage}
-use Rattle.pb_workspace.specs.declared.package.Side.{Side}
-use Rattle.pb_workspace.specs.declared.package.Side.TheVariants.{Host}
-use Rattle.pb_workspace.specs.declared.package.Package.{Package}
-use Rattle.pb_workspace.specs.declared.package.Entry.{Entry}
-use Rattle.pb_workspace.specs.declared.options.Selection.{Selection}
-use Rattle.pb_workspace.specs.declared.workspace.Workspace.{Workspace}
+use Rattle.pb_package.specs.Settled.{IsSettled, IsPackage}
+use Rattle.pb_package.specs.declared.package.Side.{Side}
+use Rattle.pb_package.specs.declared.package.Side.TheVariants.{Host}
+use Rattle.pb_package.specs.declared.package.Package.{Package}
+use Rattle.pb_package.specs.declared.package.Entry.{Entry}
+use Rattle.pb_package.specs.declared.options.Selection.{Selection}
+use Rattle.pb_package.specs.declared.workspace.Workspace.{Workspace}
 use Rattle.pb_feature.specs.declared.resolved.Features.{Features}
 use Rattle.pb_unit.specs.declared.unit.Unit.{Unit}
 use Rattle.pb_unit.specs.declared.unit.What.{What}

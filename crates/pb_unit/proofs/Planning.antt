@@ -19,9 +19,9 @@ use Rattle.pb_order.specs.Graph as graph
 use Rattle.pb_order.specs.Order as order
 use Rattle.pb_order.proofs.Elements as elements
 use Rattle.pb_order.proofs.Elements.{contains_map, map_contains, at_from_contains, contains_from_at, all_from_at, all_at, pair_at, pairs_from_at, zip_left, zip_right}
-use Rattle.pb_workspace.specs.Settled.{IsSettled, IsAscending}
-use Rattle.pb_workspace.specs.declared.options.Selection.{Selection}
-use Rattle.pb_workspace.specs.declared.workspace.Workspace.{Workspace}
+use Rattle.pb_package.specs.Settled.{IsSettled, IsAscending}
+use Rattle.pb_package.specs.declared.options.Selection.{Selection}
+use Rattle.pb_package.specs.declared.workspace.Workspace.{Workspace}
 use Rattle.pb_feature.specs.declared.resolved.Features.{Features}
 use Rattle.pb_profile.specs.Line.{Seen}
 use Rattle.pb_place.specs.Paths.{below, is_relative, is_path, is_name, is_at_or_below}

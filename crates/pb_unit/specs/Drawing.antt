@@ -13,16 +13,16 @@ use Rattle.pb_order.specs.declared.graph.Node.{Node}
 use Rattle.pb_order.specs.declared.graph.Step.{Step}
 use Rattle.pb_order.specs.declared.graph.OrderFault.{OrderFault}
 use Rattle.pb_order.specs.declared.graph.OrderFault.TheVariants as order_fault
-use Rattle.pb_workspace.specs.Settled.{IsAscending}
+use Rattle.pb_package.specs.Settled.{IsAscending}
 use Rattle.pb_unit.specs.declared.fault.PlanFault.{PlanFault}
 use Rattle.pb_unit.specs.declared.fault.PlanFault.TheVariants.{Cycle, TooManyUnits, OutOfMemory}
-use Rattle.pb_workspace.specs.declared.package.Side.{Side}
-use Rattle.pb_workspace.specs.declared.package.Side.TheVariants.{Target, Host}
-use Rattle.pb_workspace.specs.declared.package.Package.{Package}
-use Rattle.pb_workspace.specs.declared.package.Binary.{Binary}
-use Rattle.pb_workspace.specs.declared.package.Entry.{Entry}
-use Rattle.pb_workspace.specs.declared.options.Selection.{Selection}
-use Rattle.pb_workspace.specs.declared.workspace.Workspace.{Workspace}
+use Rattle.pb_package.specs.declared.package.Side.{Side}
+use Rattle.pb_package.specs.declared.package.Side.TheVariants.{Target, Host}
+use Rattle.pb_package.specs.declared.package.Package.{Package}
+use Rattle.pb_package.specs.declared.package.Binary.{Binary}
+use Rattle.pb_package.specs.declared.package.Entry.{Entry}
+use Rattle.pb_package.specs.declared.options.Selection.{Selection}
+use Rattle.pb_package.specs.declared.workspace.Workspace.{Workspace}
 use Rattle.pb_feature.specs.declared.resolved.Features.{Features}
 use Rattle.pb_feature.specs.Resolved.{features_at, is_enabled}
 use Rattle.pb_profile.specs.Line.{Seen}

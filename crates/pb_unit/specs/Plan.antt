@@ -6,13 +6,13 @@ use Rattle.std.specs.declared.cmp.Ordering.TheVariants.{Less}
 use Rattle.std.specs.Cmp.Lexicographic.{slice_cmp}
 use Rattle.pb_data.specs.Gives.{◌>>=◌}
 use Rattle.pb_place.specs.Paths.{below, is_relative, is_at_or_below}
-use Rattle.pb_workspace.specs.Settled.{IsAscending}
-use Rattle.pb_workspace.specs.Workspace.{HasEntry}
-use Rattle.pb_workspace.specs.declared.package.Side.{Side}
-use Rattle.pb_workspace.specs.declared.package.Package.{Package}
-use Rattle.pb_workspace.specs.declared.package.Entry.{Entry}
-use Rattle.pb_workspace.specs.declared.options.Selection.{Selection}
-use Rattle.pb_workspace.specs.declared.workspace.Workspace.{Workspace}
+use Rattle.pb_package.specs.Settled.{IsAscending}
+use Rattle.pb_package.specs.Workspace.{HasEntry}
+use Rattle.pb_package.specs.declared.package.Side.{Side}
+use Rattle.pb_package.specs.declared.package.Package.{Package}
+use Rattle.pb_package.specs.declared.package.Entry.{Entry}
+use Rattle.pb_package.specs.declared.options.Selection.{Selection}
+use Rattle.pb_package.specs.declared.workspace.Workspace.{Workspace}
 use Rattle.pb_feature.specs.declared.resolved.Features.{Features}
 use Rattle.pb_feature.specs.Resolved.{is_enabled}
 use Rattle.pb_profile.specs.Line.{Seen, checked_line, folder_of}

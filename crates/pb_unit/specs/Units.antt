@@ -2,15 +2,15 @@
 use Rattle.std.specs.Prelude.{◌≡◌, ◌⊎◌, ℕ, Bool, true, false, not, ◌&&◌, ◌||◌, ◌==◌, if◌then◌else◌, is_some, codes, List, [], ◌∷◌, ◌++◌, All, Contains, length, Option, Some, None, slice_get}
 use Rattle.pb_data.specs.Mentions.{is_mentioned}
 use Rattle.pb_closure.specs.Placed.{placed}
-use Rattle.pb_workspace.specs.declared.package.Side.{Side}
-use Rattle.pb_workspace.specs.declared.package.Side.TheVariants.{Target, Host}
-use Rattle.pb_workspace.specs.declared.package.DependencyKind.{DependencyKind}
-use Rattle.pb_workspace.specs.declared.package.DependencyKind.TheVariants.{Normal, Build}
-use Rattle.pb_workspace.specs.declared.package.Package.{Package}
-use Rattle.pb_workspace.specs.declared.package.Binary.{Binary}
-use Rattle.pb_workspace.specs.declared.package.Entry.{Entry}
-use Rattle.pb_workspace.specs.declared.options.Selection.{Selection}
-use Rattle.pb_workspace.specs.declared.workspace.Workspace.{Workspace}
+use Rattle.pb_package.specs.declared.package.Side.{Side}
+use Rattle.pb_package.specs.declared.package.Side.TheVariants.{Target, Host}
+use Rattle.pb_package.specs.declared.package.DependencyKind.{DependencyKind}
+use Rattle.pb_package.specs.declared.package.DependencyKind.TheVariants.{Normal, Build}
+use Rattle.pb_package.specs.declared.package.Package.{Package}
+use Rattle.pb_package.specs.declared.package.Binary.{Binary}
+use Rattle.pb_package.specs.declared.package.Entry.{Entry}
+use Rattle.pb_package.specs.declared.options.Selection.{Selection}
+use Rattle.pb_package.specs.declared.workspace.Workspace.{Workspace}
 use Rattle.pb_feature.specs.declared.resolved.Features.{Features}
 use Rattle.pb_feature.specs.Resolved.{features_at, is_enabled}
 use Rattle.pb_unit.specs.declared.unit.Unit.{Unit}

@@ -6,7 +6,7 @@ ghost use Rattle.std.specs.List.Sorted.{IsStrictlySortedBy};
 ghost use Rattle.pb_closure.specs.Placed.{placed};
 ghost use Rattle.pb_data.specs.Mentions.{is_mentioned};
 ghost use Rattle.pb_feature.specs.Resolved.{features_at};
-ghost use Rattle.pb_workspace.specs.declared.package.Side.TheVariants.{Target};
+ghost use Rattle.pb_package.specs.declared.package.Side.TheVariants.{Target};
 ghost use Rattle.pb_unit.specs.Units.{asks_all, asks_libraries, asks_binary};
 ghost use Rattle.pb_unit.specs.Drawing.{six, fixed, binaries_of, named_by, named_at, all_named, named_cmp, unit_named, AreCandidates};
 
@@ -14,11 +14,11 @@ use crate::unit::{Unit, What};
 use pb_data::{Text, TryCopy};
 use pb_feature::Features;
 use pb_order::sort_once;
-use pb_workspace::{Binary, Package, Selection, Side, Workspace};
+use pb_package::{Binary, Package, Selection, Side, Workspace};
 use std::alloc::{AllocError, Global};
 
 /// A binary that is a root.
-#[derive(Debug, Drop, PartialEq, Eq, PartialOrd, Ord)]
+#[derive(Drop, PartialEq, Eq, PartialOrd, Ord)]
 pub(crate) struct Named {
     /// The place of its package.
     pub(crate) owner: usize,

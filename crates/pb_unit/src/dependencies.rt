@@ -2,13 +2,13 @@
 
 ghost use Rattle.std.specs.Prelude.{◌≡◌, ◌++◌, ◌<◌, OnOk, All, map, slice_get};
 ghost use Rattle.pb_closure.specs.Placed.{placed};
-ghost use Rattle.pb_workspace.specs.Settled.{IsSettled};
+ghost use Rattle.pb_package.specs.Settled.{IsSettled};
 ghost use Rattle.pb_unit.specs.declared.unit.What.TheVariants.{Lib, Script, Run};
 ghost use Rattle.pb_unit.specs.Units.{unit, has_library, has_script, hands_on, is_normal, is_build, entries_at, own_library, own_run};
 ghost use Rattle.pb_unit.specs.Drawing.{number, library_numbers, tool_numbers, run_numbers};
 
 use pb_feature::Features;
-use pb_workspace::{DependencyKind, Entry, Side, Workspace};
+use pb_package::{DependencyKind, Entry, Side, Workspace};
 use std::alloc::AllocError;
 
 /// Whether the package at a place has a library.

@@ -2,7 +2,7 @@
 
 ghost use Rattle.std.specs.Prelude.{◌≡◌, ◌<◌, ◌≤◌, ℕ, IfOk, All, Contains, map, length};
 ghost use Rattle.pb_order.specs.Graph.{IsGraph};
-ghost use Rattle.pb_workspace.specs.Settled.{IsSettled};
+ghost use Rattle.pb_package.specs.Settled.{IsSettled};
 ghost use Rattle.pb_unit.specs.Drawing.{node_of, IsDrawn};
 
 use crate::candidates::candidates;
@@ -12,11 +12,11 @@ use crate::unit::Unit;
 use pb_data::Items;
 use pb_feature::Features;
 use pb_order::Node;
-use pb_workspace::{Selection, Workspace};
+use pb_package::{Selection, Workspace};
 use std::alloc::{AllocError, Global};
 
 /// The units that a plan may have, as the nodes of a graph, and which of them are roots.
-#[derive(Debug, Drop)]
+#[derive(Drop)]
 pub(crate) struct Drawing {
     /// The units, by their numbers.
     pub(crate) units: Items<Unit>,

@@ -2,7 +2,7 @@
 
 ghost use Rattle.std.specs.Prelude.{◌≡◌, ◌++◌, ◌↔◌, ℕ, List, IfOk, OnOk, Contains, map, length};
 ghost use Rattle.pb_closure.specs.Placed.{placed};
-ghost use Rattle.pb_workspace.specs.Settled.{IsAscending};
+ghost use Rattle.pb_package.specs.Settled.{IsAscending};
 ghost use Rattle.pb_unit.specs.Units.{name_at};
 ghost use Rattle.pb_unit.specs.Plan.{AreWithoutLibrary};
 ghost use Rattle.pb_unit.specs.Drawing.{missing_by, missing_at, all_missing, name_behind};
@@ -12,7 +12,7 @@ use crate::unit::{Unit, name_at};
 use pb_data::{Items, Text};
 use pb_feature::Features;
 use pb_order::sort_once;
-use pb_workspace::{Entry, Side, Workspace};
+use pb_package::{Entry, Side, Workspace};
 use std::alloc::{AllocError, Global};
 
 /// Names in byte order, each once.

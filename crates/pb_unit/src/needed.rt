@@ -1,7 +1,7 @@
 //! What a unit needs, as numbers of units.
 
 ghost use Rattle.std.specs.Prelude.{◌≡◌, ◌<◌, IfOk, map, length};
-ghost use Rattle.pb_workspace.specs.Settled.{IsSettled};
+ghost use Rattle.pb_package.specs.Settled.{IsSettled};
 ghost use Rattle.pb_unit.specs.declared.unit.What.TheVariants.{Lib, Bin, Script, Run};
 ghost use Rattle.pb_unit.specs.Units.{needs, needs_of};
 ghost use Rattle.pb_unit.specs.Drawing.{number};
@@ -11,7 +11,7 @@ use crate::dependencies::{
 };
 use crate::unit::{Unit, What};
 use pb_feature::Features;
-use pb_workspace::{Side, Workspace};
+use pb_package::{Side, Workspace};
 use std::alloc::{AllocError, Global};
 
 /// What a library needs.

@@ -4,7 +4,7 @@ ghost use Rattle.std.specs.Prelude.{◌≡◌, ◌⊎◌, ◌<◌, ◌≤◌, �
 ghost use Rattle.std.specs.List.{AllZip};
 ghost use Rattle.pb_place.specs.Paths.{below, is_relative, is_path};
 ghost use Rattle.pb_order.specs.Order.{IsOrder};
-ghost use Rattle.pb_workspace.specs.Settled.{IsSettled};
+ghost use Rattle.pb_package.specs.Settled.{IsSettled};
 ghost use Rattle.pb_profile.specs.Line.{seen, folder_of};
 ghost use Rattle.pb_profile.specs.declared.fault.ProfileFault.{ProfileFault};
 ghost use Rattle.pb_order.specs.declared.graph.Step.{Step};
@@ -20,16 +20,16 @@ use pb_data::{Items, Text, TryCopy};
 use pb_feature::Features;
 use pb_order::order::order;
 use pb_order::{OrderFault, Step};
+use pb_package::{Selection, Workspace};
 use pb_place::{PathText, RelativePath};
 use pb_profile::{Ancestor, ProfileFault, Settings, folder_of, line_of, settings_along};
-use pb_workspace::{Selection, Workspace};
 use std::alloc::{AllocError, Global};
 
 /// How many units a plan may have.
 const MOST_UNITS: usize = 4096;
 
 /// A unit of a plan.
-#[derive(Debug, Drop)]
+#[derive(Drop)]
 pub struct Planned {
     /// The unit.
     pub unit: Unit,
@@ -49,7 +49,7 @@ pub struct Planned {
 
 /// A plan: what the selected packages are built of, each unit once and after all that it needs. A unit is
 /// known by its place.
-#[derive(Debug, Drop)]
+#[derive(Drop)]
 pub struct Plan {
     /// The units by level, and then by the bytes of their keys. There is one, and there are at most 4,096.
     pub planned: Items<Planned>,
@@ -59,7 +59,7 @@ pub struct Plan {
 }
 
 /// The line of the asked profile, and its folder.
-#[derive(Debug, Drop)]
+#[derive(Drop)]
 struct Frame<'a> {
     line: Vec<Ancestor<'a>>,
     folder: PathText,

@@ -9,7 +9,7 @@ use crate::candidates::asks_libraries;
 use crate::dependencies::has_library;
 use crate::unit::{Unit, What};
 use pb_closure::derived;
-use pb_workspace::{Selection, Side, Workspace};
+use pb_package::{Selection, Side, Workspace};
 use std::alloc::{AllocError, Global};
 
 /// Whether it is the target's side.

@@ -6,7 +6,7 @@ use Rattle.std.specs.Str.{bytes_eq}
 use Rattle.pb_manifest.specs.Letters as letters
 use Rattle.pb_place.specs.Paths.{parts_of, stays, leads_up, is_name, is_relative}
 use Rattle.pb_place.proofs.PathLemmas.{and_left, and_right}
-use Rattle.pb_workspace.proofs.NamesInPaths.{either, leads_on, no_dot, no_slash, no_zero, unlike, without}
+use Rattle.pb_package.proofs.NamesInPaths.{either, leads_on, no_dot, no_slash, no_zero, unlike, without}
 
 -- a name with an ending, cut at slashes, has its first cut in the ending
 cut_after : (name ending first : List ℕ) (rest : List (List ℕ)) → list_all letters.is_name_byte name ≡ true → parts_of ending ≡ first ∷ rest → parts_of (name ++ ending) ≡ (name ++ first) ∷ rest

@@ -6,8 +6,8 @@ use Rattle.pb_closure.specs.Closure.{Reached, start, onward}
 use Rattle.pb_closure.proofs.Membership.{none, head, tail, cases}
 use Rattle.pb_data.specs.Gives.{◌>>=◌}
 use Rattle.pb_workspace.specs.declared.draft.Draft.{Draft}
-use Rattle.pb_workspace.specs.declared.fault.LoadFault.{LoadFault}
-use Rattle.pb_workspace.specs.declared.fault.LoadFault.TheVariants.{TooMany}
+use Rattle.pb_package.specs.declared.fault.LoadFault.{LoadFault}
+use Rattle.pb_package.specs.declared.fault.LoadFault.TheVariants.{TooMany}
 use Rattle.pb_workspace.specs.declared.rounds.Reading.{Reading}
 use Rattle.pb_workspace.specs.ByFolder.{folders_of, has}
 use Rattle.pb_workspace.specs.Rounds.{all_read, leads_to, one_read, round, rounds, with_draft}

@@ -20,16 +20,16 @@ use Rattle.pb_manifest.specs.declared.feature.FeatureItem.{FeatureItem}
 use Rattle.pb_manifest.specs.declared.feature.FeatureItem.TheVariants as item
 use Rattle.pb_manifest.specs.declared.profile.Profile.{Profile}
 use Rattle.pb_workspace.specs.declared.draft.Draft.{Draft}
-use Rattle.pb_workspace.specs.declared.fault.LoadFault.{LoadFault}
-use Rattle.pb_workspace.specs.declared.fault.LoadFault.TheVariants.{SameName}
+use Rattle.pb_package.specs.declared.fault.LoadFault.{LoadFault}
+use Rattle.pb_package.specs.declared.fault.LoadFault.TheVariants.{SameName}
 use Rattle.pb_workspace.specs.declared.frame.Frame.{Frame}
-use Rattle.pb_workspace.specs.declared.package.Binary.{Binary}
-use Rattle.pb_workspace.specs.declared.package.Entry.{Entry}
-use Rattle.pb_workspace.specs.declared.package.Package.{Package}
+use Rattle.pb_package.specs.declared.package.Binary.{Binary}
+use Rattle.pb_package.specs.declared.package.Entry.{Entry}
+use Rattle.pb_package.specs.declared.package.Package.{Package}
 use Rattle.pb_workspace.specs.declared.rounds.Reading.{Reading}
 use Rattle.pb_workspace.specs.declared.wanted.Wanted.{Wanted}
-use Rattle.pb_workspace.specs.declared.workspace.DefaultMembers.TheVariants.{Named, Unknown}
-use Rattle.pb_workspace.specs.declared.workspace.Workspace.{Workspace}
+use Rattle.pb_package.specs.declared.workspace.DefaultMembers.TheVariants.{Named, Unknown}
+use Rattle.pb_package.specs.declared.workspace.Workspace.{Workspace}
 use Rattle.pb_workspace.specs.Selected.{places_where}
 use Rattle.pb_workspace.specs.Assembled.{assembled, default_members_of, entry_at, is_default, is_known, package_at}
 use Rattle.pb_workspace.specs.Binaries.{binary_of, with_binaries}
@@ -40,7 +40,7 @@ use Rattle.pb_workspace.specs.Features.{feature_of, makes_feature, with_made, wi
 use Rattle.pb_workspace.specs.Loaded.{unless, workspace_from}
 use Rattle.pb_workspace.specs.Places.{numbered, places_of}
 use Rattle.pb_workspace.specs.Rounds.{with_draft}
-use Rattle.pb_workspace.specs.Settled.{IfNamed, IsAscending, IsPackage, IsSettled}
+use Rattle.pb_package.specs.Settled.{IfNamed, IsAscending, IsPackage, IsSettled}
 use Rattle.pb_workspace.specs.Settling.{comes_again}
 use Rattle.pb_workspace.specs.Sorted.{placed}
 use Rattle.pb_workspace.proofs.Chosen.{places_below}

@@ -1,10 +1,8 @@
 pub mod EnabledNames
-pub mod Halving
 pub mod WantedOrder
 pub mod RowLemmas
 pub mod Resolving
 pub mod SourceLemmas
-pub mod NamesInPaths
 pub mod BinPaths
 pub mod Promised
 pub mod Steps

@@ -9,7 +9,7 @@ use Rattle.pb_manifest.specs.Features.{parted}
 use Rattle.pb_manifest.specs.Letters.{is_name, is_name_byte, is_crate_name, is_crate_name_byte, is_alphanumeric, underscored, underscored_byte}
 use Rattle.pb_manifest.specs.Library.{library_name, named_or}
 use Rattle.pb_manifest.specs.declared.target.Library.{Library as WrittenLibrary}
-use Rattle.pb_workspace.specs.declared.package.Binary.{Binary}
+use Rattle.pb_package.specs.declared.package.Binary.{Binary}
 use Rattle.pb_workspace.specs.Between.{names_in}
 use Rattle.pb_workspace.specs.Drafted.{IsBinaryNamed, IsWrittenLibrary}
 use Rattle.pb_workspace.specs.FoundBinaries.{stem_in, flat_name, nested_name, name_by, name_inside, found_at, binary_at, main_binary}

@@ -13,7 +13,7 @@ use Rattle.pb_manifest.specs.declared.package.Package.{Package}
 use Rattle.pb_manifest.specs.declared.target.Binary.{Binary}
 use Rattle.pb_manifest.specs.declared.target.Library.{Library}
 use Rattle.pb_workspace.specs.Drafted.{HasSharedInOrder, IsKeyed, IsWrittenFeature, IsWrittenLibrary}
-use Rattle.pb_workspace.specs.Settled.{IsAscending}
+use Rattle.pb_package.specs.Settled.{IsAscending}
 use Rattle.pb_manifest.proofs.Manifests.{manifest_is}
 
 pub is_promised : (bytes : List ℕ) (m : Manifest) → manifest_of bytes ≡ Ok m → IsManifest m

@@ -4,7 +4,7 @@ use Rattle.pb_data.specs.Gives.{◌>>=◌}
 use Rattle.pb_place.specs.Counts.{Counts, up}
 use Rattle.pb_place.specs.World.{World, from_nothing}
 use Rattle.pb_workspace.specs.Causes.{Told, Reads}
-use Rattle.pb_workspace.specs.declared.fault.LoadFault.{LoadFault}
+use Rattle.pb_package.specs.declared.fault.LoadFault.{LoadFault}
 use Rattle.pb_workspace.specs.declared.frame.Frame.{Frame}
 use Rattle.pb_workspace.specs.declared.rounds.Reading.{Reading}
 use Rattle.pb_workspace.specs.Rounds.{draft_at, round, rounds}

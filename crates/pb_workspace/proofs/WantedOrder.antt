@@ -12,14 +12,14 @@ use Rattle.pb_manifest.specs.declared.dependency.WorkspaceDependency.{WorkspaceD
 use Rattle.pb_manifest.specs.declared.dependency.WorkspaceSource.{WorkspaceSource}
 use Rattle.pb_manifest.specs.declared.dependency.WorkspaceSource.TheVariants as shared
 use Rattle.pb_manifest.specs.Letters.{is_name}
-use Rattle.pb_workspace.specs.ByKey.{table_key}
+use Rattle.pb_package.specs.ByKey.{table_key}
 use Rattle.pb_workspace.specs.Drafted.{IsKeyed, IsWantedKeyed}
-use Rattle.pb_workspace.specs.Settled.{IsAscending}
+use Rattle.pb_package.specs.Settled.{IsAscending}
 use Rattle.pb_workspace.specs.Wanted.{each_wanted, shared_at, taken_from, wanted_by, wanted_of}
-use Rattle.pb_workspace.specs.declared.fault.LoadFault.{LoadFault}
-use Rattle.pb_workspace.specs.declared.fault.LoadFault.TheVariants.{NoInherited}
-use Rattle.pb_workspace.specs.declared.package.DependencyKind.{DependencyKind}
-use Rattle.pb_workspace.specs.declared.package.DependencyKind.TheVariants.{Normal, Build}
+use Rattle.pb_package.specs.declared.fault.LoadFault.{LoadFault}
+use Rattle.pb_package.specs.declared.fault.LoadFault.TheVariants.{NoInherited}
+use Rattle.pb_package.specs.declared.package.DependencyKind.{DependencyKind}
+use Rattle.pb_package.specs.declared.package.DependencyKind.TheVariants.{Normal, Build}
 use Rattle.pb_workspace.specs.declared.wanted.Wanted.{Wanted}
 
 abbrev key_of : Wanted → List ℕ

@@ -4,7 +4,7 @@ use Rattle.std.specs.Str.{bytes_eq}
 use Rattle.pb_place.specs.Paths.{below}
 use Rattle.pb_place.specs.World.{World}
 use Rattle.pb_manifest.specs.declared.target.Binary.{Binary as WrittenBinary}
-use Rattle.pb_workspace.specs.declared.package.Binary.{Binary}
+use Rattle.pb_package.specs.declared.package.Binary.{Binary}
 use Rattle.pb_workspace.specs.Sorted.{placed}
 use Rattle.pb_workspace.specs.Sources.{own_source, resolved}
 

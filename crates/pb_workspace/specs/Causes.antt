@@ -6,8 +6,8 @@ use Rattle.pb_place.specs.declared.place.Failure.{Failure}
 use Rattle.pb_place.specs.declared.place.Failure.TheVariants.{Called}
 use Rattle.pb_place.specs.declared.place.PlaceFault.{PlaceFault}
 use Rattle.pb_place.specs.declared.place.PlaceFault.TheVariants as place
-use Rattle.pb_workspace.specs.declared.fault.LoadFault.{LoadFault}
-use Rattle.pb_workspace.specs.declared.fault.LoadFault.TheVariants.{NoManifest, Manifest, SameName, NameMismatch, VersionMismatch, LinksTwice, LinksWithoutScript, NoInherited, TooMany, SameBinary, Place, NoSuchPackage, OutOfMemory}
+use Rattle.pb_package.specs.declared.fault.LoadFault.{LoadFault}
+use Rattle.pb_package.specs.declared.fault.LoadFault.TheVariants.{NoManifest, Manifest, SameName, NameMismatch, VersionMismatch, LinksTwice, LinksWithoutScript, NoInherited, TooMany, SameBinary, Place, NoSuchPackage, OutOfMemory}
 
 -- a call of the place failed
 abbrev pub is_failure : LoadFault → Bool

@@ -4,8 +4,8 @@ use Rattle.std.specs.List.{filter_map, list_any}
 use Rattle.std.specs.Str.{bytes_eq}
 use Rattle.pb_manifest.specs.Versions.{matches}
 use Rattle.pb_workspace.specs.declared.draft.Draft.{Draft}
-use Rattle.pb_workspace.specs.declared.fault.LoadFault.{LoadFault}
-use Rattle.pb_workspace.specs.declared.fault.LoadFault.TheVariants.{SameName, NameMismatch, VersionMismatch, LinksTwice, LinksWithoutScript, SameBinary}
+use Rattle.pb_package.specs.declared.fault.LoadFault.{LoadFault}
+use Rattle.pb_package.specs.declared.fault.LoadFault.TheVariants.{SameName, NameMismatch, VersionMismatch, LinksTwice, LinksWithoutScript, SameBinary}
 use Rattle.pb_workspace.specs.declared.wanted.Wanted.{Wanted}
 use Rattle.pb_workspace.specs.Places.{draft_in}
 use Rattle.pb_workspace.specs.Settling.{comes_again}

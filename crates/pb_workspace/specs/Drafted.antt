@@ -9,12 +9,12 @@ use Rattle.pb_manifest.specs.declared.manifest.WorkspaceTable.{WorkspaceTable}
 use Rattle.pb_manifest.specs.declared.target.Library.{Library as WrittenLibrary}
 use Rattle.pb_workspace.specs.declared.draft.Draft.{Draft}
 use Rattle.pb_workspace.specs.declared.draft.Tables.{Tables}
-use Rattle.pb_workspace.specs.declared.package.Binary.{Binary}
-use Rattle.pb_workspace.specs.declared.package.Library.{Library}
+use Rattle.pb_package.specs.declared.package.Binary.{Binary}
+use Rattle.pb_package.specs.declared.package.Library.{Library}
 use Rattle.pb_workspace.specs.declared.rounds.Reading.{Reading}
 use Rattle.pb_workspace.specs.declared.settling.Targets.{Targets}
 use Rattle.pb_workspace.specs.declared.wanted.Wanted.{Wanted}
-use Rattle.pb_workspace.specs.Settled.{IsAscending}
+use Rattle.pb_package.specs.Settled.{IsAscending}
 
 -- the letters of names
 abbrev pub IsLibraryNamed : Library → Type 0

@@ -9,7 +9,7 @@ use Rattle.pb_manifest.specs.declared.target.Binary.{Binary as WrittenBinary}
 use Rattle.pb_workspace.specs.declared.draft.Draft.{Draft}
 use Rattle.pb_workspace.specs.declared.draft.Lists.{Lists}
 use Rattle.pb_workspace.specs.declared.draft.Tables.{Tables}
-use Rattle.pb_workspace.specs.declared.fault.LoadFault.{LoadFault}
+use Rattle.pb_package.specs.declared.fault.LoadFault.{LoadFault}
 use Rattle.pb_workspace.specs.declared.keys.Keys.{Keys}
 use Rattle.pb_workspace.specs.declared.settling.Given.{Given}
 use Rattle.pb_workspace.specs.declared.settling.Targets.{Targets}

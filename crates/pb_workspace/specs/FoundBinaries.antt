@@ -6,7 +6,7 @@ use Rattle.pb_place.specs.Paths.{below, inside}
 use Rattle.pb_place.specs.World.{World, listed}
 use Rattle.pb_manifest.specs.Features.{parted}
 use Rattle.pb_manifest.specs.Letters.{is_name}
-use Rattle.pb_workspace.specs.declared.package.Binary.{Binary}
+use Rattle.pb_package.specs.declared.package.Binary.{Binary}
 use Rattle.pb_workspace.specs.Between.{names_in}
 use Rattle.pb_workspace.specs.Binaries.{main_source}
 use Rattle.pb_workspace.specs.Sources.{own_source}

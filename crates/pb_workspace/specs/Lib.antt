@@ -1,5 +1,3 @@
-pub mod Workspace
-pub mod Settled
 pub mod Selected
 pub mod Globs
 pub mod Rows
@@ -18,7 +16,6 @@ pub mod Settling
 pub mod Keys
 pub mod Drafts
 pub mod ByFolder
-pub mod ByKey
 pub mod Frames
 pub mod MemberFolders
 pub mod Rounds

@@ -5,14 +5,14 @@ use Rattle.pb_place.specs.World.{World, from_nothing}
 use Rattle.pb_manifest.specs.declared.package.Package.{Package as WrittenPackage}
 use Rattle.pb_closure.specs.Closure.{Reached}
 use Rattle.pb_workspace.specs.declared.draft.Draft.{Draft}
-use Rattle.pb_workspace.specs.declared.fault.LoadFault.{LoadFault}
+use Rattle.pb_package.specs.declared.fault.LoadFault.{LoadFault}
 use Rattle.pb_workspace.specs.declared.frame.Frame.{Frame}
-use Rattle.pb_workspace.specs.declared.package.Entry.{Entry}
-use Rattle.pb_workspace.specs.declared.package.Package.{Package}
+use Rattle.pb_package.specs.declared.package.Entry.{Entry}
+use Rattle.pb_package.specs.declared.package.Package.{Package}
 use Rattle.pb_workspace.specs.declared.rounds.Parts.{Parts}
 use Rattle.pb_workspace.specs.declared.rounds.Reading.{Reading}
 use Rattle.pb_workspace.specs.declared.wanted.Wanted.{Wanted}
-use Rattle.pb_workspace.specs.declared.workspace.Workspace.{Workspace}
+use Rattle.pb_package.specs.declared.workspace.Workspace.{Workspace}
 use Rattle.pb_workspace.specs.Assembled.{package_at}
 use Rattle.pb_workspace.specs.Frames.{frame_of, is_member}
 use Rattle.pb_workspace.specs.Loaded.{root_parts, workspace_of}

@@ -10,9 +10,9 @@ use Rattle.pb_manifest.specs.declared.package.Build.{Build}
 use Rattle.pb_manifest.specs.declared.package.Readme.{Readme}
 use Rattle.pb_manifest.specs.declared.target.Binary.{Binary as WrittenBinary}
 use Rattle.pb_manifest.specs.declared.target.Library.{Library as WrittenLibrary}
-use Rattle.pb_workspace.specs.declared.fault.LoadFault.{LoadFault}
-use Rattle.pb_workspace.specs.declared.package.Binary.{Binary}
-use Rattle.pb_workspace.specs.declared.package.DependencyKind.TheVariants.{Normal, Build as ForScript}
+use Rattle.pb_package.specs.declared.fault.LoadFault.{LoadFault}
+use Rattle.pb_package.specs.declared.package.Binary.{Binary}
+use Rattle.pb_package.specs.declared.package.DependencyKind.TheVariants.{Normal, Build as ForScript}
 use Rattle.pb_workspace.specs.declared.settling.Given.{Given}
 use Rattle.pb_workspace.specs.declared.settling.Targets.{Targets}
 use Rattle.pb_workspace.specs.declared.wanted.Standing.{Standing}

@@ -9,7 +9,7 @@ use Rattle.pb_manifest.specs.declared.package.Build.TheVariants as build
 use Rattle.pb_manifest.specs.declared.target.CrateType.{CrateType}
 use Rattle.pb_manifest.specs.declared.target.CrateType.TheVariants.{Lib}
 use Rattle.pb_manifest.specs.declared.target.Library.{Library as written}
-use Rattle.pb_workspace.specs.declared.package.Library.{Library}
+use Rattle.pb_package.specs.declared.package.Library.{Library}
 
 -- a file of the sources
 abbrev pub has_file : List ℕ → World → Bool

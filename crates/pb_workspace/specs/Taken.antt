@@ -11,10 +11,9 @@ use Rattle.pb_manifest.specs.declared.manifest.WorkspacePackage.{WorkspacePackag
 use Rattle.pb_manifest.specs.declared.package.Package.{Package}
 use Rattle.pb_manifest.specs.declared.package.Readme.{Readme}
 use Rattle.pb_manifest.specs.declared.package.Readme.TheVariants as readme
-use Rattle.pb_workspace.specs.declared.fault.LoadFault.{LoadFault}
-use Rattle.pb_workspace.specs.declared.fault.LoadFault.TheVariants.{NoInherited}
-use Rattle.pb_workspace.specs.declared.package.About.{About}
-use Rattle.pb_workspace.specs.declared.taken.Said.{Said}
+use Rattle.pb_package.specs.declared.fault.LoadFault.{LoadFault}
+use Rattle.pb_package.specs.declared.fault.LoadFault.TheVariants.{NoInherited}
+use Rattle.pb_package.specs.declared.package.About.{About}
 use Rattle.pb_workspace.specs.Between.{text_between}
 
 -- a value that has to be there: the package's own, or the workspace's where it is taken from there
@@ -75,21 +74,8 @@ readme_of root folder found (Written readme) given = Ok (readme_text readme)
 readme_of root folder found Workspace given = some_or NoInherited given >>= (λ readme. Ok (given_readme root folder readme))
 readme_of root folder found Absent given = Ok found
 
--- what the table `[package]` says for people
-abbrev pub said_in : Package → Said
-said_in p = record {
-  authors = p.authors;
-  description = p.description;
-  homepage = p.homepage;
-  license = p.license;
-  license_file = p.license_file;
-  readme = p.readme;
-  repository = p.repository;
-  rust_version = p.rust_version;
-}
-
 -- what a package says of itself to people. `given` is what its workspace gives it, `found` the README that its folder has
-abbrev pub about_of : List ℕ → List ℕ → List ℕ → Said → WorkspacePackage → Result About LoadFault
+abbrev pub about_of : List ℕ → List ℕ → List ℕ → Package → WorkspacePackage → Result About LoadFault
 about_of root folder found s given =
     authors_of s.authors given.authors >>= (λ authors.
     text_of s.description given.description >>= (λ description.

@@ -11,9 +11,9 @@ use Rattle.pb_manifest.specs.declared.dependency.WorkspaceDependency.{WorkspaceD
 use Rattle.pb_manifest.specs.declared.dependency.WorkspaceSource.{WorkspaceSource}
 use Rattle.pb_manifest.specs.declared.dependency.WorkspaceSource.TheVariants as shared
 use Rattle.pb_manifest.specs.declared.fault.ManifestFault.TheVariants.{UnsupportedSource}
-use Rattle.pb_workspace.specs.declared.fault.LoadFault.{LoadFault}
-use Rattle.pb_workspace.specs.declared.fault.LoadFault.TheVariants.{Manifest, NoInherited}
-use Rattle.pb_workspace.specs.declared.package.DependencyKind.{DependencyKind}
+use Rattle.pb_package.specs.declared.fault.LoadFault.{LoadFault}
+use Rattle.pb_package.specs.declared.fault.LoadFault.TheVariants.{Manifest, NoInherited}
+use Rattle.pb_package.specs.declared.package.DependencyKind.{DependencyKind}
 use Rattle.pb_workspace.specs.declared.wanted.Wanted.{Wanted}
 use Rattle.pb_workspace.specs.Sources.{resolved}
 

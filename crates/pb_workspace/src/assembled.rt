@@ -10,16 +10,15 @@ ghost use Rattle.pb_workspace.specs.Places.{places_of};
 ghost use Rattle.pb_workspace.specs.Selected.{places_where};
 
 use crate::by_folder::ByFolder;
-use crate::by_key::{EntriesByKey, WantedByKey};
+use crate::by_key::WantedByKey;
 use crate::draft::Draft;
 use crate::frame::Frame;
 use crate::glob::is_glob;
 use crate::member::{is_meant, parts_meant};
-use crate::package::{Entry, Package};
 use crate::wanted::Wanted;
-use crate::workspace::{DefaultMembers, Workspace};
 use pb_data::{Items, TryCopy};
 use pb_manifest::{Profile, WrittenPath};
+use pb_package::{DefaultMembers, EntriesByKey, Entry, Package, Workspace};
 use pb_place::PathText;
 use std::alloc::{AllocError, Global};
 

@@ -9,14 +9,12 @@ ghost use Rattle.pb_workspace.specs.Causes.{is_outside, Reads};
 ghost use Rattle.std.specs.List.{AllByRecursion};
 ghost use Rattle.pb_workspace.specs.Drafted.{IsBinaryNamed, AreBinaries};
 
-use crate::by_name::BinariesByName;
-use crate::fault::LoadFault;
 use crate::found::own_source;
-use crate::package::Binary;
 use crate::sorted::Sorted;
 use crate::source::{own_path, resolved};
 use pb_data::{Items, Text, TryCopy};
 use pb_manifest::WrittenPath;
+use pb_package::{BinariesByName, Binary, LoadFault};
 use pb_place::{PathText, Place};
 use std::alloc::{AllocError, Global};
 
@@ -33,8 +31,8 @@ fn in_bin(alloc: Global, name: &str, end: &str) -> Result<Text, AllocError>
 /// `src/bin/NAME.rs` or `src/bin/NAME/main.rs`, the first that is a file of the sources.
 #[tactic(auto, using(crate::proofs::BinPaths::bin_laws))]
 fn looked_in_bin<P: Place>(
-    place: &mut P,
     alloc: Global,
+    place: &mut P,
     target: &PathText,
     folder: &PathText,
     name: &str,
@@ -46,11 +44,11 @@ fn looked_in_bin<P: Place>(
     ensures reads { Reads result (P.counts place.old) (P.counts place.new) }
 {
     let flat = in_bin(alloc, name, ".rs")?;
-    if let Some(path) = own_source(place, alloc, target, folder, flat.as_str())? {
+    if let Some(path) = own_source(alloc, place, target, folder, flat.as_str())? {
         return Ok(Some(path));
     }
     let nested = in_bin(alloc, name, "/main.rs")?;
-    let path = own_source(place, alloc, target, folder, nested.as_str())?;
+    let path = own_source(alloc, place, target, folder, nested.as_str())?;
     Ok(path)
 }
 
@@ -66,8 +64,8 @@ fn flat_path(alloc: Global, folder: &PathText, name: &str) -> Result<PathText, A
 
 /// The source of a `[[bin]]` without path that is not named as its package.
 fn looked_for_other<P: Place>(
-    place: &mut P,
     alloc: Global,
+    place: &mut P,
     target: &PathText,
     folder: &PathText,
     name: &str,
@@ -78,7 +76,7 @@ fn looked_for_other<P: Place>(
     ensures outside { IfErr result (λ e. is_outside e ≡ true) }
     ensures reads { Reads result (P.counts place.old) (P.counts place.new) }
 {
-    if let Some(path) = looked_in_bin(place, alloc, target, folder, name)? {
+    if let Some(path) = looked_in_bin(alloc, place, target, folder, name)? {
         return Ok(path);
     }
     let path = flat_path(alloc, folder, name)?;
@@ -87,8 +85,8 @@ fn looked_for_other<P: Place>(
 
 /// The source of a `[[bin]]` without path that is named as its package.
 fn looked_for_main<P: Place>(
-    place: &mut P,
     alloc: Global,
+    place: &mut P,
     target: &PathText,
     folder: &PathText,
     name: &str,
@@ -99,10 +97,10 @@ fn looked_for_main<P: Place>(
     ensures outside { IfErr result (λ e. is_outside e ≡ true) }
     ensures reads { Reads result (P.counts place.old) (P.counts place.new) }
 {
-    if let Some(path) = own_source(place, alloc, target, folder, "src/main.rs")? {
+    if let Some(path) = own_source(alloc, place, target, folder, "src/main.rs")? {
         return Ok(path);
     }
-    if let Some(path) = looked_in_bin(place, alloc, target, folder, name)? {
+    if let Some(path) = looked_in_bin(alloc, place, target, folder, name)? {
         return Ok(path);
     }
     let path = own_path(alloc, folder, "src/main.rs")?;
@@ -113,8 +111,8 @@ fn looked_for_main<P: Place>(
 /// else the first that is a file of `src/main.rs`, where it is named as its package, `src/bin/NAME.rs` and
 /// `src/bin/NAME/main.rs`, and the first of these where none is.
 pub fn binary_source<P: Place>(
-    place: &mut P,
     alloc: Global,
+    place: &mut P,
     target: &PathText,
     folder: &PathText,
     package_name: &Text,
@@ -131,17 +129,17 @@ pub fn binary_source<P: Place>(
         return Ok(resolved(alloc, folder, path)?);
     }
     if *name == *package_name {
-        let found = looked_for_main(place, alloc, target, folder, name.as_str())?;
+        let found = looked_for_main(alloc, place, target, folder, name.as_str())?;
         return Ok(found);
     }
-    let found = looked_for_other(place, alloc, target, folder, name.as_str())?;
+    let found = looked_for_other(alloc, place, target, folder, name.as_str())?;
     Ok(found)
 }
 
 /// The binary of a `[[bin]]`.
 pub fn written_binary<P: Place>(
-    place: &mut P,
     alloc: Global,
+    place: &mut P,
     target: &PathText,
     folder: &PathText,
     package_name: &Text,
@@ -155,8 +153,8 @@ pub fn written_binary<P: Place>(
     ensures reads { Reads result (P.counts place.old) (P.counts place.new) }
 {
     let source = binary_source(
-        place,
         alloc,
+        place,
         target,
         folder,
         package_name,
@@ -172,8 +170,8 @@ pub fn written_binary<P: Place>(
 
 /// The binaries of the `[[bin]]`s of a package, in the manifest's order.
 pub fn written_binaries<P: Place>(
-    place: &mut P,
     alloc: Global,
+    place: &mut P,
     target: &PathText,
     folder: &PathText,
     package_name: &Text,
@@ -188,7 +186,7 @@ pub fn written_binaries<P: Place>(
 {
     let mut binaries = Items::new(alloc);
     for binary in written.into_vec() {
-        let made = written_binary(place, alloc, target, folder, package_name, binary)?;
+        let made = written_binary(alloc, place, target, folder, package_name, binary)?;
         binaries.push(made)?;
     }
     Ok(binaries)

@@ -3,7 +3,7 @@
 ghost use Rattle.std.specs.Prelude.{◌≡◌, List, ℕ, [], IfOk, OnOk, length, map};
 ghost use Rattle.std.specs.Option.{option_copied};
 ghost use Rattle.pb_workspace.specs.ByFolder.{value_of, has, with_folders, folders_of, values_of};
-ghost use Rattle.pb_workspace.specs.Settled.{IsAscending};
+ghost use Rattle.pb_package.specs.Settled.{IsAscending};
 ghost use Rattle.pb_workspace.specs.Sorted.{placed};
 
 use pb_data::{Items, TryCopy};
@@ -13,7 +13,7 @@ use std::collections::BTreeMap;
 use std::marker::Model;
 
 /// Values by folders, each folder once, in byte order. Contracts see the list of the entries.
-#[derive(Debug, Drop)]
+#[derive(Drop)]
 pub struct ByFolder<V> {
     inside: BTreeMap<PathText, V>,
 }

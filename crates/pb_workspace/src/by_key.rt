@@ -1,24 +1,23 @@
-//! The entries of a package in order: those of `[dependencies]` and then those of
-//! `[build-dependencies]`, each in byte order of their keys, no key twice in one table. An entry is
-//! found by halving, and not by a walk.
+//! What entries ask for, and the entries of `[workspace.dependencies]`, in order. An entry of the
+//! workspace is found by halving, and not by a walk.
 
 ghost use Rattle.std.specs.Prelude.{◌≡◌, [], map};
-ghost use Rattle.std.specs.List.{position};
+ghost use Rattle.std.specs.List.{find};
 ghost use Rattle.std.specs.List.Sorted.{IsStrictlySortedBy};
+ghost use Rattle.std.specs.Option.{option_copied};
 ghost use Rattle.std.specs.Ordering.{nat_cmp};
 ghost use Rattle.std.specs.Cmp.Lexicographic.{slice_cmp};
 ghost use Rattle.std.specs.Str.{bytes_eq};
-ghost use Rattle.pb_workspace.specs.ByKey.{table_key};
+ghost use Rattle.pb_package.specs.ByKey.{table_key};
 
-use crate::package::{DependencyKind, Entry};
 use crate::wanted::Wanted;
-use pb_data::Items;
+use pb_data::{Items, Text};
+use pb_manifest::WorkspaceDependency;
 use std::alloc::Global;
-use std::cmp::Ordering;
 use std::marker::Model;
 
 /// What entries ask for, in the order of the entries. Contracts see the list of it.
-#[derive(Debug, Drop)]
+#[derive(Drop)]
 pub struct WantedByKey {
     inside: Items<Wanted>,
 }
@@ -28,7 +27,7 @@ impl Model for WantedByKey {
     ghost use Rattle.std.specs.List.Sorted.{IsStrictlySortedBy};
     ghost use Rattle.std.specs.Ordering.{nat_cmp};
     ghost use Rattle.std.specs.Cmp.Lexicographic.{slice_cmp};
-    ghost use Rattle.pb_workspace.specs.ByKey.{table_key};
+    ghost use Rattle.pb_package.specs.ByKey.{table_key};
     ghost use Rattle.pb_workspace.specs.declared.wanted.Wanted.{Wanted};
 
     ghost Value = { List Wanted };
@@ -63,72 +62,52 @@ impl WantedByKey {
     }
 }
 
-/// How an entry stands to a key of a table.
-fn compared(entry: &Entry, kind: DependencyKind, key: &[u8]) -> Ordering
-    ensures { result ≡ slice_cmp nat_cmp (table_key entry.now.kind entry.now.key) (table_key kind key.now) }
-{
-    match (entry.kind, kind) {
-        (DependencyKind::Normal, DependencyKind::Build) => Ordering::Less,
-        (DependencyKind::Build, DependencyKind::Normal) => Ordering::Greater,
-        (DependencyKind::Normal, DependencyKind::Normal) => entry.key.as_bytes().cmp(key),
-        (DependencyKind::Build, DependencyKind::Build) => entry.key.as_bytes().cmp(key),
-    }
+/// Entries of `[workspace.dependencies]` in byte order of their keys, no two of one key. Contracts see
+/// the list of them.
+#[derive(Drop)]
+pub struct SharedByKey {
+    inside: Items<WorkspaceDependency>,
 }
 
-/// The entries of a package in order. Contracts see the list of them.
-#[derive(Debug, Drop)]
-pub struct EntriesByKey {
-    inside: Items<Entry>,
-}
-
-impl Model for EntriesByKey {
+impl Model for SharedByKey {
     ghost use Rattle.std.specs.Prelude.{List, map};
     ghost use Rattle.std.specs.List.Sorted.{IsStrictlySortedBy};
     ghost use Rattle.std.specs.Ordering.{nat_cmp};
     ghost use Rattle.std.specs.Cmp.Lexicographic.{slice_cmp};
-    ghost use Rattle.pb_workspace.specs.ByKey.{table_key};
-    ghost use Rattle.pb_workspace.specs.declared.package.Entry.{Entry};
+    ghost use Rattle.pb_manifest.specs.declared.dependency.WorkspaceDependency.{WorkspaceDependency};
 
-    ghost Value = { List Entry };
+    ghost Value = { List WorkspaceDependency };
 
     ghost view = { λ a. a.inside };
 
-    ghost invariant = { λ a. IsStrictlySortedBy (slice_cmp nat_cmp) (map (λ entry. table_key entry.kind entry.key) a.inside) };
+    ghost invariant = { λ a. IsStrictlySortedBy (slice_cmp nat_cmp) (map (λ entry. entry.key) a.inside) };
 }
 
-impl EntriesByKey {
+impl SharedByKey {
     /// No entries, which takes no memory.
-    pub fn new(alloc: Global) -> EntriesByKey
+    pub fn new(alloc: Global) -> SharedByKey
         ensures { result ≡ [] }
     {
-        EntriesByKey {
+        SharedByKey {
             inside: Items::new(alloc),
         }
     }
 
-    /// Entries that stand in order.
-    pub fn from_items(entries: Items<Entry>) -> EntriesByKey
-        requires { IsStrictlySortedBy (slice_cmp nat_cmp) (map (λ entry. table_key entry.kind entry.key) entries) }
+    /// Entries that stand in byte order of their keys.
+    pub fn from_items(entries: Items<WorkspaceDependency>) -> SharedByKey
+        requires { IsStrictlySortedBy (slice_cmp nat_cmp) (map (λ entry. entry.key) entries) }
         ensures { result ≡ entries }
     {
-        EntriesByKey { inside: entries }
+        SharedByKey { inside: entries }
     }
 
-    /// The entries themselves.
-    pub fn as_slice(&self) -> &[Entry]
-        ensures { result.now ≡ self.now }
-    {
-        self.inside.as_slice()
-    }
-
-    /// The place of the entry of a key in a table.
-    pub fn place_of(&self, kind: DependencyKind, key: &[u8]) -> Option<usize>
-        ensures place { result ≡ position (λ entry. bytes_eq (table_key kind key.now) (table_key entry.kind entry.key)) self.now }
-        ensures order { IsStrictlySortedBy (slice_cmp nat_cmp) (map (λ entry. table_key entry.kind entry.key) self.now) }
+    /// The entry of a key.
+    pub fn keyed(&self, key: &Text) -> Option<&WorkspaceDependency>
+        ensures { option_copied result ≡ find (λ entry. bytes_eq key.now entry.key) self.now }
     {
         let entries = self.inside.as_slice();
-        match entries.binary_search_by(|entry| compared(entry, kind, key)) {
-            Ok(place) => Some(place),
+        match entries.binary_search_by(|entry| entry.key.cmp(key)) {
+            Ok(place) => Some(&entries[place]),
             Err(_) => None,
         }
     }

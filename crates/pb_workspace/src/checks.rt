@@ -10,11 +10,11 @@ ghost use Rattle.pb_workspace.specs.declared.wanted.Wanted.{Wanted};
 
 use crate::by_folder::ByFolder;
 use crate::draft::Draft;
-use crate::fault::LoadFault;
 use crate::places::draft_in;
 use crate::wanted::Wanted;
 use pb_data::{Mentions, TryCopy};
 use pb_manifest::{Requirement, Version};
+use pb_package::LoadFault;
 use std::alloc::{AllocError, Global};
 
 /// Whether two packages have one name.

@@ -6,26 +6,24 @@ ghost use Rattle.pb_place.specs.World.{from_nothing};
 ghost use Rattle.pb_manifest.specs.Letters.{is_name};
 ghost use Rattle.pb_workspace.specs.Causes.{is_failure, Told, Reads};
 ghost use Rattle.pb_workspace.specs.Drafts.{lists_of, draft_from, draft_with, draft_of};
-ghost use Rattle.pb_workspace.specs.declared.fault.LoadFault.TheVariants as load_fault;
+ghost use Rattle.pb_package.specs.declared.fault.LoadFault.TheVariants as load_fault;
 ghost use Rattle.std.specs.List.{AllByRecursion};
 ghost use Rattle.pb_workspace.specs.Drafted.{AreFeatures, ArePromised, IsDraft, IsKeyed, IsWantedKeyed, IsWrittenFeature};
-ghost use Rattle.pb_workspace.specs.Settled.{IsAscending};
+ghost use Rattle.pb_package.specs.Settled.{IsAscending};
 
 use crate::by_key::WantedByKey;
-use crate::by_name::{BinariesByName, FeaturesByName};
-use crate::fault::LoadFault;
 use crate::features::features_of;
 use crate::keys::{Keys, keys_of};
-use crate::package::{About, Library};
 use crate::settling::{Given, Targets, has_same_binaries, targets_of, wanted_in};
 use crate::wanted::Standing;
 use pb_data::{Items, Text};
 use pb_manifest::{Dependency, Edition, Feature, Package, Version};
+use pb_package::{About, BinariesByName, FeaturesByName, Library, LoadFault};
 use pb_place::{PathText, Place};
 use std::alloc::Global;
 
 /// The tables of a manifest beside `[package]` that say something of its package.
-#[derive(Debug, Drop)]
+#[derive(Drop)]
 pub struct Tables {
     /// `[lib]`.
     pub library: Option<pb_manifest::Library>,
@@ -42,7 +40,7 @@ pub struct Tables {
 }
 
 /// A package as one whole, whose entries' packages are not looked for yet.
-#[derive(Debug, Drop)]
+#[derive(Drop)]
 pub struct Draft {
     /// The folder that its manifest lies in.
     pub folder: PathText,
@@ -150,8 +148,8 @@ fn draft_from(
 /// The package of these keys.
 #[tactic(auto, unfolding(crate::specs::Drafts::draft_with))]
 fn draft_with<P: Place>(
-    place: &mut P,
     alloc: Global,
+    place: &mut P,
     target: &PathText,
     at: Standing,
     is_member: bool,
@@ -185,7 +183,7 @@ fn draft_with<P: Place>(
         features,
         binaries.as_slice(),
     )?;
-    let targets = targets_of(place, alloc, target, &at.folder, &keys, library, binaries)?;
+    let targets = targets_of(alloc, place, target, &at.folder, &keys, library, binaries)?;
     Ok(draft_from(at, is_member, keys, lists, dev_dependencies, targets))
 }
 
@@ -195,24 +193,24 @@ fn draft_with<P: Place>(
 /// or `registry`. The first is told: of the keys, then of `[dependencies]`, then of `[build-dependencies]`.
 #[tactic(auto, unfolding(crate::specs::Drafts::draft_of))]
 pub fn draft_of<P: Place>(
-    place: &mut P,
     alloc: Global,
+    place: &mut P,
     target: &PathText,
     at: Standing,
     is_member: bool,
     given: &Given,
-    found: Package,
+    found: &Package,
     tables: Tables,
 ) -> Result<Draft, LoadFault>
     requires binaries { All (λ b. is_name b.name ≡ true) tables.binaries }
-    requires name { is_name found.name ≡ true }
+    requires name { is_name found.now.name ≡ true }
     requires promised { ArePromised tables }
-    ensures ok { IsTrue P.tells → Told result (draft_of (from_nothing target.now (P.world place.old)) at is_member given.now found tables) }
+    ensures ok { IsTrue P.tells → Told result (draft_of (from_nothing target.now (P.world place.old)) at is_member given.now found.now tables) }
     ensures draft { IfOk result IsDraft }
     ensures folder { IfOk result (λ draft. draft.folder ≡ at.folder) }
     ensures same { IsTrue P.tells → P.world place.new ≡ P.world place.old }
     ensures reads { Reads result (P.counts place.old) (P.counts place.new) }
 {
-    let keys = keys_of(place, alloc, target, &at, &given.package, found)?;
-    draft_with(place, alloc, target, at, is_member, given, tables, keys)
+    let keys = keys_of(alloc, place, target, &at, &given.package, found)?;
+    draft_with(alloc, place, target, at, is_member, given, tables, keys)
 }

@@ -10,10 +10,10 @@ ghost use Rattle.pb_workspace.specs.Features.{with_made, with_written, feature_o
 ghost use Rattle.pb_workspace.specs.Enabling.{named_by, named_in, AreEnabledNames, with_one};
 ghost use Rattle.pb_workspace.specs.Drafted.{AreFeatures, IsKeyed, IsWrittenFeature};
 
-use crate::by_name::FeaturesByName;
 use crate::sorted::Sorted;
 use pb_data::{Items, Mentions, Text, TryCopy};
 use pb_manifest::{Dependency, Feature, FeatureItem};
+use pb_package::FeaturesByName;
 use std::alloc::{AllocError, Global};
 
 /// Mentions the name N of an item `dep:N`.

@@ -8,19 +8,18 @@ ghost use Rattle.pb_workspace.specs.Sources.{own_source, found_readme, script_of
 ghost use Rattle.pb_manifest.specs.Letters.{is_crate_name, is_name};
 ghost use Rattle.pb_workspace.specs.Drafted.{IsWrittenLibrary, IsLibraryNamed};
 
-use crate::fault::LoadFault;
-use crate::package::Library;
 use crate::source::{has_own_file, own_path, resolved};
 use pb_data::{Items, Text};
 use pb_manifest::{Build, CrateType, WrittenPath, library_name};
+use pb_package::{Library, LoadFault};
 use pb_place::{PathText, Place};
 use std::alloc::{AllocError, Global};
 
 /// The README of a package that names none: the first of `README.md`, `README.txt` and `README` that is a
 /// file of its folder (The Cargo Book, Manifest Format).
 pub fn found_readme<P: Place>(
-    place: &mut P,
     alloc: Global,
+    place: &mut P,
     target: &PathText,
     folder: &PathText,
 ) -> Result<Text, LoadFault>
@@ -29,13 +28,13 @@ pub fn found_readme<P: Place>(
     ensures outside { IfErr result (λ e. is_outside e ≡ true) }
     ensures reads { Reads result (P.counts place.old) (P.counts place.new) }
 {
-    if has_own_file(place, alloc, target, folder, "README.md")? {
+    if has_own_file(alloc, place, target, folder, "README.md")? {
         return Ok(Text::from_str(alloc, "README.md")?);
     }
-    if has_own_file(place, alloc, target, folder, "README.txt")? {
+    if has_own_file(alloc, place, target, folder, "README.txt")? {
         return Ok(Text::from_str(alloc, "README.txt")?);
     }
-    if has_own_file(place, alloc, target, folder, "README")? {
+    if has_own_file(alloc, place, target, folder, "README")? {
         return Ok(Text::from_str(alloc, "README")?);
     }
     Ok(Text::from_str(alloc, "")?)
@@ -43,8 +42,8 @@ pub fn found_readme<P: Place>(
 
 /// The path of a file of a folder, where it is one of the sources.
 pub(crate) fn own_source<P: Place>(
-    place: &mut P,
     alloc: Global,
+    place: &mut P,
     target: &PathText,
     folder: &PathText,
     name: &str,
@@ -55,7 +54,7 @@ pub(crate) fn own_source<P: Place>(
     ensures outside { IfErr result (λ e. is_outside e ≡ true) }
     ensures reads { Reads result (P.counts place.old) (P.counts place.new) }
 {
-    if !has_own_file(place, alloc, target, folder, name)? {
+    if !has_own_file(alloc, place, target, folder, name)? {
         return Ok(None);
     }
     let path = own_path(alloc, folder, name)?;
@@ -65,8 +64,8 @@ pub(crate) fn own_source<P: Place>(
 /// The source of a package's build script, where it has one (The Cargo Book, Build Scripts): `build.rs` where
 /// that is a file, unless `build` says otherwise. A path that `build` writes is taken as it is.
 pub fn script_of<P: Place>(
-    place: &mut P,
     alloc: Global,
+    place: &mut P,
     target: &PathText,
     folder: &PathText,
     build: &Build,
@@ -78,7 +77,7 @@ pub fn script_of<P: Place>(
 {
     match build {
         Build::Discovered => {
-            let script = own_source(place, alloc, target, folder, "build.rs")?;
+            let script = own_source(alloc, place, target, folder, "build.rs")?;
             Ok(script)
         }
         Build::Standard => {
@@ -146,8 +145,8 @@ fn written_library(
 
 /// The library of a package without a `[lib]` table: `src/lib.rs` where that is a file.
 fn found_library<P: Place>(
-    place: &mut P,
     alloc: Global,
+    place: &mut P,
     target: &PathText,
     folder: &PathText,
     name: Text,
@@ -159,7 +158,7 @@ fn found_library<P: Place>(
     ensures outside { IfErr result (λ e. is_outside e ≡ true) }
     ensures reads { Reads result (P.counts place.old) (P.counts place.new) }
 {
-    let source = match own_source(place, alloc, target, folder, "src/lib.rs")? {
+    let source = match own_source(alloc, place, target, folder, "src/lib.rs")? {
         Some(source) => source,
         None => return Ok(None),
     };
@@ -175,8 +174,8 @@ fn found_library<P: Place>(
 /// else `src/lib.rs` where that is a file.
 #[tactic(auto, using(crate::proofs::Naming::library_laws))]
 pub fn library_of<P: Place>(
-    place: &mut P,
     alloc: Global,
+    place: &mut P,
     target: &PathText,
     folder: &PathText,
     package_name: &str,
@@ -197,7 +196,7 @@ pub fn library_of<P: Place>(
             Ok(Some(library))
         }
         None => {
-            let library = found_library(place, alloc, target, folder, name)?;
+            let library = found_library(alloc, place, target, folder, name)?;
             Ok(library)
         }
     }

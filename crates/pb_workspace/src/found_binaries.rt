@@ -13,12 +13,11 @@ ghost use Rattle.pb_manifest.specs.Letters.{is_name};
 ghost use Rattle.pb_workspace.specs.Drafted.{IsBinaryNamed};
 
 use crate::between::names_in;
-use crate::fault::LoadFault;
 use crate::found::own_source;
-use crate::package::Binary;
 use crate::source::{failed, own_path};
 use pb_data::{Items, Text, TryCopy};
 use pb_manifest::letters::is_name;
+use pb_package::{Binary, LoadFault};
 use pb_place::{PathText, Place};
 use std::alloc::{AllocError, Global};
 
@@ -138,27 +137,10 @@ fn add_binaries(
     Ok(())
 }
 
-/// The paths that do not lie at or below the target folder.
-fn sources_among(
-    alloc: Global,
-    target: &PathText,
-    paths: Items<PathText>,
-) -> Result<Items<PathText>, AllocError>
-    ensures { IfOk result (λ kept. kept ≡ filter (λ path. not (is_at_or_below target.now path)) paths) }
-{
-    let mut kept = Items::new(alloc);
-    for path in paths.into_vec() {
-        if !path.starts_with(target) {
-            kept.push(path)?;
-        }
-    }
-    Ok(kept)
-}
-
-/// The files of the sources below a folder, in byte order.
+/// The files of the sources below a folder, in byte order. Nothing at or below the target folder is looked at.
 pub fn listed_sources<P: Place>(
-    place: &mut P,
     alloc: Global,
+    place: &mut P,
     target: &PathText,
     folder: &PathText,
 ) -> Result<Items<PathText>, LoadFault>
@@ -169,11 +151,8 @@ pub fn listed_sources<P: Place>(
     ensures reads { Reads result (P.counts place.old) (P.counts place.new) }
 {
     let named = folder.copy(alloc)?;
-    match place.list(alloc, folder) {
-        Ok(paths) => {
-            let kept = sources_among(alloc, target, paths)?;
-            Ok(kept)
-        }
+    match place.list_outside(alloc, folder, target) {
+        Ok(paths) => Ok(paths),
         Err(fault) => Err(failed(named, fault)),
     }
 }
@@ -219,8 +198,8 @@ fn binaries_from(
 /// the later counts. NAME has the letters of a package's name. What lies at or below the target folder is left
 /// out.
 pub fn found_binaries<P: Place>(
-    place: &mut P,
     alloc: Global,
+    place: &mut P,
     target: &PathText,
     folder: &PathText,
     name: &Text,
@@ -233,8 +212,8 @@ pub fn found_binaries<P: Place>(
     ensures reads { Reads result (P.counts place.old) (P.counts place.new) }
 {
     let bin = own_path(alloc, folder, "src/bin")?;
-    let main = own_source(place, alloc, target, folder, "src/main.rs")?;
-    let paths = listed_sources(place, alloc, target, &bin)?;
+    let main = own_source(alloc, place, target, folder, "src/main.rs")?;
+    let paths = listed_sources(alloc, place, target, &bin)?;
     let binaries = binaries_from(alloc, name, &bin, paths.as_slice(), main)?;
     Ok(binaries)
 }

@@ -5,7 +5,7 @@ ghost use Rattle.pb_workspace.specs.Drafted.{HasSharedInOrder};
 ghost use Rattle.pb_workspace.specs.Frames.{no_keys, nothing, keys_or_none, frame_of, is_member};
 
 use crate::by_folder::ByFolder;
-use crate::by_name::SharedByKey;
+use crate::by_key::SharedByKey;
 use crate::member::is_excluded;
 use crate::settling::Given;
 use pb_data::Items;
@@ -14,7 +14,7 @@ use pb_place::PathText;
 use std::alloc::{AllocError, Global};
 
 /// What a root manifest says of its workspace.
-#[derive(Debug, Drop)]
+#[derive(Drop)]
 pub struct Frame {
     /// The folder of the root manifest.
     pub root: PathText,

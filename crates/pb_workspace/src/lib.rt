@@ -8,10 +8,8 @@ pub mod between;
 pub mod binaries;
 pub mod by_folder;
 pub mod by_key;
-pub mod by_name;
 pub mod checks;
 pub mod draft;
-pub mod fault;
 pub mod features;
 pub mod found;
 pub mod found_binaries;
@@ -22,8 +20,6 @@ pub mod laws;
 pub mod loading;
 pub mod member;
 pub mod member_folders;
-pub mod options;
-pub mod package;
 pub mod places;
 pub mod rounds;
 pub mod selecting;
@@ -32,14 +28,11 @@ pub mod sorted;
 pub mod source;
 pub mod taken;
 pub mod wanted;
-pub mod workspace;
 
-pub use by_key::EntriesByKey;
-pub use by_name::{BinariesByName, FeaturesByName};
-pub use fault::LoadFault;
 pub use laws::{globs_stand_for_names, packages_are_the_least_set, rounds_are_enough};
 pub use loading::load;
-pub use options::{Options, Selection};
-pub use package::{About, Binary, DependencyKind, Entry, Library, Package, Side};
+pub use pb_package::{
+    About, BinariesByName, Binary, DefaultMembers, DependencyKind, EntriesByKey, Entry,
+    FeaturesByName, Library, LoadFault, Options, Package, Selection, Side, Workspace,
+};
 pub use selecting::selected;
-pub use workspace::{DefaultMembers, Workspace};

@@ -1,23 +1,23 @@
 //! The workspace of a manifest.
 
-ghost use Rattle.std.specs.Prelude.{◌≡◌, All, IfErr, IfOk, IsTrue, false, true, IfSome};
+ghost use Rattle.std.specs.Prelude.{◌≡◌, All, IfErr, IfOk, IsTrue, Some, false, true, IfSome};
 ghost use Rattle.pb_place.specs.Paths.{folder_of};
+ghost use Rattle.pb_workspace.specs.Rounds.{with_draft};
 ghost use Rattle.pb_place.specs.World.{from_nothing};
 ghost use Rattle.pb_manifest.specs.Letters.{is_name};
 ghost use Rattle.pb_workspace.specs.ByFolder.{values_of};
 ghost use Rattle.pb_data.specs.Gives.{Gives};
-ghost use Rattle.pb_workspace.specs.declared.fault.LoadFault.TheVariants as load_fault;
+ghost use Rattle.pb_package.specs.declared.fault.LoadFault.TheVariants as load_fault;
 ghost use Rattle.pb_workspace.specs.Causes.{is_failure, Told, Reads};
 ghost use Rattle.pb_workspace.specs.Frames.{frame_of};
 ghost use Rattle.pb_workspace.specs.Loaded.{root_parts, at_root, nothing_read, root_read, others_read, packages_read, workspace_from, workspace_in, workspace_of};
 ghost use Rattle.pb_workspace.specs.Drafted.{ArePromised, HasSharedInOrder, IsReading};
-ghost use Rattle.pb_workspace.specs.Settled.{IsSettled};
+ghost use Rattle.pb_package.specs.Settled.{IsSettled};
 
 use crate::assembled::assembled;
 use crate::by_folder::ByFolder;
 use crate::checks::fault_of;
 use crate::draft::{Draft, Tables, draft_of};
-use crate::fault::LoadFault;
 use crate::frame::{Frame, frame_of};
 use crate::member_folders::{is_manifest, member_folders};
 use crate::places::places_of;
@@ -25,17 +25,17 @@ use crate::rounds::{
     ENOUGH_ROUNDS, Parts, Reading, all_read, no_manifest, parts_at, rounds, with_draft,
 };
 use crate::wanted::Standing;
-use crate::workspace::Workspace;
 use pb_data::{Items, TryCopy};
 use pb_manifest::{Package, Profile, WorkspaceTable};
+use pb_package::{LoadFault, Workspace};
 use pb_place::{PathText, Place};
 use std::alloc::{AllocError, Global};
 
 /// What the root manifest says. NoManifest where it is not named `Cargo.toml` or no file of the sources is
 /// there.
 fn root_parts<P: Place>(
-    place: &mut P,
     alloc: Global,
+    place: &mut P,
     target: &PathText,
     path: &PathText,
 ) -> Result<Parts, LoadFault>
@@ -50,7 +50,7 @@ fn root_parts<P: Place>(
     if !is_manifest(path) {
         return Err(no_manifest(alloc, path));
     }
-    let parts = parts_at(place, alloc, target, path)?;
+    let parts = parts_at(alloc, place, target, path)?;
     Ok(parts)
 }
 
@@ -78,11 +78,43 @@ fn nothing_read(alloc: Global) -> Reading
     }
 }
 
+/// The root package alone.
+fn begun_with(alloc: Global, frame: &Frame, draft: Draft) -> Result<Reading, AllocError>
+    ensures { IfOk result (λ begun. begun ≡ with_draft nothing_read frame.now.root draft) }
+{
+    let folder = frame.root.copy(alloc)?;
+    with_draft(alloc, nothing_read(alloc), folder, draft)
+}
+
+/// The root package read.
+#[tactic(auto, using(crate::proofs::Keeping::draft_laws), unfolding(crate::specs::Loaded::root_read))]
+fn root_package_read<P: Place>(
+    alloc: Global,
+    place: &mut P,
+    target: &PathText,
+    frame: &Frame,
+    tables: Tables,
+    found: &Package,
+) -> Result<Reading, LoadFault>
+    requires binaries { All (λ b. is_name b.name ≡ true) tables.binaries }
+    requires promised { ArePromised tables }
+    requires found_name { is_name found.now.name ≡ true }
+    ensures ok { IsTrue P.tells → Told result (root_read (from_nothing target.now (P.world place.old)) frame.now tables (Some found.now)) }
+    ensures kept { IfOk result IsReading }
+    ensures same { IsTrue P.tells → P.world place.new ≡ P.world place.old }
+    ensures reads { Reads result (P.counts place.old) (P.counts place.new) }
+{
+    let at = at_root(alloc, frame)?;
+    let draft = draft_of(alloc, place, target, at, true, &frame.given, found, tables)?;
+    let begun = begun_with(alloc, frame, draft)?;
+    Ok(begun)
+}
+
 /// The root package read, where there is one.
 #[tactic(auto, using(crate::proofs::Keeping::draft_laws), unfolding(crate::specs::Loaded::root_read))]
 fn root_read<P: Place>(
-    place: &mut P,
     alloc: Global,
+    place: &mut P,
     target: &PathText,
     frame: &Frame,
     tables: Tables,
@@ -96,22 +128,17 @@ fn root_read<P: Place>(
     ensures same { IsTrue P.tells → P.world place.new ≡ P.world place.old }
     ensures reads { Reads result (P.counts place.old) (P.counts place.new) }
 {
-    let found = match found {
-        Some(found) => found,
-        None => return Ok(nothing_read(alloc)),
-    };
-    let at = at_root(alloc, frame)?;
-    let folder = frame.root.copy(alloc)?;
-    let draft = draft_of(place, alloc, target, at, true, &frame.given, found, tables)?;
-    let made = with_draft(alloc, nothing_read(alloc), folder, draft)?;
-    Ok(made)
+    match found {
+        Some(found) => root_package_read(alloc, place, target, frame, tables, &found),
+        None => Ok(nothing_read(alloc)),
+    }
 }
 
 /// The members read, and then what path dependencies lead to, round for round.
 #[tactic(auto, unfolding(crate::specs::Loaded::others_read))]
 fn others_read<P: Place>(
-    place: &mut P,
     alloc: Global,
+    place: &mut P,
     target: &PathText,
     frame: &Frame,
     begun: Reading,
@@ -122,18 +149,18 @@ fn others_read<P: Place>(
     ensures same { IsTrue P.tells → P.world place.new ≡ P.world place.old }
     ensures reads { Reads result (P.counts place.old) (P.counts place.new) }
 {
-    let meant = member_folders(place, alloc, target, frame)?;
+    let meant = member_folders(alloc, place, target, frame)?;
     let folders = meant.folders(alloc)?;
-    let read = all_read(place, alloc, target, frame, &meant, begun, folders)?;
-    let read = rounds(place, alloc, target, frame, &meant, read, ENOUGH_ROUNDS)?;
+    let read = all_read(alloc, place, target, frame, &meant, begun, folders)?;
+    let read = rounds(alloc, place, target, frame, &meant, read, ENOUGH_ROUNDS)?;
     Ok(read)
 }
 
 /// The packages of a workspace, by their folders.
 #[tactic(auto, unfolding(crate::specs::Loaded::packages_read))]
 fn packages_read<P: Place>(
-    place: &mut P,
     alloc: Global,
+    place: &mut P,
     target: &PathText,
     frame: &Frame,
     tables: Tables,
@@ -147,8 +174,8 @@ fn packages_read<P: Place>(
     ensures same { IsTrue P.tells → P.world place.new ≡ P.world place.old }
     ensures reads { Reads result (P.counts place.old) (P.counts place.new) }
 {
-    let begun = root_read(place, alloc, target, frame, tables, found)?;
-    let read = others_read(place, alloc, target, frame, begun)?;
+    let begun = root_read(alloc, place, target, frame, tables, found)?;
+    let read = others_read(alloc, place, target, frame, begun)?;
     Ok(read)
 }
 
@@ -193,8 +220,8 @@ fn finished(
 /// The workspace of a root package and a frame.
 #[tactic(auto, unfolding(crate::specs::Loaded::workspace_in))]
 fn workspace_in<P: Place>(
-    place: &mut P,
     alloc: Global,
+    place: &mut P,
     target: &PathText,
     frame: &Frame,
     profiles: Items<Profile>,
@@ -209,7 +236,7 @@ fn workspace_in<P: Place>(
     ensures same { IsTrue P.tells → P.world place.new ≡ P.world place.old }
     ensures reads { Reads result (P.counts place.old) (P.counts place.new) }
 {
-    let read = packages_read(place, alloc, target, frame, tables, found)?;
+    let read = packages_read(alloc, place, target, frame, tables, found)?;
     let made = finished(alloc, target, frame, profiles, read)?;
     Ok(made)
 }
@@ -227,8 +254,8 @@ fn workspace_in<P: Place>(
 /// LinksWithoutScript and SameBinary, in this order. It starts no child and changes no file.
 #[tactic(auto, unfolding(crate::specs::Loaded::workspace_of))]
 pub fn load<P: Place>(
-    place: &mut P,
     alloc: Global,
+    place: &mut P,
     manifest: &PathText,
     target: &PathText,
 ) -> Result<Workspace, LoadFault>
@@ -239,11 +266,11 @@ pub fn load<P: Place>(
 {
     let root = manifest.folder(alloc)?;
     let path = manifest.copy(alloc)?;
-    let parts = root_parts(place, alloc, target, manifest)?;
+    let parts = root_parts(alloc, place, target, manifest)?;
     let frame = frame_of(alloc, root, path, parts.workspace);
     workspace_in(
-        place,
         alloc,
+        place,
         target,
         &frame,
         parts.profiles,

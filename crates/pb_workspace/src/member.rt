@@ -16,7 +16,7 @@ use pb_place::PathText;
 use std::alloc::{AllocError, Global};
 
 /// A part of what a folder has to be for a text to mean it.
-#[derive(Debug, Drop)]
+#[derive(Drop)]
 pub struct Part {
     /// A name, or a pattern for one.
     pub text: Text,

@@ -9,7 +9,6 @@ ghost use Rattle.pb_workspace.specs.Sources.{resolved};
 ghost use Rattle.pb_workspace.specs.MemberFolders.{is_fixed, fixed_text, base_of, is_manifest, is_taken, folders_taken, folders_meant, member_folders};
 
 use crate::by_folder::{ByFolder, put_folders};
-use crate::fault::LoadFault;
 use crate::found_binaries::listed_sources;
 use crate::frame::Frame;
 use crate::glob::is_glob;
@@ -17,6 +16,7 @@ use crate::member::{Part, is_excluded, is_meant, parts_meant};
 use crate::source::resolved;
 use pb_data::Items;
 use pb_manifest::WrittenPath;
+use pb_package::LoadFault;
 use pb_place::{PathText, Place};
 use std::alloc::{AllocError, Global};
 
@@ -110,8 +110,8 @@ fn taken_among(
 
 /// The folders with a manifest that a glob takes. It lists the files below the glob's base once.
 fn folders_taken<P: Place>(
-    place: &mut P,
     alloc: Global,
+    place: &mut P,
     target: &PathText,
     frame: &Frame,
     parts: &[Part],
@@ -122,7 +122,7 @@ fn folders_taken<P: Place>(
     ensures reads { Reads result (P.counts place.old) (P.counts place.new) }
 {
     let base = base_of(alloc, parts)?;
-    let paths = listed_sources(place, alloc, target, &base)?;
+    let paths = listed_sources(alloc, place, target, &base)?;
     let folders = manifest_folders(alloc, paths.as_slice())?;
     let taken = taken_among(alloc, frame, parts, folders)?;
     Ok(taken)
@@ -143,8 +143,8 @@ fn folder_written(
 
 /// The folders that one text of `members` means.
 fn folders_meant<P: Place>(
-    place: &mut P,
     alloc: Global,
+    place: &mut P,
     target: &PathText,
     frame: &Frame,
     text: &WrittenPath,
@@ -156,7 +156,7 @@ fn folders_meant<P: Place>(
 {
     if is_glob(text.as_str()) {
         let parts = parts_meant(alloc, &frame.root, text)?;
-        let folders = folders_taken(place, alloc, target, frame, parts.as_slice())?;
+        let folders = folders_taken(alloc, place, target, frame, parts.as_slice())?;
         return Ok(folders);
     }
     let folders = folder_written(alloc, &frame.root, text)?;
@@ -175,8 +175,8 @@ fn add_folders(made: &mut Items<PathText>, folders: Items<PathText>) -> Result<(
 
 /// The folders that texts of `members` mean, text for text.
 fn folders_of_texts<P: Place>(
-    place: &mut P,
     alloc: Global,
+    place: &mut P,
     target: &PathText,
     frame: &Frame,
     texts: &[WrittenPath],
@@ -188,7 +188,7 @@ fn folders_of_texts<P: Place>(
 {
     let mut made = Items::new(alloc);
     for text in texts {
-        let folders = folders_meant(place, alloc, target, frame, text)?;
+        let folders = folders_meant(alloc, place, target, frame, text)?;
         add_folders(&mut made, folders)?;
     }
     Ok(made)
@@ -198,8 +198,8 @@ fn folders_of_texts<P: Place>(
 /// written out, and those with a manifest that a glob means and `exclude` does not leave out. What lies at or
 /// below the target folder is left out.
 pub fn member_folders<P: Place>(
-    place: &mut P,
     alloc: Global,
+    place: &mut P,
     target: &PathText,
     frame: &Frame,
 ) -> Result<ByFolder<()>, LoadFault>
@@ -208,7 +208,7 @@ pub fn member_folders<P: Place>(
     ensures outside { IfErr result (λ e. is_outside e ≡ true) }
     ensures reads { Reads result (P.counts place.old) (P.counts place.new) }
 {
-    let folders = folders_of_texts(place, alloc, target, frame, frame.members.as_slice())?;
+    let folders = folders_of_texts(alloc, place, target, frame, frame.members.as_slice())?;
     let mut made = ByFolder::new(alloc);
     put_folders(&mut made, folders)?;
     Ok(made)

@@ -1,25 +1,26 @@
 //! The packages of a workspace, read folder by folder.
 
-ghost use Rattle.std.specs.Prelude.{◌≡◌, All, IfErr, IfOk, IsTrue, false, true, IfSome};
+ghost use Rattle.std.specs.Prelude.{◌≡◌, All, IfErr, IfOk, IsTrue, OnOk, false, true, IfSome};
 ghost use Rattle.pb_place.specs.World.{from_nothing};
 ghost use Rattle.pb_place.specs.Paths.{below};
 ghost use Rattle.pb_manifest.specs.Letters.{is_name};
 ghost use Rattle.pb_manifest.specs.Promises.{IsManifest};
-ghost use Rattle.pb_workspace.specs.ByFolder.{folders_of};
+ghost use Rattle.pb_workspace.specs.ByFolder.{folders_of, with_folders};
 ghost use Rattle.pb_workspace.specs.Causes.{is_failure, is_outside, Told, Reads};
-ghost use Rattle.pb_workspace.specs.Frames.{given_to};
-ghost use Rattle.pb_workspace.specs.declared.fault.LoadFault.TheVariants as load_fault;
+ghost use Rattle.pb_workspace.specs.Frames.{given_to, nothing};
+ghost use Rattle.pb_package.specs.declared.fault.LoadFault.TheVariants as load_fault;
 ghost use Rattle.pb_workspace.specs.Rounds.{read_found, manifest_at, tables_in, parts_in, parts_at, no_package, draft_if, standing_in, draft_in_file, draft_at, leads_to, with_draft, one_read, all_read, round, rounds};
 ghost use Rattle.pb_workspace.specs.Drafted.{ArePromised, HasSharedInOrder, IsDraft, IsReading};
 
 use crate::by_folder::{ByFolder, put_folders};
 use crate::draft::{Draft, Tables, draft_of};
-use crate::fault::LoadFault;
 use crate::frame::{Frame, is_member, nothing};
+use crate::settling::Given;
 use crate::source::{own_path, source};
 use crate::wanted::{Standing, Wanted};
 use pb_data::{Bytes, Items, TryCopy};
 use pb_manifest::{Key, Manifest, ManifestFault, Package, Profile, WorkspaceTable, read_manifest};
+use pb_package::LoadFault;
 use pb_place::{PathText, Place};
 use std::alloc::{AllocError, Global};
 
@@ -30,7 +31,7 @@ pub const GREATEST_NUMBER: usize = 256;
 pub const ENOUGH_ROUNDS: usize = 257;
 
 /// Packages that were read, and the folders of the next round.
-#[derive(Debug, Drop)]
+#[derive(Drop)]
 pub struct Reading {
     /// The packages by their folders.
     pub found: ByFolder<Draft>,
@@ -80,8 +81,8 @@ fn read_found(alloc: Global, path: &PathText, found: Option<Bytes>) -> Result<Ma
 
 /// What the manifest at a path says. NoManifest where no file of the sources is there.
 fn manifest_at<P: Place>(
-    place: &mut P,
     alloc: Global,
+    place: &mut P,
     target: &PathText,
     path: &PathText,
 ) -> Result<Manifest, LoadFault>
@@ -90,16 +91,24 @@ fn manifest_at<P: Place>(
     ensures same { IsTrue P.tells → P.world place.new ≡ P.world place.old }
     ensures reads { Reads result (P.counts place.old) (P.counts place.new) }
 {
-    let found = source(place, alloc, target, path)?;
+    let found = source(alloc, place, target, path)?;
     let manifest = read_found(alloc, path, found)?;
     Ok(manifest)
+}
+
+/// What a package may take from its workspace: nothing where it is no member.
+fn given_to<'a>(frame: &'a Frame, none: &'a Given, is_member: bool) -> &'a Given
+    requires { none.now ≡ nothing }
+    ensures { result.now ≡ given_to frame.now is_member }
+{
+    if is_member { &frame.given } else { none }
 }
 
 /// The package of a manifest that was read; the manifest with BadKind of `package` where it has none.
 #[tactic(auto, unfolding(crate::specs::Rounds::draft_if))]
 pub fn draft_if<P: Place>(
-    place: &mut P,
     alloc: Global,
+    place: &mut P,
     target: &PathText,
     frame: &Frame,
     is_member: bool,
@@ -116,19 +125,14 @@ pub fn draft_if<P: Place>(
     ensures same { IsTrue P.tells → P.world place.new ≡ P.world place.old }
     ensures reads { Reads result (P.counts place.old) (P.counts place.new) }
 {
-    let found = match found {
-        Some(found) => found,
-        None => {
-            return Err(refused(alloc, &at.manifest, ManifestFault::BadKind(Key::Package)));
+    match found {
+        Some(found) => {
+            let none = nothing(alloc);
+            let given = given_to(frame, &none, is_member);
+            draft_of(alloc, place, target, at, is_member, given, &found, tables)
         }
-    };
-    if is_member {
-        let draft = draft_of(place, alloc, target, at, true, &frame.given, found, tables)?;
-        return Ok(draft);
+        None => Err(refused(alloc, &at.manifest, ManifestFault::BadKind(Key::Package))),
     }
-    let none = nothing(alloc);
-    let draft = draft_of(place, alloc, target, at, false, &none, found, tables)?;
-    Ok(draft)
 }
 
 /// Where the package of a folder stands.
@@ -185,8 +189,8 @@ pub fn parts_of(read: Manifest) -> Parts
 
 /// What the manifest at a path says, taken apart. NoManifest where no file of the sources is there.
 pub fn parts_at<P: Place>(
-    place: &mut P,
     alloc: Global,
+    place: &mut P,
     target: &PathText,
     path: &PathText,
 ) -> Result<Parts, LoadFault>
@@ -198,15 +202,15 @@ pub fn parts_at<P: Place>(
     ensures same { IsTrue P.tells → P.world place.new ≡ P.world place.old }
     ensures reads { Reads result (P.counts place.old) (P.counts place.new) }
 {
-    let found = manifest_at(place, alloc, target, path)?;
+    let found = manifest_at(alloc, place, target, path)?;
     Ok(parts_of(found))
 }
 
 /// The package of the manifest that stands here.
 #[tactic(auto, unfolding(crate::specs::Rounds::draft_in_file))]
 fn draft_in_file<P: Place>(
-    place: &mut P,
     alloc: Global,
+    place: &mut P,
     target: &PathText,
     frame: &Frame,
     is_member: bool,
@@ -218,10 +222,10 @@ fn draft_in_file<P: Place>(
     ensures same { IsTrue P.tells → P.world place.new ≡ P.world place.old }
     ensures reads { Reads result (P.counts place.old) (P.counts place.new) }
 {
-    let parts = parts_at(place, alloc, target, &at.manifest)?;
+    let parts = parts_at(alloc, place, target, &at.manifest)?;
     draft_if(
-        place,
         alloc,
+        place,
         target,
         frame,
         is_member,
@@ -235,8 +239,8 @@ fn draft_in_file<P: Place>(
 /// the manifest with its fault, which is BadKind of `package` where it has no `[package]`.
 #[tactic(auto, unfolding(crate::specs::Rounds::draft_at))]
 fn draft_at<P: Place>(
-    place: &mut P,
     alloc: Global,
+    place: &mut P,
     target: &PathText,
     frame: &Frame,
     meant: &ByFolder<()>,
@@ -253,7 +257,7 @@ fn draft_at<P: Place>(
     }
     let at = standing_in(alloc, frame, folder)?;
     let member = is_member(alloc, frame, meant, folder)?;
-    let draft = draft_in_file(place, alloc, target, frame, member, at)?;
+    let draft = draft_in_file(alloc, place, target, frame, member, at)?;
     Ok(draft)
 }
 
@@ -268,6 +272,29 @@ fn leads_to(alloc: Global, wanted: &[Wanted]) -> Result<Items<PathText>, AllocEr
     Ok(folders)
 }
 
+/// Puts the folders to which the entries of a package lead.
+fn put_led(alloc: Global, ahead: &mut ByFolder<()>, draft: &Draft) -> Result<(), AllocError>
+    ensures { OnOk result (ahead.new ≡ with_folders ahead.old (leads_to draft.now.wanted)) }
+{
+    let folders = leads_to(alloc, draft.wanted.as_slice())?;
+    put_folders(ahead, folders)?;
+    Ok(())
+}
+
+/// Adds a package that was read.
+fn add_draft(
+    alloc: Global,
+    reading: &mut Reading,
+    folder: PathText,
+    draft: Draft,
+) -> Result<(), AllocError>
+    ensures { OnOk result (reading.new ≡ with_draft reading.old folder draft) }
+{
+    put_led(alloc, &mut reading.ahead, &draft)?;
+    reading.found.insert(folder, draft)?;
+    Ok(())
+}
+
 /// With a package that was read.
 pub fn with_draft(
     alloc: Global,
@@ -277,20 +304,15 @@ pub fn with_draft(
 ) -> Result<Reading, AllocError>
     ensures { IfOk result (λ made. made ≡ with_draft reading folder draft) }
 {
-    let Reading {
-        mut found,
-        mut ahead,
-    } = reading;
-    let folders = leads_to(alloc, draft.wanted.as_slice())?;
-    put_folders(&mut ahead, folders)?;
-    found.insert(folder, draft)?;
-    Ok(Reading { found, ahead })
+    let mut made = reading;
+    add_draft(alloc, &mut made, folder, draft)?;
+    Ok(made)
 }
 
 /// Reads one folder, unless it was read before. TooMany where it would be one of more than 256.
 fn one_read<P: Place>(
-    place: &mut P,
     alloc: Global,
+    place: &mut P,
     target: &PathText,
     frame: &Frame,
     meant: &ByFolder<()>,
@@ -309,15 +331,15 @@ fn one_read<P: Place>(
     if GREATEST_NUMBER <= reading.found.len() {
         return Err(LoadFault::TooMany);
     }
-    let draft = draft_at(place, alloc, target, frame, meant, &folder)?;
+    let draft = draft_at(alloc, place, target, frame, meant, &folder)?;
     let made = with_draft(alloc, reading, folder, draft)?;
     Ok(made)
 }
 
 /// Reads folders in turn, up to the first fault.
 pub fn all_read<P: Place>(
-    place: &mut P,
     alloc: Global,
+    place: &mut P,
     target: &PathText,
     frame: &Frame,
     meant: &ByFolder<()>,
@@ -332,15 +354,15 @@ pub fn all_read<P: Place>(
 {
     let mut reading = reading;
     for folder in folders.into_vec() {
-        reading = one_read(place, alloc, target, frame, meant, reading, folder)?;
+        reading = one_read(alloc, place, target, frame, meant, reading, folder)?;
     }
     Ok(reading)
 }
 
 /// One round: the folders to which the packages of the last one lead, in byte order.
 fn round<P: Place>(
-    place: &mut P,
     alloc: Global,
+    place: &mut P,
     target: &PathText,
     frame: &Frame,
     meant: &ByFolder<()>,
@@ -358,15 +380,15 @@ fn round<P: Place>(
         found,
         ahead: ByFolder::new(alloc),
     };
-    let made = all_read(place, alloc, target, frame, meant, begun, folders)?;
+    let made = all_read(alloc, place, target, frame, meant, begun, folders)?;
     Ok(made)
 }
 
 /// So many rounds.
 #[tactic(auto, unfolding(crate::specs::Rounds::rounds))]
 pub fn rounds<P: Place>(
-    place: &mut P,
     alloc: Global,
+    place: &mut P,
     target: &PathText,
     frame: &Frame,
     meant: &ByFolder<()>,
@@ -381,7 +403,7 @@ pub fn rounds<P: Place>(
 {
     let mut reading = reading;
     for done in 0..count {
-        match round(place, alloc, target, frame, meant, reading) {
+        match round(alloc, place, target, frame, meant, reading) {
             Ok(next) => reading = next,
             Err(fault) => return Err(fault),
         }

@@ -6,28 +6,26 @@ ghost use Rattle.pb_place.specs.World.{from_nothing};
 ghost use Rattle.pb_manifest.specs.Letters.{is_name};
 ghost use Rattle.pb_workspace.specs.Causes.{is_outside, is_failure, Reads};
 ghost use Rattle.pb_workspace.specs.Settling.{readme_found, wanted_in, discovered, targets_of, comes_again, has_same_binaries};
-ghost use Rattle.pb_workspace.specs.declared.fault.LoadFault.TheVariants as load_fault;
+ghost use Rattle.pb_package.specs.declared.fault.LoadFault.TheVariants as load_fault;
 ghost use Rattle.std.specs.List.{AllByRecursion};
 ghost use Rattle.pb_workspace.specs.Drafted.{IsBinaryNamed, IsKeyed, IsWantedKeyed, IsWrittenLibrary, AreTargets};
-ghost use Rattle.pb_workspace.specs.Settled.{IsAscending};
+ghost use Rattle.pb_package.specs.Settled.{IsAscending};
 
 use crate::binaries::{binaries_of, written_binaries};
-use crate::by_key::WantedByKey;
-use crate::by_name::{BinariesByName, SharedByKey};
-use crate::fault::LoadFault;
+use crate::by_key::{SharedByKey, WantedByKey};
 use crate::found::{found_readme, library_of, script_of};
 use crate::found_binaries::found_binaries;
 use crate::keys::Keys;
-use crate::package::{Binary, DependencyKind, Library};
 use crate::wanted::{Standing, Wanted, each_wanted};
 use pb_data::{Items, Mentions, Text, TryCopy};
 use pb_manifest::{Dependency, Inheritable, Readme, WorkspacePackage};
+use pb_package::{BinariesByName, Binary, DependencyKind, Library, LoadFault};
 use pb_place::{PathText, Place};
 use std::alloc::{AllocError, Global};
 
 /// What a package may take from its workspace. A package that may take nothing is given a table without
 /// values and no entries.
-#[derive(Debug, Drop)]
+#[derive(Drop)]
 pub struct Given {
     /// `[workspace.package]`.
     pub package: WorkspacePackage,
@@ -36,7 +34,7 @@ pub struct Given {
 }
 
 /// What a package is built to.
-#[derive(Debug, Drop)]
+#[derive(Drop)]
 pub struct Targets {
     /// Its library, where it has one.
     pub library: Option<Library>,
@@ -48,8 +46,8 @@ pub struct Targets {
 
 /// The README that is looked for in a package's folder, where none is written; else the empty text.
 pub fn readme_found<P: Place>(
-    place: &mut P,
     alloc: Global,
+    place: &mut P,
     target: &PathText,
     folder: &PathText,
     readme: &Inheritable<Readme>,
@@ -63,7 +61,7 @@ pub fn readme_found<P: Place>(
         Inheritable::Written(_) => Ok(Text::from_str(alloc, "")?),
         Inheritable::Workspace => Ok(Text::from_str(alloc, "")?),
         Inheritable::Absent => {
-            let readme = found_readme(place, alloc, target, folder)?;
+            let readme = found_readme(alloc, place, target, folder)?;
             Ok(readme)
         }
     }
@@ -105,8 +103,8 @@ pub fn wanted_in(
 
 /// The binaries that are found, unless `autobins` is false.
 fn discovered<P: Place>(
-    place: &mut P,
     alloc: Global,
+    place: &mut P,
     target: &PathText,
     folder: &PathText,
     name: &Text,
@@ -122,15 +120,15 @@ fn discovered<P: Place>(
     if !autobins {
         return Ok(Items::new(alloc));
     }
-    let found = found_binaries(place, alloc, target, folder, name)?;
+    let found = found_binaries(alloc, place, target, folder, name)?;
     Ok(found)
 }
 
 /// What a package of these keys is built to: its library, its binaries and its build script, each where it is
 /// written or found (The Cargo Book, Cargo Targets and Build Scripts).
 pub fn targets_of<P: Place>(
-    place: &mut P,
     alloc: Global,
+    place: &mut P,
     target: &PathText,
     folder: &PathText,
     keys: &Keys,
@@ -147,10 +145,10 @@ pub fn targets_of<P: Place>(
     ensures reads { Reads result (P.counts place.old) (P.counts place.new) }
 {
     let name = &keys.name;
-    let library = library_of(place, alloc, target, folder, name.as_str(), library)?;
-    let script = script_of(place, alloc, target, folder, &keys.build)?;
-    let found = discovered(place, alloc, target, folder, name, keys.autobins)?;
-    let written = written_binaries(place, alloc, target, folder, name, binaries)?;
+    let library = library_of(alloc, place, target, folder, name.as_str(), library)?;
+    let script = script_of(alloc, place, target, folder, &keys.build)?;
+    let found = discovered(alloc, place, target, folder, name, keys.autobins)?;
+    let written = written_binaries(alloc, place, target, folder, name, binaries)?;
     let binaries = binaries_of(alloc, found, written)?;
     Ok(Targets {
         library,

@@ -2,7 +2,7 @@
 
 ghost use Rattle.std.specs.Prelude.{◌≡◌, List, ℕ, [], IfOk, OnOk, OnErr, map};
 ghost use Rattle.pb_workspace.specs.Sorted.{placed};
-ghost use Rattle.pb_workspace.specs.Settled.{IsAscending};
+ghost use Rattle.pb_package.specs.Settled.{IsAscending};
 
 use pb_data::{Items, Text};
 use std::alloc::{AllocError, Global};
@@ -10,7 +10,7 @@ use std::collections::BTreeMap;
 use std::marker::Model;
 
 /// Values by names, each name once, in byte order. Contracts see the list of the entries.
-#[derive(Debug, Drop)]
+#[derive(Drop)]
 pub struct Sorted<V> {
     inside: BTreeMap<Text, V>,
 }

@@ -7,9 +7,9 @@ ghost use Rattle.pb_place.specs.World.{from_nothing};
 ghost use Rattle.pb_workspace.specs.Causes.{is_outside, fault_at, bears, Reads};
 ghost use Rattle.pb_workspace.specs.Sources.{has_file, has_own_file, resolved};
 
-use crate::fault::LoadFault;
 use pb_data::{Bytes, TryCopy};
 use pb_manifest::WrittenPath;
+use pb_package::LoadFault;
 use pb_place::{PathText, Place, PlaceFault, RelativePath};
 use std::alloc::{AllocError, Global};
 
@@ -26,8 +26,8 @@ pub fn failed(path: PathText, fault: PlaceFault) -> LoadFault
 /// The file at a path of the sources.
 #[tactic(auto, using(crate::proofs::SourceLemmas::source_laws))]
 pub fn source<P: Place>(
-    place: &mut P,
     alloc: Global,
+    place: &mut P,
     target: &PathText,
     path: &PathText,
 ) -> Result<Option<Bytes>, LoadFault>
@@ -49,8 +49,8 @@ pub fn source<P: Place>(
 
 /// Whether a file is among the sources.
 pub fn is_source<P: Place>(
-    place: &mut P,
     alloc: Global,
+    place: &mut P,
     target: &PathText,
     path: &PathText,
 ) -> Result<bool, LoadFault>
@@ -60,7 +60,7 @@ pub fn is_source<P: Place>(
     ensures bears { IfErr result (λ e. bears path.now e ≡ true) }
     ensures reads { Reads result (P.counts place.old) (P.counts place.new) }
 {
-    let found = source(place, alloc, target, path)?;
+    let found = source(alloc, place, target, path)?;
     Ok(found.is_some())
 }
 
@@ -75,8 +75,8 @@ pub fn own_path(alloc: Global, folder: &PathText, name: &str) -> Result<PathText
 
 /// Whether a file of a folder is among the sources.
 pub fn has_own_file<P: Place>(
-    place: &mut P,
     alloc: Global,
+    place: &mut P,
     target: &PathText,
     folder: &PathText,
     name: &str,
@@ -89,7 +89,7 @@ pub fn has_own_file<P: Place>(
     ensures reads { Reads result (P.counts place.old) (P.counts place.new) }
 {
     let path = own_path(alloc, folder, name)?;
-    let found = is_source(place, alloc, target, &path)?;
+    let found = is_source(alloc, place, target, &path)?;
     Ok(found)
 }
 

@@ -4,27 +4,26 @@ ghost use Rattle.std.specs.Prelude.{◌≡◌, ◌++◌, IfOk, IfErr, OnOk, fals
 ghost use Rattle.pb_data.specs.Gives.{Gives};
 ghost use Rattle.pb_workspace.specs.Causes.{is_failure};
 ghost use Rattle.pb_workspace.specs.Taken.{own_or_given, text_of, further_authors, joined_authors, authors_of, from_member, license_file_of, readme_text, given_readme, readme_of, about_of};
-ghost use Rattle.pb_workspace.specs.declared.fault.LoadFault.TheVariants as load_fault;
+ghost use Rattle.pb_package.specs.declared.fault.LoadFault.TheVariants as load_fault;
 
 use crate::between::text_between;
-use crate::fault::LoadFault;
-use crate::package::About;
 use pb_data::{Items, Text, TryCopy};
 use pb_manifest::{Edition, Inheritable, Inherited, Package, Readme, Version, WorkspacePackage};
+use pb_package::{About, LoadFault};
 use pb_place::{PathFault, PathText};
 use std::alloc::{AllocError, Global};
 
 /// A package's version. NoInherited where it is taken from a workspace that has none to give.
 pub fn version_of(
     alloc: Global,
-    own: Inherited<Version>,
+    own: &Inherited<Version>,
     given: &Option<Version>,
 ) -> Result<Version, LoadFault>
-    ensures told { Gives load_fault.OutOfMemory (λ version. version) result (own_or_given own given.now) }
+    ensures told { Gives load_fault.OutOfMemory (λ version. version) result (own_or_given own.now given.now) }
     ensures here { IfErr result (λ e. is_failure e ≡ false) }
 {
     match own {
-        Inherited::Written(version) => Ok(version),
+        Inherited::Written(version) => Ok(version.copy(alloc)?),
         Inherited::Workspace => match given {
             Some(version) => Ok(version.copy(alloc)?),
             None => Err(LoadFault::NoInherited),
@@ -33,12 +32,12 @@ pub fn version_of(
 }
 
 /// A package's edition. NoInherited where it is taken from a workspace that has none to give.
-pub fn edition_of(own: Inherited<Edition>, given: Option<Edition>) -> Result<Edition, LoadFault>
-    ensures told { result ≡ own_or_given own given }
+pub fn edition_of(own: &Inherited<Edition>, given: Option<Edition>) -> Result<Edition, LoadFault>
+    ensures told { result ≡ own_or_given own.now given }
     ensures here { IfErr result (λ e. is_failure e ≡ false) }
 {
     match own {
-        Inherited::Written(edition) => Ok(edition),
+        Inherited::Written(edition) => Ok(*edition),
         Inherited::Workspace => match given {
             Some(edition) => Ok(edition),
             None => Err(LoadFault::NoInherited),
@@ -47,12 +46,12 @@ pub fn edition_of(own: Inherited<Edition>, given: Option<Edition>) -> Result<Edi
 }
 
 /// A text of a package, empty where it is absent.
-fn text_of(alloc: Global, own: Inheritable<Text>, given: &Option<Text>) -> Result<Text, LoadFault>
-    ensures told { Gives load_fault.OutOfMemory (λ text. text) result (text_of own given.now) }
+fn text_of(alloc: Global, own: &Inheritable<Text>, given: &Option<Text>) -> Result<Text, LoadFault>
+    ensures told { Gives load_fault.OutOfMemory (λ text. text) result (text_of own.now given.now) }
     ensures here { IfErr result (λ e. is_failure e ≡ false) }
 {
     match own {
-        Inheritable::Written(text) => Ok(text),
+        Inheritable::Written(text) => Ok(text.copy(alloc)?),
         Inheritable::Workspace => match given {
             Some(text) => Ok(text.copy(alloc)?),
             None => Err(LoadFault::NoInherited),
@@ -88,10 +87,10 @@ fn joined_authors(alloc: Global, authors: &[Text]) -> Result<Text, AllocError>
 /// The authors of a package.
 fn authors_of(
     alloc: Global,
-    own: Inheritable<Items<Text>>,
+    own: &Inheritable<Items<Text>>,
     given: &Option<Items<Text>>,
 ) -> Result<Text, LoadFault>
-    ensures told { Gives load_fault.OutOfMemory (λ text. text) result (authors_of own given.now) }
+    ensures told { Gives load_fault.OutOfMemory (λ text. text) result (authors_of own.now given.now) }
     ensures here { IfErr result (λ e. is_failure e ≡ false) }
 {
     match own {
@@ -126,14 +125,14 @@ fn license_file_of(
     alloc: Global,
     root: &PathText,
     folder: &PathText,
-    own: Inheritable<Text>,
+    own: &Inheritable<Text>,
     given: &Option<Text>,
 ) -> Result<Text, LoadFault>
-    ensures told { Gives load_fault.OutOfMemory (λ text. text) result (license_file_of root.now folder.now own given.now) }
+    ensures told { Gives load_fault.OutOfMemory (λ text. text) result (license_file_of root.now folder.now own.now given.now) }
     ensures here { IfErr result (λ e. is_failure e ≡ false) }
 {
     match own {
-        Inheritable::Written(text) => Ok(text),
+        Inheritable::Written(text) => Ok(text.copy(alloc)?),
         Inheritable::Workspace => match given {
             Some(text) => Ok(from_member(alloc, root, folder, text.as_str())?),
             None => Err(LoadFault::NoInherited),
@@ -174,34 +173,21 @@ fn readme_of(
     alloc: Global,
     root: &PathText,
     folder: &PathText,
-    found: Text,
-    own: Inheritable<Readme>,
+    found: &Text,
+    own: &Inheritable<Readme>,
     given: &Option<Readme>,
 ) -> Result<Text, LoadFault>
-    ensures told { Gives load_fault.OutOfMemory (λ text. text) result (readme_of root.now folder.now found own given.now) }
+    ensures told { Gives load_fault.OutOfMemory (λ text. text) result (readme_of root.now folder.now found.now own.now given.now) }
     ensures here { IfErr result (λ e. is_failure e ≡ false) }
 {
     match own {
-        Inheritable::Written(readme) => Ok(readme_text(alloc, &readme)?),
+        Inheritable::Written(readme) => Ok(readme_text(alloc, readme)?),
         Inheritable::Workspace => match given {
             Some(readme) => Ok(given_readme(alloc, root, folder, readme)?),
             None => Err(LoadFault::NoInherited),
         },
-        Inheritable::Absent => Ok(found),
+        Inheritable::Absent => Ok(found.copy(alloc)?),
     }
-}
-
-/// What a manifest says for people, not yet taken from anywhere else.
-#[derive(Drop)]
-pub struct Said {
-    pub authors: Inheritable<Items<Text>>,
-    pub description: Inheritable<Text>,
-    pub homepage: Inheritable<Text>,
-    pub license: Inheritable<Text>,
-    pub license_file: Inheritable<Text>,
-    pub readme: Inheritable<Readme>,
-    pub repository: Inheritable<Text>,
-    pub rust_version: Inheritable<Text>,
 }
 
 /// What a package says of itself to people. `given` is what its workspace gives it, `found` the README of its
@@ -211,27 +197,27 @@ pub fn about_of(
     alloc: Global,
     root: &PathText,
     folder: &PathText,
-    found: Text,
-    said: Said,
+    found: &Text,
+    said: &Package,
     given: &WorkspacePackage,
 ) -> Result<About, LoadFault>
-    ensures told { Gives load_fault.OutOfMemory (λ about. about) result (about_of root.now folder.now found said given.now) }
+    ensures told { Gives load_fault.OutOfMemory (λ about. about) result (about_of root.now folder.now found.now said.now given.now) }
     ensures here { IfErr result (λ e. is_failure e ≡ false) }
 {
-    let authors = authors_of(alloc, said.authors, &given.authors)?;
-    let description = text_of(alloc, said.description, &given.description)?;
-    let homepage = text_of(alloc, said.homepage, &given.homepage)?;
-    let license = text_of(alloc, said.license, &given.license)?;
+    let authors = authors_of(alloc, &said.authors, &given.authors)?;
+    let description = text_of(alloc, &said.description, &given.description)?;
+    let homepage = text_of(alloc, &said.homepage, &given.homepage)?;
+    let license = text_of(alloc, &said.license, &given.license)?;
     let license_file = license_file_of(
         alloc,
         root,
         folder,
-        said.license_file,
+        &said.license_file,
         &given.license_file,
     )?;
-    let readme = readme_of(alloc, root, folder, found, said.readme, &given.readme)?;
-    let repository = text_of(alloc, said.repository, &given.repository)?;
-    let rust_version = text_of(alloc, said.rust_version, &given.rust_version)?;
+    let readme = readme_of(alloc, root, folder, found, &said.readme, &given.readme)?;
+    let repository = text_of(alloc, &said.repository, &given.repository)?;
+    let rust_version = text_of(alloc, &said.rust_version, &given.rust_version)?;
     Ok(About {
         authors,
         description,

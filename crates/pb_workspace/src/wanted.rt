@@ -4,22 +4,21 @@ ghost use Rattle.std.specs.Prelude.{◌≡◌, ◌++◌, IfOk, IfErr, OnOk, fals
 ghost use Rattle.pb_data.specs.Gives.{Gives};
 ghost use Rattle.pb_workspace.specs.Causes.{is_failure};
 ghost use Rattle.pb_workspace.specs.Wanted.{is_renamed, wanted_at, taken_from, wanted_by, wanted_of, each_wanted};
-ghost use Rattle.pb_workspace.specs.declared.fault.LoadFault.TheVariants as load_fault;
+ghost use Rattle.pb_package.specs.declared.fault.LoadFault.TheVariants as load_fault;
 
-use crate::by_name::SharedByKey;
-use crate::fault::LoadFault;
-use crate::package::DependencyKind;
+use crate::by_key::SharedByKey;
 use crate::source::resolved;
 use pb_data::{Items, Text, TryCopy};
 use pb_manifest::{
     Dependency, ManifestFault, PathSource, Requirement, Source, WorkspaceDependency,
     WorkspaceSource,
 };
+use pb_package::{DependencyKind, LoadFault};
 use pb_place::PathText;
 use std::alloc::{AllocError, Global};
 
 /// An entry of `[dependencies]` or `[build-dependencies]` whose package is not looked for yet.
-#[derive(Debug, Drop)]
+#[derive(Drop)]
 pub struct Wanted {
     /// The name that the manifest gives it.
     pub key: Text,
@@ -42,7 +41,7 @@ pub struct Wanted {
 }
 
 /// Where an entry stands.
-#[derive(Debug, Drop)]
+#[derive(Drop)]
 pub struct Standing {
     /// The workspace's root.
     pub root: PathText,

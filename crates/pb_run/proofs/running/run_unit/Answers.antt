@@ -1,5 +1,5 @@
 use Rattle.std.proofs.Common.{refl}
-use Rattle.pb_command.specs.Targets.{dep_info_of}
+use Rattle.pb_project.specs.Targets.{dep_info_of}
 use Rattle.pb_place.specs.World.{removed, from_nothing}
 use Rattle.pb_run.specs.Outcome.{file_at}
 use Rattle.pb_run.proofs.Units.{ran_gives}

@@ -1,8 +1,8 @@
 use Rattle.std.proofs.Common.{map, sym, ◌∙◌, ap, subst}
 use Rattle.pb_workspace.specs.Assembled.{entry_at}
-use Rattle.pb_workspace.specs.ByKey.{table_key}
-use Rattle.pb_workspace.specs.Settled.{IsAscending}
-use Rattle.pb_workspace.specs.declared.package.Entry.{Entry}
+use Rattle.pb_package.specs.ByKey.{table_key}
+use Rattle.pb_package.specs.Settled.{IsAscending}
+use Rattle.pb_package.specs.declared.package.Entry.{Entry}
 use Rattle.pb_workspace.proofs.Puttings.{map_twice}
 use Rattle.pb_workspace.proofs.assembled.entries_in_order.Goals as goal
 

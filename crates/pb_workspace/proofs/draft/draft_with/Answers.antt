@@ -1,6 +1,6 @@
 use Rattle.std.proofs.Common.{map, sym, subst}
 use Rattle.pb_manifest.specs.declared.dependency.Dependency.{Dependency}
-use Rattle.pb_workspace.specs.Settled.{IsAscending}
+use Rattle.pb_package.specs.Settled.{IsAscending}
 use Rattle.pb_workspace.proofs.draft.draft_with.Goals as goal
 
 pub lists_of-requires-clause-normal_order : goal.lists_of-requires-clause-normal_order

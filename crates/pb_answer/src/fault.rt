@@ -1,0 +1,67 @@
+//! Why a build ends without a summary.
+
+ghost use Rattle.std.specs.Prelude.{◌≡◌};
+ghost use Rattle.pb_answer.specs.declared.fault.BuildFault.TheVariants as build_fault;
+
+use pb_data::Text;
+use pb_feature::FeatureFault;
+use pb_package::LoadFault;
+use pb_place::{PlaceFault, StartFault};
+use pb_unit::PlanFault;
+use std::alloc::{AllocError, AllocFailed};
+use thiserror::Error;
+
+/// Why a build is refused before a child is started, a line is written or a file is changed.
+#[derive(Debug, Drop, Error)]
+pub enum Refusal {
+    /// The workspace cannot be read, or nothing of it be selected.
+    #[error("{0}")]
+    Load(LoadFault),
+    /// The features are not resolved.
+    #[error("{0}")]
+    Feature(FeatureFault),
+    /// There is no plan.
+    #[error("{0}")]
+    Plan(PlanFault),
+}
+
+/// Why a build ends without a summary.
+#[derive(Debug, Drop, Error)]
+pub enum BuildFault {
+    /// The build is refused. No child was started, no line written and no file changed.
+    #[error("{0}")]
+    Plan(Refusal),
+    /// The compiler does not say its version: the query `-vV` ends with a status other than 0, says more
+    /// than 4,194,304 bytes on a stream, or its standard output is not UTF-8 or has no line `host: TRIPLE`.
+    #[error("the compiler does not say its host")]
+    Toolchain,
+    /// A child gave no answer: `-vV` for the query, else the unit's key.
+    #[error("the child of `{}` gave no answer: {}", .unit.as_str(), .fault)]
+    Child { unit: Text, fault: StartFault },
+    /// A call on files or variables failed: the unit's key, else the variable's name or the path that the
+    /// call was given.
+    #[error("a call for `{}` failed: {}", .unit.as_str(), .fault)]
+    Device { unit: Text, fault: PlaceFault },
+    /// The sink of the message lines failed.
+    #[error("the message lines cannot be written")]
+    Sink,
+    /// Memory was refused.
+    #[error("out of memory")]
+    OutOfMemory,
+}
+
+impl From<AllocError> for BuildFault {
+    ghost from_gives = { λ _ e. e ≡ build_fault.OutOfMemory };
+
+    fn from(_: AllocError) -> Self {
+        BuildFault::OutOfMemory
+    }
+}
+
+impl<T: Drop> From<AllocFailed<T>> for BuildFault {
+    ghost from_gives = { λ _ e. e ≡ build_fault.OutOfMemory };
+
+    fn from(_: AllocFailed<T>) -> Self {
+        BuildFault::OutOfMemory
+    }
+}

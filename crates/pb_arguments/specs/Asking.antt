@@ -1,0 +1,106 @@
+-- What the words of a command line ask for, or why they ask for nothing.
+use Rattle.std.specs.Prelude.{◌≡◌, ◌≢◌, ◌⊎◌, Bool, true, false, codes, List, [], ◌∷◌, Option, Some, None, Ok, Err, unwrap_or, option_map, if◌then◌else◌}
+use Rattle.clap.specs.Faults.{fault_of}
+use Rattle.clap.specs.Kinds.{IsAmong}
+use Rattle.clap.specs.Walk.{Row, Text, first_of, one_of, all_of}
+use Rattle.clap.specs.Simple.{subcommand_of}
+use Rattle.clap.specs.declared.builder.value_parser.ValueParser.{ValueParser}
+use Rattle.clap.specs.declared.error.kind.ErrorKind.{ErrorKind}
+use Rattle.clap.specs.declared.error.kind.ErrorKind.TheVariants.{DisplayHelp}
+use Rattle.pb_directive.specs.Directives.{words_of}
+use Rattle.pb_place.specs.Paths.{joined}
+use Rattle.pb_place.specs.declared.path.PathFault.{PathFault}
+use Rattle.pb_package.specs.declared.options.Options.{Options}
+use Rattle.pb_arguments.specs.Description.{IsJson, program}
+use Rattle.pb_arguments.specs.declared.asked.Asked.{Asked}
+use Rattle.pb_arguments.specs.declared.asked.Asked.TheVariants.{Session, Build}
+use Rattle.pb_arguments.specs.declared.asked.Unasked.{Unasked}
+use Rattle.pb_arguments.specs.declared.asked.Unasked.TheVariants.{Help, Wrong, OutOfMemory}
+
+-- an option without a value was given or not
+pub record IsFlag (name : Text) (rows : List Row) (given : Bool) : Type 0 where
+  pub absent : one_of name rows ≡ None → given ≡ false
+  pub on : one_of name rows ≡ Some (codes "true") → given ≡ true
+  pub off : one_of name rows ≡ Some (codes "false") → given ≡ false
+
+-- the values of an option, in their order
+abbrev pub values_of : Text → List Row → List Text
+values_of name rows = unwrap_or (all_of name rows) []
+
+-- `release`, the profile that was given, or `dev`
+abbrev pub profile_of : Bool → List Row → Text
+profile_of release rows = if release then codes "release" else unwrap_or (first_of (codes "profile") rows) (codes "dev")
+
+-- `--release` was given and `--profile` too
+abbrev pub HasTwoProfiles : List Row → Type 0
+HasTwoProfiles rows = IsFlag (codes "release") rows true × ((profile : Text) × (first_of (codes "profile") rows ≡ Some profile))
+
+-- the profile that was given, which is one alone
+abbrev pub IsProfile : List Row → Text → Type 0
+IsProfile rows profile =
+    (release : Bool) × IsFlag (codes "release") rows release × (release ≡ true → first_of (codes "profile") rows ≡ None) × (profile ≡ profile_of release rows)
+
+-- the path of a build's manifest: `Cargo.toml` where none was given
+abbrev pub manifest_of : List Row → Text
+manifest_of rows = unwrap_or (first_of (codes "manifest-path") rows) (codes "Cargo.toml")
+
+-- the path of a session's file
+abbrev pub file_of : List Row → Text
+file_of rows = unwrap_or (first_of (codes "FILE") rows) []
+
+-- what a build is asked for by what was given
+pub record IsOptions (called folder : Text) (rows : List Row) (options : Options) : Type 0 where
+  pub manifest : joined folder (manifest_of rows) ≡ Ok options.manifest
+  pub packages : options.packages ≡ values_of (codes "package") rows
+  pub workspace : IsFlag (codes "workspace") rows options.workspace
+  pub features : options.features ≡ values_of (codes "features") rows
+  pub all_features : IsFlag (codes "all-features") rows options.all_features
+  pub no_default_features : IsFlag (codes "no-default-features") rows options.no_default_features
+  pub profile : IsProfile rows options.profile
+  pub lib : IsFlag (codes "lib") rows options.lib
+  pub bins : IsFlag (codes "bins") rows options.bins
+  pub bin : options.bin ≡ values_of (codes "bin") rows
+  pub target_dir : options.target_dir ≡ first_of (codes "target-dir") rows
+  pub runner : options.runner ≡ words_of (unwrap_or (first_of (codes "runner") rows) [])
+  pub tool : options.tool ≡ called
+
+-- what a subcommand with these values asks for
+abbrev pub AsksBy : Text → Text → Option (Text × List Row) → Asked → Type 0
+AsksBy tool folder given (Build options) = (rows : List Row) × (given ≡ Some (codes "build", rows)) × IsOptions tool folder rows options
+AsksBy tool folder given (Session path) = (rows : List Row) × (given ≡ Some (codes "session", rows)) × (joined folder (file_of rows) ≡ Ok path)
+
+-- the first word
+abbrev pub tool_of : List Text → Text
+tool_of [] = []
+tool_of (word ∷ words) = word
+
+-- the description of the command line takes the words: `clap` finds no fault with them, and help is not asked for
+abbrev pub IsTaken : ValueParser → List Text → Type 0
+IsTaken formats words = fault_of (program formats) words ≡ []
+
+-- what the words ask for, by the description of the command line
+abbrev pub Asks : List Text → Text → Asked → Type 0
+Asks words folder asked = (formats : ValueParser) × IsJson formats × IsTaken formats words × AsksBy (tool_of words) folder (subcommand_of (program formats) words) asked
+
+-- Why the words ask for nothing.
+
+-- a subcommand with these values asks for nothing: two profiles, or a path with byte 0; or it is neither of the two
+pub data AsksWrongly (folder : Text) (given : Option (Text × List Row)) : Type 0 where
+  two_profiles : (rows : List Row) (build : given ≡ Some (codes "build", rows)) (both : HasTwoProfiles rows) → AsksWrongly folder given
+  bad_manifest : (rows : List Row) (fault : PathFault) (build : given ≡ Some (codes "build", rows)) (bad : joined folder (manifest_of rows) ≡ Err fault) → AsksWrongly folder given
+  bad_file : (rows : List Row) (fault : PathFault) (session : given ≡ Some (codes "session", rows)) (bad : joined folder (file_of rows) ≡ Err fault) → AsksWrongly folder given
+  no_command : (no_build : option_map (λ p. p.0) given ≢ Some (codes "build")) (no_session : option_map (λ p. p.0) given ≢ Some (codes "session")) → AsksWrongly folder given
+
+-- help is asked for
+abbrev pub AsksForHelp : ValueParser → List Text → Type 0
+AsksForHelp formats words = IsAmong DisplayHelp (fault_of (program formats) words)
+
+-- `clap` finds a fault with the words
+abbrev pub IsRefused : ValueParser → List Text → Type 0
+IsRefused formats words = (kind : ErrorKind) × (kind ≢ DisplayHelp) × IsAmong kind (fault_of (program formats) words)
+
+-- why the words ask for nothing
+abbrev pub Unasks : List Text → Text → Unasked → Type 0
+Unasks words folder (Help text) = (formats : ValueParser) × IsJson formats × AsksForHelp formats words
+Unasks words folder (Wrong text) = (formats : ValueParser) × IsJson formats × (IsRefused formats words ⊎ AsksWrongly folder (subcommand_of (program formats) words))
+Unasks words folder OutOfMemory = Unit {0}

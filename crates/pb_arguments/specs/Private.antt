@@ -1,0 +1,28 @@
+-- What private functions of the command line promise to one another. Nothing here is needed to read what words ask for.
+use Rattle.std.specs.Prelude.{◌≡◌, ◌≢◌, List}
+use Rattle.clap.specs.Walk.{Text}
+use Rattle.clap.specs.declared.builder.value_parser.ValueParser.{ValueParser}
+use Rattle.clap.specs.declared.error.kind.ErrorKind.{ErrorKind}
+use Rattle.clap.specs.declared.error.kind.ErrorKind.TheVariants as kind
+use Rattle.pb_arguments.specs.Asking.{AsksForHelp, IsRefused}
+use Rattle.pb_arguments.specs.Description.{IsJson}
+use Rattle.pb_arguments.specs.declared.asked.Unasked.{Unasked}
+use Rattle.pb_arguments.specs.declared.asked.Unasked.TheVariants.{Help, Wrong, OutOfMemory}
+
+-- where words are told to be wrong, this holds
+abbrev pub ToldWrong : Type 0 → Unasked → Type 0
+ToldWrong why (Help text) = ⊥
+ToldWrong why (Wrong text) = why
+ToldWrong why OutOfMemory = Unit {0}
+
+-- an error of this kind is told so
+abbrev pub TellsKind : ErrorKind → Unasked → Type 0
+TellsKind k (Help text) = k ≡ kind.DisplayHelp
+TellsKind k (Wrong text) = (k ≢ kind.DisplayHelp) × (k ≢ kind.OutOfMemory)
+TellsKind k OutOfMemory = Unit {0}
+
+-- the description does not take the words
+abbrev pub RefusedBy : List Text → Unasked → Type 0
+RefusedBy words (Help text) = (formats : ValueParser) × IsJson formats × AsksForHelp formats words
+RefusedBy words (Wrong text) = (formats : ValueParser) × IsJson formats × IsRefused formats words
+RefusedBy words OutOfMemory = Unit {0}

@@ -1,0 +1,97 @@
+//! What a command line asks for, and why one asks for nothing.
+
+ghost use Rattle.std.specs.Prelude.{◌≡◌, ◌≢◌};
+ghost use Rattle.clap.specs.Values.{kind_of};
+ghost use Rattle.pb_arguments.specs.Private.{ToldWrong, TellsKind};
+ghost use Rattle.pb_arguments.specs.declared.asked.Unasked.TheVariants as unasked;
+ghost use Rattle.pb_place.specs.declared.path.PathFault.TheVariants as path_fault;
+
+use clap::Error;
+use clap::error::ErrorKind;
+use pb_data::Text;
+use pb_package::Options;
+use pb_place::{PathFault, PathText};
+use std::alloc::{AllocError, Global};
+
+/// What a command line asks for.
+#[derive(Drop)]
+pub enum Asked {
+    /// The session of the file at this path.
+    Session(PathText),
+    /// A build.
+    Build(Options),
+}
+
+/// Why a command line asks for nothing that is done.
+#[derive(Drop)]
+pub enum Unasked {
+    /// Help was asked for: its text.
+    Help(Text),
+    /// The words are wrong: the text that says what is wrong with them.
+    Wrong(Text),
+    /// Memory was refused.
+    OutOfMemory,
+}
+
+impl From<AllocError> for Unasked {
+    ghost from_gives = { λ _ e. e ≡ unasked.OutOfMemory };
+
+    fn from(_: AllocError) -> Self {
+        Unasked::OutOfMemory
+    }
+}
+
+/// What the reader of the words says: its text, which goes to the output where help was asked for, and else to
+/// standard error.
+pub(crate) fn unasked_of(alloc: Global, error: &Error) -> Unasked
+    ensures { TellsKind (kind_of error.now) result }
+{
+    let kind = error.kind();
+    if kind == ErrorKind::OutOfMemory {
+        return Unasked::OutOfMemory;
+    }
+    let Ok(text) = format!(in alloc; "{error}") else {
+        return Unasked::OutOfMemory;
+    };
+    if kind == ErrorKind::DisplayHelp {
+        return Unasked::Help(Text::new(text));
+    }
+    Unasked::Wrong(Text::new(text))
+}
+
+/// The words are wrong: this text says why.
+fn wrong(alloc: Global, text: &str) -> Unasked
+    ensures { ToldWrong (Unit {0}) result }
+{
+    match Text::from_str(alloc, text) {
+        Ok(text) => Unasked::Wrong(text),
+        Err(_) => Unasked::OutOfMemory,
+    }
+}
+
+/// Why a path of the command line is none.
+pub(crate) fn bad_path(alloc: Global, fault: PathFault) -> Unasked
+    ensures { ToldWrong (fault ≢ path_fault.OutOfMemory) result }
+{
+    if fault == PathFault::OutOfMemory {
+        return Unasked::OutOfMemory;
+    }
+    wrong(alloc, "error: a path has byte 0\n")
+}
+
+/// Neither a build nor a session is asked for.
+pub(crate) fn no_command(alloc: Global) -> Unasked
+    ensures { ToldWrong (Unit {0}) result }
+{
+    wrong(alloc, "error: neither `build` nor `session`\n")
+}
+
+/// Two profiles are asked for.
+pub(crate) fn two_profiles(alloc: Global) -> Unasked
+    ensures { ToldWrong (Unit {0}) result }
+{
+    wrong(
+        alloc,
+        "error: the argument '--release' cannot be used with '--profile <NAME>'\n",
+    )
+}

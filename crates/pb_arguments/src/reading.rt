@@ -1,0 +1,223 @@
+//! From the words of a command line to what it asks for.
+
+ghost use Rattle.std.specs.Prelude.{◌≡◌, ◌⊎◌, Ok, Err, IfOk, IfErr, Bool, [], codes, map, option_map, unwrap_or};
+ghost use Rattle.clap.specs.Matches.{found_of};
+ghost use Rattle.clap.specs.Walk.{rows_of, first_of};
+ghost use Rattle.clap.specs.Simple.{subcommand_of, subcommand_rows_of};
+ghost use Rattle.clap.specs.declared.builder.value_parser.ValueParser.{ValueParser};
+ghost use Rattle.pb_directive.specs.Directives.{words_of};
+ghost use Rattle.pb_place.specs.Paths.{joined};
+ghost use Rattle.pb_place.specs.declared.path.PathFault.{PathFault};
+ghost use Rattle.pb_arguments.specs.Description.{IsJson, program};
+ghost use Rattle.pb_arguments.specs.Asking.{IsFlag, HasTwoProfiles, IsProfile, IsOptions, IsTaken, AsksBy, Asks, AsksWrongly, Unasks, values_of, manifest_of, tool_of};
+ghost use Rattle.pb_arguments.specs.Private.{ToldWrong, RefusedBy};
+
+use crate::asked::{Asked, Unasked, bad_path, no_command, two_profiles, unasked_of};
+use crate::description::program;
+use clap::ArgMatches;
+use pb_data::{Items, Text};
+use pb_directive::words::words_of;
+use pb_package::Options;
+use pb_place::PathText;
+use std::alloc::{AllocError, Global};
+use std::convert::AsStr;
+
+/// Whether an option without a value was given.
+fn is_given(matches: &ArgMatches<'_>, name: &str) -> bool
+    ensures { IsFlag name.now (rows_of (found_of matches.now)) result }
+{
+    matches.get_flag(name)
+}
+
+/// The first value of an option, if it was given.
+fn first<'m>(matches: &ArgMatches<'m>, name: &str) -> Option<&'m str>
+    ensures { option_map (λ text. text.now) result ≡ first_of name.now (rows_of (found_of matches.now)) }
+{
+    matches.get_str(name)
+}
+
+/// The first value of an option, or another text where it was not given.
+fn first_or<'m>(matches: &ArgMatches<'m>, name: &str, other: &'m str) -> &'m str
+    ensures { result.now ≡ unwrap_or (first_of name.now (rows_of (found_of matches.now))) other.now }
+{
+    match first(matches, name) {
+        Some(text) => text,
+        None => other,
+    }
+}
+
+/// Copies of texts, in their order.
+fn copies(alloc: Global, texts: &[&str]) -> Result<Items<Text>, AllocError>
+    ensures { IfOk result (λ copies. copies ≡ map (λ text. text.now) texts.now) }
+{
+    let mut copies = Items::new(alloc);
+    for text in texts {
+        copies.push(Text::from_str(alloc, *text)?)?;
+    }
+    Ok(copies)
+}
+
+/// The values of an option, in their order.
+fn values_of(alloc: Global, matches: &ArgMatches<'_>, name: &str) -> Result<Items<Text>, AllocError>
+    ensures { IfOk result (λ values. values ≡ values_of name.now (rows_of (found_of matches.now))) }
+{
+    match matches.get_strs(name) {
+        Some(values) => copies(alloc, values),
+        None => Ok(Items::new(alloc)),
+    }
+}
+
+/// The value of an option, if it was given.
+fn value_of(alloc: Global, matches: &ArgMatches<'_>, name: &str) -> Result<Option<Text>, AllocError>
+    ensures { IfOk result (λ value. value ≡ first_of name.now (rows_of (found_of matches.now))) }
+{
+    match first(matches, name) {
+        None => Ok(None),
+        Some(value) => Ok(Some(Text::from_str(alloc, value)?)),
+    }
+}
+
+/// The profile: `release` for `--release`, what `--profile` says, else `dev`. Wrong where both are given.
+fn profile_of(alloc: Global, matches: &ArgMatches<'_>) -> Result<Text, Unasked>
+    ensures profile { IfOk result (IsProfile (rows_of (found_of matches.now))) }
+    ensures wrong { IfErr result (ToldWrong (HasTwoProfiles (rows_of (found_of matches.now)))) }
+{
+    let release = is_given(matches, "release");
+    match first(matches, "profile") {
+        Some(profile) => {
+            if release {
+                return Err(two_profiles(alloc));
+            }
+            Ok(Text::from_str(alloc, profile)?)
+        }
+        None => Ok(Text::from_str(alloc, if release { "release" } else { "dev" })?),
+    }
+}
+
+/// The words of a text, which spaces part.
+fn parted(alloc: Global, text: &str) -> Result<Items<Text>, AllocError>
+    ensures { IfOk result (λ words. words ≡ words_of text.now) }
+{
+    let mut words = Items::new(alloc);
+    for word in words_of(text) {
+        words.push(Text::from_str(alloc, word)?)?;
+    }
+    Ok(words)
+}
+
+/// The path that a text of the command line says. A relative one starts at the folder.
+fn path_of(alloc: Global, folder: &PathText, text: &str) -> Result<PathText, Unasked>
+    ensures path { IfOk result (λ path. joined folder.now text.now ≡ Ok path) }
+    ensures wrong { IfErr result (ToldWrong ((fault : PathFault) × (joined folder.now text.now ≡ Err fault))) }
+{
+    match folder.join(alloc, text) {
+        Ok(path) => Ok(path),
+        Err(fault) => Err(bad_path(alloc, fault)),
+    }
+}
+
+/// What `pb_tool build` asks for. A relative path of the manifest starts at the current folder.
+fn options_of(
+    alloc: Global,
+    tool: &str,
+    folder: &PathText,
+    matches: &ArgMatches<'_>,
+) -> Result<Options, Unasked>
+    ensures options { IfOk result (IsOptions tool.now folder.now (rows_of (found_of matches.now))) }
+    ensures wrong { IfErr result (ToldWrong (HasTwoProfiles (rows_of (found_of matches.now)) ⊎ ((fault : PathFault) × (joined folder.now (manifest_of (rows_of (found_of matches.now))) ≡ Err fault)))) }
+{
+    let manifest = path_of(
+        alloc,
+        folder,
+        first_or(matches, "manifest-path", "Cargo.toml"),
+    )?;
+    let packages = values_of(alloc, matches, "package")?;
+    let features = values_of(alloc, matches, "features")?;
+    let profile = profile_of(alloc, matches)?;
+    let bin = values_of(alloc, matches, "bin")?;
+    let target_dir = value_of(alloc, matches, "target-dir")?;
+    let runner = parted(alloc, first_or(matches, "runner", ""))?;
+    let tool = Text::from_str(alloc, tool)?;
+    Ok(Options {
+        manifest,
+        packages,
+        workspace: is_given(matches, "workspace"),
+        features,
+        all_features: is_given(matches, "all-features"),
+        no_default_features: is_given(matches, "no-default-features"),
+        profile,
+        lib: is_given(matches, "lib"),
+        bins: is_given(matches, "bins"),
+        bin,
+        target_dir,
+        runner,
+        tool,
+    })
+}
+
+/// What the subcommand asks for. A relative path of a session's file starts at the current folder.
+fn asked_by(
+    alloc: Global,
+    tool: &str,
+    folder: &PathText,
+    matches: &ArgMatches<'_>,
+) -> Result<Asked, Unasked>
+    ensures asked { IfOk result (AsksBy tool.now folder.now (subcommand_rows_of matches.now)) }
+    ensures wrong { IfErr result (ToldWrong (AsksWrongly folder.now (subcommand_rows_of matches.now))) }
+{
+    if let Some(build) = matches.subcommand_matches("build") {
+        return match options_of(alloc, tool, folder, build) {
+            Ok(options) => Ok(Asked::Build(options)),
+            Err(unasked) => Err(unasked),
+        };
+    }
+    match matches.subcommand_matches("session") {
+        Some(session) => match path_of(alloc, folder, first_or(session, "FILE", "")) {
+            Ok(path) => Ok(Asked::Session(path)),
+            Err(unasked) => Err(unasked),
+        },
+        None => Err(no_command(alloc)),
+    }
+}
+
+/// The words as the description of the command line has them, or why it does not take them.
+fn matches_of<'a, S: AsStr>(alloc: Global, words: &'a [S]) -> Result<ArgMatches<'a>, Unasked>
+    ensures matches { IfOk result (λ matches. (formats : ValueParser) × IsJson formats × IsTaken formats (map S.text words.now)
+        × (subcommand_rows_of matches ≡ subcommand_of (program formats) (map S.text words.now))) }
+    ensures refused { IfErr result (RefusedBy (map S.text words.now)) }
+{
+    let program = program(alloc)?;
+    match program.try_get_matches_from(words) {
+        Ok(matches) => Ok(matches),
+        Err(error) => Err(unasked_of(alloc, &error)),
+    }
+}
+
+/// The first word; empty where there is none.
+fn tool_of<S: AsStr>(words: &[S]) -> &str
+    ensures { result.now ≡ tool_of (map S.text words.now) }
+{
+    match words.first() {
+        Some(word) => word.as_str(),
+        None => "",
+    }
+}
+
+/// What a command line asks for. The words are those of the whole command line, the program's own name first; relative
+/// paths start at `folder`.
+///
+/// Help where help was asked for; Wrong where the words are none of a command line, where two profiles are asked for, or
+/// where a path has byte 0; each with the text that is to be printed. OutOfMemory where memory is refused.
+pub fn read_command_line<S: AsStr>(
+    alloc: Global,
+    words: &[S],
+    folder: &PathText,
+) -> Result<Asked, Unasked>
+    ensures asked { IfOk result (Asks (map S.text words.now) folder.now) }
+    ensures unasked { IfErr result (Unasks (map S.text words.now) folder.now) }
+{
+    match matches_of(alloc, words) {
+        Ok(matches) => asked_by(alloc, tool_of(words), folder, &matches),
+        Err(unasked) => Err(unasked),
+    }
+}

@@ -1,0 +1,120 @@
+//! Files that are written, read, listed and removed.
+
+use crate::machine::calls::{Step, try_steps};
+use crate::machine::folders::{finish, fresh, path_in};
+use pb_host::HostPlace;
+use pb_place::{PathText, Place};
+use std::alloc::{AllocError, Global};
+use std::test::Fail;
+
+const WRITTEN: &[Step] = &[
+    ("read", "a/b/c", "", "none"),
+    ("write", "a/b/c", "one", "done"),
+    ("write", "a/b/c", "x", "done"),
+    ("read", "a/b/c", "", "x"),
+    ("read", "a/b", "", "none"),
+    ("read", "a/b/c/d", "", "none"),
+    ("write", "a/e", "", "done"),
+    ("read", "a/e", "", ""),
+    ("counts", "", "", "0 0"),
+];
+
+#[test]
+fn written_and_read(rt: HostRuntime) -> Result<(), Fail> {
+    try_steps(&rt, "written", WRITTEN)
+}
+
+const LISTED: &[Step] = &[
+    ("write", "a/c/d", "", "done"),
+    ("write", "a/b", "", "done"),
+    ("write", "ab", "", "done"),
+    ("write", "a0", "", "done"),
+    ("write", "a.b", "", "done"),
+    ("list", "", "", "/a.b /a/b /a/c/d /a0 /ab "),
+    ("list", "a", "", "/b /c/d "),
+    ("list", "ab", "", ""),
+    ("list", "no", "", ""),
+    ("counts", "", "", "0 0"),
+];
+
+#[test]
+fn listed_in_byte_order(rt: HostRuntime) -> Result<(), Fail> {
+    try_steps(&rt, "listed", LISTED)
+}
+
+const REMOVED: &[Step] = &[
+    ("write", "a/c/d", "", "done"),
+    ("write", "a/b", "", "done"),
+    ("write", "ab", "", "done"),
+    ("write", "a0", "", "done"),
+    ("remove", "a", "", "done"),
+    ("remove", "a", "", "done"),
+    ("remove", "ab", "", "done"),
+    ("remove", "a0/x", "", "done"),
+    ("list", "", "", "/a0 "),
+    ("counts", "", "", "0 0"),
+];
+
+#[test]
+fn removed(rt: HostRuntime) -> Result<(), Fail> {
+    try_steps(&rt, "removed", REMOVED)
+}
+
+const IN_THE_WAY: &[Step] = &[
+    ("write", "f", "x", "done"),
+    ("write", "", "", "Write"),
+    ("write", "f/g", "", "Write"),
+    ("write", "f/g/h", "", "Write"),
+    ("counts", "", "", "3 0"),
+    ("read", "f", "", "x"),
+    ("counts", "", "", "3 1"),
+];
+
+#[test]
+fn what_is_in_the_way(rt: HostRuntime) -> Result<(), Fail> {
+    try_steps(&rt, "way", IN_THE_WAY)
+}
+
+/// The name of a file in so many folders, one in another.
+fn deep(alloc: Global, folders: u8) -> Result<String, AllocError> {
+    let mut text = String::new(alloc);
+    for _ in 0..folders {
+        text.push_str("d/")?;
+    }
+    text.push_str("f")?;
+    Ok(text)
+}
+
+/// The path of a file that lies in so many folders below this one.
+fn deep_path(alloc: Global, root: &PathText, folders: u8) -> Result<PathText, Fail> {
+    let name = deep(alloc, folders)?;
+    path_in(alloc, root, name.as_str())
+}
+
+/// Whether a folder is listed, once a file is written below it.
+fn lists(rt: &HostRuntime, root: &PathText, path: &PathText) -> Result<bool, Fail> {
+    let mut place = HostPlace::new(rt.alloc(), rt);
+    place.write(rt.alloc(), path, b"")?;
+    Ok(place.list(rt.alloc(), root).is_ok())
+}
+
+/// Whether a folder is listed below which a file lies in so many folders.
+fn lists_nested(rt: &HostRuntime, folders: u8) -> Result<bool, Fail> {
+    let root = fresh(rt, "nested")?;
+    let path = deep_path(rt.alloc(), &root, folders)?;
+    let is_listed = lists(rt, &root, &path)?;
+    finish(rt, &root)?;
+    Ok(is_listed)
+}
+
+/// How many folders lie one in another, and whether the listing bears it.
+const NESTED: &[(u8, bool)] = &[(128, true), (129, false)];
+
+#[test]
+fn nested_folders(rt: HostRuntime) -> Result<(), Fail> {
+    for case in NESTED {
+        let (folders, wanted) = *case;
+        assert!(rt; lists_nested(&rt, folders)? == wanted, "{folders} folders");
+    }
+    Ok(())
+}

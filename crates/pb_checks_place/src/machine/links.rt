@@ -1,0 +1,82 @@
+//! Links: those that lead somewhere are followed, but for removals; those that lead nowhere count as absent.
+
+use crate::machine::calls::{Step, try_steps};
+use std::test::Fail;
+
+const SOMEWHERE: &[Step] = &[
+    ("write", "outside/f", "x", "done"),
+    ("write", "inside/a", "", "done"),
+    ("link", "inside/folder", "../outside", "done"),
+    ("link", "inside/file", "../outside/f", "done"),
+    ("list", "inside", "", "/a /file /folder/f "),
+    ("read", "inside/file", "", "x"),
+    ("remove", "inside", "", "done"),
+    ("list", "", "", "/outside/f "),
+    ("counts", "", "", "0 0"),
+];
+
+#[test]
+fn links_that_lead_somewhere(rt: HostRuntime) -> Result<(), Fail> {
+    try_steps(&rt, "links", SOMEWHERE)
+}
+
+const THE_LINK_ALONE: &[Step] = &[
+    ("write", "outside/f", "x", "done"),
+    ("link", "folder", "outside", "done"),
+    ("list", "folder", "", "/f "),
+    ("remove", "folder", "", "done"),
+    ("list", "", "", "/outside/f "),
+    ("counts", "", "", "0 0"),
+];
+
+#[test]
+fn a_link_is_removed_alone(rt: HostRuntime) -> Result<(), Fail> {
+    try_steps(&rt, "alone", THE_LINK_ALONE)
+}
+
+const NOWHERE: &[Step] = &[
+    ("link", "dangling", "no/such/file", "done"),
+    ("link", "itself", "itself", "done"),
+    ("link", "device", "/dev/null", "done"),
+    ("read", "dangling", "", "none"),
+    ("read", "itself", "", "none"),
+    ("read", "device", "", "none"),
+    ("list", "", "", ""),
+    ("remove", "itself", "", "done"),
+    ("counts", "", "", "0 0"),
+];
+
+#[test]
+fn links_that_lead_nowhere(rt: HostRuntime) -> Result<(), Fail> {
+    try_steps(&rt, "nowhere", NOWHERE)
+}
+
+const CIRCLE: &[Step] = &[
+    ("link", "here", ".", "done"),
+    ("link", "again", ".", "done"),
+    ("list", "", "", "List"),
+    ("counts", "", "", "1 0"),
+    ("remove", "here", "", "done"),
+    ("counts", "", "", "1 1"),
+];
+
+#[test]
+fn links_in_a_circle(rt: HostRuntime) -> Result<(), Fail> {
+    try_steps(&rt, "circle", CIRCLE)
+}
+
+const LEFT_OUT: &[Step] = &[
+    ("write", "a/f", "x", "done"),
+    ("write", "t/g", "x", "done"),
+    ("link", "t/here", ".", "done"),
+    ("list", "", "", "List"),
+    ("outside", "", "t", "/a/f "),
+    ("outside", "t", ".", ""),
+    ("outside", "", "no", "List"),
+    ("counts", "", "", "2 0"),
+];
+
+#[test]
+fn a_folder_that_is_left_out(rt: HostRuntime) -> Result<(), Fail> {
+    try_steps(&rt, "left-out", LEFT_OUT)
+}

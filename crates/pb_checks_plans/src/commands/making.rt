@@ -1,0 +1,134 @@
+//! Projects of tests, from files in memory.
+
+ghost use Rattle.std.specs.Prelude.{◌<◌, All, length};
+ghost use Rattle.pb_package.specs.Settled.{IsSettled};
+
+use pb_checks_files::{Silent, no_options, workspace_in};
+use pb_data::{Bytes, Items, Text};
+use pb_directive::{Directives, read_directives};
+use pb_feature::{Features, resolve};
+use pb_package::{Options, Selection, Workspace};
+use pb_place::{Memory, PathText};
+use pb_project::Project;
+use pb_unit::{Plan, Planned, What};
+use pb_workspace::selected;
+use std::alloc::Global;
+use std::test::Fail;
+
+/// The bytes of the file of a unit in a folder, or none where it is not there.
+pub fn file_of(
+    alloc: Global,
+    memory: &Memory<Silent>,
+    folder: &str,
+    unit: &Planned,
+) -> Result<Option<Bytes>, Fail> {
+    let folder = PathText::parse(alloc, folder)?;
+    let path = folder.join(alloc, unit.key.as_str())?;
+    Ok(memory.file(alloc, &path)?)
+}
+
+/// The profile that words ask for, at their end.
+fn profile_in(words: &str) -> &str {
+    words.split('@').nth(1).unwrap_or("dev")
+}
+
+/// A build of all members, with what words ask for: `+FEATURE`, and `@PROFILE` at the end.
+pub fn options_of(alloc: Global, words: &str) -> Result<Options, Fail> {
+    let mut options = no_options(alloc)?;
+    options.workspace = true;
+    options.profile = Text::from_str(alloc, profile_in(words))?;
+    for word in words.split(' ') {
+        if let Some(name) = word.strip_prefix("+") {
+            options.features.push(Text::from_str(alloc, name)?)?;
+        }
+    }
+    Ok(options)
+}
+
+/// The project of a selection with these features, or none where it has no plan.
+fn of_features(
+    alloc: Global,
+    workspace: Workspace,
+    features: Features,
+    selection: &Selection,
+    profile: Text,
+) -> Option<Project>
+    requires settled { IsSettled workspace }
+    requires within { All (λ place. place < length workspace.packages) selection.now.packages }
+{
+    match Plan::plan(alloc, &workspace, &features, selection, profile.as_str()) {
+        Ok(plan) => Some(Project {
+            workspace,
+            features,
+            plan,
+            profile,
+        }),
+        Err(_) => None,
+    }
+}
+
+/// The project of a selection, or none where its features or its plan are refused.
+fn of_selection(
+    alloc: Global,
+    workspace: Workspace,
+    selection: &Selection,
+    profile: Text,
+) -> Option<Project>
+    requires settled { IsSettled workspace }
+    requires within { All (λ place. place < length workspace.packages) selection.now.packages }
+{
+    match resolve(alloc, &workspace, selection) {
+        Ok(features) => of_features(alloc, workspace, features, selection, profile),
+        Err(_) => None,
+    }
+}
+
+/// The project of a workspace, or none where what is asked for is refused.
+fn planned(alloc: Global, workspace: Workspace, options: Options) -> Option<Project>
+    requires { IsSettled workspace }
+{
+    match selected(alloc, &workspace, &options) {
+        Ok(selection) => of_selection(alloc, workspace, &selection, options.profile),
+        Err(_) => None,
+    }
+}
+
+/// The project at `/w`, whose target folder is `/w/target`, or none where it is refused.
+pub fn project_of(
+    alloc: Global,
+    memory: &mut Memory<Silent>,
+    options: Options,
+) -> Result<Option<Project>, Fail> {
+    match workspace_in(alloc, memory)? {
+        Ok(workspace) => Ok(planned(alloc, workspace, options)),
+        Err(_) => Ok(None),
+    }
+}
+
+/// What the run of a unit has said, by the file of its key in `/said`; none for a compile.
+fn said_of(
+    alloc: Global,
+    memory: &Memory<Silent>,
+    unit: &Planned,
+) -> Result<Option<Directives>, Fail> {
+    if !matches!(unit.unit.what, What::Run) {
+        return Ok(None);
+    }
+    match file_of(alloc, memory, "/said", unit)? {
+        Some(bytes) => Ok(read_directives(alloc, bytes.as_slice()).ok()),
+        None => Ok(Some(Items::new(alloc))),
+    }
+}
+
+/// What all runs have said, by place.
+pub fn done_of(
+    alloc: Global,
+    memory: &Memory<Silent>,
+    project: &Project,
+) -> Result<Vec<Option<Directives>>, Fail> {
+    let mut done = Vec::new(alloc);
+    for unit in project.plan.units() {
+        done.push(said_of(alloc, memory, unit)?)?;
+    }
+    Ok(done)
+}

@@ -1,0 +1,102 @@
+//! Commands, by a table of files with what is asked and answered.
+
+use crate::commands::asking::{Case, asked, case_of};
+use crate::commands::cases::CASES;
+use crate::commands::making::{options_of, project_of};
+use pb_checks_files::{Silent, put_files};
+use pb_place::Memory;
+use pb_project::Project;
+use pb_unit::Planned;
+use std::alloc::Global;
+use std::process::Abort;
+use std::test::Fail;
+
+/// The unit of a key.
+fn unit_of<'a>(units: &'a [Planned], key: &str) -> Option<&'a Planned> {
+    units.iter().find(|unit| unit.key.as_str() == key)
+}
+
+/// Asks a question, `KEY WHAT`, and compares the answer.
+fn ask(
+    rt: &impl Abort,
+    alloc: Global,
+    case: &Case,
+    question: &str,
+    want: &str,
+) -> Result<(), Fail> {
+    let (key, what) = match question.split_once(" ") {
+        Some((key, what)) => (key, what),
+        None => (question, ""),
+    };
+    let answer = match unit_of(case.project.plan.units(), key) {
+        Some(unit) => asked(alloc, case, unit, what)?,
+        None => String::from_str(alloc, "no unit")?,
+    };
+    assert_eq!(rt; answer.as_str(), want);
+    Ok(())
+}
+
+/// Asks all questions of a case, one a line, each with its answer behind ` = `. How many there were.
+fn ask_all(rt: &impl Abort, alloc: Global, case: &Case, questions: &str) -> Result<usize, Fail> {
+    let mut count = 0usize;
+    for line in questions.lines() {
+        if let Some((question, want)) = line.split_once(" = ") {
+            ask(rt, alloc, case, question, want)?;
+            count = count.saturating_add(1);
+        }
+    }
+    Ok(count)
+}
+
+/// Asks the questions of a case about its project.
+fn ask_of(
+    rt: &impl Abort,
+    alloc: Global,
+    memory: &Memory<Silent>,
+    project: Project,
+    head: &str,
+    questions: &str,
+) -> Result<usize, Fail> {
+    let case = case_of(alloc, memory, project, head)?;
+    ask_all(rt, alloc, &case, questions)
+}
+
+/// Puts the files of a case in a place, and asks its questions. How many there were.
+fn try_files(
+    rt: &impl Abort,
+    alloc: Global,
+    memory: &mut Memory<Silent>,
+    head: &str,
+    files: &str,
+    questions: &str,
+) -> Result<usize, Fail> {
+    put_files(alloc, memory, files)?;
+    let options = options_of(alloc, head)?;
+    let Some(project) = project_of(alloc, memory, options)? else {
+        assert_eq!(rt; "no project", head);
+        return Ok(0);
+    };
+    ask_of(rt, alloc, memory, project, head, questions)
+}
+
+/// Tries one case: words in its first line, files, and after a line `---` the questions.
+fn try_case(rt: &impl Abort, alloc: Global, text: &str) -> Result<usize, Fail> {
+    let (Some((head, rest)), true) = (text.split_once("\n"), text.contains("---\n")) else {
+        return Ok(0);
+    };
+    let Some((files, questions)) = rest.split_once("---\n") else {
+        return Ok(0);
+    };
+    let mut memory = Memory::new(alloc, Silent);
+    try_files(rt, alloc, &mut memory, head, files, questions)
+}
+
+#[test]
+fn commands(rt: HostRuntime) -> Result<(), Fail> {
+    let mut count = 0usize;
+    for case in CASES.split("=== ") {
+        count = count.saturating_add(try_case(&rt, rt.alloc(), case)?);
+    }
+    assert_eq!(rt; count, 96);
+    Ok(())
+}

@@ -1,0 +1,99 @@
+//! A plain account of a flight, which goes through all units each time.
+
+use pb_data::{Bytes, Items};
+use std::alloc::{AllocError, Global};
+use std::test::Fail;
+
+/// Where a unit stands.
+#[derive(Clone, Copy, PartialEq, Eq)]
+pub enum Standing {
+    Untouched,
+    Flying,
+    Good,
+    Bad,
+}
+
+/// A unit: what it needs, where it stands, and what it said.
+#[derive(Drop)]
+pub struct Unit {
+    pub needs: Items<usize>,
+    pub standing: Standing,
+    pub lines: Bytes,
+}
+
+/// Where the unit at a place stands.
+pub fn standing_at(units: &[Unit], place: usize) -> Standing {
+    match units.get(place) {
+        Some(unit) => unit.standing,
+        None => Standing::Untouched,
+    }
+}
+
+/// Whether a unit has not begun and all that it needs is good.
+fn is_open(units: &[Unit], unit: &Unit) -> bool {
+    unit.standing == Standing::Untouched
+        && unit
+            .needs
+            .as_slice()
+            .iter()
+            .all(|need| standing_at(units, *need) == Standing::Good)
+}
+
+/// The units that may begin.
+pub fn ready(alloc: Global, units: &[Unit]) -> Result<Vec<usize>, Fail> {
+    let mut found = Vec::new(alloc);
+    for (place, unit) in units.iter().enumerate() {
+        if unit.standing == Standing::Bad {
+            break;
+        }
+        if is_open(units, unit) {
+            found.push(place)?;
+        }
+    }
+    Ok(found)
+}
+
+/// The units in flight, in plan order.
+pub fn flying(alloc: Global, units: &[Unit]) -> Result<Vec<usize>, Fail> {
+    let mut found = Vec::new(alloc);
+    for (place, unit) in units.iter().enumerate() {
+        if unit.standing == Standing::Flying {
+            found.push(place)?;
+        }
+    }
+    Ok(found)
+}
+
+/// The lines that are due.
+pub fn due(alloc: Global, units: &[Unit]) -> Result<Vec<u8>, AllocError> {
+    let mut lines = Vec::new(alloc);
+    for unit in units {
+        if unit.standing != Standing::Good && unit.standing != Standing::Bad {
+            break;
+        }
+        lines.extend_from_slice(unit.lines.as_slice())?;
+        if unit.standing == Standing::Bad {
+            break;
+        }
+    }
+    Ok(lines)
+}
+
+/// The place of the bad unit that is told.
+pub fn first_bad(units: &[Unit]) -> Option<usize> {
+    let mut told = None;
+    for (place, unit) in units.iter().enumerate() {
+        if unit.standing == Standing::Bad {
+            told = Some(place);
+        }
+        if unit.standing != Standing::Good {
+            break;
+        }
+    }
+    told
+}
+
+/// Whether all units are good, or the first that is not is bad.
+pub fn is_finished(units: &[Unit]) -> bool {
+    units.iter().all(|unit| unit.standing == Standing::Good) || first_bad(units).is_some()
+}

@@ -1,0 +1,56 @@
+//! Turns, picks and jobs; and each law called once.
+
+use pb_flight::{First, Jobs, Last, Pick, Step, Turn, laws};
+use std::test::Fail;
+
+#[test]
+fn picks(rt: HostRuntime) -> Result<(), Fail> {
+    let ready: &[usize] = &[4, 6, 9];
+    assert_eq!(rt; First {}.pick(ready), 0);
+    assert_eq!(rt; Last {}.pick(ready), 2);
+    Ok(())
+}
+
+/// Whether a step is this one.
+fn is_step(step: Step, begins: bool, wanted: usize) -> bool {
+    match step {
+        Step::Begin(place) => begins && place == wanted,
+        Step::Answer(place) => !begins && place == wanted,
+    }
+}
+
+#[test]
+fn jobs(rt: HostRuntime) -> Result<(), Fail> {
+    let ready: &[usize] = &[4, 6];
+    let mut two = Jobs {
+        pick: Last {},
+        jobs: 2,
+    };
+    assert!(rt; is_step(two.turn(ready, &[]), true, 1));
+    assert!(rt; is_step(two.turn(ready, &[1]), true, 1));
+    assert!(rt; is_step(two.turn(ready, &[1, 0]), false, 0));
+    assert!(rt; is_step(two.turn(&[], &[1]), false, 0));
+    let mut none = Jobs {
+        pick: First {},
+        jobs: 0,
+    };
+    assert!(rt; is_step(none.turn(ready, &[]), true, 0));
+    assert!(rt; is_step(none.turn(ready, &[1]), false, 0));
+    Ok(())
+}
+
+#[test]
+fn laws_hold(_: HostRuntime) -> Result<(), Fail> {
+    laws::ready_is_exact::<u8>();
+    laws::reached_is_good::<u8>();
+    laws::hands_out_all_due::<u8>();
+    laws::due_is_start::<u8>();
+    laws::finished_is_all::<u8>();
+    laws::flying_is_begun::<u8>();
+    laws::something_is_left::<u8>();
+    laws::steps_are_lawful::<u8, Jobs<First>>();
+    laws::started_differs::<u8, Jobs<First>>();
+    laws::jobs_bound_flying::<u8, First>();
+    laws::one_job_is_one_by_one::<u8, First>();
+    Ok(())
+}

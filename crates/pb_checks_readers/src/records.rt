@@ -1,0 +1,423 @@
+//! Records as text: worked examples, texts that are none, and texts made at random.
+
+use pb_data::Bytes;
+use pb_record::{Needed, Record, read_record, write_record};
+use std::alloc::{AllocError, Global};
+use std::test::Fail;
+
+/// The text that is written of the record that a text is, or none where it is none.
+fn again(alloc: Global, text: &[u8]) -> Result<Option<Bytes>, AllocError> {
+    match read_record(alloc, text)? {
+        Some(kept) => {
+            let written = write_record(alloc, &kept)?;
+            Ok(Some(written))
+        }
+        None => Ok(None),
+    }
+}
+
+/// Whether a text is that of a record, which is written so again.
+fn is_record(alloc: Global, text: &[u8]) -> Result<bool, AllocError> {
+    match again(alloc, text)? {
+        Some(written) => Ok(written.as_slice() == text),
+        None => Ok(false),
+    }
+}
+
+/// Whether a text is that of no record.
+fn is_none(alloc: Global, text: &[u8]) -> Result<bool, AllocError> {
+    let found = read_record(alloc, text)?;
+    Ok(found.is_none())
+}
+
+/// Whether a text is that of no record, or of one that is written so again.
+fn is_none_or_record(alloc: Global, text: &[u8]) -> Result<bool, AllocError> {
+    match again(alloc, text)? {
+        Some(written) => Ok(written.as_slice() == text),
+        None => Ok(true),
+    }
+}
+
+/// A record of format 2 with the largest run number, with nothing in its lists.
+const LARGEST: &str =
+    "record 2\n18446744073709551615\n12\nz.target.lib\n1\nm\n0\n1\n/\n0\n2\n/z\n2\n/t\n0\n\n0\n0\n0\n0\n\n0\n\nend\n";
+
+/// Records of format 2, and then of format 1.
+const RECORDS: &[&str] = &[
+    LARGEST,
+    "record 2\n7\n12\na.target.lib\n5\nrustc\n2\n2\n-C\n0\n\n2\n/w\n2\n1\nA\n1\n1\n2\nAB\n0\n\n4\n/w/t\n2\n/t\n3\nx\ny\n1\n2\n/r\n3\nf\n4\n/w/a\n2\nok\nt\n2\n/w\n1\n3\nb/c\n1\n\n\nv\n1\nV\n1\n0\n\n2\n1\nb\n3\n1\nc\n6\n3\nout\n3\nerr\nend\n",
+    "record 2\n0\n0\n\n0\n\n0\n1\n/\n0\n1\n/\n1\n/\n0\n\n0\n1\nv\n2\n\u{e9}\n0\n0\n0\n\n0\n\nend\n",
+    "record 1\n12\nz.target.lib\n1\nm\n0\n1\n/\n0\n2\n/z\n2\n/t\n0\n\n0\n0\n0\n0\n\n0\n\nend\n",
+    "record 1\n1\na\n1\nm\n1\n1\nw\n2\n/w\n0\n2\n/z\n2\n/t\n1\nx\n0\n0\n2\n1\nb\n2\n1\nf\n1\n1\n3\ng/h\n0\n\n1\nc\n0\n1\no\n1\ne\nend\n",
+    "record 1\n1\na\n1\nm\n0\n1\n/\n1\n1\nN\n1\nv\n2\n/z\n2\n/t\n0\n\n1\n2\n/t\n1\nv\n1\nX\n0\n1\n1\nb\n1\n1\nf\n3\n1\n2\n0\n\n0\n\nend\n",
+];
+
+#[test]
+fn records_go_there_and_back(rt: HostRuntime) -> Result<(), Fail> {
+    for case in RECORDS {
+        let text = *case;
+        assert!(rt; is_record(rt.alloc(), text.as_bytes())?, "{text}");
+    }
+    Ok(())
+}
+
+/// Whether a record has the run number of the largest one, and no needed units.
+fn is_largest(kept: &Record) -> bool {
+    match &kept.needed {
+        Needed::Numbers(own, needs) => *own == u64::MAX && needs.is_empty(),
+        Needed::Copies(_) => false,
+    }
+}
+
+#[test]
+fn record_says_its_parts(rt: HostRuntime) -> Result<(), Fail> {
+    let kept = read_record(rt.alloc(), LARGEST.as_bytes())?.ok_or("none")?;
+    assert!(rt; kept.key.as_str() == "z.target.lib");
+    assert!(rt; kept.asked.program.as_str() == "m");
+    assert!(rt; kept.asked.out.as_str() == "/z");
+    assert!(rt; is_largest(&kept));
+    Ok(())
+}
+
+/// Whether each first part of a text, and the text with one byte more, is that of no record.
+fn stands_alone(alloc: Global, text: &[u8]) -> Result<bool, AllocError> {
+    for end in 0..text.len() {
+        if !is_none(alloc, &text[..end])? {
+            return Ok(false);
+        }
+    }
+    let mut longer = text.to_vec(alloc)?;
+    longer.push(b'\n')?;
+    let is_none = is_none(alloc, longer.as_slice())?;
+    Ok(is_none)
+}
+
+/// Whether a text with one byte changed is that of no record, or of one that is written so again.
+fn stands_changed(alloc: Global, text: &[u8], at: usize) -> Result<bool, AllocError> {
+    for byte in b"\0\n019af/\xff" {
+        let mut changed = text.to_vec(alloc)?;
+        if at < changed.len() {
+            changed[at] = *byte;
+        }
+        if !is_none_or_record(alloc, changed.as_slice())? {
+            return Ok(false);
+        }
+    }
+    Ok(true)
+}
+
+#[test]
+fn records_stand_alone(rt: HostRuntime) -> Result<(), Fail> {
+    for case in RECORDS {
+        let text = *case;
+        assert!(rt; stands_alone(rt.alloc(), text.as_bytes())?, "{text}");
+    }
+    Ok(())
+}
+
+#[test]
+fn records_changed(rt: HostRuntime) -> Result<(), Fail> {
+    for case in RECORDS {
+        let text = *case;
+        for at in 0..text.len() {
+            assert!(rt;
+                stands_changed(rt.alloc(), text.as_bytes(), at)?,
+                "{at} of {text}"
+            );
+        }
+    }
+    Ok(())
+}
+
+/// What is put in a record that has nothing in its lists, in place of which of its lines, so that it is none.
+const WRONG: &[(&str, &str)] = &[
+    ("18446744073709551615", "18446744073709551616"),
+    ("18446744073709551615", "018446744073709551615"),
+    ("18446744073709551615", "+1"),
+    ("18446744073709551615", ""),
+    ("18446744073709551615", "1 "),
+    ("12\n", "012\n"),
+    ("12\n", "11\n"),
+    ("12\n", "13\n"),
+    ("\n/z\n", "\nz/\n"),
+    ("2\n/z\n", "3\n/z/\n"),
+    ("2\n/z\n", "4\n/../\n"),
+    ("2\n/z\n", "3\n/z\0\n"),
+    ("2\n/z\n", "0\n\n"),
+    ("1\n/\n0\n", "1\n/\n2\n1\nB\n0\n\n1\nA\n0\n\n"),
+    ("1\n/\n0\n", "1\n/\n2\n1\nA\n0\n\n1\nA\n0\n\n"),
+    ("record 2", "record 1"),
+    ("record 2", "record 3"),
+    ("end\n", "END\n"),
+    ("end\n", ""),
+    ("end\n", "end"),
+];
+
+/// The text of a record with something put in place of something in it, once.
+fn replaced(alloc: Global, old: &str, new: &str) -> Result<String, AllocError> {
+    let mut made = String::new(alloc);
+    match LARGEST.split_once(old) {
+        Some((before, behind)) => {
+            made.push_str(before)?;
+            made.push_str(new)?;
+            made.push_str(behind)?;
+        }
+        None => made.push_str(LARGEST)?,
+    }
+    Ok(made)
+}
+
+#[test]
+fn wrong_texts_are_none(rt: HostRuntime) -> Result<(), Fail> {
+    for case in WRONG {
+        let (old, new) = *case;
+        let made = replaced(rt.alloc(), old, new)?;
+        assert!(rt; is_none(rt.alloc(), made.as_bytes())?, "{new}");
+    }
+    assert!(rt;
+        is_none(
+            rt.alloc(),
+            b"record 2\n1\n1\n\xff\n1\nm\n0\n1\n/\n0\n2\n/z\n2\n/t\n0\n\n0\n0\n0\n0\n\n0\n\nend\n"
+        )?
+    );
+    Ok(())
+}
+
+/// A small generator of numbers, the same in each run.
+#[derive(Drop)]
+struct Dice {
+    state: u64,
+}
+
+impl Dice {
+    /// A number below another one; 0 where that is 0.
+    fn below(&mut self, limit: usize) -> usize {
+        self.state = self
+            .state
+            .wrapping_mul(6_364_136_223_846_793_005)
+            .wrapping_add(1_442_695_040_888_963_407);
+        let rolled = (self.state >> 33) as usize;
+        if limit == 0 { 0 } else { rolled % limit }
+    }
+
+    /// One of some texts.
+    fn pick<'a>(&mut self, from: &[&'a str]) -> &'a str {
+        let at = self.below(from.len());
+        match from.get(at) {
+            Some(text) => *text,
+            None => "",
+        }
+    }
+}
+
+/// Texts that may stand anywhere.
+const TEXTS: &[&str] = &[
+    "",
+    "a",
+    "-C",
+    "0",
+    "\n",
+    "end\n",
+    "1\na\n",
+    "\u{e9}\u{1f600}",
+    "a b\0c",
+];
+
+/// Normalised paths.
+const PATHS: &[&str] = &[
+    "/",
+    "/w",
+    "/w/target/debug/a.target.lib",
+    "/ \n/\u{e9}",
+    "/.../..a",
+];
+
+/// Paths inside a folder.
+const NAMES: &[&str] = &["a", "a/b", "lib a.rlib", "\u{e9}/\n", "..."];
+
+/// Names in byte order.
+const SORTED: &[&str] = &["", "A", "AB", "B", "a", "\u{e9}"];
+
+/// Numbers.
+const NUMBERS: &[&str] = &["0", "1", "9", "10", "4294967296", "18446744073709551615"];
+
+/// Adds a block.
+fn put_block(alloc: Global, out: &mut String, text: &str) -> Result<(), AllocError> {
+    let length = text.len();
+    let made = format!(in alloc; "{length}\n{text}\n")?;
+    out.push_str(made.as_str())
+}
+
+/// Adds a number.
+fn put_number(out: &mut String, number: &str) -> Result<(), AllocError> {
+    out.push_str(number)?;
+    out.push_str("\n")
+}
+
+/// Adds how many there are, and tells it.
+fn put_count(alloc: Global, out: &mut String, dice: &mut Dice) -> Result<usize, AllocError> {
+    let count = dice.below(4);
+    let made = format!(in alloc; "{count}\n")?;
+    out.push_str(made.as_str())?;
+    Ok(count)
+}
+
+/// Adds a list of blocks.
+fn put_blocks(
+    alloc: Global,
+    out: &mut String,
+    dice: &mut Dice,
+    from: &[&str],
+) -> Result<(), AllocError> {
+    let count = put_count(alloc, out, dice)?;
+    for _ in 0..count {
+        put_block(alloc, out, dice.pick(from))?;
+    }
+    Ok(())
+}
+
+/// Adds a list of files of a folder.
+fn put_files(alloc: Global, out: &mut String, dice: &mut Dice) -> Result<(), AllocError> {
+    let count = put_count(alloc, out, dice)?;
+    for _ in 0..count {
+        put_block(alloc, out, dice.pick(NAMES))?;
+        put_block(alloc, out, dice.pick(TEXTS))?;
+    }
+    Ok(())
+}
+
+/// Adds variables, sorted by name.
+fn put_pairs(alloc: Global, out: &mut String, dice: &mut Dice) -> Result<(), AllocError> {
+    let mut count = 0u64;
+    let mut made = String::new(alloc);
+    for name in SORTED {
+        if dice.below(2) == 0 && count < 100 {
+            count += 1;
+            put_block(alloc, &mut made, *name)?;
+            put_block(alloc, &mut made, dice.pick(TEXTS))?;
+        }
+    }
+    let said = format!(in alloc; "{count}\n")?;
+    out.push_str(said.as_str())?;
+    out.push_str(made.as_str())
+}
+
+/// Adds an input.
+fn put_input(alloc: Global, out: &mut String, dice: &mut Dice) -> Result<(), AllocError> {
+    match dice.below(4) {
+        0 => {
+            out.push_str("f\n")?;
+            put_block(alloc, out, dice.pick(PATHS))?;
+            put_block(alloc, out, dice.pick(TEXTS))
+        }
+        1 => {
+            out.push_str("t\n")?;
+            put_block(alloc, out, dice.pick(PATHS))?;
+            put_files(alloc, out, dice)
+        }
+        2 => {
+            out.push_str("v\n")?;
+            put_block(alloc, out, dice.pick(TEXTS))?;
+            out.push_str("0\n")
+        }
+        _ => {
+            out.push_str("v\n")?;
+            put_block(alloc, out, dice.pick(TEXTS))?;
+            out.push_str("1\n")?;
+            put_block(alloc, out, dice.pick(TEXTS))
+        }
+    }
+}
+
+/// Adds a list of inputs.
+fn put_inputs(alloc: Global, out: &mut String, dice: &mut Dice) -> Result<(), AllocError> {
+    let count = put_count(alloc, out, dice)?;
+    for _ in 0..count {
+        put_input(alloc, out, dice)?;
+    }
+    Ok(())
+}
+
+/// Adds the key and what was asked.
+fn put_asked(alloc: Global, out: &mut String, dice: &mut Dice) -> Result<(), AllocError> {
+    put_block(alloc, out, dice.pick(TEXTS))?;
+    put_block(alloc, out, dice.pick(TEXTS))?;
+    put_blocks(alloc, out, dice, TEXTS)?;
+    put_block(alloc, out, dice.pick(PATHS))?;
+    put_pairs(alloc, out, dice)?;
+    put_block(alloc, out, dice.pick(PATHS))?;
+    put_block(alloc, out, dice.pick(PATHS))?;
+    put_block(alloc, out, dice.pick(TEXTS))?;
+    put_blocks(alloc, out, dice, PATHS)
+}
+
+/// Adds the needed units, with numbers or with copies.
+fn put_needed(
+    alloc: Global,
+    out: &mut String,
+    dice: &mut Dice,
+    numbered: bool,
+) -> Result<(), AllocError> {
+    let count = put_count(alloc, out, dice)?;
+    for _ in 0..count {
+        put_block(alloc, out, dice.pick(TEXTS))?;
+        if numbered {
+            put_number(out, dice.pick(NUMBERS))?;
+        } else {
+            put_files(alloc, out, dice)?;
+        }
+    }
+    Ok(())
+}
+
+/// The text of a record made at random.
+fn random_record(alloc: Global, dice: &mut Dice) -> Result<String, AllocError> {
+    let mut out = String::new(alloc);
+    let numbered = dice.below(2) == 0;
+    if numbered {
+        out.push_str("record 2\n")?;
+        put_number(&mut out, dice.pick(NUMBERS))?;
+    } else {
+        out.push_str("record 1\n")?;
+    }
+    put_asked(alloc, &mut out, dice)?;
+    put_inputs(alloc, &mut out, dice)?;
+    put_needed(alloc, &mut out, dice, numbered)?;
+    put_block(alloc, &mut out, dice.pick(TEXTS))?;
+    put_block(alloc, &mut out, dice.pick(TEXTS))?;
+    out.push_str("end\n")?;
+    Ok(out)
+}
+
+#[test]
+fn random_records(rt: HostRuntime) -> Result<(), Fail> {
+    let mut dice = Dice { state: 1 };
+    for _ in 0..200 {
+        let text = random_record(rt.alloc(), &mut dice)?;
+        assert!(rt;
+            is_record(rt.alloc(), text.as_bytes())?,
+            "{}",
+            text.as_str()
+        );
+    }
+    Ok(())
+}
+
+/// The text of a record with one file of so many bytes.
+fn large_record(alloc: Global, size: usize) -> Result<Vec<u8>, AllocError> {
+    let bytes = vec![in alloc; b'x'; size]?;
+    let front = format!(in alloc;
+        "record 2\n1\n1\na\n1\nm\n0\n1\n/\n0\n2\n/z\n2\n/t\n0\n\n0\n1\nf\n4\n/w/a\n{size}\n"
+    )?;
+    let mut made = front.as_bytes().to_vec(alloc)?;
+    made.extend_from_slice(bytes.as_slice())?;
+    made.extend_from_slice(b"\n0\n0\n\n0\n\nend\n")?;
+    Ok(made)
+}
+
+#[test]
+fn large_records(rt: HostRuntime) -> Result<(), Fail> {
+    let text = large_record(rt.alloc(), 4_194_304)?;
+    assert!(rt; is_record(rt.alloc(), text.as_slice())?);
+    Ok(())
+}

@@ -1,0 +1,9 @@
+pub mod Lists
+pub mod Listing
+pub mod Meeting
+pub mod Keeping
+pub mod Ready
+pub mod Ending
+pub mod Handing
+pub mod Flying
+pub mod Stepping

@@ -1,0 +1,6 @@
+pub mod Table
+pub mod Events
+pub mod Calls
+pub mod Steps
+pub mod Laws
+pub mod Working

@@ -1,0 +1,49 @@
+-- What is done next, and who decides it.
+use Rattle.std.specs.Prelude.{◌≡◌, ◌<◌, ◌≤◌, ◌+◌, ◌⊎◌, ℕ, max, Bool, true, false, List, [], ◌∷◌, length, Some, slice_get}
+use Rattle.pb_flight.specs.declared.flight.Answer.{Answer}
+use Rattle.pb_flight.specs.declared.turn.Step.{Step}
+use Rattle.pb_flight.specs.declared.turn.Step.TheVariants as step
+use Rattle.pb_flight.specs.declared.turn.Jobs.{Jobs}
+use Rattle.pb_flight.specs.Table.{ready_of, is_finished}
+use Rattle.pb_flight.specs.Events.{Event, Began, Gave, states_after, flying_after}
+
+-- a step is one of an item of its list
+abbrev pub IsWithin : ℕ → ℕ → Step → Type 0
+IsWithin ready flying (step.Begin i) = i < ready
+IsWithin ready flying (step.Answer i) = i < flying
+
+-- the events are what was answered to the lists of units that may begin and of those in flight, along a chain of states, as long as units are missing; a unit has a child as `Spawns` says, and answers as `Gives` says
+pub data Flies {F S : Type 0} (Turns : S → List ℕ → List ℕ → Step → S → Type 0) (needs : List (List ℕ)) (Spawns : ℕ → Bool → Type 0) (Gives : ℕ → Answer F → Type 0) (from : S) : List (Event F) → S → Type 0 where
+  nothing : Flies Turns needs Spawns Gives from [] from
+  begin : (es : List (Event F)) (now next : S) (i u : ℕ) (spawned : Bool) (before : Flies Turns needs Spawns Gives from es now) (missing : is_finished (states_after needs es) ≡ false)
+      (turned : Turns now (ready_of needs (states_after needs es)) (flying_after es) (step.Begin i) next) (unit : slice_get (ready_of needs (states_after needs es)) i ≡ Some u) (child : Spawns u spawned)
+      → Flies Turns needs Spawns Gives from (Began u spawned ∷ es) next
+  answer : (es : List (Event F)) (now next : S) (i u : ℕ) (given : Answer F) (before : Flies Turns needs Spawns Gives from es now) (missing : is_finished (states_after needs es) ≡ false)
+      (turned : Turns now (ready_of needs (states_after needs es)) (flying_after es) (step.Answer i) next) (unit : slice_get (flying_after es) i ≡ Some u) (gives : Gives u given)
+      → Flies Turns needs Spawns Gives from (Gave u given ∷ es) next
+
+-- whether it has a child or not
+abbrev pub Anyhow : ℕ → Bool → Type 0
+Anyhow u spawned = Unit {0}
+
+-- a child where something differs, none where nothing does
+abbrev pub SpawnsAs : (ℕ → Type 0) → ℕ → Bool → Type 0
+SpawnsAs Differs u true = Differs u
+SpawnsAs Differs u false = Differs u → ⊥
+
+-- the first place
+abbrev pub PicksFirst : List ℕ → ℕ → Type 0
+PicksFirst ready place = place ≡ 0
+
+-- the greatest place
+abbrev pub PicksLast : List ℕ → ℕ → Type 0
+PicksLast ready place = place + 1 ≡ length ready
+
+-- a unit begins as it is picked, where one may and fewer than so many fly; else the one begun first is answered. No job counts as one, and their number stays
+abbrev pub JobsTurn : {S : Type 0} → (S → List ℕ → ℕ → S → Type 0) → ℕ → S → ℕ → List ℕ → List ℕ → Step → S → Type 0
+JobsTurn Picks jobs old after ready flying (step.Begin i) new = (after ≡ jobs) × (0 < length ready) × (length flying < max jobs 1) × Picks old ready i new
+JobsTurn Picks jobs old after ready flying (step.Answer i) new = (after ≡ jobs) × (i ≡ 0) × (new ≡ old) × ((length ready ≡ 0) ⊎ (max jobs 1 ≤ length flying))
+
+-- the same, of a number of jobs and who picks, as they were and as they are
+abbrev pub TurnsOfJobs : {S : Type 0} → (S → List ℕ → ℕ → S → Type 0) → Jobs S → List ℕ → List ℕ → Step → Jobs S → Type 0
+TurnsOfJobs Picks old ready flying step new = JobsTurn Picks old.jobs old.pick new.jobs ready flying step new.pick

@@ -1,0 +1,11 @@
+//! The flight table of a build: which units may begin, which are in flight, and which lines are due. It knows no place
+//! and no compiler: a unit is a number, and what it answers is a fault, if there is one, and bytes.
+#![tactic(auto)]
+
+pub mod flight;
+pub mod laws;
+pub mod needs;
+pub mod turn;
+
+pub use flight::{Answer, Flight, State};
+pub use turn::{First, Jobs, Last, Pick, Step, Turn};

@@ -1,0 +1,88 @@
+//! Who decides what is done next.
+
+ghost use Rattle.std.specs.Prelude.{◌≡◌, ◌<◌, ◌+◌, ℕ, List, length};
+ghost use Rattle.pb_flight.specs.declared.turn.Step.{Step};
+ghost use Rattle.pb_flight.specs.Steps.{IsWithin, PicksFirst, PicksLast, TurnsOfJobs};
+
+/// A step of a build: the unit at a place of the list of those that may begin is begun, or the one at a place of the
+/// list of those in flight is answered.
+#[derive(Clone, Copy, Debug)]
+pub enum Step {
+    /// The one at this place of the first list begins.
+    Begin(usize),
+    /// The one at this place of the second list is answered.
+    Answer(usize),
+}
+
+/// Decides each step of a build. It may have a state, which each step may change.
+pub trait Turn {
+    /// How its state, the two lists, the step and its new state belong together.
+    ghost turns: { Self → List ℕ → List ℕ → Step → Self → Type 0 };
+
+    /// The next step. `ready` are the units that may begin, in plan order; `flying` those that have begun and not
+    /// answered, in order of beginning; they are not both empty. The step is one of an item of its list. This takes
+    /// no memory.
+    fn turn(&mut self, ready: &[usize], flying: &[usize]) -> Step
+        requires some { 0 < length ready.now + length flying.now }
+        ensures turned { turns self.old ready.now flying.now result self.new }
+        ensures within { IsWithin (length ready.now) (length flying.now) result };
+}
+
+/// Decides which unit begins. It may have a state, which each call may change.
+pub trait Pick {
+    /// How its state, the list, the answer and its new state belong together.
+    ghost picks: { Self → List ℕ → ℕ → Self → Type 0 };
+
+    /// A place of a list that is not empty: that of the unit that begins, among those that may, in plan order. This
+    /// takes no memory.
+    fn pick(&mut self, ready: &[usize]) -> usize
+        requires some { 0 < length ready.now }
+        ensures picked { picks self.old ready.now result self.new }
+        ensures within { result < length ready.now };
+}
+
+/// Picks the first in plan order.
+#[derive(Debug, Drop)]
+pub struct First {}
+
+impl Pick for First {
+    ghost picks = { λ old ready place new. PicksFirst ready place };
+
+    fn pick(&mut self, ready: &[usize]) -> usize {
+        0
+    }
+}
+
+/// Picks the last in plan order.
+#[derive(Debug, Drop)]
+pub struct Last {}
+
+impl Pick for Last {
+    ghost picks = { λ old ready place new. PicksLast ready place };
+
+    fn pick(&mut self, ready: &[usize]) -> usize {
+        ready.len() - 1
+    }
+}
+
+/// A turn by a number of jobs: a unit begins, as it is picked, where one may and fewer than so many fly; else the one
+/// that was begun first is answered. No job counts as one (our own choice).
+#[derive(Debug, Drop)]
+pub struct Jobs<P> {
+    /// Which unit begins.
+    pub pick: P,
+    /// How many units may be in flight at one time.
+    pub jobs: u64,
+}
+
+impl<P: Pick> Turn for Jobs<P> {
+    ghost turns = { TurnsOfJobs P.picks };
+
+    fn turn(&mut self, ready: &[usize], flying: &[usize]) -> Step {
+        if !ready.is_empty() && (flying.len() as u64) < self.jobs.max(1) {
+            Step::Begin(self.pick.pick(ready))
+        } else {
+            Step::Answer(0)
+        }
+    }
+}

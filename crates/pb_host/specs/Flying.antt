@@ -1,0 +1,17 @@
+-- What a place of real files tells of a child in flight: its ticket and its command. Of the rest it tells nothing.
+use Rattle.std.specs.Prelude.{ℕ, pos, []}
+use Rattle.std.specs.FinMap as map
+use Rattle.pb_place.specs.World.{World, Answers}
+use Rattle.pb_place.specs.Flights.{flight_of}
+use Rattle.pb_place.specs.declared.command.Command.{Command}
+use Rattle.pb_place.specs.declared.flight.Flight.{Flight}
+
+-- where no map is told, and no answer
+abbrev pub no_world : World
+no_world = record { files = map.empty; variables = map.empty }
+
+abbrev pub silent : Answers
+silent command w = record { status = pos 0; stdout = []; stderr = []; files = [] }
+
+abbrev pub silent_flight : Command → ℕ → Flight
+silent_flight command ticket = flight_of (silent command) command no_world ticket

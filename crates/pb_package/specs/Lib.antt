@@ -1,0 +1,3 @@
+pub mod Workspace
+pub mod Settled
+pub mod ByKey

@@ -1,0 +1,45 @@
+-- What every workspace that was read is, whatever its files say: packages by folder and by name, entries that lead somewhere and whose keys are names, features and binaries by name.
+use Rattle.std.specs.Prelude.{◌≡◌, ℕ, ◌<◌, ◌≤◌, ◌||◌, true, List, map, All, IfSome, length}
+use Rattle.std.specs.Ordering.{nat_cmp}
+use Rattle.std.specs.Cmp.Lexicographic.{slice_cmp}
+use Rattle.std.specs.List.{IsDistinct}
+use Rattle.std.specs.List.Sorted.{IsStrictlySortedBy}
+use Rattle.std.specs.Str.{bytes_eq}
+use Rattle.pb_manifest.specs.Letters.{is_name, is_crate_name, is_feature_name}
+use Rattle.pb_manifest.specs.declared.feature.Feature.{Feature}
+use Rattle.pb_package.specs.declared.package.Package.{Package}
+use Rattle.pb_package.specs.declared.package.Binary.{Binary}
+use Rattle.pb_package.specs.declared.package.Entry.{Entry}
+use Rattle.pb_package.specs.declared.workspace.DefaultMembers.{DefaultMembers}
+use Rattle.pb_package.specs.declared.workspace.DefaultMembers.TheVariants.{Unwritten, Named, Unknown}
+use Rattle.pb_package.specs.declared.workspace.Workspace.{Workspace}
+
+-- texts in byte order, each once
+abbrev pub IsAscending : List (List ℕ) → Type 0
+IsAscending texts = IsStrictlySortedBy (slice_cmp nat_cmp) texts
+
+-- a package among so many. A feature has a feature's letters, or a package's where an optional dependency makes it
+pub record IsPackage (count : ℕ) (p : Package) : Type 0 where
+  pub name : is_name p.name ≡ true
+  pub crate_name : IfSome p.library (λ library. is_crate_name library.name ≡ true)
+  pub binary_names : All (λ (binary : Binary). is_name binary.name ≡ true) p.binaries
+  pub binaries : IsAscending (map (λ (binary : Binary). binary.name) p.binaries)
+  pub feature_names : All (λ (feature : Feature). is_feature_name feature.name || is_name feature.name ≡ true) p.features
+  pub features : IsAscending (map (λ (feature : Feature). feature.name) p.features)
+  pub leads : All (λ (entry : Entry). entry.to < count) p.entries
+  pub entry_keys : All (λ (entry : Entry). is_name entry.key ≡ true) p.entries
+
+-- what `default-members` names, where it names members
+abbrev pub IfNamed : DefaultMembers → (List ℕ → Type 0) → Type 0
+IfNamed Unwritten Holds = Unit {0}
+IfNamed (Named places) Holds = Holds places
+IfNamed Unknown Holds = Unit {0}
+
+-- a workspace that was read: at most 256 packages, in byte order of their folders, no two of one name; the root package and the default members are among them
+pub record IsSettled (ws : Workspace) : Type 0 where
+  pub few : length ws.packages ≤ 256
+  pub folders : IsAscending (map (λ (p : Package). p.folder) ws.packages)
+  pub names : IsDistinct bytes_eq (map (λ (p : Package). p.name) ws.packages)
+  pub packages : All (IsPackage (length ws.packages)) ws.packages
+  pub root : IfSome ws.root_package (λ place. place < length ws.packages)
+  pub defaults : IfNamed ws.default_members (All (λ place. place < length ws.packages))

@@ -1,0 +1,88 @@
+//! The entries of a package in order: those of `[dependencies]` and then those of
+//! `[build-dependencies]`, each in byte order of their keys, no key twice in one table. An entry is
+//! found by halving, and not by a walk.
+
+ghost use Rattle.std.specs.Prelude.{◌≡◌, [], map};
+ghost use Rattle.std.specs.List.{position};
+ghost use Rattle.std.specs.List.Sorted.{IsStrictlySortedBy};
+ghost use Rattle.std.specs.Ordering.{nat_cmp};
+ghost use Rattle.std.specs.Cmp.Lexicographic.{slice_cmp};
+ghost use Rattle.std.specs.Str.{bytes_eq};
+ghost use Rattle.pb_package.specs.ByKey.{table_key};
+
+use crate::package::{DependencyKind, Entry};
+use pb_data::Items;
+use std::alloc::Global;
+use std::cmp::Ordering;
+use std::marker::Model;
+
+/// How an entry stands to a key of a table.
+fn compared(entry: &Entry, kind: DependencyKind, key: &[u8]) -> Ordering
+    ensures { result ≡ slice_cmp nat_cmp (table_key entry.now.kind entry.now.key) (table_key kind key.now) }
+{
+    match (entry.kind, kind) {
+        (DependencyKind::Normal, DependencyKind::Build) => Ordering::Less,
+        (DependencyKind::Build, DependencyKind::Normal) => Ordering::Greater,
+        (DependencyKind::Normal, DependencyKind::Normal) => entry.key.as_bytes().cmp(key),
+        (DependencyKind::Build, DependencyKind::Build) => entry.key.as_bytes().cmp(key),
+    }
+}
+
+/// The entries of a package in order. Contracts see the list of them.
+#[derive(Drop)]
+pub struct EntriesByKey {
+    inside: Items<Entry>,
+}
+
+impl Model for EntriesByKey {
+    ghost use Rattle.std.specs.Prelude.{List, map};
+    ghost use Rattle.std.specs.List.Sorted.{IsStrictlySortedBy};
+    ghost use Rattle.std.specs.Ordering.{nat_cmp};
+    ghost use Rattle.std.specs.Cmp.Lexicographic.{slice_cmp};
+    ghost use Rattle.pb_package.specs.ByKey.{table_key};
+    ghost use Rattle.pb_package.specs.declared.package.Entry.{Entry};
+
+    ghost Value = { List Entry };
+
+    ghost view = { λ a. a.inside };
+
+    ghost invariant = { λ a. IsStrictlySortedBy (slice_cmp nat_cmp) (map (λ entry. table_key entry.kind entry.key) a.inside) };
+}
+
+impl EntriesByKey {
+    /// No entries, which takes no memory.
+    pub fn new(alloc: Global) -> EntriesByKey
+        ensures { result ≡ [] }
+    {
+        EntriesByKey {
+            inside: Items::new(alloc),
+        }
+    }
+
+    /// Entries that stand in order.
+    pub fn from_items(entries: Items<Entry>) -> EntriesByKey
+        requires { IsStrictlySortedBy (slice_cmp nat_cmp) (map (λ entry. table_key entry.kind entry.key) entries) }
+        ensures { result ≡ entries }
+    {
+        EntriesByKey { inside: entries }
+    }
+
+    /// The entries themselves.
+    pub fn as_slice(&self) -> &[Entry]
+        ensures { result.now ≡ self.now }
+    {
+        self.inside.as_slice()
+    }
+
+    /// The place of the entry of a key in a table.
+    pub fn place_of(&self, kind: DependencyKind, key: &[u8]) -> Option<usize>
+        ensures place { result ≡ position (λ entry. bytes_eq (table_key kind key.now) (table_key entry.kind entry.key)) self.now }
+        ensures order { IsStrictlySortedBy (slice_cmp nat_cmp) (map (λ entry. table_key entry.kind entry.key) self.now) }
+    {
+        let entries = self.inside.as_slice();
+        match entries.binary_search_by(|entry| compared(entry, kind, key)) {
+            Ok(place) => Some(place),
+            Err(_) => None,
+        }
+    }
+}

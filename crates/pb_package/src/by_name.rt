@@ -1,0 +1,130 @@
+//! Parts of a package in byte order of their names, each name once: what has a name is found by
+//! halving, and not by a walk.
+
+ghost use Rattle.std.specs.Prelude.{◌≡◌, [], map};
+ghost use Rattle.std.specs.List.{find, position};
+ghost use Rattle.std.specs.List.Sorted.{IsStrictlySortedBy};
+ghost use Rattle.std.specs.Option.{option_copied};
+ghost use Rattle.std.specs.Ordering.{nat_cmp};
+ghost use Rattle.std.specs.Cmp.Lexicographic.{slice_cmp};
+ghost use Rattle.std.specs.Str.{bytes_eq};
+
+use crate::package::Binary;
+use pb_data::{Items, Text};
+use pb_manifest::Feature;
+use std::alloc::Global;
+use std::marker::Model;
+
+/// Binaries in byte order of their names, no two of one name. Contracts see the list of them.
+#[derive(Drop)]
+pub struct BinariesByName {
+    inside: Items<Binary>,
+}
+
+impl Model for BinariesByName {
+    ghost use Rattle.std.specs.Prelude.{List, map};
+    ghost use Rattle.std.specs.List.Sorted.{IsStrictlySortedBy};
+    ghost use Rattle.std.specs.Ordering.{nat_cmp};
+    ghost use Rattle.std.specs.Cmp.Lexicographic.{slice_cmp};
+    ghost use Rattle.pb_package.specs.declared.package.Binary.{Binary};
+
+    ghost Value = { List Binary };
+
+    ghost view = { λ a. a.inside };
+
+    ghost invariant = { λ a. IsStrictlySortedBy (slice_cmp nat_cmp) (map (λ binary. binary.name) a.inside) };
+}
+
+impl BinariesByName {
+    /// No binaries, which takes no memory.
+    pub fn new(alloc: Global) -> BinariesByName
+        ensures { result ≡ [] }
+    {
+        BinariesByName {
+            inside: Items::new(alloc),
+        }
+    }
+
+    /// Binaries that stand in byte order of their names.
+    pub fn from_items(binaries: Items<Binary>) -> BinariesByName
+        requires { IsStrictlySortedBy (slice_cmp nat_cmp) (map (λ binary. binary.name) binaries) }
+        ensures { result ≡ binaries }
+    {
+        BinariesByName { inside: binaries }
+    }
+
+    /// The binaries themselves.
+    pub fn as_slice(&self) -> &[Binary]
+        ensures { result.now ≡ self.now }
+    {
+        self.inside.as_slice()
+    }
+
+    /// The binary of a name.
+    pub fn named(&self, name: &Text) -> Option<&Binary>
+        ensures { option_copied result ≡ find (λ binary. bytes_eq name.now binary.name) self.now }
+    {
+        let binaries = self.inside.as_slice();
+        match binaries.binary_search_by(|binary| binary.name.cmp(name)) {
+            Ok(place) => Some(&binaries[place]),
+            Err(_) => None,
+        }
+    }
+}
+
+/// Features in byte order of their names, no two of one name. Contracts see the list of them.
+#[derive(Drop)]
+pub struct FeaturesByName {
+    inside: Items<Feature>,
+}
+
+impl Model for FeaturesByName {
+    ghost use Rattle.std.specs.Prelude.{List, map};
+    ghost use Rattle.std.specs.List.Sorted.{IsStrictlySortedBy};
+    ghost use Rattle.std.specs.Ordering.{nat_cmp};
+    ghost use Rattle.std.specs.Cmp.Lexicographic.{slice_cmp};
+    ghost use Rattle.pb_manifest.specs.declared.feature.Feature.{Feature};
+
+    ghost Value = { List Feature };
+
+    ghost view = { λ a. a.inside };
+
+    ghost invariant = { λ a. IsStrictlySortedBy (slice_cmp nat_cmp) (map (λ feature. feature.name) a.inside) };
+}
+
+impl FeaturesByName {
+    /// No features, which takes no memory.
+    pub fn new(alloc: Global) -> FeaturesByName
+        ensures { result ≡ [] }
+    {
+        FeaturesByName {
+            inside: Items::new(alloc),
+        }
+    }
+
+    /// Features that stand in byte order of their names.
+    pub fn from_items(features: Items<Feature>) -> FeaturesByName
+        requires { IsStrictlySortedBy (slice_cmp nat_cmp) (map (λ feature. feature.name) features) }
+        ensures { result ≡ features }
+    {
+        FeaturesByName { inside: features }
+    }
+
+    /// The features themselves.
+    pub fn as_slice(&self) -> &[Feature]
+        ensures { result.now ≡ self.now }
+    {
+        self.inside.as_slice()
+    }
+
+    /// The place of the feature of a name.
+    pub fn place_of(&self, name: &[u8]) -> Option<usize>
+        ensures { result ≡ position (λ feature. bytes_eq name.now feature.name) self.now }
+    {
+        let features = self.inside.as_slice();
+        match features.binary_search_by(|feature| feature.name.as_bytes().cmp(name)) {
+            Ok(place) => Some(place),
+            Err(_) => None,
+        }
+    }
+}

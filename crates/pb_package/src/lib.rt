@@ -1,0 +1,19 @@
+//! What a workspace is: its packages, each with nothing left to inherit and nothing left to look for,
+//! what a build is asked for of it, and why it cannot be read (The Cargo Book, Workspaces, Manifest
+//! Format, Specifying Dependencies). `pb_workspace` reads it; whoever only looks at it stands on this
+//! crate.
+#![tactic(auto)]
+
+pub mod by_key;
+pub mod by_name;
+pub mod fault;
+pub mod options;
+pub mod package;
+pub mod workspace;
+
+pub use by_key::EntriesByKey;
+pub use by_name::{BinariesByName, FeaturesByName};
+pub use fault::LoadFault;
+pub use options::{Options, Selection};
+pub use package::{About, Binary, DependencyKind, Entry, Library, Package, Side};
+pub use workspace::{DefaultMembers, Workspace};

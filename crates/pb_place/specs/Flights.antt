@@ -1,0 +1,70 @@
+-- Children in flight: each with what it will answer and leave, fixed when it was spawned.
+use Rattle.std.specs.Prelude.{◌≡◌, ◌≢◌, IfSome, ℕ, ◌==◌, ◌||◌, ◌++◌, Bool, false, not, List, [], ◌∷◌, length, max, Option, Some, None, Result, Ok, Err, if◌then◌else◌}
+use Rattle.std.specs.List.{list_any}
+use Rattle.std.specs.FinMap as map
+use Rattle.pb_place.specs.Paths.{is_below}
+use Rattle.pb_place.specs.World.{World, Map, AgreeBut, ChangesOnlyInSome, put_files, seen_by}
+use Rattle.pb_place.specs.Folders.{files_in, over}
+use Rattle.pb_place.specs.declared.command.Command.{Command}
+use Rattle.pb_place.specs.declared.command.Ended.{Ended}
+use Rattle.pb_place.specs.declared.child.Reply.{Reply}
+use Rattle.pb_place.specs.declared.flight.Flight.{Flight}
+use Rattle.pb_place.specs.declared.place.StartFault.{StartFault}
+
+-- the files inside a child's folder
+abbrev pub inside_out : Option (List ℕ) → Map → Map
+inside_out None m = map.empty
+inside_out (Some out) m = files_in out m
+
+-- a child that is spawned in this world: its command, its reply to what it sees of the world, and what its folder held
+abbrev pub flight_of : (World → Reply) → Command → World → ℕ → Flight
+flight_of child command w ticket = record {
+  ticket = ticket;
+  command = command;
+  ended = record { status = (child (seen_by command w)).status; stdout = (child (seen_by command w)).stdout; stderr = (child (seen_by command w)).stderr };
+  files = (child (seen_by command w)).files;
+  before = inside_out command.out w.files;
+}
+
+-- whether a child of this ticket is in flight; the first such child; the others
+abbrev pub is_flying : ℕ → List Flight → Bool
+is_flying ticket [] = false
+is_flying ticket (f ∷ fs) = (f.ticket == ticket) || is_flying ticket fs
+
+abbrev pub flight_at : ℕ → List Flight → Option Flight
+flight_at ticket [] = None
+flight_at ticket (f ∷ fs) = if f.ticket == ticket then Some f else flight_at ticket fs
+
+-- the most that ever were in flight, after a spawn with which there are so many
+abbrev pub most_after : {T : Type 0} → Result T StartFault → ℕ → ℕ → ℕ
+most_after (Ok x) n m = max m n
+most_after (Err e) n m = m
+
+-- the folder as it was, and all else as it is
+abbrev pub put_back : List ℕ → Map → Map → Map
+put_back out before now = over before (map.retain_keys now (λ q. not (is_below out q)))
+
+-- the reply's files put in the folder as it was when the child was spawned, of which what was kept is given; nothing else has changed
+abbrev pub landing : Option (List ℕ) → List (List ℕ × List ℕ) → Map → World → World
+landing None files before w = w
+landing (Some out) files before w = record w { files = put_files out files (put_back out (files_in out before) w.files) }
+
+-- the answer and the effect of the end of this child
+pub record LandsAs (flight : Flight) (old : World) (ended : Ended) (new : World) : Type 0 where
+  pub answer : ended ≡ flight.ended
+  pub world : new ≡ landing flight.command.out flight.files flight.before old
+
+-- what the child sees, and the files inside its folder, are the same in both worlds
+abbrev pub SeesStill : Flight → World → World → Type 0
+SeesStill flight old new = (seen_by flight.command new ≡ seen_by flight.command old) × (inside_out flight.command.out new.files ≡ inside_out flight.command.out old.files)
+
+abbrev pub StandsStill : ℕ → List Flight → World → World → Type 0
+StandsStill ticket flying old new = IfSome (flight_at ticket flying) (λ flight. SeesStill flight old new)
+
+-- what was kept still for a ticket, stays so where a call left all of it as it was
+abbrev pub StaysStill : List Flight → World → World → (ℕ → Type 0) → (ℕ → Type 0) → Type 0
+StaysStill flying old new before after = (ticket : ℕ) → StandsStill ticket flying old new → before ticket → after ticket
+
+-- for each ticket but the one that ended
+abbrev pub StaysStillBut : ℕ → List Flight → World → World → (ℕ → Type 0) → (ℕ → Type 0) → Type 0
+StaysStillBut ended flying old new before after = (ticket : ℕ) → ticket ≢ ended → StandsStill ticket flying old new → before ticket → after ticket

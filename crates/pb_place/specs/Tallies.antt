@@ -1,0 +1,19 @@
+-- Counters in which no child flies, and those that carry what flies.
+use Rattle.std.specs.Prelude.{ℕ, List, ◌++◌, ◌∷◌, [], Result, Ok, Err}
+use Rattle.pb_place.specs.Counts.{Counts, past_finish_fault}
+use Rattle.pb_place.specs.declared.flight.Flight.{Flight}
+use Rattle.pb_place.specs.declared.place.StartFault.{StartFault}
+
+-- the counters with these children in flight
+abbrev pub with_flights : List Flight → Counts → Counts
+with_flights flying c = record c { starts = record c.starts { flying = flying } }
+
+-- what flies after a spawn
+abbrev pub flown : (ℕ → Flight) → Result ℕ StartFault → List Flight → List Flight
+flown flight (Ok ticket) flying = flying ++ flight ticket ∷ []
+flown flight (Err e) flying = flying
+
+-- a finish as the other counters see it
+abbrev pub past_finish : {T : Type 0} → Result T StartFault → Counts → Counts
+past_finish (Ok x) c = c
+past_finish (Err e) c = past_finish_fault e c

@@ -1,0 +1,20 @@
+//! What a build knows once it is planned: the project and its settings, what a unit makes and where, what it
+//! needs, what the runs of build scripts have said, what an answer gives and why one is bad. The commands of
+//! units stand on it, and so does all that speaks of units without making their commands.
+#![tactic(auto)]
+
+pub mod answer;
+pub mod fault;
+pub mod needed;
+pub mod project;
+pub mod targets;
+
+pub use answer::{Answered, InputName};
+pub use fault::UnitFault;
+pub use needed::{
+    is_library, is_run, library_file, own_run, own_said, said_at, script_file, unit_at,
+};
+pub use project::{Project, Setup};
+pub use targets::{
+    crate_name_of, dep_info_path, folder_of, library_name, made_file, package_of, source_by,
+};

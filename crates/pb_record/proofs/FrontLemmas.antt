@@ -1,0 +1,17 @@
+-- Lemmas on what a text begins with.
+use Rattle.std.proofs.Common.{◌≡◌, ℕ, Bool, true, false, List, [], ◌∷◌, ◌++◌, length, refl, sym, ◌∙◌, ap, arith, take, drop, eqb, Bor, Option, Some, None}
+use Rattle.std.specs.Prelude.{MatchOption}
+use Rattle.std.specs.Cmp.Lexicographic.{pointwise}
+use Rattle.std.specs.Str.{bytes_eq}
+use Rattle.std.proofs.lemmas.List.{take-append-drop, take_at}
+use Rattle.std.proofs.lemmas.Slice.Eq.{bytes_eq-Decides}
+
+pub begins : (front text rest : List ℕ) → bytes_eq (take (length front) text) front ≡ true → rest ≡ drop (length front) text → text ≡ front ++ rest
+begins front text rest same e =
+    sym (take-append-drop (length front) text) ∙ ap (λ t. t ++ drop (length front) text) ((bytes_eq-Decides (take (length front) text) front).0 same) ∙ ap (λ t. front ++ t) (sym e)
+
+pub begins_not : (front text : List ℕ) → bytes_eq (take (length front) text) front ≡ false → (rest : List ℕ) → text ≡ front ++ rest → ⊥
+begins_not front text other rest e =
+    let same = (bytes_eq-Decides (take (length front) text) front).1 (ap (take (length front)) e ∙ take_at front rest (length front) refl) in cc
+
+pub ruleset front_laws = (begins, begins_not)

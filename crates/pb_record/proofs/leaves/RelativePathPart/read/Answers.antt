@@ -1,0 +1,11 @@
+use Rattle.std.proofs.Common.{◌∙◌, ap}
+use Rattle.pb_place.specs.Paths.{is_relative}
+use Rattle.pb_record.specs.Parts.{IsInside}
+use Rattle.pb_record.proofs.BlockLemmas.{block_spelling, refused}
+use Rattle.pb_record.proofs.PartLemmas.{none_but}
+use Rattle.pb_record.proofs.leaves.RelativePathPart.read.Goals as goal
+
+pub returns-in-None-of : goal.returns-in-None-of
+returns-in-None-of c =
+    none_but IsInside block_spelling c.in-Some.ensures (λ is.
+    refused is_relative c.in_ok-made-in-Some.made c.of.result c.of.ensures c.in-None-of.is (ap is_relative c.in_ok-made-in-Some.ensures ∙ is.0))

@@ -1,0 +1,9 @@
+use Rattle.std.proofs.Common.{arith}
+use Rattle.pb_record.proofs.PartLemmas.{list_read, none_count}
+use Rattle.pb_record.proofs.lists.ItemsPart.read.Goals as goal
+
+pub returns-in-Some : goal.returns-in-Some
+returns-in-Some g c = list_read g.T.Part.is_part g.T.Part.spelled c.read_items.result c.in-Some.ensures c.read_items.ensures
+
+pub returns-in-None : goal.returns-in-None
+returns-in-None g c = none_count g.T.Part.is_part g.T.Part.spelled c.spells.ensures (omega arith) c.in-None.ensures

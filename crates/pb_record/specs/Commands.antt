@@ -1,0 +1,60 @@
+-- What was asked, and the command that asks it.
+use Rattle.std.specs.Prelude.{◌≡◌, true, if◌then◌else◌, Option, Some, None, List, ℕ}
+use Rattle.pb_place.specs.declared.command.Command.{Command}
+use Rattle.pb_record.specs.Sorted.{are_sorted}
+use Rattle.pb_record.specs.declared.asked.Asked.{Asked}
+
+-- the command that was asked
+abbrev pub command_of : Asked → Command
+command_of a = record {
+  program = a.program;
+  words = a.words;
+  folder = a.folder;
+  pairs = a.pairs;
+  out = Some a.out;
+  target = a.target;
+  toolchain = a.toolchain;
+  reads = a.reads;
+}
+
+-- what a command asks: it has an output folder, and its variables are sorted by name, each once
+abbrev pub of_parts : Command → List ℕ → Asked
+of_parts c out = record {
+  program = c.program;
+  words = c.words;
+  folder = c.folder;
+  pairs = c.pairs;
+  out = out;
+  target = c.target;
+  toolchain = c.toolchain;
+  reads = c.reads;
+}
+
+abbrev pub asked_with : Command → Option (List ℕ) → Option Asked
+asked_with c None = None
+asked_with c (Some out) = if are_sorted c.pairs then Some (of_parts c out) else None
+
+abbrev pub asked_in : Command → Option Asked
+asked_in c = asked_with c c.out
+
+-- a command asks the same, its variables apart
+pub record AsksAs (a : Asked) (c : Command) : Type 0 where
+  pub program : a.program ≡ c.program
+  pub words : a.words ≡ c.words
+  pub folder : a.folder ≡ c.folder
+  pub out : Some a.out ≡ c.out
+  pub target : a.target ≡ c.target
+  pub toolchain : a.toolchain ≡ c.toolchain
+  pub reads : a.reads ≡ c.reads
+
+-- What a command asks is that command.
+abbrev pub AskedIsCommand : Type 0
+AskedIsCommand = (c : Command) (a : Asked) → asked_in c ≡ Some a → command_of a ≡ c
+
+-- The command that was asked asks it.
+abbrev pub CommandIsAsked : Type 0
+CommandIsAsked = (a : Asked) → are_sorted a.pairs ≡ true → asked_in (command_of a) ≡ Some a
+
+-- A command that asks the same, with the same variables, is the command that was asked.
+abbrev pub SameAsked : Type 0
+SameAsked = (a : Asked) (c : Command) → AsksAs a c → a.pairs ≡ c.pairs → command_of a ≡ c

@@ -1,0 +1,94 @@
+-- Records as text: one function from a record to its bytes, in the order in which they stand.
+use Rattle.std.specs.Prelude.{ℕ, ◌+◌, zero, suc, codes, List, [], ◌∷◌, ◌++◌, length, map, Option, Some, None}
+use Rattle.std.specs.Int.Digits.{digits_of}
+use Rattle.std.specs.List.{flat_map}
+use Rattle.pb_record.specs.declared.asked.Asked.{Asked}
+use Rattle.pb_record.specs.declared.record.Input.{Input}
+use Rattle.pb_record.specs.declared.record.Input.TheVariants.{File, Tree, Value}
+use Rattle.pb_record.specs.declared.record.Needed.{Needed}
+use Rattle.pb_record.specs.declared.record.Needed.TheVariants.{Copies, Numbers}
+use Rattle.pb_record.specs.declared.record.Record.{Record}
+
+-- one text, and then another
+infixr 10 ◌⨾◌
+abbrev pub ◌⨾◌ : List ℕ → List ℕ → List ℕ
+a ⨾ b = a ++ b
+
+-- a line of a text
+abbrev pub line : List ℕ → List ℕ
+line text = text ++ 10 ∷ []
+
+-- the decimal digits of a number: no 0 stands in front, but for the number 0 itself
+abbrev pub decimals : ℕ → List ℕ
+decimals zero = codes "0"
+decimals (suc n) = map (λ d. 48 + d) (digits_of 10 (suc n))
+
+-- N, a number: its digits, and a line feed
+unfoldable pub number : ℕ → List ℕ
+number n = line (decimals n)
+
+-- B, some bytes: how many they are, the bytes, and a line feed
+unfoldable pub block : List ℕ → List ℕ
+block bytes = number (length bytes) ⨾ line bytes
+
+-- L, a list: how many items there are, and each in turn
+unfoldable pub listed : {A : Type 0} → (A → List ℕ) → List A → List ℕ
+listed item items = number (length items) ⨾ flat_map item items
+
+-- two parts in turn
+abbrev pub both : {A B : Type 0} → (A → List ℕ) → (B → List ℕ) → (A × B) → List ℕ
+both first second p = first p.0 ⨾ second p.1
+
+-- the files of a folder: the path of each in the folder, and its bytes
+abbrev pub files : List (List ℕ × List ℕ) → List ℕ
+files = listed (both block block)
+
+-- a value that may be absent: 0, or 1 and the value
+abbrev pub perhaps : Option (List ℕ) → List ℕ
+perhaps None = line (codes "0")
+perhaps (Some text) = line (codes "1") ⨾ block text
+
+-- an input: a letter for its kind, its name, and its value
+abbrev pub input_bytes : Input → List ℕ
+input_bytes (File path bytes) = line (codes "f") ⨾ block path ⨾ block bytes
+input_bytes (Tree path below) = line (codes "t") ⨾ block path ⨾ files below
+input_bytes (Value name text) = line (codes "v") ⨾ block name ⨾ perhaps text
+
+-- what was asked of the child
+abbrev pub asked_bytes : Asked → List ℕ
+asked_bytes a =
+    block a.program
+    ⨾ listed block a.words
+    ⨾ block a.folder
+    ⨾ listed (both block block) a.pairs
+    ⨾ block a.out
+    ⨾ block a.target
+    ⨾ block a.toolchain
+    ⨾ listed block a.reads
+
+-- the rest of a record, by its format: the needed units with the numbers of their records behind the record's own
+-- number, or with copies of their files
+abbrev pub bytes_by : Record → Needed → List ℕ
+bytes_by r (Numbers own needs) =
+    line (codes "record 2")
+    ⨾ number own
+    ⨾ block r.key
+    ⨾ asked_bytes r.asked
+    ⨾ listed input_bytes r.inputs
+    ⨾ listed (both block number) needs
+    ⨾ block r.stdout
+    ⨾ block r.stderr
+    ⨾ line (codes "end")
+bytes_by r (Copies copies) =
+    line (codes "record 1")
+    ⨾ block r.key
+    ⨾ asked_bytes r.asked
+    ⨾ listed input_bytes r.inputs
+    ⨾ listed (both block files) copies
+    ⨾ block r.stdout
+    ⨾ block r.stderr
+    ⨾ line (codes "end")
+
+-- the bytes of a record
+unfoldable pub record_bytes : Record → List ℕ
+record_bytes r = bytes_by r r.needed

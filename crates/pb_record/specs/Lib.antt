@@ -1,0 +1,7 @@
+pub mod Grammar
+pub mod Parts
+pub mod Reading
+pub mod Laws
+pub mod Sorted
+pub mod Whole
+pub mod Commands

@@ -1,0 +1,75 @@
+-- What a record is, beside its form: texts are UTF-8, paths are normalised, names inside a folder stay in it, numbers
+-- fit 64 bits, and variables are sorted by name, each name once.
+use Rattle.std.specs.Prelude.{◌≡◌, ◌↔◌, ◌<◌, ◌^◌, ℕ, true, List, Option, Some, None}
+use Rattle.std.specs.List.{AllByRecursion}
+use Rattle.std.specs.Str.{IsUtf8}
+use Rattle.pb_place.specs.Paths.{is_path, is_relative}
+use Rattle.pb_record.specs.Grammar.{record_bytes}
+use Rattle.pb_record.specs.Sorted.{are_sorted}
+use Rattle.pb_record.specs.declared.asked.Asked.{Asked}
+use Rattle.pb_record.specs.declared.record.Input.{Input}
+use Rattle.pb_record.specs.declared.record.Input.TheVariants.{File, Tree, Value}
+use Rattle.pb_record.specs.declared.record.Needed.{Needed}
+use Rattle.pb_record.specs.declared.record.Needed.TheVariants.{Copies, Numbers}
+use Rattle.pb_record.specs.declared.record.Record.{Record}
+
+-- any bytes
+abbrev pub IsAny : {A : Type 0} → A → Type 0
+IsAny x = Unit {0}
+
+abbrev pub IsNumber : ℕ → Type 0
+IsNumber n = n < 2 ^ 64
+
+-- a normalised path from the root
+abbrev pub IsPlace : List ℕ → Type 0
+IsPlace path = (is_path path ≡ true) × IsUtf8 path
+
+-- a path inside a folder
+abbrev pub IsInside : List ℕ → Type 0
+IsInside path = (is_relative path ≡ true) × IsUtf8 path
+
+abbrev pub AreBoth : {A B : Type 0} → (A → Type 0) → (B → Type 0) → (A × B) → Type 0
+AreBoth First Second p = First p.0 × Second p.1
+
+abbrev pub IsPerhaps : Option (List ℕ) → Type 0
+IsPerhaps None = Unit {0}
+IsPerhaps (Some text) = IsUtf8 text
+
+abbrev pub AreFiles : List (List ℕ × List ℕ) → Type 0
+AreFiles = AllByRecursion (AreBoth IsInside IsAny)
+
+abbrev pub ArePairs : List (List ℕ × List ℕ) → Type 0
+ArePairs pairs = AllByRecursion (AreBoth IsUtf8 IsUtf8) pairs × (are_sorted pairs ≡ true)
+
+abbrev pub IsInput : Input → Type 0
+IsInput (File path bytes) = IsPlace path
+IsInput (Tree path below) = IsPlace path × AreFiles below
+IsInput (Value name text) = IsUtf8 name × IsPerhaps text
+
+pub record IsAsked (a : Asked) : Type 0 where
+  pub program : IsUtf8 a.program
+  pub words : AllByRecursion IsUtf8 a.words
+  pub folder : IsPlace a.folder
+  pub pairs : ArePairs a.pairs
+  pub out : IsPlace a.out
+  pub target : IsPlace a.target
+  pub reads : AllByRecursion IsPlace a.reads
+
+abbrev pub AreNeeded : Needed → Type 0
+AreNeeded (Numbers own needs) = IsNumber own × AllByRecursion (AreBoth IsUtf8 IsNumber) needs
+AreNeeded (Copies copies) = AllByRecursion (AreBoth IsUtf8 AreFiles) copies
+
+pub record IsRecord (r : Record) : Type 0 where
+  pub key : IsUtf8 r.key
+  pub asked : IsAsked r.asked
+  pub inputs : AllByRecursion IsInput r.inputs
+  pub needed : AreNeeded r.needed
+
+-- a text is that of a record
+pub record Says (text : List ℕ) (r : Record) : Type 0 where
+  pub is : IsRecord r
+  pub same : text ≡ record_bytes r
+
+-- The reading of a text: the record that it is, and none where it is that of no record.
+abbrev pub Reads : List ℕ → Option Record → Type 0
+Reads text found = (r : Record) → (found ≡ Some r) ↔ Says text r

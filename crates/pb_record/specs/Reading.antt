@@ -1,0 +1,33 @@
+-- What serves private functions alone: a part of a text at its front.
+use Rattle.std.specs.Prelude.{◌≡◌, ◌≢◌, ◌<◌, ◌==◌, ℕ, Bool, false, not, ◌&&◌, List, [], ◌∷◌, ◌++◌, length}
+use Rattle.std.proofs.Common.{get_or}
+use Rattle.std.specs.List.{AllByRecursion}
+
+-- the text begins with the bytes of this part, and the rest follows
+pub record Stands {A : Type 0} (Is : A → Type 0) (spelled : A → List ℕ) (text : List ℕ) (x : A) (rest : List ℕ) : Type 0 where
+  pub is : Is x
+  pub here : text ≡ spelled x ++ rest
+
+-- the text begins with the bytes of no such part
+pub record StandsNone {A : Type 0} (Is : A → Type 0) (spelled : A → List ℕ) (text : List ℕ) : Type 0 where
+  pub never : (x : A) (rest : List ℕ) → Stands Is spelled text x rest → ⊥
+
+-- The bytes of a part are one at least, and say where it ends: what a text begins with says which part it is, and what
+-- follows.
+pub record IsSpelling {A : Type 0} (spelled : A → List ℕ) : Type 0 where
+  pub some : (x : A) → 0 < length (spelled x)
+  pub apart : (x y : A) (rest more : List ℕ) → spelled x ++ rest ≡ spelled y ++ more → (x ≡ y) × (rest ≡ more)
+
+-- so many of these
+abbrev pub HasCount : {A : Type 0} → (A → Type 0) → ℕ → List A → Type 0
+HasCount Is count xs = AllByRecursion Is xs × (length xs ≡ count)
+
+-- no byte of a text is a line feed
+abbrev pub HasNoFeed : List ℕ → Type 0
+HasNoFeed text = (k : ℕ) → k < length text → get_or text k 0 ≢ 10
+
+-- digits that begin as those of a number: with no sign, and with a 0 only where it is the one digit
+abbrev pub begins_well : List ℕ → Bool
+begins_well [] = false
+begins_well (d ∷ []) = not (d == 43)
+begins_well (d ∷ e ∷ digits) = not (d == 43) && not (d == 48)

@@ -1,0 +1,27 @@
+//! Records: what is kept beside the output folder of a unit, and its text.
+#![tactic(auto)]
+
+pub mod asked;
+pub mod block;
+pub mod commands;
+pub mod front;
+pub mod inputs;
+pub mod laws;
+pub mod leaves;
+pub mod lists;
+pub mod number;
+pub mod pairs;
+pub mod part;
+pub mod read;
+pub mod record;
+pub mod write;
+
+pub use asked::Asked;
+pub use laws::{
+    commands_are_asked, numbers_have_one_spelling, only_records_are_read, records_lie_apart,
+    texts_have_one_reading,
+};
+pub use pairs::Pairs;
+pub use read::read_record;
+pub use record::{Input, Needed, Record};
+pub use write::write_record;

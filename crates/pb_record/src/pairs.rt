@@ -1,0 +1,85 @@
+//! Variables that a command sets.
+
+ghost use Rattle.std.specs.Prelude.{◌≡◌, true, if◌then◌else◌, Some, None};
+ghost use Rattle.pb_record.specs.Sorted.{are_sorted, leads};
+
+use pb_data::{Items, Text};
+use std::marker::Model;
+
+/// Names and values of variables, sorted by name in byte order, each name once. Contracts see the list of them.
+#[derive(Debug, Drop)]
+pub struct Pairs {
+    inside: Items<(Text, Text)>,
+}
+
+impl Model for Pairs {
+    ghost use Rattle.std.specs.Prelude.{ℕ, List, ◌≡◌, true};
+
+    ghost Value = { List (List ℕ × List ℕ) };
+
+    ghost use Rattle.pb_record.specs.Sorted.{are_sorted};
+
+    ghost view = { λ a. a.inside };
+
+    ghost invariant = { λ a. are_sorted a.inside ≡ true };
+}
+
+/// Whether a name is before the first of some pairs in byte order, if there is one.
+fn leads(name: &Text, pairs: &[(Text, Text)]) -> bool
+    ensures { result ≡ leads name.now pairs.now }
+{
+    match pairs {
+        [] => true,
+        [next, ..] => name.cmp(&next.0).is_lt(),
+    }
+}
+
+/// Whether each name is before the next one in byte order. It takes no memory.
+fn are_sorted(pairs: &[(Text, Text)]) -> bool
+    ensures { result ≡ are_sorted pairs.now }
+{
+    let mut rest = pairs;
+    while let [pair, after @ ..] = rest {
+        if !leads(&pair.0, after) {
+            return false;
+        }
+        rest = after;
+    }
+    true
+}
+
+impl Pairs {
+    /// The pairs of a list, or none where it is not sorted by name or a name stands twice. It takes no memory.
+    pub fn of(inside: Items<(Text, Text)>) -> Option<Pairs>
+        ensures { result ≡ (if are_sorted inside then Some inside else None) }
+    {
+        if !are_sorted(inside.as_slice()) {
+            return None;
+        }
+        Some(Pairs { inside })
+    }
+
+    /// The pairs themselves.
+    pub fn as_slice(&self) -> &[(Text, Text)]
+        ensures pairs { result.now ≡ self.now }
+        ensures sorted { are_sorted self.now ≡ true }
+    {
+        self.inside.as_slice()
+    }
+
+    /// The pairs as items, lent.
+    pub(crate) fn as_items(&self) -> &Items<(Text, Text)>
+        ensures pairs { result.now ≡ self.now }
+        ensures sorted { are_sorted self.now ≡ true }
+    {
+        &self.inside
+    }
+
+    /// The pairs as items. It takes no memory.
+    pub fn into_items(self) -> Items<(Text, Text)>
+        ensures pairs { result ≡ self }
+        ensures sorted { are_sorted self ≡ true }
+    {
+        self.inside
+    }
+}

@@ -1,0 +1,30 @@
+//! A part of a record, read from the front of a text and written at the end of one.
+
+ghost use Rattle.std.specs.Prelude.{◌≡◌, ◌++◌, List, ℕ, IfOk, OnOk, MatchOption};
+ghost use Rattle.pb_record.specs.Reading.{Stands, StandsNone, IsSpelling};
+
+use std::alloc::{AllocError, Global};
+
+/// A part of a record.
+pub trait Part: Drop {
+    /// What such a part is, beside its form.
+    ghost is_part: { Self → Type 0 };
+
+    /// Its bytes.
+    ghost spelled: { Self → List ℕ };
+
+    /// The part with which a text begins, and what follows it; none where it begins with no such part. The one
+    /// fault is want of memory.
+    fn read(alloc: Global, text: &[u8]) -> Result<Option<(Self, &[u8])>, AllocError>
+        ensures { IfOk result (λ found. MatchOption found (StandsNone is_part spelled text.now) (λ p. Stands is_part spelled text.now p.0 p.1.now)) };
+
+    /// Adds the bytes at the end of a text. The one fault is want of memory; the text then ends with a first part of
+    /// them.
+    fn write(&self, out: &mut Vec<u8>) -> Result<(), AllocError>
+        ensures written { OnOk result (out.new.items ≡ out.old.items ++ spelled self.now) }
+        ensures is { OnOk result (is_part self.now) };
+
+    /// The bytes of a part say where it ends. The call does nothing: its contract is what is known.
+    fn spells()
+        ensures { IsSpelling spelled };
+}

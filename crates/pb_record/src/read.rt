@@ -1,0 +1,128 @@
+//! A record read from its text.
+
+ghost use Rattle.std.specs.Prelude.{◌≡◌, ◌++◌, codes, IfOk, MatchOption};
+ghost use Rattle.pb_record.specs.Grammar.{line};
+ghost use Rattle.pb_record.specs.Parts.{Says, Reads};
+ghost use Rattle.pb_record.specs.Whole.{numbered_of, copied_of};
+ghost use Rattle.pb_record.specs.declared.record.Record.{Record};
+
+use crate::asked::Asked;
+use crate::front::after;
+use crate::part::Part;
+use crate::record::{Input, Needed, Record};
+use pb_data::{Bytes, Items, Text};
+use pb_place::RelativePath;
+use std::alloc::{AllocError, Global};
+
+/// The parts of a record of format 2, in the order in which they stand in it.
+type NumberedParts = (
+    u64,
+    (
+        Text,
+        (Asked, (Items<Input>, (Items<(Text, u64)>, (Bytes, Bytes)))),
+    ),
+);
+
+/// The files of a folder.
+type Files = Items<(RelativePath, Bytes)>;
+
+/// The parts of a record of format 1, in the order in which they stand in it.
+type CopiedParts = (
+    Text,
+    (
+        Asked,
+        (Items<Input>, (Items<(Text, Files)>, (Bytes, Bytes))),
+    ),
+);
+
+/// The part that a text is, before the line `end` and nothing after it.
+fn whole<T: Part>(alloc: Global, text: &[u8]) -> Result<Option<T>, AllocError>
+    ensures { IfOk result (λ found. MatchOption found ((x : T) → T.is_part x → text.now ≡ T.spelled x ++ line (codes "end") → ⊥) (λ x. T.is_part x × (text.now ≡ T.spelled x ++ line (codes "end")))) }
+{
+    T::spells();
+    let found = T::read(alloc, text)?;
+    match found {
+        Some((part, rest)) => {
+            if rest == b"end\n".as_slice() {
+                Ok(Some(part))
+            } else {
+                Ok(None)
+            }
+        }
+        None => Ok(None),
+    }
+}
+
+/// A record of format 2, of its parts.
+fn numbered_of(parts: NumberedParts) -> Record
+    ensures { result ≡ numbered_of parts }
+{
+    let (own, (key, (asked, (inputs, (needs, (stdout, stderr)))))) = parts;
+    Record {
+        key,
+        asked,
+        inputs,
+        needed: Needed::Numbers(own, needs),
+        stdout,
+        stderr,
+    }
+}
+
+/// A record of format 1, of its parts.
+fn copied_of(parts: CopiedParts) -> Record
+    ensures { result ≡ copied_of parts }
+{
+    let (key, (asked, (inputs, (copies, (stdout, stderr))))) = parts;
+    Record {
+        key,
+        asked,
+        inputs,
+        needed: Needed::Copies(copies),
+        stdout,
+        stderr,
+    }
+}
+
+/// The record of format 2 whose text this is behind its first line.
+fn read_numbered(alloc: Global, text: &[u8]) -> Result<Option<Record>, AllocError>
+    ensures { IfOk result (λ found. MatchOption found ((r : Record) → Says (line (codes "record 2") ++ text.now) r → ⊥) (λ r. Says (line (codes "record 2") ++ text.now) r)) }
+{
+    let found: Option<NumberedParts> = whole(alloc, text)?;
+    match found {
+        Some(parts) => Ok(Some(numbered_of(parts))),
+        None => Ok(None),
+    }
+}
+
+/// The record of format 1 whose text this is behind its first line.
+fn read_copied(alloc: Global, text: &[u8]) -> Result<Option<Record>, AllocError>
+    ensures { IfOk result (λ found. MatchOption found ((r : Record) → Says (line (codes "record 1") ++ text.now) r → ⊥) (λ r. Says (line (codes "record 1") ++ text.now) r)) }
+{
+    let found: Option<CopiedParts> = whole(alloc, text)?;
+    match found {
+        Some(parts) => Ok(Some(copied_of(parts))),
+        None => Ok(None),
+    }
+}
+
+/// The record that a text is, by the format that its first line names.
+fn read_by_format(alloc: Global, text: &[u8]) -> Result<Option<Record>, AllocError>
+    ensures { IfOk result (λ found. MatchOption found ((r : Record) → Says text.now r → ⊥) (λ r. Says text.now r)) }
+{
+    if let Some(rest) = after(b"record 2\n", text) {
+        return read_numbered(alloc, rest);
+    }
+    if let Some(rest) = after(b"record 1\n", text) {
+        return read_copied(alloc, rest);
+    }
+    Ok(None)
+}
+
+/// The record that a text is, and none where it is that of no record: a text is read exactly where it is what
+/// `write_record` writes. Our own format, of two kinds; the first line says which. The one fault is want of memory.
+pub fn read_record(alloc: Global, text: &[u8]) -> Result<Option<Record>, AllocError>
+    ensures { IfOk result (λ found. Reads text.now found) }
+{
+    let found = read_by_format(alloc, text)?;
+    Ok(found)
+}

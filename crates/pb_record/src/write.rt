@@ -1,0 +1,98 @@
+//! A record written as its text.
+
+ghost use Rattle.std.specs.Prelude.{◌≡◌, ◌++◌, codes, IfOk, OnOk};
+ghost use Rattle.std.specs.List.{AllByRecursion};
+ghost use Rattle.std.specs.Str.{IsUtf8};
+ghost use Rattle.pb_record.specs.Grammar.{◌⨾◌, line, block, listed, asked_bytes, input_bytes, bytes_by, record_bytes};
+ghost use Rattle.pb_record.specs.Parts.{Says, IsAsked, IsInput, AreNeeded, IsRecord};
+ghost use Rattle.pb_record.specs.declared.record.Needed.TheVariants.{Copies, Numbers};
+
+use crate::part::Part;
+use crate::record::{Needed, Record};
+use pb_data::{Bytes, Items, Text};
+use pb_place::RelativePath;
+use std::alloc::{AllocError, Global};
+
+/// Adds what stands in front of the needed units.
+fn push_front(out: &mut Vec<u8>, kept: &Record) -> Result<(), AllocError>
+    ensures written { OnOk result (out.new.items ≡ out.old.items ++ (block kept.now.key ⨾ asked_bytes kept.now.asked ⨾ listed input_bytes kept.now.inputs)) }
+    ensures is { OnOk result (IsUtf8 kept.now.key × IsAsked kept.now.asked × AllByRecursion IsInput kept.now.inputs) }
+{
+    kept.key.write(out)?;
+    kept.asked.write(out)?;
+    kept.inputs.write(out)?;
+    Ok(())
+}
+
+/// Adds what stands behind the needed units.
+fn push_end(out: &mut Vec<u8>, kept: &Record) -> Result<(), AllocError>
+    ensures { OnOk result (out.new.items ≡ out.old.items ++ (block kept.now.stdout ⨾ block kept.now.stderr ⨾ line (codes "end"))) }
+{
+    kept.stdout.write(out)?;
+    kept.stderr.write(out)?;
+    out.extend_from_slice(b"end\n")?;
+    Ok(())
+}
+
+/// Adds a record of format 2 with this number and these needed units.
+fn push_numbered(
+    out: &mut Vec<u8>,
+    kept: &Record,
+    own: &u64,
+    needs: &Items<(Text, u64)>,
+) -> Result<(), AllocError>
+    ensures written { OnOk result (out.new.items ≡ out.old.items ++ bytes_by kept.now (Numbers own.now needs.now)) }
+    ensures is { OnOk result (IsUtf8 kept.now.key × IsAsked kept.now.asked × AllByRecursion IsInput kept.now.inputs) }
+    ensures are { OnOk result (AreNeeded (Numbers own.now needs.now)) }
+{
+    out.extend_from_slice(b"record 2\n")?;
+    own.write(out)?;
+    push_front(out, kept)?;
+    needs.write(out)?;
+    push_end(out, kept)?;
+    Ok(())
+}
+
+/// Adds a record of format 1 with these copies.
+fn push_copied(
+    out: &mut Vec<u8>,
+    kept: &Record,
+    copies: &Items<(Text, Items<(RelativePath, Bytes)>)>,
+) -> Result<(), AllocError>
+    ensures written { OnOk result (out.new.items ≡ out.old.items ++ bytes_by kept.now (Copies copies.now)) }
+    ensures is { OnOk result (IsUtf8 kept.now.key × IsAsked kept.now.asked × AllByRecursion IsInput kept.now.inputs) }
+    ensures are { OnOk result (AreNeeded (Copies copies.now)) }
+{
+    out.extend_from_slice(b"record 1\n")?;
+    push_front(out, kept)?;
+    copies.write(out)?;
+    push_end(out, kept)?;
+    Ok(())
+}
+
+/// Adds a record.
+fn push_record(out: &mut Vec<u8>, kept: &Record) -> Result<(), AllocError>
+    ensures written { OnOk result (out.new.items ≡ out.old.items ++ record_bytes kept.now) }
+    ensures is { OnOk result (IsRecord kept.now) }
+{
+    match &kept.needed {
+        Needed::Numbers(own, needs) => {
+            push_numbered(out, kept, own, needs)?;
+            Ok(())
+        }
+        Needed::Copies(copies) => {
+            push_copied(out, kept, copies)?;
+            Ok(())
+        }
+    }
+}
+
+/// The text of a record, from which `read_record` reads it again. Our own format; whether the needed units have
+/// numbers or copies of their files says which of the two kinds it is. The one fault is want of memory.
+pub fn write_record(alloc: Global, kept: &Record) -> Result<Bytes, AllocError>
+    ensures { IfOk result (λ text. Says text kept.now) }
+{
+    let mut out = Vec::new(alloc);
+    push_record(&mut out, kept)?;
+    Ok(Bytes::new(out))
+}

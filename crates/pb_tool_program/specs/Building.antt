@@ -1,0 +1,67 @@
+-- What `pb_tool build` does.
+use Rattle.std.specs.Prelude.{◌≡◌, ◌⊎◌, ℕ, zero, suc, Bool, true, false, codes, List, [], ◌∷◌, ◌++◌, take, IsTrue, Result, Ok, Err}
+use Rattle.std.specs.Io.KnownBytes.{Appends}
+use Rattle.pb_project.specs.declared.project.Project.{Project}
+use Rattle.pb_place.specs.Counts.{up}
+use Rattle.pb_place.specs.World.{World, Answers}
+use Rattle.pb_answer.specs.ResultLine.{result_line}
+use Rattle.pb_answer.specs.declared.fault.BuildFault.{BuildFault}
+use Rattle.pb_answer.specs.declared.fault.BuildFault.TheVariants.{OutOfMemory}
+use Rattle.pb_answer.specs.declared.summary.Summary.{Summary}
+use Rattle.pb_package.specs.declared.options.Options.{Options}
+use Rattle.pb_build.specs.Ending.{Heard, Moment, Builds}
+use Rattle.pb_build.specs.Environment.{environment_of}
+use Rattle.pb_build.specs.Planning.{IsProject}
+
+abbrev pub success_status : Bool → ℕ
+success_status true = 0
+success_status false = 101
+
+-- 0 where all units are good, else 101
+abbrev pub status_of : Result Summary BuildFault → ℕ
+status_of (Ok summary) = success_status summary.success
+status_of (Err fault) = 101
+
+-- a line for each package without a library
+abbrev pub notes_of : List (List ℕ) → List ℕ
+notes_of [] = []
+notes_of (name ∷ names) = codes "note: " ++ name ++ codes " has no library\n" ++ notes_of names
+
+-- why a build failed
+abbrev pub error_of : Result Summary BuildFault → List ℕ
+error_of answer = codes "error: " ++ result_line answer ++ codes "\n"
+
+-- all of some bytes were written; or the first of them, and the sink failed
+abbrev pub Writes : Bool → List ℕ → Heard → Heard → Type 0
+Writes true bytes old new = Appends old.taken new.taken bytes × (new.faults ≡ old.faults)
+Writes false bytes old new = ((n : ℕ) × Appends old.taken new.taken (take n bytes)) × (new.faults ≡ up old.faults)
+
+-- some bytes were told, as far as the sink took them
+abbrev pub Tells : List ℕ → Heard → Heard → Type 0
+Tells bytes old new = (whole : Bool) × Writes whole bytes old new
+
+-- what is told behind a build: nothing where all its units are good; else why it failed, or, where memory is refused for that, want of memory
+abbrev pub TellsWhy : ℕ → Result Summary BuildFault → Heard → Heard → Type 0
+TellsWhy zero answer old new = new ≡ old
+TellsWhy (suc status) answer old new = Tells (error_of answer) old new ⊎ Tells (error_of (Err OutOfMemory)) old new
+
+-- packages of this workspace to which enabled dependencies lead and that have no library
+abbrev pub AreMissing : Options → World → List (List ℕ) → Type 0
+AreMissing options w names = (project : Project) × IsProject options (environment_of options w.variables).target w project × (names ≡ project.plan.without_library)
+
+-- what is written before a build: notes of such packages, or nothing
+abbrev pub Notes : Bool → Options → World → Heard → Heard → Type 0
+Notes tells options w old new = (new ≡ old) ⊎ ((names : List (List ℕ)) × (IsTrue tells → AreMissing options w names) × Tells (notes_of names) old new)
+
+-- A build was carried out, after reads that started no child, changed nothing and wrote nothing to the output. The status says how it ended, and what is written beside the output, before it and behind it, are the notes and the reason.
+pub record BuildsTold (tells : Bool) (child : Answers) (options : Options) (status : ℕ) (old new : Moment) (said_before said_after : Heard) : Type 0 where
+  pub begun : Moment
+  pub same : IsTrue tells → begun.world ≡ old.world
+  pub silent : begun.heard ≡ old.heard
+  pub unstarted : begun.counts.starts ≡ old.counts.starts
+  pub answer : Result Summary BuildFault
+  pub builds : Builds tells child options answer begun new
+  pub told : status ≡ status_of answer
+  pub noted : Heard
+  pub notes : Notes tells options old.world said_before noted
+  pub reason : TellsWhy status answer noted said_after

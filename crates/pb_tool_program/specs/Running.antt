@@ -1,0 +1,69 @@
+-- What the whole program does: what its words ask for is done, and nothing else.
+use Rattle.std.specs.Prelude.{◌≡◌, ◌⊎◌, ℕ, Bool, if◌then◌else◌, List, Option, Some, None, IsTrue, IfOk, Result, Ok, Err}
+use Rattle.std.specs.FinMap as map
+use Rattle.pb_place.specs.Counts.{counted}
+use Rattle.pb_place.specs.World.{Answers}
+use Rattle.pb_place.specs.declared.place.PlaceFault.{PlaceFault}
+use Rattle.pb_arguments.specs.Asking.{Asks, Unasks}
+use Rattle.pb_arguments.specs.declared.asked.Asked.{Asked}
+use Rattle.pb_arguments.specs.declared.asked.Asked.TheVariants.{Build, Session}
+use Rattle.pb_arguments.specs.declared.asked.Unasked.{Unasked}
+use Rattle.pb_arguments.specs.declared.asked.Unasked.TheVariants.{Help, Wrong, OutOfMemory}
+use Rattle.pb_session.specs.Sessions.{session_of}
+use Rattle.pb_session.specs.declared.fault.BadSession.TheVariants.{BadForm}
+use Rattle.pb_build.specs.Ending.{Heard, Moment}
+use Rattle.pb_tool_program.specs.Building.{Writes, Tells, BuildsTold}
+use Rattle.pb_tool_program.specs.Session.{Refused, SessionWritten}
+
+-- Sessions.
+
+-- the session of these bytes was run: with status 0 its lines were written and nothing was said beside them; with 1 it is told to be bad
+pub record RunsSession (bytes : List ℕ) (status : ℕ) (old new said_before said_after : Heard) : Type 0 where
+  pub ends : (status ≡ 0) ⊎ (status ≡ 1)
+  pub written : status ≡ 0 → SessionWritten bytes old new.taken
+  pub quiet : status ≡ 0 → said_after ≡ said_before
+  pub untouched : session_of bytes ≡ Err BadForm → new ≡ old
+  pub told : status ≡ 1 → Refused said_before.taken said_after.taken said_before.faults said_after.faults
+
+-- a bad session: it is told so, and nothing is written
+abbrev pub IsBad : ℕ → Heard → Heard → Heard → Heard → Type 0
+IsBad status old new said_before said_after = (status ≡ 1) × (new ≡ old) × Refused said_before.taken said_after.taken said_before.faults said_after.faults
+
+-- what comes of a session's file that gave this when it was read: a file that is not there, or cannot be read, is a bad session
+abbrev pub RunsFound : Result (Option (List ℕ)) PlaceFault → ℕ → Heard → Heard → Heard → Heard → Type 0
+RunsFound (Ok (Some bytes)) status old new said_before said_after = RunsSession bytes status old new said_before said_after
+RunsFound (Ok None) status old new said_before said_after = IsBad status old new said_before said_after
+RunsFound (Err fault) status old new said_before said_after = IsBad status old new said_before said_after
+
+-- the session of a file was run: the file was read, once, and the place was asked for nothing else
+pub record RunsFile (tells : Bool) (path : List ℕ) (status : ℕ) (old new : Moment) (said_before said_after : Heard) : Type 0 where
+  pub same : IsTrue tells → new.world ≡ old.world
+  pub found : Result (Option (List ℕ)) PlaceFault
+  pub once : new.counts ≡ counted path found old.counts
+  pub is_file : IsTrue tells → IfOk found (λ bytes. bytes ≡ map.get old.world.files path)
+  pub comes : RunsFound found status old.heard new.heard said_before said_after
+
+-- Words that ask for nothing.
+
+-- what is told to words that ask for nothing: help, as output; what is wrong with them, beside it; nothing, where memory is refused
+abbrev pub Explains : Unasked → ℕ → Heard → Heard → Heard → Heard → Type 0
+Explains (Help text) status old new said_before said_after = (said_after ≡ said_before) × ((whole : Bool) × Writes whole text old new × (status ≡ (if whole then 0 else 1)))
+Explains (Wrong text) status old new said_before said_after = (status ≡ 1) × (new ≡ old) × Tells text said_before said_after
+Explains OutOfMemory status old new said_before said_after = (status ≡ 101) × (new ≡ old) × (said_after ≡ said_before)
+
+-- The program.
+
+-- what words mean: what they ask for, or why they ask for nothing
+abbrev pub Means : List (List ℕ) → List ℕ → Result Asked Unasked → Type 0
+Means words folder (Ok asked) = Asks words folder asked
+Means words folder (Err unasked) = Unasks words folder unasked
+
+-- what comes of that: the build that is asked for, or the session; else the place is not touched
+abbrev pub Does : Bool → Answers → Result Asked Unasked → ℕ → Moment → Moment → Heard → Heard → Type 0
+Does tells child (Ok (Build options)) status old new said_before said_after = BuildsTold tells child options status old new said_before said_after
+Does tells child (Ok (Session path)) status old new said_before said_after = RunsFile tells path status old new said_before said_after
+Does tells child (Err unasked) status old new said_before said_after = (new ≡ record old { heard = new.heard }) × Explains unasked status old.heard new.heard said_before said_after
+
+-- the program did what these words mean, where relative paths start at this folder
+abbrev pub Runs : Bool → Answers → List (List ℕ) → List ℕ → ℕ → Moment → Moment → Heard → Heard → Type 0
+Runs tells child words folder status old new said_before said_after = (meant : Result Asked Unasked) × Means words folder meant × Does tells child meant status old new said_before said_after

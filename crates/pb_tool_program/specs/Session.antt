@@ -1,0 +1,38 @@
+-- What the session program says of its input, and how it ends.
+use Rattle.std.specs.Prelude.{◌≡◌, ◌⊎◌, ℕ, codes, List, [], ◌∷◌, ◌++◌, Option, Ok}
+use Rattle.std.specs.Io.KnownBytes.{Appends}
+use Rattle.std.specs.FinMap as map
+use Rattle.pb_mini.specs.Answer.{answered}
+use Rattle.pb_place.specs.Counts.{up, no_calls}
+use Rattle.pb_place.specs.World.{Answers}
+use Rattle.pb_build.specs.Ending.{Heard}
+use Rattle.pb_build.specs.Session.{Point, Course}
+use Rattle.pb_build.specs.declared.sessions.Answer.{Answer}
+use Rattle.pb_answer.specs.ResultLine.{result_line}
+use Rattle.pb_session.specs.Sessions.{session_of}
+use Rattle.pb_session.specs.declared.step.SessionStep.{SessionStep}
+
+-- the session is told to be bad, or the sink failed: what it has taken before and after, and its faults before and after
+abbrev pub Refused : Option (List ℕ) → Option (List ℕ) → ℕ → ℕ → Type 0
+Refused old new before after = Appends old new (codes "error: bad session\n") ⊎ (after ≡ up before)
+
+-- a result line for each answer, with a line feed behind it
+abbrev pub lines_of : List Answer → List ℕ
+lines_of [] = []
+lines_of (answer ∷ answers) = result_line answer.result ++ codes "\n" ++ lines_of answers
+
+-- the small compiler, as the child of a session
+abbrev pub small_compiler : Answers
+small_compiler c w = answered c.words c.pairs w
+
+-- before the first step: no file, no variable, no call of the place and no answer
+abbrev pub at_first : Heard → Point
+at_first heard = record { moment = record { world = record { files = map.empty; variables = map.empty }; counts = no_calls; heard = heard }; answers = [] }
+
+-- the message lines of the steps' builds, one build after another, and then a result line for each
+abbrev pub Written : List SessionStep → Heard → Option (List ℕ) → Type 0
+Written steps before after = (end : Point) × Course small_compiler steps (at_first before) end × Appends end.moment.heard.taken after (lines_of end.answers)
+
+-- the bytes say a session, and its lines were written
+abbrev pub SessionWritten : List ℕ → Heard → Option (List ℕ) → Type 0
+SessionWritten bytes before after = (steps : List SessionStep) × (session_of bytes ≡ Ok steps) × Written steps before after

@@ -1,0 +1,110 @@
+//! `pb_tool build` over any place.
+
+ghost use Rattle.std.specs.Prelude.{◌≡◌, ◌⊎◌, ◌++◌, IsTrue, IfOk, OnOk, Result, string_bytes, codes};
+ghost use Rattle.std.specs.Io.KnownBytes.{Appends};
+ghost use Rattle.pb_build.specs.Ending.{Moment, moment, Builds};
+ghost use Rattle.pb_answer.specs.ResultLine.{result_line};
+ghost use Rattle.pb_answer.specs.declared.fault.BuildFault.{BuildFault};
+ghost use Rattle.pb_answer.specs.declared.summary.Summary.{Summary};
+ghost use Rattle.pb_tool_program.specs.Building.{status_of, notes_of, error_of, Notes, TellsWhy, BuildsTold};
+
+use pb_answer::{BuildFault, Summary, result_line};
+use pb_build::{build, missing_libraries};
+use pb_data::Text;
+use pb_package::Options;
+use pb_place::{Out, Place, write_all};
+use std::alloc::{AllocError, Global};
+
+/// The status of a build: 0 where all its units are good, else 101.
+fn status_of(answer: &Result<Summary, BuildFault>) -> u8
+    ensures { result ≡ status_of answer.now }
+{
+    match answer {
+        Ok(summary) => { if summary.success { 0 } else { 101 } }
+        Err(_) => 101,
+    }
+}
+
+/// Adds the line that a package has no library.
+fn push_note(notes: &mut String, name: &str) -> Result<(), AllocError>
+    ensures { OnOk result (string_bytes notes.new ≡ string_bytes notes.old ++ codes "note: " ++ name.now ++ codes " has no library\n") }
+{
+    notes.push_str("note: ")?;
+    notes.push_str(name)?;
+    notes.push_str(" has no library\n")?;
+    Ok(())
+}
+
+/// A line for each package to which an enabled dependency leads and that has no library.
+fn notes_of(alloc: Global, names: &[Text]) -> Result<String, AllocError>
+    ensures { IfOk result (λ notes. string_bytes notes ≡ notes_of names.now) }
+{
+    let mut notes = String::new(alloc);
+    for name in names {
+        push_note(&mut notes, name.as_str())?;
+    }
+    Ok(notes)
+}
+
+/// The line that tells why a build failed.
+fn error_of(alloc: Global, answer: &Result<Summary, BuildFault>) -> Result<String, AllocError>
+    ensures { IfOk result (λ line. string_bytes line ≡ error_of answer.now) }
+{
+    let mut line = String::from_str(alloc, "error: ")?;
+    line.push_str(result_line(alloc, answer)?.as_str())?;
+    line.push_str("\n")?;
+    Ok(line)
+}
+
+/// Tells which packages that are depended on have no library. Where that cannot be found out, or memory is refused,
+/// nothing is told: the build then says why. No child is started.
+fn note<P: Place, E: Out>(alloc: Global, place: &mut P, err: &mut E, options: &Options)
+    ensures same { IsTrue P.tells → P.world place.new ≡ P.world place.old }
+    ensures unstarted { (P.counts place.new).starts ≡ (P.counts place.old).starts }
+    ensures notes { Notes P.tells options.now (P.world place.old) record { taken = E.taken err.old; faults = E.faults err.old } record { taken = E.taken err.new; faults = E.faults err.new } }
+{
+    let names = match missing_libraries(alloc, place, options) {
+        Ok(names) => names,
+        Err(_) => return,
+    };
+    let notes = match notes_of(alloc, names.as_slice()) {
+        Ok(notes) => notes,
+        Err(_) => return,
+    };
+    let _ = write_all(err, notes.as_bytes());
+}
+
+/// Tells why a build failed, where its status says so. Where memory is refused for that, want of memory is told, which
+/// takes none.
+fn tell<E: Out>(alloc: Global, err: &mut E, status: u8, answer: &Result<Summary, BuildFault>)
+    ensures { TellsWhy status answer.now record { taken = E.taken err.old; faults = E.faults err.old } record { taken = E.taken err.new; faults = E.faults err.new } }
+{
+    if status == 0 {
+        return;
+    }
+    match error_of(alloc, answer) {
+        Ok(line) => write_all(err, line.as_bytes()),
+        Err(_) => write_all(err, b"error: fault memory OutOfMemory\n"),
+    };
+}
+
+/// Builds, and gives the status: 0 for success, 101 for a build that failed or was refused, with `error: ` and its
+/// result line on `err`. Message lines go to `out` as units end. Before the build a line `note: NAME has no library`
+/// goes to `err` for each package to which an enabled dependency leads and that has no library.
+pub fn build_options<P: Place, O: Out, E: Out>(
+    alloc: Global,
+    place: &mut P,
+    out: &mut O,
+    err: &mut E,
+    options: &Options,
+) -> u8
+    ensures { BuildsTold P.tells P.child options.now result
+        (moment (P.world place.old) (P.counts place.old) (O.taken out.old) (O.faults out.old)) (moment (P.world place.new) (P.counts place.new) (O.taken out.new) (O.faults out.new))
+        record { taken = E.taken err.old; faults = E.faults err.old } record { taken = E.taken err.new; faults = E.faults err.new } }
+{
+    note(alloc, place, err, options);
+    let answer = build(alloc, place, out, options);
+    let status = status_of(&answer);
+    tell(alloc, err, status, &answer);
+    status
+}

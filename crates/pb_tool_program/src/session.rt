@@ -1,0 +1,86 @@
+//! The session program.
+
+ghost use Rattle.std.specs.Prelude.{◌≡◌, ◌⊎◌, ◌++◌, ℕ, Err, IfOk, IfErr, OnOk, OnErr, IsTrue, false, string_bytes};
+ghost use Rattle.std.specs.Io.KnownBytes.{Appends};
+ghost use Rattle.pb_place.specs.Counts.{up};
+ghost use Rattle.pb_session.specs.Sessions.{session_of};
+ghost use Rattle.pb_session.specs.declared.fault.BadSession.TheVariants.{BadForm};
+ghost use Rattle.pb_tool_program.specs.Session.{Refused, SessionWritten, lines_of};
+
+use pb_answer::result_line;
+use pb_build::{Answer, session};
+use pb_mini::Mini;
+use pb_place::{Memory, Out, write_all};
+use pb_session::{BadSession, read_session};
+use std::alloc::{AllocError, Global};
+
+/// Says that a session is bad, and gives the status for it.
+pub fn refuse<E: Out>(err: &mut E) -> u8
+    ensures status { result ≡ 1 }
+    ensures told { Refused (E.taken err.old) (E.taken err.new) (E.faults err.old) (E.faults err.new) }
+{
+    let _ = write_all(err, b"error: bad session\n");
+    1
+}
+
+/// The result lines of builds, each with a line feed.
+fn result_lines(alloc: Global, answers: &[Answer]) -> Result<String, AllocError>
+    ensures { IfOk result (λ lines. string_bytes lines ≡ lines_of answers.now) }
+{
+    let mut lines = String::new(alloc);
+    for answer in answers {
+        let line = result_line(alloc, &answer.result)?;
+        lines.push_str(line.as_str())?;
+        lines.push_str("\n")?;
+    }
+    Ok(lines)
+}
+
+/// Writes the result lines of builds, and says whether the sink took them.
+pub fn write_results<O: Out>(
+    alloc: Global,
+    answers: &[Answer],
+    out: &mut O,
+) -> Result<bool, AllocError>
+    ensures all { IfOk result (λ taken. IsTrue taken → Appends (O.taken out.old) (O.taken out.new) (lines_of answers.now)) }
+    ensures fault { IfOk result (λ taken. taken ≡ false → O.faults out.new ≡ up (O.faults out.old)) }
+    ensures memory { OnErr result (out.new ≡ out.old) }
+{
+    let lines = result_lines(alloc, answers)?;
+    Ok(write_all(out, lines.as_bytes()))
+}
+
+/// Runs a session and writes its lines. Whether all result lines were written.
+fn carry_out<O: Out>(alloc: Global, bytes: &[u8], out: &mut O) -> Result<bool, BadSession>
+    ensures written { IfOk result (λ whole. IsTrue whole → SessionWritten bytes.now record { taken = O.taken out.old; faults = O.faults out.old } (O.taken out.new)) }
+    ensures bad { IfErr result (λ e. e ≡ BadForm → session_of bytes.now ≡ Err BadForm) }
+    ensures fault { IfOk result (λ whole. whole ≡ false → (before : ℕ) × (O.faults out.new ≡ up before)) }
+    ensures untouched { session_of bytes.now ≡ Err BadForm → out.new ≡ out.old }
+{
+    let steps = read_session(alloc, bytes)?;
+    let mut memory = Memory::new(alloc, Mini);
+    let answers = session(alloc, &mut memory, out, steps.as_slice())?;
+    let written = write_results(alloc, answers.as_slice(), out)?;
+    Ok(written)
+}
+
+/// The session program: reads a session from bytes, runs it in memory with the small compiler as its child,
+/// and writes to `out` all message lines of its builds and then one result line a build, each with a line
+/// feed.
+///
+/// The status is 0, or 1 with `error: bad session` and a line feed on `err`: where the bytes are no session,
+/// of which nothing is run and nothing is written to `out`; where memory is refused outside a build; and
+/// where a result line cannot be written. A build that is refused or fails is no bad session: its result
+/// line says so.
+pub fn run_session<O: Out, E: Out>(alloc: Global, bytes: &[u8], out: &mut O, err: &mut E) -> u8
+    ensures status { (result ≡ 0) ⊎ (result ≡ 1) }
+    ensures written { result ≡ 0 → SessionWritten bytes.now record { taken = O.taken out.old; faults = O.faults out.old } (O.taken out.new) }
+    ensures untouched { session_of bytes.now ≡ Err BadForm → out.new ≡ out.old }
+    ensures quiet { result ≡ 0 → err.new ≡ err.old }
+    ensures told { result ≡ 1 → Refused (E.taken err.old) (E.taken err.new) (E.faults err.old) (E.faults err.new) }
+{
+    match carry_out(alloc, bytes, out) {
+        Ok(true) => 0,
+        _ => refuse(err),
+    }
+}
