@@ -7,8 +7,7 @@ use Rattle.pb_place.proofs.Folders.{sources_alike, get-sources}
 use Rattle.pb_data.specs.Gives.{◌>>=◌}
 use Rattle.pb_project.specs.declared.project.Project.{Project}
 use Rattle.pb_answer.specs.declared.fault.Refusal.{Refusal}
-use Rattle.pb_workspace.specs.Frames.{frame_of}
-use Rattle.pb_workspace.specs.Loaded.{root_parts, workspace_in, workspace_of}
+use Rattle.pb_workspace.proofs.Accepted.{same_read}
 use Rattle.pb_package.specs.declared.fault.LoadFault.{LoadFault}
 use Rattle.pb_package.specs.declared.options.Options.{Options}
 use Rattle.pb_package.specs.declared.workspace.Workspace.{Workspace}
@@ -17,14 +16,6 @@ use Rattle.pb_build.specs.Laws.{LooksAtSources, GivesFromNothing}
 use Rattle.pb_build.specs.Planning.{IsProject, IsRefused, by_load, by_selection, by_feature, by_plan}
 use Rattle.pb_build.specs.Result.{BuildResult, Comes, refused, no_toolchain, finished, Finished, toolchain_of, setup_of, rows_of}
 use Rattle.pb_build.specs.declared.environment.Environment.{Environment}
-
--- a workspace is read from the sources
-same_read : (manifest target : List ℕ) (v w : World) → from_nothing target v ≡ from_nothing target w → workspace_of manifest target v ≡ workspace_of manifest target w
-unfolding workspace_of
-same_read manifest target v w alike = ap (λ (s : World). workspace_from_sources s) alike
-  where
-    workspace_from_sources : World → Result Workspace LoadFault
-    workspace_from_sources s = root_parts s manifest >>= (λ parts. workspace_in s target (frame_of (folder_of manifest) manifest parts.workspace) parts.profiles parts.tables parts.found)
 
 same_refusal : (options : Options) (target : List ℕ) (v w : World) (why : Refusal) → from_nothing target v ≡ from_nothing target w → IsRefused options target v why → IsRefused options target w why
 same_refusal options target v w _ alike (by_load fault told) = by_load fault (sym (same_read options.manifest target v w alike) ∙ told)

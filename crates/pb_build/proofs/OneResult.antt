@@ -36,7 +36,8 @@ use Rattle.pb_build.specs.Planning.{IsFeatured, IsProject, IsRefused}
 use Rattle.pb_build.specs.Private.{HasNoProject, by_selection, by_feature, by_plan}
 use Rattle.pb_build.specs.Result.{BuildResult, Comes, refused, no_toolchain, finished, toolchain_of, setup_of, rows_of}
 use Rattle.pb_build.specs.declared.environment.Environment.{Environment}
-use Rattle.pb_build.proofs.Naming.{names_apart, one_package}
+use Rattle.pb_workspace.proofs.Accepted.{names_apart}
+use Rattle.pb_build.proofs.Naming.{one_package}
 use Rattle.pb_build.proofs.Reasons.{enabled_same, names_same, refuses_too, plan_refused_once, plan_is_there}
 use Rattle.pb_build.proofs.SameOutcomes.{rows_same}
 use Rattle.pb_build.proofs.SamePlan.{plan_too, plans_same}

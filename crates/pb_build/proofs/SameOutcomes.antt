@@ -20,7 +20,8 @@ use Rattle.pb_message.specs.declared.message.Message.TheVariants.{CompilerArtifa
 use Rattle.pb_place.specs.World.{World, Answers}
 use Rattle.pb_place.specs.declared.child.Reply.{Reply}
 use Rattle.pb_place.specs.declared.command.Command.{Command}
-use Rattle.pb_run.specs.Outcome.{Outcome, Waiting, directives_of, ended_by, file_at, tabled_from, is_good_at, view_of, ran_by, outcome_by, replied_files, judged, command_after, outcome_of}
+use Rattle.pb_run.specs.Outcome.{Outcome, Waiting, directives_of, tabled_from, is_good_at, view_of, ran_by, outcome_by, judged, command_after, outcome_of}
+use Rattle.pb_command.specs.Judge.{ended_by, file_at, replied_files}
 use Rattle.pb_run.specs.Telling.{artifacts, compiler_messages, good_messages, is_binary}
 use Rattle.pb_place.specs.declared.command.Ended.{Ended}
 use Rattle.pb_unit.specs.declared.plan.Planned.{Planned}

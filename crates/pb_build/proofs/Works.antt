@@ -17,19 +17,12 @@ use Rattle.pb_answer.specs.declared.summary.Summary.{Summary}
 use Rattle.pb_run.specs.Causes.{FailedLast, HasCause, Takes}
 use Rattle.pb_place.specs.declared.place.Failure.{Failure}
 use Rattle.pb_place.specs.declared.place.Failure.TheVariants.{Called, Started}
-use Rattle.pb_run.specs.Outcome.{ended_by}
+use Rattle.pb_command.specs.Judge.{ended_by}
 use Rattle.pb_run.specs.Standing.{IsInOrder}
 use Rattle.pb_manifest.specs.declared.profile.Profile.{Profile}
 use Rattle.pb_place.specs.Paths.{folder_of}
-use Rattle.pb_workspace.proofs.FoldersPut.{opened}
-use Rattle.pb_workspace.specs.Assembled.{assembled}
-use Rattle.pb_workspace.specs.ByFolder.{values_of}
-use Rattle.pb_workspace.specs.Checks.{fault_of}
-use Rattle.pb_workspace.specs.Frames.{frame_of}
-use Rattle.pb_workspace.specs.Loaded.{root_parts, packages_read, unless, workspace_from, workspace_in, workspace_of}
-use Rattle.pb_workspace.specs.declared.draft.Draft.{Draft}
+use Rattle.pb_workspace.proofs.Accepted.{target_kept}
 use Rattle.pb_package.specs.declared.fault.LoadFault.{LoadFault}
-use Rattle.pb_workspace.specs.declared.frame.Frame.{Frame}
 use Rattle.pb_package.specs.declared.options.Options.{Options}
 use Rattle.pb_package.specs.declared.workspace.Workspace.{Workspace}
 use Rattle.pb_build.specs.Causes.{upped, SomeStarts, UnitStarts, MayTellAll, MayAsk, MayPlan, MayBuild, BuildStarts}
@@ -205,19 +198,6 @@ module _ (child : Answers) (options : Options) (environment : Environment) (old 
         subst (λ (w : World). IsProject options environment.target w project) world is,
         project_before (from_nothing environment.target old.world) project result (subst (λ (w : World). ProjectEnds child options environment (from_nothing environment.target w) project result mid new) world ends),
       )
-
--- a workspace has the target folder that it was read for
-pub target_kept : (manifest target : List ℕ) (w : World) (ws : Workspace) → workspace_of manifest target w ≡ Ok ws → ws.target ≡ target
-unfolding workspace_of workspace_in workspace_from assembled
-target_kept manifest target w ws is =
-    let (parts, first, rest) = opened (root_parts (from_nothing target w) manifest) _ ws is in
-    let f = frame_of (folder_of manifest) manifest parts.workspace in
-    let (read, second, made) = opened (packages_read (from_nothing target w) f parts.tables parts.found) _ ws rest in
-    by (fault_of (values_of read.found)) f parts.profiles (values_of read.found) made
-  where
-    by : (o : Option LoadFault) (f : Frame) (profiles : List Profile) (drafts : List Draft) → unless o (assembled target f profiles drafts) ≡ Ok ws → ws.target ≡ target
-    by None f profiles drafts h = let same : assembled target f profiles drafts ≡ ws = cc in ap (λ (x : Workspace). x.target) (sym same)
-    by (Some fault) f profiles drafts h = cc
 
 -- the work of a project is the work of a build
 pub project_works : (child : Answers) (options : Options) (environment : Environment) (project : Project) (moment_at new : Moment) (result : Result Summary BuildFault) → IsProject options environment.target moment_at.world project

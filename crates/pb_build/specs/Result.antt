@@ -9,7 +9,8 @@ use Rattle.pb_command.specs.Command.{query_of}
 use Rattle.pb_project.specs.declared.project.Project.{Project}
 use Rattle.pb_project.specs.declared.project.Setup.{Setup}
 use Rattle.pb_answer.specs.declared.fault.Refusal.{Refusal}
-use Rattle.pb_run.specs.Outcome.{Outcome, Waiting, Good, Bad, outcomes, ended_by}
+use Rattle.pb_run.specs.Outcome.{Outcome, Waiting, Good, Bad, outcomes}
+use Rattle.pb_command.specs.Judge.{ended_by}
 use Rattle.pb_unit.specs.declared.plan.Planned.{Planned}
 use Rattle.pb_package.specs.declared.options.Options.{Options}
 use Rattle.pb_build.specs.Environment.{environment_of}

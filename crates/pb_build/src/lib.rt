@@ -13,4 +13,8 @@ pub mod units;
 pub use builder::{build, missing_libraries};
 pub use environment::Environment;
 pub use laws::{builds_look_at_sources, earlier_builds_change_nothing};
+pub use pb_answer::{BuildFault, Refusal, Summary, result_line};
+pub use pb_package::Options;
+pub use pb_project::UnitFault;
+pub use pb_session::{BadSession, SessionStep, read_session};
 pub use sessions::{Answer, session};

@@ -4,3 +4,4 @@ pub mod Ordered
 pub mod Rising
 pub mod Setting
 pub mod Versions
+pub mod Judged

@@ -154,3 +154,8 @@ unless_fault (Some fault) answered = Err fault
 -- what an answer gives: how it ended is looked at first; then a run's lines or a compile's dep-info; then the inputs
 abbrev pub answered_of : Project → Planned → Command → Ended → Option (List ℕ) → Result Answered UnitFault
 answered_of project unit command ended dep_info = unless_fault (ended_fault ended) (answered_by unit.unit.what command (folder_of project unit) ended dep_info)
+
+-- the names of its inputs alone
+abbrev pub named_in : Result Answered UnitFault → Result (List InputName) UnitFault
+named_in (Ok answered) = Ok answered.inputs
+named_in (Err fault) = Err fault

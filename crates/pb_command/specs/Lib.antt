@@ -4,4 +4,5 @@ pub mod Said
 pub mod Pairs
 pub mod Command
 pub mod Answers
+pub mod Judge
 pub mod Laws

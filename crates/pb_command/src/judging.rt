@@ -5,10 +5,10 @@ ghost use Rattle.std.specs.List.{flat_map, list_any};
 ghost use Rattle.pb_data.specs.Gives.{Gives, lifted};
 ghost use Rattle.pb_directive.specs.Directives.{directives_of};
 ghost use Rattle.pb_project.specs.Targets.{folder_of};
-ghost use Rattle.pb_command.specs.Answers.{is_too_long, greatest_length, ended_fault, info_in, read_info, inputs_of, info_inputs, compile_answered, changed_path, changed_variable, is_error, unless_error, said_in, marked_inputs, rerun_inputs, said_inputs, run_answered, answered_by, answered_of};
+ghost use Rattle.pb_command.specs.Answers.{is_too_long, greatest_length, ended_fault, info_in, read_info, inputs_of, info_inputs, compile_answered, changed_path, changed_variable, is_error, unless_error, said_in, marked_inputs, rerun_inputs, said_inputs, run_answered, answered_by, answered_of, named_in};
 ghost use Rattle.pb_project.specs.declared.fault.UnitFault.TheVariants as unit_fault;
 
-use crate::inputs::{inherited, inputs_of, once, paths_from};
+use crate::input_names::{inherited, inputs_of, once, paths_from};
 use pb_data::{Bytes, Items, Text, TryCopy};
 use pb_directive::{DepInfo, Directive, LineFault, read_dep_info, read_directives};
 use pb_place::{Command, Ended, PathText};
@@ -317,5 +317,22 @@ pub fn answered(
             let folder = folder_of(project, unit);
             answered_by(alloc, &unit.unit.what, command, folder, ended, dep_info)
         }
+    }
+}
+
+/// The names of the inputs of a unit, as its child's answer tells them: those of `answered`, with its faults.
+pub fn inputs(
+    alloc: Global,
+    project: &Project,
+    unit: &Planned,
+    command: &Command,
+    ended: &Ended,
+    dep_info: Option<&Bytes>,
+) -> Result<Items<InputName>, UnitFault>
+    ensures { Gives unit_fault.OutOfMemory (λ names. names) result (named_in (answered_of project.now unit.now command.now ended.now (option_map (λ bytes. bytes.now) dep_info.entry))) }
+{
+    match answered(alloc, project, unit, command, ended, dep_info) {
+        Ok(found) => Ok(found.inputs),
+        Err(fault) => Err(fault),
     }
 }

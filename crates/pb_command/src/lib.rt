@@ -4,7 +4,7 @@
 
 pub mod commands;
 mod externs;
-mod inputs;
+mod input_names;
 pub mod judging;
 pub mod laws;
 mod pairs;
@@ -15,8 +15,10 @@ mod settings;
 mod words;
 
 pub use commands::{command, query};
-pub use judging::{answered, ended_fault};
-pub use laws::{commands_are_absolute, last_values_count, libraries_in_order, pairs_rise};
+pub use judging::{answered, ended_fault, inputs};
+pub use laws::{
+    commands_are_absolute, judges_as_answered, last_values_count, libraries_in_order, pairs_rise,
+};
 pub use pb_project::{
     Answered, InputName, Project, Setup, UnitFault, crate_name_of, dep_info_path, made_file,
 };

@@ -8,7 +8,7 @@ use Rattle.pb_data.specs.Mentions.{is_mentioned}
 use Rattle.pb_data.specs.Table.{value_at, table_of}
 use Rattle.pb_data.proofs.MentionLemmas.{is_mentioned-once}
 use Rattle.pb_data.proofs.TableLemmas.{value-table_of}
-use Rattle.pb_place.specs.Paths.{is_path, is_relative, is_absolute, joined, parsed, is_at_or_below}
+use Rattle.pb_place.specs.Paths.{is_path, is_relative, is_absolute, joined, parsed, is_below, is_at_or_below}
 use Rattle.pb_place.specs.World.{World}
 use Rattle.pb_place.specs.declared.command.Command.{Command}
 use Rattle.pb_place.proofs.PathLemmas.{parsed_path}
@@ -17,7 +17,6 @@ use Rattle.pb_command.specs.Answers.{path_or_none, path_said, paths_from, is_cov
 use Rattle.pb_project.specs.declared.answer.InputName.{InputName}
 use Rattle.pb_project.specs.declared.answer.InputName.TheVariants.{Path, Variable}
 use Rattle.pb_mini.specs.Honesty.{SameFile}
-use Rattle.pb_honesty.specs.Honest.{SameInput, SameFolders}
 use Rattle.pb_honesty.proofs.Mentioning.{or_left, among_kept, none_passes, one_among, among_each, not_named}
 use Rattle.pb_honesty.proofs.Parsing.{opened}
 
@@ -43,9 +42,19 @@ false_not false is = absurd (cc)
 both_false : (x y : Bool) → x ≡ true → (x && y) ≡ false → y ≡ false
 both_false x y is none = ap (λ r. r && y) (sym is) ∙ none
 
-module _ (c : Command) (v w : World) (same_folders : SameFolders c.reads v w) where
+-- two views have the same at an input: the same file at a path, the same value of a variable
+abbrev pub SameInput : World → World → InputName → Type 0
+SameInput v w (Path path) = SameFile v w path
+SameInput v w (Variable name) = finite.get w.variables name ≡ finite.get v.variables name
+
+-- and the same in the target folder, of which each shows what lies below the folders that the command may read
+pub record SameAround (c : Command) (v w : World) : Type 0 where
+  pub target : (path : List ℕ) → is_at_or_below c.target path ≡ true → SameFile v w path
+  pub below : (path : List ℕ) → list_any (λ folder. is_below folder path) c.reads ≡ true → SameFile v w path
+
+module _ (c : Command) (v w : World) (around : SameAround c v w) where
   abbrev Same : InputName → Type 0
-  Same = SameInput c.target v w
+  Same = SameInput v w
 
   sources_told : (paths sources : List (List ℕ)) → sources_in c paths ≡ Ok sources → (find (is_foreign c) paths ≡ None) × (filter (is_source c) paths ≡ sources)
   sources_told paths sources is = by (find (is_foreign c) paths) refl is
@@ -53,15 +62,6 @@ module _ (c : Command) (v w : World) (same_folders : SameFolders c.reads v w) wh
       by : (r : Option (List ℕ)) → find (is_foreign c) paths ≡ r → unless_foreign r (filter (is_source c) paths) ≡ Ok sources → (find (is_foreign c) paths ≡ None) × (filter (is_source c) paths ≡ sources)
       by None none is = (none, cc)
       by (Some path) none is = absurd (cc)
-
-  -- a path of the target folder that is not foreign lies in a folder that the command may read
-  covered_same : (path : List ℕ) → is_at_or_below c.target path ≡ true → is_foreign c path ≡ false → SameFile v w path
-  unfolding is_covered is_foreign
-  covered_same path inside known =
-      same_folders path (false_not (list_any (λ folder. is_at_or_below folder path) c.reads) (both_false (is_at_or_below c.target path) (not (list_any (λ folder. is_at_or_below folder path) c.reads)) inside known))
-
-  source_same : (path : List ℕ) → is_at_or_below c.target path ≡ false → Same (Path path) → SameFile v w path
-  source_same path outside same = same path (at_itself path path refl) outside
 
   is_source_there : (path : List ℕ) → is_at_or_below c.target path ≡ false → is_source c path ≡ true
   unfolding is_source
@@ -76,9 +76,9 @@ module _ (c : Command) (v w : World) (same_folders : SameFolders c.reads v w) wh
       by sources none kept all (is_at_or_below c.target path) refl
     where
       by : (sources : List (List ℕ)) → find (is_foreign c) paths ≡ None → filter (is_source c) paths ≡ sources → AllByRecursion (λ p. Same (Path p)) sources → (r : Bool) → is_at_or_below c.target path ≡ r → SameFile v w path
-      by sources none kept all true inside = covered_same path inside (none_passes (is_foreign c) paths path none among)
+      by sources none kept all true inside = around.target path inside
       by sources none kept all false outside =
-          source_same path outside (one_among (λ p. Same (Path p)) sources path all (ap (λ ts. is_mentioned ts path) (sym kept) ∙ among_kept (is_source c) paths path among (is_source_there path outside)))
+          one_among (λ p. Same (Path p)) sources path all (ap (λ ts. is_mentioned ts path) (sym kept) ∙ among_kept (is_source c) paths path among (is_source_there path outside))
 
   pub same_variables : (paths variables : List (List ℕ)) (inputs : List InputName) → inputs_of c paths variables ≡ Ok inputs → AllByRecursion Same inputs
       → (name : List ℕ) → is_mentioned variables name ≡ true → finite.get w.variables name ≡ finite.get v.variables name

@@ -33,7 +33,7 @@ use Rattle.pb_project.specs.declared.fault.UnitFault.{UnitFault}
 use Rattle.pb_project.specs.declared.fault.UnitFault.TheVariants.{NoDepInfo}
 use Rattle.pb_project.specs.declared.project.Project.{Project}
 use Rattle.pb_project.specs.declared.project.Setup.{Setup}
-use Rattle.pb_run.specs.Outcome.{replied_files, file_at}
+use Rattle.pb_command.specs.Judge.{replied_files, file_at}
 use Rattle.pb_mini.specs.Answer.{request_of, replied_if}
 use Rattle.pb_mini.specs.CommandLine as line
 use Rattle.pb_mini.specs.DepInfo.{dep_info_text}
@@ -50,7 +50,8 @@ use Rattle.pb_mini.specs.declared.request.Request.TheVariants.{Compile}
 use Rattle.pb_mini.proofs.HonestyLemmas.{honest, tells}
 use Rattle.pb_honesty.specs.ReadBack.{CanBeTold, CanBeAsked, AreAmong}
 use Rattle.pb_honesty.proofs.Reading.{reads_back}
-use Rattle.pb_honesty.specs.Honest.{SameInput, SameFolders, small_compiler, CanBeSpelled, CanTellOf, CanTell, IsOfProject}
+use Rattle.pb_honesty.proofs.Agreeing.{SameInput, SameAround}
+use Rattle.pb_honesty.specs.Honest.{small_compiler, CanBeSpelled, CanTellOf, CanTell, IsOfProject}
 use Rattle.pb_honesty.proofs.Agreeing.{same_paths, same_variables, among_paths, among_inherited}
 use Rattle.pb_honesty.proofs.Given.{NamesBelow, given_below}
 use Rattle.pb_honesty.proofs.Grouping.{in_fixed, with_flags}
@@ -209,15 +210,6 @@ below_absolute folder name is = by (bytes_eq folder (codes "/")) folder (begins 
     by false [] absolute = absurd (cc)
     by false (b ∷ rest) absolute = absolute
 
-pub wider : (path : List ℕ) (folders : List (List ℕ)) → is_below_some folders path ≡ true → list_any (λ folder. is_at_or_below folder path) folders ≡ true
-wider path [] is = is
-wider path (folder ∷ folders) is = by (is_below folder path) refl is (wider path folders)
-  where
-    by : (r : Bool) → is_below folder path ≡ r → (r || is_below_some folders path) ≡ true → (is_below_some folders path ≡ true → list_any (λ folder. is_at_or_below folder path) folders ≡ true)
-        → (is_at_or_below folder path || list_any (λ folder. is_at_or_below folder path) folders) ≡ true
-    by true below is later = ap (λ r. r || list_any (λ folder. is_at_or_below folder path) folders) (at_below folder path below)
-    by false below is later = or_right (is_at_or_below folder path) (list_any (λ folder. is_at_or_below folder path) folders) (later is)
-
 -- ---- a compile
 
 dep_there : (out name text : List ℕ) (r : Reply) → is_relative name ≡ true → file_named name r.files ≡ Some text → file_at (file_in out name) (replied_files out r) ≡ Some text
@@ -246,7 +238,7 @@ module _ (setup : Setup) (project : Project) (u : Planned) (done : List (Option 
       (l, sym (cc), says c.words l first)
 
   module _ (v w : World) (l : CommandLine) (tell : CanBeSpelled l (names_read c.words c.pairs v)) (asked : request_of c.words ≡ Ok (Compile l)) (a : Answered)
-      (judged : Judged c (dep_info_text (below l.out_dir l.image) (each_once (names_read c.words c.pairs v))) a) (same : AllByRecursion (SameInput c.target v w) a.inputs) (folders : SameFolders c.reads v w) where
+      (judged : Judged c (dep_info_text (below l.out_dir l.image) (each_once (names_read c.words c.pairs v))) a) (same : AllByRecursion (SameInput v w) a.inputs) (folders : SameAround c v w) where
     abbrev names : Names
     names = names_read c.words c.pairs v
 
@@ -274,11 +266,11 @@ module _ (setup : Setup) (project : Project) (u : Planned) (done : List (Option 
     given_again =
         honest c v w (λ r is. let (other, equal, told) = request r is in subst (GivenBelow c.reads) (sym equal) (given other told))
         (record { files = all_among (SameFile v w) names.paths same_path; variables = all_named (λ name. value_at name (table_of c.pairs) ≡ None → finite.get w.variables name ≡ finite.get v.variables name) names.variables same_variable })
-        (λ path below. folders path (wider path c.reads below))
+        folders.below
 
   compile_honest : (v : World) → CanTell c v → (w : World) (a : Answered)
       → ((l : CommandLine) → Says c.words l → (text : List ℕ) → file_named l.dep_info (small_compiler c v).files ≡ Some text → Judged c text a)
-      → AllByRecursion (SameInput c.target v w) a.inputs → SameFolders c.reads v w → small_compiler c w ≡ small_compiler c v
+      → AllByRecursion (SameInput v w) a.inputs → SameAround c v w → small_compiler c w ≡ small_compiler c v
   compile_honest v tell w a judge same folders = by (request_of c.words) refl
     where
       by : (r : Result Request CommandLineFault) → request_of c.words ≡ r → small_compiler c w ≡ small_compiler c v
@@ -307,7 +299,7 @@ pub on_compiles : (setup : Setup) (project : Project) (u : Planned) (done : List
     → is_path (source_by p u.unit.what) ≡ true → AllByRecursion (λ (entry : Entry). is_name entry.key ≡ true) p.entries
     → (v w : World) (a : Answered) → dep_info_of project u ≡ file_in u.out (crate_name_of project u ++ codes ".d")
     → compile_answered (compile_of setup project u done p) (file_at (dep_info_of project u) (replied_files u.out (small_compiler (compile_of setup project u done p) v))) ≡ Ok a
-    → CanTell (compile_of setup project u done p) v → AllByRecursion (SameInput project.workspace.target v w) a.inputs → SameFolders (compile_of setup project u done p).reads v w
+    → CanTell (compile_of setup project u done p) v → AllByRecursion (SameInput v w) a.inputs → SameAround (compile_of setup project u done p) v w
     → small_compiler (compile_of setup project u done p) w ≡ small_compiler (compile_of setup project u done p) v
 on_compiles setup project u done p is_of plain source keys v w a where_it_is found tell same folders =
     compile_honest setup project u done p is_of plain source keys v tell w a (compile_judged setup project u done p is_of plain source keys v a where_it_is found) same folders

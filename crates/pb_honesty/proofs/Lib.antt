@@ -14,3 +14,4 @@ pub mod Running
 pub mod Saying
 pub mod Setting
 pub mod Reading
+pub mod Viewing

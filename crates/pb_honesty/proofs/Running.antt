@@ -22,7 +22,7 @@ use Rattle.pb_unit.specs.declared.unit.What.TheVariants as what
 use Rattle.pb_package.specs.Settled.{IsPackage}
 use Rattle.pb_package.specs.declared.package.Entry.{Entry}
 use Rattle.pb_package.specs.declared.package.Package.{Package}
-use Rattle.pb_command.specs.Answers.{ended_fault, path_or_none, path_said, paths_from, changed_path, changed_variable, is_error, unless_error, said_in, marked_inputs, rerun_inputs, said_inputs, run_answered, answered_by}
+use Rattle.pb_command.specs.Answers.{ended_fault, path_or_none, path_said, paths_from, changed_path, changed_variable, is_error, unless_error, said_in, marked_inputs, rerun_inputs, said_inputs, run_answered, answered_by, answered_of}
 use Rattle.pb_command.specs.Command.{script_path, run_words, run_of, command_by, command_for}
 use Rattle.pb_command.specs.Pairs.{composed}
 use Rattle.pb_project.specs.Targets.{package_of, package_folder, folder_of, script_source, script_file, needed, is_script, dep_info_by, dep_info_of, source_by, crate_name_of}
@@ -31,7 +31,7 @@ use Rattle.pb_project.specs.declared.fault.UnitFault.{UnitFault}
 use Rattle.pb_project.specs.declared.fault.UnitFault.TheVariants as unit_fault
 use Rattle.pb_project.specs.declared.project.Project.{Project}
 use Rattle.pb_project.specs.declared.project.Setup.{Setup}
-use Rattle.pb_run.specs.Outcome.{ended_by, replied_files, file_at}
+use Rattle.pb_command.specs.Judge.{ended_by, replied_files, file_at}
 use Rattle.pb_mini.specs.Answer.{request_of, answered, replied_if}
 use Rattle.pb_mini.specs.Honesty.{SameFile, SameValue, SameAt, GivenBelow, is_below_some, names_if, names_of_image}
 use Rattle.pb_mini.specs.Lines.{lines_of}
@@ -39,10 +39,11 @@ use Rattle.pb_mini.specs.Lookups as looked
 use Rattle.pb_mini.specs.Script.{full_path, image_run}
 use Rattle.pb_mini.specs.declared.request.Request.TheVariants.{Run}
 use Rattle.pb_mini.proofs.HonestyLemmas.{honest}
-use Rattle.pb_honesty.specs.Honest.{SameInput, SameFolders, found_in, small_compiler, CanTellOf, CanTell, RunsAlone, IsSmall, IsOfProject, SmallCompilerIsHonest}
+use Rattle.pb_honesty.proofs.Agreeing.{SameInput, SameAround}
+use Rattle.pb_honesty.specs.Honest.{small_compiler, CanTellOf, CanTell, RunsAlone, IsSmall, IsOfProject}
 use Rattle.pb_honesty.specs.Said.{CanBeSaid, declared_in_image}
 use Rattle.pb_honesty.proofs.Agreeing.{same_paths, same_variables}
-use Rattle.pb_honesty.proofs.Compiling.{on_compiles, same_ok, unless, wider}
+use Rattle.pb_honesty.proofs.Compiling.{on_compiles, same_ok, unless}
 use Rattle.pb_honesty.proofs.Declaring.{PathSaid, VariableSaid, run_declares, itself}
 use Rattle.pb_honesty.proofs.Saying.{lifted_ok}
 use Rattle.pb_honesty.proofs.Folding.{base, set_value, begins_at}
@@ -107,7 +108,7 @@ module _ (setup : Setup) (project : Project) (u : Planned) (done : List (Option 
   path_there : (v : World) (text : List ℕ) → joined p.folder text ≡ parsed (full_path (table_of c.pairs) v text)
   path_there v text = ap (λ folder. parsed (cond (is_absolute text) text (unwrap_or folder [] ++ 47 ∷ text))) (sym (ap (λ o. option_or o (finite.get v.variables base)) begins))
 
-  module _ (v w : World) (said : List Directive) (a : Answered) (found : said_inputs c p.folder said ≡ Ok a.inputs) (same : AllByRecursion (SameInput c.target v w) a.inputs) (folders : SameFolders c.reads v w) where
+  module _ (v w : World) (said : List Directive) (a : Answered) (found : said_inputs c p.folder said ≡ Ok a.inputs) (same : AllByRecursion (SameInput v w) a.inputs) (folders : SameAround c v w) where
     abbrev paths : List (List ℕ)
     paths = flat_map changed_path said
 
@@ -146,10 +147,10 @@ module _ (setup : Setup) (project : Project) (u : Planned) (done : List (Option 
         (λ request other. let both : Ok request ≡ Ok (Run script) = sym other ∙ asked in let equal : Run script ≡ request = cc in subst (GivenBelow c.reads) equal script_below)
         (subst (λ r. SameAt (names_if r (table_of c.pairs) v) (table_of c.pairs) v w) (sym asked)
         (image_same (looked.file_at v (looked.path_of script)) (subst (λ r. CanTellOf r c v) asked tell) (ap (λ r. directives_of (replied_if r (table_of c.pairs) v).stdout) (sym asked) ∙ is)))
-        (λ path below. folders path (wider path c.reads below))
+        folders.below
 
   -- what is found in a good reply to a run
-  pub on_runs : RunsAlone setup.runner → (v w : World) (a : Answered) → run_answered c p.folder (ended_by (small_compiler c v)) ≡ Ok a → CanTell c v → AllByRecursion (SameInput c.target v w) a.inputs → SameFolders c.reads v w
+  pub on_runs : RunsAlone setup.runner → (v w : World) (a : Answered) → run_answered c p.folder (ended_by (small_compiler c v)) ≡ Ok a → CanTell c v → AllByRecursion (SameInput v w) a.inputs → SameAround c v w
       → small_compiler c w ≡ small_compiler c v
   on_runs alone v w a found tell same folders = by (words_cases setup.runner script alone)
     where
@@ -173,7 +174,7 @@ module _ (setup : Setup) (project : Project) (u : Planned) (done : List (Option 
   -- the unit's package is there
   of_package : (p : Package) → package_of project u ≡ Some p → (w : What) → u.unit.what ≡ w → CanTell (command_by w setup project u done p) v → (other : World) (a : Answered)
       → answered_by w (command_by w setup project u done p) (folder_of project u) (ended_by (small_compiler (command_by w setup project u done p) v)) (file_at (dep_info_of project u) (replied_files u.out (small_compiler (command_by w setup project u done p) v))) ≡ Ok a
-      → AllByRecursion (SameInput (command_by w setup project u done p).target v other) a.inputs → SameFolders (command_by w setup project u done p).reads v other
+      → AllByRecursion (SameInput v other) a.inputs → SameAround (command_by w setup project u done p) v other
       → small_compiler (command_by w setup project u done p) other ≡ small_compiler (command_by w setup project u done p) v
   of_package p there what.Lib is tell other a found same folders =
       on_compiles setup project u done p is_of small.flags (subst (λ o. IfSome o (λ q. is_path (source_by q u.unit.what) ≡ true)) there is_of.source)
@@ -187,9 +188,9 @@ module _ (setup : Setup) (project : Project) (u : Planned) (done : List (Option 
   of_package p there what.Run is tell other a found same folders =
       on_runs setup project u done p is_of is small.runner v other a (ap (λ folder. run_answered (run_of setup project u done p) folder (ended_by (small_compiler (run_of setup project u done p) v))) (sym (ap (package_folder project.workspace.root) there)) ∙ found) tell same folders
 
-  by_owner : (owner : Option Package) → package_of project u ≡ owner → CanTell (command_for setup project u done owner) v → (other : World) (a : Answered)
-      → found_in project u (command_for setup project u done owner) (small_compiler (command_for setup project u done owner) v) ≡ Ok a
-      → AllByRecursion (SameInput (command_for setup project u done owner).target v other) a.inputs → SameFolders (command_for setup project u done owner).reads v other
+  pub by_owner : (owner : Option Package) → package_of project u ≡ owner → CanTell (command_for setup project u done owner) v → (other : World) (a : Answered)
+      → answered_of project u (command_for setup project u done owner) (ended_by (small_compiler (command_for setup project u done owner) v)) (file_at (dep_info_of project u) (replied_files u.out (small_compiler (command_for setup project u done owner) v))) ≡ Ok a
+      → AllByRecursion (SameInput v other) a.inputs → SameAround (command_for setup project u done owner) v other
       → small_compiler (command_for setup project u done owner) other ≡ small_compiler (command_for setup project u done owner) v
   by_owner None there tell other a found same folders = refl
   by_owner (Some p) there tell other a found same folders =
@@ -197,6 +198,3 @@ module _ (setup : Setup) (project : Project) (u : Planned) (done : List (Option 
       (unless (ended_fault (ended_by (small_compiler (command_by u.unit.what setup project u done p) v)))
       (answered_by u.unit.what (command_by u.unit.what setup project u done p) (folder_of project u) (ended_by (small_compiler (command_by u.unit.what setup project u done p) v))
       (file_at (dep_info_of project u) (replied_files u.out (small_compiler (command_by u.unit.what setup project u done p) v)))) a found) same folders
-
-pub small_compiler_is_honest : SmallCompilerIsHonest
-small_compiler_is_honest setup project u done v small is_of tell other a found same folders = by_owner setup project u done v small is_of (package_of project u) refl tell other a found same folders

@@ -1,32 +1,26 @@
--- That a child is honest on the commands of units: a good reply is given again wherever what it rests on is the same.
+-- That the small compiler is an honest child on the commands of units: a good reply is given again wherever what it rests on is the same.
 use Rattle.std.specs.Prelude.{◌≡◌, ℕ, true, false, codes, List, [], ◌∷◌, Option, Some, Result, Ok, Err, IfSome, slice_get}
-use Rattle.std.specs.FinMap as finite
-use Rattle.std.specs.List.{AllByRecursion, list_any}
+use Rattle.std.specs.List.{AllByRecursion}
 use Rattle.pb_data.specs.Mentions.{is_mentioned}
 use Rattle.pb_data.specs.Table.{table_of}
 use Rattle.pb_directive.specs.Lines.{has_byte}
 use Rattle.pb_directive.specs.declared.directive.Directive.{Directive}
-use Rattle.pb_place.specs.Paths.{below, is_path, is_at_or_below}
-use Rattle.pb_place.specs.World.{World, Answers}
-use Rattle.pb_place.specs.declared.child.Reply.{Reply}
+use Rattle.pb_place.specs.Paths.{below, is_path}
+use Rattle.pb_place.specs.World.{World, Answers, seen_by}
 use Rattle.pb_place.specs.declared.command.Command.{Command}
 use Rattle.pb_package.specs.Settled.{IsSettled}
 use Rattle.pb_package.specs.declared.options.Selection.{Selection}
 use Rattle.pb_unit.specs.Plan.{IsPlan}
 use Rattle.pb_unit.specs.declared.plan.Planned.{Planned}
-use Rattle.pb_command.specs.Answers.{answered_of}
 use Rattle.pb_command.specs.Command.{command_of}
 use Rattle.pb_command.specs.Laws.{HasPaths}
-use Rattle.pb_project.specs.Targets.{package_of, dep_info_of, source_by}
-use Rattle.pb_project.specs.declared.answer.Answered.{Answered}
-use Rattle.pb_project.specs.declared.answer.InputName.{InputName}
-use Rattle.pb_project.specs.declared.answer.InputName.TheVariants.{Path, Variable}
-use Rattle.pb_project.specs.declared.fault.UnitFault.{UnitFault}
+use Rattle.pb_project.specs.Targets.{package_of, source_by}
 use Rattle.pb_project.specs.declared.project.Project.{Project}
 use Rattle.pb_project.specs.declared.project.Setup.{Setup}
-use Rattle.pb_run.specs.Outcome.{ended_by, replied_files, file_at}
+use Rattle.pb_command.specs.Judge.{judge}
+use Rattle.pb_soundness.specs.Inputs.{IsHonest}
 use Rattle.pb_mini.specs.Answer.{request_of, answered}
-use Rattle.pb_mini.specs.Honesty.{SameFile, names_read}
+use Rattle.pb_mini.specs.Honesty.{names_read}
 use Rattle.pb_mini.specs.declared.command_line.CommandLine.{CommandLine}
 use Rattle.pb_mini.specs.Lookups as looked
 use Rattle.pb_mini.specs.declared.command_line.CommandLineFault.{CommandLineFault}
@@ -35,25 +29,6 @@ use Rattle.pb_mini.specs.declared.request.Request.{Request}
 use Rattle.pb_mini.specs.declared.request.Request.TheVariants.{Version, Run, Compile}
 use Rattle.pb_honesty.specs.ReadBack.{CanBeTold, CanBeAsked}
 use Rattle.pb_honesty.specs.Said.{CanBeSaid, declared_in_image}
-
--- What a reply rests on.
-
--- the same in both worlds: of a path all files at or below it that are no part of the target folder, of a variable its inherited value
-abbrev pub SameInput : List ℕ → World → World → InputName → Type 0
-SameInput target v w (Path path) = (q : List ℕ) → is_at_or_below path q ≡ true → is_at_or_below target q ≡ false → SameFile v w q
-SameInput target v w (Variable name) = finite.get w.variables name ≡ finite.get v.variables name
-
--- the same files in these folders
-abbrev pub SameFolders : List (List ℕ) → World → World → Type 0
-SameFolders folders v w = (q : List ℕ) → list_any (λ folder. is_at_or_below folder q) folders ≡ true → SameFile v w q
-
--- what is found in a reply to the command of a unit: its inputs, or why it is bad
-abbrev pub found_in : Project → Planned → Command → Reply → Result Answered UnitFault
-found_in project u c r = answered_of project u c (ended_by r) (file_at (dep_info_of project u) (replied_files u.out r))
-
--- A child is honest on the command of a unit in a world: where its reply is good, it gives it again in each world that is the same at the inputs which are found in it, and in the folders that the command may read. Of a bad reply nothing is asked.
-abbrev pub IsHonest : Answers → Project → Planned → Command → World → Type 0
-IsHonest child project u c v = (w : World) (a : Answered) → found_in project u c (child c v) ≡ Ok a → AllByRecursion (SameInput c.target v w) a.inputs → SameFolders c.reads v w → child c w ≡ child c v
 
 -- The small compiler.
 
@@ -96,7 +71,7 @@ pub record IsOfProject (project : Project) (u : Planned) : Type 0 where
   pub place : ℕ
   pub there : slice_get project.plan.planned place ≡ Some u
 
--- The law: on the command of every unit of a project, whatever the scripts before it have said, in every world in which it can tell what it reads.
+-- The law: on the command of every unit of a project, whatever the scripts before it have said, in every world of which it can tell what it reads.
 abbrev pub SmallCompilerIsHonest : Type 0
 SmallCompilerIsHonest = (setup : Setup) (project : Project) (u : Planned) (done : List (Option (List Directive))) (v : World) → IsSmall setup → IsOfProject project u
-    → CanTell (command_of setup project u done) v → IsHonest small_compiler project u (command_of setup project u done) v
+    → CanTell (command_of setup project u done) (seen_by (command_of setup project u done) v) → IsHonest judge small_compiler (command_of setup project u done) v

@@ -16,8 +16,8 @@ pub fn names_are_read_back()
 {}
 
 /// A law: on the command of each unit of a project, whatever the scripts before it have said, a good reply of the small
-/// compiler is given again in every world that is the same at the inputs which the builder finds in the reply, and in
-/// the folders that the command may read.
+/// compiler is given again in every world in which the inputs that the builder finds in the reply have the same values,
+/// and the folders that the command may read hold the same.
 ///
 /// The project is one that was read and planned: settled, with its plan, and with normalised absolute paths. The user's
 /// flags give no libraries, scripts are run by the small compiler, and what is read can be told: names that are not

@@ -25,7 +25,8 @@ use Rattle.pb_command.specs.Answers.{answered_of}
 use Rattle.pb_command.specs.Command.{command_of}
 use Rattle.pb_project.specs.Targets.{dep_info_of, dep_info_by, file_in, crate_name_of}
 use Rattle.pb_run.specs.declared.ran.Ran.{Ran}
-use Rattle.pb_run.specs.Outcome.{Outcome, Waiting, Good, Bad, is_good, is_good_at, file_at, replied_files, ran_of, ran_by, outcome_by, judged, ended_by, view_of, command_after, directives_of, outcome_of, outcomes}
+use Rattle.pb_run.specs.Outcome.{Outcome, Waiting, Good, Bad, is_good, is_good_at, ran_of, ran_by, outcome_by, judged, view_of, command_after, directives_of, outcome_of, outcomes}
+use Rattle.pb_command.specs.Judge.{file_at, replied_files, ended_by}
 use Rattle.pb_run.specs.Standing.{IsInOrder, IsStanding, HasPackage}
 use Rattle.pb_run.proofs.Tables.{tabled-unfold, length-tabled_from}
 use Rattle.pb_run.proofs.Views.{IsFor, is_for, shows_view}

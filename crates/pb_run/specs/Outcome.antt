@@ -2,8 +2,8 @@
 use Rattle.std.specs.Prelude.{ℕ, Bool, true, false, if◌then◌else◌, List, [], ◌∷◌, ◌++◌, map, Option, Some, None, Result, Ok, Err, slice_get}
 use Rattle.std.specs.List.{list_all}
 use Rattle.std.specs.FinMap as finite
-use Rattle.pb_place.specs.Folders.{files_in, over}
-use Rattle.pb_place.specs.World.{World, Map, Answers, put_files}
+use Rattle.pb_place.specs.Folders.{over}
+use Rattle.pb_place.specs.World.{World, Map, Answers}
 use Rattle.pb_place.specs.declared.child.Reply.{Reply}
 use Rattle.pb_place.specs.declared.command.Command.{Command}
 use Rattle.pb_place.specs.declared.command.Ended.{Ended}
@@ -17,6 +17,7 @@ use Rattle.pb_project.specs.declared.fault.UnitFault.{UnitFault}
 use Rattle.pb_command.specs.Command.{command_of}
 use Rattle.pb_project.specs.Targets.{dep_info_of}
 use Rattle.pb_command.specs.Answers.{answered_of}
+use Rattle.pb_command.specs.Judge.{ended_by, replied_files, file_at}
 use Rattle.pb_run.specs.Telling.{good_messages, bad_messages}
 use Rattle.pb_run.specs.declared.ran.Ran.{Ran}
 
@@ -59,18 +60,6 @@ abbrev pub view_of : List Outcome → World → Planned → World
 view_of done sources u = record sources { files = with_made done u.reaches sources.files }
 
 -- The judgement.
-
--- how a child ended that replied so
-abbrev pub ended_by : Reply → Ended
-ended_by r = record { status = r.status; stdout = r.stdout; stderr = r.stderr }
-
--- the files of a reply in an output folder, in which nothing stood before
-abbrev pub replied_files : List ℕ → Reply → Map
-replied_files out r = files_in out (put_files out r.files finite.empty)
-
-abbrev pub file_at : Option (List ℕ) → Map → Option (List ℕ)
-file_at None files = None
-file_at (Some path) files = finite.get files path
 
 -- what comes of a unit whose child gave this answer
 abbrev pub ran_by : Project → Planned → Ended → Result Answered UnitFault → Ran

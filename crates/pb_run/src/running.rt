@@ -10,7 +10,8 @@ ghost use Rattle.pb_project.specs.Targets.{dep_info_of};
 ghost use Rattle.pb_place.specs.declared.command.Ended.{Ended};
 ghost use Rattle.pb_run.specs.Causes.{Takes, NoStart, OneStart, MayStart, MayRemove, MayBegin, MayRead, MayRun};
 ghost use Rattle.pb_place.specs.Folders.{files_in};
-ghost use Rattle.pb_run.specs.Outcome.{outcomes, ran_by, outcome_by, directives_in, directives_of, is_good, file_at};
+ghost use Rattle.pb_run.specs.Outcome.{outcomes, ran_by, outcome_by, directives_in, directives_of, is_good};
+ghost use Rattle.pb_command.specs.Judge.{file_at};
 ghost use Rattle.pb_run.specs.Standing.{IsInOrder, IsStanding};
 
 use crate::faults::{childless, deviceless};

@@ -9,5 +9,6 @@ pub mod session;
 
 pub use building::build_options;
 pub use machine::tool;
+pub use pb_host::HostPlace;
 pub use running::run;
 pub use session::{run_session, write_results};

@@ -65,7 +65,7 @@ letters_of : (name : List ℕ) → letters.is_name name ≡ true → list_all le
 unfolding letters.is_name
 letters_of name is = and_right _ _ is
 
-what_clean : (n : ℕ) (w : What) → letters.is_name_byte n ≡ false → IsNamedWell w → list_any (λ b. b == n) (what_name Lib) ≡ false → list_any (λ b. b == n) (codes "bin-") ≡ false → list_any (λ b. b == n) (what_name Script) ≡ false → list_any (λ b. b == n) (what_name Run) ≡ false → list_any (λ b. b == n) (what_name w) ≡ false
+pub what_clean : (n : ℕ) (w : What) → letters.is_name_byte n ≡ false → IsNamedWell w → list_any (λ b. b == n) (what_name Lib) ≡ false → list_any (λ b. b == n) (codes "bin-") ≡ false → list_any (λ b. b == n) (what_name Script) ≡ false → list_any (λ b. b == n) (what_name Run) ≡ false → list_any (λ b. b == n) (what_name w) ≡ false
 what_clean n Lib none well lib bin script run = lib
 what_clean n (Bin name) none well lib bin script run = appended (codes "bin-") bin
   where

@@ -7,3 +7,4 @@ pub mod Drafting
 pub mod Missing
 pub mod Planning
 pub mod Making
+pub mod Telling

@@ -1,3 +1,4 @@
 pub mod Units
 pub mod Plan
 pub mod Drawing
+pub mod Laws

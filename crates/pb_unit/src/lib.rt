@@ -6,6 +6,7 @@ mod candidates;
 mod dependencies;
 mod drawing;
 pub mod fault;
+pub mod laws;
 mod names;
 mod needed;
 pub mod plan;

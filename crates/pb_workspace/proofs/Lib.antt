@@ -16,3 +16,4 @@ pub mod Fuel
 pub mod WholeWorkspace
 pub mod GlobRelation
 pub mod Chosen
+pub mod Accepted

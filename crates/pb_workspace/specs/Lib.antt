@@ -26,3 +26,4 @@ pub mod Loaded
 pub mod Drafted
 pub mod PackageFolders
 pub mod GlobWords
+pub mod Laws

@@ -29,7 +29,10 @@ pub mod source;
 pub mod taken;
 pub mod wanted;
 
-pub use laws::{globs_stand_for_names, packages_are_the_least_set, rounds_are_enough};
+pub use laws::{
+    globs_stand_for_names, packages_are_the_least_set, rounds_are_enough, workspaces_are_settled,
+    workspaces_look_at_sources,
+};
 pub use loading::load;
 pub use pb_package::{
     About, BinariesByName, Binary, DefaultMembers, DependencyKind, EntriesByKey, Entry,

@@ -3,7 +3,8 @@ use Rattle.pb_place.specs.World.{World, from_nothing}
 use Rattle.pb_build.specs.Ending.{moment}
 use Rattle.pb_build.specs.Kept.{SourcesStay}
 use Rattle.pb_build.specs.Planning.{IsProject}
-use Rattle.pb_build.proofs.Works.{plan_may, project_works, works_before, target_kept}
+use Rattle.pb_workspace.proofs.Accepted.{target_kept}
+use Rattle.pb_build.proofs.Works.{plan_may, project_works, works_before}
 use Rattle.pb_build.proofs.builder.work_with.Goals as goal
 
 pub returns-in-Err-clause-takes : goal.returns-in-Err-clause-takes

@@ -1,7 +1,7 @@
 use Rattle.std.proofs.Common.{refl}
 use Rattle.pb_project.specs.Targets.{dep_info_of}
 use Rattle.pb_place.specs.World.{removed, from_nothing}
-use Rattle.pb_run.specs.Outcome.{file_at}
+use Rattle.pb_command.specs.Judge.{file_at}
 use Rattle.pb_run.proofs.Units.{ran_gives}
 use Rattle.pb_run.proofs.running.run_unit.Goals as goal
 

@@ -3,7 +3,7 @@ use Rattle.std.specs.List.{flat_map}
 use Rattle.pb_data.specs.Mentions.{mentioned_all}
 use Rattle.pb_command.specs.Answers.{path_said}
 use Rattle.pb_command.proofs.Naming.{mentioned_flat}
-use Rattle.pb_command.proofs.inputs.mention_all_said.Goals as goal
+use Rattle.pb_command.proofs.input_names.mention_all_said.Goals as goal
 
 pub loop-text-preserved : goal.loop-text-preserved
 loop-text-preserved c = (

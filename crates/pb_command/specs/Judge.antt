@@ -1,0 +1,72 @@
+-- What is good in the reply to a command, by the command alone: so the answer of a unit that no plan knows is judged as it was when there was one.
+use Rattle.std.specs.Prelude.{◌≡◌, ℕ, Bool, false, if◌then◌else◌, codes, List, [], ◌∷◌, ◌++◌, Option, Some, None, Result, Ok, Err, slice_get}
+use Rattle.std.specs.FinMap as finite
+use Rattle.std.specs.Str.{bytes_eq}
+use Rattle.pb_directive.specs.declared.directive.Directive.{Directive}
+use Rattle.pb_place.specs.Folders.{files_in}
+use Rattle.pb_place.specs.World.{Map, put_files}
+use Rattle.pb_place.specs.declared.child.Reply.{Reply}
+use Rattle.pb_place.specs.declared.command.Command.{Command}
+use Rattle.pb_place.specs.declared.command.Ended.{Ended}
+use Rattle.pb_package.specs.Settled.{IsSettled}
+use Rattle.pb_package.specs.declared.options.Selection.{Selection}
+use Rattle.pb_unit.specs.Laws.{last_word}
+use Rattle.pb_unit.specs.Plan.{IsPlan}
+use Rattle.pb_unit.specs.declared.plan.Planned.{Planned}
+use Rattle.pb_project.specs.Targets.{dep_info_of, file_in}
+use Rattle.pb_project.specs.declared.answer.Answered.{Answered}
+use Rattle.pb_project.specs.declared.answer.InputName.{InputName}
+use Rattle.pb_project.specs.declared.fault.UnitFault.{UnitFault}
+use Rattle.pb_project.specs.declared.project.Project.{Project}
+use Rattle.pb_project.specs.declared.project.Setup.{Setup}
+use Rattle.pb_command.specs.Answers.{compile_answered, run_answered, unless_fault, ended_fault, answered_of}
+use Rattle.pb_command.specs.Command.{command_of}
+
+-- how a child ended that replied so
+abbrev pub ended_by : Reply → Ended
+ended_by r = record { status = r.status; stdout = r.stdout; stderr = r.stderr }
+
+-- the files of a reply in an output folder, in which nothing stood before
+abbrev pub replied_files : List ℕ → Reply → Map
+replied_files out r = files_in out (put_files out r.files finite.empty)
+
+abbrev pub file_at : Option (List ℕ) → Map → Option (List ℕ)
+file_at None files = None
+file_at (Some path) files = finite.get files path
+
+-- the output folder is that of a unit that runs a script: its last word is `run`
+abbrev pub is_of_run : List ℕ → Bool
+is_of_run out = bytes_eq (last_word out) (codes "run")
+
+-- the name of the crate that is compiled: the word after `--crate-name`
+abbrev pub crate_in : List (List ℕ) → List ℕ
+crate_in [] = []
+crate_in (option ∷ []) = []
+crate_in (option ∷ name ∷ words) = name
+
+-- the dep-info of a compile: the file `C.d` in its output folder
+abbrev pub dep_info_in : Command → List ℕ → Map → Option (List ℕ)
+dep_info_in c out files = file_at (file_in out (crate_in c.words ++ codes ".d")) files
+
+-- what an answer with these files gives; a script is run in its package's folder
+abbrev pub answered_in : Command → List ℕ → Ended → Map → Result Answered UnitFault
+answered_in c out e files = unless_fault (ended_fault e) (if is_of_run out then run_answered c c.folder e else compile_answered c (dep_info_in c out files))
+
+-- the inputs that were found, where there is no fault
+abbrev pub inputs_if : Result Answered UnitFault → Option (List InputName)
+inputs_if (Ok answered) = Some answered.inputs
+inputs_if (Err fault) = None
+
+abbrev pub judge_in : Command → Option (List ℕ) → Reply → Option (List InputName)
+judge_in c None r = None
+judge_in c (Some out) r = inputs_if (answered_in c out (ended_by r) (replied_files out r))
+
+-- the names of the inputs that are found in a good reply to a command; none where the reply is bad
+unfoldable pub judge : Command → Reply → Option (List InputName)
+judge c r = judge_in c c.out r
+
+-- Of the command of each unit of a plan this is the judgement of the unit's answer.
+abbrev pub JudgesAsAnswered : Type 0
+JudgesAsAnswered = (setup : Setup) (project : Project) (u : Planned) (done : List (Option (List Directive))) (selection : Selection) (place : ℕ) (r : Reply)
+    → IsSettled project.workspace → IsPlan project.workspace project.features selection project.profile project.plan → slice_get project.plan.planned place ≡ Some u
+    → judge (command_of setup project u done) r ≡ inputs_if (answered_of project u (command_of setup project u done) (ended_by r) (file_at (dep_info_of project u) (replied_files u.out r)))

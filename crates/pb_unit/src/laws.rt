@@ -1,0 +1,9 @@
+//! Laws of plans, for the layers above. Each function does nothing; its contract is the law.
+
+ghost use Rattle.pb_unit.specs.Laws.{KeysTellWhat};
+
+/// A unit's key is the name of one folder, and its last word, like that of its output folder's path, says what the unit
+/// is: `lib`, `bin-NAME`, `script` or `run`.
+pub fn keys_tell_what()
+    ensures { KeysTellWhat }
+{}
