@@ -90,7 +90,7 @@ both_agree target [] v w one other = one
 both_agree target (i ∷ inputs) v w one other = (other.0 ∙ sym one.0, both_agree target inputs v w one.1 other.1)
 
 module _ (read : Reading) (judge : Judge) (child : Answers) (folder key : List ℕ) (w : World) (new : Map) (r : Record) (number : ℕ)
-    (honest : IsHonest judge child (command_of r.asked)) (agree : Agrees r.asked.target r.inputs w) (backs : Backs judge r (out_of folder key) (files_in (out_of folder key) w.files) (reply_in child (command_of r.asked) w))
+    (honest : IsHonest judge child (command_of r.asked) w) (agree : Agrees r.asked.target r.inputs w) (backs : Backs judge r (out_of folder key) (files_in (out_of folder key) w.files) (reply_in child (command_of r.asked) w))
     (names : NamesNeeds (record_at read folder w.files) folder r number) (put_there : IsPut read folder key r number w.files new) (sound : Sound read judge child folder w.files) where
   abbrev Was : Standing
   Was = record_at read folder w.files
@@ -174,7 +174,7 @@ module _ (read : Reading) (judge : Judge) (child : Answers) (folder key : List �
   gives_again : Grounded Now key number → (x : World) → Agrees r.asked.target r.inputs x → SameBelow r.asked.reads new x.files → Backs judge r (out_of folder key) (files_in (out_of folder key) new) (reply_in child (command_of r.asked) x)
   gives_again is x agree_x below =
       let again : reply_in child (command_of r.asked) x ≡ reply_in child (command_of r.asked) w =
-      honest w x (map name_of r.inputs) backs.good (both_agree r.asked.target r.inputs w x agree agree_x) (λ q inside. below q inside ∙ below_still is q inside) in
+      honest x (map name_of r.inputs) backs.good (both_agree r.asked.target r.inputs w x agree agree_x) (λ q inside. below q inside ∙ below_still is q inside) in
       subst (λ m. Backs judge r (out_of folder key) m (reply_in child (command_of r.asked) x)) (sym made_still)
       (subst (λ y. Backs judge r (out_of folder key) (files_in (out_of folder key) w.files) y) (sym again) backs)
 

@@ -48,7 +48,7 @@ reply_in child c w = child c (seen_by c w)
 abbrev pub Judge : Type 0
 Judge = Command → Reply → Option (List InputName)
 
--- A child is honest on a command: a good reply is given again in each world that has the same values of the inputs found in it, and the same files below the folders that the command may read. Of a bad reply nothing is asked.
-abbrev pub IsHonest : Judge → Answers → Command → Type 0
-IsHonest judge child c = (v w : World) (names : List InputName) → judge c (reply_in child c v) ≡ Some names
+-- A child is honest on a command in a world: where its reply there is good, it gives it again in each world that has the same values of the inputs found in it, and the same files below the folders that the command may read. Of a bad reply nothing is asked.
+abbrev pub IsHonest : Judge → Answers → Command → World → Type 0
+IsHonest judge child c v = (w : World) (names : List InputName) → judge c (reply_in child c v) ≡ Some names
     → AllByRecursion (λ name. input_in c.target w name ≡ input_in c.target v name) names → SameBelow c.reads v.files w.files → reply_in child c w ≡ reply_in child c v

@@ -67,7 +67,7 @@ pub record IsPut (read : Reading) (folder key : List ℕ) (r : Record) (number :
 
 -- A record of format 2 that holds the reply of an honest child in the present view, with the present values of the inputs, keeps the folder sound where it is put, whatever stood in its place.
 abbrev pub RenewLaw : Type 0
-RenewLaw = (read : Reading) (judge : Judge) (child : Answers) (folder key : List ℕ) (w : World) (new : Map) (r : Record) (number : ℕ) → IsHonest judge child (command_of r.asked)
+RenewLaw = (read : Reading) (judge : Judge) (child : Answers) (folder key : List ℕ) (w : World) (new : Map) (r : Record) (number : ℕ) → IsHonest judge child (command_of r.asked) w
     → Agrees r.asked.target r.inputs w → Backs judge r (out_of folder key) (files_in (out_of folder key) w.files) (reply_in child (command_of r.asked) w)
     → NamesNeeds (record_at read folder w.files) folder r number → IsPut read folder key r number w.files new → Sound read judge child folder w.files → Sound read judge child folder new
 
