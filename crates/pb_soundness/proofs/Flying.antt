@@ -16,10 +16,10 @@ use Rattle.pb_soundness.specs.Apart.{is_of, ReadsOthers, OthersLaw}
 use Rattle.pb_soundness.specs.Numbers.{NoneNames, NumberWaitsLaw}
 use Rattle.pb_soundness.proofs.Places.{is_same, no_key, out_in, place_in, place_outside, places_differ, outs_apart, out_place_apart, record_same}
 
-contains_head : {X : Type 0} (x : X) (xs : List X) → Contains (x ∷ xs) x
+pub contains_head : {X : Type 0} (x : X) (xs : List X) → Contains (x ∷ xs) x
 contains_head x xs = (0, omega arith, refl)
 
-contains_tail : {X : Type 0} (x : X) (xs : List X) (v : X) → Contains xs v → Contains (x ∷ xs) v
+pub contains_tail : {X : Type 0} (x : X) (xs : List X) (v : X) → Contains xs v → Contains (x ∷ xs) v
 contains_tail x xs v h = Contains-append_right (x ∷ []) xs v h
 
 neither : (a b : Bool) → a ≡ false → b ≡ false → a || b ≡ false

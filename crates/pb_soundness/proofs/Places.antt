@@ -80,7 +80,7 @@ pub name_some : (name : List ℕ) → is_name name ≡ true → name ≢ []
 name_some name named e = absurd (false≢true (sym (ap is_name e) ∙ named))
 
 -- the name of a record ends as one
-ends_so : (key : List ℕ) → ends_as_record (key ++ codes ".record") ≡ true
+pub ends_so : (key : List ℕ) → ends_as_record (key ++ codes ".record") ≡ true
 ends_so key =
     let long : length (key ++ codes ".record") ≡ length key + length (codes ".record") = length-append key (codes ".record") in
     let seven : length (codes ".record") ≡ 7 = refl in
