@@ -1,8 +1,8 @@
 -- Lemmas on blocks of bytes.
-use Rattle.std.proofs.Common.{◌≡◌, ◌≢◌, ◌<◌, ◌≤◌, ◌+◌, ◌^◌, ℕ, zero, suc, List, [], ◌∷◌, ◌++◌, length, refl, sym, ◌∙◌, ap, subst, arith, rules, length-append, Bor, Option, Some, None, Bool, true, if◌then◌else◌}
+use Rattle.std.proofs.Common.{◌≡◌, ◌<◌, ◌≤◌, ◌^◌, ℕ, List, [], ◌∷◌, ◌++◌, length, refl, sym, ◌∙◌, ap, arith, length-append, Bor, Option, Some, None, Bool, true, if◌then◌else◌}
 use Rattle.std.specs.Prelude.{MatchOption}
 use Rattle.std.proofs.lemmas.List.{append_assoc}
-use Rattle.pb_record.specs.Grammar.{number, block, line}
+use Rattle.pb_record.specs.Grammar.{number, block}
 use Rattle.pb_record.specs.Parts.{IsNumber, IsAny}
 use Rattle.pb_record.specs.Reading.{Stands, StandsNone, IsSpelling}
 use Rattle.pb_record.proofs.NumberLemmas.{number_spelling}
@@ -17,7 +17,7 @@ fronts_same (x ∷ xs) (y ∷ ys) rest more same e =
     (cc, others.1)
 
 -- a block and what follows it, cut after its length
-block_cut : (bytes rest : List ℕ) → block bytes ++ rest ≡ number (length bytes) ++ (bytes ++ 10 ∷ rest)
+pub block_cut : (bytes rest : List ℕ) → block bytes ++ rest ≡ number (length bytes) ++ (bytes ++ 10 ∷ rest)
 unfolding block
 block_cut bytes rest = append_assoc (number (length bytes)) (bytes ++ 10 ∷ []) rest ∙ ap (λ t. number (length bytes) ++ t) (append_assoc bytes (10 ∷ []) rest)
 
@@ -34,7 +34,7 @@ block_spelling = record {
       (parts.0, cc (parts.1));
 }
 
-pub stands_block : {text mid : List ℕ} {n : ℕ} (bytes rest : List ℕ) → Stands IsNumber number text n mid → length bytes ≡ n → mid ≡ bytes ++ 10 ∷ rest → Stands IsAny block text bytes rest
+pub stands_block : {Q : ℕ → Type 0} {text mid : List ℕ} {n : ℕ} (bytes rest : List ℕ) → Stands Q number text n mid → length bytes ≡ n → mid ≡ bytes ++ 10 ∷ rest → Stands IsAny block text bytes rest
 stands_block {mid = mid} bytes rest count len e = record {
   is = tt;
   here = count.here ∙ ap (λ k. number k ++ mid) (sym len) ∙ ap (λ t. number (length bytes) ++ t) e ∙ sym (block_cut bytes rest);
@@ -49,7 +49,7 @@ no_block_count {text = text} small none = record {
       none.never (length bytes) (bytes ++ 10 ∷ rest) (record { is = is; here = here });
 }
 
-pub no_block_bytes : {text mid : List ℕ} {n : ℕ} → Stands IsNumber number text n mid → ((bytes rest : List ℕ) → length bytes ≡ n → mid ≡ bytes ++ 10 ∷ rest → ⊥) → StandsNone IsAny block text
+pub no_block_bytes : {Q : ℕ → Type 0} {text mid : List ℕ} {n : ℕ} → Stands Q number text n mid → ((bytes rest : List ℕ) → length bytes ≡ n → mid ≡ bytes ++ 10 ∷ rest → ⊥) → StandsNone IsAny block text
 no_block_bytes {mid = mid} {n = n} count bad = record {
   never = λ bytes rest stands.
       let parts = number_spelling.apart (length bytes) n (bytes ++ 10 ∷ rest) mid (sym (block_cut bytes rest) ∙ sym stands.here ∙ count.here) in

@@ -1,11 +1,11 @@
 -- Lemmas on what was asked and commands.
-use Rattle.std.proofs.Common.{◌≡◌, ℕ, Bool, true, false, if◌then◌else◌, ◌&&◌, ◌==◌, List, Option, Some, None, refl, sym, ◌∙◌, ap, subst}
+use Rattle.std.proofs.Common.{◌≡◌, ℕ, Bool, true, false, if◌then◌else◌, ◌&&◌, ◌==◌, List, Option, Some, None, refl, sym, ◌∙◌, ap}
 use Rattle.std.specs.Bool.{Decides}
 use Rattle.std.specs.Cmp.Lexicographic.{pointwise}
 use Rattle.std.specs.Str.{bytes_eq}
 use Rattle.std.proofs.lemmas.Slice.Eq.{slice_eq-Decides, bytes_eq-Decides}
 use Rattle.std.proofs.lemmas.Bool.Decides.{Decides-and, Decides-like}
-use Rattle.pb_record.specs.Commands.{command_of, asked_in, asked_with, of_parts, AsksAs, AskedIsCommand, CommandIsAsked, SameAsked}
+use Rattle.pb_record.specs.Commands.{command_of, asked_with, of_parts, AsksAs, AskedIsCommand, CommandIsAsked, SameAsked}
 use Rattle.pb_place.specs.declared.command.Command.{Command}
 use Rattle.pb_record.specs.declared.asked.Asked.{Asked}
 use Rattle.pb_record.specs.Sorted.{are_sorted}

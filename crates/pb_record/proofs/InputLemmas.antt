@@ -1,5 +1,5 @@
 -- Lemmas on inputs and variables as parts of a record.
-use Rattle.std.proofs.Common.{◌≡◌, ◌<◌, ℕ, List, [], ◌∷◌, ◌++◌, length, refl, sym, ◌∙◌, ap, subst, arith, Option, Some, None, Bool, true, false, ◌==◌, codes}
+use Rattle.std.proofs.Common.{◌≡◌, ◌<◌, ℕ, List, ◌∷◌, ◌++◌, length, refl, sym, ◌∙◌, ap, arith, Option, Some, None, true, false, ◌==◌, codes}
 use Rattle.std.proofs.lemmas.Bool.Decides.{Decides-eqb}
 use Rattle.std.specs.Str.{IsUtf8}
 use Rattle.std.specs.List.{AllByRecursion}
@@ -10,7 +10,7 @@ use Rattle.pb_record.specs.Reading.{Stands, StandsNone, IsSpelling}
 use Rattle.pb_record.specs.declared.record.Input.{Input}
 use Rattle.pb_record.specs.declared.record.Input.TheVariants.{File, Tree, Value}
 use Rattle.pb_record.proofs.BlockLemmas.{block_spelling}
-use Rattle.pb_record.proofs.PartLemmas.{both_spelling, list_spelling, stands_by, none_by, none_but, none_less, stands_as}
+use Rattle.pb_record.proofs.PartLemmas.{both_spelling, list_spelling, stands_by, none_but}
 
 -- texts that begin with different bytes are not the same
 pub clash : {A : Type 0} (a b : ℕ) (x y : List ℕ) → (a == b) ≡ false → a ∷ x ≡ b ∷ y → A

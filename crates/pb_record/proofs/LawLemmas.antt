@@ -1,19 +1,17 @@
 -- Lemmas for the laws of records.
-use Rattle.std.proofs.Common.{◌≡◌, ◌≢◌, ◌<◌, ◌≤◌, ◌+◌, ◌^◌, ◌==◌, ◌||◌, ℕ, zero, suc, Bool, true, false, not, List, [], ◌∷◌, ◌++◌, length, length-append, take, drop, refl, sym, ◌∙◌, ap, subst, arith, Option, Some, None, codes, get_or, map}
+use Rattle.std.proofs.Common.{◌≡◌, ◌<◌, ◌+◌, ◌^◌, ℕ, zero, suc, List, [], ◌∷◌, ◌++◌, length, take, drop, refl, sym, ◌∙◌, ap, subst, arith, Option, Some, None, codes, get_or, map}
 use Rattle.std.specs.Int.Digits.{digits_of}
-use Rattle.std.specs.List.{list_any, list_all, slice_split}
 use Rattle.std.proofs.lemmas.Int.Digits.{first_digits_of, length-digits_of_step}
 use Rattle.std.proofs.lemmas.List.{append_assoc, append_cancel_left, append-nil, take-append-drop, length-drop}
-use Rattle.pb_place.specs.Paths.{has_byte_0, is_path, is_relative, is_name, parts_of}
 use Rattle.pb_record.specs.Grammar.{line, decimals, number, record_bytes, bytes_by}
-use Rattle.pb_record.specs.Parts.{IsNumber, IsPlace, IsRecord, AreNeeded, Says, Reads}
+use Rattle.pb_record.specs.Parts.{IsRecord, AreNeeded, Says, Reads, IsReading}
 use Rattle.pb_record.specs.Laws as law
 use Rattle.pb_record.specs.declared.record.Record.{Record}
 use Rattle.pb_record.specs.declared.record.Needed.{Needed}
 use Rattle.pb_record.specs.declared.record.Needed.TheVariants.{Copies, Numbers}
 use Rattle.pb_record.proofs.NumberLemmas.{number_spelling}
 use Rattle.pb_record.proofs.InputLemmas.{clash}
-use Rattle.pb_record.proofs.WholeLemmas.{record_apart, record_told, formats_apart, lines_apart, bytes_numbered, bytes_copied}
+use Rattle.pb_record.proofs.WholeLemmas.{record_apart, record_told, formats_apart, bytes_copied}
 
 pub first_parts : law.FirstPartsSayNothing
 first_parts n r s less says =
@@ -90,3 +88,18 @@ pub one_reading : law.HasOneReading
 one_reading text None None reads others = refl
 one_reading text None (Some s) reads others = (reads s).1 ((others s).0 refl)
 one_reading text (Some r) other reads others = sym ((others r).1 ((reads r).0 refl))
+
+pub read_so : (text : List ℕ) (found : Option Record) → Reads text found → (read : List ℕ → Option Record) → IsReading read → found ≡ read text
+read_so text found reads read readings = one_reading text found (read text) reads (readings text)
+
+pub reads_back : {text : List ℕ} {r : Record} → Says text r → (read : List ℕ → Option Record) → IsReading read → read text ≡ Some r
+reads_back {text = text} {r = r} says read readings = (readings text r).1 says
+
+-- a first part reads as none
+none_said : (found : Option Record) → ((s : Record) → found ≡ Some s → ⊥) → found ≡ None
+none_said None bad = refl
+none_said (Some s) bad = absurd (bad s refl)
+
+pub reads_torn : {text : List ℕ} {r : Record} → Says text r → (read : List ℕ → Option Record) → IsReading read → (n : ℕ) → n < length text → read (take n text) ≡ None
+reads_torn {text = text} {r = r} says read readings n less =
+    none_said (read (take n text)) (λ s e. first_parts n r s (subst (λ t. n < length t) says.same less) (subst (λ t. Says (take n t) s) says.same ((readings (take n text) s).0 e)))

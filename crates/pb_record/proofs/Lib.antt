@@ -4,5 +4,6 @@ pub mod BlockLemmas
 pub mod FrontLemmas
 pub mod InputLemmas
 pub mod WholeLemmas
+pub mod ReadingLemmas
 pub mod LawLemmas
 pub mod CommandLemmas

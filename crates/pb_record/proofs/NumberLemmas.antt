@@ -1,5 +1,5 @@
 -- Lemmas on numbers as text.
-use Rattle.std.proofs.Common.{◌≡◌, ◌≢◌, ◌<◌, ◌≤◌, ◌+◌, ◌^◌, ◌==◌, ℕ, Bool, true, false, not, ◌&&◌, zero, suc, List, [], ◌∷◌, ◌++◌, length, get_or, map, Option, Some, None, Result, Ok, Err, refl, sym, ◌∙◌, ap, subst, arith, rules, length-append, codes, take, drop}
+use Rattle.std.proofs.Common.{◌≡◌, ◌≢◌, ◌<◌, ◌+◌, ◌^◌, ℕ, true, false, zero, suc, List, [], ◌∷◌, ◌++◌, length, get_or, map, Option, Result, Ok, Err, refl, sym, ◌∙◌, ap, subst, arith, length-append, codes, take, drop}
 use Rattle.std.specs.Prelude.{MatchOption}
 use Rattle.std.specs.Fmt.{decimal}
 use Rattle.std.specs.Int.Digits.{digits_of, number_from_digits}
@@ -15,7 +15,7 @@ use Rattle.std.proofs.lemmas.Result.{OkIff-at_ok}
 use Rattle.std.proofs.lemmas.Str.{IsUtf8-from_ascii}
 use Rattle.std.proofs.lemmas.Int.Digits.{number_digits_of, all_below_base_digits_of, digits_value_is}
 use Rattle.std.proofs.lemmas.List.{take-append-drop, drop_more, get_or_at, append_assoc}
-use Rattle.pb_record.specs.Grammar.{decimals, number, line}
+use Rattle.pb_record.specs.Grammar.{decimals, number}
 use Rattle.pb_record.specs.Parts.{IsNumber}
 use Rattle.pb_record.specs.Reading.{Stands, StandsNone, IsSpelling, HasNoFeed, begins_well}
 
@@ -35,7 +35,7 @@ values_back [] all = refl
 values_back (d ∷ ds) (low, all) = cc (digit_back d low, values_back ds all)
 
 -- the digits of a number say it
-value_of_decimals : (n : ℕ) → digits_value 10 (decimals n) ≡ n
+pub value_of_decimals : (n : ℕ) → digits_value 10 (decimals n) ≡ n
 value_of_decimals zero = refl
 value_of_decimals (suc n) =
     digits_value_is 10 (map (λ d. 48 + d) (digits_of 10 (suc n)))
@@ -51,7 +51,7 @@ zero_feed_free : HasNoFeed (codes "0")
 zero_feed_free zero within = λ e. omega arith
 zero_feed_free (suc k) within = absurd (omega arith)
 
-decimals_feed_free : (n : ℕ) → HasNoFeed (decimals n)
+pub decimals_feed_free : (n : ℕ) → HasNoFeed (decimals n)
 decimals_feed_free zero = zero_feed_free
 decimals_feed_free (suc n) = feed_free (digits_of 10 (suc n)) (all_below_base_digits_of 10 (suc n) (omega arith))
 

@@ -1,9 +1,8 @@
 -- Lemmas on parts of a text in turn, and lists of them.
-use Rattle.std.proofs.Common.{◌≡◌, ◌<◌, ◌≤◌, ◌+◌, ◌^◌, ℕ, zero, suc, List, [], ◌∷◌, ◌++◌, length, refl, sym, ◌∙◌, ap, subst, arith, rules, length-append, Bor, Option, Some, None, Result, Ok, Err}
+use Rattle.std.proofs.Common.{◌≡◌, ◌<◌, ◌≤◌, ◌+◌, ◌^◌, ℕ, List, [], ◌∷◌, ◌++◌, length, refl, sym, ◌∙◌, ap, subst, arith, rules, length-append, Bor, Option, Some, None, Result, Ok, Err}
 use Rattle.std.specs.Prelude.{MatchOption, IfOk}
 use Rattle.std.specs.List.{AllByRecursion, flat_map}
 use Rattle.std.proofs.lemmas.List.{append_assoc}
-use Rattle.std.proofs.lemmas.List.Concat.{flat_map-append}
 use Rattle.pb_record.specs.Grammar.{number, listed, both}
 use Rattle.pb_record.specs.Parts.{IsNumber, AreBoth}
 use Rattle.pb_record.specs.Reading.{Stands, StandsNone, IsSpelling, HasCount}
@@ -104,8 +103,8 @@ length-flat : {A : Type 0} (f : A → List ℕ) → IsSpelling f → (xs : List 
 length-flat f spelling [] = omega arith
 length-flat f spelling (x ∷ xs) = omega (arith, length-flat f spelling xs, spelling.some x, length-append (f x) (flat_map f xs))
 
-pub stands_list : {A : Type 0} {P : A → Type 0} {text mid rest : List ℕ} {n : ℕ} {xs : List A} (f : A → List ℕ)
-    → Stands IsNumber number text n mid → Stands (HasCount P n) (flat_map f) mid xs rest → Stands (AllByRecursion P) (listed f) text xs rest
+pub stands_list : {A : Type 0} {P : A → Type 0} {Q : ℕ → Type 0} {text mid rest : List ℕ} {n : ℕ} {xs : List A} (f : A → List ℕ)
+    → Stands Q number text n mid → Stands (HasCount P n) (flat_map f) mid xs rest → Stands (AllByRecursion P) (listed f) text xs rest
 unfolding listed
 stands_list {mid = mid} {rest = rest} {n = n} {xs = xs} f count items = record {
   is = items.is.0;
@@ -122,8 +121,8 @@ none_count {text = text} P f spelling small none = record {
       none.never (length xs) (flat_map f xs ++ rest) (record { is = is; here = here });
 }
 
-pub none_items : {A : Type 0} {P : A → Type 0} {text mid : List ℕ} {n : ℕ} (f : A → List ℕ)
-    → Stands IsNumber number text n mid → StandsNone (HasCount P n) (flat_map f) mid → StandsNone (AllByRecursion P) (listed f) text
+pub none_items : {A : Type 0} {P : A → Type 0} {Q : ℕ → Type 0} {text mid : List ℕ} {n : ℕ} (f : A → List ℕ)
+    → Stands Q number text n mid → StandsNone (HasCount P n) (flat_map f) mid → StandsNone (AllByRecursion P) (listed f) text
 unfolding listed
 none_items {mid = mid} {n = n} f count none = record {
   never = λ xs rest stands.

@@ -1,11 +1,11 @@
 -- Lemmas on what was asked and on records as wholes.
-use Rattle.std.proofs.Common.{◌≡◌, ◌<◌, ℕ, List, [], ◌∷◌, ◌++◌, length, refl, sym, ◌∙◌, ap, subst, arith, Option, Some, None, Result, Ok, Err, codes, ◌↔◌}
-use Rattle.std.specs.Prelude.{MatchOption, IfOk}
+use Rattle.std.proofs.Common.{◌≡◌, ℕ, List, [], ◌∷◌, ◌++◌, refl, sym, ◌∙◌, ap, subst, Option, Some, None, codes, ◌↔◌}
+use Rattle.std.specs.Prelude.{MatchOption}
 use Rattle.std.specs.Str.{IsUtf8}
 use Rattle.std.specs.List.{AllByRecursion}
 use Rattle.std.proofs.lemmas.List.{append_assoc, append_cancel_left}
 use Rattle.pb_record.specs.Grammar.{line, number, block, listed, both, files, input_bytes, asked_bytes, bytes_by, record_bytes}
-use Rattle.pb_record.specs.Parts.{IsAny, IsNumber, IsPlace, AreFiles, AreBoth, ArePairs, IsInput, IsAsked, AreNeeded, IsRecord, Says}
+use Rattle.pb_record.specs.Parts.{IsAny, IsNumber, IsPlace, AreFiles, AreBoth, ArePairs, IsInput, IsAsked, AreNeeded, Says}
 use Rattle.pb_record.specs.Reading.{Stands, StandsNone, IsSpelling}
 use Rattle.pb_record.specs.Whole.{AskedParts, asked_of, NumberedParts, numbered_of, CopiedParts, copied_of, Files}
 use Rattle.pb_record.specs.declared.asked.Asked.{Asked}
@@ -19,10 +19,10 @@ use Rattle.pb_record.proofs.InputLemmas.{clash, pairs_spelling, files_spelling, 
 
 -- what was asked
 
-abbrev asked_spelled : AskedParts → List ℕ
+abbrev pub asked_spelled : AskedParts → List ℕ
 asked_spelled = both block (both (listed block) (both block (both (listed (both block block)) (both block (both block (both block (listed block)))))))
 
-abbrev AreAsked : AskedParts → Type 0
+abbrev pub AreAsked : AskedParts → Type 0
 AreAsked = AreBoth IsUtf8 (AreBoth (AllByRecursion IsUtf8) (AreBoth IsPlace (AreBoth ArePairs (AreBoth IsPlace (AreBoth IsPlace (AreBoth IsAny (AllByRecursion IsPlace)))))))
 
 abbrev asked_parts : Asked → AskedParts
@@ -59,16 +59,16 @@ not_asked none = none_by IsAsked asked_bytes asked_parts
 
 -- records
 
-abbrev numbered_spelled : NumberedParts → List ℕ
+abbrev pub numbered_spelled : NumberedParts → List ℕ
 numbered_spelled = both number (both block (both asked_bytes (both (listed input_bytes) (both (listed (both block number)) (both block block)))))
 
-abbrev AreNumbered : NumberedParts → Type 0
+abbrev pub AreNumbered : NumberedParts → Type 0
 AreNumbered = AreBoth IsNumber (AreBoth IsUtf8 (AreBoth IsAsked (AreBoth (AllByRecursion IsInput) (AreBoth (AllByRecursion (AreBoth IsUtf8 IsNumber)) (AreBoth IsAny IsAny)))))
 
-abbrev copied_spelled : CopiedParts → List ℕ
+abbrev pub copied_spelled : CopiedParts → List ℕ
 copied_spelled = both block (both asked_bytes (both (listed input_bytes) (both (listed (both block files)) (both block block))))
 
-abbrev AreCopied : CopiedParts → Type 0
+abbrev pub AreCopied : CopiedParts → Type 0
 AreCopied = AreBoth IsUtf8 (AreBoth IsAsked (AreBoth (AllByRecursion IsInput) (AreBoth (AllByRecursion (AreBoth IsUtf8 AreFiles)) (AreBoth IsAny IsAny))))
 
 pub numbered_spelling : IsSpelling numbered_spelled

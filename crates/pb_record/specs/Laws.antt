@@ -1,10 +1,8 @@
 -- Laws of records.
-use Rattle.std.specs.Prelude.{◌≡◌, ◌≢◌, ◌<◌, ◌≤◌, ◌^◌, ◌==◌, ℕ, Bool, false, List, [], ◌∷◌, ◌++◌, length, take, codes, Option, Some}
-use Rattle.std.specs.List.{list_any}
-use Rattle.std.specs.Str.{IsUtf8}
+use Rattle.std.specs.Prelude.{◌≡◌, ◌≢◌, ◌<◌, ◌^◌, ℕ, false, List, ◌∷◌, ◌++◌, length, take, codes, Option}
 use Rattle.pb_place.specs.Paths.{has_byte_0}
-use Rattle.pb_record.specs.Grammar.{◌⨾◌, line, number, block, record_bytes}
-use Rattle.pb_record.specs.Parts.{IsPlace, IsRecord, Says, Reads}
+use Rattle.pb_record.specs.Grammar.{line, number, record_bytes}
+use Rattle.pb_record.specs.Parts.{IsPlace, IsRecord, Says, Reads, IsReading}
 use Rattle.pb_record.specs.declared.record.Record.{Record}
 
 -- Records of the same bytes are one record.
@@ -52,3 +50,7 @@ RecordNumbersFit = (r : Record) (n : ℕ) (more : List ℕ) → Says (line (code
 -- Each text has one reading.
 abbrev pub HasOneReading : Type 0
 HasOneReading = (text : List ℕ) (found other : Option Record) → Reads text found → Reads text other → found ≡ other
+
+-- There is a function that reads each text.
+abbrev pub HasReading : Type 0
+HasReading = (read : List ℕ → Option Record) × IsReading read

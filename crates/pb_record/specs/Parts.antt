@@ -73,3 +73,7 @@ pub record Says (text : List ℕ) (r : Record) : Type 0 where
 -- The reading of a text: the record that it is, and none where it is that of no record.
 abbrev pub Reads : List ℕ → Option Record → Type 0
 Reads text found = (r : Record) → (found ≡ Some r) ↔ Says text r
+
+-- a function that gives each text its reading
+abbrev pub IsReading : (List ℕ → Option Record) → Type 0
+IsReading read = (text : List ℕ) → Reads text (read text)

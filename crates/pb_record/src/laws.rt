@@ -1,6 +1,6 @@
 //! Laws of records. Each function does nothing; its contract is the law.
 
-ghost use Rattle.pb_record.specs.Laws.{TellsApart, SaysWhereItEnds, FirstPartsSayNothing, MoreBytesSayNothing, OnlyRecordsAreSaid, PathsHaveNoByte0, NoZeroLeads, NumbersHaveDigits, NoZeroLeadsRecord, RecordNumbersHaveDigits, RecordNumbersFit, HasOneReading};
+ghost use Rattle.pb_record.specs.Laws.{TellsApart, SaysWhereItEnds, FirstPartsSayNothing, MoreBytesSayNothing, OnlyRecordsAreSaid, PathsHaveNoByte0, NoZeroLeads, NumbersHaveDigits, NoZeroLeadsRecord, RecordNumbersHaveDigits, RecordNumbersFit, HasOneReading, HasReading};
 ghost use Rattle.pb_record.specs.Commands.{AskedIsCommand, CommandIsAsked, SameAsked};
 
 /// The bytes of a record tell it from every other one, of its format and of the other. They say where it ends: so no
@@ -34,6 +34,11 @@ pub fn numbers_have_one_spelling()
 /// A text has one reading: what `read_record` gives is determined by its contract.
 pub fn texts_have_one_reading()
     ensures { HasOneReading }
+{}
+
+/// There is a function that gives each text its reading: so what is said of each such function is said of one.
+pub fn texts_have_a_reading()
+    ensures { HasReading }
 {}
 
 /// What a command asks is that command again, and the command that was asked asks it: nothing of it is lost. A command

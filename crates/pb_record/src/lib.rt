@@ -19,7 +19,7 @@ pub mod write;
 pub use asked::Asked;
 pub use laws::{
     commands_are_asked, numbers_have_one_spelling, only_records_are_read, records_lie_apart,
-    texts_have_one_reading,
+    texts_have_a_reading, texts_have_one_reading,
 };
 pub use pairs::Pairs;
 pub use read::read_record;

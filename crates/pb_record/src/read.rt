@@ -1,8 +1,8 @@
 //! A record read from its text.
 
-ghost use Rattle.std.specs.Prelude.{◌≡◌, ◌++◌, codes, IfOk, MatchOption};
+ghost use Rattle.std.specs.Prelude.{◌≡◌, ◌++◌, codes, ℕ, List, Option, IfOk, MatchOption};
 ghost use Rattle.pb_record.specs.Grammar.{line};
-ghost use Rattle.pb_record.specs.Parts.{Says, Reads};
+ghost use Rattle.pb_record.specs.Parts.{Says, Reads, IsReading};
 ghost use Rattle.pb_record.specs.Whole.{numbered_of, copied_of};
 ghost use Rattle.pb_record.specs.declared.record.Record.{Record};
 
@@ -121,7 +121,8 @@ fn read_by_format(alloc: Global, text: &[u8]) -> Result<Option<Record>, AllocErr
 /// The record that a text is, and none where it is that of no record: a text is read exactly where it is what
 /// `write_record` writes. Our own format, of two kinds; the first line says which. The one fault is want of memory.
 pub fn read_record(alloc: Global, text: &[u8]) -> Result<Option<Record>, AllocError>
-    ensures { IfOk result (λ found. Reads text.now found) }
+    ensures reads { IfOk result (λ found. Reads text.now found) }
+    ensures found { IfOk result (λ found. (read : List ℕ → Option Record) → IsReading read → found ≡ read text.now) }
 {
     let found = read_by_format(alloc, text)?;
     Ok(found)

@@ -1,11 +1,12 @@
 //! A record written as its text.
 
-ghost use Rattle.std.specs.Prelude.{◌≡◌, ◌++◌, codes, IfOk, OnOk};
+ghost use Rattle.std.specs.Prelude.{◌≡◌, ◌++◌, ◌<◌, codes, ℕ, List, length, take, Option, Some, None, IfOk, OnOk};
 ghost use Rattle.std.specs.List.{AllByRecursion};
 ghost use Rattle.std.specs.Str.{IsUtf8};
 ghost use Rattle.pb_record.specs.Grammar.{◌⨾◌, line, block, listed, asked_bytes, input_bytes, bytes_by, record_bytes};
-ghost use Rattle.pb_record.specs.Parts.{Says, IsAsked, IsInput, AreNeeded, IsRecord};
+ghost use Rattle.pb_record.specs.Parts.{Says, IsReading, IsAsked, IsInput, AreNeeded, IsRecord};
 ghost use Rattle.pb_record.specs.declared.record.Needed.TheVariants.{Copies, Numbers};
+ghost use Rattle.pb_record.specs.declared.record.Record.{Record};
 
 use crate::part::Part;
 use crate::record::{Needed, Record};
@@ -87,12 +88,23 @@ fn push_record(out: &mut Vec<u8>, kept: &Record) -> Result<(), AllocError>
     }
 }
 
-/// The text of a record, from which `read_record` reads it again. Our own format; whether the needed units have
-/// numbers or copies of their files says which of the two kinds it is. The one fault is want of memory.
-pub fn write_record(alloc: Global, kept: &Record) -> Result<Bytes, AllocError>
+/// The text of a record.
+fn text_of(alloc: Global, kept: &Record) -> Result<Bytes, AllocError>
     ensures { IfOk result (λ text. Says text kept.now) }
 {
     let mut out = Vec::new(alloc);
     push_record(&mut out, kept)?;
     Ok(Bytes::new(out))
+}
+
+/// The text of a record, from which `read_record` reads it again. Our own format; whether the needed units have
+/// numbers or copies of their files says which of the two kinds it is. A first part of the text, as a write that was
+/// torn leaves it, reads as none. The one fault is want of memory.
+pub fn write_record(alloc: Global, kept: &Record) -> Result<Bytes, AllocError>
+    ensures says { IfOk result (λ text. Says text kept.now) }
+    ensures read { IfOk result (λ text. (read : List ℕ → Option Record) → IsReading read → read text ≡ Some kept.now) }
+    ensures torn { IfOk result (λ text. (read : List ℕ → Option Record) → IsReading read → (n : ℕ) → n < length text → read (take n text) ≡ None) }
+{
+    let text = text_of(alloc, kept)?;
+    Ok(text)
 }

@@ -1,6 +1,6 @@
 use Rattle.std.specs.Str.{IsUtf8}
 use Rattle.pb_record.proofs.BlockLemmas.{block_spelling}
-use Rattle.pb_record.proofs.PartLemmas.{none_but, none_less}
+use Rattle.pb_record.proofs.PartLemmas.{none_but}
 use Rattle.pb_record.proofs.block.text_at.Goals as goal
 
 pub returns-in-Err : goal.returns-in-Err

@@ -1,4 +1,4 @@
-use Rattle.std.proofs.Common.{rules, sym, ◌∙◌}
+use Rattle.std.proofs.Common.{rules}
 use Rattle.pb_record.proofs.NumberLemmas.{decimals_is}
 use Rattle.pb_record.specs.Grammar.{number}
 use Rattle.std.proofs.lemmas.List.{append_assoc}

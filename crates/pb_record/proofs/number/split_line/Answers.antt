@@ -1,4 +1,4 @@
-use Rattle.std.proofs.Common.{rules, arith}
+use Rattle.std.proofs.Common.{arith}
 use Rattle.pb_record.proofs.NumberLemmas.{no_line}
 use Rattle.pb_record.proofs.number.split_line.Goals as goal
 

@@ -1,0 +1,7 @@
+pub mod Elements
+pub mod Becoming
+pub mod Places
+pub mod Four
+pub mod Renewing
+pub mod Flying
+pub mod Ahead

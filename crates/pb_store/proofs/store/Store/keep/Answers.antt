@@ -1,0 +1,31 @@
+use Rattle.std.proofs.Common.{sym, subst}
+use Rattle.pb_place.specs.World.{World}
+use Rattle.pb_soundness.specs.Numbers.{IsAhead}
+use Rattle.pb_soundness.specs.Records.{record_at}
+use Rattle.pb_soundness.specs.Sound.{Sound}
+use Rattle.pb_store.proofs.Earned.{may_keep, kept_before}
+use Rattle.pb_store.proofs.store.Store.keep.Goals as goal
+
+pub returns-in-Ok-put_record-clause-sound : goal.returns-in-Ok-put_record-clause-sound
+returns-in-Ok-put_record-clause-sound g c read judge is told may sound =
+    c.in-Ok-put_record.ensures.sound read judge c.args.number is told
+    (may_keep _ _ _ _ _ _ _ _ _ _ _ _ _ _ (c.in-Ok.ensures.same told) c.as_str.ensures.normal c.requires.key may (c.in-Ok.ensures.ok read is told) c.in-Ok-kept_of.ensures)
+    (subst (λ (w : World). Sound read judge g.P.Place.child c.args.self.now.folder w.files) (sym (c.in-Ok.ensures.same told)) sound)
+
+pub returns-in-Ok-put_record-clause-ahead : goal.returns-in-Ok-put_record-clause-ahead
+returns-in-Ok-put_record-clause-ahead g c read is told before has ahead =
+    c.in-Ok-put_record.ensures.ahead read c.args.self.now.next is told
+    (kept_before _ _ _ _ _ _ _ _ _ c.args.ended.now _ before has (c.in-Ok.ensures.ok read is told) c.in-Ok-kept_of.ensures)
+    (subst (λ (w : World). IsAhead (record_at read c.args.self.now.folder w.files) c.args.self.now.next) (sym (c.in-Ok.ensures.same told)) ahead)
+
+pub returns-clause-sound : goal.returns-clause-sound
+returns-clause-sound g c read judge is told may sound =
+    c.in-Err-put_record.ensures.sound read judge c.args.number is told
+    (may_keep _ _ _ _ _ _ _ _ _ _ _ _ _ _ (c.in-Ok.ensures.same told) c.as_str.ensures.normal c.requires.key may (c.in-Ok.ensures.ok read is told) c.in-Ok-kept_of.ensures)
+    (subst (λ (w : World). Sound read judge g.P.Place.child c.args.self.now.folder w.files) (sym (c.in-Ok.ensures.same told)) sound)
+
+pub returns-clause-ahead : goal.returns-clause-ahead
+returns-clause-ahead g c read is told before has ahead =
+    c.in-Err-put_record.ensures.ahead read c.args.self.now.next is told
+    (kept_before _ _ _ _ _ _ _ _ _ c.args.ended.now _ before has (c.in-Ok.ensures.ok read is told) c.in-Ok-kept_of.ensures)
+    (subst (λ (w : World). IsAhead (record_at read c.args.self.now.folder w.files) c.args.self.now.next) (sym (c.in-Ok.ensures.same told)) ahead)

@@ -1,0 +1,4 @@
+pub mod Causes
+pub mod Keeping
+pub mod Opening
+pub mod Readings

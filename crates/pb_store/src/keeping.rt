@@ -1,0 +1,223 @@
+//! The record of a unit that was built, kept with the run number that was given for it.
+
+ghost use Rattle.std.specs.Prelude.{◌≡◌, ℕ, Option, true, IsTrue, IfOk, OnOk, OnErr, Some, All};
+ghost use Rattle.pb_place.specs.Paths.{is_at_or_below};
+ghost use Rattle.pb_place.specs.World.{ChangesOnly, Torn, written};
+ghost use Rattle.pb_record.specs.Parts.{Says};
+ghost use Rattle.pb_soundness.specs.Inputs.{Judge};
+ghost use Rattle.pb_soundness.specs.Numbers.{IsAhead, IsBefore, NamesBefore};
+ghost use Rattle.pb_soundness.specs.Records.{Reading, is_key, place_of, record_at, number_of};
+ghost use Rattle.pb_soundness.specs.Reuse.{number_if};
+ghost use Rattle.pb_soundness.specs.Sound.{Sound};
+ghost use Rattle.pb_store.specs.Causes.{Takes, MayRead, MayWrite, MayKeep};
+ghost use Rattle.pb_store.specs.Keeping.{IsKept, HasNeeds, MayPut, kept_of, numbered, or_zero};
+ghost use Rattle.pb_store.specs.Readings.{IsReading};
+
+use crate::fault::{StoreFault, stored};
+use crate::store::{Store, place_path, record_at};
+use pb_data::{Items, Text, TryCopy};
+use pb_place::{Ended, PathText, Place};
+use pb_record::{Asked, Input, Needed, Record, write_record};
+use std::alloc::{AllocError, Global};
+
+/// The number of a record.
+pub(crate) fn number_of(kept: &Record) -> Option<u64>
+    ensures { result ≡ number_of kept.now }
+{
+    match &kept.needed {
+        Needed::Copies(_) => None,
+        Needed::Numbers(number, _) => Some(*number),
+    }
+}
+
+/// The number of a record; 0 where there is none.
+fn number_or_zero(found: &Option<Record>) -> u64
+    ensures { result ≡ or_zero (number_if found.now) }
+{
+    match found {
+        None => 0,
+        Some(kept) => match number_of(kept) {
+            None => 0,
+            Some(number) => number,
+        },
+    }
+}
+
+/// The number of the record that stands for a unit; 0 where there is none.
+fn number_at<P: Place>(
+    alloc: Global,
+    place: &mut P,
+    folder: &PathText,
+    key: &Text,
+) -> Result<u64, StoreFault>
+    requires { is_key key.now ≡ true }
+    ensures ok { (read : Reading) → IsReading read → IsTrue P.tells → IfOk result (λ n. n ≡ or_zero (number_if (record_at read folder.now (P.world place.old).files key.now))) }
+    ensures same { IsTrue P.tells → P.world place.new ≡ P.world place.old }
+    ensures takes { Takes MayRead result (P.counts place.old) (P.counts place.new) }
+{
+    match record_at(alloc, place, folder, key) {
+        Ok(found) => Ok(number_or_zero(&found)),
+        Err(fault) => Err(fault),
+    }
+}
+
+/// A needed unit with the number of its record.
+fn numbered_one<P: Place>(
+    alloc: Global,
+    place: &mut P,
+    folder: &PathText,
+    key: &Text,
+) -> Result<(Text, u64), StoreFault>
+    requires { is_key key.now ≡ true }
+    ensures ok { (read : Reading) → IsReading read → IsTrue P.tells → IfOk result (λ pair. pair ≡ (key.now, or_zero (number_if (record_at read folder.now (P.world place.old).files key.now)))) }
+    ensures same { IsTrue P.tells → P.world place.new ≡ P.world place.old }
+    ensures takes { Takes MayRead result (P.counts place.old) (P.counts place.new) }
+{
+    let name = match key.copy(alloc) {
+        Ok(name) => name,
+        Err(_) => return Err(StoreFault::OutOfMemory),
+    };
+    match number_at(alloc, place, folder, key) {
+        Ok(number) => Ok((name, number)),
+        Err(fault) => Err(fault),
+    }
+}
+
+/// The needed units with the numbers of their records.
+pub(crate) fn numbered<P: Place>(
+    alloc: Global,
+    place: &mut P,
+    folder: &PathText,
+    needs: &[Text],
+) -> Result<Items<(Text, u64)>, StoreFault>
+    requires { All (λ key. is_key key ≡ true) needs.now }
+    ensures ok { (read : Reading) → IsReading read → IsTrue P.tells → IfOk result (λ pairs. pairs ≡ numbered (record_at read folder.now (P.world place.old).files) needs.now) }
+    ensures same { IsTrue P.tells → P.world place.new ≡ P.world place.old }
+    ensures takes { Takes MayRead result (P.counts place.old) (P.counts place.new) }
+{
+    let mut pairs = Items::new(alloc);
+    for need in needs {
+        let pair = match numbered_one(alloc, place, folder, need) {
+            Ok(pair) => pair,
+            Err(fault) => return Err(fault),
+        };
+        match pairs.push(pair) {
+            Ok(()) => {}
+            Err(_) => return Err(StoreFault::OutOfMemory),
+        }
+    }
+    Ok(pairs)
+}
+
+/// Writes a file.
+fn write<P: Place>(
+    alloc: Global,
+    place: &mut P,
+    path: &PathText,
+    bytes: &[u8],
+) -> Result<(), StoreFault>
+    ensures ok { IsTrue P.tells → OnOk result (P.world place.new ≡ written path.now bytes.now (P.world place.old)) }
+    ensures err { IsTrue P.tells → OnErr result (Torn path.now bytes.now (P.world place.old) (P.world place.new)) }
+    ensures takes { Takes MayWrite result (P.counts place.old) (P.counts place.new) }
+{
+    match place.write(alloc, path, bytes) {
+        Ok(()) => Ok(()),
+        Err(fault) => Err(stored(fault)),
+    }
+}
+
+/// Writes a record in its unit's place.
+pub(crate) fn put_record<P: Place>(
+    alloc: Global,
+    place: &mut P,
+    folder: &PathText,
+    key: &Text,
+    kept: &Record,
+) -> Result<(), StoreFault>
+    requires { is_key key.now ≡ true }
+    ensures sound { (read : Reading) (judge : Judge) (number : ℕ) → IsReading read → IsTrue P.tells → MayPut read judge P.child folder.now key.now (P.world place.old) kept.now number → Sound read judge P.child folder.now (P.world place.old).files → Sound read judge P.child folder.now (P.world place.new).files }
+    ensures stands { (read : Reading) → IsReading read → IsTrue P.tells → kept.now.key ≡ key.now → OnOk result (record_at read folder.now (P.world place.new).files key.now ≡ Some kept.now) }
+    ensures ahead { (read : Reading) (next : Option ℕ) → IsReading read → IsTrue P.tells → NamesBefore next kept.now → IsAhead (record_at read folder.now (P.world place.old).files) next → IsAhead (record_at read folder.now (P.world place.new).files) next }
+    ensures only { IsTrue P.tells → ChangesOnly (is_at_or_below (place_of folder.now key.now)) (P.world place.old) (P.world place.new) }
+    ensures takes { Takes MayWrite result (P.counts place.old) (P.counts place.new) }
+{
+    let _ = folder.as_str();
+    let path = match place_path(alloc, folder, key) {
+        Ok(path) => path,
+        Err(_) => return Err(StoreFault::OutOfMemory),
+    };
+    let text = match write_record(alloc, kept) {
+        Ok(text) => text,
+        Err(_) => return Err(StoreFault::OutOfMemory),
+    };
+    match write(alloc, place, &path, text.as_slice()) {
+        Ok(()) => Ok(()),
+        Err(fault) => Err(fault),
+    }
+}
+
+/// The record of a unit, of copies of its key and its child's streams.
+fn kept_of(
+    alloc: Global,
+    key: &Text,
+    asked: Asked,
+    inputs: Items<Input>,
+    number: u64,
+    numbers: Items<(Text, u64)>,
+    ended: &Ended,
+) -> Result<Record, AllocError>
+    ensures { IfOk result (λ kept. kept ≡ kept_of key.now asked inputs number numbers ended.now) }
+{
+    let key = key.copy(alloc)?;
+    let stdout = ended.stdout.copy(alloc)?;
+    let stderr = ended.stderr.copy(alloc)?;
+    Ok(Record {
+        key,
+        asked,
+        inputs,
+        needed: Needed::Numbers(number, numbers),
+        stdout,
+        stderr,
+    })
+}
+
+impl Store {
+    /// Keeps the record of a unit whose answer is good, with the number that `drop_record` gave. `needs` are the keys
+    /// of the units that it needs, in plan order; `inputs` have their present values. After a fault no record stands,
+    /// the one that stood, or the new one.
+    ///
+    /// Faults: Place, where the record of a needed unit cannot be read or the record cannot be written; OutOfMemory.
+    pub fn keep<P: Place>(
+        &self,
+        alloc: Global,
+        place: &mut P,
+        key: &Text,
+        number: u64,
+        asked: Asked,
+        needs: &[Text],
+        inputs: Items<Input>,
+        ended: &Ended,
+    ) -> Result<(), StoreFault>
+        requires key { is_key key.now ≡ true }
+        requires keys { All (λ need. is_key need ≡ true) needs.now }
+        ensures sound { (read : Reading) (judge : Judge) → IsReading read → IsTrue P.tells → IsKept read judge P.child self.now.folder key.now asked needs.now inputs ended.now number (P.world place.old) → Sound read judge P.child self.now.folder (P.world place.old).files → Sound read judge P.child self.now.folder (P.world place.new).files }
+        ensures stands { (read : Reading) → IsReading read → IsTrue P.tells → OnOk result (record_at read self.now.folder (P.world place.new).files key.now ≡ Some (kept_of key.now asked inputs number (numbered (record_at read self.now.folder (P.world place.old).files) needs.now) ended.now)) }
+        ensures ahead { (read : Reading) → IsReading read → IsTrue P.tells → IsBefore self.now.next number → HasNeeds (record_at read self.now.folder (P.world place.old).files) self.now.folder asked.reads needs.now number → IsAhead (record_at read self.now.folder (P.world place.old).files) self.now.next → IsAhead (record_at read self.now.folder (P.world place.new).files) self.now.next }
+        ensures only { IsTrue P.tells → ChangesOnly (is_at_or_below (place_of self.now.folder key.now)) (P.world place.old) (P.world place.new) }
+        ensures takes { Takes MayKeep result (P.counts place.old) (P.counts place.new) }
+    {
+        let _ = self.folder.as_str();
+        let numbers = match numbered(alloc, place, &self.folder, needs) {
+            Ok(numbers) => numbers,
+            Err(fault) => return Err(fault),
+        };
+        let kept = match kept_of(alloc, key, asked, inputs, number, numbers, ended) {
+            Ok(kept) => kept,
+            Err(_) => return Err(StoreFault::OutOfMemory),
+        };
+        match put_record(alloc, place, &self.folder, key, &kept) {
+            Ok(()) => Ok(()),
+            Err(fault) => Err(fault),
+        }
+    }
+}

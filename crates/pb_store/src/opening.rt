@@ -1,0 +1,203 @@
+//! A store is opened: what the records of a folder name says which run number is the next.
+
+ghost use Rattle.std.specs.Prelude.{◌≡◌, ◌==◌, max, IsTrue, IfOk};
+ghost use Rattle.std.specs.List.{fold, list_any};
+ghost use Rattle.std.specs.FinMap as map;
+ghost use Rattle.pb_place.specs.World.{listed};
+ghost use Rattle.pb_soundness.specs.Numbers.{IsAhead};
+ghost use Rattle.pb_soundness.specs.Records.{Reading, ends_as_record, read_text, record_at};
+ghost use Rattle.pb_store.specs.Causes.{Takes, MayRead, MayOpen};
+ghost use Rattle.pb_store.specs.Opening.{greatest_named, greatest_if, is_record_name, name_in, greatest_at, greatest_of, next_in};
+ghost use Rattle.pb_store.specs.Readings.{IsReading};
+
+use crate::dropping::number_after;
+use crate::fault::{StoreFault, stored};
+use crate::store::{Store, read_text, text_of};
+use pb_data::{Items, Text};
+use pb_place::{PathText, Place};
+use pb_record::{Needed, Record};
+use std::alloc::Global;
+
+/// The greater of two numbers.
+fn greater(number: u64, other: u64) -> u64
+    ensures { result ≡ max number other }
+{
+    number.max(other)
+}
+
+/// The greatest of the numbers with which units are named; 0 where none is.
+#[tactic(auto, using(crate::proofs::Ahead::most_step))]
+fn greatest_among(needs: &[(Text, u64)]) -> u64
+    ensures { result ≡ fold (λ g pair. max g pair.1) 0 needs.now }
+{
+    let mut greatest = 0;
+    for need in needs {
+        greatest = greatest.max(need.1);
+    }
+    greatest
+}
+
+/// The greatest number that a record has or names; 0 where it has none.
+fn greatest_named(kept: &Record) -> u64
+    ensures { result ≡ greatest_named kept.now.needed }
+{
+    match &kept.needed {
+        Needed::Copies(_) => 0,
+        Needed::Numbers(number, needs) => {
+            let named = greatest_among(needs.as_slice());
+            greater(*number, named)
+        }
+    }
+}
+
+/// The greatest number that a record has or names; 0 where there is none.
+fn greatest_if(found: &Option<Record>) -> u64
+    ensures { result ≡ greatest_if found.now }
+{
+    match found {
+        None => 0,
+        Some(kept) => greatest_named(kept),
+    }
+}
+
+/// Whether a name ends in `.record`.
+fn ends_as_record(name: &[u8]) -> bool
+    ensures { result ≡ ends_as_record name.now }
+{
+    let last = &name[name.len().saturating_sub(7)..];
+    last == b".record".as_slice()
+}
+
+/// Whether a name has a slash.
+fn has_slash(name: &[u8]) -> bool
+    ensures { result ≡ list_any (λ b. b == 47) name.now }
+{
+    name.iter().any(|byte| *byte == b'/')
+}
+
+/// Whether a path inside the folder is the name of a record.
+fn is_record_name(name: &[u8]) -> bool
+    ensures { result ≡ is_record_name name.now }
+{
+    !has_slash(name) && ends_as_record(name)
+}
+
+/// The path of a file inside the folder.
+fn name_in<'a>(folder: &PathText, path: &'a PathText) -> &'a [u8]
+    ensures { result.now ≡ name_in folder.now path.now }
+{
+    let stem = if folder.as_str() == "/" {
+        0
+    } else {
+        folder.as_str().len()
+    };
+    match path.as_str().as_bytes().get(stem + 1..) {
+        Some(name) => name,
+        None => &[],
+    }
+}
+
+/// The greatest number that the record at a path has or names.
+fn read_greatest<P: Place>(alloc: Global, place: &mut P, path: &PathText) -> Result<u64, StoreFault>
+    ensures ok { (read : Reading) → IsReading read → IsTrue P.tells → IfOk result (λ n. n ≡ greatest_if (read_text read (map.get (P.world place.old).files path.now))) }
+    ensures same { IsTrue P.tells → P.world place.new ≡ P.world place.old }
+    ensures takes { Takes MayRead result (P.counts place.old) (P.counts place.new) }
+{
+    let text = match text_of(alloc, place, path) {
+        Ok(text) => text,
+        Err(fault) => return Err(fault),
+    };
+    match read_text(alloc, &text) {
+        Ok(found) => Ok(greatest_if(&found)),
+        Err(_) => Err(StoreFault::OutOfMemory),
+    }
+}
+
+/// The greatest number that a path of the folder gives: of a record directly in it, the greatest that it has or names.
+fn greatest_at<P: Place>(
+    alloc: Global,
+    place: &mut P,
+    folder: &PathText,
+    path: &PathText,
+) -> Result<u64, StoreFault>
+    ensures ok { (read : Reading) → IsReading read → IsTrue P.tells → IfOk result (λ n. n ≡ greatest_at read folder.now (P.world place.old).files path.now) }
+    ensures same { IsTrue P.tells → P.world place.new ≡ P.world place.old }
+    ensures takes { Takes MayRead result (P.counts place.old) (P.counts place.new) }
+{
+    if !is_record_name(name_in(folder, path)) {
+        return Ok(0);
+    }
+    match read_greatest(alloc, place, path) {
+        Ok(greatest) => Ok(greatest),
+        Err(fault) => Err(fault),
+    }
+}
+
+/// The greatest number that the records among these paths have or name.
+fn greatest_of<P: Place>(
+    alloc: Global,
+    place: &mut P,
+    folder: &PathText,
+    paths: &[PathText],
+) -> Result<u64, StoreFault>
+    ensures ok { (read : Reading) → IsReading read → IsTrue P.tells → IfOk result (λ n. n ≡ greatest_of read folder.now (P.world place.old).files paths.now) }
+    ensures same { IsTrue P.tells → P.world place.new ≡ P.world place.old }
+    ensures takes { Takes MayRead result (P.counts place.old) (P.counts place.new) }
+{
+    let mut greatest = 0;
+    for path in paths {
+        let number = match greatest_at(alloc, place, folder, path) {
+            Ok(number) => number,
+            Err(fault) => return Err(fault),
+        };
+        greatest = greater(greatest, number);
+    }
+    Ok(greatest)
+}
+
+/// The files of a folder.
+fn files_of<P: Place>(
+    alloc: Global,
+    place: &mut P,
+    folder: &PathText,
+) -> Result<Items<PathText>, StoreFault>
+    ensures ok { IsTrue P.tells → IfOk result (λ paths. paths ≡ listed folder.now (P.world place.old)) }
+    ensures same { IsTrue P.tells → P.world place.new ≡ P.world place.old }
+    ensures takes { Takes MayOpen result (P.counts place.old) (P.counts place.new) }
+{
+    match place.list(alloc, folder) {
+        Ok(paths) => Ok(paths),
+        Err(fault) => Err(stored(fault)),
+    }
+}
+
+impl Store {
+    /// Opens the store of a profile folder. Each record directly in the folder is read once; a text that is that of no
+    /// record is none. The next run number is one above the greatest that one of them has or names, also of a record
+    /// in the place of another key, and 1 where there is none.
+    ///
+    /// Faults: Place, where the folder cannot be listed or a record cannot be read; OutOfMemory.
+    pub fn open<P: Place>(
+        alloc: Global,
+        place: &mut P,
+        folder: PathText,
+    ) -> Result<Store, StoreFault>
+        ensures folder { IfOk result (λ store. store.folder ≡ folder) }
+        ensures next { (read : Reading) → IsReading read → IsTrue P.tells → IfOk result (λ store. store.next ≡ next_in read folder (P.world place.old)) }
+        ensures ahead { (read : Reading) → IsReading read → IsTrue P.tells → IfOk result (λ store. IsAhead (record_at read folder (P.world place.old).files) store.next) }
+        ensures same { IsTrue P.tells → P.world place.new ≡ P.world place.old }
+        ensures takes { Takes MayOpen result (P.counts place.old) (P.counts place.new) }
+    {
+        let paths = match files_of(alloc, place, &folder) {
+            Ok(paths) => paths,
+            Err(fault) => return Err(fault),
+        };
+        match greatest_of(alloc, place, &folder, paths.as_slice()) {
+            Ok(greatest) => Ok(Store {
+                folder,
+                next: number_after(greatest),
+            }),
+            Err(fault) => Err(fault),
+        }
+    }
+}
