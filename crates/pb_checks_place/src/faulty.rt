@@ -1,14 +1,17 @@
 //! A place whose every call fails: so the clauses can be met by calls that fail, and each sets the last fault.
 
 use pb_data::{Bytes, Items, Text};
+use pb_place::in_flight::{Flying, take_out};
 use pb_place::{Command, Ended, PathText, Place, PlaceFault, StartFault, Tally};
 use std::alloc::Global;
 use std::test::Fail;
 
-/// A place without files, whose every call fails. No child ever flies there.
+/// A place without files, whose every call fails. No child that it spawns ever flies; one that flew before, as a
+/// place may be lent at any moment, dies.
 #[derive(Drop)]
 struct Faulty {
     tally: Tally,
+    flying: Vec<Flying<()>>,
 }
 
 impl Faulty {
@@ -16,6 +19,7 @@ impl Faulty {
     fn new(alloc: Global) -> Faulty {
         Faulty {
             tally: Tally::new(alloc),
+            flying: Vec::new(alloc),
         }
     }
 }
@@ -24,6 +28,7 @@ impl Faulty {
 impl Place for Faulty {
     ghost use Rattle.std.specs.Prelude.{true, pos, []};
     ghost use Rattle.std.specs.FinMap as map;
+    ghost use Rattle.pb_place.specs.InFlight.{flights_in};
     ghost use Rattle.pb_place.specs.Tallies.{with_flights};
 
     ghost tells = { true };
@@ -32,7 +37,7 @@ impl Place for Faulty {
 
     ghost child = { λ _ _. record { status = pos 0; stdout = []; stderr = []; files = [] } };
 
-    ghost counts = { λ place. with_flights [] place.tally };
+    ghost counts = { λ place. with_flights (flights_in place.flying.items) place.tally };
 
     ghost most = { λ _. 0 };
 
@@ -73,7 +78,8 @@ impl Place for Faulty {
         self.tally.count_start(Err(StartFault::CannotStart))
     }
 
-    fn finish(&mut self, _: Global, _: u64) -> Result<Ended, StartFault> {
+    fn finish(&mut self, _: Global, ticket: u64) -> Result<Ended, StartFault> {
+        take_out(&mut self.flying, ticket);
         self.tally.count_finish(Err(StartFault::Died))
     }
 
