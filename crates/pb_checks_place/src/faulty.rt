@@ -28,8 +28,8 @@ impl Faulty {
 impl Place for Faulty {
     ghost use Rattle.std.specs.Prelude.{true, pos, []};
     ghost use Rattle.std.specs.FinMap as map;
-    ghost use Rattle.pb_place.specs.InFlight.{flights_in};
-    ghost use Rattle.pb_place.specs.Tallies.{with_flights};
+    ghost use Rattle.pb_place.specs.InFlight.{children_in};
+    ghost use Rattle.pb_place.specs.Tallies.{with_children};
 
     ghost tells = { true };
 
@@ -37,7 +37,7 @@ impl Place for Faulty {
 
     ghost child = { λ _ _. record { status = pos 0; stdout = []; stderr = []; files = [] } };
 
-    ghost counts = { λ place. with_flights (flights_in place.flying.items) place.tally };
+    ghost counts = { λ place. with_children (children_in place.flying.items) place.tally };
 
     ghost most = { λ _. 0 };
 

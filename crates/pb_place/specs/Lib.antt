@@ -4,7 +4,7 @@ pub mod Codes
 pub mod Copies
 pub mod Counts
 pub mod Failing
-pub mod Flights
+pub mod Children
 pub mod Folders
 pub mod InFlight
 pub mod Maps

@@ -6,18 +6,18 @@ ghost use Rattle.std.specs.FinMap as map;
 ghost use Rattle.pb_place.specs.Paths.{is_below, is_at_or_below};
 ghost use Rattle.pb_place.specs.World.{World, is_shown, seen_by, written, removed, put_files, AgreeBut};
 ghost use Rattle.pb_place.specs.Counts.{counted, counted_spawn, counted_finish, past_place_fault, without};
-ghost use Rattle.pb_place.specs.Flights.{flight_of, is_flying, flight_at, most_after, LandsAs, inside_out, put_back};
+ghost use Rattle.pb_place.specs.Children.{child_spawned, is_flying, child_at, most_after, LandsAs, inside_out, put_back};
 ghost use Rattle.pb_place.specs.Copies.{put_half, first_half, put_from};
-ghost use Rattle.pb_place.specs.InFlight.{flights_in, other_entries};
+ghost use Rattle.pb_place.specs.InFlight.{children_in, other_entries};
 ghost use Rattle.pb_place.specs.Tallies.{flown};
 ghost use Rattle.pb_place.specs.Folders.{files_in};
 ghost use Rattle.pb_place.specs.Memory.{set, unset, no_held, counts_in, is_doomed, may_fail, fate_at, fate_of, other_deaths};
 ghost use Rattle.pb_place.specs.World.{AgreeBut, ChangesOnlyInSome, Torn, PartlyRemoved, listed};
 
 use crate::child::{Child, Reply, View, ViewFault};
+use crate::child_in_flight::ChildInFlight;
 use crate::command::{Command, Ended};
 use crate::files::{FileMap, TextMap};
-use crate::flight::Flight;
 use crate::in_flight::{Death, Flying, drop_death, fate, flies, free_ticket, take_out};
 use crate::path::PathText;
 use crate::place::{Place, PlaceFault, StartFault};
@@ -183,7 +183,7 @@ impl<C> Memory<C> {
 
     /// Whether a child of this ticket is in flight. It is no call of the place and takes no memory.
     pub fn flies(&self, ticket: u64) -> bool
-        ensures { result ≡ is_flying ticket (flights_in self.now.flying) }
+        ensures { result ≡ is_flying ticket (children_in self.now.flying) }
     {
         flies(self.flying.as_slice(), ticket)
     }
@@ -254,14 +254,14 @@ impl<C> Memory<C> {
 
 /// Adds a child in flight, and gives the most that ever were.
 #[tactic(auto, using(crate::proofs::InFlight::fly_laws))]
-fn add_flight(
+fn add_child(
     flying: &mut Vec<Flying<Option<StartFault>>>,
     most: u64,
     one: Flying<Option<StartFault>>,
 ) -> Result<u64, AllocError>
     ensures items { OnOk result (flying.new.items ≡ flying.old.items ++ one ∷ []) }
-    ensures flights { OnOk result (flights_in flying.new.items ≡ flights_in flying.old.items ++ one.flight ∷ []) }
-    ensures most { IfOk result (λ m. m ≡ max most (length (flights_in flying.old.items) + 1)) }
+    ensures children { OnOk result (children_in flying.new.items ≡ children_in flying.old.items ++ one.child ∷ []) }
+    ensures most { IfOk result (λ m. m ≡ max most (length (children_in flying.old.items) + 1)) }
     ensures err { OnErr result (flying.new.items ≡ flying.old.items) }
 {
     flying.push(one)?;
@@ -270,15 +270,15 @@ fn add_flight(
 
 /// Takes a child out of those in flight.
 #[tactic(auto, using(crate::proofs::InFlight::end_laws))]
-fn take_flight(
+fn take_child(
     flying: &mut Vec<Flying<Option<StartFault>>>,
     ticket: u64,
 ) -> Option<Flying<Option<StartFault>>>
     ensures entry { IfSome result (λ _. flying.new.items ≡ other_entries ticket flying.old.items) }
-    ensures some { IfSome result (λ f. (flight_at ticket (flights_in flying.old.items) ≡ Some f.flight) × (flights_in flying.new.items ≡ without ticket (flights_in flying.old.items))) }
+    ensures some { IfSome result (λ f. (child_at ticket (children_in flying.old.items) ≡ Some f.child) × (children_in flying.new.items ≡ without ticket (children_in flying.old.items))) }
     ensures fate { IfSome result (λ f. fate_at ticket flying.old.items ≡ f.kept) }
     ensures doomed { IfSome result (λ f. is_doomed f ≡ true → list_any is_doomed flying.old.items ≡ true) }
-    ensures none { IfNone result (is_flying ticket (flights_in flying.old.items) ≡ false) }
+    ensures none { IfNone result (is_flying ticket (children_in flying.old.items) ≡ false) }
 {
     take_out(flying, ticket)
 }
@@ -327,18 +327,18 @@ fn inside_out(alloc: Global, files: &FileMap, out: &Option<PathText>) -> Result<
 }
 
 /// The child of a command as it will end.
-fn flight(
+fn child_in_flight(
     alloc: Global,
     files: &FileMap,
     command: &Command,
     ticket: u64,
     reply: Reply,
-) -> Result<Flight, AllocError>
+) -> Result<ChildInFlight, AllocError>
     ensures { IfOk result (λ f. f ≡ record { ticket = ticket; command = command.now; ended = record { status = reply.status; stdout = reply.stdout; stderr = reply.stderr }; files = reply.files; before = inside_out command.now.out files.now }) }
 {
     let before = inside_out(alloc, files, &command.out)?;
     let command = command.copy(alloc)?;
-    Ok(Flight {
+    Ok(ChildInFlight {
         ticket,
         command,
         ended: Ended {
@@ -450,11 +450,11 @@ impl<C: Child> Memory<C> {
         command: &Command,
         fate: Option<StartFault>,
     ) -> Result<u64, StartFault>
-        ensures fresh { IfOk result (λ ticket. is_flying ticket (flights_in self.old.flying) ≡ false) }
+        ensures fresh { IfOk result (λ ticket. is_flying ticket (children_in self.old.flying) ≡ false) }
         ensures memory { IfErr result (λ e. e ≡ StartFault.OutOfMemory) }
-        ensures flying { IfOk result (λ ticket. self.new.flying ≡ self.old.flying ++ record { flight = flight_of (C.answers command.now) command.now self.old.world ticket; kept = fate } ∷ []) }
-        ensures flights { flights_in self.new.flying ≡ flown (flight_of (C.answers command.now) command.now self.old.world) result (flights_in self.old.flying) }
-        ensures most { self.new.most ≡ most_after result (length (flights_in self.old.flying) + 1) self.old.most }
+        ensures flying { IfOk result (λ ticket. self.new.flying ≡ self.old.flying ++ record { child = child_spawned (C.answers command.now) command.now self.old.world ticket; kept = fate } ∷ []) }
+        ensures children { children_in self.new.flying ≡ flown (child_spawned (C.answers command.now) command.now self.old.world) result (children_in self.old.flying) }
+        ensures most { self.new.most ≡ most_after result (length (children_in self.old.flying) + 1) self.old.most }
         ensures kept { OnErr result (self.new.flying ≡ self.old.flying) }
         ensures half { OnOk result (self.new.world ≡ put_half command.now.out (C.answers command.now (seen_by command.now self.old.world)).files self.old.world) }
         ensures only { ChangesOnlyInSome command.now.out self.old.world self.new.world }
@@ -464,23 +464,23 @@ impl<C: Child> Memory<C> {
             return Err(StartFault::OutOfMemory);
         };
         let reply = self.reply(alloc, command)?;
-        let flight = flight(alloc, &self.files, command, ticket, reply)?;
-        self.leave(alloc, &command.out, flight.files.as_slice())?;
-        self.most = add_flight(&mut self.flying, self.most, Flying { flight, kept: fate })?;
+        let child = child_in_flight(alloc, &self.files, command, ticket, reply)?;
+        self.leave(alloc, &command.out, child.files.as_slice())?;
+        self.most = add_child(&mut self.flying, self.most, Flying { child, kept: fate })?;
         Ok(ticket)
     }
 
     /// Spawns a child, as the fuse and the deaths will have it.
     fn begin(&mut self, alloc: Global, command: &Command) -> Result<u64, StartFault>
-        ensures fresh { IfOk result (λ ticket. is_flying ticket (flights_in self.old.flying) ≡ false) }
+        ensures fresh { IfOk result (λ ticket. is_flying ticket (children_in self.old.flying) ≡ false) }
         ensures fault { IfErr result (λ e. e ≢ StartFault.OutOfMemory → e ≡ StartFault.CannotStart) }
         ensures fails { IfErr result (λ e. e ≢ StartFault.OutOfMemory → may_fail self.old ≡ true) }
         ensures later { may_fail self.new ≡ true → may_fail self.old ≡ true }
         ensures burnt { self.old.fuse ≡ 1 → result ≡ Err StartFault.CannotStart }
         ensures stillborn { self.old.fuse ≢ 1 → fate_of command.now.out self.old.deaths ≡ Some StartFault.CannotStart → result ≡ Err StartFault.CannotStart }
-        ensures flights { flights_in self.new.flying ≡ flown (flight_of (C.answers command.now) command.now self.old.world) result (flights_in self.old.flying) }
-        ensures most { self.new.most ≡ most_after result (length (flights_in self.old.flying) + 1) self.old.most }
-        ensures flying { IfOk result (λ ticket. self.new.flying ≡ self.old.flying ++ record { flight = flight_of (C.answers command.now) command.now self.old.world ticket; kept = fate_of command.now.out self.old.deaths } ∷ []) }
+        ensures children { children_in self.new.flying ≡ flown (child_spawned (C.answers command.now) command.now self.old.world) result (children_in self.old.flying) }
+        ensures most { self.new.most ≡ most_after result (length (children_in self.old.flying) + 1) self.old.most }
+        ensures flying { IfOk result (λ ticket. self.new.flying ≡ self.old.flying ++ record { child = child_spawned (C.answers command.now) command.now self.old.world ticket; kept = fate_of command.now.out self.old.deaths } ∷ []) }
         ensures deaths { OnOk result (self.new.deaths ≡ other_deaths command.now.out self.old.deaths) }
         ensures half { OnOk result (self.new.world ≡ put_half command.now.out (C.answers command.now (seen_by command.now self.old.world)).files self.old.world) }
         ensures nothing { IfErr result (λ e. e ≡ StartFault.CannotStart → self.new.world ≡ self.old.world) }
@@ -503,10 +503,10 @@ impl<C: Child> Memory<C> {
 
     /// Ends a child, as the fuse and its fate will have it.
     fn end(&mut self, alloc: Global, ticket: u64) -> Result<Ended, StartFault>
-        requires flies { is_flying ticket (flights_in self.old.flying) ≡ true }
-        ensures ok { IfOk result (λ ended. IfSome (flight_at ticket (flights_in self.old.flying)) (λ f. LandsAs f self.old.world ended self.new.world)) }
-        ensures only { IfSome (flight_at ticket (flights_in self.old.flying)) (λ f. ChangesOnlyInSome f.command.out self.old.world self.new.world) }
-        ensures flights { flights_in self.new.flying ≡ without ticket (flights_in self.old.flying) }
+        requires flies { is_flying ticket (children_in self.old.flying) ≡ true }
+        ensures ok { IfOk result (λ ended. IfSome (child_at ticket (children_in self.old.flying)) (λ f. LandsAs f self.old.world ended self.new.world)) }
+        ensures only { IfSome (child_at ticket (children_in self.old.flying)) (λ f. ChangesOnlyInSome f.command.out self.old.world self.new.world) }
+        ensures children { children_in self.new.flying ≡ without ticket (children_in self.old.flying) }
         ensures flying { self.new.flying ≡ other_entries ticket self.old.flying }
         ensures most { self.new.most ≡ self.old.most }
         ensures fuse { self.new.fuse ≡ self.old.fuse - 1 }
@@ -519,23 +519,23 @@ impl<C: Child> Memory<C> {
         ensures deaths { self.new.deaths ≡ self.old.deaths }
         ensures tally { self.new.tally ≡ self.old.tally }
     {
-        let Some(flying) = take_flight(&mut self.flying, ticket) else {
+        let Some(flying) = take_child(&mut self.flying, ticket) else {
             unreachable!();
         };
         if self.burns() {
             return Err(StartFault::Died);
         }
-        let Flying { flight, kept } = flying;
+        let Flying { child, kept } = flying;
         if let Some(fault) = kept {
             return Err(ending(fault));
         }
-        let Flight {
+        let ChildInFlight {
             ticket: _,
             command,
             ended,
             files,
             before,
-        } = flight;
+        } = child;
         if let Some(out) = &command.out {
             land(alloc, &mut self.files, out, &before, files.as_slice())?;
         }
