@@ -6,6 +6,7 @@ pub mod Counts
 pub mod Failing
 pub mod Children
 pub mod Folders
+pub mod Fuses
 pub mod InFlight
 pub mod Maps
 pub mod Memory

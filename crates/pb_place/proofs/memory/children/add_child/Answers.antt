@@ -2,7 +2,7 @@ use Rattle.std.proofs.Common.{◌≡◌, ◌∙◌, ◌+◌, ◌++◌, ◌∷◌
 use Rattle.std.proofs.lemmas.Grind.{common_steps}
 use Rattle.pb_place.specs.InFlight.{children_in}
 use Rattle.pb_place.proofs.InFlight.{children_push, children_len, one_more}
-use Rattle.pb_place.proofs.memory.add_child.Goals as goal
+use Rattle.pb_place.proofs.memory.children.add_child.Goals as goal
 
 pub returns-clause-most : goal.returns-clause-most
 returns-clause-most c =
