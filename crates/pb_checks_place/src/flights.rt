@@ -1,8 +1,7 @@
 //! Children in flight at a place in memory, and calls of it that fail as it is told.
 
 use super::echo::{Echo, say};
-use pb_data::Text;
-use pb_place::{Command, Ended, Memory, PathText, Place, PlaceFault, Seen, StartFault};
+use pb_place::{Command, Memory, PathText, Place, PlaceFault, Seen, StartFault};
 use std::alloc::Global;
 use std::test::Fail;
 
@@ -18,25 +17,21 @@ fn say_into(alloc: Global, name: &str) -> Result<Command, Fail> {
 }
 
 /// Spawns a child that writes into a folder of this name.
-fn spawn(
-    alloc: Global,
-    memory: &mut Memory<Echo>,
-    name: &str,
-) -> Result<Result<u64, StartFault>, Fail> {
+fn spawn(alloc: Global, memory: &mut Memory<Echo>, name: &str) -> Result<(), Fail> {
     let command = say_into(alloc, name)?;
-    Ok(memory.spawn(alloc, &command))
+    memory.spawn(alloc, &command)?;
+    Ok(())
 }
 
-/// How a child in flight ends.
-fn finish(
-    alloc: Global,
-    memory: &mut Memory<Echo>,
-    ticket: u64,
-) -> Result<Result<Ended, StartFault>, Fail> {
+/// Whether a child in flight ends with its status.
+fn ends(alloc: Global, memory: &mut Memory<Echo>, ticket: u64) -> bool {
     if !memory.flies(ticket) {
-        return Err(Fail::new(format_args!("{ticket} does not fly")));
+        return false;
     }
-    Ok(memory.finish(alloc, ticket))
+    match memory.finish(alloc, ticket) {
+        Ok(ended) => ended.status == 7,
+        Err(_) => false,
+    }
 }
 
 /// How many files stand below a folder of this name.
@@ -51,28 +46,38 @@ fn files_in(alloc: Global, memory: &mut Memory<Echo>, name: &str) -> Result<usiz
 /// before.
 fn lands(alloc: Global, memory: &mut Memory<Echo>, ticket: u64, name: &str) -> Result<bool, Fail> {
     let half = files_in(alloc, memory, name)?;
-    let ended = finish(alloc, memory, ticket)?;
+    let ends = ends(alloc, memory, ticket);
     let whole = files_in(alloc, memory, name)?;
-    let answers = match ended {
-        Ok(ended) => ended.status == 7,
-        Err(_) => false,
-    };
-    Ok(answers && half == 1 && whole == 2 && !memory.flies(ticket))
+    Ok(ends && half == 1 && whole == 2 && !memory.flies(ticket))
+}
+
+/// The folders of three children.
+const NAMES: [&str; 3] = ["a", "b", "c"];
+
+/// Spawns three children.
+fn spawn_three(alloc: Global, memory: &mut Memory<Echo>) -> Result<(), Fail> {
+    for name in NAMES {
+        spawn(alloc, memory, name)?;
+    }
+    Ok(())
 }
 
 /// Whether three children land in this order.
+fn land_three(alloc: Global, memory: &mut Memory<Echo>, order: [u64; 3]) -> Result<bool, Fail> {
+    for ticket in order {
+        let name = NAMES[ticket as usize % 3];
+        if !lands(alloc, memory, ticket, name)? {
+            return Ok(false);
+        }
+    }
+    Ok(memory.most() == 3 && memory.starts() == 3)
+}
+
+/// The same at a place of their own.
 fn land_in_order(alloc: Global, order: [u64; 3]) -> Result<bool, Fail> {
     let mut memory = Memory::new(alloc, Echo);
-    let names = ["a", "b", "c"];
-    for name in names {
-        spawn(alloc, &mut memory, name)??;
-    }
-    let mut land = true;
-    for ticket in order {
-        let name = names[ticket as usize % 3];
-        land = lands(alloc, &mut memory, ticket, name)? && land;
-    }
-    Ok(land && memory.most() == 3 && memory.starts() == 3)
+    spawn_three(alloc, &mut memory)?;
+    land_three(alloc, &mut memory, order)
 }
 
 /// The orders of three.
@@ -93,20 +98,37 @@ fn tickets_in_every_order(rt: HostRuntime) -> Result<(), Fail> {
     Ok(())
 }
 
-/// How a start into the folder `a.lib` ends, and how many files stand there then, where a death waits for it.
-fn died(alloc: Global, kind: StartFault) -> Result<(Option<StartFault>, usize, bool), Fail> {
-    let mut memory = Memory::new(alloc, Echo);
-    if kind == StartFault::OutOfMemory {
-        return Err(Fail::new(format_args!("no such death")));
-    }
-    memory.die(alloc, "a.lib", kind)?;
-    let other = say_into(alloc, "b.lib")?;
-    let spared = memory.start(alloc, &other).is_ok();
-    let command = say_into(alloc, "a.lib")?;
-    let fault = memory.start(alloc, &command).err();
-    let left = files_in(alloc, &mut memory, "a.lib")?;
-    let again = memory.start(alloc, &command).is_ok();
+/// The fault of a start into a folder of this name, if it fails.
+fn start_into(
+    alloc: Global,
+    memory: &mut Memory<Echo>,
+    name: &str,
+) -> Result<Option<StartFault>, Fail> {
+    let command = say_into(alloc, name)?;
+    Ok(memory.start(alloc, &command).err())
+}
+
+/// The fault of a start into the folder `a.lib`, how many files it leaves there, and whether a start into another
+/// folder before it and one into the same after it do not fail.
+fn starts_in_turn(
+    alloc: Global,
+    memory: &mut Memory<Echo>,
+) -> Result<(Option<StartFault>, usize, bool), Fail> {
+    let spared = start_into(alloc, memory, "b.lib")?.is_none();
+    let fault = start_into(alloc, memory, "a.lib")?;
+    let left = files_in(alloc, memory, "a.lib")?;
+    let again = start_into(alloc, memory, "a.lib")?.is_none();
     Ok((fault, left, spared && again))
+}
+
+/// The same where a death waits for that folder.
+fn died(alloc: Global, kind: StartFault) -> Result<(Option<StartFault>, usize, bool), Fail> {
+    if kind == StartFault::OutOfMemory {
+        return Err(Fail::from("no such death"));
+    }
+    let mut memory = Memory::new(alloc, Echo);
+    memory.die(alloc, "a.lib", kind)?;
+    starts_in_turn(alloc, &mut memory)
 }
 
 #[test]
@@ -121,79 +143,73 @@ fn deaths_of_each_kind(rt: HostRuntime) -> Result<(), Fail> {
     Ok(())
 }
 
-/// Makes a call of each kind in turn, and tells the fault of each, or a dash.
-fn calls(alloc: Global, seen: &mut Seen<Memory<Echo>>) -> Result<Text, Fail> {
-    let path = PathText::parse(alloc, "/w/a")?;
-    let folder = PathText::parse(alloc, "/w")?;
-    let target = PathText::parse(alloc, "/w/target")?;
-    let mut told = String::new(alloc);
-    add(&mut told, seen.read(alloc, &path).err())?;
-    add(&mut told, seen.list(alloc, &folder).err())?;
-    add(&mut told, seen.list_outside(alloc, &folder, &target).err())?;
-    add(&mut told, seen.write(alloc, &path, b"12345").err())?;
-    add(&mut told, seen.remove_tree(alloc, &folder).err())?;
-    add(&mut told, seen.variable(alloc, "V").err())?;
-    Ok(Text::new(told))
+/// The fault of one call, if it fails.
+fn fault_of<P: Place>(
+    alloc: Global,
+    place: &mut P,
+    call: &str,
+    path: &PathText,
+) -> Option<PlaceFault> {
+    match call {
+        "read" => place.read(alloc, path).err(),
+        "list" => place.list(alloc, path).err(),
+        "list_outside" => place.list_outside(alloc, path, path).err(),
+        "write" => place.write(alloc, path, b"12345").err(),
+        "remove_tree" => place.remove_tree(alloc, path).err(),
+        _ => place.variable(alloc, path.as_str()).err(),
+    }
 }
 
-/// Adds the first letter of a fault, or a dash.
-fn add(told: &mut String, fault: Option<PlaceFault>) -> Result<(), Fail> {
-    let letter = match fault {
-        None => "-",
-        Some(PlaceFault::Read) => "r",
-        Some(PlaceFault::List) => "l",
-        Some(PlaceFault::Write) => "w",
-        Some(PlaceFault::Remove) => "m",
-        Some(PlaceFault::Variable) => "v",
-        Some(PlaceFault::OutOfMemory) => "o",
-    };
-    told.push_str(letter)?;
-    Ok(())
+/// The same at the path that a text says.
+fn fault_at<P: Place>(
+    alloc: Global,
+    place: &mut P,
+    call: &str,
+    path: &str,
+) -> Result<Option<PlaceFault>, Fail> {
+    let path = PathText::parse(alloc, path)?;
+    Ok(fault_of(alloc, place, call, &path))
 }
 
-/// What each call tells under this fuse, how many came after the one that failed, and what stands at `/w/a` then.
-fn fused(alloc: Global, number: u64) -> Result<(Text, u64, usize), Fail> {
-    let mut memory = Memory::new(alloc, Echo);
-    let path = PathText::parse(alloc, "/w/a")?;
-    let other = PathText::parse(alloc, "/w/b")?;
-    memory.put(alloc, &path, b"old")?;
-    memory.put(alloc, &other, b"other")?;
-    memory.fuse(number);
-    let mut seen = Seen::new(memory);
-    let told = calls(alloc, &mut seen)?;
-    let left = match seen.place.file(alloc, &path)? {
-        Some(bytes) => bytes.as_slice().len(),
-        None => 9,
-    };
-    Ok((told, seen.after, left))
-}
-
-/// A fuse, what the calls tell, how many came after, and the length of what stands at `/w/a` then, 9 for nothing.
-const FUSES: &[(u64, &str, u64, usize)] = &[
-    (0, "------", 0, 9),
-    (1, "r-----", 5, 9),
-    (2, "-l----", 4, 9),
-    (3, "--l---", 3, 9),
-    (4, "---w--", 2, 9),
-    (5, "----m-", 1, 9),
-    (6, "-----v", 0, 9),
-    (7, "------", 0, 9),
+/// A call of each kind.
+const CALLS: &[(&str, &str)] = &[
+    ("read", "/w/a"),
+    ("list", "/w"),
+    ("list_outside", "/w"),
+    ("write", "/w/a"),
+    ("remove_tree", "/w"),
+    ("variable", "/V"),
 ];
 
-#[test]
-fn fuses_at_each_number(rt: HostRuntime) -> Result<(), Fail> {
-    for case in FUSES {
-        let (number, told, after, left) = *case;
-        let found = fused(rt.alloc(), number)?;
-        assert!(rt;
-            found.0.as_str() == told && found.1 == after && found.2 == left,
-            "at {number}"
-        );
+/// The fault of the last of these calls that failed.
+fn last_fault<P: Place>(alloc: Global, place: &mut P) -> Result<Option<PlaceFault>, Fail> {
+    let mut last = None;
+    for case in CALLS {
+        let (call, path) = *case;
+        if let Some(fault) = fault_at(alloc, place, call, path)? {
+            last = Some(fault);
+        }
     }
+    Ok(last)
+}
+
+/// Puts a file.
+fn put(alloc: Global, memory: &mut Memory<Echo>, path: &str, text: &str) -> Result<(), Fail> {
+    let path = PathText::parse(alloc, path)?;
+    memory.put(alloc, &path, text.as_bytes())?;
     Ok(())
 }
 
-/// What a torn write and half a removal leave at `/w/a` and `/w/b`: the lengths of what stands, 9 for nothing.
+/// A place with a file at each of `/w/a`, `/w/b` and `/w/c`.
+fn furnished(alloc: Global) -> Result<Memory<Echo>, Fail> {
+    let mut memory = Memory::new(alloc, Echo);
+    put(alloc, &mut memory, "/w/a", "old")?;
+    put(alloc, &mut memory, "/w/b", "x")?;
+    put(alloc, &mut memory, "/w/c", "x")?;
+    Ok(memory)
+}
+
+/// The length of what stands at a path, 9 for nothing.
 fn length_at(alloc: Global, memory: &Memory<Echo>, path: &str) -> Result<usize, Fail> {
     let path = PathText::parse(alloc, path)?;
     match memory.file(alloc, &path)? {
@@ -202,32 +218,68 @@ fn length_at(alloc: Global, memory: &Memory<Echo>, path: &str) -> Result<usize, 
     }
 }
 
+/// The fault of the last call that failed under this fuse, how many failed, how many came after, and the length of
+/// what stands at `/w/a` then.
+fn fused(alloc: Global, number: u64) -> Result<(Option<PlaceFault>, u64, u64, usize), Fail> {
+    let mut memory = furnished(alloc)?;
+    memory.fuse(number);
+    let mut seen = Seen::new(memory);
+    let fault = last_fault(alloc, &mut seen)?;
+    let left = length_at(alloc, &seen.place, "/w/a")?;
+    Ok((fault, seen.failures(), seen.after, left))
+}
+
+/// A fuse, the fault that it makes, how many calls came after, and the length of what stands at `/w/a` then.
+const FUSES: &[(u64, Option<PlaceFault>, u64, usize)] = &[
+    (0, None, 0, 9),
+    (1, Some(PlaceFault::Read), 5, 9),
+    (2, Some(PlaceFault::List), 4, 9),
+    (3, Some(PlaceFault::List), 3, 9),
+    (4, Some(PlaceFault::Write), 2, 9),
+    (5, Some(PlaceFault::Remove), 1, 9),
+    (6, Some(PlaceFault::Variable), 0, 9),
+    (7, None, 0, 9),
+];
+
 #[test]
-fn halves_are_rounded_down(rt: HostRuntime) -> Result<(), Fail> {
-    let mut memory = Memory::new(rt.alloc(), Echo);
-    let path = PathText::parse(rt.alloc(), "/w/a")?;
-    let folder = PathText::parse(rt.alloc(), "/w")?;
-    memory.fuse(1);
-    assert!(rt; memory.write(rt.alloc(), &path, b"12345") == Err(PlaceFault::Write));
-    assert!(rt; length_at(rt.alloc(), &memory, "/w/a")? == 2);
-    for name in ["/w/b", "/w/c"] {
-        let path = PathText::parse(rt.alloc(), name)?;
-        memory.put(rt.alloc(), &path, b"x")?;
+fn fuses_at_each_number(rt: HostRuntime) -> Result<(), Fail> {
+    for case in FUSES {
+        let (number, fault, after, left) = *case;
+        let failures = if fault.is_some() { 1 } else { 0 };
+        let found = fused(rt.alloc(), number)?;
+        assert!(rt; found == (fault, failures, after, left), "at {number}");
     }
-    memory.fuse(1);
-    assert!(rt; memory.remove_tree(rt.alloc(), &folder) == Err(PlaceFault::Remove));
-    assert!(rt; length_at(rt.alloc(), &memory, "/w/a")? == 9);
-    assert!(rt; length_at(rt.alloc(), &memory, "/w/b")? == 1);
-    assert!(rt; length_at(rt.alloc(), &memory, "/w/c")? == 1);
     Ok(())
 }
 
-/// How a start ends under a fuse: at its spawn, at the end of its child, or not at all.
+/// The fault of a call where the fuse is 1, and the lengths of what stands at `/w/a`, `/w/b` and `/w/c` then.
+fn halved(
+    alloc: Global,
+    call: &str,
+    path: &str,
+) -> Result<(Option<PlaceFault>, usize, usize, usize), Fail> {
+    let mut memory = furnished(alloc)?;
+    memory.fuse(1);
+    let fault = fault_at(alloc, &mut memory, call, path)?;
+    let first = length_at(alloc, &memory, "/w/a")?;
+    let second = length_at(alloc, &memory, "/w/b")?;
+    let third = length_at(alloc, &memory, "/w/c")?;
+    Ok((fault, first, second, third))
+}
+
+#[test]
+fn halves_are_rounded_down(rt: HostRuntime) -> Result<(), Fail> {
+    assert!(rt; halved(rt.alloc(), "write", "/w/a")? == (Some(PlaceFault::Write), 2, 1, 1));
+    assert!(rt; halved(rt.alloc(), "remove_tree", "/w")? == (Some(PlaceFault::Remove), 9, 1, 1));
+    Ok(())
+}
+
+/// How a start ends under a fuse: at its spawn, at the end of its child, or not at all; how many files it leaves, and
+/// how many calls are late then.
 fn start_under(alloc: Global, number: u64) -> Result<(Option<StartFault>, usize, u64), Fail> {
     let mut memory = Memory::new(alloc, Echo);
     memory.fuse(number);
-    let command = say_into(alloc, "a")?;
-    let fault = memory.start(alloc, &command).err();
+    let fault = start_into(alloc, &mut memory, "a")?;
     let late = memory.late();
     memory.fuse(0);
     let left = files_in(alloc, &mut memory, "a")?;

@@ -1,6 +1,6 @@
 //! What the clauses of a place alone say of calls in turn, for any place that tells its maps.
 
-ghost use Rattle.std.specs.Prelude.{◌≡◌, true, false, not, None, Some, if◌then◌else◌, IsTrue, IfOk, IfErr, OnOk};
+ghost use Rattle.std.specs.Prelude.{◌≡◌, ◌/◌, true, false, not, length, take, None, Some, if◌then◌else◌, IsTrue, IfOk, IfErr, OnOk};
 ghost use Rattle.std.specs.List.{list_any};
 ghost use Rattle.std.specs.FinMap as map;
 ghost use Rattle.pb_place.specs.Paths.{is_below, is_at_or_below};
@@ -123,6 +123,27 @@ fn start_in_memory<C: Child>(
     memory.start(alloc, command)
 }
 
+/// A write at a place in memory whose next call is to fail: it leaves the first half of the bytes.
+fn torn_in_memory<C: Child>(
+    alloc: Global,
+    memory: &mut Memory<C>,
+    path: &PathText,
+    bytes: &[u8],
+) -> Result<(), PlaceFault>
+    ensures half { IfErr result (λ e. e ≡ PlaceFault.Write → memory.new.world ≡ written path.now (take (length bytes.now / 2) bytes.now) memory.old.world) }
+    ensures burns { IfOk result (λ _. ⊥) }
+    ensures used { IfErr result (λ e. e ≡ PlaceFault.Write → memory.new.fuse ≡ 0) }
+    ensures kept { IfErr result (λ e. e ≡ PlaceFault.OutOfMemory → memory.new.world ≡ memory.old.world) }
+{
+    memory.fuse(1);
+    memory.write(alloc, path, bytes)
+}
+
+/// Whether a write that is to fail does.
+fn tears(alloc: Global, memory: &mut Memory<Echo>, path: &PathText) -> bool {
+    torn_in_memory(alloc, memory, path, b"12345") == Err(PlaceFault::Write)
+}
+
 /// Whether a file that is written at a path is read there.
 fn writes(alloc: Global, memory: &mut Memory<Echo>, path: &PathText) -> Result<bool, Fail> {
     let found = written_then_read(alloc, memory, path, b"one")?;
@@ -183,6 +204,7 @@ fn hold_in_turn(
         writes(alloc, memory, path)?
             && lists(alloc, memory, path, folder)?
             && removes(alloc, memory, path, folder)?
+            && tears(alloc, memory, path)
             && says(alloc, memory, path)?
             && runs(alloc, memory)?
             && has_left(alloc, memory)?,

@@ -12,8 +12,6 @@ mod echo;
 #[cfg(test)]
 mod failing;
 #[cfg(test)]
-mod faulty;
-#[cfg(test)]
 mod flights;
 #[cfg(test)]
 mod honest;

@@ -5,7 +5,7 @@ use Rattle.std.specs.Ordering.{nat_cmp}
 use Rattle.std.specs.Cmp.Lexicographic.{slice_cmp, nat_list_cmp_total}
 use Rattle.pb_place.specs.World.{Map}
 use Rattle.pb_place.specs.Paths.{is_below}
-use Rattle.pb_place.specs.Flights.{inside_out}
+use Rattle.pb_place.specs.Children.{inside_out}
 use Rattle.pb_place.proofs.MapLemmas.{exact, get-kept}
 
 none_kept : (b : Bool) (o : Option (List ℕ)) → o ≡ None → cond b o None ≡ None

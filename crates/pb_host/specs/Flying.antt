@@ -2,9 +2,9 @@
 use Rattle.std.specs.Prelude.{ℕ, pos, []}
 use Rattle.std.specs.FinMap as map
 use Rattle.pb_place.specs.World.{World, Answers}
-use Rattle.pb_place.specs.Flights.{flight_of}
+use Rattle.pb_place.specs.Children.{child_spawned}
 use Rattle.pb_place.specs.declared.command.Command.{Command}
-use Rattle.pb_place.specs.declared.flight.Flight.{Flight}
+use Rattle.pb_place.specs.declared.child_in_flight.ChildInFlight.{ChildInFlight}
 
 -- where no map is told, and no answer
 abbrev pub no_world : World
@@ -13,5 +13,5 @@ no_world = record { files = map.empty; variables = map.empty }
 abbrev pub silent : Answers
 silent command w = record { status = pos 0; stdout = []; stderr = []; files = [] }
 
-abbrev pub silent_flight : Command → ℕ → Flight
-silent_flight command ticket = flight_of (silent command) command no_world ticket
+abbrev pub silent_child : Command → ℕ → ChildInFlight
+silent_child command ticket = child_spawned (silent command) command no_world ticket

@@ -3,11 +3,11 @@
 ghost use Rattle.std.specs.Prelude.{◌≡◌, ◌≢◌, ◌⊎◌, ℕ, ◌+◌, ◌<◌, ◌++◌, ◌∷◌, [], true, false, length, max, IfOk, IfErr, OnOk, OnErr, IfSome};
 ghost use Rattle.std.specs.FinMap as map;
 ghost use Rattle.pb_place.specs.Counts.{no_calls, without};
-ghost use Rattle.pb_place.specs.Flights.{is_flying, most_after};
-ghost use Rattle.pb_place.specs.InFlight.{flights_in};
+ghost use Rattle.pb_place.specs.Children.{is_flying, most_after};
+ghost use Rattle.pb_place.specs.InFlight.{children_in};
 ghost use Rattle.pb_place.specs.Tallies.{flown};
 ghost use Rattle.std.specs.Vec.{vec_len, vec_capacity};
-ghost use Rattle.pb_host.specs.Flying.{silent_flight};
+ghost use Rattle.pb_host.specs.Flying.{silent_child};
 ghost use Rattle.pb_place.specs.declared.child.ViewFault.TheVariants as view_fault;
 ghost use Rattle.pb_place.specs.declared.place.PlaceFault.TheVariants as place_fault;
 
@@ -18,7 +18,8 @@ use crate::writing::{remove_tree, write_file};
 use pb_data::{Bytes, Items, Text, TryCopy};
 use pb_place::in_flight::{Flying, flies, free_ticket, take_out};
 use pb_place::{
-    Command, Ended, FileMap, Flight, PathText, Place, PlaceFault, StartFault, Tally, ViewFault,
+    ChildInFlight, Command, Ended, FileMap, PathText, Place, PlaceFault, StartFault, Tally,
+    ViewFault,
 };
 use std::alloc::{AllocError, Global};
 use std::process::{Child, Processes};
@@ -68,24 +69,24 @@ impl<'a, R: Files + Env + Processes + AllocGlobal> HostPlace<'a, R> {
     /// Begins the child of a command. Room for it among those in flight is made before, so no child that was begun
     /// is lost to want of memory.
     fn begin(&mut self, alloc: Global, command: &Command) -> Result<u64, StartFault>
-        ensures fresh { IfOk result (λ ticket. is_flying ticket (flights_in self.old.flying.items) ≡ false) }
+        ensures fresh { IfOk result (λ ticket. is_flying ticket (children_in self.old.flying.items) ≡ false) }
         ensures fault { IfErr result (λ e. e ≢ StartFault.OutOfMemory → e ≡ StartFault.CannotStart) }
-        ensures flights { flights_in self.new.flying.items ≡ flown (silent_flight command.now) result (flights_in self.old.flying.items) }
-        ensures most { self.new.most ≡ most_after result (length (flights_in self.old.flying.items) + 1) self.old.most }
+        ensures children { children_in self.new.flying.items ≡ flown (silent_child command.now) result (children_in self.old.flying.items) }
+        ensures most { self.new.most ≡ most_after result (length (children_in self.old.flying.items) + 1) self.old.most }
         ensures tally { self.new.tally ≡ self.old.tally }
     {
         let Some(ticket) = free_ticket(self.flying.as_slice()) else {
             return Err(StartFault::OutOfMemory);
         };
         self.flying.reserve(1)?;
-        let flight = flight(alloc, command, ticket)?;
-        let child = spawn(self.runtime, alloc, command)?;
+        let child = child_in_flight(alloc, command, ticket)?;
+        let process = spawn(self.runtime, alloc, command)?;
         self.most = add_child(
             &mut self.flying,
             self.most,
             Flying {
-                flight,
-                kept: child,
+                child,
+                kept: process,
             },
         );
         Ok(ticket)
@@ -93,9 +94,9 @@ impl<'a, R: Files + Env + Processes + AllocGlobal> HostPlace<'a, R> {
 
     /// Ends a child.
     fn end(&mut self, alloc: Global, ticket: u64) -> Result<Ended, StartFault>
-        requires flies { is_flying ticket (flights_in self.old.flying.items) ≡ true }
+        requires flies { is_flying ticket (children_in self.old.flying.items) ≡ true }
         ensures fault { IfErr result (λ e. e ≢ StartFault.OutOfMemory → (e ≡ StartFault.Died) ⊎ (e ≡ StartFault.Capture)) }
-        ensures flights { flights_in self.new.flying.items ≡ without ticket (flights_in self.old.flying.items) }
+        ensures children { children_in self.new.flying.items ≡ without ticket (children_in self.old.flying.items) }
         ensures most { self.new.most ≡ self.old.most }
         ensures tally { self.new.tally ≡ self.old.tally }
     {
@@ -108,11 +109,15 @@ impl<'a, R: Files + Env + Processes + AllocGlobal> HostPlace<'a, R> {
 
 /// What is told of a child in flight: its ticket and its command.
 #[tactic(auto, using(crate::proofs::Silence::silence_laws))]
-fn flight(alloc: Global, command: &Command, ticket: u64) -> Result<Flight, AllocError>
-    ensures { IfOk result (λ f. f ≡ silent_flight command.now ticket) }
+fn child_in_flight(
+    alloc: Global,
+    command: &Command,
+    ticket: u64,
+) -> Result<ChildInFlight, AllocError>
+    ensures { IfOk result (λ child. child ≡ silent_child command.now ticket) }
 {
     let command = command.copy(alloc)?;
-    Ok(Flight {
+    Ok(ChildInFlight {
         ticket,
         command,
         ended: Ended {
@@ -129,8 +134,8 @@ fn flight(alloc: Global, command: &Command, ticket: u64) -> Result<Flight, Alloc
 #[tactic(auto, using(pb_place::proofs::InFlight::fly_laws))]
 fn add_child<K: Drop>(flying: &mut Vec<Flying<K>>, most: u64, one: Flying<K>) -> u64
     requires room { vec_len flying.old < vec_capacity flying.old }
-    ensures flights { flights_in flying.new.items ≡ flights_in flying.old.items ++ one.flight ∷ [] }
-    ensures most { result ≡ max most (length (flights_in flying.old.items) + 1) }
+    ensures children { children_in flying.new.items ≡ children_in flying.old.items ++ one.child ∷ [] }
+    ensures most { result ≡ max most (length (children_in flying.old.items) + 1) }
 {
     flying.push_reserved(one);
     most.max(flying.len() as u64)
@@ -150,8 +155,8 @@ fn fault_of(fault: ViewFault, own: PlaceFault) -> PlaceFault
 #[tactic(auto, using(pb_place::proofs::InFlight::tally_laws))]
 impl<'a, R: Files + Env + Processes + AllocGlobal> Place for HostPlace<'a, R> {
     ghost use Rattle.std.specs.Prelude.{false};
-    ghost use Rattle.pb_place.specs.InFlight.{flights_in};
-    ghost use Rattle.pb_place.specs.Tallies.{with_flights};
+    ghost use Rattle.pb_place.specs.InFlight.{children_in};
+    ghost use Rattle.pb_place.specs.Tallies.{with_children};
     ghost use Rattle.pb_host.specs.Flying.{no_world, silent};
 
     ghost tells = { false };
@@ -160,7 +165,7 @@ impl<'a, R: Files + Env + Processes + AllocGlobal> Place for HostPlace<'a, R> {
 
     ghost child = { silent };
 
-    ghost counts = { λ p. with_flights (flights_in p.flying.items) p.tally };
+    ghost counts = { λ p. with_children (children_in p.flying.items) p.tally };
 
     ghost most = { λ p. p.most };
 

@@ -7,10 +7,10 @@ use Rattle.std.specs.FinMap.{get, retain_keys, same_map}
 use Rattle.pb_place.specs.Paths.{is_below}
 use Rattle.pb_place.specs.World.{World, Map, Ends, AgreeBut, ChangesOnlyInSome, put_files, put_reply}
 use Rattle.pb_place.specs.Folders.{files_in, over, first_of}
-use Rattle.pb_place.specs.Flights.{inside_out, put_back, landing, flight_of, LandsAs}
+use Rattle.pb_place.specs.Children.{inside_out, put_back, landing, child_spawned, LandsAs}
 use Rattle.pb_place.specs.declared.child.Reply.{Reply}
 use Rattle.pb_place.specs.Counts.{Counts, up, past_call, past_fault, without, counted_finish, counted_spawn, counted_start}
-use Rattle.pb_place.specs.declared.flight.Flight.{Flight}
+use Rattle.pb_place.specs.declared.child_in_flight.ChildInFlight.{ChildInFlight}
 use Rattle.pb_place.specs.declared.place.StartFault.{StartFault}
 use Rattle.pb_place.specs.declared.place.StartFault.TheVariants as start
 use Rattle.pb_place.specs.declared.place.Failure.TheVariants.{Started}
@@ -48,7 +48,7 @@ landed_as_started None files w v only = only
 landed_as_started (Some out) files w v only =
     same_world _ _ (ap (put_files out files) (ap (λ x. put_back out x v.files) (inside_twice out w.files) ∙ back_as_it_was out w.files v.files only.files)) only.variables
 
-pub started_ends : (child : World → Reply) (command : Command) (w v u : World) (ticket : ℕ) (ended : Ended) → ChangesOnlyInSome command.out w v → LandsAs (flight_of child command w ticket) v ended u → Ends child command w ended u
+pub started_ends : (child : World → Reply) (command : Command) (w v u : World) (ticket : ℕ) (ended : Ended) → ChangesOnlyInSome command.out w v → LandsAs (child_spawned child command w ticket) v ended u → Ends child command w ended u
 started_ends child command w v u ticket ended only lands = record {
   status = ap (λ (e : Ended). e.status) lands.answer;
   stdout = ap (λ (e : Ended). e.stdout) lands.answer;
@@ -70,9 +70,9 @@ pub of_some : {X : Type 0} (P : X → Type 0) (o : Option X) (x : X) → o ≡ S
 of_some {X = X} P o x is h = subst (λ (y : Option X). IfSome y P) is h
 
 -- a spawn, and the end of its child, are counted as one start
-pub counted_both : {T : Type 0} (r : Result T StartFault) (t : ℕ) (f : ℕ → Flight) (c : Counts) → without t (c.starts.flying ++ f t ∷ []) ≡ c.starts.flying → counted_finish t r (counted_spawn f (Ok t) c) ≡ counted_start r c
-counted_both (Ok x) t f c e = ap (λ (fs : List Flight). record (past_call c) { starts = record { count = up c.starts.count; flying = fs } }) e
-counted_both (Err start.OutOfMemory) t f c e = ap (λ (fs : List Flight). record (past_call c) { starts = record { count = up c.starts.count; flying = fs } }) e
-counted_both (Err start.CannotStart) t f c e = ap (λ (fs : List Flight). record (past_fault (Started start.CannotStart) c) { starts = record { count = up c.starts.count; flying = fs } }) e
-counted_both (Err start.Died) t f c e = ap (λ (fs : List Flight). record (past_fault (Started start.Died) c) { starts = record { count = up c.starts.count; flying = fs } }) e
-counted_both (Err start.Capture) t f c e = ap (λ (fs : List Flight). record (past_fault (Started start.Capture) c) { starts = record { count = up c.starts.count; flying = fs } }) e
+pub counted_both : {T : Type 0} (r : Result T StartFault) (t : ℕ) (f : ℕ → ChildInFlight) (c : Counts) → without t (c.starts.flying ++ f t ∷ []) ≡ c.starts.flying → counted_finish t r (counted_spawn f (Ok t) c) ≡ counted_start r c
+counted_both (Ok x) t f c e = ap (λ (fs : List ChildInFlight). record (past_call c) { starts = record { count = up c.starts.count; flying = fs } }) e
+counted_both (Err start.OutOfMemory) t f c e = ap (λ (fs : List ChildInFlight). record (past_call c) { starts = record { count = up c.starts.count; flying = fs } }) e
+counted_both (Err start.CannotStart) t f c e = ap (λ (fs : List ChildInFlight). record (past_fault (Started start.CannotStart) c) { starts = record { count = up c.starts.count; flying = fs } }) e
+counted_both (Err start.Died) t f c e = ap (λ (fs : List ChildInFlight). record (past_fault (Started start.Died) c) { starts = record { count = up c.starts.count; flying = fs } }) e
+counted_both (Err start.Capture) t f c e = ap (λ (fs : List ChildInFlight). record (past_fault (Started start.Capture) c) { starts = record { count = up c.starts.count; flying = fs } }) e

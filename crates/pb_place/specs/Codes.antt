@@ -7,7 +7,7 @@ use Rattle.pb_place.specs.Maps.{map_code}
 use Rattle.pb_place.specs.Private.{failure_code, start_code}
 use Rattle.pb_place.specs.declared.command.Command.{Command}
 use Rattle.pb_place.specs.declared.command.Ended.{Ended}
-use Rattle.pb_place.specs.declared.flight.Flight.{Flight}
+use Rattle.pb_place.specs.declared.child_in_flight.ChildInFlight.{ChildInFlight}
 
 abbrev pub text_code : Coded (List ℕ)
 text_code = coded_list coded_ℕ
@@ -20,15 +20,15 @@ command_code = code_by _ (coded× text_code (coded× (coded_list text_code) (cod
 abbrev pub ended_code : Coded Ended
 ended_code = code_by _ (coded× coded_ℤ (coded× text_code text_code)) (λ e. (e.status, (e.stdout, e.stderr))) (λ t. record { status = t.0; stdout = t.1.0; stderr = t.1.1 }) (λ _. refl)
 
-abbrev pub flight_code : Coded Flight
-flight_code = code_by _ (coded× coded_ℕ (coded× command_code (coded× ended_code (coded× (coded_list (coded× text_code text_code)) map_code))))
+abbrev pub child_code : Coded ChildInFlight
+child_code = code_by _ (coded× coded_ℕ (coded× command_code (coded× ended_code (coded× (coded_list (coded× text_code text_code)) map_code))))
     (λ f. (f.ticket, (f.command, (f.ended, (f.files, f.before))))) (λ t. record { ticket = t.0; command = t.1.0; ended = t.1.1.0; files = t.1.1.1.0; before = t.1.1.1.1 }) (λ _. refl)
 
 abbrev pub world_code : Coded World
 world_code = code_by _ (coded× map_code map_code) (λ w. (w.files, w.variables)) (λ t. record { files = t.0; variables = t.1 }) (λ _. refl)
 
 abbrev pub starts_code : Coded Starts
-starts_code = code_by _ (coded× coded_ℕ (coded_list flight_code)) (λ s. (s.count, s.flying)) (λ t. record { count = t.0; flying = t.1 }) (λ _. refl)
+starts_code = code_by _ (coded× coded_ℕ (coded_list child_code)) (λ s. (s.count, s.flying)) (λ t. record { count = t.0; flying = t.1 }) (λ _. refl)
 
 abbrev pub counts_code : Coded Counts
 counts_code = code_by _ (coded× coded_ℕ (coded× starts_code (coded× coded_ℕ (coded× (coded_option failure_code) text_code))))

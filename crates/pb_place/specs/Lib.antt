@@ -4,8 +4,9 @@ pub mod Codes
 pub mod Copies
 pub mod Counts
 pub mod Failing
-pub mod Flights
+pub mod Children
 pub mod Folders
+pub mod Fuses
 pub mod InFlight
 pub mod Maps
 pub mod Memory

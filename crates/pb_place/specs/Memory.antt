@@ -7,10 +7,10 @@ use Rattle.std.specs.Coded.{Coded, code_by, coded×, coded_ℕ, coded_list, code
 use Rattle.pb_place.specs.Paths.{last_part}
 use Rattle.pb_place.specs.World.{World}
 use Rattle.pb_place.specs.Counts.{Counts, no_calls}
-use Rattle.pb_place.specs.Codes.{flight_code, world_code, counts_code}
+use Rattle.pb_place.specs.Codes.{child_code, world_code, counts_code}
 use Rattle.pb_place.specs.Private.{start_code}
-use Rattle.pb_place.specs.InFlight.{flights_in, entry_at}
-use Rattle.pb_place.specs.Tallies.{with_flights}
+use Rattle.pb_place.specs.InFlight.{children_in, entry_at}
+use Rattle.pb_place.specs.Tallies.{with_children}
 use Rattle.pb_place.specs.declared.in_flight.Flying.{Flying}
 use Rattle.pb_place.specs.declared.in_flight.Death.{Death}
 use Rattle.pb_place.specs.declared.place.StartFault.{StartFault}
@@ -26,7 +26,7 @@ pub record Held : Type 0 where
 
 -- its counters
 abbrev pub counts_in : Held → Counts
-counts_in h = with_flights (flights_in h.flying) h.tally
+counts_in h = with_children (children_in h.flying) h.tally
 
 -- a place in memory that holds nothing, of which no call was made
 abbrev pub no_held : Held
@@ -69,7 +69,7 @@ other_deaths out [] = []
 other_deaths out (d ∷ ds) = if is_for out d then ds else d ∷ other_deaths out ds
 
 abbrev pub flying_code : Coded (Flying (Option StartFault))
-flying_code = code_by _ (coded× flight_code (coded_option start_code)) (λ f. (f.flight, f.kept)) (λ t. record { flight = t.0; kept = t.1 }) (λ _. refl)
+flying_code = code_by _ (coded× child_code (coded_option start_code)) (λ f. (f.child, f.kept)) (λ t. record { child = t.0; kept = t.1 }) (λ _. refl)
 
 abbrev pub death_code : Coded Death
 death_code = code_by _ (coded× (coded_list coded_ℕ) start_code) (λ d. (d.key, d.kind)) (λ t. record { key = t.0; kind = t.1 }) (λ _. refl)

@@ -1,17 +1,17 @@
 -- Counters in which no child flies, and those that carry what flies.
 use Rattle.std.specs.Prelude.{ℕ, List, ◌++◌, ◌∷◌, [], Result, Ok, Err}
 use Rattle.pb_place.specs.Counts.{Counts, past_finish_fault}
-use Rattle.pb_place.specs.declared.flight.Flight.{Flight}
+use Rattle.pb_place.specs.declared.child_in_flight.ChildInFlight.{ChildInFlight}
 use Rattle.pb_place.specs.declared.place.StartFault.{StartFault}
 
 -- the counters with these children in flight
-abbrev pub with_flights : List Flight → Counts → Counts
-with_flights flying c = record c { starts = record c.starts { flying = flying } }
+abbrev pub with_children : List ChildInFlight → Counts → Counts
+with_children flying c = record c { starts = record c.starts { flying = flying } }
 
 -- what flies after a spawn
-abbrev pub flown : (ℕ → Flight) → Result ℕ StartFault → List Flight → List Flight
-flown flight (Ok ticket) flying = flying ++ flight ticket ∷ []
-flown flight (Err e) flying = flying
+abbrev pub flown : (ℕ → ChildInFlight) → Result ℕ StartFault → List ChildInFlight → List ChildInFlight
+flown spawned (Ok ticket) flying = flying ++ spawned ticket ∷ []
+flown spawned (Err e) flying = flying
 
 -- a finish as the other counters see it
 abbrev pub past_finish : {T : Type 0} → Result T StartFault → Counts → Counts

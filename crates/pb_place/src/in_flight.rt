@@ -2,12 +2,12 @@
 
 ghost use Rattle.std.specs.Prelude.{◌≡◌, ℕ, true, false, IfSome, IfNone, Some, None, ◌<◌, ◌+◌, ◌==◌, length, take};
 ghost use Rattle.std.specs.List.{list_any};
-ghost use Rattle.pb_place.specs.Flights.{is_flying, flight_at};
+ghost use Rattle.pb_place.specs.Children.{is_flying, child_at};
 ghost use Rattle.pb_place.specs.Counts.{without};
-ghost use Rattle.pb_place.specs.InFlight.{flights_in, entry_at, other_entries};
+ghost use Rattle.pb_place.specs.InFlight.{children_in, entry_at, other_entries};
 ghost use Rattle.pb_place.specs.Memory.{is_for, fate_of, other_deaths};
 
-use crate::flight::Flight;
+use crate::child_in_flight::ChildInFlight;
 use crate::path::PathText;
 use crate::place::StartFault;
 use pb_data::Text;
@@ -17,7 +17,7 @@ use pb_data::Text;
 #[derive(Drop)]
 pub struct Flying<K> {
     /// The child.
-    pub flight: Flight,
+    pub child: ChildInFlight,
     /// What the place keeps.
     pub kept: K,
 }
@@ -33,15 +33,15 @@ pub struct Death {
 
 /// Whether one of the entries has this ticket.
 fn has_ticket<K>(flying: &[Flying<K>], ticket: u64) -> bool
-    ensures { result ≡ list_any (λ f. f.flight.ticket == ticket) flying.now }
+    ensures { result ≡ list_any (λ f. f.child.ticket == ticket) flying.now }
 {
-    flying.iter().any(|f| f.flight.ticket == ticket)
+    flying.iter().any(|f| f.child.ticket == ticket)
 }
 
 /// Whether a child of this ticket is in flight.
 #[tactic(auto, using(crate::proofs::InFlight::flying_laws))]
 pub fn flies<K>(flying: &[Flying<K>], ticket: u64) -> bool
-    ensures { result ≡ is_flying ticket (flights_in flying.now) }
+    ensures { result ≡ is_flying ticket (children_in flying.now) }
 {
     has_ticket(flying, ticket)
 }
@@ -49,7 +49,7 @@ pub fn flies<K>(flying: &[Flying<K>], ticket: u64) -> bool
 /// A number that no child in flight has: the lowest. There is one at or below their number.
 #[tactic(auto, using(crate::proofs::InFlight::flying_laws))]
 pub fn free_ticket<K>(flying: &[Flying<K>]) -> Option<u64>
-    ensures { IfSome result (λ ticket. is_flying ticket (flights_in flying.now) ≡ false) }
+    ensures { IfSome result (λ ticket. is_flying ticket (children_in flying.now) ≡ false) }
 {
     for ticket in 0..=flying.len() as u64 {
         if !flies(flying, ticket) {
@@ -60,12 +60,12 @@ pub fn free_ticket<K>(flying: &[Flying<K>]) -> Option<u64>
 }
 
 /// The place of the first child of this ticket.
-fn flight_place<K>(flying: &[Flying<K>], ticket: u64) -> Option<usize>
-    ensures some { IfSome result (λ i. (i < length flying.now) × (list_any (λ f. f.flight.ticket == ticket) (take i flying.now) ≡ false) × (list_any (λ f. f.flight.ticket == ticket) (take (i + 1) flying.now) ≡ true)) }
-    ensures none { IfNone result (list_any (λ f. f.flight.ticket == ticket) flying.now ≡ false) }
+fn place_of_ticket<K>(flying: &[Flying<K>], ticket: u64) -> Option<usize>
+    ensures some { IfSome result (λ i. (i < length flying.now) × (list_any (λ f. f.child.ticket == ticket) (take i flying.now) ≡ false) × (list_any (λ f. f.child.ticket == ticket) (take (i + 1) flying.now) ≡ true)) }
+    ensures none { IfNone result (list_any (λ f. f.child.ticket == ticket) flying.now ≡ false) }
 {
     for i in 0..flying.len() {
-        if flying[i].flight.ticket == ticket {
+        if flying[i].child.ticket == ticket {
             return Some(i);
         }
     }
@@ -75,10 +75,10 @@ fn flight_place<K>(flying: &[Flying<K>], ticket: u64) -> Option<usize>
 /// Takes out the first child of this ticket.
 pub fn take_out<K: Drop>(flying: &mut Vec<Flying<K>>, ticket: u64) -> Option<Flying<K>>
     ensures entry { IfSome result (λ f. (entry_at ticket flying.old.items ≡ Some f) × (flying.new.items ≡ other_entries ticket flying.old.items)) }
-    ensures some { IfSome result (λ f. (flight_at ticket (flights_in flying.old.items) ≡ Some f.flight) × (flights_in flying.new.items ≡ without ticket (flights_in flying.old.items))) }
-    ensures none { IfNone result (is_flying ticket (flights_in flying.old.items) ≡ false) }
+    ensures some { IfSome result (λ f. (child_at ticket (children_in flying.old.items) ≡ Some f.child) × (children_in flying.new.items ≡ without ticket (children_in flying.old.items))) }
+    ensures none { IfNone result (is_flying ticket (children_in flying.old.items) ≡ false) }
 {
-    match flight_place(flying.as_slice(), ticket) {
+    match place_of_ticket(flying.as_slice(), ticket) {
         Some(place) => Some(flying.remove(place)),
         None => None,
     }

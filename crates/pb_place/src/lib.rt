@@ -2,25 +2,27 @@
 #![tactic(auto)]
 
 pub mod child;
+pub mod child_in_flight;
 pub mod command;
 pub mod files;
-pub mod flight;
 pub mod in_flight;
+mod landing;
 pub mod laws;
 pub mod memory;
 pub mod path;
 pub mod place;
 pub mod relative;
 pub mod seen;
+mod sight;
 pub mod sink;
 pub mod taken_apart;
 pub mod tally;
 pub mod whole;
 
 pub use child::{Child, Reply, View, ViewFault};
+pub use child_in_flight::ChildInFlight;
 pub use command::{Command, Ended};
 pub use files::{FileMap, TextMap};
-pub use flight::Flight;
 pub use laws::{
     changes_stay_in_folders, children_see_sources_and_folders, failing_calls_are_told,
     failing_calls_spare, folders_nest, last_word_stands, maps_look_up, parsing_keeps_paths,

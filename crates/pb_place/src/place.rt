@@ -4,7 +4,7 @@ ghost use Rattle.std.specs.Prelude.{◌≡◌, ◌≢◌, ◌⊎◌, ℕ, ◌+�
 ghost use Rattle.std.specs.FinMap as map;
 ghost use Rattle.pb_place.specs.World.{World, Answers, written, removed, listed, Torn, PartlyRemoved, ChangesOnlyInSome, Ends};
 ghost use Rattle.pb_place.specs.Counts.{Counts, counted, counted_start, counted_spawn, counted_finish};
-ghost use Rattle.pb_place.specs.Flights.{flight_of, is_flying, flight_at, most_after, StaysStill, StaysStillBut, LandsAs};
+ghost use Rattle.pb_place.specs.Children.{child_spawned, is_flying, child_at, most_after, StaysStill, StaysStillBut, LandsAs};
 ghost use Rattle.pb_place.specs.declared.place.PlaceFault.TheVariants as place_fault;
 ghost use Rattle.pb_place.specs.declared.place.StartFault.TheVariants as start_fault;
 
@@ -202,7 +202,7 @@ pub trait Place {
         ensures fault { IfErr result (λ e. e ≢ StartFault.OutOfMemory → e ≡ StartFault.CannotStart) }
         ensures fails { IfErr result (λ e. e ≢ StartFault.OutOfMemory → fails self.old) }
         ensures later { fails self.new → fails self.old }
-        ensures counts { counts self.new ≡ counted_spawn (flight_of (child command.now) command.now (world self.old)) result (counts self.old) }
+        ensures counts { counts self.new ≡ counted_spawn (child_spawned (child command.now) command.now (world self.old)) result (counts self.old) }
         ensures most { most self.new ≡ most_after result (length (counts self.old).starts.flying + 1) (most self.old) }
         ensures stands { IfOk result (λ ticket. still self.new ticket) }
         ensures still { StaysStill (counts self.old).starts.flying (world self.old) (world self.new) (still self.old) (still self.new) };
@@ -212,8 +212,8 @@ pub trait Place {
     /// what its reply to the world in which it was spawned makes of them.
     fn finish(&mut self, alloc: Global, ticket: u64) -> Result<Ended, StartFault>
         requires flies { is_flying ticket (counts self.old).starts.flying ≡ true }
-        ensures ok { IsTrue tells → still self.old ticket → IfOk result (λ ended. IfSome (flight_at ticket (counts self.old).starts.flying) (λ flight. LandsAs flight (world self.old) ended (world self.new))) }
-        ensures only { IsTrue tells → IfSome (flight_at ticket (counts self.old).starts.flying) (λ flight. ChangesOnlyInSome flight.command.out (world self.old) (world self.new)) }
+        ensures ok { IsTrue tells → still self.old ticket → IfOk result (λ ended. IfSome (child_at ticket (counts self.old).starts.flying) (λ spawned. LandsAs spawned (world self.old) ended (world self.new))) }
+        ensures only { IsTrue tells → IfSome (child_at ticket (counts self.old).starts.flying) (λ spawned. ChangesOnlyInSome spawned.command.out (world self.old) (world self.new)) }
         ensures fault { IfErr result (λ e. e ≢ StartFault.OutOfMemory → (e ≡ StartFault.Died) ⊎ (e ≡ StartFault.Capture)) }
         ensures fails { IfErr result (λ e. e ≢ StartFault.OutOfMemory → fails self.old) }
         ensures counts { counts self.new ≡ counted_finish ticket result (counts self.old) }

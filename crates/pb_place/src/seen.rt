@@ -4,7 +4,7 @@ ghost use Rattle.std.specs.Prelude.{◌≡◌, ◌≢◌, ◌⊎◌, ◌+◌, �
 ghost use Rattle.std.specs.FinMap as map;
 ghost use Rattle.pb_place.specs.World.{written, removed, listed, Torn, PartlyRemoved, ChangesOnlyInSome};
 ghost use Rattle.pb_place.specs.Counts.{counted, counted_spawn, counted_finish};
-ghost use Rattle.pb_place.specs.Flights.{flight_of, is_flying, flight_at, most_after, StaysStill, StaysStillBut, LandsAs};
+ghost use Rattle.pb_place.specs.Children.{child_spawned, is_flying, child_at, most_after, StaysStill, StaysStillBut, LandsAs};
 ghost use Rattle.pb_place.specs.Seen.{call_failed, start_failed, seen, seen_end};
 
 use crate::command::{Command, Ended};
@@ -193,7 +193,7 @@ impl<P: Place> Place for Seen<P> {
         ensures fault { IfErr result (λ e. e ≢ StartFault.OutOfMemory → e ≡ StartFault.CannotStart) }
         ensures fails { IfErr result (λ e. e ≢ StartFault.OutOfMemory → P.fails self.old.place) }
         ensures later { P.fails self.new.place → P.fails self.old.place }
-        ensures counts { P.counts self.new.place ≡ counted_spawn (flight_of (P.child command.now) command.now (P.world self.old.place)) result (P.counts self.old.place) }
+        ensures counts { P.counts self.new.place ≡ counted_spawn (child_spawned (P.child command.now) command.now (P.world self.old.place)) result (P.counts self.old.place) }
         ensures most { P.most self.new.place ≡ most_after result (length (P.counts self.old.place).starts.flying + 1) (P.most self.old.place) }
         ensures stands { IfOk result (λ ticket. P.still self.new.place ticket) }
         ensures still { StaysStill (P.counts self.old.place).starts.flying (P.world self.old.place) (P.world self.new.place) (P.still self.old.place) (P.still self.new.place) }
@@ -206,8 +206,8 @@ impl<P: Place> Place for Seen<P> {
 
     fn finish(&mut self, alloc: Global, ticket: u64) -> Result<Ended, StartFault>
         requires flies { is_flying ticket (P.counts self.old.place).starts.flying ≡ true }
-        ensures ok { IsTrue P.tells → P.still self.old.place ticket → IfOk result (λ ended. IfSome (flight_at ticket (P.counts self.old.place).starts.flying) (λ flight. LandsAs flight (P.world self.old.place) ended (P.world self.new.place))) }
-        ensures only { IsTrue P.tells → IfSome (flight_at ticket (P.counts self.old.place).starts.flying) (λ flight. ChangesOnlyInSome flight.command.out (P.world self.old.place) (P.world self.new.place)) }
+        ensures ok { IsTrue P.tells → P.still self.old.place ticket → IfOk result (λ ended. IfSome (child_at ticket (P.counts self.old.place).starts.flying) (λ spawned. LandsAs spawned (P.world self.old.place) ended (P.world self.new.place))) }
+        ensures only { IsTrue P.tells → IfSome (child_at ticket (P.counts self.old.place).starts.flying) (λ spawned. ChangesOnlyInSome spawned.command.out (P.world self.old.place) (P.world self.new.place)) }
         ensures fault { IfErr result (λ e. e ≢ StartFault.OutOfMemory → (e ≡ StartFault.Died) ⊎ (e ≡ StartFault.Capture)) }
         ensures fails { IfErr result (λ e. e ≢ StartFault.OutOfMemory → P.fails self.old.place) }
         ensures counts { P.counts self.new.place ≡ counted_finish ticket result (P.counts self.old.place) }

@@ -2,71 +2,83 @@
 
 use crate::machine::commands::{program, shell};
 use pb_host::HostPlace;
-use pb_place::{Command, Ended, Place, StartFault};
+use pb_place::{Ended, Place, StartFault};
 use std::test::Fail;
 
-/// Spawns a child at a place of the machine.
-fn spawn(
-    rt: &HostRuntime,
-    place: &mut HostPlace<HostRuntime>,
-    command: &Command,
-) -> Result<u64, Fail> {
-    let ticket = place.spawn(rt.alloc(), command)?;
+/// How a child ended: its status, and how much it wrote to its two streams together; none where it gave no answer.
+type End = Option<(i32, usize)>;
+
+/// Spawns a child that the shell carries out.
+fn spawn(rt: &HostRuntime, place: &mut HostPlace<HostRuntime>, words: &str) -> Result<u64, Fail> {
+    let command = shell(rt.alloc(), words)?;
+    let ticket = place.spawn(rt.alloc(), &command)?;
     Ok(ticket)
 }
 
-/// Waits for the end of a child.
-fn finish(
-    rt: &HostRuntime,
-    place: &mut HostPlace<HostRuntime>,
-    ticket: u64,
-) -> Result<Result<Ended, StartFault>, Fail> {
-    if !place.flies(ticket) {
-        return Err(Fail::new(format_args!("{ticket} does not fly")));
+/// What is told of an end.
+fn end_of(ended: Result<Ended, StartFault>) -> End {
+    match ended {
+        Ok(ended) => Some((
+            ended.status,
+            ended.stdout.as_slice().len() + ended.stderr.as_slice().len(),
+        )),
+        Err(_) => None,
     }
-    Ok(place.finish(rt.alloc(), ticket))
 }
 
-/// Whether a child ended with this status, and wrote so much to its two streams together.
-fn is_said(ended: Result<Ended, StartFault>, status: i32, length: usize) -> bool {
-    match ended {
-        Ok(ended) => {
-            ended.status == status
-                && ended.stdout.as_slice().len() + ended.stderr.as_slice().len() == length
-        }
-        Err(_) => false,
+/// Waits for the end of a child.
+fn finish(rt: &HostRuntime, place: &mut HostPlace<HostRuntime>, ticket: u64) -> Result<End, Fail> {
+    if !place.flies(ticket) {
+        return Err(Fail::from("it does not fly"));
     }
+    Ok(end_of(place.finish(rt.alloc(), ticket)))
+}
+
+/// Whether a program that is not there does not start.
+fn misses(rt: &HostRuntime, place: &mut HostPlace<HostRuntime>) -> Result<bool, Fail> {
+    let missing = program(rt.alloc(), "/no/such/program")?;
+    Ok(place.spawn(rt.alloc(), &missing) == Err(StartFault::CannotStart))
+}
+
+/// The ends of two children in flight at one time, of which the second is waited for first.
+fn ends(
+    rt: &HostRuntime,
+    place: &mut HostPlace<HostRuntime>,
+    first: &str,
+    second: &str,
+) -> Result<(End, End), Fail> {
+    let one = spawn(rt, place, first)?;
+    let two = spawn(rt, place, second)?;
+    if !misses(rt, place)? {
+        return Err(Fail::from("a missing program started"));
+    }
+    let later = finish(rt, place, two)?;
+    let earlier = finish(rt, place, one)?;
+    Ok((earlier, later))
+}
+
+/// The same at a place of their own, and how many flew at most, were started, and failed.
+fn counted(
+    rt: &HostRuntime,
+    first: &str,
+    second: &str,
+) -> Result<((End, End), (u64, u64, u64)), Fail> {
+    let mut place = HostPlace::new(rt.alloc(), rt);
+    let ends = ends(rt, &mut place, first, second)?;
+    Ok((ends, (place.most(), place.starts(), place.failures())))
 }
 
 #[test]
 fn in_the_other_order(rt: HostRuntime) -> Result<(), Fail> {
-    let mut place = HostPlace::new(rt.alloc(), &rt);
-    let loud = shell(
-        rt.alloc(),
-        "head -c 200000 /dev/zero; head -c 200000 /dev/zero >&2; exit 3",
-    )?;
-    let quiet = shell(rt.alloc(), "echo small; exit 4")?;
-    let first = spawn(&rt, &mut place, &loud)?;
-    let second = spawn(&rt, &mut place, &quiet)?;
-    let small = finish(&rt, &mut place, second)?;
-    let great = finish(&rt, &mut place, first)?;
-    assert!(rt; is_said(small, 4, 6) && is_said(great, 3, 400_000));
-    assert!(rt; place.most() == 2 && place.starts() == 2 && place.failures() == 0);
+    let loud = "head -c 200000 /dev/zero; head -c 200000 /dev/zero >&2; exit 3";
+    let found = counted(&rt, loud, "echo small; exit 4")?;
+    assert!(rt; found == ((Some((3, 400_000)), Some((4, 6))), (2, 3, 1)));
     Ok(())
 }
 
 #[test]
 fn children_that_die_or_leave_others(rt: HostRuntime) -> Result<(), Fail> {
-    let mut place = HostPlace::new(rt.alloc(), &rt);
-    let dying = shell(rt.alloc(), "kill -9 $$")?;
-    let leaving = shell(rt.alloc(), "{ sleep 1; echo late; } & echo soon")?;
-    let missing = program(rt.alloc(), "/no/such/program")?;
-    let first = spawn(&rt, &mut place, &dying)?;
-    let second = spawn(&rt, &mut place, &leaving)?;
-    assert!(rt; place.spawn(rt.alloc(), &missing) == Err(StartFault::CannotStart));
-    let left = finish(&rt, &mut place, second)?;
-    let died = finish(&rt, &mut place, first)?;
-    assert!(rt; matches!(died, Err(StartFault::Died)) && is_said(left, 0, 10));
-    assert!(rt; place.most() == 2 && place.starts() == 3 && place.failures() == 2);
+    let found = counted(&rt, "kill -9 $$", "{ sleep 1; echo late; } & echo soon")?;
+    assert!(rt; found == ((None, Some((0, 10))), (2, 3, 2)));
     Ok(())
 }

@@ -1,9 +1,9 @@
 use Rattle.std.proofs.Common.{◌≡◌, ◌∙◌, ◌==◌, Option, Some, Ok, true, false, ap, sym, subst, refl, rules, arith}
 use Rattle.std.specs.Prelude.{IfOk, IfSome}
-use Rattle.pb_place.specs.Flights.{is_flying, flight_at, flight_of, LandsAs}
+use Rattle.pb_place.specs.Children.{is_flying, child_at, child_spawned, LandsAs}
 use Rattle.pb_place.specs.Counts.{Counts, without, counted_finish}
 use Rattle.pb_place.specs.World.{ChangesOnlyInSome, Ends}
-use Rattle.pb_place.specs.declared.flight.Flight.{Flight}
+use Rattle.pb_place.specs.declared.child_in_flight.ChildInFlight.{ChildInFlight}
 use Rattle.pb_place.proofs.InFlight.{last_flies, last_at, last_gone, same_number}
 use Rattle.pb_place.proofs.Starts.{started_ends, some_join, each_ok, of_some, counted_both}
 use Rattle.pb_place.proofs.place.Place.start.Goals as goal
@@ -17,14 +17,14 @@ returns-clause-ok g c told =
     let w = g.Self.Place.world c.args.self.now in
     let v = g.Self.Place.world c.spawn.new.self in
     let u = g.Self.Place.world c.finish.new.self in
-    let flight = flight_of (g.Self.Place.child c.args.command.now) c.args.command.now w t in
-    let found : flight_at t (g.Self.Place.counts c.spawn.new.self).starts.flying ≡ Some flight =
-    ap (λ (k : Counts). flight_at t k.starts.flying) c.in_ok-ticket.ensures.counts ∙ last_at t (g.Self.Place.counts c.args.self.now).starts.flying flight c.in_ok-ticket.ensures.fresh (same_number t) in
+    let spawned = child_spawned (g.Self.Place.child c.args.command.now) c.args.command.now w t in
+    let found : child_at t (g.Self.Place.counts c.spawn.new.self).starts.flying ≡ Some spawned =
+    ap (λ (k : Counts). child_at t k.starts.flying) c.in_ok-ticket.ensures.counts ∙ last_at t (g.Self.Place.counts c.args.self.now).starts.flying spawned c.in_ok-ticket.ensures.fresh (same_number t) in
     each_ok
-    (λ ended. IfSome (flight_at t (g.Self.Place.counts c.spawn.new.self).starts.flying) (λ f. LandsAs f v ended u))
+    (λ ended. IfSome (child_at t (g.Self.Place.counts c.spawn.new.self).starts.flying) (λ f. LandsAs f v ended u))
     (λ ended. Ends (g.Self.Place.child c.args.command.now) c.args.command.now w ended u)
     c.finish.result
-    (λ ended lands. started_ends (g.Self.Place.child c.args.command.now) c.args.command.now w v u t ended (c.in_ok-ticket.ensures.only told) (of_some (λ f. LandsAs f v ended u) _ flight found lands))
+    (λ ended lands. started_ends (g.Self.Place.child c.args.command.now) c.args.command.now w v u t ended (c.in_ok-ticket.ensures.only told) (of_some (λ f. LandsAs f v ended u) _ spawned found lands))
     (c.finish.ensures.ok told c.in_ok-ticket.ensures.stands)
 
 pub returns-clause-only : goal.returns-clause-only
@@ -33,13 +33,13 @@ returns-clause-only g c told =
     let w = g.Self.Place.world c.args.self.now in
     let v = g.Self.Place.world c.spawn.new.self in
     let u = g.Self.Place.world c.finish.new.self in
-    let flight = flight_of (g.Self.Place.child c.args.command.now) c.args.command.now w t in
-    let found : flight_at t (g.Self.Place.counts c.spawn.new.self).starts.flying ≡ Some flight =
-    ap (λ (k : Counts). flight_at t k.starts.flying) c.in_ok-ticket.ensures.counts ∙ last_at t (g.Self.Place.counts c.args.self.now).starts.flying flight c.in_ok-ticket.ensures.fresh (same_number t) in
-    some_join c.args.command.now.out w v u (c.in_ok-ticket.ensures.only told) (of_some (λ (f : Flight). ChangesOnlyInSome f.command.out v u) _ flight found (c.finish.ensures.only told))
+    let spawned = child_spawned (g.Self.Place.child c.args.command.now) c.args.command.now w t in
+    let found : child_at t (g.Self.Place.counts c.spawn.new.self).starts.flying ≡ Some spawned =
+    ap (λ (k : Counts). child_at t k.starts.flying) c.in_ok-ticket.ensures.counts ∙ last_at t (g.Self.Place.counts c.args.self.now).starts.flying spawned c.in_ok-ticket.ensures.fresh (same_number t) in
+    some_join c.args.command.now.out w v u (c.in_ok-ticket.ensures.only told) (of_some (λ (f : ChildInFlight). ChangesOnlyInSome f.command.out v u) _ spawned found (c.finish.ensures.only told))
 
 pub returns-clause-counts : goal.returns-clause-counts
 returns-clause-counts g c =
     c.finish.ensures.counts ∙ ap (λ (k : Counts). counted_finish c.in_ok-ticket.ticket c.finish.result k) c.in_ok-ticket.ensures.counts
-    ∙ counted_both c.finish.result c.in_ok-ticket.ticket (flight_of (g.Self.Place.child c.args.command.now) c.args.command.now (g.Self.Place.world c.args.self.now)) (g.Self.Place.counts c.args.self.now)
+    ∙ counted_both c.finish.result c.in_ok-ticket.ticket (child_spawned (g.Self.Place.child c.args.command.now) c.args.command.now (g.Self.Place.world c.args.self.now)) (g.Self.Place.counts c.args.self.now)
     (last_gone _ _ _ c.in_ok-ticket.ensures.fresh (same_number c.in_ok-ticket.ticket))

@@ -8,7 +8,7 @@ use Rattle.pb_place.specs.Folders.{files_in, over}
 use Rattle.pb_place.specs.declared.command.Command.{Command}
 use Rattle.pb_place.specs.declared.command.Ended.{Ended}
 use Rattle.pb_place.specs.declared.child.Reply.{Reply}
-use Rattle.pb_place.specs.declared.flight.Flight.{Flight}
+use Rattle.pb_place.specs.declared.child_in_flight.ChildInFlight.{ChildInFlight}
 use Rattle.pb_place.specs.declared.place.StartFault.{StartFault}
 
 -- the files inside a child's folder
@@ -17,8 +17,8 @@ inside_out None m = map.empty
 inside_out (Some out) m = files_in out m
 
 -- a child that is spawned in this world: its command, its reply to what it sees of the world, and what its folder held
-abbrev pub flight_of : (World → Reply) → Command → World → ℕ → Flight
-flight_of child command w ticket = record {
+abbrev pub child_spawned : (World → Reply) → Command → World → ℕ → ChildInFlight
+child_spawned child command w ticket = record {
   ticket = ticket;
   command = command;
   ended = record { status = (child (seen_by command w)).status; stdout = (child (seen_by command w)).stdout; stderr = (child (seen_by command w)).stderr };
@@ -27,13 +27,13 @@ flight_of child command w ticket = record {
 }
 
 -- whether a child of this ticket is in flight; the first such child; the others
-abbrev pub is_flying : ℕ → List Flight → Bool
+abbrev pub is_flying : ℕ → List ChildInFlight → Bool
 is_flying ticket [] = false
 is_flying ticket (f ∷ fs) = (f.ticket == ticket) || is_flying ticket fs
 
-abbrev pub flight_at : ℕ → List Flight → Option Flight
-flight_at ticket [] = None
-flight_at ticket (f ∷ fs) = if f.ticket == ticket then Some f else flight_at ticket fs
+abbrev pub child_at : ℕ → List ChildInFlight → Option ChildInFlight
+child_at ticket [] = None
+child_at ticket (f ∷ fs) = if f.ticket == ticket then Some f else child_at ticket fs
 
 -- the most that ever were in flight, after a spawn with which there are so many
 abbrev pub most_after : {T : Type 0} → Result T StartFault → ℕ → ℕ → ℕ
@@ -50,21 +50,21 @@ landing None files before w = w
 landing (Some out) files before w = record w { files = put_files out files (put_back out (files_in out before) w.files) }
 
 -- the answer and the effect of the end of this child
-pub record LandsAs (flight : Flight) (old : World) (ended : Ended) (new : World) : Type 0 where
-  pub answer : ended ≡ flight.ended
-  pub world : new ≡ landing flight.command.out flight.files flight.before old
+pub record LandsAs (spawned : ChildInFlight) (old : World) (ended : Ended) (new : World) : Type 0 where
+  pub answer : ended ≡ spawned.ended
+  pub world : new ≡ landing spawned.command.out spawned.files spawned.before old
 
 -- what the child sees, and the files inside its folder, are the same in both worlds
-abbrev pub SeesStill : Flight → World → World → Type 0
-SeesStill flight old new = (seen_by flight.command new ≡ seen_by flight.command old) × (inside_out flight.command.out new.files ≡ inside_out flight.command.out old.files)
+abbrev pub SeesStill : ChildInFlight → World → World → Type 0
+SeesStill spawned old new = (seen_by spawned.command new ≡ seen_by spawned.command old) × (inside_out spawned.command.out new.files ≡ inside_out spawned.command.out old.files)
 
-abbrev pub StandsStill : ℕ → List Flight → World → World → Type 0
-StandsStill ticket flying old new = IfSome (flight_at ticket flying) (λ flight. SeesStill flight old new)
+abbrev pub StandsStill : ℕ → List ChildInFlight → World → World → Type 0
+StandsStill ticket flying old new = IfSome (child_at ticket flying) (λ spawned. SeesStill spawned old new)
 
 -- what was kept still for a ticket, stays so where a call left all of it as it was
-abbrev pub StaysStill : List Flight → World → World → (ℕ → Type 0) → (ℕ → Type 0) → Type 0
+abbrev pub StaysStill : List ChildInFlight → World → World → (ℕ → Type 0) → (ℕ → Type 0) → Type 0
 StaysStill flying old new before after = (ticket : ℕ) → StandsStill ticket flying old new → before ticket → after ticket
 
 -- for each ticket but the one that ended
-abbrev pub StaysStillBut : ℕ → List Flight → World → World → (ℕ → Type 0) → (ℕ → Type 0) → Type 0
+abbrev pub StaysStillBut : ℕ → List ChildInFlight → World → World → (ℕ → Type 0) → (ℕ → Type 0) → Type 0
 StaysStillBut ended flying old new before after = (ticket : ℕ) → ticket ≢ ended → StandsStill ticket flying old new → before ticket → after ticket

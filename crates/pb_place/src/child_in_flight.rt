@@ -8,7 +8,7 @@ use pb_data::{Bytes, Items};
 /// A child in flight: its ticket, its command, how it will end, which files it will leave in the command's folder, and
 /// what that folder held when it was spawned.
 #[derive(Drop)]
-pub struct Flight {
+pub struct ChildInFlight {
     /// The number by which its end is asked for. No two children in flight share one.
     pub ticket: u64,
     /// What was started.
