@@ -1,4 +1,3 @@
 pub mod Causes
 pub mod Keeping
 pub mod Opening
-pub mod Readings
