@@ -73,7 +73,7 @@ module _ (at : Standing) (folder : List ℕ) (needs : List (List ℕ)) (r : Reco
       from_named f (own need n names is) = itself need (named_of need n names).0 is
       from_named f (beyond need n s names at_s more) = further need s (named_of need n names).0 at_s more
 
-unnamed_of : (at : Standing) (key : List ℕ) (number : ℕ) → NoneNames at number → Unnamed at key number
+pub unnamed_of : (at : Standing) (key : List ℕ) (number : ℕ) → NoneNames at number → Unnamed at key number
 unnamed_of at key number none other r there has = (none other r there).1 key has
 
 pub may_keep : (read : Reading) (judge : Judge) (child : Answers) (folder key : List ℕ) (asked : Asked) (inputs : List Input) (number : ℕ) (needs : List (List ℕ)) (pairs : List (List ℕ × ℕ)) (ended : Ended) (old now : World) (r : Record)
@@ -94,7 +94,7 @@ may_keep read judge child folder key asked inputs number needs pairs ended old n
     })
 
 -- it names only numbers below the next one
-before_less : (next : Option ℕ) (n number : ℕ) → n < number → IsBefore next number → IsBefore next n
+pub before_less : (next : Option ℕ) (n number : ℕ) → n < number → IsBefore next number → IsBefore next n
 before_less None n number less before = tt
 before_less (Some m) n number less before = omega (arith, less, before)
 

@@ -1,3 +1,4 @@
 pub mod Writing
 pub mod Earned
 pub mod Ahead
+pub mod Migrated

@@ -13,7 +13,7 @@ use Rattle.pb_place.proofs.TakenApart.{parts_lone}
 use Rattle.pb_place.proofs.Within.{at_itself}
 use Rattle.pb_place.proofs.Worlds.{written-read, removed-read}
 use Rattle.pb_record.specs.declared.record.Record.{Record}
-use Rattle.pb_record.specs.Parts.{Reads, Says}
+use Rattle.pb_record.specs.Parts.{Reads, Says, IsReading}
 use Rattle.pb_record.proofs.LawLemmas.{one_reading, first_parts}
 use Rattle.pb_soundness.specs.Grounded.{Standing}
 use Rattle.pb_soundness.specs.Numbers.{IsAhead, NamesBefore, after}
@@ -22,7 +22,6 @@ use Rattle.pb_soundness.specs.Records.{Reading, is_key, out_of, place_of, record
 use Rattle.pb_soundness.specs.Sound.{Sound, IsTrueRecord}
 use Rattle.pb_soundness.specs.Laws.{Became, stays}
 use Rattle.pb_store.specs.Keeping.{MayPut}
-use Rattle.pb_store.specs.Readings.{IsReading}
 use Rattle.pb_soundness.proofs.Becoming.{stays_sound, one, none_some}
 use Rattle.pb_soundness.proofs.Four.{by_key, other_stays, without_record}
 use Rattle.pb_soundness.proofs.Places.{key_facts, record_named, record_plain, record_same, text_at, is_same, no_key, places_differ, folder_still, out_place_apart}

@@ -67,3 +67,9 @@ abbrev pub MayKeep : StoreFault → Type 0
 MayKeep (Place fault) = (fault ≡ place.Read) ⊎ (fault ≡ place.Write)
 MayKeep NumbersSpent = ⊥
 MayKeep OutOfMemory = Unit {0}
+
+-- of one that takes a run number after it has read, and writes a record: it tells that none is left only where none is
+abbrev pub MayMigrate : Option ℕ → StoreFault → Type 0
+MayMigrate next (Place fault) = (fault ≡ place.Read) ⊎ (fault ≡ place.Write)
+MayMigrate next NumbersSpent = next ≡ None
+MayMigrate next OutOfMemory = Unit {0}

@@ -1,4 +1,4 @@
 pub mod Causes
 pub mod Keeping
+pub mod Migrating
 pub mod Opening
-pub mod Readings

@@ -3,7 +3,6 @@
 ghost use Rattle.std.specs.Prelude.{◌≡◌, ℕ, Option, true, IsTrue, IfOk, OnOk, OnErr, Some, All};
 ghost use Rattle.pb_place.specs.Paths.{is_at_or_below};
 ghost use Rattle.pb_place.specs.World.{ChangesOnly, Torn, written};
-ghost use Rattle.pb_record.specs.Parts.{Says};
 ghost use Rattle.pb_soundness.specs.Inputs.{Judge};
 ghost use Rattle.pb_soundness.specs.Numbers.{IsAhead, IsBefore, NamesBefore};
 ghost use Rattle.pb_soundness.specs.Records.{Reading, is_key, place_of, record_at, number_of};
@@ -11,7 +10,7 @@ ghost use Rattle.pb_soundness.specs.Reuse.{number_if};
 ghost use Rattle.pb_soundness.specs.Sound.{Sound};
 ghost use Rattle.pb_store.specs.Causes.{Takes, MayRead, MayWrite, MayKeep};
 ghost use Rattle.pb_store.specs.Keeping.{IsKept, HasNeeds, MayPut, kept_of, numbered, or_zero};
-ghost use Rattle.pb_store.specs.Readings.{IsReading};
+ghost use Rattle.pb_record.specs.Parts.{IsReading};
 
 use crate::fault::{StoreFault, stored};
 use crate::store::{Store, place_path, record_at};

@@ -5,6 +5,7 @@ pub mod difference;
 pub mod dropping;
 pub mod fault;
 pub mod keeping;
+pub mod migrating;
 pub mod opening;
 pub mod store;
 

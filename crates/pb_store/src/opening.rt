@@ -8,7 +8,7 @@ ghost use Rattle.pb_soundness.specs.Numbers.{IsAhead};
 ghost use Rattle.pb_soundness.specs.Records.{Reading, ends_as_record, read_text, record_at};
 ghost use Rattle.pb_store.specs.Causes.{Takes, MayRead, MayOpen};
 ghost use Rattle.pb_store.specs.Opening.{greatest_named, greatest_if, is_record_name, name_in, greatest_at, greatest_of, next_in};
-ghost use Rattle.pb_store.specs.Readings.{IsReading};
+ghost use Rattle.pb_record.specs.Parts.{IsReading};
 
 use crate::dropping::number_after;
 use crate::fault::{StoreFault, stored};

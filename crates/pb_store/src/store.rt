@@ -5,7 +5,7 @@ ghost use Rattle.std.specs.FinMap as map;
 ghost use Rattle.pb_place.specs.Paths.{is_path};
 ghost use Rattle.pb_soundness.specs.Records.{Reading, is_key, place_of, record_at, read_text, if_of_key};
 ghost use Rattle.pb_store.specs.Causes.{Takes, MayRead};
-ghost use Rattle.pb_store.specs.Readings.{IsReading};
+ghost use Rattle.pb_record.specs.Parts.{IsReading};
 
 use crate::fault::{StoreFault, stored};
 use pb_data::{Bytes, Text};

@@ -1,7 +1,7 @@
 use Rattle.std.proofs.Common.{◌≡◌, true, ◌++◌, drop, IsTrue, All}
 use Rattle.pb_soundness.specs.Records.{Reading, is_key, record_at}
 use Rattle.pb_store.specs.Keeping.{numbered}
-use Rattle.pb_store.specs.Readings.{IsReading}
+use Rattle.pb_record.specs.Parts.{IsReading}
 use Rattle.pb_store.proofs.keeping.numbered.Given as goal
 
 abbrev pub invariant-loop-need : goal.invariant-loop-need

@@ -2,7 +2,7 @@ use Rattle.std.proofs.Common.{◌≡◌, max, drop, IsTrue}
 use Rattle.std.specs.List.{fold}
 use Rattle.pb_soundness.specs.Records.{Reading}
 use Rattle.pb_store.specs.Opening.{greatest_at, greatest_of}
-use Rattle.pb_store.specs.Readings.{IsReading}
+use Rattle.pb_record.specs.Parts.{IsReading}
 use Rattle.pb_store.proofs.opening.greatest_of.Given as goal
 
 abbrev pub invariant-loop-path : goal.invariant-loop-path

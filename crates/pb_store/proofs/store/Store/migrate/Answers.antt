@@ -1,0 +1,31 @@
+use Rattle.std.proofs.Common.{sym, subst}
+use Rattle.pb_place.specs.World.{World}
+use Rattle.pb_soundness.specs.Numbers.{IsAhead}
+use Rattle.pb_soundness.specs.Records.{record_at}
+use Rattle.pb_soundness.specs.Sound.{Sound}
+use Rattle.pb_store.proofs.Migrated.{same_migrated}
+use Rattle.pb_store.proofs.store.Store.migrate.Goals as goal
+
+pub returns-in-Ok-renumber-clause-sound : goal.returns-in-Ok-renumber-clause-sound
+returns-in-Ok-renumber-clause-sound g c read judge d r is told may sound =
+    c.in-Ok-renumber.ensures.sound read judge d is told
+    (λ number was. same_migrated read judge _ _ _ d _ number _ _ r (g.P.Place.world c.args.place.now) (g.P.Place.world c.record_at.new.place) (c.in-Ok.ensures.same told) (c.in-Ok.ensures.ok read is told) c.in-Some.is (may number was))
+    (subst (λ (w : World). Sound read judge g.P.Place.child c.args.self.now.folder w.files) (sym (c.in-Ok.ensures.same told)) sound)
+
+pub returns-in-Ok-renumber-clause-ahead : goal.returns-in-Ok-renumber-clause-ahead
+returns-in-Ok-renumber-clause-ahead g c read judge d r is told may ahead =
+    c.in-Ok-renumber.ensures.ahead read judge d is told
+    (λ number was. same_migrated read judge _ _ _ d _ number _ _ r (g.P.Place.world c.args.place.now) (g.P.Place.world c.record_at.new.place) (c.in-Ok.ensures.same told) (c.in-Ok.ensures.ok read is told) c.in-Some.is (may number was))
+    (subst (λ (w : World). IsAhead (record_at read c.args.self.now.folder w.files) c.args.self.now.next) (sym (c.in-Ok.ensures.same told)) ahead)
+
+pub returns-in-Err-renumber-clause-sound : goal.returns-in-Err-renumber-clause-sound
+returns-in-Err-renumber-clause-sound g c read judge d r is told may sound =
+    c.in-Err-renumber.ensures.sound read judge d is told
+    (λ number was. same_migrated read judge _ _ _ d _ number _ _ r (g.P.Place.world c.args.place.now) (g.P.Place.world c.record_at.new.place) (c.in-Ok.ensures.same told) (c.in-Ok.ensures.ok read is told) c.in-Some.is (may number was))
+    (subst (λ (w : World). Sound read judge g.P.Place.child c.args.self.now.folder w.files) (sym (c.in-Ok.ensures.same told)) sound)
+
+pub returns-in-Err-renumber-clause-ahead : goal.returns-in-Err-renumber-clause-ahead
+returns-in-Err-renumber-clause-ahead g c read judge d r is told may ahead =
+    c.in-Err-renumber.ensures.ahead read judge d is told
+    (λ number was. same_migrated read judge _ _ _ d _ number _ _ r (g.P.Place.world c.args.place.now) (g.P.Place.world c.record_at.new.place) (c.in-Ok.ensures.same told) (c.in-Ok.ensures.ok read is told) c.in-Some.is (may number was))
+    (subst (λ (w : World). IsAhead (record_at read c.args.self.now.folder w.files) c.args.self.now.next) (sym (c.in-Ok.ensures.same told)) ahead)

@@ -1,0 +1,27 @@
+-- A record of format 1 that becomes one of format 2.
+use Rattle.std.specs.Prelude.{◌≡◌, ◌⊎◌, ℕ, List, Option, Some}
+use Rattle.pb_place.specs.World.{World, Answers}
+use Rattle.pb_place.specs.declared.command.Command.{Command}
+use Rattle.pb_record.specs.declared.record.Needed.TheVariants.{Numbers}
+use Rattle.pb_record.specs.declared.record.Record.{Record}
+use Rattle.pb_soundness.specs.Inputs.{Judge, IsHonest}
+use Rattle.pb_soundness.specs.Numbers.{NoneNames, after}
+use Rattle.pb_soundness.specs.Records.{Reading, record_at}
+use Rattle.pb_soundness.specs.Reuse.{IsSame, AreGrounded}
+use Rattle.pb_store.specs.Keeping.{HasNeeds}
+
+-- the record with a number and the needed units with theirs, in place of copies
+abbrev pub numbered_record : Record → ℕ → List (List ℕ × ℕ) → Record
+numbered_record r number pairs = record { key = r.key; asked = r.asked; inputs = r.inputs; needed = Numbers number pairs; stdout = r.stdout; stderr = r.stderr }
+
+-- what makes a migrated record true: it has no difference, its child is honest, what the command reads is grounded, the needed units have their records, and no record names the number
+pub record IsMigrated (read : Reading) (judge : Judge) (child : Answers) (folder key : List ℕ) (c : Command) (needs : List (List ℕ)) (number : ℕ) (w : World) (r : Record) : Type 0 where
+  pub same : IsSame read folder key c w r
+  pub honest : IsHonest judge child c w
+  pub reads_grounded : AreGrounded (record_at read folder w.files) folder c.reads
+  pub needs_stand : HasNeeds (record_at read folder w.files) folder c.reads needs number
+  pub unnamed : NoneNames (record_at read folder w.files) number
+
+-- the next number is as it was, or was taken
+abbrev pub TakesNumber : Option ℕ → Option ℕ → Type 0
+TakesNumber old new = (new ≡ old) ⊎ ((number : ℕ) × (old ≡ Some number) × (new ≡ after number))

@@ -1,0 +1,117 @@
+//! A record of format 1 that becomes one of format 2.
+
+ghost use Rattle.std.specs.Prelude.{◌≡◌, ◌⊎◌, ℕ, List, true, IsTrue, IfOk, OnOk, Some, None, Err, All};
+ghost use Rattle.pb_place.specs.Paths.{is_at_or_below};
+ghost use Rattle.pb_place.specs.World.{ChangesOnly};
+ghost use Rattle.pb_place.specs.declared.command.Command.{Command};
+ghost use Rattle.pb_record.specs.Parts.{IsReading};
+ghost use Rattle.pb_record.specs.declared.record.Record.{Record};
+ghost use Rattle.pb_soundness.specs.Inputs.{Judge};
+ghost use Rattle.pb_soundness.specs.Numbers.{after, IsAhead};
+ghost use Rattle.pb_soundness.specs.Records.{Reading, is_key, place_of, record_at, number_of};
+ghost use Rattle.pb_soundness.specs.Sound.{Sound};
+ghost use Rattle.pb_store.specs.Causes.{Takes, MayMigrate};
+ghost use Rattle.pb_store.specs.Keeping.{numbered};
+ghost use Rattle.pb_store.specs.declared.fault.StoreFault.TheVariants as store_fault;
+ghost use Rattle.pb_store.specs.Migrating.{IsMigrated, numbered_record, TakesNumber};
+
+use crate::dropping::number_after;
+use crate::fault::StoreFault;
+use crate::keeping::{number_of, numbered, put_record};
+use crate::store::{Store, record_at};
+use pb_data::{Items, Text};
+use pb_place::Place;
+use pb_record::{Needed, Record};
+use std::alloc::Global;
+
+/// A record with a number, and the needed units with theirs, in place of copies.
+fn numbered_record(kept: Record, number: u64, numbers: Items<(Text, u64)>) -> Record
+    ensures { result ≡ numbered_record kept number numbers }
+{
+    Record {
+        key: kept.key,
+        asked: kept.asked,
+        inputs: kept.inputs,
+        needed: Needed::Numbers(number, numbers),
+        stdout: kept.stdout,
+        stderr: kept.stderr,
+    }
+}
+
+impl Store {
+    /// Writes a record with the next number in its unit's place.
+    fn renumber<P: Place>(
+        &mut self,
+        alloc: Global,
+        place: &mut P,
+        key: &Text,
+        needs: &[Text],
+        kept: Record,
+    ) -> Result<(), StoreFault>
+        requires key { is_key key.now ≡ true }
+        requires keys { All (λ need. is_key need ≡ true) needs.now }
+        ensures sound { (read : Reading) (judge : Judge) (c : Command) → IsReading read → IsTrue P.tells → ((number : ℕ) → self.old.next ≡ Some number → IsMigrated read judge P.child self.old.folder key.now c needs.now number (P.world place.old) kept) → Sound read judge P.child self.old.folder (P.world place.old).files → Sound read judge P.child self.old.folder (P.world place.new).files }
+        ensures ahead { (read : Reading) (judge : Judge) (c : Command) → IsReading read → IsTrue P.tells → ((number : ℕ) → self.old.next ≡ Some number → IsMigrated read judge P.child self.old.folder key.now c needs.now number (P.world place.old) kept) → IsAhead (record_at read self.old.folder (P.world place.old).files) self.old.next → IsAhead (record_at read self.old.folder (P.world place.new).files) self.new.next }
+        ensures next { TakesNumber self.old.next self.new.next }
+        ensures folder { self.new.folder ≡ self.old.folder }
+        ensures spent { self.old.next ≡ None → (result ≡ Err store_fault.NumbersSpent) × (IsTrue P.tells → P.world place.new ≡ P.world place.old) }
+        ensures stands { (read : Reading) → IsReading read → IsTrue P.tells → kept.key ≡ key.now → OnOk result ((number : ℕ) × (self.old.next ≡ Some number) × (record_at read self.old.folder (P.world place.new).files key.now ≡ Some (numbered_record kept number (numbered (record_at read self.old.folder (P.world place.old).files) needs.now)))) }
+        ensures only { IsTrue P.tells → ChangesOnly (is_at_or_below (place_of self.old.folder key.now)) (P.world place.old) (P.world place.new) }
+        ensures takes { Takes (MayMigrate self.old.next) result (P.counts place.old) (P.counts place.new) }
+    {
+        let _ = self.folder.as_str();
+        let number = match self.next {
+            None => return Err(StoreFault::NumbersSpent),
+            Some(number) => number,
+        };
+        let numbers = match numbered(alloc, place, &self.folder, needs) {
+            Ok(numbers) => numbers,
+            Err(fault) => return Err(fault),
+        };
+        let kept = numbered_record(kept, number, numbers);
+        self.next = number_after(number);
+        match put_record(alloc, place, &self.folder, key, &kept) {
+            Ok(()) => Ok(()),
+            Err(fault) => Err(fault),
+        }
+    }
+
+    /// Gives a unit's record of format 1 a run number, names the needed units with their numbers, and writes it in its
+    /// place as format 2. Where the record is of format 2, or none counts, nothing is changed. `needs` are the keys of
+    /// the units that the unit needs, in plan order. After a fault the old record stands, none, or the new one.
+    ///
+    /// Faults: NumbersSpent, where the record is of format 1 and no number is left: nothing was changed then; Place,
+    /// where a record cannot be read or written; OutOfMemory.
+    pub fn migrate<P: Place>(
+        &mut self,
+        alloc: Global,
+        place: &mut P,
+        key: &Text,
+        needs: &[Text],
+    ) -> Result<(), StoreFault>
+        requires key { is_key key.now ≡ true }
+        requires keys { All (λ need. is_key need ≡ true) needs.now }
+        ensures sound { (read : Reading) (judge : Judge) (c : Command) (r : Record) → IsReading read → IsTrue P.tells → ((number : ℕ) → self.old.next ≡ Some number → IsMigrated read judge P.child self.old.folder key.now c needs.now number (P.world place.old) r) → Sound read judge P.child self.old.folder (P.world place.old).files → Sound read judge P.child self.old.folder (P.world place.new).files }
+        ensures ahead { (read : Reading) (judge : Judge) (c : Command) (r : Record) → IsReading read → IsTrue P.tells → ((number : ℕ) → self.old.next ≡ Some number → IsMigrated read judge P.child self.old.folder key.now c needs.now number (P.world place.old) r) → IsAhead (record_at read self.old.folder (P.world place.old).files) self.old.next → IsAhead (record_at read self.old.folder (P.world place.new).files) self.new.next }
+        ensures next { TakesNumber self.old.next self.new.next }
+        ensures folder { self.new.folder ≡ self.old.folder }
+        ensures only { IsTrue P.tells → ChangesOnly (is_at_or_below (place_of self.old.folder key.now)) (P.world place.old) (P.world place.new) }
+        ensures takes { Takes (MayMigrate self.old.next) result (P.counts place.old) (P.counts place.new) }
+    {
+        let found = match record_at(alloc, place, &self.folder, key) {
+            Ok(found) => found,
+            Err(fault) => return Err(fault),
+        };
+        let kept = match found {
+            Some(kept) => kept,
+            None => return Ok(()),
+        };
+        if number_of(&kept).is_some() {
+            return Ok(());
+        }
+        match self.renumber(alloc, place, key, needs, kept) {
+            Ok(()) => Ok(()),
+            Err(fault) => Err(fault),
+        }
+    }
+}
