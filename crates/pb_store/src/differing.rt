@@ -1,7 +1,6 @@
 //! What differs of a unit since its record was kept.
 
-ghost use Rattle.std.specs.Prelude.{◌≡◌, ◌&&◌, true, false, IsTrue, IfOk, IfNone, MatchOption, Decides, List, ℕ};
-ghost use Rattle.std.specs.Str.{bytes_eq};
+ghost use Rattle.std.specs.Prelude.{◌≡◌, true, false, IsTrue, IfOk, IfNone, MatchOption, Decides, List, ℕ};
 ghost use Rattle.pb_record.proofs.ReadingLemmas.{reading};
 ghost use Rattle.pb_record.specs.Commands.{command_of};
 ghost use Rattle.pb_record.specs.declared.record.Record.{Record};
@@ -10,10 +9,11 @@ ghost use Rattle.pb_soundness.specs.Inputs.{Agrees, name_of};
 ghost use Rattle.pb_soundness.specs.Records.{Reading, is_key, out_of, record_at};
 ghost use Rattle.pb_soundness.specs.Reuse.{IsSame, number_if};
 ghost use Rattle.pb_store.specs.Causes.{Takes, MayRead};
-ghost use Rattle.pb_store.specs.Differences.{IsFirst, FirstOrAll, IsPresent, HasNumber, HasFiles, AreNeeded, FirstNeed, FirstFrom, FirstDifference, same_files};
+ghost use Rattle.pb_store.specs.Differences.{IsFirst, FirstOrAll, IsPresent, HasNumber, HasFiles, AreNeeded, FirstNeed, FirstFrom, FirstDifference};
 ghost use Rattle.pb_store.specs.Presence.{MayLook};
 ghost use Rattle.pb_store.specs.Readings.{IsReading};
 
+use crate::comparing::{are_same_files, is_same_input};
 use crate::fault::StoreFault;
 use crate::inputs::{files_in, input_now};
 use crate::keys::is_key;
@@ -49,58 +49,6 @@ fn name_of(alloc: Global, input: &Input) -> Result<InputName, AllocError>
         Input::File(path, _) => Ok(InputName::Path(path.copy(alloc)?)),
         Input::Tree(path, _) => Ok(InputName::Path(path.copy(alloc)?)),
         Input::Value(name, _) => Ok(InputName::Variable(name.copy(alloc)?)),
-    }
-}
-
-/// Whether two files are the same.
-fn is_same_file(file: &(RelativePath, Bytes), other: &(RelativePath, Bytes)) -> bool
-    ensures { result ≡ bytes_eq file.now.0 other.now.0 && bytes_eq file.now.1 other.now.1 }
-{
-    file.0.as_str().as_bytes() == other.0.as_str().as_bytes()
-        && file.1.as_slice() == other.1.as_slice()
-}
-
-/// Whether two lists of files are the same. It takes no memory.
-fn same_files(files: &[(RelativePath, Bytes)], others: &[(RelativePath, Bytes)]) -> bool
-    ensures { result ≡ same_files files.now others.now }
-{
-    let mut left = files;
-    let mut right = others;
-    while let [file, after @ ..] = left {
-        match right {
-            [other, others_after @ ..] => {
-                if !is_same_file(file, other) {
-                    return false;
-                }
-                left = after;
-                right = others_after;
-            }
-            [] => return false,
-        }
-    }
-    right.is_empty()
-}
-
-/// Whether two lists of files are the same.
-#[tactic(auto, using(crate::proofs::Firsts::files_same))]
-fn are_same_files(files: &[(RelativePath, Bytes)], others: &[(RelativePath, Bytes)]) -> bool
-    ensures { Decides result (files.now ≡ others.now) }
-{
-    same_files(files, others)
-}
-
-/// Whether two inputs are the same: their kind, their name and their value.
-fn is_same_input(input: &Input, other: &Input) -> bool
-    ensures { Decides result (input.now ≡ other.now) }
-{
-    match (input, other) {
-        (Input::File(path, bytes), Input::File(second, others)) => path == second
-            && bytes == others,
-        (Input::Tree(path, files), Input::Tree(second, others)) => {
-            path == second && are_same_files(files.as_slice(), others.as_slice())
-        }
-        (Input::Value(name, text), Input::Value(second, other)) => name == second && text == other,
-        _ => false,
     }
 }
 
