@@ -1,0 +1,124 @@
+-- Lemmas on what differs.
+use Rattle.std.proofs.Common.{◌≡◌, ◌∙◌, ◌++◌, ◌&&◌, ℕ, zero, suc, Bool, true, false, List, [], ◌∷◌, take, drop, Contains, Option, Some, None, refl, sym, ap, subst, arith, ◌+◌, ◌<◌, length, get_or}
+use Rattle.std.proofs.Math.Seq.{take-suc}
+use Rattle.std.proofs.lemmas.List.{take-append-drop, drop_more}
+use Rattle.std.specs.Prelude.{Decides, IfNone}
+use Rattle.std.specs.List.{AllByRecursion}
+use Rattle.std.specs.Str.{bytes_eq}
+use Rattle.std.proofs.lemmas.Bool.{and_parts, and_from}
+use Rattle.std.proofs.lemmas.Slice.Eq.{bytes_eq-Decides}
+use Rattle.pb_place.specs.World.{World, Map}
+use Rattle.pb_record.proofs.LawLemmas.{one_reading}
+use Rattle.pb_record.proofs.ReadingLemmas.{reading, reading_reads}
+use Rattle.pb_soundness.proofs.Places.{no_key}
+use Rattle.pb_store.specs.Readings.{IsReading}
+use Rattle.pb_place.specs.declared.command.Command.{Command}
+use Rattle.pb_record.specs.declared.record.Needed.{Needed}
+use Rattle.pb_record.specs.declared.record.Needed.TheVariants.{Copies, Numbers}
+use Rattle.pb_record.specs.declared.record.Record.{Record}
+use Rattle.pb_soundness.specs.Grounded.{Standing}
+use Rattle.pb_soundness.specs.Records.{Reading, is_key, record_at}
+use Rattle.pb_soundness.specs.Reuse.{IsSame, NeededNow, number_if}
+use Rattle.pb_store.specs.Differences.{IsFirst, AreNeeded, HasFiles, HasNumber, FirstFrom, FirstOf, FirstDifference, same_files}
+use Rattle.pb_store.specs.declared.differing.Difference.{Difference}
+use Rattle.pb_store.specs.declared.differing.Difference.TheVariants.{NoRecord}
+
+-- two lists of files
+
+pairs_same : (x y : List ℕ × List ℕ) → x.0 ≡ y.0 → x.1 ≡ y.1 → x ≡ y
+pairs_same (a, b) (c, d) e f = cc (e, f)
+
+files_alike : (xs ys : List (List ℕ × List ℕ)) → same_files xs ys ≡ true → xs ≡ ys
+files_alike [] [] e = refl
+files_alike [] (y ∷ ys) e = cc
+files_alike (x ∷ xs) [] e = cc
+files_alike (x ∷ xs) (y ∷ ys) e =
+    let parts = and_parts (bytes_eq x.0 y.0 && bytes_eq x.1 y.1) (same_files xs ys) e in
+    let heads = and_parts (bytes_eq x.0 y.0) (bytes_eq x.1 y.1) parts.0 in
+    cc (pairs_same x y ((bytes_eq-Decides x.0 y.0).0 heads.0) ((bytes_eq-Decides x.1 y.1).0 heads.1), files_alike xs ys parts.1)
+
+files_themselves : (xs : List (List ℕ × List ℕ)) → same_files xs xs ≡ true
+files_themselves [] = refl
+files_themselves (x ∷ xs) = and_from _ _ (and_from _ _ ((bytes_eq-Decides x.0 x.0).1 refl) ((bytes_eq-Decides x.1 x.1).1 refl)) (files_themselves xs)
+
+pub files_same : (b : Bool) (xs ys : List (List ℕ × List ℕ)) → b ≡ same_files xs ys → Decides b (xs ≡ ys)
+files_same b xs ys is = ((λ e. files_alike xs ys (sym is ∙ e)), (λ same. is ∙ ap (same_files xs) (sym same) ∙ files_themselves xs))
+
+-- nothing differs, in the words of reuse
+
+all_contained : {A : Type 0} (P : A → Type 0) (xs : List A) → AllByRecursion P xs → (x : A) → Contains xs x → P x
+all_contained P [] all x (k, within, at) = absurd (omega (arith, within))
+all_contained P (y ∷ xs) (here, all) x (zero, within, at) = subst P at here
+all_contained P (y ∷ xs) (here, all) x (suc k, within, at) = all_contained P xs all x (k, omega (arith, within), at)
+
+needed_now : (folder : List ℕ) (at : Standing) (w : World) (needed : Needed) → AreNeeded folder at w.files needed → NeededNow folder at w.files needed
+needed_now folder at w (Copies copies) all = λ need files there. (all_contained (HasFiles folder w.files) copies all (need, files) there).1
+needed_now folder at w (Numbers number needs) all = λ need n there. all_contained (HasNumber at) needs all (need, n) there
+
+same_by : (read : Reading) (folder key : List ℕ) (c : Command) (w : World) (o : Option Record) → record_at read folder w.files key ≡ o → FirstOf folder (record_at read folder w.files) c w o None → (r : Record) × IsSame read folder key c w r
+same_by read folder key c w None is told = cc
+same_by read folder key c w (Some r) is told = (r, record { stands = is; asked = told.asked; inputs = told.inputs; needed = needed_now folder (record_at read folder w.files) w r.needed told.needed })
+
+pub none_is_same : (read : Reading) (folder key : List ℕ) (c : Command) (w : World) (found : Option Difference) → FirstDifference read folder key c w found → IfNone found ((r : Record) × IsSame read folder key c w r)
+none_is_same read folder key c w None told = same_by read folder key c w (record_at read folder w.files key) refl told
+none_is_same read folder key c w (Some d) told = tt
+
+-- the reading of texts is one
+
+one_read : (read : Reading) → IsReading read → reading ≡ read
+one_read read is = λ i text. one_reading text (reading text) (read text) (reading_reads text) (is text) i
+
+pub first_for : (read : Reading) (folder key : List ℕ) (c : Command) (w : World) (found : Option Difference) → IsReading read → FirstDifference reading folder key c w found → FirstDifference read folder key c w found
+first_for read folder key c w found is told = subst (λ r. FirstDifference r folder key c w found) (one_read read is) told
+
+pub same_for : (read : Reading) (folder key : List ℕ) (c : Command) (w : World) (found : Option Difference) → IsReading read → FirstDifference reading folder key c w found → IfNone found ((r : Record) × IsSame read folder key c w r)
+same_for read folder key c w found is told = none_is_same read folder key c w found (first_for read folder key c w found is told)
+
+pub ruleset difference_laws = (first_for, same_for)
+
+-- a text that is no key has no number
+pub no_number : (folder : List ℕ) (files : Map) (key : List ℕ) → is_key key ≡ false → number_if (record_at reading folder files key) ≡ None
+no_number folder files key wrong = ap number_if (no_key reading folder files key wrong)
+
+pub read_number : (found : Option Record) (folder : List ℕ) (files : Map) (key : List ℕ) → ((read : Reading) → IsReading read → found ≡ record_at read folder files key) → number_if found ≡ number_if (record_at reading folder files key)
+read_number found folder files key is = ap number_if (is reading reading_reads)
+
+pub is_the_reading : IsReading reading
+is_the_reading = reading_reads
+
+pub ruleset number_laws = (no_number, read_number, is_the_reading)
+
+-- what is told of the record there
+pub none_there : (folder key : List ℕ) (c : Command) (w : World) (found : Option Record) → found ≡ record_at reading folder w.files key → found ≡ None → FirstDifference reading folder key c w (Some NoRecord)
+none_there folder key c w found is none = subst (λ o. FirstOf folder (record_at reading folder w.files) c w o (Some NoRecord)) (sym none ∙ is) refl
+
+pub some_there : (folder key : List ℕ) (c : Command) (w mid : World) (found : Option Record) (kept : Record) (d : Option Difference) → found ≡ record_at reading folder w.files key → found ≡ Some kept → mid ≡ w
+    → FirstFrom folder (record_at reading folder mid.files) c mid kept d → FirstDifference reading folder key c w d
+some_there folder key c w mid found kept d is some same told =
+    subst (λ o. FirstOf folder (record_at reading folder w.files) c w o d) (sym some ∙ is) (subst (λ x. FirstFrom folder (record_at reading folder x.files) c x kept d) same told)
+
+-- the first of a row, one by one
+
+module _ {A B : Type 0} (Holds : World → A → Type 0) (told : A → B) (old mid : World) (row : List A) (i : ℕ) (here : A) (within : i < length row) (is : here ≡ get_or row i here) (same : mid ≡ old) where
+  all_push : (xs : List A) → AllByRecursion (Holds old) xs → Holds old here → AllByRecursion (Holds old) (xs ++ here ∷ [])
+  all_push [] all holds = (holds, tt)
+  all_push (x ∷ xs) (first, all) holds = (first, all_push xs all holds)
+
+  suc_is : (k : ℕ) → k + 1 ≡ suc k
+  suc_is k = omega arith
+
+  pub one_holds : (b : Bool) → AllByRecursion (Holds old) (take i row) → Decides b (Holds mid here) → b ≡ true → AllByRecursion (Holds old) (take (i + 1) row)
+  one_holds b all test passes =
+      subst (AllByRecursion (Holds old)) (sym (ap (λ k. take k row) (suc_is i) ∙ take-suc row i here within ∙ ap (λ x. take i row ++ x ∷ []) (sym is)))
+      (all_push (take i row) all (subst (λ w. Holds w here) same (test.0 passes)))
+
+  pub one_fails : (b : Bool) (said : B) → AllByRecursion (Holds old) (take i row) → Decides b (Holds mid here) → b ≡ false → said ≡ told here → IsFirst (Holds old) told row said
+  one_fails b said all test wrong tells = record {
+    before = take i row;
+    here = here;
+    after = drop (i + 1) row;
+    place = sym (take-append-drop i row) ∙ ap (λ rest. take i row ++ rest) (drop_more row i here within ∙ ap (λ x. x ∷ drop (i + 1) row) (sym is));
+    hold = all;
+    fails = λ holds. let passes = test.1 (subst (λ w. Holds w here) (sym same) holds) in cc;
+    tells = tells;
+  }

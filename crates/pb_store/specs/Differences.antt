@@ -1,0 +1,88 @@
+-- What differs of a unit against the present: the first that does, in this order.
+use Rattle.std.specs.Prelude.{◌≡◌, ◌++◌, ◌∷◌, ◌&&◌, ℕ, Bool, true, false, List, [], Option, Some, None}
+use Rattle.std.specs.List.{AllByRecursion}
+use Rattle.std.specs.Str.{bytes_eq}
+use Rattle.pb_place.specs.Paths.{is_relative}
+use Rattle.pb_place.specs.World.{World, Map}
+use Rattle.pb_place.specs.declared.command.Command as commands
+use Rattle.pb_record.specs.Commands.{AsksAs, command_of}
+use Rattle.pb_record.specs.declared.record.Input as inputs
+use Rattle.pb_record.specs.declared.record.Needed.{Needed}
+use Rattle.pb_record.specs.declared.record.Needed.TheVariants.{Copies, Numbers}
+use Rattle.pb_record.specs.declared.record.Record.{Record}
+use Rattle.pb_soundness.specs.Grounded.{Standing}
+use Rattle.pb_soundness.specs.Inputs.{Agrees, contents, input_in, name_of}
+use Rattle.pb_soundness.specs.Records.{Reading, out_of, record_at}
+use Rattle.pb_soundness.specs.Reuse.{number_if}
+use Rattle.pb_store.specs.declared.differing.Difference.{Difference}
+use Rattle.pb_store.specs.declared.differing.Difference.TheVariants.{NoRecord, Command, Pair, Input, Dependency}
+
+-- the first of a row of which this does not hold: it holds of all before it; and what is told of it
+pub record IsFirst {A B : Type 0} (Holds : A → Type 0) (told : A → B) (row : List A) (b : B) : Type 0 where
+  pub before : List A
+  pub here : A
+  pub after : List A
+  pub place : row ≡ before ++ here ∷ after
+  pub hold : AllByRecursion Holds before
+  pub fails : Holds here → ⊥
+  pub tells : b ≡ told here
+
+-- it holds of all of a row, or this is told of the first of which it does not
+abbrev pub FirstOrAll : {A : Type 0} → ((List ℕ × A) → Type 0) → List (List ℕ × A) → Option (List ℕ) → Type 0
+FirstOrAll Holds row None = AllByRecursion Holds row
+FirstOrAll Holds row (Some b) = IsFirst Holds (λ x. x.0) row b
+
+-- an input has its present value
+abbrev pub IsPresent : List ℕ → World → inputs.Input → Type 0
+IsPresent target w i = input_in target w (name_of i) ≡ i
+
+-- the record of a needed unit has the number with which it is named
+abbrev pub HasNumber : Standing → (List ℕ × ℕ) → Type 0
+HasNumber at need = number_if (at need.0) ≡ Some need.1
+
+-- the folder of a needed unit has the files that are named; a text that is no path in a folder names none
+abbrev pub HasFiles : List ℕ → Map → (List ℕ × List (List ℕ × List ℕ)) → Type 0
+HasFiles folder files need = (is_relative need.0 ≡ true) × (contents (out_of folder need.0) files ≡ need.1)
+
+-- by the record's own format, the needed units are as it names them; and the first that is not, in the order in which the record names them
+abbrev pub AreNeeded : List ℕ → Standing → Map → Needed → Type 0
+AreNeeded folder at files (Copies copies) = AllByRecursion (HasFiles folder files) copies
+AreNeeded folder at files (Numbers number needs) = AllByRecursion (HasNumber at) needs
+
+abbrev pub FirstNeed : List ℕ → Standing → Map → Needed → List ℕ → Type 0
+FirstNeed folder at files (Copies copies) need = IsFirst (HasFiles folder files) (λ c. c.0) copies need
+FirstNeed folder at files (Numbers number needs) need = IsFirst (HasNumber at) (λ n. n.0) needs need
+
+-- nothing differs from a record
+pub record IsAsRecorded (folder : List ℕ) (at : Standing) (c : commands.Command) (w : World) (r : Record) : Type 0 where
+  pub asked : command_of r.asked ≡ c
+  pub inputs : Agrees c.target r.inputs w
+  pub needed : AreNeeded folder at w.files r.needed
+
+-- what differs first from a record: its command, the variables apart; then its variables; then an input; then a needed unit
+abbrev pub DiffersFrom : List ℕ → Standing → commands.Command → World → Record → Difference → Type 0
+DiffersFrom folder at c w r NoRecord = ⊥
+DiffersFrom folder at c w r Command = AsksAs r.asked c → ⊥
+DiffersFrom folder at c w r Pair = AsksAs r.asked c × (r.asked.pairs ≡ c.pairs → ⊥)
+DiffersFrom folder at c w r (Input name) = (command_of r.asked ≡ c) × IsFirst (IsPresent c.target w) name_of r.inputs name
+DiffersFrom folder at c w r (Dependency need) = (command_of r.asked ≡ c) × Agrees c.target r.inputs w × FirstNeed folder at w.files r.needed need
+
+-- what is told of a record: none where nothing differs from it, else the first difference
+abbrev pub FirstFrom : List ℕ → Standing → commands.Command → World → Record → Option Difference → Type 0
+FirstFrom folder at c w r None = IsAsRecorded folder at c w r
+FirstFrom folder at c w r (Some d) = DiffersFrom folder at c w r d
+
+-- what is told of a unit: that no record counts in its place, or what is told of the record there
+abbrev pub FirstOf : List ℕ → Standing → commands.Command → World → Option Record → Option Difference → Type 0
+FirstOf folder at c w None found = found ≡ Some NoRecord
+FirstOf folder at c w (Some r) found = FirstFrom folder at c w r found
+
+abbrev pub FirstDifference : Reading → List ℕ → List ℕ → commands.Command → World → Option Difference → Type 0
+FirstDifference read folder key c w found = FirstOf folder (record_at read folder w.files) c w (record_at read folder w.files key) found
+
+-- whether two lists of files are the same
+abbrev pub same_files : List (List ℕ × List ℕ) → List (List ℕ × List ℕ) → Bool
+same_files [] [] = true
+same_files [] (y ∷ ys) = false
+same_files (x ∷ xs) [] = false
+same_files (x ∷ xs) (y ∷ ys) = (bytes_eq x.0 y.0 && bytes_eq x.1 y.1) && same_files xs ys

@@ -1,0 +1,362 @@
+//! What differs of a unit since its record was kept.
+
+ghost use Rattle.std.specs.Prelude.{◌≡◌, true, false, IsTrue, IfOk, IfNone, MatchOption, Decides, List, ℕ};
+ghost use Rattle.pb_record.proofs.ReadingLemmas.{reading};
+ghost use Rattle.pb_record.specs.Commands.{command_of};
+ghost use Rattle.pb_record.specs.declared.record.Record.{Record};
+ghost use Rattle.pb_place.specs.Paths.{is_relative};
+ghost use Rattle.pb_soundness.specs.Inputs.{Agrees, name_of};
+ghost use Rattle.pb_soundness.specs.Records.{Reading, is_key, out_of, record_at};
+ghost use Rattle.pb_soundness.specs.Reuse.{IsSame, number_if};
+ghost use Rattle.pb_store.specs.Causes.{Takes, MayRead};
+ghost use Rattle.pb_store.specs.Differences.{IsFirst, FirstOrAll, IsPresent, HasNumber, HasFiles, AreNeeded, FirstNeed, FirstFrom, FirstDifference};
+ghost use Rattle.pb_store.specs.Presence.{MayLook};
+ghost use Rattle.pb_store.specs.Readings.{IsReading};
+
+use crate::comparing::{are_same_files, is_same_input};
+use crate::fault::StoreFault;
+use crate::inputs::{files_in, input_now};
+use crate::keys::is_key;
+use crate::store::{Store, record_at};
+use pb_data::{Bytes, Items, Text, TryCopy};
+use pb_place::{Command, PathText, Place, RelativePath};
+use pb_project::InputName;
+use pb_record::{Input, Needed, Record};
+use std::alloc::{AllocError, Global};
+
+/// What differs of a unit since its record was kept: the first of these, in this order.
+#[derive(Debug, Drop)]
+pub enum Difference {
+    /// No record counts in the unit's place.
+    NoRecord,
+    /// The program, its words, its folder, its output or target folder, the compiler or what the child may read is
+    /// another.
+    Command,
+    /// The variables that the command sets are others.
+    Pair,
+    /// The first input whose value is not the present one.
+    Input(InputName),
+    /// The first needed unit that is not as the record names it: with another run number, or in format 1 with other
+    /// files. This is its key.
+    Dependency(Text),
+}
+
+/// The name of an input.
+fn name_of(alloc: Global, input: &Input) -> Result<InputName, AllocError>
+    ensures { IfOk result (λ name. name ≡ name_of input.now) }
+{
+    match input {
+        Input::File(path, _) => Ok(InputName::Path(path.copy(alloc)?)),
+        Input::Tree(path, _) => Ok(InputName::Path(path.copy(alloc)?)),
+        Input::Value(name, _) => Ok(InputName::Variable(name.copy(alloc)?)),
+    }
+}
+
+/// Whether an input has its present value.
+fn is_present<P: Place>(
+    alloc: Global,
+    place: &mut P,
+    target: &PathText,
+    input: &Input,
+) -> Result<bool, StoreFault>
+    ensures ok { IsTrue P.tells → IfOk result (λ same. Decides same (IsPresent target.now (P.world place.old) input.now)) }
+    ensures same { IsTrue P.tells → P.world place.new ≡ P.world place.old }
+    ensures takes { Takes MayLook result (P.counts place.old) (P.counts place.new) }
+{
+    let name = match name_of(alloc, input) {
+        Ok(name) => name,
+        Err(_) => return Err(StoreFault::OutOfMemory),
+    };
+    match input_now(alloc, place, target, &name) {
+        Ok(now) => Ok(is_same_input(&now, input)),
+        Err(fault) => Err(fault),
+    }
+}
+
+/// The name of the first input whose value is not the present one.
+fn first_input<P: Place>(
+    alloc: Global,
+    place: &mut P,
+    target: &PathText,
+    inputs: &[Input],
+) -> Result<Option<InputName>, StoreFault>
+    ensures ok { IsTrue P.tells → IfOk result (λ found. MatchOption found (Agrees target.now inputs.now (P.world place.old)) (IsFirst (IsPresent target.now (P.world place.old)) name_of inputs.now)) }
+    ensures same { IsTrue P.tells → P.world place.new ≡ P.world place.old }
+    ensures takes { Takes MayLook result (P.counts place.old) (P.counts place.new) }
+{
+    for input in inputs {
+        match is_present(alloc, place, target, input) {
+            Ok(true) => {}
+            Ok(false) => {
+                return match name_of(alloc, input) {
+                    Ok(name) => Ok(Some(name)),
+                    Err(_) => Err(StoreFault::OutOfMemory),
+                };
+            }
+            Err(fault) => return Err(fault),
+        }
+    }
+    Ok(None)
+}
+
+/// The number of a record that stands.
+fn number_if(found: &Option<Record>) -> Option<u64>
+    ensures { result ≡ number_if found.now }
+{
+    match found {
+        None => None,
+        Some(kept) => match &kept.needed {
+            Needed::Copies(_) => None,
+            Needed::Numbers(own, _) => Some(*own),
+        },
+    }
+}
+
+/// The number of the record that counts in the place of a unit. A text that is no key names no unit.
+#[tactic(auto, using(crate::proofs::Firsts::number_laws))]
+fn standing_number<P: Place>(
+    alloc: Global,
+    place: &mut P,
+    folder: &PathText,
+    key: &Text,
+) -> Result<Option<u64>, StoreFault>
+    ensures ok { IsTrue P.tells → IfOk result (λ found. found ≡ number_if (record_at reading folder.now (P.world place.old).files key.now)) }
+    ensures same { IsTrue P.tells → P.world place.new ≡ P.world place.old }
+    ensures takes { Takes MayRead result (P.counts place.old) (P.counts place.new) }
+{
+    if !is_key(key) {
+        return Ok(None);
+    }
+    match record_at(alloc, place, folder, key) {
+        Ok(found) => Ok(number_if(&found)),
+        Err(fault) => Err(fault),
+    }
+}
+
+/// Whether this is the number.
+fn is_number(found: Option<u64>, number: u64) -> bool
+    ensures { Decides result (found ≡ Some number) }
+{
+    match found {
+        None => false,
+        Some(own) => own == number,
+    }
+}
+
+/// Whether the record of a needed unit has the number with which it is named.
+fn has_number<P: Place>(
+    alloc: Global,
+    place: &mut P,
+    folder: &PathText,
+    need: &(Text, u64),
+) -> Result<bool, StoreFault>
+    ensures ok { IsTrue P.tells → IfOk result (λ same. Decides same (HasNumber (record_at reading folder.now (P.world place.old).files) need.now)) }
+    ensures same { IsTrue P.tells → P.world place.new ≡ P.world place.old }
+    ensures takes { Takes MayRead result (P.counts place.old) (P.counts place.new) }
+{
+    match standing_number(alloc, place, folder, &need.0) {
+        Ok(found) => Ok(is_number(found, need.1)),
+        Err(fault) => Err(fault),
+    }
+}
+
+/// The key of the first needed unit whose record has not the number with which it is named.
+fn first_number<P: Place>(
+    alloc: Global,
+    place: &mut P,
+    folder: &PathText,
+    needs: &[(Text, u64)],
+) -> Result<Option<Text>, StoreFault>
+    ensures ok { IsTrue P.tells → IfOk result (λ found. FirstOrAll (HasNumber (record_at reading folder.now (P.world place.old).files)) needs.now found) }
+    ensures same { IsTrue P.tells → P.world place.new ≡ P.world place.old }
+    ensures takes { Takes MayLook result (P.counts place.old) (P.counts place.new) }
+{
+    for need in needs {
+        match has_number(alloc, place, folder, need) {
+            Ok(true) => {}
+            Ok(false) => {
+                return match need.0.copy(alloc) {
+                    Ok(key) => Ok(Some(key)),
+                    Err(_) => Err(StoreFault::OutOfMemory),
+                };
+            }
+            Err(fault) => return Err(fault),
+        }
+    }
+    Ok(None)
+}
+
+/// The path of a unit's output folder; none where a text is no path in a folder.
+fn out_path(alloc: Global, folder: &PathText, key: &Text) -> Result<Option<PathText>, AllocError>
+    ensures { IfOk result (λ found. MatchOption found (is_relative key.now ≡ false) (λ path. (is_relative key.now ≡ true) × (path ≡ out_of folder.now key.now))) }
+{
+    match RelativePath::of(key.copy(alloc)?) {
+        None => Ok(None),
+        Some(relative) => Ok(Some(folder.below(alloc, &relative)?)),
+    }
+}
+
+/// Whether the folder of a needed unit has the files that are named.
+fn has_files<P: Place>(
+    alloc: Global,
+    place: &mut P,
+    folder: &PathText,
+    need: &(Text, Items<(RelativePath, Bytes)>),
+) -> Result<bool, StoreFault>
+    ensures ok { IsTrue P.tells → IfOk result (λ same. Decides same (HasFiles folder.now (P.world place.old).files need.now)) }
+    ensures same { IsTrue P.tells → P.world place.new ≡ P.world place.old }
+    ensures takes { Takes MayLook result (P.counts place.old) (P.counts place.new) }
+{
+    let out = match out_path(alloc, folder, &need.0) {
+        Ok(Some(out)) => out,
+        Ok(None) => return Ok(false),
+        Err(_) => return Err(StoreFault::OutOfMemory),
+    };
+    match files_in(alloc, place, &out) {
+        Ok(files) => Ok(are_same_files(files.as_slice(), need.1.as_slice())),
+        Err(fault) => Err(fault),
+    }
+}
+
+/// The key of the first needed unit whose folder has not the files that are named.
+fn first_copy<P: Place>(
+    alloc: Global,
+    place: &mut P,
+    folder: &PathText,
+    copies: &[(Text, Items<(RelativePath, Bytes)>)],
+) -> Result<Option<Text>, StoreFault>
+    ensures ok { IsTrue P.tells → IfOk result (λ found. FirstOrAll (HasFiles folder.now (P.world place.old).files) copies.now found) }
+    ensures same { IsTrue P.tells → P.world place.new ≡ P.world place.old }
+    ensures takes { Takes MayLook result (P.counts place.old) (P.counts place.new) }
+{
+    for need in copies {
+        match has_files(alloc, place, folder, need) {
+            Ok(true) => {}
+            Ok(false) => {
+                return match need.0.copy(alloc) {
+                    Ok(key) => Ok(Some(key)),
+                    Err(_) => Err(StoreFault::OutOfMemory),
+                };
+            }
+            Err(fault) => return Err(fault),
+        }
+    }
+    Ok(None)
+}
+
+/// The key of the first needed unit that is not as the record names it, by the record's own format.
+fn first_need<P: Place>(
+    alloc: Global,
+    place: &mut P,
+    folder: &PathText,
+    needed: &Needed,
+) -> Result<Option<Text>, StoreFault>
+    ensures ok { IsTrue P.tells → IfOk result (λ found. MatchOption found (AreNeeded folder.now (record_at reading folder.now (P.world place.old).files) (P.world place.old).files needed.now) (FirstNeed folder.now (record_at reading folder.now (P.world place.old).files) (P.world place.old).files needed.now)) }
+    ensures same { IsTrue P.tells → P.world place.new ≡ P.world place.old }
+    ensures takes { Takes MayLook result (P.counts place.old) (P.counts place.new) }
+{
+    match needed {
+        Needed::Copies(copies) => first_copy(alloc, place, folder, copies.as_slice()),
+        Needed::Numbers(_, needs) => first_number(alloc, place, folder, needs.as_slice()),
+    }
+}
+
+/// The first difference in what the command is not: an input, or a needed unit.
+fn first_around<P: Place>(
+    alloc: Global,
+    place: &mut P,
+    folder: &PathText,
+    command: &Command,
+    kept: &Record,
+) -> Result<Option<Difference>, StoreFault>
+    ensures ok { IsTrue P.tells → command_of kept.now.asked ≡ command.now → IfOk result (FirstFrom folder.now (record_at reading folder.now (P.world place.old).files) command.now (P.world place.old) kept.now) }
+    ensures same { IsTrue P.tells → P.world place.new ≡ P.world place.old }
+    ensures takes { Takes MayLook result (P.counts place.old) (P.counts place.new) }
+{
+    match first_input(alloc, place, &command.target, kept.inputs.as_slice()) {
+        Ok(Some(name)) => return Ok(Some(Difference::Input(name))),
+        Ok(None) => {}
+        Err(fault) => return Err(fault),
+    }
+    match first_need(alloc, place, folder, &kept.needed) {
+        Ok(Some(key)) => Ok(Some(Difference::Dependency(key))),
+        Ok(None) => Ok(None),
+        Err(fault) => Err(fault),
+    }
+}
+
+/// The first difference from a record.
+fn first_from<P: Place>(
+    alloc: Global,
+    place: &mut P,
+    folder: &PathText,
+    command: &Command,
+    kept: &Record,
+) -> Result<Option<Difference>, StoreFault>
+    ensures ok { IsTrue P.tells → IfOk result (FirstFrom folder.now (record_at reading folder.now (P.world place.old).files) command.now (P.world place.old) kept.now) }
+    ensures same { IsTrue P.tells → P.world place.new ≡ P.world place.old }
+    ensures takes { Takes MayLook result (P.counts place.old) (P.counts place.new) }
+{
+    if !kept.asked.asks_as(command) {
+        return Ok(Some(Difference::Command));
+    }
+    if !kept.asked.sets_as(command) {
+        return Ok(Some(Difference::Pair));
+    }
+    match first_around(alloc, place, folder, command, kept) {
+        Ok(found) => Ok(found),
+        Err(fault) => Err(fault),
+    }
+}
+
+/// The first difference of a unit.
+#[tactic(auto, using(crate::proofs::Firsts::number_laws))]
+fn first_of<P: Place>(
+    alloc: Global,
+    place: &mut P,
+    folder: &PathText,
+    key: &Text,
+    command: &Command,
+) -> Result<Option<Difference>, StoreFault>
+    requires { is_key key.now ≡ true }
+    ensures ok { IsTrue P.tells → IfOk result (FirstDifference reading folder.now key.now command.now (P.world place.old)) }
+    ensures same { IsTrue P.tells → P.world place.new ≡ P.world place.old }
+    ensures takes { Takes MayLook result (P.counts place.old) (P.counts place.new) }
+{
+    let kept = match record_at(alloc, place, folder, key) {
+        Ok(Some(kept)) => kept,
+        Ok(None) => return Ok(Some(Difference::NoRecord)),
+        Err(fault) => return Err(fault),
+    };
+    match first_from(alloc, place, folder, command, &kept) {
+        Ok(found) => Ok(found),
+        Err(fault) => Err(fault),
+    }
+}
+
+impl Store {
+    /// What differs of a unit since its record was kept, for a command that would build it again; none where its
+    /// record says what a child would answer. Each input is read and compared in turn, and let go. Our own rule of
+    /// when a unit is built again.
+    ///
+    /// Faults: Place, where a file cannot be read, a folder not be listed or a variable not be read; OutOfMemory.
+    #[tactic(auto, using(crate::proofs::Firsts::difference_laws))]
+    pub fn differs<P: Place>(
+        &self,
+        alloc: Global,
+        place: &mut P,
+        key: &Text,
+        command: &Command,
+    ) -> Result<Option<Difference>, StoreFault>
+        requires { is_key key.now ≡ true }
+        ensures first { (read : Reading) → IsReading read → IsTrue P.tells → IfOk result (FirstDifference read self.now.folder key.now command.now (P.world place.old)) }
+        ensures none { (read : Reading) → IsReading read → IsTrue P.tells → IfOk result (λ found. IfNone found ((r : Record) × IsSame read self.now.folder key.now command.now (P.world place.old) r)) }
+        ensures same { IsTrue P.tells → P.world place.new ≡ P.world place.old }
+        ensures takes { Takes MayLook result (P.counts place.old) (P.counts place.new) }
+    {
+        match first_of(alloc, place, &self.folder, key, command) {
+            Ok(found) => Ok(found),
+            Err(fault) => Err(fault),
+        }
+    }
+}

@@ -1,0 +1,267 @@
+//! The present values of inputs, beside the recorded ones.
+
+ghost use Rattle.std.specs.Prelude.{◌≡◌, true, IsTrue, IfOk, Decides, List, ℕ, map};
+ghost use Rattle.std.specs.FinMap as finite;
+ghost use Rattle.std.specs.List.{filter_map};
+ghost use Rattle.pb_place.specs.World.{from_nothing, listed, removed};
+ghost use Rattle.pb_project.specs.declared.answer.InputName.TheVariants.{Variable};
+ghost use Rattle.pb_soundness.specs.Inputs.{contents, input_in, name_of, path_input};
+ghost use Rattle.pb_store.specs.Causes.{Takes, MayRead};
+ghost use Rattle.pb_store.specs.Presence.{file_in, MayLook};
+
+use crate::fault::{StoreFault, stored};
+use crate::store::text_of;
+use pb_data::{Bytes, Items, Text, TryCopy};
+use pb_place::{PathText, Place, RelativePath};
+use pb_project::InputName;
+use pb_record::Input;
+use std::alloc::Global;
+
+/// The bytes of a file of the sources: none where no file is there, or the path is at or below the target folder, and
+/// then the place is not asked.
+#[tactic(auto, using(crate::proofs::Present::source_laws))]
+fn source_at<P: Place>(
+    alloc: Global,
+    place: &mut P,
+    target: &PathText,
+    path: &PathText,
+) -> Result<Option<Bytes>, StoreFault>
+    ensures ok { IsTrue P.tells → IfOk result (λ found. found ≡ finite.get (from_nothing target.now (P.world place.old)).files path.now) }
+    ensures same { IsTrue P.tells → P.world place.new ≡ P.world place.old }
+    ensures takes { Takes MayRead result (P.counts place.old) (P.counts place.new) }
+{
+    if path.starts_with(target) {
+        return Ok(None);
+    }
+    match text_of(alloc, place, path) {
+        Ok(found) => Ok(found),
+        Err(fault) => Err(fault),
+    }
+}
+
+/// The file at a path, by its path in a folder; none where the path is not below the folder, or no file is there.
+fn file_at<P: Place>(
+    alloc: Global,
+    place: &mut P,
+    folder: &PathText,
+    path: &PathText,
+) -> Result<Option<(RelativePath, Bytes)>, StoreFault>
+    ensures ok { IsTrue P.tells → IfOk result (λ found. found ≡ file_in folder.now (P.world place.old).files path.now) }
+    ensures same { IsTrue P.tells → P.world place.new ≡ P.world place.old }
+    ensures takes { Takes MayRead result (P.counts place.old) (P.counts place.new) }
+{
+    let relative = match path.inside(alloc, folder) {
+        Ok(Some(relative)) => relative,
+        Ok(None) => return Ok(None),
+        Err(_) => return Err(StoreFault::OutOfMemory),
+    };
+    match text_of(alloc, place, path) {
+        Ok(Some(bytes)) => Ok(Some((relative, bytes))),
+        Ok(None) => Ok(None),
+        Err(fault) => Err(fault),
+    }
+}
+
+/// The files at these paths, by their paths in a folder.
+fn files_at<P: Place>(
+    alloc: Global,
+    place: &mut P,
+    folder: &PathText,
+    paths: &[PathText],
+) -> Result<Items<(RelativePath, Bytes)>, StoreFault>
+    ensures ok { IsTrue P.tells → IfOk result (λ files. files ≡ filter_map (file_in folder.now (P.world place.old).files) paths.now) }
+    ensures same { IsTrue P.tells → P.world place.new ≡ P.world place.old }
+    ensures takes { Takes MayRead result (P.counts place.old) (P.counts place.new) }
+{
+    let mut made = Items::new(alloc);
+    for path in paths {
+        let found = match file_at(alloc, place, folder, path) {
+            Ok(found) => found,
+            Err(fault) => return Err(fault),
+        };
+        if let Some(file) = found {
+            match made.push(file) {
+                Ok(()) => {}
+                Err(_) => return Err(StoreFault::OutOfMemory),
+            }
+        }
+    }
+    Ok(made)
+}
+
+/// The paths of the files below a folder that are not at or below the target folder.
+fn paths_outside<P: Place>(
+    alloc: Global,
+    place: &mut P,
+    target: &PathText,
+    folder: &PathText,
+) -> Result<Items<PathText>, StoreFault>
+    ensures ok { IsTrue P.tells → IfOk result (λ paths. paths ≡ listed folder.now (removed target.now (P.world place.old))) }
+    ensures same { IsTrue P.tells → P.world place.new ≡ P.world place.old }
+    ensures takes { Takes MayLook result (P.counts place.old) (P.counts place.new) }
+{
+    match place.list_outside(alloc, folder, target) {
+        Ok(paths) => Ok(paths),
+        Err(fault) => Err(stored(fault)),
+    }
+}
+
+/// The paths of the files below a folder.
+fn paths_below<P: Place>(
+    alloc: Global,
+    place: &mut P,
+    folder: &PathText,
+) -> Result<Items<PathText>, StoreFault>
+    ensures ok { IsTrue P.tells → IfOk result (λ paths. paths ≡ listed folder.now (P.world place.old)) }
+    ensures same { IsTrue P.tells → P.world place.new ≡ P.world place.old }
+    ensures takes { Takes MayLook result (P.counts place.old) (P.counts place.new) }
+{
+    match place.list(alloc, folder) {
+        Ok(paths) => Ok(paths),
+        Err(fault) => Err(stored(fault)),
+    }
+}
+
+/// The sources below a folder, by their paths in it, in byte order.
+#[tactic(auto, using(crate::proofs::Present::sources_in))]
+fn sources_in<P: Place>(
+    alloc: Global,
+    place: &mut P,
+    target: &PathText,
+    folder: &PathText,
+) -> Result<Items<(RelativePath, Bytes)>, StoreFault>
+    ensures ok { IsTrue P.tells → IfOk result (λ files. files ≡ contents folder.now (from_nothing target.now (P.world place.old)).files) }
+    ensures same { IsTrue P.tells → P.world place.new ≡ P.world place.old }
+    ensures takes { Takes MayLook result (P.counts place.old) (P.counts place.new) }
+{
+    let paths = match paths_outside(alloc, place, target, folder) {
+        Ok(paths) => paths,
+        Err(fault) => return Err(fault),
+    };
+    match files_at(alloc, place, folder, paths.as_slice()) {
+        Ok(files) => Ok(files),
+        Err(fault) => Err(fault),
+    }
+}
+
+/// The files below a folder, by their paths in it, in byte order.
+#[tactic(auto, using(crate::proofs::Present::files_in_it))]
+pub(crate) fn files_in<P: Place>(
+    alloc: Global,
+    place: &mut P,
+    folder: &PathText,
+) -> Result<Items<(RelativePath, Bytes)>, StoreFault>
+    ensures ok { IsTrue P.tells → IfOk result (λ files. files ≡ contents folder.now (P.world place.old).files) }
+    ensures same { IsTrue P.tells → P.world place.new ≡ P.world place.old }
+    ensures takes { Takes MayLook result (P.counts place.old) (P.counts place.new) }
+{
+    let paths = match paths_below(alloc, place, folder) {
+        Ok(paths) => paths,
+        Err(fault) => return Err(fault),
+    };
+    match files_at(alloc, place, folder, paths.as_slice()) {
+        Ok(files) => Ok(files),
+        Err(fault) => Err(fault),
+    }
+}
+
+/// The text of a variable; none where it is not set.
+fn text_in<P: Place>(alloc: Global, place: &mut P, name: &Text) -> Result<Option<Text>, StoreFault>
+    ensures ok { IsTrue P.tells → IfOk result (λ found. found ≡ finite.get (P.world place.old).variables name.now) }
+    ensures same { IsTrue P.tells → P.world place.new ≡ P.world place.old }
+    ensures takes { Takes MayLook result (P.counts place.old) (P.counts place.new) }
+{
+    match place.variable(alloc, name.as_str()) {
+        Ok(found) => Ok(found),
+        Err(fault) => Err(stored(fault)),
+    }
+}
+
+/// The present value of a path: a file, or a folder.
+fn path_now<P: Place>(
+    alloc: Global,
+    place: &mut P,
+    target: &PathText,
+    path: &PathText,
+) -> Result<Input, StoreFault>
+    ensures ok { IsTrue P.tells → IfOk result (λ input. input ≡ path_input path.now (from_nothing target.now (P.world place.old)).files (finite.get (from_nothing target.now (P.world place.old)).files path.now)) }
+    ensures same { IsTrue P.tells → P.world place.new ≡ P.world place.old }
+    ensures takes { Takes MayLook result (P.counts place.old) (P.counts place.new) }
+{
+    let name = match path.copy(alloc) {
+        Ok(name) => name,
+        Err(_) => return Err(StoreFault::OutOfMemory),
+    };
+    match source_at(alloc, place, target, path) {
+        Ok(Some(bytes)) => return Ok(Input::File(name, bytes)),
+        Ok(None) => {}
+        Err(fault) => return Err(fault),
+    }
+    match sources_in(alloc, place, target, path) {
+        Ok(files) => Ok(Input::Tree(name, files)),
+        Err(fault) => Err(fault),
+    }
+}
+
+/// The present value of a variable.
+fn value_now<P: Place>(
+    alloc: Global,
+    place: &mut P,
+    target: &PathText,
+    name: &Text,
+) -> Result<Input, StoreFault>
+    ensures ok { IsTrue P.tells → IfOk result (λ input. input ≡ input_in target.now (P.world place.old) (Variable name.now)) }
+    ensures same { IsTrue P.tells → P.world place.new ≡ P.world place.old }
+    ensures takes { Takes MayLook result (P.counts place.old) (P.counts place.new) }
+{
+    let copied = match name.copy(alloc) {
+        Ok(copied) => copied,
+        Err(_) => return Err(StoreFault::OutOfMemory),
+    };
+    match text_in(alloc, place, name) {
+        Ok(found) => Ok(Input::Value(copied, found)),
+        Err(fault) => Err(fault),
+    }
+}
+
+/// The input of this name with its present value: nothing at or below the target folder is looked at.
+pub(crate) fn input_now<P: Place>(
+    alloc: Global,
+    place: &mut P,
+    target: &PathText,
+    name: &InputName,
+) -> Result<Input, StoreFault>
+    ensures ok { IsTrue P.tells → IfOk result (λ input. input ≡ input_in target.now (P.world place.old) name.now) }
+    ensures same { IsTrue P.tells → P.world place.new ≡ P.world place.old }
+    ensures takes { Takes MayLook result (P.counts place.old) (P.counts place.new) }
+{
+    match name {
+        InputName::Path(path) => path_now(alloc, place, target, path),
+        InputName::Variable(name) => value_now(alloc, place, target, name),
+    }
+}
+
+/// The inputs of these names with their present values.
+pub(crate) fn present<P: Place>(
+    alloc: Global,
+    place: &mut P,
+    target: &PathText,
+    names: &[InputName],
+) -> Result<Items<Input>, StoreFault>
+    ensures ok { IsTrue P.tells → IfOk result (λ inputs. inputs ≡ map (input_in target.now (P.world place.old)) names.now) }
+    ensures same { IsTrue P.tells → P.world place.new ≡ P.world place.old }
+    ensures takes { Takes MayLook result (P.counts place.old) (P.counts place.new) }
+{
+    let mut made = Items::new(alloc);
+    for name in names {
+        let input = match input_now(alloc, place, target, name) {
+            Ok(input) => input,
+            Err(fault) => return Err(fault),
+        };
+        match made.push(input) {
+            Ok(()) => {}
+            Err(_) => return Err(StoreFault::OutOfMemory),
+        }
+    }
+    Ok(made)
+}
