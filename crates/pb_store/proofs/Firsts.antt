@@ -11,7 +11,7 @@ use Rattle.pb_place.specs.World.{World, Map}
 use Rattle.pb_record.proofs.LawLemmas.{one_reading}
 use Rattle.pb_record.proofs.ReadingLemmas.{reading, reading_reads}
 use Rattle.pb_soundness.proofs.Places.{no_key}
-use Rattle.pb_store.specs.Readings.{IsReading}
+use Rattle.pb_record.specs.Parts.{IsReading}
 use Rattle.pb_place.specs.declared.command.Command.{Command}
 use Rattle.pb_record.specs.declared.record.Needed.{Needed}
 use Rattle.pb_record.specs.declared.record.Needed.TheVariants.{Copies, Numbers}
@@ -20,8 +20,8 @@ use Rattle.pb_soundness.specs.Grounded.{Standing}
 use Rattle.pb_soundness.specs.Records.{Reading, is_key, record_at}
 use Rattle.pb_soundness.specs.Reuse.{IsSame, NeededNow, number_if}
 use Rattle.pb_store.specs.Differences.{IsFirst, AreNeeded, HasFiles, HasNumber, FirstFrom, FirstOf, FirstDifference, same_files}
-use Rattle.pb_store.specs.declared.differing.Difference.{Difference}
-use Rattle.pb_store.specs.declared.differing.Difference.TheVariants.{NoRecord}
+use Rattle.pb_store.specs.declared.difference.Difference.{Difference}
+use Rattle.pb_store.specs.declared.difference.Difference.TheVariants.{NoRecord}
 
 -- two lists of files
 

@@ -2,3 +2,5 @@ pub mod Writing
 pub mod Earned
 pub mod Ahead
 pub mod Migrated
+pub mod Present
+pub mod Firsts

@@ -14,8 +14,8 @@ use Rattle.pb_soundness.specs.Grounded.{Standing}
 use Rattle.pb_soundness.specs.Inputs.{Agrees, contents, input_in, name_of}
 use Rattle.pb_soundness.specs.Records.{Reading, out_of, record_at}
 use Rattle.pb_soundness.specs.Reuse.{number_if}
-use Rattle.pb_store.specs.declared.differing.Difference.{Difference}
-use Rattle.pb_store.specs.declared.differing.Difference.TheVariants.{NoRecord, Command, Pair, Input, Dependency}
+use Rattle.pb_store.specs.declared.difference.Difference.{Difference}
+use Rattle.pb_store.specs.declared.difference.Difference.TheVariants.{NoRecord, Command, Pair, Input, Dependency}
 
 -- the first of a row of which this does not hold: it holds of all before it; and what is told of it
 pub record IsFirst {A B : Type 0} (Holds : A → Type 0) (told : A → B) (row : List A) (b : B) : Type 0 where

@@ -2,3 +2,6 @@ pub mod Causes
 pub mod Keeping
 pub mod Migrating
 pub mod Opening
+pub mod Differences
+pub mod Presence
+pub mod Replaying

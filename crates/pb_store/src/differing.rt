@@ -3,6 +3,7 @@
 ghost use Rattle.std.specs.Prelude.{◌≡◌, true, false, IsTrue, IfOk, IfNone, MatchOption, Decides, List, ℕ};
 ghost use Rattle.pb_record.proofs.ReadingLemmas.{reading};
 ghost use Rattle.pb_record.specs.Commands.{command_of};
+ghost use Rattle.pb_record.specs.Parts.{IsReading};
 ghost use Rattle.pb_record.specs.declared.record.Record.{Record};
 ghost use Rattle.pb_place.specs.Paths.{is_relative};
 ghost use Rattle.pb_soundness.specs.Inputs.{Agrees, name_of};
@@ -11,9 +12,9 @@ ghost use Rattle.pb_soundness.specs.Reuse.{IsSame, number_if};
 ghost use Rattle.pb_store.specs.Causes.{Takes, MayRead};
 ghost use Rattle.pb_store.specs.Differences.{IsFirst, FirstOrAll, IsPresent, HasNumber, HasFiles, AreNeeded, FirstNeed, FirstFrom, FirstDifference};
 ghost use Rattle.pb_store.specs.Presence.{MayLook};
-ghost use Rattle.pb_store.specs.Readings.{IsReading};
 
 use crate::comparing::{are_same_files, is_same_input};
+use crate::difference::Difference;
 use crate::fault::StoreFault;
 use crate::inputs::{files_in, input_now};
 use crate::keys::is_key;
@@ -23,23 +24,6 @@ use pb_place::{Command, PathText, Place, RelativePath};
 use pb_project::InputName;
 use pb_record::{Input, Needed, Record};
 use std::alloc::{AllocError, Global};
-
-/// What differs of a unit since its record was kept: the first of these, in this order.
-#[derive(Debug, Drop)]
-pub enum Difference {
-    /// No record counts in the unit's place.
-    NoRecord,
-    /// The program, its words, its folder, its output or target folder, the compiler or what the child may read is
-    /// another.
-    Command,
-    /// The variables that the command sets are others.
-    Pair,
-    /// The first input whose value is not the present one.
-    Input(InputName),
-    /// The first needed unit that is not as the record names it: with another run number, or in format 1 with other
-    /// files. This is its key.
-    Dependency(Text),
-}
 
 /// The name of an input.
 fn name_of(alloc: Global, input: &Input) -> Result<InputName, AllocError>

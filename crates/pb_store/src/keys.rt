@@ -8,7 +8,7 @@ ghost use Rattle.pb_soundness.specs.Records.{is_key, ends_as_record};
 use pb_data::Text;
 
 /// Whether a name ends in `.record`.
-fn ends_as_record(name: &[u8]) -> bool
+pub(crate) fn ends_as_record(name: &[u8]) -> bool
     ensures { result ≡ ends_as_record name.now }
 {
     let last = &name[name.len().saturating_sub(7)..];
@@ -30,7 +30,7 @@ fn is_name(name: &str) -> bool
 }
 
 /// Whether a text has a slash.
-fn has_slash(name: &[u8]) -> bool
+pub(crate) fn has_slash(name: &[u8]) -> bool
     ensures { result ≡ list_any (λ b. b == 47) name.now }
 {
     name.iter().any(|byte| *byte == b'/')

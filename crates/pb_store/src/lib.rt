@@ -1,14 +1,21 @@
-//! The records of a profile folder: opened, dropped and kept, so that the folder is sound after every call.
+//! The records of a profile folder: opened, compared with the present, given again, dropped, kept and renewed, so that
+//! the folder is sound after every call.
 #![tactic(auto)]
 
+mod comparing;
 pub mod difference;
+pub mod differing;
 pub mod dropping;
 pub mod fault;
+mod inputs;
 pub mod keeping;
+mod keys;
 pub mod migrating;
 pub mod opening;
+pub mod replaying;
 pub mod store;
 
 pub use difference::Difference;
 pub use fault::StoreFault;
+pub use replaying::Replayed;
 pub use store::Store;

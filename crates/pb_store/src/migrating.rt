@@ -13,7 +13,7 @@ ghost use Rattle.pb_soundness.specs.Sound.{Sound};
 ghost use Rattle.pb_store.specs.Causes.{Takes, MayMigrate};
 ghost use Rattle.pb_store.specs.Keeping.{numbered};
 ghost use Rattle.pb_store.specs.declared.fault.StoreFault.TheVariants as store_fault;
-ghost use Rattle.pb_store.specs.Migrating.{IsMigrated, numbered_record, TakesNumber};
+ghost use Rattle.pb_store.specs.Migrating.{IsMigrated, numbered_record, migrated, TakesNumber};
 
 use crate::dropping::number_after;
 use crate::fault::StoreFault;
@@ -95,6 +95,7 @@ impl Store {
         ensures ahead { (read : Reading) (judge : Judge) (c : Command) (r : Record) → IsReading read → IsTrue P.tells → ((number : ℕ) → self.old.next ≡ Some number → IsMigrated read judge P.child self.old.folder key.now c needs.now number (P.world place.old) r) → IsAhead (record_at read self.old.folder (P.world place.old).files) self.old.next → IsAhead (record_at read self.old.folder (P.world place.new).files) self.new.next }
         ensures next { TakesNumber self.old.next self.new.next }
         ensures folder { self.new.folder ≡ self.old.folder }
+        ensures stands { (read : Reading) → IsReading read → IsTrue P.tells → OnOk result (record_at read self.old.folder (P.world place.new).files key.now ≡ migrated self.old.next (numbered (record_at read self.old.folder (P.world place.old).files) needs.now) (record_at read self.old.folder (P.world place.old).files key.now)) }
         ensures only { IsTrue P.tells → ChangesOnly (is_at_or_below (place_of self.old.folder key.now)) (P.world place.old) (P.world place.new) }
         ensures takes { Takes (MayMigrate self.old.next) result (P.counts place.old) (P.counts place.new) }
     {

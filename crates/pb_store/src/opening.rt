@@ -1,17 +1,18 @@
 //! A store is opened: what the records of a folder name says which run number is the next.
 
-ghost use Rattle.std.specs.Prelude.{◌≡◌, ◌==◌, max, IsTrue, IfOk};
-ghost use Rattle.std.specs.List.{fold, list_any};
+ghost use Rattle.std.specs.Prelude.{◌≡◌, max, IsTrue, IfOk};
+ghost use Rattle.std.specs.List.{fold};
 ghost use Rattle.std.specs.FinMap as map;
 ghost use Rattle.pb_place.specs.World.{listed};
 ghost use Rattle.pb_soundness.specs.Numbers.{IsAhead};
-ghost use Rattle.pb_soundness.specs.Records.{Reading, ends_as_record, read_text, record_at};
+ghost use Rattle.pb_soundness.specs.Records.{Reading, read_text, record_at};
 ghost use Rattle.pb_store.specs.Causes.{Takes, MayRead, MayOpen};
 ghost use Rattle.pb_store.specs.Opening.{greatest_named, greatest_if, is_record_name, name_in, greatest_at, greatest_of, next_in};
 ghost use Rattle.pb_record.specs.Parts.{IsReading};
 
 use crate::dropping::number_after;
 use crate::fault::{StoreFault, stored};
+use crate::keys::{ends_as_record, has_slash};
 use crate::store::{Store, read_text, text_of};
 use pb_data::{Items, Text};
 use pb_place::{PathText, Place};
@@ -58,21 +59,6 @@ fn greatest_if(found: &Option<Record>) -> u64
         None => 0,
         Some(kept) => greatest_named(kept),
     }
-}
-
-/// Whether a name ends in `.record`.
-fn ends_as_record(name: &[u8]) -> bool
-    ensures { result ≡ ends_as_record name.now }
-{
-    let last = &name[name.len().saturating_sub(7)..];
-    last == b".record".as_slice()
-}
-
-/// Whether a name has a slash.
-fn has_slash(name: &[u8]) -> bool
-    ensures { result ≡ list_any (λ b. b == 47) name.now }
-{
-    name.iter().any(|byte| *byte == b'/')
 }
 
 /// Whether a path inside the folder is the name of a record.

@@ -3,7 +3,7 @@
 ghost use Rattle.std.specs.Prelude.{◌≡◌, true, IsTrue, IfOk, option_map};
 ghost use Rattle.pb_soundness.specs.Records.{Reading, is_key, record_at};
 ghost use Rattle.pb_store.specs.Causes.{Takes, MayRead};
-ghost use Rattle.pb_store.specs.Readings.{IsReading};
+ghost use Rattle.pb_record.specs.Parts.{IsReading};
 ghost use Rattle.pb_store.specs.Replaying.{replayed};
 
 use crate::fault::StoreFault;
