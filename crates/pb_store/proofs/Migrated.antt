@@ -1,5 +1,5 @@
 -- A record that gets a number and the numbers of the needed units may be put.
-use Rattle.std.proofs.Common.{◌≡◌, ◌∙◌, ℕ, true, List, Option, Some, None, refl, sym, ap, subst, cond, inl, inr}
+use Rattle.std.proofs.Common.{◌≡◌, ◌∙◌, ℕ, true, List, Option, Some, None, refl, sym, ap, subst, cond, inl, inr, is_some, false}
 use Rattle.std.proofs.lemmas.Slice.Eq.{bytes_eq-Decides}
 use Rattle.std.specs.FinMap.{get}
 use Rattle.std.specs.Str.{bytes_eq}
@@ -11,7 +11,7 @@ use Rattle.pb_record.specs.Commands.{command_of}
 use Rattle.pb_record.specs.declared.record.Record.{Record}
 use Rattle.pb_soundness.specs.Inputs.{Judge, Agrees, IsHonest, reply_in}
 use Rattle.pb_soundness.specs.Numbers.{after, IsBefore, NamesBefore, IsAhead}
-use Rattle.pb_soundness.specs.Records.{Reading, is_key, out_of, place_of, record_at, read_text, if_of_key}
+use Rattle.pb_soundness.specs.Records.{Reading, is_key, out_of, place_of, record_at, read_text, if_of_key, number_of}
 use Rattle.pb_soundness.specs.Sound.{Sound, Backs}
 use Rattle.pb_soundness.proofs.Ahead.{given_ahead}
 use Rattle.pb_soundness.proofs.Becoming.{one, none_some}
@@ -19,7 +19,7 @@ use Rattle.pb_soundness.proofs.Places.{its_key, text_at}
 use Rattle.pb_soundness.proofs.Renewing.{reuse}
 use Rattle.std.proofs.lemmas.Bool.{cases_Bool}
 use Rattle.pb_store.specs.Keeping.{HasNeeds, MayPut, numbered}
-use Rattle.pb_store.specs.Migrating.{IsMigrated, numbered_record}
+use Rattle.pb_store.specs.Migrating.{IsMigrated, numbered_record, migrated, migrated_by}
 use Rattle.pb_store.proofs.Earned.{names_stand, unnamed_of, before_less}
 
 -- a record that counts has the key of its place
@@ -84,3 +84,19 @@ pub same_migrated : (read : Reading) (judge : Judge) (child : Answers) (folder k
 same_migrated read judge child folder key c needs number found kept r old mid same found_is some may =
     subst (λ (w : World). IsMigrated read judge child folder key c needs number w kept) (sym same)
     (subst (IsMigrated read judge child folder key c needs number old) (one r kept (sym may.same.stands ∙ sym found_is ∙ some)) may)
+
+none_there : (o : Option ℕ) → is_some o ≡ false → o ≡ None
+none_there None is = refl
+none_there (Some n) is = cc
+
+-- what stands where a record of format 1 was
+pub renumbered : (read : Reading) (folder key : List ℕ) (needs : List (List ℕ)) (next : Option ℕ) (old mid new : World) (found : Option Record) (kept : Record) → mid ≡ old → found ≡ record_at read folder old.files key → found ≡ Some kept → is_some (number_of kept) ≡ false
+    → (kept.key ≡ key → (number : ℕ) × (next ≡ Some number) × (record_at read folder new.files key ≡ Some (numbered_record kept number (numbered (record_at read folder mid.files) needs))))
+    → record_at read folder new.files key ≡ migrated next (numbered (record_at read folder old.files) needs) (record_at read folder old.files key)
+renumbered read folder key needs next old mid new found kept same found_is is lacks given =
+    let pairs = numbered (record_at read folder old.files) needs in
+    let there : record_at read folder old.files key ≡ Some kept = sym found_is ∙ is in
+    let (number, next_is, put) = given (stands_by_key read folder key old.files kept there) in
+    put
+    ∙ ap (λ (w : World). Some (numbered_record kept number (numbered (record_at read folder w.files) needs))) same
+    ∙ sym (ap (migrated next pairs) there ∙ ap (λ o. migrated_by o next pairs kept) (none_there (number_of kept) lacks) ∙ ap (λ o. migrated_by None o pairs kept) next_is)

@@ -1,9 +1,9 @@
-use Rattle.std.proofs.Common.{sym, subst}
+use Rattle.std.proofs.Common.{◌∙◌, ap, is_some, sym, subst}
 use Rattle.pb_place.specs.World.{World}
 use Rattle.pb_soundness.specs.Numbers.{IsAhead}
 use Rattle.pb_soundness.specs.Records.{record_at}
 use Rattle.pb_soundness.specs.Sound.{Sound}
-use Rattle.pb_store.proofs.Migrated.{same_migrated}
+use Rattle.pb_store.proofs.Migrated.{same_migrated, renumbered}
 use Rattle.pb_store.proofs.store.Store.migrate.Goals as goal
 
 pub returns-in-Ok-renumber-clause-sound : goal.returns-in-Ok-renumber-clause-sound
@@ -29,3 +29,9 @@ returns-in-Err-renumber-clause-ahead g c read judge d r is told may ahead =
     c.in-Err-renumber.ensures.ahead read judge d is told
     (λ number was. same_migrated read judge _ _ _ d _ number _ _ r (g.P.Place.world c.args.place.now) (g.P.Place.world c.record_at.new.place) (c.in-Ok.ensures.same told) (c.in-Ok.ensures.ok read is told) c.in-Some.is (may number was))
     (subst (λ (w : World). IsAhead (record_at read c.args.self.now.folder w.files) c.args.self.now.next) (sym (c.in-Ok.ensures.same told)) ahead)
+
+pub returns-in-Ok-renumber-clause-stands : goal.returns-in-Ok-renumber-clause-stands
+returns-in-Ok-renumber-clause-stands g c read is told =
+    renumbered read _ _ _ _ (g.P.Place.world c.args.place.now) (g.P.Place.world c.record_at.new.place) (g.P.Place.world c.renumber.new.place) _ c.in-Some.kept (c.in-Ok.ensures.same told) (c.in-Ok.ensures.ok read is told) c.in-Some.is
+    (ap is_some (sym c.number_of.ensures) ∙ sym c.is_some.ensures ∙ c.if-is_some.false)
+    (λ key. c.in-Ok-renumber.ensures.stands read is told key)
