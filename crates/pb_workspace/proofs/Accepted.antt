@@ -3,6 +3,7 @@ use Rattle.std.proofs.Common.{◌≡◌, ◌∙◌, ℕ, Bool, true, false, if�
 use Rattle.std.specs.List.{IsDistinct}
 use Rattle.std.specs.Str.{bytes_eq}
 use Rattle.pb_data.specs.Gives.{◌>>=◌}
+use Rattle.pb_manifest.specs.declared.manifest.WorkspaceTable.{WorkspaceTable}
 use Rattle.pb_manifest.specs.declared.profile.Profile.{Profile}
 use Rattle.pb_place.specs.Paths.{folder_of}
 use Rattle.pb_place.specs.World.{World, from_nothing}
@@ -89,10 +90,14 @@ target_kept manifest target w ws is =
     let (parts, read, made) = where_from manifest target w ws is in
     target_from target (frame_of (folder_of manifest) manifest parts.workspace) parts.profiles (values_of read.found) ws made
 
+frame_root : (root manifest : List ℕ) (o : Option WorkspaceTable) → (frame_of root manifest o).root ≡ root
+frame_root root manifest None = refl
+frame_root root manifest (Some table) = refl
+
 pub root_kept : HasRoot
 root_kept manifest target w ws is =
     let (parts, read, made) = where_from manifest target w ws is in
-    root_from target (frame_of (folder_of manifest) manifest parts.workspace) parts.profiles (values_of read.found) ws made
+    root_from target (frame_of (folder_of manifest) manifest parts.workspace) parts.profiles (values_of read.found) ws made ∙ frame_root (folder_of manifest) manifest parts.workspace
 
 -- a workspace is read from the sources
 pub same_read : LooksAtSources
