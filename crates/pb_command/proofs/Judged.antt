@@ -1,15 +1,12 @@
 -- An answer judged by its command alone.
-use Rattle.std.proofs.Common.{◌≡◌, ◌≢◌, ℕ, Bool, true, false, cond, codes, List, [], ◌∷◌, ◌++◌, Option, Some, None, Ok, Err, refl, sym, ap, subst, ◌∙◌, slice_get}
+use Rattle.std.proofs.Common.{◌≡◌, ℕ, Bool, true, false, cond, codes, List, Option, Some, refl, sym, ap, subst, ◌∙◌}
 use Rattle.std.specs.Str.{bytes_eq}
 use Rattle.pb_directive.specs.declared.directive.Directive.{Directive}
 use Rattle.pb_feature.proofs.Sound.{all_at}
 use Rattle.pb_place.specs.declared.child.Reply.{Reply}
-use Rattle.pb_place.specs.declared.command.Command.{Command}
-use Rattle.pb_package.specs.Settled.{IsSettled}
-use Rattle.pb_package.specs.declared.options.Selection.{Selection}
 use Rattle.pb_package.specs.declared.package.Package.{Package}
 use Rattle.pb_unit.specs.Laws.{last_word, TellsWhat}
-use Rattle.pb_unit.specs.Plan.{IsPlan, HasSettings}
+use Rattle.pb_unit.specs.Plan.{HasSettings}
 use Rattle.pb_unit.specs.Units.{what_name}
 use Rattle.pb_unit.proofs.Telling.{keys_tell_what}
 use Rattle.pb_unit.specs.declared.plan.Planned.{Planned}
@@ -19,9 +16,9 @@ use Rattle.pb_project.specs.Targets.{package_of, package_folder, dep_info_of, de
 use Rattle.pb_project.specs.declared.project.Project.{Project}
 use Rattle.pb_project.specs.declared.project.Setup.{Setup}
 use Rattle.pb_command.specs.Answers.{compile_answered, run_answered, unless_fault, ended_fault, answered_by, answered_of}
-use Rattle.pb_command.specs.Command.{command_of, command_for, command_by, compile_of, run_of}
+use Rattle.pb_command.specs.Command.{command_for, command_by, compile_of, run_of}
 use Rattle.pb_command.specs.Words.{name_words, option}
-use Rattle.pb_command.specs.Judge.{ended_by, replied_files, file_at, is_of_run, crate_in, answered_in, inputs_if, judge, JudgesAsAnswered}
+use Rattle.pb_command.specs.Judge.{ended_by, replied_files, file_at, is_of_run, crate_in, inputs_if, judge, JudgesAsAnswered}
 
 run_or_not : (out : List ℕ) (word : List ℕ) (b : Bool) → last_word out ≡ word → bytes_eq word (codes "run") ≡ b → is_of_run out ≡ b
 run_or_not out word b is runs = ap (λ w. bytes_eq w (codes "run")) is ∙ runs

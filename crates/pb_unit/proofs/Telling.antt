@@ -1,7 +1,6 @@
 -- The key of a planned unit says what the unit is.
-use Rattle.std.proofs.Common.{◌≡◌, ◌⊎◌, inl, inr, ◌==◌, ◌||◌, ◌<◌, ℕ, Bool, true, false, cond, List, [], ◌∷◌, ◌++◌, codes, length, map, Contains, refl, sym, ap, subst, ◌∙◌, append_assoc, Option, Some, None, slice_get}
+use Rattle.std.proofs.Common.{◌≡◌, inl, inr, ◌==◌, ◌||◌, ◌<◌, ℕ, Bool, true, false, cond, List, [], ◌∷◌, ◌++◌, length, refl, sym, ap, ◌∙◌, append_assoc, Option, Some, None, slice_get}
 use Rattle.std.proofs.lemmas.Option.{slice_get_within}
-use Rattle.std.specs.Prelude.{All}
 use Rattle.std.specs.List.{list_any}
 use Rattle.pb_manifest.specs.Letters as letters
 use Rattle.pb_place.specs.Paths.{below, stem, is_name}
@@ -9,18 +8,16 @@ use Rattle.pb_package.specs.Settled.{IsSettled, IsPackage}
 use Rattle.pb_package.specs.declared.options.Selection.{Selection}
 use Rattle.pb_package.specs.declared.package.Binary.{Binary}
 use Rattle.pb_package.specs.declared.package.Package.{Package}
-use Rattle.pb_package.specs.declared.package.Side.{Side}
 use Rattle.pb_package.specs.declared.workspace.Workspace.{Workspace}
 use Rattle.pb_package.proofs.NamesInPaths.{no_dot}
 use Rattle.pb_feature.specs.declared.resolved.Features.{Features}
 use Rattle.pb_order.proofs.Elements.{all_at, all_from_at, at_from_contains, contains_from_at, contains_map}
 use Rattle.pb_unit.specs.declared.plan.Planned.{Planned}
-use Rattle.pb_unit.specs.declared.plan.Plan.{Plan}
 use Rattle.pb_unit.specs.declared.unit.Unit.{Unit}
 use Rattle.pb_unit.specs.declared.unit.What.{What}
 use Rattle.pb_unit.specs.declared.unit.What.TheVariants.{Lib, Bin, Script, Run}
 use Rattle.pb_unit.specs.Units.{name_at, side_name, what_name, key_of, has_library, Reaches, direct, onward, IsRoot, library, binary, IsPlanned}
-use Rattle.pb_unit.specs.Plan.{IsPlan, HasSettings, profile_folder}
+use Rattle.pb_unit.specs.Plan.{profile_folder}
 use Rattle.pb_unit.specs.Laws.{has_point, last_word, TellsWhat, KeysTellWhat}
 use Rattle.pb_unit.proofs.Graphs.{IsThere, needs_there}
 use Rattle.pb_unit.proofs.Keys.{IsNamedWell, key_named, name_is, what_clean}
