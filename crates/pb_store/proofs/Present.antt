@@ -1,15 +1,15 @@
 -- Lemmas on the present values of inputs.
-use Rattle.std.proofs.Common.{◌≡◌, ◌∙◌, ◌+◌, ◌&&◌, ℕ, Bool, true, false, not, cond, List, [], ◌∷◌, map, drop, length, T, Option, Some, None, refl, sym, ap, subst, cond}
+use Rattle.std.proofs.Common.{◌≡◌, ◌∙◌, ◌+◌, ◌&&◌, ℕ, Bool, true, false, not, cond, List, [], ◌∷◌, map, drop, length, T, Option, Some, None, refl, sym, ap, cond}
 use Rattle.std.specs.List.{filter_map, AllByRecursion}
 use Rattle.std.specs.Ordering.{nat_cmp, eq_by_cmp, is_eq, is_lt, ordering_reverse}
 use Rattle.std.specs.declared.cmp.Ordering.{Ordering}
 use Rattle.std.specs.declared.cmp.Ordering.TheVariants.{Less, Equal, Greater}
 use Rattle.std.specs.Cmp.{tied_itself}
 use Rattle.std.specs.Cmp.Lexicographic.{slice_cmp, nat_list_cmp_total}
-use Rattle.std.specs.FinMap.{get, find, keys, entries, entries_sorted, get-entries, retain_keys}
+use Rattle.std.specs.FinMap.{get, find, keys, entries, entries_sorted, get-entries}
 use Rattle.std.specs.FinMap.Entries.{is_sorted, below_all}
 use Rattle.pb_place.specs.Folders.{files_in}
-use Rattle.pb_place.specs.Paths.{inside, is_below, is_at_or_below, stem}
+use Rattle.pb_place.specs.Paths.{is_below, is_at_or_below, stem}
 use Rattle.pb_place.specs.World.{World, Map, removed, listed, from_nothing}
 use Rattle.pb_place.proofs.MapLemmas.{Entries, get-kept}
 use Rattle.pb_soundness.specs.Inputs.{contents}

@@ -1,8 +1,8 @@
-use Rattle.std.proofs.Common.{rules, ◌∙◌}
+use Rattle.std.proofs.Common.{rules}
 use Rattle.pb_place.specs.World.{World}
 use Rattle.pb_soundness.specs.Inputs.{name_of}
 use Rattle.pb_store.specs.Differences.{IsPresent}
-use Rattle.pb_store.proofs.Firsts.{one_fails, one_holds}
+use Rattle.pb_store.proofs.Firsts.{one_fails}
 use Rattle.pb_store.proofs.differing.first_input.Goals as goal
 
 pub returns-in-Ok-clause-ok : goal.returns-in-Ok-clause-ok
