@@ -1,6 +1,6 @@
 //! Tests of the base types, of the readers (manifests, the output of scripts, dep-info, session files, records), of what
-//! is written (JSON strings, message lines, result lines, faults in words), of the small compiler and of the flight table,
-//! against worked examples. The crate holds nothing else: a crate with tests is proved twice, so none that others stand
+//! is written (JSON strings, message lines, result lines, faults in words), of the small compiler, of the flight table and
+//! of the store, against worked examples. The crate holds nothing else: a crate with tests is proved twice, so none that others stand
 //! on has any.
 #![tactic(auto)]
 
@@ -30,5 +30,7 @@ mod results;
 mod sessions;
 #[cfg(test)]
 mod shown;
+#[cfg(test)]
+mod stores;
 #[cfg(test)]
 mod wording;

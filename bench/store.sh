@@ -1,0 +1,465 @@
+#!/usr/bin/env bash
+# Measures calls of a `Store` over files in memory.
+#
+#   open         `Store::open` on a folder with so many records
+#   needs        `differs` of an unchanged unit that needs so many units: it reads the record of each
+#   file         `differs` of an unchanged unit with one declared file of so many MiB
+#   files        `differs` of an unchanged unit with so many declared files of 16 KiB
+#   folder       `differs` of an unchanged unit with a declared folder of so many files of 16 KiB
+#   keep         `keep` of a unit with so many declared files of 16 KiB
+#
+# Prints a line a size with how many records, files or MiB were looked at, and 0 where the answer is not the expected
+# one. Time and instructions are to grow as these: with 4,096 of them, 64 MiB of inputs. A call may take the largest
+# record and the largest input beside what is prepared. What is measured and how is said in `measured.sh`.
+set -euo pipefail
+crates="pb_data pb_closure pb_order pb_place pb_directive pb_manifest pb_package pb_profile pb_feature pb_unit pb_project pb_record pb_soundness pb_store"
+uses="pb_data pb_place pb_project pb_record pb_soundness pb_store"
+. "$(dirname "$0")/measured.sh"
+program <<'PROGRAM'
+//! Measures stores.
+#![tactic(auto)]
+
+ghost use Rattle.std.specs.Prelude.{◌≡◌, true, IfOk, Some};
+ghost use Rattle.pb_record.specs.Sorted.{are_sorted};
+ghost use Rattle.pb_soundness.specs.Records.{is_key, out_of};
+
+mod child;
+
+use anyhow::Result;
+use child::Silent;
+use pb_data::{Bytes, Items, Text, TryCopy};
+use pb_place::{Command, Ended, Memory, PathFault, PathText, RelativePath};
+use pb_project::InputName;
+use pb_record::{Asked, Record, read_record};
+use pb_store::Store;
+use std::alloc::{AllocError, Global};
+use std::env;
+use std::time::{CpuClock, Duration};
+
+/// What stands in a record between its number and its inputs, of a key that is behind its length.
+const ASKED: &str = "5\nrustc\n0\n2\n/w\n0\n21\n/t/debug/a.target.lib\n2\n/t\n0\n\n0\n";
+
+/// What stands behind the needed units.
+const END: &str = "0\n\n0\n\nend\n";
+
+/// The microseconds of processor time since a start.
+fn since(rt: &HostRuntime, start: Duration) -> Result<u128> {
+    let now = rt.thread_cpu_time()?;
+    match now.checked_sub(start) {
+        Some(passed) => Ok(passed.as_micros()),
+        None => Ok(u128::MAX),
+    }
+}
+
+/// A number that a word says, or 0.
+fn number_in(words: &[String], place: usize) -> usize {
+    match words.get(place) {
+        Some(word) => word.as_str().parse::<usize>().unwrap_or(0),
+        None => 0,
+    }
+}
+
+/// The shape that the words name.
+fn shape_in(words: &[String]) -> &str {
+    match words.get(1) {
+        Some(word) => word.as_str(),
+        None => "",
+    }
+}
+
+/// So many KiB.
+fn filler(alloc: Global, count: usize) -> Result<String, AllocError> {
+    let mut made = String::new(alloc);
+    for _ in 0..count {
+        for _ in 0..64 {
+            made.push_str("0123456789abcdef")?;
+        }
+    }
+    Ok(made)
+}
+
+/// A path of its own for each number, all of one length, in this folder.
+fn path_of(alloc: Global, folder: &str, number: usize) -> Result<String, AllocError> {
+    let named = number.saturating_add(1_000_000);
+    format!(in alloc; "{folder}/f{named}")
+}
+
+/// Adds a block.
+fn put_block(alloc: Global, out: &mut String, text: &str) -> Result<(), AllocError> {
+    let length = text.len();
+    let head = format!(in alloc; "{length}\n")?;
+    out.push_str(head.as_str())?;
+    out.push_str(text)?;
+    out.push_str("\n")
+}
+
+/// Adds a declared file.
+fn put_input(alloc: Global, out: &mut String, path: &str, text: &str) -> Result<(), AllocError> {
+    out.push_str("f\n")?;
+    put_block(alloc, out, path)?;
+    put_block(alloc, out, text)
+}
+
+/// Adds how many there are.
+fn put_count(alloc: Global, out: &mut String, count: usize) -> Result<(), AllocError> {
+    let line = format!(in alloc; "{count}\n")?;
+    out.push_str(line.as_str())
+}
+
+/// Puts a file.
+fn put_file(
+    alloc: Global,
+    place: &mut Memory<Silent>,
+    path: &str,
+    text: &str,
+) -> Result<(), PathFault> {
+    let path = PathText::parse(alloc, path)?;
+    place.put(alloc, &path, text.as_bytes())?;
+    Ok(())
+}
+
+/// The front of a record with this number, up to its inputs.
+fn front(alloc: Global, number: usize, key: &str) -> Result<String, AllocError> {
+    let mut made = String::new(alloc);
+    made.push_str("record 2\n")?;
+    put_count(alloc, &mut made, number)?;
+    put_block(alloc, &mut made, key)?;
+    made.push_str(ASKED)?;
+    Ok(made)
+}
+
+/// Puts the record of a needed unit.
+fn put_need(alloc: Global, place: &mut Memory<Silent>, number: usize) -> Result<(), PathFault> {
+    let key = format!(in alloc; "u{number}")?;
+    let mut made = front(alloc, 3, key.as_str())?;
+    made.push_str("0\n0\n")?;
+    made.push_str(END)?;
+    let path = format!(in alloc; "/t/debug/u{number}.record")?;
+    put_file(alloc, place, path.as_str(), made.as_str())
+}
+
+/// So many records of needed units.
+fn put_needs(alloc: Global, place: &mut Memory<Silent>, count: usize) -> Result<(), PathFault> {
+    for number in 0..count {
+        put_need(alloc, place, number)?;
+    }
+    Ok(())
+}
+
+/// Files of a folder, each with this text.
+fn put_files(
+    alloc: Global,
+    place: &mut Memory<Silent>,
+    folder: &str,
+    count: usize,
+    text: &str,
+) -> Result<(), PathFault> {
+    for number in 0..count {
+        let path = path_of(alloc, folder, number)?;
+        put_file(alloc, place, path.as_str(), text)?;
+    }
+    Ok(())
+}
+
+/// Adds so many declared files.
+fn add_files(
+    alloc: Global,
+    out: &mut String,
+    folder: &str,
+    count: usize,
+    text: &str,
+) -> Result<(), AllocError> {
+    put_count(alloc, out, count)?;
+    for number in 0..count {
+        let path = path_of(alloc, folder, number)?;
+        put_input(alloc, out, path.as_str(), text)?;
+    }
+    Ok(())
+}
+
+/// Adds a declared folder of so many files.
+fn add_folder(alloc: Global, out: &mut String, count: usize, text: &str) -> Result<(), AllocError> {
+    out.push_str("1\nt\n2\n/w\n")?;
+    put_count(alloc, out, count)?;
+    for number in 0..count {
+        let named = number.saturating_add(1_000_000);
+        let name = format!(in alloc; "f{named}")?;
+        put_block(alloc, out, name.as_str())?;
+        put_block(alloc, out, text)?;
+    }
+    Ok(())
+}
+
+/// Adds so many needed units.
+fn add_needs(alloc: Global, out: &mut String, count: usize) -> Result<(), AllocError> {
+    put_count(alloc, out, count)?;
+    for number in 0..count {
+        let key = format!(in alloc; "u{number}")?;
+        put_block(alloc, out, key.as_str())?;
+        out.push_str("3\n")?;
+    }
+    Ok(())
+}
+
+/// The text of the unit's record for a shape.
+fn record_text(
+    alloc: Global,
+    shape: &str,
+    count: usize,
+    text: &str,
+) -> Result<String, AllocError> {
+    let mut made = front(alloc, 7, "a.target.lib")?;
+    match shape {
+        "needs" => made.push_str("0\n")?,
+        "folder" => add_folder(alloc, &mut made, count, text)?,
+        "file" => add_files(alloc, &mut made, "/w", 1, text)?,
+        "files" => add_files(alloc, &mut made, "/w", count, text)?,
+        _ => made.push_str("0\n")?,
+    }
+    let needs = if shape == "needs" { count } else { 0 };
+    add_needs(alloc, &mut made, needs)?;
+    made.push_str(END)?;
+    Ok(made)
+}
+
+/// Puts the files of a shape.
+fn put_sources(
+    alloc: Global,
+    place: &mut Memory<Silent>,
+    shape: &str,
+    count: usize,
+    text: &str,
+) -> Result<(), PathFault> {
+    match shape {
+        "open" => put_needs(alloc, place, count),
+        "needs" => put_needs(alloc, place, count),
+        "file" => put_files(alloc, place, "/w", 1, text),
+        _ => put_files(alloc, place, "/w", count, text),
+    }
+}
+
+/// Puts all that a shape has. The unit's record, as a value.
+fn prepare(
+    alloc: Global,
+    place: &mut Memory<Silent>,
+    shape: &str,
+    count: usize,
+) -> Result<Record> {
+    let size = if shape == "file" { count.saturating_mul(1024) } else { 16 };
+    let text = filler(alloc, size)?;
+    put_sources(alloc, place, shape, count, text.as_str())?;
+    let made = record_text(alloc, shape, count, text.as_str())?;
+    put_file(alloc, place, "/t/debug/a.target.lib.record", made.as_str())?;
+    let found = read_record(alloc, made.as_bytes())?;
+    match found {
+        Some(kept) => Ok(kept),
+        None => Err(anyhow::anyhow!("no record")),
+    }
+}
+
+/// The key of the unit.
+#[tactic(auto, unfolding(pb_soundness::specs::Records::is_key))]
+fn own_key(alloc: Global) -> Result<Text, AllocError>
+    ensures { IfOk result (λ key. is_key key ≡ true) }
+{
+    Text::from_str(alloc, "a.target.lib")
+}
+
+/// The output folder of a unit.
+fn out_path(alloc: Global, folder: &PathText, key: &Text) -> Result<PathText>
+    ensures { IfOk result (λ path. path ≡ out_of folder.now key.now) }
+{
+    match RelativePath::of(key.copy(alloc)?) {
+        Some(relative) => {
+            let path = folder.below(alloc, &relative)?;
+            Ok(path)
+        }
+        None => Err(anyhow::anyhow!("no path")),
+    }
+}
+
+/// What was asked, as a command that writes into this folder.
+fn with_out(asked: Asked, out: PathText) -> Command
+    ensures out { result.out ≡ Some out }
+    ensures sorted { are_sorted result.pairs ≡ true }
+{
+    Command {
+        program: asked.program,
+        words: asked.words,
+        folder: asked.folder,
+        pairs: asked.pairs.into_items(),
+        out: Some(out),
+        target: asked.target,
+        toolchain: asked.toolchain,
+        reads: asked.reads,
+    }
+}
+
+/// The unit's command.
+fn own_command(
+    alloc: Global,
+    asked: Asked,
+    folder: &PathText,
+    key: &Text,
+) -> Result<Command>
+    ensures out { IfOk result (λ c. c.out ≡ Some (out_of folder.now key.now)) }
+    ensures sorted { IfOk result (λ c. are_sorted c.pairs ≡ true) }
+{
+    let out = out_path(alloc, folder, key)?;
+    Ok(with_out(asked, out))
+}
+
+/// The names of the declared files.
+fn names_of(alloc: Global, count: usize) -> Result<Items<InputName>, PathFault> {
+    let mut names = Items::new(alloc);
+    for number in 0..count {
+        let path = path_of(alloc, "/w", number)?;
+        names.push(InputName::Path(PathText::parse(alloc, path.as_str())?))?;
+    }
+    Ok(names)
+}
+
+/// How the unit's child ended.
+fn ended(alloc: Global) -> Result<Ended, AllocError> {
+    let stdout = Bytes::from_slice(alloc, b"")?;
+    let stderr = Bytes::from_slice(alloc, b"")?;
+    Ok(Ended {
+        status: 0,
+        stdout,
+        stderr,
+    })
+}
+
+/// The store of the profile folder.
+fn store_of(alloc: Global) -> Result<Store, PathFault> {
+    Ok(Store {
+        folder: PathText::parse(alloc, "/t/debug")?,
+        next: Some(8),
+    })
+}
+
+/// Opens the store; so many where it is the expected one.
+fn call_open(
+    rt: &HostRuntime,
+    place: &mut Memory<Silent>,
+    count: usize,
+) -> Result<(u128, usize)> {
+    let folder = PathText::parse(rt.alloc(), "/t/debug")?;
+    let start = rt.thread_cpu_time()?;
+    let store = Store::open(rt.alloc(), place, folder)?;
+    let spent = since(rt, start)?;
+    Ok((spent, if store.next == Some(8) { count } else { 0 }))
+}
+
+/// Compares the unit; so many where nothing differs.
+fn call_differs(
+    rt: &HostRuntime,
+    place: &mut Memory<Silent>,
+    command: &Command,
+    count: usize,
+) -> Result<(u128, usize)> {
+    let key = own_key(rt.alloc())?;
+    let store = store_of(rt.alloc())?;
+    let start = rt.thread_cpu_time()?;
+    let found = store.differs(rt.alloc(), place, &key, command)?;
+    let spent = since(rt, start)?;
+    Ok((spent, if found.is_none() { count } else { 0 }))
+}
+
+/// Keeps the unit's record, with these inputs.
+fn keep_names(
+    rt: &HostRuntime,
+    place: &mut Memory<Silent>,
+    asked: Asked,
+    names: &[InputName],
+) -> Result<u128> {
+    let key = own_key(rt.alloc())?;
+    let store = store_of(rt.alloc())?;
+    let command = own_command(rt.alloc(), asked, &store.folder, &key)?;
+    let ended = ended(rt.alloc())?;
+    let start = rt.thread_cpu_time()?;
+    store.keep(rt.alloc(), place, &key, 8, &command, &[], names, &ended)?;
+    since(rt, start)
+}
+
+/// Keeps the unit's record; so many.
+fn call_keep(
+    rt: &HostRuntime,
+    place: &mut Memory<Silent>,
+    asked: Asked,
+    count: usize,
+) -> Result<(u128, usize)> {
+    let names = names_of(rt.alloc(), count)?;
+    let spent = keep_names(rt, place, asked, names.as_slice())?;
+    Ok((spent, count))
+}
+
+/// A call over what is prepared.
+fn call(
+    rt: &HostRuntime,
+    place: &mut Memory<Silent>,
+    shape: &str,
+    asked: Asked,
+    count: usize,
+) -> Result<(u128, usize)> {
+    match shape {
+        "open" => call_open(rt, place, count),
+        "keep" => call_keep(rt, place, asked, count),
+        _ => {
+            let command = asked.into_command();
+            call_differs(rt, place, &command, count)
+        }
+    }
+}
+
+/// What is asked of the unit, where a shape is prepared.
+fn asked_in(
+    alloc: Global,
+    place: &mut Memory<Silent>,
+    shape: &str,
+    count: usize,
+) -> Result<Asked> {
+    let kept = prepare(alloc, place, shape, count)?;
+    Ok(kept.asked)
+}
+
+/// The least time of so many calls, each over what is prepared anew, and the answer of the last.
+fn calls(rt: &HostRuntime, shape: &str, count: usize, number: usize) -> Result<(u128, usize)> {
+    let mut least = u128::MAX;
+    let mut answer = 0usize;
+    for _ in 0..number {
+        let mut place = Memory::new(rt.alloc(), Silent);
+        let asked = asked_in(rt.alloc(), &mut place, shape, count)?;
+        let (spent, many) = call(rt, &mut place, shape, asked, count)?;
+        least = least.min(spent);
+        answer = many;
+    }
+    Ok((least, answer))
+}
+
+/// What is prepared alone, where no call is made: so that the call is what the difference of two runs shows.
+fn prepare_alone(rt: &HostRuntime, shape: &str, count: usize) -> Result<()> {
+    let mut place = Memory::new(rt.alloc(), Silent);
+    asked_in(rt.alloc(), &mut place, shape, count)?;
+    Ok(())
+}
+
+fn main(rt: HostRuntime) -> Result<()> {
+    let words: Vec<String> = env::args(&rt)?.collect(rt.alloc())?;
+    let count = number_in(words.as_slice(), 2);
+    let number = number_in(words.as_slice(), 3);
+    let shape = shape_in(words.as_slice());
+    if number == 0 {
+        prepare_alone(&rt, shape, count)?;
+    }
+    let (least, answer) = calls(&rt, shape, count, number)?;
+    println!(rt; "{answer} {least}")?;
+    Ok(())
+}
+PROGRAM
+measured open 1024 2048 4096
+measured needs 1024 2048 4096
+measured file 16 32 64
+measured files 1024 2048 4096
+measured folder 1024 2048 4096
+measured keep 1024 2048 4096

@@ -1,0 +1,280 @@
+//! Trials: steps on a profile folder, and what they tell.
+
+use crate::stores::steps::{make_steps, open};
+use crate::stores::world::prepare;
+use pb_mini::Mini;
+use pb_place::Memory;
+use std::alloc::Global;
+use std::test::Fail;
+
+/// What steps on a fresh profile folder tell. A step `open` opens a store beside the one of the trial.
+fn tried(alloc: Global, steps: &str) -> Result<String, Fail> {
+    let mut place = Memory::new(alloc, Mini);
+    prepare(alloc, &mut place)?;
+    let mut store = open(alloc, &mut place)?;
+    make_steps(alloc, &mut place, &mut store, steps)
+}
+
+/// Whether steps tell this.
+fn tells(alloc: Global, steps: &str, told: &str) -> Result<bool, Fail> {
+    let said = tried(alloc, steps)?;
+    Ok(said.as_str() == told)
+}
+
+/// What differs first, for both formats.
+const DIFFERENCES: &[(&str, &str)] = &[
+    ("differs", "same, "),
+    ("file /w/a fm\ndiffers", "`/w/a` has changed, "),
+    ("file /w/a fnx\ndiffers", "`/w/a` has changed, "),
+    ("gone /w/a\ndiffers", "`/w/a` has changed, "),
+    ("gone /w/a\nfile /w/a/z fn\ndiffers", "`/w/a` has changed, "),
+    ("file /w/d/x 2\ndiffers", "`/w/d` has changed, "),
+    ("file /w/d/y\ndiffers", "`/w/d` has changed, "),
+    (
+        "gone /w/d/x\nfile /w/d/y 1\ndiffers",
+        "`/w/d` has changed, ",
+    ),
+    ("gone /w/d\ndiffers", "`/w/d` has changed, "),
+    ("file /w/d 1\ndiffers", "`/w/d` has changed, "),
+    ("file /w/e\ndiffers", "same, "),
+    ("set V w\ndiffers", "`V` has changed, "),
+    ("set V\ndiffers", "`V` has changed, "),
+    ("unset V\ndiffers", "`V` has changed, "),
+    ("set U\ndiffers", "`U` has changed, "),
+    (
+        "edit /t/debug/b.target.lib.record 3 4\ndiffers",
+        "`b.target.lib` was built anew, ",
+    ),
+    (
+        "edit /t/debug/b.target.lib.record _b _c\ndiffers",
+        "`b.target.lib` was built anew, ",
+    ),
+    (
+        "gone /t/debug/b.target.lib.record\ndiffers",
+        "`b.target.lib` was built anew, ",
+    ),
+    ("file /t/debug/b.target.lib/b.lib C\ndiffers", "same, "),
+    (
+        "gone /t/debug/a.target.lib.record\ndiffers",
+        "nothing is kept of it, ",
+    ),
+    (
+        "edit /t/debug/a.target.lib.record _a _c\ndiffers",
+        "nothing is kept of it, ",
+    ),
+    (
+        "edit /t/debug/a.target.lib.record end_ end\ndiffers",
+        "nothing is kept of it, ",
+    ),
+    (
+        "file /t/debug/a.target.lib.record\ndiffers",
+        "nothing is kept of it, ",
+    ),
+    ("differs rustc rustd", "its command has changed, "),
+    ("differs -C -D", "its command has changed, "),
+    ("differs 1_2_-C_ 0_", "its command has changed, "),
+    ("differs /w /v", "its command has changed, "),
+    ("differs debug/a debug/c", "its command has changed, "),
+    ("differs _/t_ _/s_", "its command has changed, "),
+    ("differs x_y x_z", "its command has changed, "),
+    ("differs debug/b debug/c", "its command has changed, "),
+    (
+        "differs A_1_1 A_1_2",
+        "a variable that its command sets has changed, ",
+    ),
+    (
+        "differs A B",
+        "a variable that its command sets has changed, ",
+    ),
+    (
+        "differs 1_1_A_1_1_ 0_",
+        "a variable that its command sets has changed, ",
+    ),
+    (
+        "file /w/a fm\nset V w\nedit /t/debug/b.target.lib.record 3 4\ndiffers rustc rustd\ndiffers 1_1_A_1_1_21_/t/debug/a 0_21_/t/debug/c\ndiffers A B\ndiffers\nfile /w/a fn\ndiffers\nset V v\ndiffers\nedit /t/debug/b.target.lib.record 4 3\ndiffers",
+        "its command has changed, its command has changed, a variable that its command sets has changed, `/w/a` has changed, `V` has changed, `b.target.lib` was built anew, same, ",
+    ),
+    ("first\ndiffers", "same, "),
+    (
+        "first\nedit /t/debug/b.target.lib.record 3 4\ndiffers",
+        "same, ",
+    ),
+    (
+        "first\ngone /t/debug/b.target.lib.record\ndiffers",
+        "same, ",
+    ),
+    (
+        "first\nfile /t/debug/b.target.lib/b.lib C\ndiffers",
+        "`b.target.lib` was built anew, ",
+    ),
+    (
+        "first\nfile /t/debug/b.target.lib/c/d\ndiffers",
+        "`b.target.lib` was built anew, ",
+    ),
+    (
+        "first\ngone /t/debug/b.target.lib\ndiffers",
+        "`b.target.lib` was built anew, ",
+    ),
+    (
+        "first\nfile /w/a fm\nfile /t/debug/b.target.lib/b.lib C\ndiffers A B\ndiffers\nfile /w/a fn\ndiffers",
+        "a variable that its command sets has changed, `/w/a` has changed, `b.target.lib` was built anew, ",
+    ),
+];
+
+#[test]
+fn differences_are_told(rt: HostRuntime) -> Result<(), Fail> {
+    for case in DIFFERENCES {
+        let (steps, told) = *case;
+        assert!(rt; tells(rt.alloc(), steps, told)?, "{steps}");
+    }
+    Ok(())
+}
+
+/// The next number, of folders with records of both formats and with names that are no records.
+const NUMBERS: &[(&str, &str)] = &[
+    ("open", "next 8, "),
+    ("gone /t/debug/a.target.lib.record\nopen", "next 4, "),
+    ("gone /t\nopen", "next 1, "),
+    ("first\nopen", "next 4, "),
+    ("first\ngone /t/debug/b.target.lib.record\nopen", "next 1, "),
+    (
+        "edit /t/debug/a.target.lib.record _7_ _70_\nopen",
+        "next 71, ",
+    ),
+    (
+        "edit /t/debug/a.target.lib.record lib_3_ lib_30_\nopen",
+        "next 31, ",
+    ),
+    (
+        "edit /t/debug/a.target.lib.record end_ end\nopen",
+        "next 4, ",
+    ),
+    ("file /t/debug/x.record record\nopen", "next 8, "),
+    (
+        "copy /t/debug/a.target.lib.record /t/debug/x.record\ngone /t/debug/a.target.lib.record\nopen",
+        "next 8, ",
+    ),
+    (
+        "copy /t/debug/a.target.lib.record /t/debug/.record\ngone /t/debug/a.target.lib.record\nopen",
+        "next 8, ",
+    ),
+    (
+        "copy /t/debug/a.target.lib.record /t/debug/x.recor\ngone /t/debug/a.target.lib.record\nopen",
+        "next 4, ",
+    ),
+    (
+        "copy /t/debug/a.target.lib.record /t/debug/x/a.record\ngone /t/debug/a.target.lib.record\nopen",
+        "next 4, ",
+    ),
+    (
+        "copy /t/debug/a.target.lib.record /t/a.record\ngone /t/debug/a.target.lib.record\nopen",
+        "next 4, ",
+    ),
+    (
+        "edit /t/debug/a.target.lib.record _7_ _18446744073709551614_\nopen",
+        "next 18446744073709551615, ",
+    ),
+    (
+        "edit /t/debug/a.target.lib.record _7_ _18446744073709551615_\nopen",
+        "spent, ",
+    ),
+    (
+        "edit /t/debug/a.target.lib.record lib_3_ lib_18446744073709551615_\nopen",
+        "spent, ",
+    ),
+    ("drop\ndrop\nopen", "dropped 8, dropped 9, next 4, "),
+];
+
+#[test]
+fn numbers_are_next(rt: HostRuntime) -> Result<(), Fail> {
+    for case in NUMBERS {
+        let (steps, told) = *case;
+        assert!(rt; tells(rt.alloc(), steps, told)?, "{steps}");
+    }
+    Ok(())
+}
+
+/// Records that are dropped, kept, given again and migrated.
+const RECORDS: &[(&str, &str)] = &[
+    ("replay", "out err 0 4, "),
+    ("first\nreplay", "out err 0 4, "),
+    ("gone /t/debug/a.target.lib.record\nreplay", "none, "),
+    ("edit /t/debug/a.target.lib.record _a _c\nreplay", "none, "),
+    (
+        "drop\ndiffers\nreplay",
+        "dropped 8, nothing is kept of it, none, ",
+    ),
+    (
+        "drop\nkeep 8\ndiffers\nreplay\nopen",
+        "dropped 8, kept, same, out err 0 4, next 9, ",
+    ),
+    (
+        "drop\nkeep 8\nshow /t/debug/a.target.lib.record",
+        "dropped 8, kept, record 2\n8\n12\na.target.lib\n5\nrustc\n1\n2\n-C\n2\n/w\n1\n1\nA\n1\n1\n21\n/t/debug/a.target.lib\n2\n/t\n3\nx\ny\n1\n21\n/t/debug/b.target.lib\n4\nf\n4\n/w/a\n2\nfn\nt\n4\n/w/d\n1\n1\nx\n1\n1\nv\n1\nV\n1\n1\nv\nv\n1\nU\n0\n1\n12\nb.target.lib\n3\n3\nout\n3\nerr\nend\n, ",
+    ),
+    (
+        "file /w/a fm\ngone /w/d\nset U\nunset V\nedit /t/debug/b.target.lib.record 3 5\ndrop\nkeep 8\ndiffers\nset V v\ndiffers",
+        "dropped 8, kept, same, `V` has changed, ",
+    ),
+    (
+        "first\nopen\nmigrate\ndiffers\nshow /t/debug/a.target.lib.record\nopen",
+        "next 4, migrated, same, record 2\n8\n12\na.target.lib\n5\nrustc\n1\n2\n-C\n2\n/w\n1\n1\nA\n1\n1\n21\n/t/debug/a.target.lib\n2\n/t\n3\nx\ny\n1\n21\n/t/debug/b.target.lib\n4\nf\n4\n/w/a\n2\nfn\nt\n4\n/w/d\n1\n1\nx\n1\n1\nv\n1\nV\n1\n1\nv\nv\n1\nU\n0\n1\n12\nb.target.lib\n3\n3\nout\n3\nerr\nend\n, next 9, ",
+    ),
+    (
+        "first\nmigrate\nreplay\ndrop",
+        "migrated, out err 0 4, dropped 9, ",
+    ),
+    (
+        "migrate\nopen\ndiffers\ndrop",
+        "migrated, next 8, same, dropped 8, ",
+    ),
+    (
+        "gone /t/debug/a.target.lib.record\nmigrate\ndiffers\ndrop",
+        "migrated, nothing is kept of it, dropped 8, ",
+    ),
+];
+
+#[test]
+fn records_come_and_go(rt: HostRuntime) -> Result<(), Fail> {
+    for case in RECORDS {
+        let (steps, told) = *case;
+        assert!(rt; tells(rt.alloc(), steps, told)?, "{steps}");
+    }
+    Ok(())
+}
+
+/// What the steps tell where the largest number was named when the store was opened.
+fn spent(alloc: Global, steps: &str) -> Result<String, Fail> {
+    let mut place = Memory::new(alloc, Mini);
+    prepare(alloc, &mut place)?;
+    let mut store = open(alloc, &mut place)?;
+    store.next = None;
+    make_steps(alloc, &mut place, &mut store, steps)
+}
+
+/// Steps where no number is left.
+const SPENT: &[(&str, &str)] = &[
+    ("drop\nreplay", "no run number is left, out err 0 4, "),
+    ("gone /t\ndrop", "no run number is left, "),
+    (
+        "first\nmigrate\ndiffers\nopen",
+        "no run number is left, same, next 4, ",
+    ),
+    ("migrate\ndiffers", "migrated, same, "),
+    ("gone /t\nmigrate", "migrated, "),
+];
+
+/// Whether steps tell this where no number is left.
+fn tells_spent(alloc: Global, steps: &str, told: &str) -> Result<bool, Fail> {
+    let said = spent(alloc, steps)?;
+    Ok(said.as_str() == told)
+}
+
+#[test]
+fn spent_numbers_are_told(rt: HostRuntime) -> Result<(), Fail> {
+    for case in SPENT {
+        let (steps, told) = *case;
+        assert!(rt; tells_spent(rt.alloc(), steps, told)?, "{steps}");
+    }
+    Ok(())
+}
