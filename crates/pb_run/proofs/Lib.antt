@@ -1,3 +1,5 @@
 pub mod Tables
 pub mod Units
 pub mod Views
+pub mod Recorded
+pub mod RecordedOthers
