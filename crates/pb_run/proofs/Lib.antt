@@ -3,3 +3,5 @@ pub mod Units
 pub mod Views
 pub mod Recorded
 pub mod RecordedOthers
+pub mod RecordedKeeps
+pub mod RecordedBegin
