@@ -5,3 +5,4 @@ pub mod Recorded
 pub mod RecordedOthers
 pub mod RecordedKeeps
 pub mod RecordedBegin
+pub mod RecordedAnswer

@@ -20,7 +20,7 @@ use Rattle.pb_record.specs.declared.record.Record.{Record}
 use Rattle.pb_run.specs.Halves.{Footing, OnRecords, OnNothing, Basis, StandsGood, HasRecord, HoldsRecords, HoldsNoRecord, HoldsBy, Keeps, needed_keys, records_in}
 use Rattle.pb_run.specs.Standing.{IsInOrder, IsReadByNeed, records_folder}
 use Rattle.pb_run.proofs.Recorded.{AtOne, all_at, all_of, read_reached, reached_read, key_needed, needed_key, key_by_folder, keys_differ, sources_still, files_still, record_still}
-use Rattle.pb_run.proofs.RecordedOthers.{far_of}
+use Rattle.pb_run.proofs.RecordedOthers.{IfRecords, far_of}
 use Rattle.pb_soundness.specs.Apart.{is_of}
 use Rattle.pb_soundness.specs.Grounded.{Standing, Grounded, Reaches}
 use Rattle.pb_soundness.specs.Inputs.{Judge}
@@ -33,11 +33,6 @@ use Rattle.pb_soundness.proofs.Flying.{unit_record}
 use Rattle.pb_soundness.proofs.Renewing.{spares}
 use Rattle.pb_store.specs.Keeping.{ReadBy, itself, further, HasNeeds}
 use Rattle.pb_unit.specs.declared.plan.Planned.{Planned}
-
--- what is asked only where a build rests on records
-abbrev pub IfRecords : Footing → Type 0 → Type 0
-IfRecords OnRecords Fact = Fact
-IfRecords OnNothing Fact = Unit {0}
 
 -- a grounded record rests on what stands
 rests_by : (judge : Judge) (child : Answers) (folder : List ℕ) (at : Standing) (files : Map) (key : List ℕ) (r : Record) (n : ℕ) (needed : Needed) → TrueBy judge child folder at files key r needed → number_in needed ≡ Some n → Grounded at key n → Rests judge child folder at files key r

@@ -47,6 +47,15 @@ use Rattle.pb_store.specs.Keeping.{ReadBy, itself, further, HasNeeds}
 use Rattle.pb_store.specs.Migrating.{TakesNumber}
 use Rattle.pb_unit.specs.declared.plan.Planned.{Planned}
 
+-- what is asked only where a build rests on records
+abbrev pub IfRecords : Footing → Type 0 → Type 0
+IfRecords OnRecords Fact = Fact
+IfRecords OnNothing Fact = Unit {0}
+
+pub if_records : (footing : Footing) (Fact : Type 0) → Fact → IfRecords footing Fact
+if_records OnRecords Fact fact = fact
+if_records OnNothing Fact fact = tt
+
 -- what became of the record in a unit's place: none counts; it is as it was; or it is one with this number, over units that stand
 pub data Left (old new : Standing) (key : List ℕ) (number : Option ℕ) : Type 0 where
   vanished : new key ≡ None → Left old new key number
@@ -155,7 +164,7 @@ module _ (b : Basis) (order : IsInOrder b.project) (place : ℕ) (u : Planned) (
       before = before_taken next next' number taken waits.before;
     }
 
-    pub awaits_by : (footing : Footing) (next next' : Option ℕ) (given : Option ℕ) (number : ℕ) → TakesNumber next next' → Left At At' u.key given → given ≢ Some number → AwaitsBy footing b v number next w → AwaitsBy footing b v number next' w'
+    pub awaits_by : (footing : Footing) (next next' : Option ℕ) (given : Option ℕ) (number : ℕ) → TakesNumber next next' → IfRecords footing (Left At At' u.key given) → given ≢ Some number → AwaitsBy footing b v number next w → AwaitsBy footing b v number next' w'
     awaits_by OnRecords next next' given number taken left apart waits = awaits_still next next' given number taken left apart waits
     awaits_by OnNothing next next' given number taken left apart waits = tt
 
@@ -215,7 +224,7 @@ module _ (b : Basis) (order : IsInOrder b.project) (place : ℕ) (u : Planned) (
     }
 
     pub waits_still : (c : Command) (view : World) (launched : Option Launched) (states : List (State UnitFault)) (next next' given : Option ℕ) (flying flying' : List ChildInFlight) (still still' : ℕ → Type 0)
-        → IsFor b.project v c → HoldsBy b.footing b states next w → TakesNumber next next' → Left At At' u.key given
+        → IsFor b.project v c → HoldsBy b.footing b states next w → TakesNumber next next' → IfRecords b.footing (Left At At' u.key given)
         → ((theirs : Launched) → launched ≡ Some theirs → given ≢ Some theirs.number)
         → ((theirs : Launched) → launched ≡ Some theirs → (its : ChildInFlight) → child_at theirs.ticket flying ≡ Some its → child_at theirs.ticket flying' ≡ Some its)
         → ((theirs : Launched) → launched ≡ Some theirs → ((x y : World) → ChangesOnly (is_of Folder u.key) x y → StandsStill theirs.ticket flying x y) → still theirs.ticket → still' theirs.ticket)
@@ -235,7 +244,7 @@ pub stays_begun : (b : Basis) (order : IsInOrder b.project) (states : List (Stat
     (next next' given : Option ℕ) (w w' : World) (flying flying' : List ChildInFlight) (still still' : ℕ → Type 0)
     → unit_at b.project place ≡ Some u → is_good_at (slice_get states place) ≡ false → Keeps b states done next w
     → BeginsApart b states place launched other its next w flying still
-    → ChangesOnly (is_of (records_folder b.project) u.key) w w' → TakesNumber next next' → Left (records_in b w) (records_in b w') u.key given
+    → ChangesOnly (is_of (records_folder b.project) u.key) w w' → TakesNumber next next' → IfRecords b.footing (Left (records_in b w) (records_in b w') u.key given)
     → ((theirs : Launched) → its.launched ≡ Some theirs → given ≢ Some theirs.number)
     → ((theirs : Launched) → its.launched ≡ Some theirs → (c : ChildInFlight) → child_at theirs.ticket flying ≡ Some c → child_at theirs.ticket flying' ≡ Some c)
     → ((theirs : Launched) → its.launched ≡ Some theirs → ((x y : World) → ChangesOnly (is_of (records_folder b.project) u.key) x y → StandsStill theirs.ticket flying x y) → still theirs.ticket → still' theirs.ticket)
