@@ -6,3 +6,4 @@ pub mod RecordedOthers
 pub mod RecordedKeeps
 pub mod RecordedBegin
 pub mod RecordedAnswer
+pub mod RecordedLanding

@@ -150,10 +150,10 @@ module _ (b : Basis) (order : IsInOrder b.project) (place : ℕ) (u : Planned) (
     pub begun_bad : is_good_at (slice_get states place) ≡ false
     begun_bad = ap is_good_at can.state
 
-    own_places : (p : ℕ) → Contains u.reaches p → p ≢ place
+    pub own_places : (p : ℕ) → Contains u.reaches p → p ≢ place
     own_places = own_far b order states done place u there next w w (record { variables = refl; files = λ q outside. refl }) begun_bad can.reaches
 
-    its_for : IsFor b.project u begun.command
+    pub its_for : IsFor b.project u begun.command
     its_for = command_for b.project order b place u begun.command refl there its_command
 
     -- What is kept after its answer.
