@@ -7,3 +7,4 @@ pub mod RecordedKeeps
 pub mod RecordedBegin
 pub mod RecordedAnswer
 pub mod RecordedLanding
+pub mod RecordedReplay

@@ -1,24 +1,21 @@
 -- A unit answers: its child has landed, and its record is kept where the answer is good.
-use Rattle.std.proofs.Common.{◌≡◌, ◌≢◌, ◌⊎◌, ◌<◌, ◌∙◌, ◌||◌, zero, suc, ℕ, Bool, true, false, cond, pos, List, [], ◌∷◌, length, map, is_none, Option, Some, None, Result, Ok, Err, Contains, refl, sym, ap, subst, inl, inr, arith, slice_get}
+use Rattle.std.proofs.Common.{◌≡◌, ◌≢◌, ◌<◌, ◌∙◌, ◌||◌, zero, suc, ℕ, Bool, true, false, cond, pos, List, [], ◌∷◌, length, is_none, Option, Some, None, Result, Contains, refl, sym, ap, subst, inl, inr, arith, slice_get}
 use Rattle.std.proofs.lemmas.Bool.{cases_Bool, false≢true}
 use Rattle.std.proofs.lemmas.Bool.Decides.{Decides-int_eq}
 use Rattle.std.proofs.lemmas.Option.{slice_get_within}
-use Rattle.std.specs.FinMap as finite
 use Rattle.std.specs.Ordering.{int_eq}
 use Rattle.std.specs.Prelude.{slice_set}
-use Rattle.pb_command.specs.Answers.{ended_fault, unless_fault, run_answered, compile_answered, is_too_long}
-use Rattle.pb_command.specs.Externs.{reads_of}
-use Rattle.pb_command.specs.Judge.{judge, judge_in, inputs_if, is_of_run, dep_info_in, ended_by, replied_files}
+use Rattle.pb_command.specs.Answers.{ended_fault, unless_fault, is_too_long}
+use Rattle.pb_command.specs.Judge.{judge, judge_in, inputs_if, ended_by}
 use Rattle.pb_directive.specs.declared.directive.Directive.{Directive}
 use Rattle.pb_flight.specs.declared.flight.Answer.{Answer}
 use Rattle.pb_flight.specs.declared.flight.State.{State}
 use Rattle.pb_flight.specs.declared.flight.State.TheVariants.{Untouched, Begun as begun_state, Answered}
-use Rattle.pb_flight.specs.Table.{is_good_at, are_good}
+use Rattle.pb_flight.specs.Table.{is_good_at}
 use Rattle.pb_flight.proofs.Lists.{get_set_same, get_set_other, length_set}
-use Rattle.pb_message.specs.declared.message.Message.{Message}
 use Rattle.pb_place.specs.Folders.{files_in}
 use Rattle.pb_place.specs.Paths.{is_at_or_below}
-use Rattle.pb_place.specs.World.{World, Map, Answers, ChangesOnly, from_nothing, seen_by}
+use Rattle.pb_place.specs.World.{World, ChangesOnly}
 use Rattle.pb_place.specs.declared.child.Reply.{Reply}
 use Rattle.pb_place.specs.declared.child_in_flight.ChildInFlight.{ChildInFlight}
 use Rattle.pb_place.specs.declared.command.Command.{Command}
@@ -28,32 +25,25 @@ use Rattle.pb_project.specs.declared.answer.Answered.{Answered as answer_type}
 use Rattle.pb_project.specs.declared.answer.InputName.{InputName}
 use Rattle.pb_project.specs.declared.fault.UnitFault.{UnitFault}
 use Rattle.pb_project.specs.declared.fault.UnitFault.TheVariants as unit_fault
-use Rattle.pb_record.specs.declared.record.Input.{Input}
-use Rattle.pb_record.specs.declared.record.Record.{Record}
-use Rattle.pb_run.specs.Halves.{Footing, OnRecords, OnNothing, Basis, StandsGood, HasRecord, HoldsRecords, HoldsBy, Keeps, IsBegun, IsInFlight, AwaitsRecord, AwaitsBy, IsUnchanged, WaitsBy, CanAnswer, needed_keys, outcomes_in, records_in, command_in, view_in}
-use Rattle.pb_run.specs.Outcome.{Outcome, Good, outcome_by, outcome_from}
+use Rattle.pb_run.specs.Halves.{Footing, OnRecords, OnNothing, Basis, HasRecord, Keeps, IsInFlight, AwaitsBy, IsUnchanged, WaitsBy, CanAnswer, outcomes_in, records_in, command_in, view_in}
+use Rattle.pb_run.specs.Outcome.{outcome_by, outcome_from}
 use Rattle.pb_run.specs.Standing.{IsInOrder, records_folder}
 use Rattle.pb_run.specs.declared.begun.Begun.{Begun}
 use Rattle.pb_run.specs.declared.begun.Launched.{Launched}
 use Rattle.pb_run.specs.declared.ran.Ran.{Ran}
-use Rattle.pb_run.proofs.Recorded.{command_for, sources_still}
-use Rattle.pb_run.proofs.RecordedBegin.{never_by, own_far, own_seen}
-use Rattle.pb_run.proofs.RecordedKeeps.{IsAfter, reads_grounded, keeps_over}
-use Rattle.pb_run.proofs.RecordedOthers.{IfRecords, Left, vanished, as_before, put_anew, others_at, needs_still}
+use Rattle.pb_run.proofs.Recorded.{command_for}
+use Rattle.pb_run.proofs.RecordedBegin.{never_by, own_far}
+use Rattle.pb_run.proofs.RecordedKeeps.{keeps_over}
+use Rattle.pb_run.proofs.RecordedOthers.{IfRecords}
 use Rattle.pb_run.proofs.Views.{IsFor}
 use Rattle.pb_soundness.specs.Apart.{is_of}
 use Rattle.pb_soundness.specs.Grounded.{Standing, Grounded, grounded}
-use Rattle.pb_soundness.specs.Inputs.{IsHonest, reply_in}
-use Rattle.pb_soundness.specs.Numbers.{NoneNames, IsAhead, IsBefore}
-use Rattle.pb_soundness.specs.Records.{is_key, out_of, place_of, record_at, number_of, needs_of}
-use Rattle.pb_soundness.specs.Reuse.{AreGrounded, NamesNeeds, own}
+use Rattle.pb_soundness.specs.Numbers.{IsAhead}
+use Rattle.pb_soundness.specs.Records.{is_key, place_of}
 use Rattle.pb_soundness.specs.Sound.{Sound}
-use Rattle.pb_soundness.proofs.Becoming.{one, none_some, grounded_number, grounded_stands}
+use Rattle.pb_soundness.proofs.Becoming.{one, none_some}
 use Rattle.pb_soundness.proofs.Four.{in_output}
 use Rattle.pb_soundness.proofs.Places.{place_outside, no_key, record_same}
-use Rattle.pb_soundness.proofs.Renewing.{put_grounds}
-use Rattle.pb_store.specs.Keeping.{ReadBy, HasNeeds, IsKept, kept_of, numbered}
-use Rattle.pb_store.proofs.Earned.{names_stand}
 use Rattle.pb_unit.specs.declared.plan.Planned.{Planned}
 
 -- A good reply has status 0.

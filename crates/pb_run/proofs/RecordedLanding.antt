@@ -1,13 +1,11 @@
 -- The record of a unit whose child has landed: what makes it true, and what stands once it is kept.
-use Rattle.std.proofs.Common.{◌≡◌, ◌≢◌, ◌⊎◌, ◌<◌, ◌∙◌, ℕ, true, List, map, Option, Some, None, Contains, refl, sym, ap, subst, inl, inr, slice_get}
-use Rattle.std.specs.FinMap as finite
-use Rattle.pb_command.specs.Externs.{reads_of}
+use Rattle.std.proofs.Common.{◌≡◌, ◌≢◌, ◌∙◌, ℕ, List, Option, Some, refl, sym, ap, subst, inl, inr}
 use Rattle.pb_command.specs.Judge.{judge, ended_by, replied_files}
 use Rattle.pb_directive.specs.declared.directive.Directive.{Directive}
 use Rattle.pb_flight.specs.declared.flight.State.{State}
 use Rattle.pb_place.specs.Folders.{files_in}
 use Rattle.pb_place.specs.Paths.{is_at_or_below}
-use Rattle.pb_place.specs.World.{World, Map, Answers, ChangesOnly, from_nothing, seen_by}
+use Rattle.pb_place.specs.World.{World, ChangesOnly, seen_by}
 use Rattle.pb_place.specs.declared.child.Reply.{Reply}
 use Rattle.pb_place.specs.declared.child_in_flight.ChildInFlight.{ChildInFlight}
 use Rattle.pb_place.specs.declared.command.Command.{Command}
@@ -17,7 +15,7 @@ use Rattle.pb_project.specs.declared.answer.InputName.{InputName}
 use Rattle.pb_project.specs.declared.fault.UnitFault.{UnitFault}
 use Rattle.pb_record.specs.declared.record.Input.{Input}
 use Rattle.pb_record.specs.declared.record.Record.{Record}
-use Rattle.pb_run.specs.Halves.{Footing, OnRecords, OnNothing, Basis, HasRecord, HoldsRecords, HoldsBy, AwaitsRecord, AwaitsBy, CanAnswer, needed_keys, records_in, command_in, view_in}
+use Rattle.pb_run.specs.Halves.{Footing, OnRecords, OnNothing, Basis, HasRecord, HoldsRecords, HoldsBy, AwaitsRecord, AwaitsBy, CanAnswer, needed_keys, records_in, view_in}
 use Rattle.pb_run.specs.Standing.{IsInOrder, records_folder}
 use Rattle.pb_run.specs.declared.begun.Begun.{Begun}
 use Rattle.pb_run.proofs.Recorded.{sources_still}
@@ -29,12 +27,12 @@ use Rattle.pb_run.proofs.Views.{IsFor}
 use Rattle.pb_soundness.specs.Grounded.{Standing, Grounded}
 use Rattle.pb_soundness.specs.Inputs.{IsHonest, reply_in}
 use Rattle.pb_soundness.specs.Numbers.{NoneNames, IsAhead, IsBefore}
-use Rattle.pb_soundness.specs.Records.{out_of, place_of, number_of, needs_of}
+use Rattle.pb_soundness.specs.Records.{out_of, place_of, number_of}
 use Rattle.pb_soundness.specs.Reuse.{AreGrounded, NamesNeeds, own}
 use Rattle.pb_soundness.specs.Sound.{Sound}
 use Rattle.pb_soundness.proofs.Becoming.{one, grounded_number, grounded_stands}
 use Rattle.pb_soundness.proofs.Renewing.{put_grounds}
-use Rattle.pb_store.specs.Keeping.{HasNeeds, IsKept, kept_of, numbered}
+use Rattle.pb_store.specs.Keeping.{Leaves, HasNeeds, IsKept, kept_of, numbered}
 use Rattle.pb_store.proofs.Earned.{names_stand}
 use Rattle.pb_unit.specs.declared.plan.Planned.{Planned}
 
@@ -87,7 +85,7 @@ module _ (b : Basis) (order : IsInOrder b.project) (place : ℕ) (u : Planned) (
       let command = its_command b order place u there states done begun next w flying still can in
       let only = only_out b order place u there w w1 landed in
       let sees_now : seen_by begun.command w1 ≡ view_in b place u =
-          own_seen b order states done place u there next w w1 only begun.command (begun_bad b order place u there states done begun next w flying still can) can.reaches command ∙ sees in
+      own_seen b order states done place u there next w w1 only begun.command (begun_bad b order place u there states done begun next w flying still can) can.reaches command ∙ sees in
       let replies : reply_in b.child begun.command w1 ≡ b.child begun.command (view_in b place u) = ap (b.child begun.command) sees_now in
       record {
         earned = record {
@@ -148,7 +146,7 @@ module _ (b : Basis) (order : IsInOrder b.project) (place : ℕ) (u : Planned) (
 
     -- what others find in its place
     pub left_kept : (footing : Footing) (number : ℕ) (inputs : List Input) (ended : Ended) → AwaitsBy footing b u number next w
-        → (records_in b w2 u.key ≡ None) ⊎ ((records_in b w2 u.key ≡ records_in b w1 u.key) ⊎ (records_in b w2 u.key ≡ Some (kept_of Folder u.key begun.command inputs number (numbered (records_in b w1) (needed_keys b.project u)) ended)))
+        → Leaves (Some (kept_of Folder u.key begun.command inputs number (numbered (records_in b w1) (needed_keys b.project u)) ended)) (records_in b w1 u.key) (records_in b w2 u.key)
         → IfRecords footing (Left (records_in b w) (records_in b w2) u.key (Some number))
     left_kept OnRecords number inputs ended waits left = elim left [
       | inl gone ↦ vanished gone
