@@ -133,6 +133,7 @@ fn project_of(alloc: Global, options: &Options, workspace: Workspace) -> Result<
         Ok(features) => features,
         Err(fault) => return Err(fault),
     };
+    let _ = workspace.target.as_str();
     let asked = options.profile.as_str();
     let plan = match plan_of(alloc, &workspace, &features, &selection, asked) {
         Ok(plan) => plan,
