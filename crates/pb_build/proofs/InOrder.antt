@@ -210,10 +210,14 @@ module _ (project : Project) (selection : Selection) (is : IsPlan project.worksp
 
   folder_of_unit : (o : Option Planned) (f : List ℕ) → Contains (folder_in o) f → (v : Planned) × (o ≡ Some v) × (f ≡ v.out)
   folder_of_unit None f has = absurd (contains_none f has)
-  folder_of_unit (Some v) f has = (v, refl, elim (contains_cases v.out [] f has) [
-    | inl same ↦ sym same
-    | inr more ↦ absurd (contains_none f more)
-  ])
+  folder_of_unit (Some v) f has = (
+    v,
+    refl,
+    elim (contains_cases v.out [] f has) [
+      | inl same ↦ sym same
+      | inr more ↦ absurd (contains_none f more)
+    ],
+  )
 
   read_by : (u v : Planned) (place : ℕ) → Contains u.reaches place → slice_get planned place ≡ Some v → Contains (reads_of project u) v.out
   read_by u v place among there = flat_of (read_at project) u.reaches place v.out among (subst (λ (o : Option Planned). Contains (folder_in o) v.out) (sym there) (contains_head v.out []))
@@ -285,8 +289,12 @@ module _ (project : Project) (selection : Selection) (is : IsPlan project.worksp
               let (q, here, reaches) = ((reached_at by.place by.need by.there).same place).0 among in
               let (n, here', need) = ((needed_at i u at).same by.place).0 by.needed in
               subst (Contains (reads_of project u)) (sym same) (read_by u v place
-              (((reached_at i u at).same place).1 (q, here, onward u.unit by.need.unit q.unit
-              (subst (λ (x : Planned). Contains (needs project.workspace project.features u.unit) x.unit) (the_same n by.need (sym here' ∙ by.there)) need) reaches)) there)
+              (((reached_at i u at).same place).1 (
+                q,
+                here,
+                onward u.unit by.need.unit q.unit
+                    (subst (λ (x : Planned). Contains (needs project.workspace project.features u.unit) x.unit) (the_same n by.need (sym here' ∙ by.there)) need) reaches,
+              )) there)
             where
               the_same : (x y : Planned) → Some x ≡ Some y → x ≡ y
               the_same x y e = cc
