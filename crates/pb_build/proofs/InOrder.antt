@@ -1,14 +1,25 @@
 -- A plan comes in order: units after what they need and reach, each in a folder of its own in the target folder.
-use Rattle.std.proofs.Common.{◌≡◌, ◌≢◌, ◌∙◌, ◌⊎◌, ◌<◌, ◌++◌, Bool, true, false, cond, List, [], ◌∷◌, ℕ, zero, suc, Some, Ok, Err, Result, refl, sym, ap, subst, arith, slice_get, map, option_map, inl, inr}
+use Rattle.std.proofs.Common.{◌≡◌, ◌≢◌, ◌∙◌, ◌⊎◌, ◌<◌, ◌↔◌, ◌&&◌, ◌==◌, ◌-◌, ◌++◌, Bool, true, false, not, cond, codes, List, [], ◌∷◌, ℕ, zero, suc, drop, take, length, Option, Some, None, Ok, Err, Result, refl, sym, ap, subst, arith, slice_get, map, option_map, inl, inr}
 use Rattle.std.proofs.lemmas.Option.{slice_get-map}
 use Rattle.pb_order.proofs.Elements.{all_at, pair_at, at_from_contains, contains_from_at}
 use Rattle.pb_package.specs.declared.package.Package.{Package}
 use Rattle.std.proofs.lemmas.Bool.{cases_Bool, false≢true}
 use Rattle.std.specs.Prelude.{AllPairs, Contains}
-use Rattle.std.specs.List.{AllByRecursion}
+use Rattle.std.specs.List.{AllByRecursion, list_any}
+use Rattle.std.proofs.lemmas.List.{take-append-drop}
+use Rattle.std.proofs.lemmas.Slice.Eq.{bytes_eq-Decides}
+use Rattle.pb_command.specs.Externs.{folder_in, read_at, reads_of}
+use Rattle.pb_flight.proofs.Lists.{contains_none, contains_head, contains_cases}
+use Rattle.pb_package.specs.Settled.{IsSettled}
+use Rattle.pb_run.proofs.Recorded.{flat_at, flat_of}
+use Rattle.pb_soundness.specs.Records.{is_key, ends_as_record}
+use Rattle.pb_unit.specs.Laws.{TellsWhat, last_word}
+use Rattle.pb_unit.proofs.Telling.{behind_point, keys_tell_what}
+use Rattle.pb_unit.specs.declared.unit.What.{What}
+use Rattle.pb_unit.specs.declared.unit.What.TheVariants.{Lib, Bin, Script, Run}
 use Rattle.pb_data.specs.Gives.{◌>>=◌}
-use Rattle.pb_place.specs.Paths.{below, is_below, is_at_or_below, is_relative}
-use Rattle.pb_place.proofs.PathLemmas.{below_is_below}
+use Rattle.pb_place.specs.Paths.{below, is_below, is_at_or_below, is_path, is_relative}
+use Rattle.pb_place.proofs.PathLemmas.{below_is_below, below_is_path}
 use Rattle.pb_place.proofs.Within.{goes_below, below_then_at, at_below}
 use Rattle.pb_profile.specs.Line.{Seen, folder_of, checked_line}
 use Rattle.pb_profile.specs.declared.fault.ProfileFault.{ProfileFault}
@@ -17,12 +28,12 @@ use Rattle.pb_package.specs.declared.workspace.Workspace.{Workspace}
 use Rattle.pb_package.specs.declared.options.Selection.{Selection}
 use Rattle.pb_feature.specs.declared.resolved.Features.{Features}
 use Rattle.pb_unit.specs.Plan.{IsPlan, LieApart, ComesBefore, ArePlaces, HasSettings, above, level_at, level_of, profile_folder}
-use Rattle.pb_unit.specs.Units.{needs, Reaches, direct, onward, IsPlanned, key_of, name_at}
+use Rattle.pb_unit.specs.Units.{needs, Reaches, direct, onward, IsPlanned, key_of, name_at, what_name}
 use Rattle.pb_unit.specs.declared.plan.Plan.{Plan}
 use Rattle.pb_unit.specs.declared.plan.Planned.{Planned}
 use Rattle.pb_unit.specs.declared.unit.Unit.{Unit}
 use Rattle.pb_project.specs.declared.project.Project.{Project}
-use Rattle.pb_run.specs.Standing.{IsInOrder}
+use Rattle.pb_run.specs.Standing.{IsInOrder, IsReadByNeed}
 
 -- an element of a list is at a place of it, and the other way round
 level_below : (levels : List ℕ) (level : ℕ) → (i : ℕ) → slice_get levels i ≡ Some level → level < above levels
@@ -160,11 +171,152 @@ apart_at units apart i j u v at there other q inside = elim (sides i j other) [
       | inr more ↦ inr (omega (arith, more))
     ]
 
-pub in_order : (project : Project) (selection : Selection) (profile : List ℕ) → IsPlan project.workspace project.features selection profile project.plan → AllPairs LieApart project.plan.planned → IsInOrder project
-in_order project selection profile is apart = record {
-  packages = package_there project.workspace project.features selection profile project.plan is;
-  inside = out_inside project.workspace project.features selection profile project.plan is;
-  apart = apart_at project.plan.planned apart;
-  needs = needs_before project.workspace project.features selection profile project.plan is;
-  reaches = reaches_before project.workspace project.features selection profile project.plan is;
-}
+-- a key is no name of a record: its last word is another
+module _ (p : Planned) (tells : TellsWhat p) where
+  not_record : (w : What) → what_name w ≢ codes "record"
+  not_record Lib e = false≢true ((bytes_eq-Decides (codes "lib") (codes "record")).1 e)
+  not_record (Bin name) e = false≢true ((bytes_eq-Decides (codes "bin-" ++ name) (codes "record")).1 e)
+  not_record Script e = false≢true ((bytes_eq-Decides (codes "script") (codes "record")).1 e)
+  not_record Run e = false≢true ((bytes_eq-Decides (codes "run") (codes "record")).1 e)
+
+  other_name : ends_as_record p.key ≡ false
+  other_name = elim (cases_Bool (ends_as_record p.key)) [
+    | inl ends ↦
+        let tail : drop (length p.key - 7) p.key ≡ codes ".record" = (bytes_eq-Decides (drop (length p.key - 7) p.key) (codes ".record")).0 ends in
+        let whole : p.key ≡ take (length p.key - 7) p.key ++ 46 ∷ codes "record" = sym (take-append-drop (length p.key - 7) p.key) ∙ ap (λ t. take (length p.key - 7) p.key ++ t) tail in
+        absurd (not_record p.unit.what (sym tells.key ∙ ap last_word whole ∙ behind_point (take (length p.key - 7) p.key) (codes "record") refl))
+    | inr other ↦ other
+  ]
+
+  pub key_is : is_key p.key ≡ true
+  unfolding is_key
+  key_is = ap (λ b. b && (not (list_any (λ b. b == 47) p.key) && not (ends_as_record p.key))) tells.name ∙ ap (λ b. not b && not (ends_as_record p.key)) tells.flat ∙ ap not other_name
+
+-- what a unit needs it reaches, and its reads are the folders of what it needs and what that reads
+module _ (project : Project) (selection : Selection) (is : IsPlan project.workspace project.features selection project.profile project.plan) where
+  abbrev planned : List Planned
+  planned = project.plan.planned
+
+  needed_at : (i : ℕ) (u : Planned) → slice_get planned i ≡ Some u → ArePlaces planned (Contains (needs project.workspace project.features u.unit)) u.needs
+  needed_at i u at = all_at (λ (x : Planned). ArePlaces planned (Contains (needs project.workspace project.features x.unit)) x.needs) planned is.needs i u at
+
+  reached_at : (i : ℕ) (u : Planned) → slice_get planned i ≡ Some u → ArePlaces planned (Reaches project.workspace project.features u.unit) u.reaches
+  reached_at i u at = all_at (λ (x : Planned). ArePlaces planned (Reaches project.workspace project.features x.unit) x.reaches) planned is.reaches i u at
+
+  pub needs_are_reached : (i : ℕ) (u : Planned) → slice_get planned i ≡ Some u → (place : ℕ) → Contains u.needs place → Contains u.reaches place
+  needs_are_reached i u at place has =
+      let (q, there, need) = ((needed_at i u at).same place).0 has in
+      ((reached_at i u at).same place).1 (q, there, direct u.unit q.unit need)
+
+  folder_of_unit : (o : Option Planned) (f : List ℕ) → Contains (folder_in o) f → (v : Planned) × (o ≡ Some v) × (f ≡ v.out)
+  folder_of_unit None f has = absurd (contains_none f has)
+  folder_of_unit (Some v) f has = (
+    v,
+    refl,
+    elim (contains_cases v.out [] f has) [
+      | inl same ↦ sym same
+      | inr more ↦ absurd (contains_none f more)
+    ],
+  )
+
+  read_by : (u v : Planned) (place : ℕ) → Contains u.reaches place → slice_get planned place ≡ Some v → Contains (reads_of project u) v.out
+  read_by u v place among there = flat_of (read_at project) u.reaches place v.out among (subst (λ (o : Option Planned). Contains (folder_in o) v.out) (sym there) (contains_head v.out []))
+
+  -- a unit that is reached is one that is needed, or one that such a one reaches
+  by_need : (i : ℕ) (u v : Planned) (place : ℕ) (f : List ℕ) → slice_get planned i ≡ Some u → slice_get planned place ≡ Some v → f ≡ v.out → (a c : Unit) → Reaches project.workspace project.features a c → u.unit ≡ a → v.unit ≡ c → IsReadByNeed project u f
+  by_need i u v place f at there same a c (direct _ _ need) first last = record {
+    place = place;
+    needed = ((needed_at i u at).same place).1 (v, there, subst (λ (x : Unit). Contains (needs project.workspace project.features x) v.unit) (sym first) (subst (Contains (needs project.workspace project.features a)) (sym last) need));
+    need = v;
+    there = there;
+    own_or_read = inl same;
+  }
+  by_need i u v place f at there same a c (onward _ m _ need more) first last =
+      let needed : Contains (needs project.workspace project.features u.unit) m = subst (λ (x : Unit). Contains (needs project.workspace project.features x) m) (sym first) need in
+      let (k, x, here, its) = unit_at_place m ((is.units m).1 (is_planned i u at m needed)) in
+      record {
+        place = k;
+        needed = ((needed_at i u at).same k).1 (x, here, subst (Contains (needs project.workspace project.features u.unit)) (sym its) needed);
+        need = x;
+        there = here;
+        own_or_read = inr (subst (Contains (reads_of project x)) (sym same) (read_by x v place
+            (((reached_at k x here).same place).1 (v, there, subst (λ (y : Unit). Reaches project.workspace project.features y v.unit) (sym its) (subst (Reaches project.workspace project.features m) (sym last) more))) there));
+      }
+    where
+      unit_in : (us : List Planned) (k : ℕ) (w : Unit) → slice_get (map (λ (x : Planned). x.unit) us) k ≡ Some w → (r : Planned) × (slice_get us k ≡ Some r) × (r.unit ≡ w)
+      unit_in [] k w found = cc
+      unit_in (r ∷ us) zero w found = (r, refl, let one : r.unit ≡ w = cc in one)
+      unit_in (r ∷ us) (suc k) w found = unit_in us k w found
+
+      unit_at_place : (w : Unit) → Contains (map (λ (x : Planned). x.unit) planned) w → (k : ℕ) × (r : Planned) × (slice_get planned k ≡ Some r) × (r.unit ≡ w)
+      unit_at_place w has = let (k, found) = at_from_contains (map (λ (x : Planned). x.unit) planned) w has in let (r, here, its) = unit_in planned k w found in (k, r, here, its)
+
+      is_planned : (j : ℕ) (q : Planned) → slice_get planned j ≡ Some q → (w : Unit) → Contains (needs project.workspace project.features q.unit) w → IsPlanned project.workspace project.features selection w
+      is_planned j q here w has =
+          go_on ((is.units q.unit).0 (contains_from_at (map (λ (x : Planned). x.unit) planned) j q.unit (slice_get-map (λ (x : Planned). x.unit) planned j ∙ ap (option_map (λ (x : Planned). x.unit)) here))) has
+        where
+          reaches_on : {x y z : Unit} → Reaches project.workspace project.features x y → Contains (needs project.workspace project.features y) z → Reaches project.workspace project.features x z
+          reaches_on {x} {y} {z} (direct _ _ n) l = onward x y z n (direct y z l)
+          reaches_on {x} {y} {z} (onward _ t _ n rest) l = onward x t z n (reaches_on rest l)
+
+          go_on : {x y : Unit} → IsPlanned project.workspace project.features selection x → Contains (needs project.workspace project.features x) y → IsPlanned project.workspace project.features selection y
+          go_on {x} {y} (inl root) l = inr (x, root, direct x y l)
+          go_on {x} {y} (inr (r, root, reaches)) l = inr (r, root, reaches_on reaches l)
+
+  pub reads_by_need : (i : ℕ) (u : Planned) → slice_get planned i ≡ Some u → (f : List ℕ) → Contains (reads_of project u) f ↔ IsReadByNeed project u f
+  reads_by_need i u at f = (to, from)
+    where
+      to : Contains (reads_of project u) f → IsReadByNeed project u f
+      to has =
+          let (place, among, inside) = flat_at (read_at project) u.reaches f has in
+          let (v, there, same) = folder_of_unit (slice_get planned place) f inside in
+          let (q, here, reaches) = ((reached_at i u at).same place).0 among in
+          by_need i u v place f at there same u.unit q.unit reaches refl (ap (λ (x : Planned). x.unit) (the_same v q (sym there ∙ here)))
+        where
+          the_same : (x y : Planned) → Some x ≡ Some y → x ≡ y
+          the_same x y e = cc
+
+      from : IsReadByNeed project u f → Contains (reads_of project u) f
+      from by = elim by.own_or_read [
+        | inl own ↦ subst (Contains (reads_of project u)) (sym own) (read_by u by.need by.place (needs_are_reached i u at by.place by.needed) by.there)
+        | inr read ↦ further read
+      ]
+        where
+          further : Contains (reads_of project by.need) f → Contains (reads_of project u) f
+          further read =
+              let (place, among, inside) = flat_at (read_at project) by.need.reaches f read in
+              let (v, there, same) = folder_of_unit (slice_get planned place) f inside in
+              let (q, here, reaches) = ((reached_at by.place by.need by.there).same place).0 among in
+              let (n, here', need) = ((needed_at i u at).same by.place).0 by.needed in
+              subst (Contains (reads_of project u)) (sym same) (read_by u v place
+              (((reached_at i u at).same place).1 (
+                q,
+                here,
+                onward u.unit by.need.unit q.unit
+                    (subst (λ (x : Planned). Contains (needs project.workspace project.features u.unit) x.unit) (the_same n by.need (sym here' ∙ by.there)) need) reaches,
+              )) there)
+            where
+              the_same : (x y : Planned) → Some x ≡ Some y → x ≡ y
+              the_same x y e = cc
+
+pub in_order : (project : Project) (selection : Selection) (profile : List ℕ) → is_path project.workspace.target ≡ true → IsSettled project.workspace → profile ≡ project.profile
+    → IsPlan project.workspace project.features selection profile project.plan → AllPairs LieApart project.plan.planned → IsInOrder project
+in_order project selection profile path settled same planned_so apart =
+    let is = subst (λ x. IsPlan project.workspace project.features selection x project.plan) same planned_so in
+    let relative = folder_relative project.workspace project.features selection project.profile project.plan is in
+    record {
+      settled = settled;
+      selection = selection;
+      planned = is;
+      folder = below_is_path project.workspace.target (folder_of project.profile) (profile_folder project.workspace project.profile) path relative refl;
+      target = at_below project.workspace.target (profile_folder project.workspace project.profile) (below_is_below project.workspace.target (folder_of project.profile) (profile_folder project.workspace project.profile) relative refl);
+      keys = λ i u at. key_is u (all_at TellsWhat project.plan.planned (keys_tell_what project.workspace project.features selection project.profile project.plan settled is) i u at);
+      folders = λ i u at. all_at (λ (x : Planned). x.out ≡ below (profile_folder project.workspace project.profile) x.key) project.plan.planned is.folders i u at;
+      needs_reached = needs_are_reached project selection is;
+      reads_are = reads_by_need project selection is;
+      packages = package_there project.workspace project.features selection project.profile project.plan is;
+      inside = out_inside project.workspace project.features selection project.profile project.plan is;
+      apart = apart_at project.plan.planned apart;
+      needs = needs_before project.workspace project.features selection project.profile project.plan is;
+      reaches = reaches_before project.workspace project.features selection project.profile project.plan is;
+    }

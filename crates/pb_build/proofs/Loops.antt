@@ -19,6 +19,9 @@ use Rattle.pb_answer.specs.declared.fault.BuildFault.{BuildFault}
 use Rattle.pb_answer.specs.declared.fault.BuildFault.TheVariants.{Plan, Toolchain, Child, Device, Sink, OutOfMemory}
 use Rattle.pb_answer.specs.declared.summary.Summary.{Summary}
 use Rattle.pb_run.specs.Causes.{FailedLast, HasCause}
+use Rattle.pb_answer.specs.declared.fault.DeviceFault.TheVariants as device
+use Rattle.pb_place.specs.declared.place.PlaceFault.{PlaceFault}
+use Rattle.pb_place.specs.declared.place.PlaceFault.TheVariants as place_fault
 use Rattle.pb_place.specs.declared.place.Failure.{Failure}
 use Rattle.pb_place.specs.declared.place.Failure.TheVariants.{Called, Started}
 use Rattle.pb_run.specs.Outcome.{Outcome, Waiting, Good, Bad, is_good, outcomes, outcome_of, outcome_from, outcome_by, directives_in, directives_of}
@@ -284,6 +287,13 @@ pub record NotesUnit (old new : Noted) (u : Planned) (ran : Ran) : Type 0 where
   pub directives : new.directives ≡ old.directives ++ keyed u.key ran.directives
   pub done : new.done ≡ old.done ++ ran.directives ∷ []
 
+-- a fault of a device that is one of a call
+one_place : (f g : PlaceFault) → device.Place f ≡ device.Place g → f ≡ g
+one_place f g e = cc
+
+unspent : (f : PlaceFault) → device.NumbersSpent ≡ device.Place f → ⊥
+unspent f e = cc
+
 module _ (child : Answers) (setup : Setup) (project : Project) (old now new : Moment) (i : ℕ) (u : Planned) (noted : Noted) (order : IsInOrder project) (state : GoingAt child setup project old i noted now)
     (at : slice_get project.plan.planned i ≡ Some u) (only : ChangesOnly (is_at_or_below u.out) now.world new.world)
     (failures : now.counts.failures ≡ old.counts.failures) (starts : now.counts.starts ≡ upped (length noted.started) old.counts.starts) where
@@ -342,9 +352,13 @@ module _ (child : Answers) (setup : Setup) (project : Project) (old now new : Mo
   unit_failed (Plan why) tells cause says = absurd tells
   unit_failed Toolchain tells cause says = absurd tells
   unit_failed (Child key fault) tells cause says = stopped key (Started fault) 1 tells.0 (one_more tells.1) cause says
-  unit_failed (Device key fault) tells cause says = elim tells.1 [
-    | inl removing ↦ inl (removing.0, stopped key (Called fault) 0 tells.0 (none_more removing.1) cause says)
-    | inr reading ↦ inr (reading.0, stopped key (Called fault) 1 tells.0 (one_more reading.1) cause says)
+  unit_failed (Device key (device.Place fault)) tells cause says = elim tells.1 [
+    | inl removing ↦ inl (removing.0, stopped key (Called place_fault.Remove) 0 tells.0 (none_more removing.1) (subst (λ (f : PlaceFault). FailedLast (Called f) now.counts new.counts) (one_place fault place_fault.Remove removing.0) cause) says)
+    | inr reading ↦ inr (reading.0, stopped key (Called place_fault.Read) 1 tells.0 (one_more reading.1) (subst (λ (f : PlaceFault). FailedLast (Called f) now.counts new.counts) (one_place fault place_fault.Read reading.0) cause) says)
+  ]
+  unit_failed (Device key device.NumbersSpent) tells cause says = elim tells.1 [
+    | inl removing ↦ absurd (unspent place_fault.Remove removing.0)
+    | inr reading ↦ absurd (unspent place_fault.Read reading.0)
   ]
   unit_failed Sink tells cause (ran, gives, (n, first), faults) = record {
     flags = state.flags ++ ran.started ∷ [];
@@ -484,12 +498,19 @@ pub takes_failed : (n : ℕ) (key : List ℕ) (old now new : Counts) → now.fai
 takes_failed n key old now new failures starts (Plan why) tells cause = absurd tells
 takes_failed n key old now new failures starts Toolchain tells cause = absurd tells
 takes_failed n key old now new failures starts (Child unit fault) tells cause = ((n, tells.1 ∙ ap up_starts starts ∙ sym (up_more (n + 1) n old.starts (omega arith))), (cause.0 ∙ ap up failures, cause.1, cause.2))
-takes_failed n key old now new failures starts (Device unit fault) tells cause = (
+takes_failed n key old now new failures starts (Device unit (device.Place fault)) tells cause = (
   elim tells.1 [
     | inl removing ↦ (n, moved n (n + 0) old.starts new.starts (omega arith) (removing.1 ∙ starts))
     | inr reading ↦ (suc n, moved (suc n) (suc n + 0) old.starts new.starts (omega arith) (reading.1 ∙ ap up_starts starts))
   ],
   (cause.0 ∙ ap up failures, cause.1, cause.2),
+)
+takes_failed n key old now new failures starts (Device unit device.NumbersSpent) tells cause = (
+  elim tells.1 [
+    | inl removing ↦ (n, moved n (n + 0) old.starts new.starts (omega arith) (removing.1 ∙ starts))
+    | inr reading ↦ (suc n, moved (suc n) (suc n + 0) old.starts new.starts (omega arith) (reading.1 ∙ ap up_starts starts))
+  ],
+  cause ∙ failures,
 )
 takes_failed n key old now new failures starts Sink tells cause = ((n, tells ∙ ap up_starts starts ∙ sym (up_more (n + 1) n old.starts (omega arith))), cause ∙ failures)
 takes_failed n key old now new failures starts OutOfMemory tells cause = (

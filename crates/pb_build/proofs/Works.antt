@@ -15,6 +15,8 @@ use Rattle.pb_answer.specs.declared.fault.BuildFault.{BuildFault}
 use Rattle.pb_answer.specs.declared.fault.BuildFault.TheVariants.{Plan, Toolchain, Child, Device, Sink, OutOfMemory}
 use Rattle.pb_answer.specs.declared.summary.Summary.{Summary}
 use Rattle.pb_run.specs.Causes.{FailedLast, HasCause, Takes}
+use Rattle.pb_answer.specs.declared.fault.DeviceFault.TheVariants as device
+use Rattle.pb_place.specs.declared.place.PlaceFault.TheVariants as place_fault
 use Rattle.pb_place.specs.declared.place.Failure.{Failure}
 use Rattle.pb_place.specs.declared.place.Failure.TheVariants.{Called, Started}
 use Rattle.pb_command.specs.Judge.{ended_by}
@@ -124,8 +126,8 @@ module _ (project : Project) (rows : List Row) (k : ℕ) (old mid new : Moment) 
   units_after more next (Err Toolchain) is ends = absurd ends
   units_after more next (Err (Child key fault)) is ends = stopped_after (1 + more) (1 + next) (omega (arith, is)) key (Started fault) ends
   units_after more next (Err (Device key fault)) is ends = elim ends [
-    | inl removing ↦ inl (removing.0, stopped_after more next is key (Called fault) removing.1)
-    | inr reading ↦ inr (reading.0, stopped_after (1 + more) (1 + next) (omega (arith, is)) key (Called fault) reading.1)
+    | inl removing ↦ inl (removing.0, stopped_after more next is key (Called place_fault.Remove) removing.1)
+    | inr reading ↦ inr (reading.0, stopped_after (1 + more) (1 + next) (omega (arith, is)) key (Called place_fault.Read) reading.1)
   ]
   units_after more next (Err Sink) is ends = record {
     flags = ends.flags;
@@ -172,7 +174,8 @@ module _ (child : Answers) (options : Options) (environment : Environment) (old 
       (subst (λ (w : World). IsRefused options (environment_of options w.variables).target w why) world is, still_before still, begun ∙ starts, none ∙ failures)
   planning_before (Err Toolchain) ends = absurd ends
   planning_before (Err (Child key fault)) ends = absurd ends
-  planning_before (Err (Device name fault)) (still, begun, failed, named) = (still_before still, begun ∙ starts, failed_before (Called fault) failed, named)
+  planning_before (Err (Device name (device.Place fault))) (still, begun, failed, named) = (still_before still, begun ∙ starts, failed_before (Called fault) failed, named)
+  planning_before (Err (Device name device.NumbersSpent)) ends = absurd ends
   planning_before (Err Sink) ends = absurd ends
   planning_before (Err OutOfMemory) (still, begun, none) = (still_before still, begun ∙ starts, none ∙ failures)
 
@@ -248,6 +251,7 @@ units_take old mid new (Err e) starts failures takes = (may e takes.0, caused e 
     caused (Plan why) cause = cause ∙ failures
     caused Toolchain cause = cause ∙ failures
     caused (Child key fault) cause = (cause.0 ∙ ap up failures, cause.1, cause.2)
-    caused (Device key fault) cause = (cause.0 ∙ ap up failures, cause.1, cause.2)
+    caused (Device key (device.Place fault)) cause = (cause.0 ∙ ap up failures, cause.1, cause.2)
+    caused (Device key device.NumbersSpent) cause = cause ∙ failures
     caused Sink cause = cause ∙ failures
     caused OutOfMemory cause = cause ∙ failures

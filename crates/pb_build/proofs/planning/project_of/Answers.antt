@@ -1,4 +1,4 @@
-use Rattle.std.proofs.Common.{List, ℕ, subst}
+use Rattle.std.proofs.Common.{◌∙◌, List, ℕ, subst, sym}
 use Rattle.pb_build.proofs.InOrder.{in_order}
 use Rattle.pb_build.proofs.Refusals.{Stops, unselected, unresolved, unplanned}
 use Rattle.pb_build.proofs.planning.project_of.Goals as goal
@@ -17,4 +17,4 @@ returns-in-Err-plan_of-clause-refused c =
 pub returns-clause-order : goal.returns-clause-order
 returns-clause-order c =
     in_order record { workspace = c.args.workspace; features = c.in-Ok-featured.features; plan = c.in-Ok-plan_of.plan; profile = c.in-Ok-copy.profile } c.in-Ok.selection c.as_str-asked.result.now
-    c.in-Ok-plan_of.ensures.planned c.in-Ok-plan_of.ensures.apart
+    c.as_str.ensures.normal c.requires.settled (c.as_str-asked.ensures ∙ sym c.in-Ok-copy.ensures) c.in-Ok-plan_of.ensures.planned c.in-Ok-plan_of.ensures.apart
