@@ -145,6 +145,16 @@ MayBeginUnit next key (Device unit NumbersSpent) old new = (unit ≡ key) × (ne
 MayBeginUnit next key Sink old new = ⊥
 MayBeginUnit next key OutOfMemory old new = (new ≡ old) ⊎ (new ≡ up_starts old)
 
+-- of those that come after the child's end, or in its place: they read and write files, list folders and read variables
+abbrev pub MayFollow : List ℕ → BuildFault → Starts → Starts → Type 0
+MayFollow key (Plan refusal) old new = ⊥
+MayFollow key Toolchain old new = ⊥
+MayFollow key (Child unit fault) old new = ⊥
+MayFollow key (Device unit (Place fault)) old new = (unit ≡ key) × (fault ≢ place.Remove) × (new ≡ old)
+MayFollow key (Device unit NumbersSpent) old new = ⊥
+MayFollow key Sink old new = ⊥
+MayFollow key OutOfMemory old new = new ≡ old
+
 -- of those that ask for the child's end, or read the record again, read the dep-info, and keep or renew the record
 abbrev pub MayAnswerUnit : Option ℕ → List ℕ → Option Launched → BuildFault → Starts → Starts → Type 0
 MayAnswerUnit next key launched (Plan refusal) old new = ⊥

@@ -1,5 +1,5 @@
 -- What holds of the outside while units of a build begin and answer, any number of them in flight.
-use Rattle.std.specs.Prelude.{◌≡◌, ◌≢◌, ◌++◌, ◌∷◌, [], ℕ, true, List, Option, Some, None, Contains, slice_get, take}
+use Rattle.std.specs.Prelude.{◌≡◌, ◌≢◌, ◌++◌, ◌∷◌, [], ℕ, true, List, Option, Some, None, Contains, slice_get, take, length}
 use Rattle.std.specs.FinMap as finite
 use Rattle.std.specs.List.{flat_map}
 use Rattle.pb_command.specs.Externs.{reads_of}
@@ -109,8 +109,9 @@ abbrev pub HoldsBy : Footing → Basis → List (State UnitFault) → Option ℕ
 HoldsBy OnRecords b states next w = HoldsRecords b states next w
 HoldsBy OnNothing b states next w = HoldsNoRecord b states w
 
--- while units are in these states: the sources are as they were; each unit that has answered and is good stands, and so does all that it reaches; and the records are as the footing says
+-- while units are in these states: as many are noted as there are units; the sources are as they were; each unit that has answered and is good stands, and so does all that it reaches; and the records are as the footing says
 pub record Keeps (b : Basis) (states : List (State UnitFault)) (done : List (Option (List Directive))) (next : Option ℕ) (w : World) : Type 0 where
+  pub long : length done ≡ length states
   pub sources_stay : from_nothing b.project.workspace.target w ≡ b.sources
   pub good : (place : ℕ) → is_good_at (slice_get states place) ≡ true → StandsGood b done w place
   pub closed : (place : ℕ) (u : Planned) → is_good_at (slice_get states place) ≡ true → unit_at b.project place ≡ Some u → are_good states u.reaches ≡ true
