@@ -1,20 +1,28 @@
 -- What is kept may be put.
-use Rattle.std.proofs.Common.{◌≡◌, ◌⊎◌, ◌<◌, ◌∙◌, zero, suc, ℕ, true, List, [], ◌∷◌, map, Option, Some, None, Contains, refl, sym, ap, subst, inl, inr, arith}
+use Rattle.std.proofs.Common.{◌≡◌, ◌⊎◌, ◌<◌, ◌∙◌, zero, suc, ℕ, Bool, true, cond, List, [], ◌∷◌, map, Option, Some, None, Contains, refl, sym, ap, subst, inl, inr, arith}
+use Rattle.std.specs.FinMap.{get}
+use Rattle.pb_place.specs.Folders.{files_in}
 use Rattle.pb_place.specs.Paths.{is_path}
-use Rattle.pb_place.specs.World.{World, Answers}
+use Rattle.pb_place.specs.World.{World, Map, Answers, from_nothing}
+use Rattle.pb_place.specs.declared.command.Command.{Command}
 use Rattle.pb_place.specs.declared.command.Ended.{Ended}
+use Rattle.pb_project.specs.declared.answer.InputName.{InputName}
+use Rattle.pb_project.specs.declared.answer.InputName.TheVariants.{Path, Variable}
+use Rattle.pb_record.specs.Commands.{asked_in, asked_with, command_of, of_parts}
+use Rattle.pb_record.specs.Sorted.{are_sorted}
 use Rattle.pb_record.specs.declared.asked.Asked.{Asked}
 use Rattle.pb_record.specs.declared.record.Input.{Input}
 use Rattle.pb_record.specs.declared.record.Record.{Record}
 use Rattle.pb_soundness.specs.Grounded.{Standing}
-use Rattle.pb_soundness.specs.Inputs.{Judge}
+use Rattle.pb_soundness.specs.Inputs.{Judge, Agrees, IsHonest, input_in, name_of, path_input, reply_in}
 use Rattle.pb_soundness.specs.Laws.{Unnamed}
 use Rattle.pb_soundness.specs.Numbers.{NoneNames, IsBefore, NamesBefore}
-use Rattle.pb_soundness.specs.Records.{Reading, is_key, record_at, needs_of, number_of}
+use Rattle.pb_soundness.specs.Records.{Reading, is_key, out_of, record_at, needs_of, number_of}
 use Rattle.pb_soundness.specs.Reuse.{number_if, NamesNeeds, ReadByNeeds, own, beyond}
+use Rattle.pb_soundness.specs.Sound.{Backs, replied_files}
 use Rattle.pb_soundness.proofs.Becoming.{one}
 use Rattle.pb_soundness.proofs.Flying.{contains_head, contains_tail}
-use Rattle.pb_store.specs.Keeping.{ReadBy, itself, further, HasNeeds, IsKept, MayPut, kept_of, numbered, or_zero}
+use Rattle.pb_store.specs.Keeping.{ReadBy, itself, further, HasNeeds, IsEarned, IsKept, MayPut, kept_of, numbered, or_zero}
 
 pub contains_none : {X : Type 0} (v : X) → Contains [] v → ⊥
 contains_none v (k, lt, at) = omega (arith, lt)
@@ -76,16 +84,72 @@ module _ (at : Standing) (folder : List ℕ) (needs : List (List ℕ)) (r : Reco
 pub unnamed_of : (at : Standing) (key : List ℕ) (number : ℕ) → NoneNames at number → Unnamed at key number
 unnamed_of at key number none other r there has = (none other r there).1 key has
 
-pub may_keep : (read : Reading) (judge : Judge) (child : Answers) (folder key : List ℕ) (asked : Asked) (inputs : List Input) (number : ℕ) (needs : List (List ℕ)) (pairs : List (List ℕ × ℕ)) (ended : Ended) (old now : World) (r : Record)
-    → now ≡ old → is_path folder ≡ true → is_key key ≡ true → IsKept read judge child folder key asked needs inputs ended number old
-    → pairs ≡ numbered (record_at read folder old.files) needs → r ≡ kept_of key asked inputs number pairs ended → MayPut read judge child folder key now r number
-may_keep read judge child folder key asked inputs number needs pairs ended old now r same path is may pairs_are kept =
+-- what a command asks
+asked_by : (c : Command) (out : List ℕ) (here : Option (List ℕ)) (b : Bool) → here ≡ Some out → are_sorted c.pairs ≡ b → b ≡ true → asked_with c here ≡ Some (of_parts c out)
+asked_by c out here b there is sorted = ap (asked_with c) there ∙ ap (λ x. cond x (Some (of_parts c out)) None) (is ∙ sorted)
+
+asked_is : (c : Command) (out : List ℕ) → c.out ≡ Some out → are_sorted c.pairs ≡ true → asked_in c ≡ Some (of_parts c out)
+asked_is c out there sorted = asked_by c out c.out (are_sorted c.pairs) there refl sorted
+
+pub asked_some : (c passed : Command) (out : List ℕ) (found : Option Asked) (a : Asked) → found ≡ asked_in passed → passed ≡ c → found ≡ Some a → c.out ≡ Some out → are_sorted c.pairs ≡ true → a ≡ of_parts c out
+asked_some c passed out found a is given some there sorted = some_same a (of_parts c out) (sym some ∙ is ∙ ap asked_in given ∙ asked_is c out there sorted)
+  where
+    some_same : (x y : Asked) → Some x ≡ Some y → x ≡ y
+    some_same x y e = cc
+
+pub asked_none : (c passed : Command) (out : List ℕ) (found : Option Asked) → found ≡ asked_in passed → passed ≡ c → found ≡ None → c.out ≡ Some out → are_sorted c.pairs ≡ true → ⊥
+asked_none c passed out found is given none there sorted = none_same (of_parts c out) (sym none ∙ is ∙ ap asked_in given ∙ asked_is c out there sorted)
+  where
+    none_same : (x : Asked) → None ≡ Some x → ⊥
+    none_same x e = cc
+
+pub ruleset asked_laws = (asked_some, asked_none)
+
+command_back : (c : Command) (out : List ℕ) → c.out ≡ Some out → command_of (of_parts c out) ≡ c
+command_back c out there = ap (λ o. record c { out = o }) (sym there)
+
+-- what is read has the names that were asked for, and its present value
+path_name : (path : List ℕ) (m : Map) (found : Option (List ℕ)) → name_of (path_input path m found) ≡ Path path
+path_name path m None = refl
+path_name path m (Some bytes) = refl
+
+name_back : (target : List ℕ) (w : World) (name : InputName) → name_of (input_in target w name) ≡ name
+name_back target w (Path path) = path_name path (from_nothing target w).files (get (from_nothing target w).files path)
+name_back target w (Variable name) = refl
+
+names_back : (target : List ℕ) (w : World) (names : List InputName) → map name_of (map (input_in target w) names) ≡ names
+names_back target w [] = refl
+names_back target w (name ∷ names) = cc (name_back target w name, names_back target w names)
+
+present_agree : (target : List ℕ) (w : World) (names : List InputName) → Agrees target (map (input_in target w) names) w
+present_agree target w [] = tt
+present_agree target w (name ∷ names) = (ap (input_in target w) (name_back target w name), present_agree target w names)
+
+-- so its reply backs the record
+earned_backs : (read : Reading) (judge : Judge) (child : Answers) (folder key : List ℕ) (c : Command) (names : List InputName) (number : ℕ) (needs : List (List ℕ)) (ended : Ended) (w : World)
+    → c.out ≡ Some (out_of folder key) → IsEarned judge child folder key c names ended w
+    → Backs judge (kept_of folder key c (map (input_in c.target w) names) number (numbered (record_at read folder w.files) needs) ended) (out_of folder key) (files_in (out_of folder key) w.files) (reply_in child (command_of (of_parts c (out_of folder key))) w)
+earned_backs read judge child folder key c names number needs ended w there earned =
+    let back = command_back c (out_of folder key) there in
+    record {
+      good = ap (λ (d : Command). judge d (reply_in child d w)) back ∙ earned.good ∙ ap Some (sym (names_back c.target w names));
+      status = ap (λ (d : Command). (reply_in child d w).status) back ∙ earned.status;
+      stdout = ap (λ (d : Command). (reply_in child d w).stdout) back ∙ earned.stdout;
+      stderr = ap (λ (d : Command). (reply_in child d w).stderr) back ∙ earned.stderr;
+      files = ap (λ (d : Command). replied_files (out_of folder key) (reply_in child d w)) back ∙ earned.files;
+    }
+
+pub may_keep : (read : Reading) (judge : Judge) (child : Answers) (folder key : List ℕ) (c : Command) (names : List InputName) (number : ℕ) (needs : List (List ℕ)) (ended : Ended) (old now : World) (r : Record)
+    → now ≡ old → is_path folder ≡ true → is_key key ≡ true → c.out ≡ Some (out_of folder key) → IsKept read judge child folder key c needs names ended number old
+    → r ≡ kept_of folder key c (map (input_in c.target old) names) number (numbered (record_at read folder old.files) needs) ended → MayPut read judge child folder key now r number
+may_keep read judge child folder key c names number needs ended old now r same path is there may kept =
+    let made = kept_of folder key c (map (input_in c.target old) names) number (numbered (record_at read folder old.files) needs) ended in
     subst (λ (w : World). MayPut read judge child folder key w r number) (sym same)
     (subst (λ (s : Record). MayPut read judge child folder key old s number) (sym kept) record {
-      honest = may.earned.honest;
-      agree = may.earned.agree;
-      backs = record { good = may.earned.good; status = may.earned.status; stdout = may.earned.stdout; stderr = may.earned.stderr; files = may.earned.files };
-      names = names_stand (record_at read folder old.files) folder needs (kept_of key asked inputs number pairs ended) number may.needs_stand pairs_are;
+      honest = subst (λ (d : Command). IsHonest judge child d old) (sym (command_back c (out_of folder key) there)) may.earned.honest;
+      agree = present_agree c.target old names;
+      backs = earned_backs read judge child folder key c names number needs ended old there may.earned;
+      names = names_stand (record_at read folder old.files) folder needs made number may.needs_stand refl;
       path = path;
       key_is = is;
       its_key = refl;
@@ -98,10 +162,10 @@ pub before_less : (next : Option ℕ) (n number : ℕ) → n < number → IsBefo
 before_less None n number less before = tt
 before_less (Some m) n number less before = omega (arith, less, before)
 
-pub kept_before : (at : Standing) (folder key : List ℕ) (next : Option ℕ) (asked : Asked) (inputs : List Input) (number : ℕ) (needs : List (List ℕ)) (pairs : List (List ℕ × ℕ)) (ended : Ended) (r : Record)
-    → IsBefore next number → HasNeeds at folder asked.reads needs number → pairs ≡ numbered at needs → r ≡ kept_of key asked inputs number pairs ended → NamesBefore next r
-kept_before at folder key next asked inputs number needs pairs ended r before has pairs_are kept =
+pub kept_before : (at : Standing) (folder key : List ℕ) (next : Option ℕ) (c : Command) (inputs : List Input) (number : ℕ) (needs : List (List ℕ)) (ended : Ended) (r : Record)
+    → IsBefore next number → HasNeeds at folder c.reads needs number → r ≡ kept_of folder key c inputs number (numbered at needs) ended → NamesBefore next r
+kept_before at folder key next c inputs number needs ended r before has kept =
     subst (NamesBefore next) (sym kept) record {
       own = λ n is. subst (IsBefore next) (one number n is) before;
-      named = λ need n named. before_less next n number ((names_stand at folder needs (kept_of key asked inputs number pairs ended) number has pairs_are).less need n named) before;
+      named = λ need n named. before_less next n number ((names_stand at folder needs (kept_of folder key c inputs number (numbered at needs) ended) number has refl).less need n named) before;
     }

@@ -74,8 +74,6 @@ first_for read folder key c w found is told = subst (λ r. FirstDifference r fol
 pub same_for : (read : Reading) (folder key : List ℕ) (c : Command) (w : World) (found : Option Difference) → IsReading read → FirstDifference reading folder key c w found → IfNone found ((r : Record) × IsSame read folder key c w r)
 same_for read folder key c w found is told = none_is_same read folder key c w found (first_for read folder key c w found is told)
 
-pub ruleset difference_laws = (first_for, same_for)
-
 -- a text that is no key has no number
 pub no_number : (folder : List ℕ) (files : Map) (key : List ℕ) → is_key key ≡ false → number_if (record_at reading folder files key) ≡ None
 no_number folder files key wrong = ap number_if (no_key reading folder files key wrong)

@@ -4,3 +4,5 @@ pub mod Ahead
 pub mod Migrated
 pub mod Present
 pub mod Firsts
+pub mod Still
+pub mod Once

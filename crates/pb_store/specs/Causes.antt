@@ -37,6 +37,12 @@ MayRead (Place fault) = fault ≡ place.Read
 MayRead NumbersSpent = ⊥
 MayRead OutOfMemory = Unit {0}
 
+-- of one that looks at inputs: it reads files, lists folders and reads variables
+abbrev pub MayLook : StoreFault → Type 0
+MayLook (Place fault) = (fault ≡ place.Read) ⊎ ((fault ≡ place.List) ⊎ (fault ≡ place.Variable))
+MayLook NumbersSpent = ⊥
+MayLook OutOfMemory = Unit {0}
+
 -- of one that lists the profile folder, and reads records in it
 abbrev pub MayOpen : StoreFault → Type 0
 MayOpen (Place fault) = (fault ≡ place.List) ⊎ (fault ≡ place.Read)
@@ -62,9 +68,9 @@ MayWrite (Place fault) = fault ≡ place.Write
 MayWrite NumbersSpent = ⊥
 MayWrite OutOfMemory = Unit {0}
 
--- of one that reads the records of needed units first
+-- of one that reads the records of needed units and looks at inputs first
 abbrev pub MayKeep : StoreFault → Type 0
-MayKeep (Place fault) = (fault ≡ place.Read) ⊎ (fault ≡ place.Write)
+MayKeep (Place fault) = (fault ≡ place.Write) ⊎ MayLook (Place fault)
 MayKeep NumbersSpent = ⊥
 MayKeep OutOfMemory = Unit {0}
 

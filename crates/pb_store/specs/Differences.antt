@@ -80,6 +80,15 @@ FirstOf folder at c w (Some r) found = FirstFrom folder at c w r found
 abbrev pub FirstDifference : Reading → List ℕ → List ℕ → commands.Command → World → Option Difference → Type 0
 FirstDifference read folder key c w found = FirstOf folder (record_at read folder w.files) c w (record_at read folder w.files key) found
 
+-- where a record names units by copies, it names each by a path in a folder
+abbrev pub NamesPaths : Needed → Type 0
+NamesPaths (Copies copies) = AllByRecursion (λ c. is_relative c.0 ≡ true) copies
+NamesPaths (Numbers number needs) = Unit {0}
+
+-- A unit has one first difference, or none, in one world.
+abbrev pub DifferencesAreOne : Type 0
+DifferencesAreOne = (read : Reading) (folder key : List ℕ) (c : commands.Command) (w : World) (found other : Option Difference) → FirstDifference read folder key c w found → FirstDifference read folder key c w other → found ≡ other
+
 -- whether two lists of files are the same
 abbrev pub same_files : List (List ℕ × List ℕ) → List (List ℕ × List ℕ) → Bool
 same_files [] [] = true

@@ -5,13 +5,13 @@ use Rattle.pb_place.specs.Paths.{is_path}
 use Rattle.pb_place.specs.World.{World, Answers}
 use Rattle.pb_place.specs.declared.command.Command.{Command}
 use Rattle.pb_place.specs.declared.command.Ended.{Ended}
-use Rattle.pb_record.specs.Commands.{command_of}
-use Rattle.pb_record.specs.declared.asked.Asked.{Asked}
+use Rattle.pb_project.specs.declared.answer.InputName.{InputName}
+use Rattle.pb_record.specs.Commands.{command_of, of_parts}
 use Rattle.pb_record.specs.declared.record.Input.{Input}
 use Rattle.pb_record.specs.declared.record.Needed.TheVariants.{Numbers}
 use Rattle.pb_record.specs.declared.record.Record.{Record}
 use Rattle.pb_soundness.specs.Grounded.{Standing}
-use Rattle.pb_soundness.specs.Inputs.{Judge, Agrees, IsHonest, name_of, reply_in}
+use Rattle.pb_soundness.specs.Inputs.{Judge, Agrees, IsHonest, reply_in}
 use Rattle.pb_soundness.specs.Laws.{Unnamed}
 use Rattle.pb_soundness.specs.Numbers.{NoneNames}
 use Rattle.pb_soundness.specs.Records.{Reading, is_key, out_of, record_at, number_of}
@@ -36,24 +36,23 @@ or_zero (Some n) = n
 abbrev pub numbered : Standing → List (List ℕ) → List (List ℕ × ℕ)
 numbered at needs = map (λ (need : List ℕ). (need, or_zero (number_if (at need)))) needs
 
--- in the view that the world gives the child is honest on the command, its reply is good, has these input names and streams, and its files are those that stand in the unit's folder; and the inputs have their present values
-pub record IsEarned (judge : Judge) (child : Answers) (folder key : List ℕ) (c : Command) (inputs : List Input) (ended : Ended) (w : World) : Type 0 where
+-- in the view that the world gives the child is honest on the command, its reply is good, has these input names and streams, and its files are those that stand in the unit's folder
+pub record IsEarned (judge : Judge) (child : Answers) (folder key : List ℕ) (c : Command) (names : List InputName) (ended : Ended) (w : World) : Type 0 where
   pub honest : IsHonest judge child c w
-  pub agree : Agrees c.target inputs w
-  pub good : judge c (reply_in child c w) ≡ Some (map name_of inputs)
+  pub good : judge c (reply_in child c w) ≡ Some names
   pub status : (reply_in child c w).status ≡ pos 0
   pub stdout : (reply_in child c w).stdout ≡ ended.stdout
   pub stderr : (reply_in child c w).stderr ≡ ended.stderr
   pub files : replied_files (out_of folder key) (reply_in child c w) ≡ files_in (out_of folder key) w.files
 
 -- the record that is kept of a unit
-abbrev pub kept_of : List ℕ → Asked → List Input → ℕ → List (List ℕ × ℕ) → Ended → Record
-kept_of key asked inputs number pairs ended = record { key = key; asked = asked; inputs = inputs; needed = Numbers number pairs; stdout = ended.stdout; stderr = ended.stderr }
+abbrev pub kept_of : List ℕ → List ℕ → Command → List Input → ℕ → List (List ℕ × ℕ) → Ended → Record
+kept_of folder key c inputs number pairs ended = record { key = key; asked = of_parts c (out_of folder key); inputs = inputs; needed = Numbers number pairs; stdout = ended.stdout; stderr = ended.stderr }
 
 -- what makes a kept record true: the answer is earned, the needed units have their records, and no record names the number
-pub record IsKept (read : Reading) (judge : Judge) (child : Answers) (folder key : List ℕ) (asked : Asked) (needs : List (List ℕ)) (inputs : List Input) (ended : Ended) (number : ℕ) (w : World) : Type 0 where
-  pub earned : IsEarned judge child folder key (command_of asked) inputs ended w
-  pub needs_stand : HasNeeds (record_at read folder w.files) folder asked.reads needs number
+pub record IsKept (read : Reading) (judge : Judge) (child : Answers) (folder key : List ℕ) (c : Command) (needs : List (List ℕ)) (names : List InputName) (ended : Ended) (number : ℕ) (w : World) : Type 0 where
+  pub earned : IsEarned judge child folder key c names ended w
+  pub needs_stand : HasNeeds (record_at read folder w.files) folder c.reads needs number
   pub unnamed : NoneNames (record_at read folder w.files) number
 
 -- a record may be put in its place: it holds the reply of an honest child in the present view, names what stands, and has a number with which no record that counts names its unit

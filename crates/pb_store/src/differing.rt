@@ -1,17 +1,17 @@
 //! What differs of a unit since its record was kept.
 
-ghost use Rattle.std.specs.Prelude.{◌≡◌, true, false, IsTrue, IfOk, IfNone, MatchOption, Decides, List, ℕ};
+ghost use Rattle.std.specs.Prelude.{◌≡◌, true, false, IsTrue, IfOk, IfNone, MatchOption, Decides, List, ℕ, None};
 ghost use Rattle.pb_record.proofs.ReadingLemmas.{reading};
 ghost use Rattle.pb_record.specs.Commands.{command_of};
 ghost use Rattle.pb_record.specs.Parts.{IsReading};
 ghost use Rattle.pb_record.specs.declared.record.Record.{Record};
 ghost use Rattle.pb_place.specs.Paths.{is_relative};
+ghost use Rattle.pb_soundness.specs.Apart.{KeepsStill};
 ghost use Rattle.pb_soundness.specs.Inputs.{Agrees, name_of};
 ghost use Rattle.pb_soundness.specs.Records.{Reading, is_key, out_of, record_at};
 ghost use Rattle.pb_soundness.specs.Reuse.{IsSame, number_if};
-ghost use Rattle.pb_store.specs.Causes.{Takes, MayRead};
-ghost use Rattle.pb_store.specs.Differences.{IsFirst, FirstOrAll, IsPresent, HasNumber, HasFiles, AreNeeded, FirstNeed, FirstFrom, FirstDifference};
-ghost use Rattle.pb_store.specs.Presence.{MayLook};
+ghost use Rattle.pb_store.specs.Causes.{Takes, MayRead, MayLook};
+ghost use Rattle.pb_store.specs.Differences.{IsFirst, FirstOrAll, IsPresent, HasNumber, HasFiles, AreNeeded, FirstNeed, FirstFrom, FirstDifference, NamesPaths};
 
 use crate::comparing::{are_same_files, is_same_input};
 use crate::difference::Difference;
@@ -45,6 +45,8 @@ fn is_present<P: Place>(
 ) -> Result<bool, StoreFault>
     ensures ok { IsTrue P.tells → IfOk result (λ same. Decides same (IsPresent target.now (P.world place.old) input.now)) }
     ensures same { IsTrue P.tells → P.world place.new ≡ P.world place.old }
+    ensures most { P.most place.new ≡ P.most place.old }
+    ensures still { IsTrue P.tells → KeepsStill (P.still place.old) (P.still place.new) }
     ensures takes { Takes MayLook result (P.counts place.old) (P.counts place.new) }
 {
     let name = match name_of(alloc, input) {
@@ -66,6 +68,8 @@ fn first_input<P: Place>(
 ) -> Result<Option<InputName>, StoreFault>
     ensures ok { IsTrue P.tells → IfOk result (λ found. MatchOption found (Agrees target.now inputs.now (P.world place.old)) (IsFirst (IsPresent target.now (P.world place.old)) name_of inputs.now)) }
     ensures same { IsTrue P.tells → P.world place.new ≡ P.world place.old }
+    ensures most { P.most place.new ≡ P.most place.old }
+    ensures still { IsTrue P.tells → KeepsStill (P.still place.old) (P.still place.new) }
     ensures takes { Takes MayLook result (P.counts place.old) (P.counts place.new) }
 {
     for input in inputs {
@@ -106,6 +110,8 @@ fn standing_number<P: Place>(
 ) -> Result<Option<u64>, StoreFault>
     ensures ok { IsTrue P.tells → IfOk result (λ found. found ≡ number_if (record_at reading folder.now (P.world place.old).files key.now)) }
     ensures same { IsTrue P.tells → P.world place.new ≡ P.world place.old }
+    ensures most { P.most place.new ≡ P.most place.old }
+    ensures still { IsTrue P.tells → KeepsStill (P.still place.old) (P.still place.new) }
     ensures takes { Takes MayRead result (P.counts place.old) (P.counts place.new) }
 {
     if !is_key(key) {
@@ -136,6 +142,8 @@ fn has_number<P: Place>(
 ) -> Result<bool, StoreFault>
     ensures ok { IsTrue P.tells → IfOk result (λ same. Decides same (HasNumber (record_at reading folder.now (P.world place.old).files) need.now)) }
     ensures same { IsTrue P.tells → P.world place.new ≡ P.world place.old }
+    ensures most { P.most place.new ≡ P.most place.old }
+    ensures still { IsTrue P.tells → KeepsStill (P.still place.old) (P.still place.new) }
     ensures takes { Takes MayRead result (P.counts place.old) (P.counts place.new) }
 {
     match standing_number(alloc, place, folder, &need.0) {
@@ -153,6 +161,8 @@ fn first_number<P: Place>(
 ) -> Result<Option<Text>, StoreFault>
     ensures ok { IsTrue P.tells → IfOk result (λ found. FirstOrAll (HasNumber (record_at reading folder.now (P.world place.old).files)) needs.now found) }
     ensures same { IsTrue P.tells → P.world place.new ≡ P.world place.old }
+    ensures most { P.most place.new ≡ P.most place.old }
+    ensures still { IsTrue P.tells → KeepsStill (P.still place.old) (P.still place.new) }
     ensures takes { Takes MayLook result (P.counts place.old) (P.counts place.new) }
 {
     for need in needs {
@@ -189,6 +199,8 @@ fn has_files<P: Place>(
 ) -> Result<bool, StoreFault>
     ensures ok { IsTrue P.tells → IfOk result (λ same. Decides same (HasFiles folder.now (P.world place.old).files need.now)) }
     ensures same { IsTrue P.tells → P.world place.new ≡ P.world place.old }
+    ensures most { P.most place.new ≡ P.most place.old }
+    ensures still { IsTrue P.tells → KeepsStill (P.still place.old) (P.still place.new) }
     ensures takes { Takes MayLook result (P.counts place.old) (P.counts place.new) }
 {
     let out = match out_path(alloc, folder, &need.0) {
@@ -211,6 +223,8 @@ fn first_copy<P: Place>(
 ) -> Result<Option<Text>, StoreFault>
     ensures ok { IsTrue P.tells → IfOk result (λ found. FirstOrAll (HasFiles folder.now (P.world place.old).files) copies.now found) }
     ensures same { IsTrue P.tells → P.world place.new ≡ P.world place.old }
+    ensures most { P.most place.new ≡ P.most place.old }
+    ensures still { IsTrue P.tells → KeepsStill (P.still place.old) (P.still place.new) }
     ensures takes { Takes MayLook result (P.counts place.old) (P.counts place.new) }
 {
     for need in copies {
@@ -237,6 +251,8 @@ fn first_need<P: Place>(
 ) -> Result<Option<Text>, StoreFault>
     ensures ok { IsTrue P.tells → IfOk result (λ found. MatchOption found (AreNeeded folder.now (record_at reading folder.now (P.world place.old).files) (P.world place.old).files needed.now) (FirstNeed folder.now (record_at reading folder.now (P.world place.old).files) (P.world place.old).files needed.now)) }
     ensures same { IsTrue P.tells → P.world place.new ≡ P.world place.old }
+    ensures most { P.most place.new ≡ P.most place.old }
+    ensures still { IsTrue P.tells → KeepsStill (P.still place.old) (P.still place.new) }
     ensures takes { Takes MayLook result (P.counts place.old) (P.counts place.new) }
 {
     match needed {
@@ -255,6 +271,8 @@ fn first_around<P: Place>(
 ) -> Result<Option<Difference>, StoreFault>
     ensures ok { IsTrue P.tells → command_of kept.now.asked ≡ command.now → IfOk result (FirstFrom folder.now (record_at reading folder.now (P.world place.old).files) command.now (P.world place.old) kept.now) }
     ensures same { IsTrue P.tells → P.world place.new ≡ P.world place.old }
+    ensures most { P.most place.new ≡ P.most place.old }
+    ensures still { IsTrue P.tells → KeepsStill (P.still place.old) (P.still place.new) }
     ensures takes { Takes MayLook result (P.counts place.old) (P.counts place.new) }
 {
     match first_input(alloc, place, &command.target, kept.inputs.as_slice()) {
@@ -279,6 +297,8 @@ fn first_from<P: Place>(
 ) -> Result<Option<Difference>, StoreFault>
     ensures ok { IsTrue P.tells → IfOk result (FirstFrom folder.now (record_at reading folder.now (P.world place.old).files) command.now (P.world place.old) kept.now) }
     ensures same { IsTrue P.tells → P.world place.new ≡ P.world place.old }
+    ensures most { P.most place.new ≡ P.most place.old }
+    ensures still { IsTrue P.tells → KeepsStill (P.still place.old) (P.still place.new) }
     ensures takes { Takes MayLook result (P.counts place.old) (P.counts place.new) }
 {
     if !kept.asked.asks_as(command) {
@@ -305,6 +325,8 @@ fn first_of<P: Place>(
     requires { is_key key.now ≡ true }
     ensures ok { IsTrue P.tells → IfOk result (FirstDifference reading folder.now key.now command.now (P.world place.old)) }
     ensures same { IsTrue P.tells → P.world place.new ≡ P.world place.old }
+    ensures most { P.most place.new ≡ P.most place.old }
+    ensures still { IsTrue P.tells → KeepsStill (P.still place.old) (P.still place.new) }
     ensures takes { Takes MayLook result (P.counts place.old) (P.counts place.new) }
 {
     let kept = match record_at(alloc, place, folder, key) {
@@ -324,7 +346,7 @@ impl Store {
     /// when a unit is built again.
     ///
     /// Faults: Place, where a file cannot be read, a folder not be listed or a variable not be read; OutOfMemory.
-    #[tactic(auto, using(crate::proofs::Firsts::difference_laws))]
+    #[tactic(auto, using(crate::proofs::Once::difference_laws))]
     pub fn differs<P: Place>(
         &self,
         alloc: Global,
@@ -335,7 +357,10 @@ impl Store {
         requires { is_key key.now ≡ true }
         ensures first { (read : Reading) → IsReading read → IsTrue P.tells → IfOk result (FirstDifference read self.now.folder key.now command.now (P.world place.old)) }
         ensures none { (read : Reading) → IsReading read → IsTrue P.tells → IfOk result (λ found. IfNone found ((r : Record) × IsSame read self.now.folder key.now command.now (P.world place.old) r)) }
+        ensures unchanged { (read : Reading) (r : Record) → IsReading read → IsTrue P.tells → IsSame read self.now.folder key.now command.now (P.world place.old) r → NamesPaths r.needed → IfOk result (λ found. found ≡ None) }
         ensures same { IsTrue P.tells → P.world place.new ≡ P.world place.old }
+        ensures most { P.most place.new ≡ P.most place.old }
+        ensures still { IsTrue P.tells → KeepsStill (P.still place.old) (P.still place.new) }
         ensures takes { Takes MayLook result (P.counts place.old) (P.counts place.new) }
     {
         match first_of(alloc, place, &self.folder, key, command) {

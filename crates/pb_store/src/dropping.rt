@@ -3,6 +3,7 @@
 ghost use Rattle.std.specs.Prelude.{◌≡◌, true, IsTrue, ℕ, Option, IfOk, OnOk, OnErr, Some, None};
 ghost use Rattle.pb_place.specs.Paths.{is_at_or_below};
 ghost use Rattle.pb_place.specs.World.{ChangesOnly, PartlyRemoved, removed};
+ghost use Rattle.pb_soundness.specs.Apart.{KeepsStillOutside};
 ghost use Rattle.pb_soundness.specs.Inputs.{Judge};
 ghost use Rattle.pb_soundness.specs.Numbers.{after, IsAhead};
 ghost use Rattle.pb_soundness.specs.Records.{Reading, is_key, place_of, record_at};
@@ -27,9 +28,12 @@ pub(crate) fn number_after(number: u64) -> Option<u64>
 }
 
 /// Removes what stands at a path.
+#[tactic(auto, using(crate::proofs::Still::removal_laws))]
 fn remove<P: Place>(alloc: Global, place: &mut P, path: &PathText) -> Result<(), StoreFault>
     ensures ok { IsTrue P.tells → OnOk result (P.world place.new ≡ removed path.now (P.world place.old)) }
     ensures err { IsTrue P.tells → OnErr result (PartlyRemoved path.now (P.world place.old) (P.world place.new)) }
+    ensures most { P.most place.new ≡ P.most place.old }
+    ensures still { IsTrue P.tells → KeepsStillOutside (is_at_or_below path.now) (P.counts place.old).starts.flying (P.still place.old) (P.still place.new) }
     ensures takes { Takes MayRemove result (P.counts place.old) (P.counts place.new) }
 {
     match place.remove_tree(alloc, path) {
@@ -50,6 +54,8 @@ fn remove_record<P: Place>(
     ensures gone { (read : Reading) → IsTrue P.tells → OnOk result (record_at read folder.now (P.world place.new).files key.now ≡ None) }
     ensures ahead { (read : Reading) (next : Option ℕ) → IsTrue P.tells → IsAhead (record_at read folder.now (P.world place.old).files) next → IsAhead (record_at read folder.now (P.world place.new).files) next }
     ensures only { IsTrue P.tells → ChangesOnly (is_at_or_below (place_of folder.now key.now)) (P.world place.old) (P.world place.new) }
+    ensures most { P.most place.new ≡ P.most place.old }
+    ensures still { IsTrue P.tells → KeepsStillOutside (is_at_or_below (place_of folder.now key.now)) (P.counts place.old).starts.flying (P.still place.old) (P.still place.new) }
     ensures takes { Takes MayRemove result (P.counts place.old) (P.counts place.new) }
 {
     let _ = folder.as_str();
@@ -83,6 +89,8 @@ impl Store {
         ensures gone { (read : Reading) → IsTrue P.tells → OnOk result (record_at read self.old.folder (P.world place.new).files key.now ≡ None) }
         ensures ahead { (read : Reading) → IsTrue P.tells → IsAhead (record_at read self.old.folder (P.world place.old).files) self.old.next → IsAhead (record_at read self.old.folder (P.world place.new).files) self.new.next }
         ensures only { IsTrue P.tells → ChangesOnly (is_at_or_below (place_of self.old.folder key.now)) (P.world place.old) (P.world place.new) }
+        ensures most { P.most place.new ≡ P.most place.old }
+        ensures still { IsTrue P.tells → KeepsStillOutside (is_at_or_below (place_of self.old.folder key.now)) (P.counts place.old).starts.flying (P.still place.old) (P.still place.new) }
         ensures takes { Takes (MayDrop self.old.next) result (P.counts place.old) (P.counts place.new) }
     {
         let number = match self.next {

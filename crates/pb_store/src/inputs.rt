@@ -5,9 +5,10 @@ ghost use Rattle.std.specs.FinMap as finite;
 ghost use Rattle.std.specs.List.{filter_map};
 ghost use Rattle.pb_place.specs.World.{from_nothing, listed, removed};
 ghost use Rattle.pb_project.specs.declared.answer.InputName.TheVariants.{Variable};
+ghost use Rattle.pb_soundness.specs.Apart.{KeepsStill};
 ghost use Rattle.pb_soundness.specs.Inputs.{contents, input_in, name_of, path_input};
-ghost use Rattle.pb_store.specs.Causes.{Takes, MayRead};
-ghost use Rattle.pb_store.specs.Presence.{file_in, MayLook};
+ghost use Rattle.pb_store.specs.Causes.{Takes, MayRead, MayLook};
+ghost use Rattle.pb_store.specs.Presence.{file_in};
 
 use crate::fault::{StoreFault, stored};
 use crate::store::text_of;
@@ -28,6 +29,8 @@ fn source_at<P: Place>(
 ) -> Result<Option<Bytes>, StoreFault>
     ensures ok { IsTrue P.tells → IfOk result (λ found. found ≡ finite.get (from_nothing target.now (P.world place.old)).files path.now) }
     ensures same { IsTrue P.tells → P.world place.new ≡ P.world place.old }
+    ensures most { P.most place.new ≡ P.most place.old }
+    ensures still { IsTrue P.tells → KeepsStill (P.still place.old) (P.still place.new) }
     ensures takes { Takes MayRead result (P.counts place.old) (P.counts place.new) }
 {
     if path.starts_with(target) {
@@ -48,6 +51,8 @@ fn file_at<P: Place>(
 ) -> Result<Option<(RelativePath, Bytes)>, StoreFault>
     ensures ok { IsTrue P.tells → IfOk result (λ found. found ≡ file_in folder.now (P.world place.old).files path.now) }
     ensures same { IsTrue P.tells → P.world place.new ≡ P.world place.old }
+    ensures most { P.most place.new ≡ P.most place.old }
+    ensures still { IsTrue P.tells → KeepsStill (P.still place.old) (P.still place.new) }
     ensures takes { Takes MayRead result (P.counts place.old) (P.counts place.new) }
 {
     let relative = match path.inside(alloc, folder) {
@@ -71,6 +76,8 @@ fn files_at<P: Place>(
 ) -> Result<Items<(RelativePath, Bytes)>, StoreFault>
     ensures ok { IsTrue P.tells → IfOk result (λ files. files ≡ filter_map (file_in folder.now (P.world place.old).files) paths.now) }
     ensures same { IsTrue P.tells → P.world place.new ≡ P.world place.old }
+    ensures most { P.most place.new ≡ P.most place.old }
+    ensures still { IsTrue P.tells → KeepsStill (P.still place.old) (P.still place.new) }
     ensures takes { Takes MayRead result (P.counts place.old) (P.counts place.new) }
 {
     let mut made = Items::new(alloc);
@@ -90,6 +97,7 @@ fn files_at<P: Place>(
 }
 
 /// The paths of the files below a folder that are not at or below the target folder.
+#[tactic(auto, using(crate::proofs::Still::stands_same))]
 fn paths_outside<P: Place>(
     alloc: Global,
     place: &mut P,
@@ -98,6 +106,8 @@ fn paths_outside<P: Place>(
 ) -> Result<Items<PathText>, StoreFault>
     ensures ok { IsTrue P.tells → IfOk result (λ paths. paths ≡ listed folder.now (removed target.now (P.world place.old))) }
     ensures same { IsTrue P.tells → P.world place.new ≡ P.world place.old }
+    ensures most { P.most place.new ≡ P.most place.old }
+    ensures still { IsTrue P.tells → KeepsStill (P.still place.old) (P.still place.new) }
     ensures takes { Takes MayLook result (P.counts place.old) (P.counts place.new) }
 {
     match place.list_outside(alloc, folder, target) {
@@ -107,6 +117,7 @@ fn paths_outside<P: Place>(
 }
 
 /// The paths of the files below a folder.
+#[tactic(auto, using(crate::proofs::Still::stands_same))]
 fn paths_below<P: Place>(
     alloc: Global,
     place: &mut P,
@@ -114,6 +125,8 @@ fn paths_below<P: Place>(
 ) -> Result<Items<PathText>, StoreFault>
     ensures ok { IsTrue P.tells → IfOk result (λ paths. paths ≡ listed folder.now (P.world place.old)) }
     ensures same { IsTrue P.tells → P.world place.new ≡ P.world place.old }
+    ensures most { P.most place.new ≡ P.most place.old }
+    ensures still { IsTrue P.tells → KeepsStill (P.still place.old) (P.still place.new) }
     ensures takes { Takes MayLook result (P.counts place.old) (P.counts place.new) }
 {
     match place.list(alloc, folder) {
@@ -132,6 +145,8 @@ fn sources_in<P: Place>(
 ) -> Result<Items<(RelativePath, Bytes)>, StoreFault>
     ensures ok { IsTrue P.tells → IfOk result (λ files. files ≡ contents folder.now (from_nothing target.now (P.world place.old)).files) }
     ensures same { IsTrue P.tells → P.world place.new ≡ P.world place.old }
+    ensures most { P.most place.new ≡ P.most place.old }
+    ensures still { IsTrue P.tells → KeepsStill (P.still place.old) (P.still place.new) }
     ensures takes { Takes MayLook result (P.counts place.old) (P.counts place.new) }
 {
     let paths = match paths_outside(alloc, place, target, folder) {
@@ -153,6 +168,8 @@ pub(crate) fn files_in<P: Place>(
 ) -> Result<Items<(RelativePath, Bytes)>, StoreFault>
     ensures ok { IsTrue P.tells → IfOk result (λ files. files ≡ contents folder.now (P.world place.old).files) }
     ensures same { IsTrue P.tells → P.world place.new ≡ P.world place.old }
+    ensures most { P.most place.new ≡ P.most place.old }
+    ensures still { IsTrue P.tells → KeepsStill (P.still place.old) (P.still place.new) }
     ensures takes { Takes MayLook result (P.counts place.old) (P.counts place.new) }
 {
     let paths = match paths_below(alloc, place, folder) {
@@ -166,9 +183,12 @@ pub(crate) fn files_in<P: Place>(
 }
 
 /// The text of a variable; none where it is not set.
+#[tactic(auto, using(crate::proofs::Still::stands_same))]
 fn text_in<P: Place>(alloc: Global, place: &mut P, name: &Text) -> Result<Option<Text>, StoreFault>
     ensures ok { IsTrue P.tells → IfOk result (λ found. found ≡ finite.get (P.world place.old).variables name.now) }
     ensures same { IsTrue P.tells → P.world place.new ≡ P.world place.old }
+    ensures most { P.most place.new ≡ P.most place.old }
+    ensures still { IsTrue P.tells → KeepsStill (P.still place.old) (P.still place.new) }
     ensures takes { Takes MayLook result (P.counts place.old) (P.counts place.new) }
 {
     match place.variable(alloc, name.as_str()) {
@@ -186,6 +206,8 @@ fn path_now<P: Place>(
 ) -> Result<Input, StoreFault>
     ensures ok { IsTrue P.tells → IfOk result (λ input. input ≡ path_input path.now (from_nothing target.now (P.world place.old)).files (finite.get (from_nothing target.now (P.world place.old)).files path.now)) }
     ensures same { IsTrue P.tells → P.world place.new ≡ P.world place.old }
+    ensures most { P.most place.new ≡ P.most place.old }
+    ensures still { IsTrue P.tells → KeepsStill (P.still place.old) (P.still place.new) }
     ensures takes { Takes MayLook result (P.counts place.old) (P.counts place.new) }
 {
     let name = match path.copy(alloc) {
@@ -212,6 +234,8 @@ fn value_now<P: Place>(
 ) -> Result<Input, StoreFault>
     ensures ok { IsTrue P.tells → IfOk result (λ input. input ≡ input_in target.now (P.world place.old) (Variable name.now)) }
     ensures same { IsTrue P.tells → P.world place.new ≡ P.world place.old }
+    ensures most { P.most place.new ≡ P.most place.old }
+    ensures still { IsTrue P.tells → KeepsStill (P.still place.old) (P.still place.new) }
     ensures takes { Takes MayLook result (P.counts place.old) (P.counts place.new) }
 {
     let copied = match name.copy(alloc) {
@@ -233,6 +257,8 @@ pub(crate) fn input_now<P: Place>(
 ) -> Result<Input, StoreFault>
     ensures ok { IsTrue P.tells → IfOk result (λ input. input ≡ input_in target.now (P.world place.old) name.now) }
     ensures same { IsTrue P.tells → P.world place.new ≡ P.world place.old }
+    ensures most { P.most place.new ≡ P.most place.old }
+    ensures still { IsTrue P.tells → KeepsStill (P.still place.old) (P.still place.new) }
     ensures takes { Takes MayLook result (P.counts place.old) (P.counts place.new) }
 {
     match name {
@@ -250,6 +276,8 @@ pub(crate) fn present<P: Place>(
 ) -> Result<Items<Input>, StoreFault>
     ensures ok { IsTrue P.tells → IfOk result (λ inputs. inputs ≡ map (input_in target.now (P.world place.old)) names.now) }
     ensures same { IsTrue P.tells → P.world place.new ≡ P.world place.old }
+    ensures most { P.most place.new ≡ P.most place.old }
+    ensures still { IsTrue P.tells → KeepsStill (P.still place.old) (P.still place.new) }
     ensures takes { Takes MayLook result (P.counts place.old) (P.counts place.new) }
 {
     let mut made = Items::new(alloc);

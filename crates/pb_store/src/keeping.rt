@@ -1,21 +1,26 @@
 //! The record of a unit that was built, kept with the run number that was given for it.
 
-ghost use Rattle.std.specs.Prelude.{◌≡◌, ℕ, Option, true, IsTrue, IfOk, OnOk, OnErr, Some, All};
+ghost use Rattle.std.specs.Prelude.{◌≡◌, ℕ, Option, true, IsTrue, IfOk, OnOk, OnErr, Some, All, map};
 ghost use Rattle.pb_place.specs.Paths.{is_at_or_below};
 ghost use Rattle.pb_place.specs.World.{ChangesOnly, Torn, written};
-ghost use Rattle.pb_soundness.specs.Inputs.{Judge};
+ghost use Rattle.pb_soundness.specs.Apart.{KeepsStill, KeepsStillOutside};
+ghost use Rattle.pb_soundness.specs.Inputs.{Judge, input_in};
 ghost use Rattle.pb_soundness.specs.Numbers.{IsAhead, IsBefore, NamesBefore};
-ghost use Rattle.pb_soundness.specs.Records.{Reading, is_key, place_of, record_at, number_of};
+ghost use Rattle.pb_soundness.specs.Records.{Reading, is_key, out_of, place_of, record_at, number_of};
 ghost use Rattle.pb_soundness.specs.Reuse.{number_if};
 ghost use Rattle.pb_soundness.specs.Sound.{Sound};
-ghost use Rattle.pb_store.specs.Causes.{Takes, MayRead, MayWrite, MayKeep};
+ghost use Rattle.pb_store.specs.Causes.{Takes, MayRead, MayLook, MayWrite, MayKeep};
 ghost use Rattle.pb_store.specs.Keeping.{IsKept, HasNeeds, MayPut, kept_of, numbered, or_zero};
+ghost use Rattle.pb_record.specs.Commands.{of_parts};
 ghost use Rattle.pb_record.specs.Parts.{IsReading};
+ghost use Rattle.pb_record.specs.Sorted.{are_sorted};
 
 use crate::fault::{StoreFault, stored};
+use crate::inputs::present;
 use crate::store::{Store, place_path, record_at};
 use pb_data::{Items, Text, TryCopy};
-use pb_place::{Ended, PathText, Place};
+use pb_place::{Command, Ended, PathText, Place};
+use pb_project::InputName;
 use pb_record::{Asked, Input, Needed, Record, write_record};
 use std::alloc::{AllocError, Global};
 
@@ -52,6 +57,8 @@ fn number_at<P: Place>(
     requires { is_key key.now ≡ true }
     ensures ok { (read : Reading) → IsReading read → IsTrue P.tells → IfOk result (λ n. n ≡ or_zero (number_if (record_at read folder.now (P.world place.old).files key.now))) }
     ensures same { IsTrue P.tells → P.world place.new ≡ P.world place.old }
+    ensures most { P.most place.new ≡ P.most place.old }
+    ensures still { IsTrue P.tells → KeepsStill (P.still place.old) (P.still place.new) }
     ensures takes { Takes MayRead result (P.counts place.old) (P.counts place.new) }
 {
     match record_at(alloc, place, folder, key) {
@@ -70,6 +77,8 @@ fn numbered_one<P: Place>(
     requires { is_key key.now ≡ true }
     ensures ok { (read : Reading) → IsReading read → IsTrue P.tells → IfOk result (λ pair. pair ≡ (key.now, or_zero (number_if (record_at read folder.now (P.world place.old).files key.now)))) }
     ensures same { IsTrue P.tells → P.world place.new ≡ P.world place.old }
+    ensures most { P.most place.new ≡ P.most place.old }
+    ensures still { IsTrue P.tells → KeepsStill (P.still place.old) (P.still place.new) }
     ensures takes { Takes MayRead result (P.counts place.old) (P.counts place.new) }
 {
     let name = match key.copy(alloc) {
@@ -92,6 +101,8 @@ pub(crate) fn numbered<P: Place>(
     requires { All (λ key. is_key key ≡ true) needs.now }
     ensures ok { (read : Reading) → IsReading read → IsTrue P.tells → IfOk result (λ pairs. pairs ≡ numbered (record_at read folder.now (P.world place.old).files) needs.now) }
     ensures same { IsTrue P.tells → P.world place.new ≡ P.world place.old }
+    ensures most { P.most place.new ≡ P.most place.old }
+    ensures still { IsTrue P.tells → KeepsStill (P.still place.old) (P.still place.new) }
     ensures takes { Takes MayRead result (P.counts place.old) (P.counts place.new) }
 {
     let mut pairs = Items::new(alloc);
@@ -109,6 +120,7 @@ pub(crate) fn numbered<P: Place>(
 }
 
 /// Writes a file.
+#[tactic(auto, using(crate::proofs::Still::write_laws))]
 fn write<P: Place>(
     alloc: Global,
     place: &mut P,
@@ -117,6 +129,8 @@ fn write<P: Place>(
 ) -> Result<(), StoreFault>
     ensures ok { IsTrue P.tells → OnOk result (P.world place.new ≡ written path.now bytes.now (P.world place.old)) }
     ensures err { IsTrue P.tells → OnErr result (Torn path.now bytes.now (P.world place.old) (P.world place.new)) }
+    ensures most { P.most place.new ≡ P.most place.old }
+    ensures still { IsTrue P.tells → KeepsStillOutside (is_at_or_below path.now) (P.counts place.old).starts.flying (P.still place.old) (P.still place.new) }
     ensures takes { Takes MayWrite result (P.counts place.old) (P.counts place.new) }
 {
     match place.write(alloc, path, bytes) {
@@ -138,6 +152,8 @@ pub(crate) fn put_record<P: Place>(
     ensures stands { (read : Reading) → IsReading read → IsTrue P.tells → kept.now.key ≡ key.now → OnOk result (record_at read folder.now (P.world place.new).files key.now ≡ Some kept.now) }
     ensures ahead { (read : Reading) (next : Option ℕ) → IsReading read → IsTrue P.tells → NamesBefore next kept.now → IsAhead (record_at read folder.now (P.world place.old).files) next → IsAhead (record_at read folder.now (P.world place.new).files) next }
     ensures only { IsTrue P.tells → ChangesOnly (is_at_or_below (place_of folder.now key.now)) (P.world place.old) (P.world place.new) }
+    ensures most { P.most place.new ≡ P.most place.old }
+    ensures still { IsTrue P.tells → KeepsStillOutside (is_at_or_below (place_of folder.now key.now)) (P.counts place.old).starts.flying (P.still place.old) (P.still place.new) }
     ensures takes { Takes MayWrite result (P.counts place.old) (P.counts place.new) }
 {
     let _ = folder.as_str();
@@ -155,18 +171,40 @@ pub(crate) fn put_record<P: Place>(
     }
 }
 
-/// The record of a unit, of copies of its key and its child's streams.
+/// What a command asks that writes into the unit's folder, and whose variables are sorted.
+#[tactic(auto, using(crate::proofs::Earned::asked_laws))]
+fn asked_of(
+    alloc: Global,
+    folder: &PathText,
+    key: &Text,
+    command: &Command,
+) -> Result<Asked, AllocError>
+    requires out { command.now.out ≡ Some (out_of folder.now key.now) }
+    requires sorted { are_sorted command.now.pairs ≡ true }
+    ensures { IfOk result (λ asked. asked ≡ of_parts command.now (out_of folder.now key.now)) }
+{
+    match Asked::of_command(command.copy(alloc)?) {
+        Some(asked) => Ok(asked),
+        None => unreachable!(),
+    }
+}
+
+/// The record of a unit, of copies of its key, its command and its child's streams.
 fn kept_of(
     alloc: Global,
+    folder: &PathText,
     key: &Text,
-    asked: Asked,
+    command: &Command,
     inputs: Items<Input>,
     number: u64,
     numbers: Items<(Text, u64)>,
     ended: &Ended,
 ) -> Result<Record, AllocError>
-    ensures { IfOk result (λ kept. kept ≡ kept_of key.now asked inputs number numbers ended.now) }
+    requires out { command.now.out ≡ Some (out_of folder.now key.now) }
+    requires sorted { are_sorted command.now.pairs ≡ true }
+    ensures { IfOk result (λ kept. kept ≡ kept_of folder.now key.now command.now inputs number numbers ended.now) }
 {
+    let asked = asked_of(alloc, folder, key, command)?;
     let key = key.copy(alloc)?;
     let stdout = ended.stdout.copy(alloc)?;
     let stderr = ended.stderr.copy(alloc)?;
@@ -180,39 +218,86 @@ fn kept_of(
     })
 }
 
+/// The record of a unit: the inputs with their present values, and the needed units with the numbers of their records.
+fn kept_now<P: Place>(
+    alloc: Global,
+    place: &mut P,
+    folder: &PathText,
+    key: &Text,
+    number: u64,
+    command: &Command,
+    needs: &[Text],
+    names: &[InputName],
+    ended: &Ended,
+) -> Result<Record, StoreFault>
+    requires keys { All (λ need. is_key need ≡ true) needs.now }
+    requires out { command.now.out ≡ Some (out_of folder.now key.now) }
+    requires sorted { are_sorted command.now.pairs ≡ true }
+    ensures ok { (read : Reading) → IsReading read → IsTrue P.tells → IfOk result (λ kept. kept ≡ kept_of folder.now key.now command.now (map (input_in command.now.target (P.world place.old)) names.now) number (numbered (record_at read folder.now (P.world place.old).files) needs.now) ended.now) }
+    ensures same { IsTrue P.tells → P.world place.new ≡ P.world place.old }
+    ensures most { P.most place.new ≡ P.most place.old }
+    ensures still { IsTrue P.tells → KeepsStill (P.still place.old) (P.still place.new) }
+    ensures takes { Takes MayLook result (P.counts place.old) (P.counts place.new) }
+{
+    let numbers = match numbered(alloc, place, folder, needs) {
+        Ok(numbers) => numbers,
+        Err(fault) => return Err(fault),
+    };
+    let inputs = match present(alloc, place, &command.target, names) {
+        Ok(inputs) => inputs,
+        Err(fault) => return Err(fault),
+    };
+    match kept_of(alloc, folder, key, command, inputs, number, numbers, ended) {
+        Ok(kept) => Ok(kept),
+        Err(_) => Err(StoreFault::OutOfMemory),
+    }
+}
+
 impl Store {
-    /// Keeps the record of a unit whose answer is good, with the number that `drop_record` gave. `needs` are the keys
-    /// of the units that it needs, in plan order; `inputs` have their present values. After a fault no record stands,
-    /// the one that stood, or the new one.
+    /// Keeps the record of a unit whose answer is good, with the number that `drop_record` gave. The command writes
+    /// into the unit's folder, its variables sorted by name, each once. `needs` are the keys of the units that the unit
+    /// needs, in plan order; `names` are the inputs found in its answer, whose present values are read and kept. After
+    /// a fault no record stands, the one that stood, or the new one.
     ///
-    /// Faults: Place, where the record of a needed unit cannot be read or the record cannot be written; OutOfMemory.
+    /// Faults: Place, where the record of a needed unit or an input cannot be read, or the record cannot be written;
+    /// OutOfMemory.
     pub fn keep<P: Place>(
         &self,
         alloc: Global,
         place: &mut P,
         key: &Text,
         number: u64,
-        asked: Asked,
+        command: &Command,
         needs: &[Text],
-        inputs: Items<Input>,
+        names: &[InputName],
         ended: &Ended,
     ) -> Result<(), StoreFault>
         requires key { is_key key.now ≡ true }
         requires keys { All (λ need. is_key need ≡ true) needs.now }
-        ensures sound { (read : Reading) (judge : Judge) → IsReading read → IsTrue P.tells → IsKept read judge P.child self.now.folder key.now asked needs.now inputs ended.now number (P.world place.old) → Sound read judge P.child self.now.folder (P.world place.old).files → Sound read judge P.child self.now.folder (P.world place.new).files }
-        ensures stands { (read : Reading) → IsReading read → IsTrue P.tells → OnOk result (record_at read self.now.folder (P.world place.new).files key.now ≡ Some (kept_of key.now asked inputs number (numbered (record_at read self.now.folder (P.world place.old).files) needs.now) ended.now)) }
-        ensures ahead { (read : Reading) → IsReading read → IsTrue P.tells → IsBefore self.now.next number → HasNeeds (record_at read self.now.folder (P.world place.old).files) self.now.folder asked.reads needs.now number → IsAhead (record_at read self.now.folder (P.world place.old).files) self.now.next → IsAhead (record_at read self.now.folder (P.world place.new).files) self.now.next }
+        requires out { command.now.out ≡ Some (out_of self.now.folder key.now) }
+        requires sorted { are_sorted command.now.pairs ≡ true }
+        ensures sound { (read : Reading) (judge : Judge) → IsReading read → IsTrue P.tells → IsKept read judge P.child self.now.folder key.now command.now needs.now names.now ended.now number (P.world place.old) → Sound read judge P.child self.now.folder (P.world place.old).files → Sound read judge P.child self.now.folder (P.world place.new).files }
+        ensures stands { (read : Reading) → IsReading read → IsTrue P.tells → OnOk result (record_at read self.now.folder (P.world place.new).files key.now ≡ Some (kept_of self.now.folder key.now command.now (map (input_in command.now.target (P.world place.old)) names.now) number (numbered (record_at read self.now.folder (P.world place.old).files) needs.now) ended.now)) }
+        ensures ahead { (read : Reading) → IsReading read → IsTrue P.tells → IsBefore self.now.next number → HasNeeds (record_at read self.now.folder (P.world place.old).files) self.now.folder command.now.reads needs.now number → IsAhead (record_at read self.now.folder (P.world place.old).files) self.now.next → IsAhead (record_at read self.now.folder (P.world place.new).files) self.now.next }
         ensures only { IsTrue P.tells → ChangesOnly (is_at_or_below (place_of self.now.folder key.now)) (P.world place.old) (P.world place.new) }
+        ensures most { P.most place.new ≡ P.most place.old }
+        ensures still { IsTrue P.tells → KeepsStillOutside (is_at_or_below (place_of self.now.folder key.now)) (P.counts place.old).starts.flying (P.still place.old) (P.still place.new) }
         ensures takes { Takes MayKeep result (P.counts place.old) (P.counts place.new) }
     {
         let _ = self.folder.as_str();
-        let numbers = match numbered(alloc, place, &self.folder, needs) {
-            Ok(numbers) => numbers,
-            Err(fault) => return Err(fault),
-        };
-        let kept = match kept_of(alloc, key, asked, inputs, number, numbers, ended) {
+        let kept = match kept_now(
+            alloc,
+            place,
+            &self.folder,
+            key,
+            number,
+            command,
+            needs,
+            names,
+            ended,
+        ) {
             Ok(kept) => kept,
-            Err(_) => return Err(StoreFault::OutOfMemory),
+            Err(fault) => return Err(fault),
         };
         match put_record(alloc, place, &self.folder, key, &kept) {
             Ok(()) => Ok(()),

@@ -10,6 +10,7 @@ pub mod fault;
 mod inputs;
 pub mod keeping;
 mod keys;
+pub mod laws;
 pub mod migrating;
 pub mod opening;
 pub mod replaying;
@@ -17,5 +18,6 @@ pub mod store;
 
 pub use difference::Difference;
 pub use fault::StoreFault;
+pub use laws::differences_are_one;
 pub use replaying::Replayed;
 pub use store::Store;

@@ -6,6 +6,7 @@ ghost use Rattle.pb_place.specs.World.{ChangesOnly};
 ghost use Rattle.pb_place.specs.declared.command.Command.{Command};
 ghost use Rattle.pb_record.specs.Parts.{IsReading};
 ghost use Rattle.pb_record.specs.declared.record.Record.{Record};
+ghost use Rattle.pb_soundness.specs.Apart.{KeepsStillOutside};
 ghost use Rattle.pb_soundness.specs.Inputs.{Judge};
 ghost use Rattle.pb_soundness.specs.Numbers.{after, IsAhead};
 ghost use Rattle.pb_soundness.specs.Records.{Reading, is_key, place_of, record_at, number_of};
@@ -57,6 +58,8 @@ impl Store {
         ensures spent { self.old.next ≡ None → (result ≡ Err store_fault.NumbersSpent) × (IsTrue P.tells → P.world place.new ≡ P.world place.old) }
         ensures stands { (read : Reading) → IsReading read → IsTrue P.tells → kept.key ≡ key.now → OnOk result ((number : ℕ) × (self.old.next ≡ Some number) × (record_at read self.old.folder (P.world place.new).files key.now ≡ Some (numbered_record kept number (numbered (record_at read self.old.folder (P.world place.old).files) needs.now)))) }
         ensures only { IsTrue P.tells → ChangesOnly (is_at_or_below (place_of self.old.folder key.now)) (P.world place.old) (P.world place.new) }
+        ensures most { P.most place.new ≡ P.most place.old }
+        ensures still { IsTrue P.tells → KeepsStillOutside (is_at_or_below (place_of self.old.folder key.now)) (P.counts place.old).starts.flying (P.still place.old) (P.still place.new) }
         ensures takes { Takes (MayMigrate self.old.next) result (P.counts place.old) (P.counts place.new) }
     {
         let _ = self.folder.as_str();
@@ -97,6 +100,8 @@ impl Store {
         ensures folder { self.new.folder ≡ self.old.folder }
         ensures stands { (read : Reading) → IsReading read → IsTrue P.tells → OnOk result (record_at read self.old.folder (P.world place.new).files key.now ≡ migrated self.old.next (numbered (record_at read self.old.folder (P.world place.old).files) needs.now) (record_at read self.old.folder (P.world place.old).files key.now)) }
         ensures only { IsTrue P.tells → ChangesOnly (is_at_or_below (place_of self.old.folder key.now)) (P.world place.old) (P.world place.new) }
+        ensures most { P.most place.new ≡ P.most place.old }
+        ensures still { IsTrue P.tells → KeepsStillOutside (is_at_or_below (place_of self.old.folder key.now)) (P.counts place.old).starts.flying (P.still place.old) (P.still place.new) }
         ensures takes { Takes (MayMigrate self.old.next) result (P.counts place.old) (P.counts place.new) }
     {
         let found = match record_at(alloc, place, &self.folder, key) {

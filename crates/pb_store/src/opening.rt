@@ -4,6 +4,7 @@ ghost use Rattle.std.specs.Prelude.{◌≡◌, max, IsTrue, IfOk};
 ghost use Rattle.std.specs.List.{fold};
 ghost use Rattle.std.specs.FinMap as map;
 ghost use Rattle.pb_place.specs.World.{listed};
+ghost use Rattle.pb_soundness.specs.Apart.{KeepsStill};
 ghost use Rattle.pb_soundness.specs.Numbers.{IsAhead};
 ghost use Rattle.pb_soundness.specs.Records.{Reading, read_text, record_at};
 ghost use Rattle.pb_store.specs.Causes.{Takes, MayRead, MayOpen};
@@ -87,6 +88,8 @@ fn name_in<'a>(folder: &PathText, path: &'a PathText) -> &'a [u8]
 fn read_greatest<P: Place>(alloc: Global, place: &mut P, path: &PathText) -> Result<u64, StoreFault>
     ensures ok { (read : Reading) → IsReading read → IsTrue P.tells → IfOk result (λ n. n ≡ greatest_if (read_text read (map.get (P.world place.old).files path.now))) }
     ensures same { IsTrue P.tells → P.world place.new ≡ P.world place.old }
+    ensures most { P.most place.new ≡ P.most place.old }
+    ensures still { IsTrue P.tells → KeepsStill (P.still place.old) (P.still place.new) }
     ensures takes { Takes MayRead result (P.counts place.old) (P.counts place.new) }
 {
     let text = match text_of(alloc, place, path) {
@@ -108,6 +111,8 @@ fn greatest_at<P: Place>(
 ) -> Result<u64, StoreFault>
     ensures ok { (read : Reading) → IsReading read → IsTrue P.tells → IfOk result (λ n. n ≡ greatest_at read folder.now (P.world place.old).files path.now) }
     ensures same { IsTrue P.tells → P.world place.new ≡ P.world place.old }
+    ensures most { P.most place.new ≡ P.most place.old }
+    ensures still { IsTrue P.tells → KeepsStill (P.still place.old) (P.still place.new) }
     ensures takes { Takes MayRead result (P.counts place.old) (P.counts place.new) }
 {
     if !is_record_name(name_in(folder, path)) {
@@ -128,6 +133,8 @@ fn greatest_of<P: Place>(
 ) -> Result<u64, StoreFault>
     ensures ok { (read : Reading) → IsReading read → IsTrue P.tells → IfOk result (λ n. n ≡ greatest_of read folder.now (P.world place.old).files paths.now) }
     ensures same { IsTrue P.tells → P.world place.new ≡ P.world place.old }
+    ensures most { P.most place.new ≡ P.most place.old }
+    ensures still { IsTrue P.tells → KeepsStill (P.still place.old) (P.still place.new) }
     ensures takes { Takes MayRead result (P.counts place.old) (P.counts place.new) }
 {
     let mut greatest = 0;
@@ -142,6 +149,7 @@ fn greatest_of<P: Place>(
 }
 
 /// The files of a folder.
+#[tactic(auto, using(crate::proofs::Still::stands_same))]
 fn files_of<P: Place>(
     alloc: Global,
     place: &mut P,
@@ -149,6 +157,8 @@ fn files_of<P: Place>(
 ) -> Result<Items<PathText>, StoreFault>
     ensures ok { IsTrue P.tells → IfOk result (λ paths. paths ≡ listed folder.now (P.world place.old)) }
     ensures same { IsTrue P.tells → P.world place.new ≡ P.world place.old }
+    ensures most { P.most place.new ≡ P.most place.old }
+    ensures still { IsTrue P.tells → KeepsStill (P.still place.old) (P.still place.new) }
     ensures takes { Takes MayOpen result (P.counts place.old) (P.counts place.new) }
 {
     match place.list(alloc, folder) {
@@ -172,6 +182,8 @@ impl Store {
         ensures next { (read : Reading) → IsReading read → IsTrue P.tells → IfOk result (λ store. store.next ≡ next_in read folder (P.world place.old)) }
         ensures ahead { (read : Reading) → IsReading read → IsTrue P.tells → IfOk result (λ store. IsAhead (record_at read folder (P.world place.old).files) store.next) }
         ensures same { IsTrue P.tells → P.world place.new ≡ P.world place.old }
+        ensures most { P.most place.new ≡ P.most place.old }
+        ensures still { IsTrue P.tells → KeepsStill (P.still place.old) (P.still place.new) }
         ensures takes { Takes MayOpen result (P.counts place.old) (P.counts place.new) }
     {
         let paths = match files_of(alloc, place, &folder) {

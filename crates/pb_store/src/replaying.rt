@@ -1,6 +1,7 @@
 //! What a unit's record gives again, where nothing differs.
 
 ghost use Rattle.std.specs.Prelude.{◌≡◌, true, IsTrue, IfOk, option_map};
+ghost use Rattle.pb_soundness.specs.Apart.{KeepsStill};
 ghost use Rattle.pb_soundness.specs.Records.{Reading, is_key, record_at};
 ghost use Rattle.pb_store.specs.Causes.{Takes, MayRead};
 ghost use Rattle.pb_record.specs.Parts.{IsReading};
@@ -56,6 +57,8 @@ impl Store {
         requires { is_key key.now ≡ true }
         ensures ok { (read : Reading) → IsReading read → IsTrue P.tells → IfOk result (λ found. found ≡ option_map replayed (record_at read self.now.folder (P.world place.old).files key.now)) }
         ensures same { IsTrue P.tells → P.world place.new ≡ P.world place.old }
+        ensures most { P.most place.new ≡ P.most place.old }
+        ensures still { IsTrue P.tells → KeepsStill (P.still place.old) (P.still place.new) }
         ensures takes { Takes MayRead result (P.counts place.old) (P.counts place.new) }
     {
         match record_at(alloc, place, &self.folder, key) {

@@ -3,6 +3,7 @@
 ghost use Rattle.std.specs.Prelude.{◌≡◌, true, IsTrue, IfOk, option_map};
 ghost use Rattle.std.specs.FinMap as map;
 ghost use Rattle.pb_place.specs.Paths.{is_path};
+ghost use Rattle.pb_soundness.specs.Apart.{KeepsStill};
 ghost use Rattle.pb_soundness.specs.Records.{Reading, is_key, place_of, record_at, read_text, if_of_key};
 ghost use Rattle.pb_store.specs.Causes.{Takes, MayRead};
 ghost use Rattle.pb_record.specs.Parts.{IsReading};
@@ -41,6 +42,7 @@ pub(crate) fn place_path(
 }
 
 /// The bytes of a file.
+#[tactic(auto, using(crate::proofs::Still::stands_same))]
 pub(crate) fn text_of<P: Place>(
     alloc: Global,
     place: &mut P,
@@ -48,6 +50,8 @@ pub(crate) fn text_of<P: Place>(
 ) -> Result<Option<Bytes>, StoreFault>
     ensures ok { IsTrue P.tells → IfOk result (λ found. found ≡ map.get (P.world place.old).files path.now) }
     ensures same { IsTrue P.tells → P.world place.new ≡ P.world place.old }
+    ensures most { P.most place.new ≡ P.most place.old }
+    ensures still { IsTrue P.tells → KeepsStill (P.still place.old) (P.still place.new) }
     ensures takes { Takes MayRead result (P.counts place.old) (P.counts place.new) }
 {
     match place.read(alloc, path) {
@@ -66,6 +70,8 @@ fn text_at<P: Place>(
     requires { is_key key.now ≡ true }
     ensures ok { IsTrue P.tells → IfOk result (λ found. found ≡ map.get (P.world place.old).files (place_of folder.now key.now)) }
     ensures same { IsTrue P.tells → P.world place.new ≡ P.world place.old }
+    ensures most { P.most place.new ≡ P.most place.old }
+    ensures still { IsTrue P.tells → KeepsStill (P.still place.old) (P.still place.new) }
     ensures takes { Takes MayRead result (P.counts place.old) (P.counts place.new) }
 {
     let path = match place_path(alloc, folder, key) {
@@ -118,6 +124,8 @@ pub(crate) fn record_at<P: Place>(
     requires { is_key key.now ≡ true }
     ensures ok { (read : Reading) → IsReading read → IsTrue P.tells → IfOk result (λ found. found ≡ record_at read folder.now (P.world place.old).files key.now) }
     ensures same { IsTrue P.tells → P.world place.new ≡ P.world place.old }
+    ensures most { P.most place.new ≡ P.most place.old }
+    ensures still { IsTrue P.tells → KeepsStill (P.still place.old) (P.still place.new) }
     ensures takes { Takes MayRead result (P.counts place.old) (P.counts place.new) }
 {
     let text = match text_at(alloc, place, folder, key) {

@@ -13,6 +13,8 @@ returns-in-Ok-clause-ok g c tells =
 pub loop-need-preserved : goal.loop-need-preserved
 loop-need-preserved g c = record {
   same = λ tells. c.in-Ok-true.ensures.same tells ∙ c.loop-need.invariant.same tells;
+  most = search rules;
+  still = search rules;
   all = λ tells. one_holds (λ (w : World). HasFiles c.args.folder.now w.files) (λ (x : List ℕ × List (List ℕ × List ℕ)). x.0) (g.P.Place.world c.args.place.now) (g.P.Place.world c.loop-need.place) c.args.copies.now c.loop-need.need-index c.need-item.result c.loop-need-test.true c.need-item.is (c.loop-need.invariant.same tells) _
       (c.loop-need.invariant.all tells) (c.in-Ok-true.ensures.ok tells) c.in-Ok-true.field-0-test;
   starts = search rules;

@@ -1,5 +1,6 @@
 use Rattle.std.proofs.Common.{◌≡◌, max, drop, IsTrue}
 use Rattle.std.specs.List.{fold}
+use Rattle.pb_soundness.specs.Apart.{KeepsStill}
 use Rattle.pb_soundness.specs.Records.{Reading}
 use Rattle.pb_store.specs.Opening.{greatest_at, greatest_of}
 use Rattle.pb_record.specs.Parts.{IsReading}
@@ -8,6 +9,8 @@ use Rattle.pb_store.proofs.opening.greatest_of.Given as goal
 abbrev pub invariant-loop-path : goal.invariant-loop-path
 invariant-loop-path g l = record {
   same : IsTrue g.P.Place.tells → g.P.Place.world l.place ≡ g.P.Place.world l.fn.place;
+  most : g.P.Place.most l.place ≡ g.P.Place.most l.fn.place;
+  still : IsTrue g.P.Place.tells → KeepsStill (g.P.Place.still l.fn.place) (g.P.Place.still l.place);
   found : (read : Reading) → IsReading read → IsTrue g.P.Place.tells → fold (λ m path. max m (greatest_at read l.folder (g.P.Place.world l.fn.place).files path)) l.greatest (drop l.path-index l.paths) ≡ greatest_of read l.folder (g.P.Place.world l.fn.place).files l.paths;
   starts : (g.P.Place.counts l.place).starts ≡ (g.P.Place.counts l.fn.place).starts;
   failures : (g.P.Place.counts l.place).failures ≡ (g.P.Place.counts l.fn.place).failures;

@@ -9,23 +9,23 @@ use Rattle.pb_store.proofs.store.Store.keep.Goals as goal
 pub returns-in-Ok-put_record-clause-sound : goal.returns-in-Ok-put_record-clause-sound
 returns-in-Ok-put_record-clause-sound g c read judge is told may sound =
     c.in-Ok-put_record.ensures.sound read judge c.args.number is told
-    (may_keep _ _ _ _ _ _ _ _ _ _ _ _ _ _ (c.in-Ok.ensures.same told) c.as_str.ensures.normal c.requires.key may (c.in-Ok.ensures.ok read is told) c.in-Ok-kept_of.ensures)
+    (may_keep _ _ _ _ _ _ _ _ _ _ _ _ _ (c.in-Ok.ensures.same told) c.as_str.ensures.normal c.requires.key c.requires.out may (c.in-Ok.ensures.ok read is told))
     (subst (λ (w : World). Sound read judge g.P.Place.child c.args.self.now.folder w.files) (sym (c.in-Ok.ensures.same told)) sound)
 
 pub returns-in-Ok-put_record-clause-ahead : goal.returns-in-Ok-put_record-clause-ahead
 returns-in-Ok-put_record-clause-ahead g c read is told before has ahead =
     c.in-Ok-put_record.ensures.ahead read c.args.self.now.next is told
-    (kept_before _ _ _ _ _ _ _ _ _ c.args.ended.now _ before has (c.in-Ok.ensures.ok read is told) c.in-Ok-kept_of.ensures)
+    (kept_before _ _ _ _ c.args.command.now _ _ _ c.args.ended.now _ before has (c.in-Ok.ensures.ok read is told))
     (subst (λ (w : World). IsAhead (record_at read c.args.self.now.folder w.files) c.args.self.now.next) (sym (c.in-Ok.ensures.same told)) ahead)
 
 pub returns-clause-sound : goal.returns-clause-sound
 returns-clause-sound g c read judge is told may sound =
     c.in-Err-put_record.ensures.sound read judge c.args.number is told
-    (may_keep _ _ _ _ _ _ _ _ _ _ _ _ _ _ (c.in-Ok.ensures.same told) c.as_str.ensures.normal c.requires.key may (c.in-Ok.ensures.ok read is told) c.in-Ok-kept_of.ensures)
+    (may_keep _ _ _ _ _ _ _ _ _ _ _ _ _ (c.in-Ok.ensures.same told) c.as_str.ensures.normal c.requires.key c.requires.out may (c.in-Ok.ensures.ok read is told))
     (subst (λ (w : World). Sound read judge g.P.Place.child c.args.self.now.folder w.files) (sym (c.in-Ok.ensures.same told)) sound)
 
 pub returns-clause-ahead : goal.returns-clause-ahead
 returns-clause-ahead g c read is told before has ahead =
     c.in-Err-put_record.ensures.ahead read c.args.self.now.next is told
-    (kept_before _ _ _ _ _ _ _ _ _ c.args.ended.now _ before has (c.in-Ok.ensures.ok read is told) c.in-Ok-kept_of.ensures)
+    (kept_before _ _ _ _ c.args.command.now _ _ _ c.args.ended.now _ before has (c.in-Ok.ensures.ok read is told))
     (subst (λ (w : World). IsAhead (record_at read c.args.self.now.folder w.files) c.args.self.now.next) (sym (c.in-Ok.ensures.same told)) ahead)

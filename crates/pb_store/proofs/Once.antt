@@ -1,0 +1,147 @@
+-- A unit has one first difference, and none where nothing differs.
+use Rattle.std.proofs.Common.{◌≡◌, ◌∙◌, ◌++◌, ℕ, true, List, [], ◌∷◌, Contains, Option, Some, None, refl, sym, ap, subst}
+use Rattle.std.specs.List.{AllByRecursion}
+use Rattle.pb_place.specs.Paths.{is_relative}
+use Rattle.pb_place.specs.World.{World, Map}
+use Rattle.pb_place.specs.declared.command.Command as commands
+use Rattle.pb_record.specs.Commands.{AsksAs, command_of}
+use Rattle.pb_record.specs.Parts.{IsReading}
+use Rattle.pb_record.specs.declared.asked.Asked.{Asked}
+use Rattle.pb_record.specs.declared.record.Needed.{Needed}
+use Rattle.pb_record.specs.declared.record.Needed.TheVariants.{Copies, Numbers}
+use Rattle.pb_record.specs.declared.record.Record.{Record}
+use Rattle.pb_record.proofs.ReadingLemmas.{reading}
+use Rattle.pb_soundness.specs.Grounded.{Standing}
+use Rattle.pb_soundness.specs.Inputs.{name_of}
+use Rattle.pb_soundness.specs.Records.{Reading, record_at}
+use Rattle.pb_soundness.specs.Reuse.{IsSame, NeededNow}
+use Rattle.pb_soundness.proofs.Flying.{contains_head, contains_tail}
+use Rattle.pb_store.specs.Differences.{AreNeeded, DifferencesAreOne, DiffersFrom, FirstDifference, FirstFrom, FirstNeed, FirstOf, HasFiles, HasNumber, IsAsRecorded, IsFirst, IsPresent, NamesPaths}
+use Rattle.pb_store.specs.declared.difference.Difference.{Difference}
+use Rattle.pb_store.specs.declared.difference.Difference.TheVariants.{NoRecord, Command, Pair, Input, Dependency}
+use Rattle.pb_store.proofs.Firsts.{first_for, same_for}
+
+-- the first of a row of which something does not hold
+
+head_of : {A : Type 0} (x y : A) (xs ys : List A) → x ∷ xs ≡ y ∷ ys → x ≡ y
+head_of x y xs ys e = cc
+
+tail_of : {A : Type 0} (x y : A) (xs ys : List A) → x ∷ xs ≡ y ∷ ys → xs ≡ ys
+tail_of x y xs ys e = cc
+
+module _ {A B : Type 0} (Holds : A → Type 0) (told : A → B) where
+  all_here : (before : List A) (here : A) (after : List A) → AllByRecursion Holds (before ++ here ∷ after) → Holds here
+  all_here [] here after (holds, all) = holds
+  all_here (x ∷ before) here after (holds, all) = all_here before here after all
+
+  none_fails : (row : List A) (b : B) → AllByRecursion Holds row → IsFirst Holds told row b → ⊥
+  none_fails row b all first = first.fails (all_here first.before first.here first.after (subst (AllByRecursion Holds) first.place all))
+
+  one_here : (before other : List A) (here there : A) (after behind : List A) → before ++ here ∷ after ≡ other ++ there ∷ behind → AllByRecursion Holds before → AllByRecursion Holds other → (Holds here → ⊥) → (Holds there → ⊥) → here ≡ there
+  one_here [] [] here there after behind same all more fails wrong = head_of here there after behind same
+  one_here [] (y ∷ other) here there after behind same all (holds, more) fails wrong = absurd (fails (subst Holds (sym (head_of here y after (other ++ there ∷ behind) same)) holds))
+  one_here (x ∷ before) [] here there after behind same (holds, all) more fails wrong = absurd (wrong (subst Holds (head_of x there (before ++ here ∷ after) behind same) holds))
+  one_here (x ∷ before) (y ∷ other) here there after behind same (holds, all) (passes, more) fails wrong =
+      one_here before other here there after behind (tail_of x y (before ++ here ∷ after) (other ++ there ∷ behind) same) all more fails wrong
+
+  one_first : (row : List A) (b d : B) → IsFirst Holds told row b → IsFirst Holds told row d → b ≡ d
+  one_first row b d first other =
+      first.tells ∙ ap told (one_here first.before other.before first.here other.here first.after other.after (sym first.place ∙ other.place) first.hold other.hold first.fails other.fails) ∙ sym other.tells
+
+-- the command that was asked asks the same
+
+asks_of : (a : Asked) (c : commands.Command) → command_of a ≡ c → AsksAs a c
+asks_of a c same = record {
+  program = ap (λ (d : commands.Command). d.program) same;
+  words = ap (λ (d : commands.Command). d.words) same;
+  folder = ap (λ (d : commands.Command). d.folder) same;
+  out = ap (λ (d : commands.Command). d.out) same;
+  target = ap (λ (d : commands.Command). d.target) same;
+  toolchain = ap (λ (d : commands.Command). d.toolchain) same;
+  reads = ap (λ (d : commands.Command). d.reads) same;
+}
+
+sets_of : (a : Asked) (c : commands.Command) → command_of a ≡ c → a.pairs ≡ c.pairs
+sets_of a c same = ap (λ (d : commands.Command). d.pairs) same
+
+-- what is told of a record is one
+
+module _ (folder : List ℕ) (at : Standing) (c : commands.Command) (w : World) where
+  need_fails : (needed : Needed) (need : List ℕ) → AreNeeded folder at w.files needed → FirstNeed folder at w.files needed need → ⊥
+  need_fails (Copies copies) need all first = none_fails (HasFiles folder w.files) (λ x. x.0) copies need all first
+  need_fails (Numbers number needs) need all first = none_fails (HasNumber at) (λ x. x.0) needs need all first
+
+  one_need : (needed : Needed) (need other : List ℕ) → FirstNeed folder at w.files needed need → FirstNeed folder at w.files needed other → need ≡ other
+  one_need (Copies copies) need other first second = one_first (HasFiles folder w.files) (λ x. x.0) copies need other first second
+  one_need (Numbers number needs) need other first second = one_first (HasNumber at) (λ x. x.0) needs need other first second
+
+  nothing_differs : (r : Record) (d : Difference) → IsAsRecorded folder at c w r → DiffersFrom folder at c w r d → ⊥
+  nothing_differs r NoRecord is told = told
+  nothing_differs r Command is told = told (asks_of r.asked c is.asked)
+  nothing_differs r Pair is told = told.1 (sets_of r.asked c is.asked)
+  nothing_differs r (Input name) is told = none_fails (IsPresent c.target w) name_of r.inputs name is.inputs told.1
+  nothing_differs r (Dependency need) is told = need_fails r.needed need is.needed told.2
+
+  one_differs : (r : Record) (d e : Difference) → DiffersFrom folder at c w r d → DiffersFrom folder at c w r e → d ≡ e
+  one_differs r NoRecord e told other = absurd told
+  one_differs r Command NoRecord told other = absurd other
+  one_differs r Command Command told other = refl
+  one_differs r Command Pair told other = absurd (told other.0)
+  one_differs r Command (Input name) told other = absurd (told (asks_of r.asked c other.0))
+  one_differs r Command (Dependency need) told other = absurd (told (asks_of r.asked c other.0))
+  one_differs r Pair NoRecord told other = absurd other
+  one_differs r Pair Command told other = absurd (other told.0)
+  one_differs r Pair Pair told other = refl
+  one_differs r Pair (Input name) told other = absurd (told.1 (sets_of r.asked c other.0))
+  one_differs r Pair (Dependency need) told other = absurd (told.1 (sets_of r.asked c other.0))
+  one_differs r (Input name) NoRecord told other = absurd other
+  one_differs r (Input name) Command told other = absurd (other (asks_of r.asked c told.0))
+  one_differs r (Input name) Pair told other = absurd (other.1 (sets_of r.asked c told.0))
+  one_differs r (Input name) (Input second) told other = ap Input (one_first (IsPresent c.target w) name_of r.inputs name second told.1 other.1)
+  one_differs r (Input name) (Dependency need) told other = absurd (none_fails (IsPresent c.target w) name_of r.inputs name other.1 told.1)
+  one_differs r (Dependency need) NoRecord told other = absurd other
+  one_differs r (Dependency need) Command told other = absurd (other (asks_of r.asked c told.0))
+  one_differs r (Dependency need) Pair told other = absurd (other.1 (sets_of r.asked c told.0))
+  one_differs r (Dependency need) (Input name) told other = absurd (none_fails (IsPresent c.target w) name_of r.inputs name told.1 other.1)
+  one_differs r (Dependency need) (Dependency second) told other = ap Dependency (one_need r.needed need second told.2 other.2)
+
+  one_from : (r : Record) (found other : Option Difference) → FirstFrom folder at c w r found → FirstFrom folder at c w r other → found ≡ other
+  one_from r None None told second = refl
+  one_from r None (Some e) told second = absurd (nothing_differs r e told second)
+  one_from r (Some d) None told second = absurd (nothing_differs r d second told)
+  one_from r (Some d) (Some e) told second = ap Some (one_differs r d e told second)
+
+  one_of : (o : Option Record) (found other : Option Difference) → FirstOf folder at c w o found → FirstOf folder at c w o other → found ≡ other
+  one_of None found other told second = told ∙ sym second
+  one_of (Some r) found other told second = one_from r found other told second
+
+pub one_difference : DifferencesAreOne
+one_difference read folder key c w found other told second = one_of folder (record_at read folder w.files) c w (record_at read folder w.files key) found other told second
+
+-- it is none where nothing differs
+
+all_of : {A : Type 0} (P Q : A → Type 0) (xs : List A) → ((x : A) → Contains xs x → P x → Q x) → AllByRecursion P xs → AllByRecursion Q xs
+all_of P Q [] is all = tt
+all_of P Q (x ∷ xs) is (here, all) = (is x (contains_head x xs) here, all_of P Q xs (λ y there. is y (contains_tail x xs y there)) all)
+
+each_of : {A : Type 0} (P : A → Type 0) (xs : List A) → ((x : A) → Contains xs x → P x) → AllByRecursion P xs
+each_of P [] is = tt
+each_of P (x ∷ xs) is = (is x (contains_head x xs), each_of P xs (λ y there. is y (contains_tail x xs y there)))
+
+needed_still : (folder : List ℕ) (at : Standing) (files : Map) (needed : Needed) → NamesPaths needed → NeededNow folder at files needed → AreNeeded folder at files needed
+needed_still folder at files (Copies copies) named now = all_of (λ c. is_relative c.0 ≡ true) (HasFiles folder files) copies (λ c there relative. (relative, now c.0 c.1 there)) named
+needed_still folder at files (Numbers number needs) named now = each_of (HasNumber at) needs (λ n there. now n.0 n.1 there)
+
+none_first : (read : Reading) (folder key : List ℕ) (c : commands.Command) (w : World) (r : Record) → IsSame read folder key c w r → NamesPaths r.needed → FirstDifference read folder key c w None
+none_first read folder key c w r same named =
+    subst (λ o. FirstOf folder (record_at read folder w.files) c w o None) (sym same.stands) record {
+      asked = same.asked;
+      inputs = same.inputs;
+      needed = needed_still folder (record_at read folder w.files) w.files r.needed named same.needed;
+    }
+
+pub none_for : (read : Reading) (folder key : List ℕ) (c : commands.Command) (w : World) (r : Record) (found : Option Difference) → FirstDifference reading folder key c w found → IsReading read → IsSame read folder key c w r → NamesPaths r.needed → found ≡ None
+none_for read folder key c w r found told is same named =
+    one_difference read folder key c w found None (first_for read folder key c w found is told) (none_first read folder key c w r same named)
+
+pub ruleset difference_laws = (first_for, same_for, none_for)
