@@ -1,7 +1,7 @@
+pub mod Causing
 pub mod Commands
-pub mod Faults
-pub mod Launching
 pub mod Shown
+pub mod Spawning
 pub mod Tables
 pub mod Units
 pub mod Views

@@ -1,6 +1,6 @@
 //! A unit that begins: what differs, the record dropped, the folder emptied, the child spawned.
 
-ghost use Rattle.std.specs.Prelude.{◌≡◌, ◌×◌, ◌⊎◌, ◌+◌, ℕ, true, Option, IsTrue, IfNone, IfOk, OnOk, MatchResult, Some, None, max, length};
+ghost use Rattle.std.specs.Prelude.{◌≡◌, ◌⊎◌, ◌+◌, ℕ, true, Option, IsTrue, IfNone, IfOk, OnOk, MatchResult, Some, None, max, length};
 ghost use Rattle.pb_place.specs.Children.{child_at, child_spawned, StaysStill};
 ghost use Rattle.pb_place.specs.Paths.{is_path, is_at_or_below};
 ghost use Rattle.pb_place.specs.World.{ChangesOnly, ChangesOnlyInSome};
@@ -28,7 +28,7 @@ use pb_unit::Planned;
 use std::alloc::Global;
 
 /// What differs of a unit since its record was kept.
-#[tactic(auto, using(crate::proofs::Faults::look_laws))]
+#[tactic(auto, using(crate::proofs::Causing::look_laws))]
 pub(crate) fn difference_of<P: Place>(
     alloc: Global,
     place: &mut P,
@@ -55,7 +55,7 @@ pub(crate) fn difference_of<P: Place>(
 }
 
 /// Removes the record of a unit, and gives the run number of its next one.
-#[tactic(auto, using(crate::proofs::Faults::drop_laws))]
+#[tactic(auto, using(crate::proofs::Causing::drop_laws))]
 fn drop_record<P: Place>(
     alloc: Global,
     place: &mut P,
@@ -85,7 +85,7 @@ fn drop_record<P: Place>(
 }
 
 /// Spawns the child of a unit.
-#[tactic(auto, using(crate::proofs::Launching::spawn_laws))]
+#[tactic(auto, using(crate::proofs::Spawning::spawn_laws))]
 fn spawn<P: Place>(
     alloc: Global,
     place: &mut P,
@@ -110,7 +110,7 @@ fn spawn<P: Place>(
 }
 
 /// Empties the output folder of a unit, and spawns its child.
-#[tactic(auto, using(crate::proofs::Launching::launch_laws))]
+#[tactic(auto, using(crate::proofs::Spawning::launch_laws))]
 fn spawn_anew<P: Place>(
     alloc: Global,
     place: &mut P,
@@ -136,7 +136,7 @@ fn spawn_anew<P: Place>(
 
 /// Launches the child of a unit of which something differs: takes a run number, removes the record, empties the output
 /// folder and spawns the child.
-#[tactic(auto, using(crate::proofs::Launching::launch_laws))]
+#[tactic(auto, using(crate::proofs::Spawning::launch_laws))]
 pub(crate) fn launch<P: Place>(
     alloc: Global,
     place: &mut P,

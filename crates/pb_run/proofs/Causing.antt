@@ -161,3 +161,7 @@ read_follows key (Device unit NumbersSpent) old new may = absurd (no_number may.
     no_number e = cc
 read_follows key Sink old new may = absurd may
 read_follows key OutOfMemory old new may = may
+
+pub ruleset look_laws = (look_told)
+
+pub ruleset drop_laws = (drop_told)

@@ -151,3 +151,7 @@ module _ (read : Reading) (folder key out : List ℕ) (old new : World) (is : is
 
   pub launched_sound : (judge : Judge) (child : Answers) → is_path folder ≡ true → record_at read folder old.files key ≡ None → Sound read judge child folder old.files → Sound read judge child folder new.files
   launched_sound judge child path gone sound = in_output read judge child folder old.files new.files key path is gone in_folder sound
+
+pub ruleset spawn_laws = (spawned_flies, spawned_lifts)
+
+pub ruleset launch_laws = (spawned_anew, anew_only, launched_only, launched_spawned, launched_still, launched_gone, launched_ahead, launched_sound)
