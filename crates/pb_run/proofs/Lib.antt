@@ -5,3 +5,5 @@ pub mod Spawning
 pub mod Tables
 pub mod Units
 pub mod Views
+pub mod Recorded
+pub mod RecordedOthers
