@@ -165,3 +165,5 @@ read_follows key OutOfMemory old new may = may
 pub ruleset look_laws = (look_told)
 
 pub ruleset drop_laws = (drop_told)
+
+pub ruleset keep_laws = (keep_told)

@@ -1,9 +1,11 @@
+pub mod Answering
 pub mod Causing
 pub mod Commands
+pub mod Ending
+pub mod Recorded
+pub mod RecordedOthers
 pub mod Shown
 pub mod Spawning
 pub mod Tables
 pub mod Units
 pub mod Views
-pub mod Recorded
-pub mod RecordedOthers

@@ -1,8 +1,9 @@
 -- Why a step of a build ends with a fault: which call failed, with which fault, after how many starts.
-use Rattle.std.specs.Prelude.{◌≡◌, ◌≢◌, ◌⊎◌, ◌++◌, ◌∷◌, [], ℕ, false, IsSome, List, Option, Some, None, Result, MatchResult}
+use Rattle.std.specs.Prelude.{◌≡◌, ◌≢◌, ◌⊎◌, ◌++◌, ◌∷◌, [], ℕ, false, IsSome, List, Option, Some, None, IfErr, Result, MatchResult}
 use Rattle.pb_place.specs.Children.{is_flying}
-use Rattle.pb_place.specs.Counts.{Counts, Starts, up, up_starts, without}
+use Rattle.pb_place.specs.Counts.{Counts, Starts, up, up_starts, without, counted_finish}
 use Rattle.pb_place.specs.declared.child_in_flight.ChildInFlight.{ChildInFlight}
+use Rattle.pb_place.specs.declared.command.Ended.{Ended}
 use Rattle.pb_place.specs.declared.place.Failure.{Failure}
 use Rattle.pb_place.specs.declared.place.Failure.TheVariants.{Called, Started}
 use Rattle.pb_place.specs.declared.place.PlaceFault.{PlaceFault}
@@ -134,6 +135,11 @@ Begins begun old new = BeginsBy begun.launched old new
 
 abbrev pub Lands : {T : Type 0} → Option Launched → T → Starts → Starts → Type 0
 Lands launched x old new = LandsBy launched old new
+
+-- a child's end was asked for, where there is one, and the answer dropped
+abbrev pub Drops : Option Launched → Counts → Counts → Type 0
+Drops None old new = new ≡ old
+Drops (Some launched) old new = (result : Result Ended StartFault) × (new ≡ counted_finish launched.ticket result old) × IfErr result (λ e. e ≢ start.OutOfMemory → (e ≡ start.Died) ⊎ (e ≡ start.Capture))
 
 -- the faults of the calls that look for a difference, remove the record and the files, and spawn the child of the unit of this key; a run number is missing only where none is left
 abbrev pub MayBeginUnit : Option ℕ → List ℕ → BuildFault → Starts → Starts → Type 0

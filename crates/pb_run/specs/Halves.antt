@@ -127,6 +127,10 @@ key_in (Some u) = u.key ∷ []
 abbrev pub needed_keys : Project → Planned → List (List ℕ)
 needed_keys project u = flat_map (λ place. key_in (unit_at project place)) u.needs
 
+-- a unit that has begun, by its parts
+abbrev pub begun_with : List ℕ → Command → Option Launched → Begun
+begun_with key c launched = record { unit = key; command = c; launched = launched }
+
 -- its child is in flight: it was spawned for this command, saw this, found its folder empty, and all this stood still since
 pub record IsInFlight (child : Answers) (c : Command) (view : World) (ticket : ℕ) (flying : List ChildInFlight) (still : ℕ → Type 0) : Type 0 where
   pub spawned : World

@@ -77,6 +77,10 @@ names_in (Err fault) = []
 abbrev pub judgement_by : Project → Planned → Ended → Result Answered UnitFault → Judgement
 judgement_by project u e a = record { ran = ran_by project u e a; names = names_in a }
 
+-- what came of a unit for which no child was started
+abbrev pub unstarted : Ran → Ran
+unstarted ran = record { started = false; fault = ran.fault; directives = ran.directives; messages = ran.messages }
+
 abbrev pub outcome_from : Option UnitFault → Map → Option (List Directive) → List Message → Outcome
 outcome_from None files directives messages = Good files directives messages
 outcome_from (Some fault) files directives messages = Bad fault messages
