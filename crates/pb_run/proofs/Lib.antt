@@ -3,6 +3,8 @@ pub mod Causing
 pub mod Commands
 pub mod Ending
 pub mod Recorded
+pub mod RecordedBegin
+pub mod RecordedKeeps
 pub mod RecordedOthers
 pub mod Shown
 pub mod Spawning

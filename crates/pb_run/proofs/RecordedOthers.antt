@@ -54,6 +54,13 @@ pub data Left (old new : Standing) (key : List ℕ) (number : Option ℕ) : Type
   put_anew : (r : Record) (n : ℕ) → new key ≡ Some r → number_of r ≡ Some n → number ≡ Some n
       → ((need : List ℕ) (m : ℕ) → Contains (needs_of r) (need, m) → (s : Record) × (old need ≡ Some s) × (number_of s ≡ Some m)) → Left old new key number
 
+-- of a record that was dropped, or was to be
+pub left_dropped : (old new : Standing) (key : List ℕ) → (new key ≡ None) ⊎ (new key ≡ old key) → Left old new key None
+left_dropped old new key left = elim left [
+  | inl gone ↦ vanished gone
+  | inr is ↦ as_before is
+]
+
 -- a number that was given still waits
 pub names_still : (old new : Standing) (key : List ℕ) (given : Option ℕ) (number : ℕ) → ((l : List ℕ) → l ≢ key → new l ≡ old l) → Left old new key given → given ≢ Some number → NoneNames old number → NoneNames new number
 names_still old new key given number others left apart waits other r at = elim (is_same other key) [
@@ -115,11 +122,11 @@ module _ (b : Basis) (order : IsInOrder b.project) (place : ℕ) (u : Planned) (
   abbrev At' : Standing
   At' = records_in b w'
 
-  others_at : (l : List ℕ) → l ≢ u.key → At' l ≡ At l
+  pub others_at : (l : List ℕ) → l ≢ u.key → At' l ≡ At l
   others_at l ne = unit_record Folder u.key w w' order.folder (order.keys place u there) only b.read l ne
 
-  module _ (other : ℕ) (v : Planned) (at : unit_at b.project other ≡ Some v) (another : other ≢ place) (far : (p : ℕ) → Contains v.reaches p → p ≢ place) where
-    -- what it needs stands as it stood
+  module _ (other : ℕ) (v : Planned) (at : unit_at b.project other ≡ Some v) (far : (p : ℕ) → Contains v.reaches p → p ≢ place) where
+    -- what a unit needs that does not reach this one stands as it stood
     need_apart : (need : List ℕ) → Contains (needed_keys b.project v) need → need ≢ u.key
     need_apart need has e =
         let (x, where', is) = key_needed b.project order v need has in
@@ -139,11 +146,12 @@ module _ (b : Basis) (order : IsInOrder b.project) (place : ℕ) (u : Planned) (
         back f (itself need names is) = itself need names is
         back f (further need s names stands more) = further need s names (sym (others_at need (need_apart need names)) ∙ stands) more
 
+  module _ (other : ℕ) (v : Planned) (at : unit_at b.project other ≡ Some v) (far : (p : ℕ) → Contains v.reaches p → p ≢ place) (another : other ≢ place) where
     pub awaits_still : (next next' : Option ℕ) (given : Option ℕ) (number : ℕ) → TakesNumber next next' → Left At At' u.key given → given ≢ Some number → AwaitsRecord b v number next w → AwaitsRecord b v number next' w'
     awaits_still next next' given number taken left apart waits = record {
       gone = record_still b.project order place u there w w' only b.read other v at another ∙ waits.gone;
       unnamed = names_still At At' u.key given number others_at left apart waits.unnamed;
-      needs_stand = needs_still number waits.needs_stand;
+      needs_stand = needs_still other v at far number waits.needs_stand;
       before = before_taken next next' number taken waits.before;
     }
 
@@ -240,7 +248,7 @@ stays_begun b order states done place u launched other its next next' given w w'
       unit = is.unit;
       there = is.there;
       command = is.command;
-      waits = waits_still b order place u there w w' only other is.unit is.there apart.another far its.command (view_in b other is.unit) its.launched states next next' given flying flying' still still'
+      waits = waits_still b order place u there w w' only other is.unit is.there far apart.another its.command (view_in b other is.unit) its.launched states next next' given flying flying' still still'
           (command_for b.project order b other is.unit its.command refl is.there is.command) keeps.records taken left numbers flies_on stands_on is.waits;
     }
 
