@@ -120,8 +120,8 @@ removed_told next key (Plan refusal) old new may = absurd may
 removed_told next key Toolchain old new may = absurd may
 removed_told next key (Child unit fault) old new may = absurd may
 removed_told next key (Device unit (Place fault)) old new may =
-    (may.0, subst (λ f. f ≢ place.Write) (sym (same_fault fault place.Remove may.1.0)) remove_no_write, may.1.1)
-removed_told next key (Device unit NumbersSpent) old new may = absurd (no_number may.1.0)
+    (may.0, subst (λ f. f ≢ place.Write) (sym (same_fault fault place.Remove may.1)) remove_no_write, may.2)
+removed_told next key (Device unit NumbersSpent) old new may = absurd (no_number may.1)
   where
     no_number : NumbersSpent ≡ Place place.Remove → ⊥
     no_number e = cc
@@ -154,8 +154,8 @@ pub read_follows : (key : List ℕ) (e : BuildFault) (old new : Starts) → MayR
 read_follows key (Plan refusal) old new may = absurd may
 read_follows key Toolchain old new may = absurd may
 read_follows key (Child unit fault) old new may = absurd may
-read_follows key (Device unit (Place fault)) old new may = (may.0, subst (λ f. f ≢ place.Remove) (sym (same_fault fault place.Read may.1.0)) read_no_remove, may.1.1)
-read_follows key (Device unit NumbersSpent) old new may = absurd (no_number may.1.0)
+read_follows key (Device unit (Place fault)) old new may = (may.0, subst (λ f. f ≢ place.Remove) (sym (same_fault fault place.Read may.1)) read_no_remove, may.2)
+read_follows key (Device unit NumbersSpent) old new may = absurd (no_number may.1)
   where
     no_number : NumbersSpent ≡ Place place.Read → ⊥
     no_number e = cc

@@ -10,7 +10,7 @@ use Rattle.pb_project.specs.declared.project.Setup.{Setup}
 use Rattle.pb_unit.specs.declared.plan.Planned.{Planned}
 use Rattle.pb_unit.specs.declared.unit.What.{What}
 use Rattle.pb_unit.specs.declared.unit.What.TheVariants.{Lib, Bin, Script, Run}
-use Rattle.pb_command.specs.Command.{command_by, command_for, command_of, compile_of, run_of, words_of, crate_part}
+use Rattle.pb_command.specs.Command.{command_by, command_for, command_of, compile_of, run_of, words_of, asked_part, crate_part}
 use Rattle.pb_command.specs.Externs.{in_order, library_words}
 use Rattle.pb_command.specs.Pairs.{about_pairs, binary_pairs, building_pairs, composed, crate_pairs, described_pairs, env_pair, out_pairs, own_pairs, own_run_pairs, package_pairs, pairs_of, passed_at, passed_by, passed_pairs, run_at, run_there, version_pairs}
 use Rattle.pb_command.specs.Said.{own_words, said_words, search_word, search_words, searched_words}
@@ -68,10 +68,14 @@ module _ (setup : Setup) (project : Project) (u : Planned) (done other : List (O
     pairs_same : pairs_of setup project u done p ≡ pairs_of setup project u other p
     pairs_same = ap (λ own. in_order (package_pairs setup p ++ about_pairs p.about ++ version_pairs p.version ++ own)) (own_pairs_same u.unit.what)
 
+    said_words_same : said_words project u done p ≡ said_words project u other p
+    said_words_same = ap (λ search. search ++ own_words u.unit.what p.library (own_said project u done)) search_same ∙ ap (λ said. search_words u other ++ own_words u.unit.what p.library said) own_same
+
+    asked_same : asked_part setup project u done p ≡ asked_part setup project u other p
+    asked_same = ap (λ said. library_words project u p ++ said ++ setup.flags) said_words_same
+
     words_same : words_of setup project u done p ≡ words_of setup project u other p
-    words_same =
-        ap (λ search. crate_part project u p ++ library_words project u p ++ (search ++ own_words u.unit.what p.library (own_said project u done)) ++ setup.flags) search_same
-        ∙ ap (λ said. crate_part project u p ++ library_words project u p ++ (search_words u other ++ own_words u.unit.what p.library said) ++ setup.flags) own_same
+    words_same = ap (λ asked. crate_part project u p ++ asked) asked_same
 
     compile_same : compile_of setup project u done p ≡ compile_of setup project u other p
     compile_same =

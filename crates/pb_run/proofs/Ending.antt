@@ -9,7 +9,7 @@ use Rattle.pb_place.specs.declared.place.PlaceFault.{PlaceFault}
 use Rattle.pb_place.specs.declared.place.PlaceFault.TheVariants as place
 use Rattle.pb_place.specs.declared.place.StartFault.{StartFault}
 use Rattle.pb_place.specs.declared.place.StartFault.TheVariants as start
-use Rattle.pb_run.specs.Causes.{FailedLast, HasCause, MayFollow, MayAnswerUnit, LandsBy, child_fault, device_fault, store_fault}
+use Rattle.pb_run.specs.Causes.{FailedLast, HasCause, IsLifted, MayBeginUnit, MayFollow, MayAnswerUnit, LandsBy, child_fault, device_fault, store_fault}
 use Rattle.pb_run.specs.declared.begun.Launched.{Launched}
 use Rattle.pb_store.specs.Causes as causes
 use Rattle.pb_store.specs.declared.fault.StoreFault.{StoreFault}
@@ -47,11 +47,19 @@ finish_told next key l e told old new is may counts = subst (TellsAnswer next ke
 pub cause_after : (e : BuildFault) (old mid new : Counts) → mid.failures ≡ old.failures → HasCause e mid new → HasCause e old new
 cause_after (Plan refusal) old mid new same cause = cause ∙ same
 cause_after Toolchain old mid new same cause = cause ∙ same
-cause_after (Child unit fault) old mid new same cause = (cause.0 ∙ ap up same, cause.1)
-cause_after (Device unit (Place fault)) old mid new same cause = (cause.0 ∙ ap up same, cause.1)
+cause_after (Child unit fault) old mid new same cause = (cause.0 ∙ ap up same, cause.1, cause.2)
+cause_after (Device unit (Place fault)) old mid new same cause = (cause.0 ∙ ap up same, cause.1, cause.2)
 cause_after (Device unit NumbersSpent) old mid new same cause = cause ∙ same
 cause_after Sink old mid new same cause = cause ∙ same
 cause_after OutOfMemory old mid new same cause = cause ∙ same
+
+-- a child that is spawned after calls that start none
+pub lifted_after : (ticket : ℕ) (old mid new : Counts) → (mid.failures ≡ old.failures) × (mid.starts ≡ old.starts) → (new.failures ≡ mid.failures) × IsLifted ticket mid.starts new.starts → (new.failures ≡ old.failures) × IsLifted ticket old.starts new.starts
+lifted_after ticket old mid new first second = (second.0 ∙ first.0, subst (λ (s : Starts). IsLifted ticket s new.starts) first.1 second.1)
+
+pub begun_after : (next : Option ℕ) (key : List ℕ) (e : BuildFault) (old mid new : Counts) → (mid.failures ≡ old.failures) × (mid.starts ≡ old.starts) → MayBeginUnit next key e mid.starts new.starts × HasCause e mid new
+    → MayBeginUnit next key e old.starts new.starts × HasCause e old new
+begun_after next key e old mid new first second = (subst (λ (s : Starts). MayBeginUnit next key e s new.starts) first.1 second.0, cause_after e old mid new first.0 second.1)
 
 follow_landed : (next : Option ℕ) (key : List ℕ) (l : Launched) (e : BuildFault) (old mid new : Starts) → LandsBy (Some l) old mid → MayFollow key e mid new → MayAnswerUnit next key (Some l) e old new
 follow_landed next key l (Plan refusal) old mid new lands may = absurd may

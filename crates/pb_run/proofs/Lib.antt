@@ -2,6 +2,7 @@ pub mod Answering
 pub mod Causing
 pub mod Commands
 pub mod Ending
+pub mod Halving
 pub mod Recorded
 pub mod RecordedBegin
 pub mod RecordedKeeps

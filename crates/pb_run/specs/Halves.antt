@@ -123,9 +123,12 @@ abbrev pub key_in : Option Planned → List (List ℕ)
 key_in None = []
 key_in (Some u) = u.key ∷ []
 
+abbrev pub key_at : Project → ℕ → List (List ℕ)
+key_at project place = key_in (unit_at project place)
+
 -- the keys of the units that a unit needs, in plan order
 abbrev pub needed_keys : Project → Planned → List (List ℕ)
-needed_keys project u = flat_map (λ place. key_in (unit_at project place)) u.needs
+needed_keys project u = flat_map (key_at project) u.needs
 
 -- a unit that has begun, by its parts
 abbrev pub begun_with : List ℕ → Command → Option Launched → Begun

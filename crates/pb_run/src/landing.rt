@@ -16,12 +16,12 @@ ghost use Rattle.pb_directive.specs.declared.directive.Directive.{Directive};
 ghost use Rattle.pb_flight.specs.declared.flight.State.{State};
 ghost use Rattle.pb_flight.specs.declared.flight.State.TheVariants as state;
 ghost use Rattle.pb_place.specs.Folders.{files_in};
-ghost use Rattle.pb_project.specs.Targets.{unit_at};
 ghost use Rattle.pb_project.specs.declared.fault.UnitFault.{UnitFault};
-ghost use Rattle.pb_run.specs.Halves.{Footing, basis, begun_with, outcomes_in, key_in, needed_keys, Keeps, IsBegun, CanAnswer, BeginsApart};
+ghost use Rattle.pb_run.specs.Halves.{Footing, basis, begun_with, outcomes_in, key_at, needed_keys, Keeps, IsBegun, CanAnswer, BeginsApart};
 ghost use Rattle.pb_run.specs.Standing.{IsCommandOf, IsInOrder, records_folder};
 ghost use Rattle.pb_run.specs.declared.begun as begun;
 ghost use Rattle.pb_run.specs.Outcome.{judgement_by, outcome_by, directives_in, unstarted};
+ghost use Rattle.std.specs.List.{flat_map};
 ghost use Rattle.pb_soundness.specs.Apart.{is_of, KeepsStill, KeepsStillOutside};
 ghost use Rattle.pb_soundness.specs.Inputs.{Judge, input_in};
 ghost use Rattle.pb_soundness.specs.Numbers.{IsAhead, IsBefore};
@@ -38,7 +38,7 @@ use crate::running::read_at;
 use pb_answer::BuildFault;
 use pb_data::{Items, Text, TryCopy};
 use pb_place::{Command, Ended, Place};
-use pb_project::{InputName, Project, dep_info_path};
+use pb_project::{InputName, Project, dep_info_path, unit_at};
 use pb_store::{Replayed, Store};
 use pb_unit::Planned;
 use std::alloc::{AllocError, Global};
@@ -95,18 +95,32 @@ pub(crate) fn judged_now<P: Place>(
     }
 }
 
-/// The key of the unit at a place of a plan, copied.
-fn add_key(
+/// Adds the key of the unit at a place.
+fn push_key(
     alloc: Global,
     keys: &mut Items<Text>,
     project: &Project,
     place: usize,
 ) -> Result<(), AllocError>
-    ensures { OnOk result (keys.new ≡ keys.old ++ key_in (unit_at project.now place)) }
+    ensures { OnOk result (keys.new ≡ keys.old ++ key_at project.now place) }
 {
-    match project.plan.planned.get(place) {
-        None => {}
-        Some(need) => keys.push(need.key.copy(alloc)?)?,
+    if let Some(need) = unit_at(project, place) {
+        keys.push(need.key.copy(alloc)?)?;
+    }
+    Ok(())
+}
+
+/// Adds the keys of the units at some places.
+fn push_keys(
+    alloc: Global,
+    keys: &mut Items<Text>,
+    project: &Project,
+    places: &[usize],
+) -> Result<(), AllocError>
+    ensures { OnOk result (keys.new ≡ keys.old ++ flat_map (key_at project.now) places.now) }
+{
+    for place in places {
+        push_key(alloc, keys, project, *place)?;
     }
     Ok(())
 }
@@ -116,9 +130,7 @@ fn needed_keys(alloc: Global, project: &Project, unit: &Planned) -> Result<Items
     ensures { IfOk result (λ keys. keys ≡ needed_keys project.now unit.now) }
 {
     let mut keys = Items::new(alloc);
-    for place in unit.needs.as_slice() {
-        add_key(alloc, &mut keys, project, *place)?;
-    }
+    push_keys(alloc, &mut keys, project, unit.needs.as_slice())?;
     Ok(keys)
 }
 

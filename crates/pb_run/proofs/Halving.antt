@@ -1,0 +1,84 @@
+-- A unit that begins, in the words of its calls.
+use Rattle.std.proofs.Common.{◌≡◌, ◌≢◌, ◌⊎◌, ◌∙◌, ℕ, Bool, true, false, List, Option, Some, None, Contains, refl, sym, ap, subst, slice_get, slice_set}
+use Rattle.std.specs.FinMap as finite
+use Rattle.pb_command.specs.Command.{command_of}
+use Rattle.pb_command.specs.Judge.{judge}
+use Rattle.pb_directive.specs.declared.directive.Directive.{Directive}
+use Rattle.pb_flight.specs.declared.flight.State.{State}
+use Rattle.pb_flight.specs.declared.flight.State.TheVariants.{Begun as begun_state}
+use Rattle.pb_place.specs.World.{World, ChangesOnly, seen_by}
+use Rattle.pb_place.specs.declared.child_in_flight.ChildInFlight.{ChildInFlight}
+use Rattle.pb_place.specs.declared.command.Command.{Command}
+use Rattle.pb_place.proofs.Folders.{only_same}
+use Rattle.pb_project.specs.Targets.{unit_at}
+use Rattle.pb_project.specs.declared.fault.UnitFault.{UnitFault}
+use Rattle.pb_project.specs.declared.project.Project.{Project}
+use Rattle.pb_project.specs.declared.project.Setup.{Setup}
+use Rattle.pb_record.specs.declared.record.Record.{Record}
+use Rattle.pb_unit.specs.declared.plan.Planned.{Planned}
+use Rattle.pb_run.specs.Halves.{Basis, CanBegin, IsBegun, Keeps, begun_with, command_in, records_in, view_in}
+use Rattle.pb_run.specs.Launching.{IsSpawned}
+use Rattle.pb_run.specs.Standing.{HasPackage, IsCommandOf, IsInOrder, records_folder}
+use Rattle.pb_run.specs.declared.begun.Begun.{Begun}
+use Rattle.pb_run.specs.declared.begun.Launched.{Launched}
+use Rattle.pb_run.proofs.Answering.{reached_stand}
+use Rattle.pb_run.proofs.RecordedBegin.{begun_child, begun_same, keeps_begun}
+use Rattle.pb_run.proofs.Shown.{AllStand, commanded, sees_view}
+use Rattle.pb_run.proofs.Views.{is_for}
+use Rattle.pb_soundness.specs.Apart.{is_of}
+use Rattle.pb_soundness.specs.Numbers.{IsAhead, after}
+use Rattle.pb_soundness.specs.Records.{is_key, out_of, record_at}
+use Rattle.pb_soundness.specs.Reuse.{IsSame}
+use Rattle.pb_soundness.specs.Sound.{Sound}
+
+-- a unit's command writes into its folder
+pub out_asked : (project : Project) (setup : Setup) (i : ℕ) (u : Planned) (done : List (Option (List Directive))) (c : Command) → IsInOrder project → slice_get project.plan.planned i ≡ Some u → c ≡ command_of setup project u done → c.out ≡ Some u.out
+out_asked project setup i u done c order at is = ap (λ (d : Command). d.out) is ∙ (is_for setup project u done (order.packages i u at)).out
+
+pub lies_at : (project : Project) (i : ℕ) (u : Planned) (folder : List ℕ) → IsInOrder project → slice_get project.plan.planned i ≡ Some u → folder ≡ records_folder project → u.out ≡ out_of folder u.key
+lies_at project i u folder order at is = order.folders i u at ∙ sym (ap (λ f. out_of f u.key) is)
+
+pub out_lies : (project : Project) (i : ℕ) (u : Planned) (folder : List ℕ) (c : Command) → IsInOrder project → slice_get project.plan.planned i ≡ Some u → folder ≡ records_folder project → IsCommandOf project u c → c.out ≡ Some (out_of folder u.key)
+out_lies project i u folder c order at is (setup, done, asks) = out_asked project setup i u done c order at asks ∙ ap Some (lies_at project i u folder order at is)
+
+module _ (b : Basis) (order : IsInOrder b.project) (i : ℕ) (u : Planned) (at : unit_at b.project i ≡ Some u) (states : List (State UnitFault)) (done : List (Option (List Directive))) (next : Option ℕ) (w : World) (can : CanBegin b states done i u next w) where
+  stand : AllStand b done w u.reaches
+  stand = reached_stand b order i u at states done next w can.keeps can.reaches
+
+  pub is_command : (c : Command) → c ≡ command_of b.setup b.project u done → c ≡ command_in b i u
+  is_command c is = is ∙ commanded b done w i u order at stand
+
+  pub is_shown_view : (c : Command) → c ≡ command_of b.setup b.project u done → seen_by c w ≡ view_in b i u
+  is_shown_view c is = ap (λ (d : Command). seen_by d w) (is_command c is) ∙ sees_view b done w i u order at stand can.keeps.sources_stay
+
+  -- nothing has changed
+  keeps_here : Keeps b (slice_set states i begun_state) done next w
+  keeps_here = keeps_begun b order states done i u at next w w (only_same _ w) can next (λ s. s) (λ a. a)
+
+  pub keeps_same : (w' : World) → w' ≡ w → Keeps b (slice_set states i begun_state) done next w'
+  keeps_same w' same = subst (Keeps b (slice_set states i begun_state) done next) (sym same) keeps_here
+
+  pub begun_none : (key : List ℕ) (c : Command) (w' : World) (folder : List ℕ) (flying : List ChildInFlight) (still : ℕ → Type 0) → w' ≡ w → folder ≡ records_folder b.project → c ≡ command_of b.setup b.project u done
+      → (r : Record) × IsSame b.read folder u.key c w r → IsBegun b i (begun_with key c None) next w' flying still
+  begun_none key c w' folder flying still same is_folder is found =
+      subst (λ (v : World). IsBegun b i (begun_with key c None) next v flying still) (sym same)
+      (begun_same b order states done i u at next w w (only_same _ w) can (begun_with key c None) flying still (is_command c is) refl
+      (found.0, subst (λ f. IsSame b.read f u.key c w found.0) is_folder found.1))
+
+  -- its child was launched, or a step on the way failed
+  module _ (folder : List ℕ) (is_folder : folder ≡ records_folder b.project) (w' : World) (next' : Option ℕ) (only : ChangesOnly (is_of folder u.key) w w') where
+    only_its : ChangesOnly (is_of (records_folder b.project) u.key) w w'
+    only_its = subst (λ f. ChangesOnly (is_of f u.key) w w') is_folder only
+
+    pub keeps_launched : (Sound b.read judge b.child folder w.files → Sound b.read judge b.child folder w'.files) → (IsAhead (record_at b.read folder w.files) next → IsAhead (record_at b.read folder w'.files) next')
+        → Keeps b (slice_set states i begun_state) done next' w'
+    keeps_launched sound ahead = keeps_begun b order states done i u at next w w' only_its can next'
+        (subst (λ f. Sound b.read judge b.child f w.files → Sound b.read judge b.child f w'.files) is_folder sound)
+        (subst (λ f. IsAhead (record_at b.read f w.files) next → IsAhead (record_at b.read f w'.files) next') is_folder ahead)
+
+    pub begun_some : (key : List ℕ) (c : Command) (l : Launched) (flying : List ChildInFlight) (still : ℕ → Type 0) → c ≡ command_of b.setup b.project u done → IsSpawned (is_of folder u.key) b.child c w l.ticket flying still
+        → record_at b.read folder w'.files u.key ≡ None → next ≡ Some l.number → next' ≡ after l.number → IsBegun b i (begun_with key c (Some l)) next' w' flying still
+    begun_some key c l flying still is spawned gone given then' =
+        begun_child b order states done i u at next w w' only_its can (begun_with key c (Some l)) l spawned.spawned next' flying still (is_command c is) refl (is_shown_view c is)
+        (subst (λ f. ChangesOnly (is_of f u.key) w spawned.spawned) is_folder spawned.only) spawned.flies spawned.emptied spawned.stands
+        (subst (λ f. record_at b.read f w'.files u.key ≡ None) is_folder gone) given then'
