@@ -1,5 +1,5 @@
 -- A record that gets a number and the numbers of the needed units may be put.
-use Rattle.std.proofs.Common.{◌≡◌, ◌∙◌, ℕ, true, List, Option, Some, None, refl, sym, ap, subst, cond, inl, inr, is_some, false}
+use Rattle.std.proofs.Common.{◌⊎◌, inl, inr, ◌≡◌, ◌∙◌, ℕ, true, List, Option, Some, None, refl, sym, ap, subst, cond, inl, inr, is_some, false}
 use Rattle.std.proofs.lemmas.Slice.Eq.{bytes_eq-Decides}
 use Rattle.std.specs.FinMap.{get}
 use Rattle.std.specs.Str.{bytes_eq}
@@ -18,7 +18,7 @@ use Rattle.pb_soundness.proofs.Becoming.{one, none_some}
 use Rattle.pb_soundness.proofs.Places.{its_key, text_at}
 use Rattle.pb_soundness.proofs.Renewing.{reuse}
 use Rattle.std.proofs.lemmas.Bool.{cases_Bool}
-use Rattle.pb_store.specs.Keeping.{HasNeeds, MayPut, numbered}
+use Rattle.pb_store.specs.Keeping.{Leaves, HasNeeds, MayPut, numbered}
 use Rattle.pb_store.specs.Migrating.{IsMigrated, numbered_record, migrated, migrated_by}
 use Rattle.pb_store.proofs.Earned.{names_stand, unnamed_of, before_less}
 
@@ -100,3 +100,18 @@ renumbered read folder key needs next old mid new found kept same found_is is la
     put
     ∙ ap (λ (w : World). Some (numbered_record kept number (numbered (record_at read folder w.files) needs))) same
     ∙ sym (ap (migrated next pairs) there ∙ ap (λ o. migrated_by o next pairs kept) (none_there (number_of kept) lacks) ∙ ap (λ o. migrated_by None o pairs kept) next_is)
+
+-- and whatever became of it
+pub renumbered_left : (read : Reading) (folder key : List ℕ) (needs : List (List ℕ)) (next : Option ℕ) (old mid new : World) (found : Option Record) (kept : Record) → mid ≡ old → found ≡ record_at read folder old.files key → found ≡ Some kept → is_some (number_of kept) ≡ false
+    → (kept.key ≡ key → (record_at read folder new.files key ≡ None) ⊎ ((record_at read folder new.files key ≡ record_at read folder mid.files key) ⊎ ((number : ℕ) × (next ≡ Some number) × (record_at read folder new.files key ≡ Some (numbered_record kept number (numbered (record_at read folder mid.files) needs))))))
+    → Leaves (migrated next (numbered (record_at read folder old.files) needs) (record_at read folder old.files key)) (record_at read folder old.files key) (record_at read folder new.files key)
+renumbered_left read folder key needs next old mid new found kept same found_is is lacks given = elim (given (stands_by_key read folder key old.files kept (sym found_is ∙ is))) [
+  | inl none ↦ inl none
+  | inr other ↦ elim other [
+    | inl stays ↦ inr (inl (stays ∙ ap (λ (w : World). record_at read folder w.files key) same))
+    | inr put ↦ inr (inr (renumbered read folder key needs next old mid new found kept same found_is is lacks (λ its. put)))
+  ]
+]
+
+pub has_number : (r s : Record) (number : ℕ) (pairs : List (List ℕ × ℕ)) (o : Option Record) → o ≡ Some (numbered_record s number pairs) → o ≡ Some r → is_some (number_of r) ≡ true
+has_number r s number pairs o put is = ap (λ (t : Record). is_some (number_of t)) (sym (one (numbered_record s number pairs) r (sym put ∙ is)))

@@ -21,7 +21,7 @@ use Rattle.pb_soundness.specs.Inputs.{Judge}
 use Rattle.pb_soundness.specs.Records.{Reading, is_key, out_of, place_of, record_at, read_text, if_of_key}
 use Rattle.pb_soundness.specs.Sound.{Sound, IsTrueRecord}
 use Rattle.pb_soundness.specs.Laws.{Became, stays}
-use Rattle.pb_store.specs.Keeping.{MayPut}
+use Rattle.pb_store.specs.Keeping.{Leaves, MayPut}
 use Rattle.pb_soundness.proofs.Becoming.{stays_sound, one, none_some}
 use Rattle.pb_soundness.proofs.Four.{by_key, other_stays, without_record}
 use Rattle.pb_soundness.proofs.Places.{key_facts, record_named, record_plain, record_same, text_at, is_same, no_key, places_differ, folder_still, out_place_apart}
@@ -221,6 +221,30 @@ module _ (read : Reading) (folder key : List ℕ) (next : Option ℕ) (path : is
   pub torn_ahead_at : (p passed text : List ℕ) (old new : World) (r : Record) → Torn p passed old new → p ≡ place_of folder key → passed ≡ text → IsReading read → Says text r → NamesBefore next r
       → IsAhead (record_at read folder old.files) next → IsAhead (record_at read folder new.files) next
   torn_ahead_at p passed text old new r torn at given = torn_ahead text old new r (subst (λ x. Torn (place_of folder key) x old new) given (subst (λ x. Torn x passed old new) at torn))
+
+-- what stands in a record's place after a removal or a writing, whatever became of it
+module _ (read : Reading) (folder key : List ℕ) (is : is_key key ≡ true) where
+  pub partly_left_at : (p : List ℕ) (old new : World) → PartlyRemoved p old new → p ≡ place_of folder key → Leaves None (record_at read folder old.files key) (record_at read folder new.files key)
+  partly_left_at p old new partly at = elim ((subst (λ x. PartlyRemoved x old new) at partly).files.there (place_of folder key)) [
+    | inl same ↦ inr (inl (record_same read folder old.files new.files key same))
+    | inr none ↦ inl (none_there read folder new.files key is none)
+  ]
+
+  part_left : (m : Map) (before : Option Record) (r : Record) (part : List ℕ) (o : Option Record) → get m (place_of folder key) ≡ Some part → read part ≡ o → ((s : Record) → read part ≡ Some s → s ≡ r) → r.key ≡ key → Leaves (Some r) before (record_at read folder m key)
+  part_left m before r part None at reads parts its = inl (unread_there read folder m key part is at reads)
+  part_left m before r part (Some s) at reads parts its = inr (inr (read_there read folder m key part r is at (reads ∙ ap Some (parts s reads)) its))
+
+  torn_left : (text : List ℕ) (old new : World) (r : Record) → Torn (place_of folder key) text old new → IsReading read → Says text r → r.key ≡ key → Leaves (Some r) (record_at read folder old.files key) (record_at read folder new.files key)
+  torn_left text old new r torn reading says its = elim torn.files.there [
+    | inl same ↦ inr (inl (record_same read folder old.files new.files key same))
+    | inr other ↦ elim other [
+      | inl none ↦ inl (none_there read folder new.files key is none)
+      | inr part ↦ part_left new.files (record_at read folder old.files key) r (take part.0 text) (read (take part.0 text)) part.1 refl (says_parts read text r reading says part.0) its
+    ]
+  ]
+
+  pub torn_left_at : (p passed text : List ℕ) (old new : World) (r : Record) → Torn p passed old new → p ≡ place_of folder key → passed ≡ text → IsReading read → Says text r → r.key ≡ key → Leaves (Some r) (record_at read folder old.files key) (record_at read folder new.files key)
+  torn_left_at p passed text old new r torn at given = torn_left text old new r (subst (λ x. Torn (place_of folder key) x old new) given (subst (λ x. Torn x passed old new) at torn))
 
 -- a change at a record's place, whatever it was
 pub removed_only_at : (folder key p : List ℕ) (old new : World) → new ≡ removed p old → p ≡ place_of folder key → ChangesOnly (is_at_or_below (place_of folder key)) old new

@@ -1,5 +1,5 @@
 -- What a record that is kept rests on.
-use Rattle.std.specs.Prelude.{pos, ◌≡◌, ◌↔◌, ◌<◌, ℕ, true, List, map, Option, Some, None, Contains}
+use Rattle.std.specs.Prelude.{◌⊎◌, pos, ◌≡◌, ◌↔◌, ◌<◌, ℕ, true, List, map, Option, Some, None, Contains}
 use Rattle.pb_place.specs.Folders.{files_in}
 use Rattle.pb_place.specs.Paths.{is_path}
 use Rattle.pb_place.specs.World.{World, Answers}
@@ -48,6 +48,10 @@ pub record IsEarned (judge : Judge) (child : Answers) (folder key : List ℕ) (c
 -- the record that is kept of a unit
 abbrev pub kept_of : List ℕ → List ℕ → Command → List Input → ℕ → List (List ℕ × ℕ) → Ended → Record
 kept_of folder key c inputs number pairs ended = record { key = key; asked = of_parts c (out_of folder key); inputs = inputs; needed = Numbers number pairs; stdout = ended.stdout; stderr = ended.stderr }
+
+-- what stands in a record's place after a call that may have put one there: none counts, what did before, or that one
+abbrev pub Leaves : Option Record → Option Record → Option Record → Type 0
+Leaves put old new = (new ≡ None) ⊎ ((new ≡ old) ⊎ (new ≡ put))
 
 -- what makes a kept record true: the answer is earned, the needed units have their records, and no record names the number
 pub record IsKept (read : Reading) (judge : Judge) (child : Answers) (folder key : List ℕ) (c : Command) (needs : List (List ℕ)) (names : List InputName) (ended : Ended) (number : ℕ) (w : World) : Type 0 where

@@ -9,6 +9,7 @@ ghost use Rattle.pb_soundness.specs.Numbers.{after, IsAhead};
 ghost use Rattle.pb_soundness.specs.Records.{Reading, is_key, place_of, record_at};
 ghost use Rattle.pb_soundness.specs.Sound.{Sound};
 ghost use Rattle.pb_store.specs.Causes.{Takes, MayRemove, MayDrop};
+ghost use Rattle.pb_store.specs.Keeping.{Leaves};
 
 use crate::fault::{StoreFault, stored};
 use crate::store::{Store, place_path};
@@ -52,6 +53,7 @@ fn remove_record<P: Place>(
     requires { is_key key.now ≡ true }
     ensures sound { (read : Reading) (judge : Judge) → IsTrue P.tells → Sound read judge P.child folder.now (P.world place.old).files → Sound read judge P.child folder.now (P.world place.new).files }
     ensures gone { (read : Reading) → IsTrue P.tells → OnOk result (record_at read folder.now (P.world place.new).files key.now ≡ None) }
+    ensures left { (read : Reading) → IsTrue P.tells → Leaves None (record_at read folder.now (P.world place.old).files key.now) (record_at read folder.now (P.world place.new).files key.now) }
     ensures ahead { (read : Reading) (next : Option ℕ) → IsTrue P.tells → IsAhead (record_at read folder.now (P.world place.old).files) next → IsAhead (record_at read folder.now (P.world place.new).files) next }
     ensures only { IsTrue P.tells → ChangesOnly (is_at_or_below (place_of folder.now key.now)) (P.world place.old) (P.world place.new) }
     ensures most { P.most place.new ≡ P.most place.old }
@@ -87,6 +89,7 @@ impl Store {
         ensures spent { self.old.next ≡ None → IsTrue P.tells → P.world place.new ≡ P.world place.old }
         ensures sound { (read : Reading) (judge : Judge) → IsTrue P.tells → Sound read judge P.child self.old.folder (P.world place.old).files → Sound read judge P.child self.old.folder (P.world place.new).files }
         ensures gone { (read : Reading) → IsTrue P.tells → OnOk result (record_at read self.old.folder (P.world place.new).files key.now ≡ None) }
+        ensures left { (read : Reading) → IsTrue P.tells → Leaves None (record_at read self.old.folder (P.world place.old).files key.now) (record_at read self.old.folder (P.world place.new).files key.now) }
         ensures ahead { (read : Reading) → IsTrue P.tells → IsAhead (record_at read self.old.folder (P.world place.old).files) self.old.next → IsAhead (record_at read self.old.folder (P.world place.new).files) self.new.next }
         ensures only { IsTrue P.tells → ChangesOnly (is_at_or_below (place_of self.old.folder key.now)) (P.world place.old) (P.world place.new) }
         ensures most { P.most place.new ≡ P.most place.old }

@@ -10,7 +10,7 @@ ghost use Rattle.pb_soundness.specs.Records.{Reading, is_key, out_of, place_of, 
 ghost use Rattle.pb_soundness.specs.Reuse.{number_if};
 ghost use Rattle.pb_soundness.specs.Sound.{Sound};
 ghost use Rattle.pb_store.specs.Causes.{Takes, MayRead, MayLook, MayWrite, MayKeep};
-ghost use Rattle.pb_store.specs.Keeping.{IsKept, HasNeeds, MayPut, kept_of, numbered, or_zero};
+ghost use Rattle.pb_store.specs.Keeping.{Leaves, IsKept, HasNeeds, MayPut, kept_of, numbered, or_zero};
 ghost use Rattle.pb_record.specs.Commands.{of_parts};
 ghost use Rattle.pb_record.specs.Parts.{IsReading};
 ghost use Rattle.pb_record.specs.Sorted.{are_sorted};
@@ -150,6 +150,7 @@ pub(crate) fn put_record<P: Place>(
     requires { is_key key.now ≡ true }
     ensures sound { (read : Reading) (judge : Judge) (number : ℕ) → IsReading read → IsTrue P.tells → MayPut read judge P.child folder.now key.now (P.world place.old) kept.now number → Sound read judge P.child folder.now (P.world place.old).files → Sound read judge P.child folder.now (P.world place.new).files }
     ensures stands { (read : Reading) → IsReading read → IsTrue P.tells → kept.now.key ≡ key.now → OnOk result (record_at read folder.now (P.world place.new).files key.now ≡ Some kept.now) }
+    ensures left { (read : Reading) → IsReading read → IsTrue P.tells → kept.now.key ≡ key.now → Leaves (Some kept.now) (record_at read folder.now (P.world place.old).files key.now) (record_at read folder.now (P.world place.new).files key.now) }
     ensures ahead { (read : Reading) (next : Option ℕ) → IsReading read → IsTrue P.tells → NamesBefore next kept.now → IsAhead (record_at read folder.now (P.world place.old).files) next → IsAhead (record_at read folder.now (P.world place.new).files) next }
     ensures only { IsTrue P.tells → ChangesOnly (is_at_or_below (place_of folder.now key.now)) (P.world place.old) (P.world place.new) }
     ensures most { P.most place.new ≡ P.most place.old }
@@ -278,6 +279,7 @@ impl Store {
         requires sorted { are_sorted command.now.pairs ≡ true }
         ensures sound { (read : Reading) (judge : Judge) → IsReading read → IsTrue P.tells → IsKept read judge P.child self.now.folder key.now command.now needs.now names.now ended.now number (P.world place.old) → Sound read judge P.child self.now.folder (P.world place.old).files → Sound read judge P.child self.now.folder (P.world place.new).files }
         ensures stands { (read : Reading) → IsReading read → IsTrue P.tells → OnOk result (record_at read self.now.folder (P.world place.new).files key.now ≡ Some (kept_of self.now.folder key.now command.now (map (input_in command.now.target (P.world place.old)) names.now) number (numbered (record_at read self.now.folder (P.world place.old).files) needs.now) ended.now)) }
+        ensures left { (read : Reading) → IsReading read → IsTrue P.tells → Leaves (Some (kept_of self.now.folder key.now command.now (map (input_in command.now.target (P.world place.old)) names.now) number (numbered (record_at read self.now.folder (P.world place.old).files) needs.now) ended.now)) (record_at read self.now.folder (P.world place.old).files key.now) (record_at read self.now.folder (P.world place.new).files key.now) }
         ensures ahead { (read : Reading) → IsReading read → IsTrue P.tells → IsBefore self.now.next number → HasNeeds (record_at read self.now.folder (P.world place.old).files) self.now.folder command.now.reads needs.now number → IsAhead (record_at read self.now.folder (P.world place.old).files) self.now.next → IsAhead (record_at read self.now.folder (P.world place.new).files) self.now.next }
         ensures only { IsTrue P.tells → ChangesOnly (is_at_or_below (place_of self.now.folder key.now)) (P.world place.old) (P.world place.new) }
         ensures most { P.most place.new ≡ P.most place.old }

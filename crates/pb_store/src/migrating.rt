@@ -1,6 +1,6 @@
 //! A record of format 1 that becomes one of format 2.
 
-ghost use Rattle.std.specs.Prelude.{◌≡◌, ◌⊎◌, ℕ, List, true, IsTrue, IfOk, OnOk, Some, None, Err, All};
+ghost use Rattle.std.specs.Prelude.{is_some, ◌≡◌, ◌⊎◌, ℕ, List, true, IsTrue, IfOk, OnOk, Some, None, Err, All};
 ghost use Rattle.pb_place.specs.Paths.{is_at_or_below};
 ghost use Rattle.pb_place.specs.World.{ChangesOnly};
 ghost use Rattle.pb_place.specs.declared.command.Command.{Command};
@@ -12,7 +12,7 @@ ghost use Rattle.pb_soundness.specs.Numbers.{after, IsAhead};
 ghost use Rattle.pb_soundness.specs.Records.{Reading, is_key, place_of, record_at, number_of};
 ghost use Rattle.pb_soundness.specs.Sound.{Sound};
 ghost use Rattle.pb_store.specs.Causes.{Takes, MayMigrate};
-ghost use Rattle.pb_store.specs.Keeping.{numbered};
+ghost use Rattle.pb_store.specs.Keeping.{Leaves, numbered};
 ghost use Rattle.pb_store.specs.declared.fault.StoreFault.TheVariants as store_fault;
 ghost use Rattle.pb_store.specs.Migrating.{IsMigrated, numbered_record, migrated, TakesNumber};
 
@@ -57,6 +57,8 @@ impl Store {
         ensures folder { self.new.folder ≡ self.old.folder }
         ensures spent { self.old.next ≡ None → (result ≡ Err store_fault.NumbersSpent) × (IsTrue P.tells → P.world place.new ≡ P.world place.old) }
         ensures stands { (read : Reading) → IsReading read → IsTrue P.tells → kept.key ≡ key.now → OnOk result ((number : ℕ) × (self.old.next ≡ Some number) × (record_at read self.old.folder (P.world place.new).files key.now ≡ Some (numbered_record kept number (numbered (record_at read self.old.folder (P.world place.old).files) needs.now)))) }
+        ensures left { (read : Reading) → IsReading read → IsTrue P.tells → kept.key ≡ key.now → (record_at read self.old.folder (P.world place.new).files key.now ≡ None) ⊎ ((record_at read self.old.folder (P.world place.new).files key.now ≡ record_at read self.old.folder (P.world place.old).files key.now)
+            ⊎ ((number : ℕ) × (self.old.next ≡ Some number) × (record_at read self.old.folder (P.world place.new).files key.now ≡ Some (numbered_record kept number (numbered (record_at read self.old.folder (P.world place.old).files) needs.now))))) }
         ensures only { IsTrue P.tells → ChangesOnly (is_at_or_below (place_of self.old.folder key.now)) (P.world place.old) (P.world place.new) }
         ensures most { P.most place.new ≡ P.most place.old }
         ensures still { IsTrue P.tells → KeepsStillOutside (is_at_or_below (place_of self.old.folder key.now)) (P.counts place.old).starts.flying (P.still place.old) (P.still place.new) }
@@ -99,6 +101,8 @@ impl Store {
         ensures next { TakesNumber self.old.next self.new.next }
         ensures folder { self.new.folder ≡ self.old.folder }
         ensures stands { (read : Reading) → IsReading read → IsTrue P.tells → OnOk result (record_at read self.old.folder (P.world place.new).files key.now ≡ migrated self.old.next (numbered (record_at read self.old.folder (P.world place.old).files) needs.now) (record_at read self.old.folder (P.world place.old).files key.now)) }
+        ensures left { (read : Reading) → IsReading read → IsTrue P.tells → Leaves (migrated self.old.next (numbered (record_at read self.old.folder (P.world place.old).files) needs.now) (record_at read self.old.folder (P.world place.old).files key.now)) (record_at read self.old.folder (P.world place.old).files key.now) (record_at read self.old.folder (P.world place.new).files key.now) }
+        ensures numbered { (read : Reading) (r : Record) → IsReading read → IsTrue P.tells → OnOk result (record_at read self.old.folder (P.world place.new).files key.now ≡ Some r → is_some (number_of r) ≡ true) }
         ensures only { IsTrue P.tells → ChangesOnly (is_at_or_below (place_of self.old.folder key.now)) (P.world place.old) (P.world place.new) }
         ensures most { P.most place.new ≡ P.most place.old }
         ensures still { IsTrue P.tells → KeepsStillOutside (is_at_or_below (place_of self.old.folder key.now)) (P.counts place.old).starts.flying (P.still place.old) (P.still place.new) }

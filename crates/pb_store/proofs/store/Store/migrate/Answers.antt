@@ -3,7 +3,7 @@ use Rattle.pb_place.specs.World.{World}
 use Rattle.pb_soundness.specs.Numbers.{IsAhead}
 use Rattle.pb_soundness.specs.Records.{record_at}
 use Rattle.pb_soundness.specs.Sound.{Sound}
-use Rattle.pb_store.proofs.Migrated.{same_migrated, renumbered}
+use Rattle.pb_store.proofs.Migrated.{renumbered_left, has_number, stands_by_key, same_migrated, renumbered}
 use Rattle.pb_store.proofs.store.Store.migrate.Goals as goal
 
 pub returns-in-Ok-renumber-clause-sound : goal.returns-in-Ok-renumber-clause-sound
@@ -35,3 +35,20 @@ returns-in-Ok-renumber-clause-stands g c read is told =
     renumbered read _ _ _ _ (g.P.Place.world c.args.place.now) (g.P.Place.world c.record_at.new.place) (g.P.Place.world c.renumber.new.place) _ c.in-Some.kept (c.in-Ok.ensures.same told) (c.in-Ok.ensures.ok read is told) c.in-Some.is
     (ap is_some (sym c.number_of.ensures) ∙ sym c.is_some.ensures ∙ c.if-is_some.false)
     (λ key. c.in-Ok-renumber.ensures.stands read is told key)
+
+pub returns-in-Ok-renumber-clause-left : goal.returns-in-Ok-renumber-clause-left
+returns-in-Ok-renumber-clause-left g c read is told =
+    renumbered_left read _ _ _ _ (g.P.Place.world c.args.place.now) (g.P.Place.world c.record_at.new.place) (g.P.Place.world c.renumber.new.place) _ c.in-Some.kept (c.in-Ok.ensures.same told) (c.in-Ok.ensures.ok read is told) c.in-Some.is
+    (ap is_some (sym c.number_of.ensures) ∙ sym c.is_some.ensures ∙ c.if-is_some.false)
+    (λ key. c.in-Ok-renumber.ensures.left read is told key)
+
+pub returns-in-Err-renumber-clause-left : goal.returns-in-Err-renumber-clause-left
+returns-in-Err-renumber-clause-left g c read is told =
+    renumbered_left read _ _ _ _ (g.P.Place.world c.args.place.now) (g.P.Place.world c.record_at.new.place) (g.P.Place.world c.renumber.new.place) _ c.in-Some.kept (c.in-Ok.ensures.same told) (c.in-Ok.ensures.ok read is told) c.in-Some.is
+    (ap is_some (sym c.number_of.ensures) ∙ sym c.is_some.ensures ∙ c.if-is_some.false)
+    (λ key. c.in-Err-renumber.ensures.left read is told key)
+
+pub returns-in-Ok-renumber-clause-numbered : goal.returns-in-Ok-renumber-clause-numbered
+returns-in-Ok-renumber-clause-numbered g c read r is told there =
+    let (number, next, put) = c.in-Ok-renumber.ensures.stands read is told (stands_by_key read c.args.self.now.folder c.args.key.now (g.P.Place.world c.args.place.now).files c.in-Some.kept (sym (c.in-Ok.ensures.ok read is told) ∙ c.in-Some.is)) in
+    has_number r c.in-Some.kept number _ _ put there
