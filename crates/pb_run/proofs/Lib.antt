@@ -4,9 +4,13 @@ pub mod Commands
 pub mod Ending
 pub mod Halving
 pub mod Recorded
+pub mod RecordedAnswer
 pub mod RecordedBegin
 pub mod RecordedKeeps
+pub mod RecordedLanding
 pub mod RecordedOthers
+pub mod RecordedReplay
+pub mod Settling
 pub mod Shown
 pub mod Spawning
 pub mod Tables

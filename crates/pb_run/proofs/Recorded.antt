@@ -1,50 +1,25 @@
 -- Records while units begin and answer: whose folders and records are whose, and what another unit's halves leave.
-use Rattle.std.proofs.Common.{◌≡◌, ◌≢◌, ◌⊎◌, ◌↔◌, ◌<◌, ◌+◌, ◌==◌, ◌∙◌, ◌++◌, ◌&&◌, ◌||◌, ℕ, Bool, true, false, cond, List, [], ◌∷◌, length, Option, Some, None, Contains, refl, sym, ap, subst, inl, inr, arith, slice_get}
-use Rattle.std.proofs.lemmas.Bool.{cases_Bool, cases_eq, false≢true}
-use Rattle.std.specs.List.{list_all, flat_map, AllByRecursion}
-use Rattle.std.specs.FinMap as finite
+use Rattle.std.proofs.Common.{◌≡◌, ◌≢◌, ◌⊎◌, ◌∙◌, ◌++◌, ◌&&◌, ◌||◌, ℕ, Bool, true, false, List, [], ◌∷◌, Option, Some, None, Contains, refl, sym, ap, subst, inl, inr}
+use Rattle.std.proofs.lemmas.Bool.{cases_eq, false≢true}
+use Rattle.std.specs.List.{list_all, flat_map}
 use Rattle.pb_command.specs.Externs.{folder_in, read_at, reads_of}
-use Rattle.pb_directive.specs.declared.directive.Directive.{Directive}
-use Rattle.pb_flight.specs.declared.flight.State.{State}
-use Rattle.pb_flight.specs.Table.{is_good_at, are_good}
 use Rattle.pb_flight.proofs.Lists.{contains_none, contains_head, contains_tail, contains_cases}
-use Rattle.pb_place.specs.Children.{child_spawned, child_at, inside_out, StandsStill, SeesStill}
 use Rattle.pb_place.specs.Folders.{files_in}
-use Rattle.pb_place.specs.Paths.{is_path, is_below, is_at_or_below}
-use Rattle.pb_place.specs.World.{World, Map, Answers, ChangesOnly, from_nothing, seen_by}
-use Rattle.pb_place.specs.declared.child_in_flight.ChildInFlight.{ChildInFlight}
+use Rattle.pb_place.specs.Paths.{is_at_or_below}
+use Rattle.pb_place.specs.World.{World, ChangesOnly, from_nothing, seen_by}
 use Rattle.pb_place.specs.declared.command.Command.{Command}
 use Rattle.pb_place.proofs.Folders.{sources_alike}
 use Rattle.pb_place.proofs.PathLemmas.{and_left, and_right}
 use Rattle.pb_place.proofs.Within.{at_itself, at_below, at_or_below_on, outside_within}
 use Rattle.pb_project.specs.Targets.{unit_at}
-use Rattle.pb_project.specs.declared.answer.InputName.{InputName}
-use Rattle.pb_project.specs.declared.answer.InputName.TheVariants.{Path, Variable}
-use Rattle.pb_project.specs.declared.fault.UnitFault.{UnitFault}
 use Rattle.pb_project.specs.declared.project.Project.{Project}
-use Rattle.pb_record.specs.Commands as asked
-use Rattle.pb_record.specs.declared.record.Input.{Input}
-use Rattle.pb_record.specs.declared.record.Needed.{Needed}
-use Rattle.pb_record.specs.declared.record.Needed.TheVariants.{Copies, Numbers}
-use Rattle.pb_record.specs.declared.record.Record.{Record}
-use Rattle.pb_run.specs.Halves.{Footing, OnRecords, OnNothing, Basis, HasRecord, HoldsRecords, HoldsBy, Keeps, IsBegun, IsInFlight, AwaitsRecord, AwaitsBy, IsUnchanged, WaitsBy, BeginsApart, key_in, needed_keys, records_in, command_in, view_in}
-use Rattle.pb_run.specs.Outcome.{directives_of, outcomes, command_after}
-use Rattle.pb_run.specs.Standing.{IsInOrder, IsReadByNeed, HasPackage, records_folder}
-use Rattle.pb_run.specs.declared.begun.Begun.{Begun}
-use Rattle.pb_run.specs.declared.begun.Launched.{Launched}
+use Rattle.pb_run.specs.Halves.{Basis, key_in, needed_keys, command_in}
+use Rattle.pb_run.specs.Standing.{IsInOrder, HasPackage, records_folder}
 use Rattle.pb_run.proofs.Views.{IsFor, is_for}
-use Rattle.pb_soundness.specs.Apart.{is_of, ReadsOthers, KeepsStillOutside}
-use Rattle.pb_soundness.specs.Grounded.{Standing, Grounded, grounded, Reaches}
-use Rattle.pb_soundness.specs.Inputs.{Judge, Agrees, input_in, contents, name_of}
-use Rattle.pb_soundness.specs.Numbers.{NoneNames, IsBefore, after}
-use Rattle.pb_soundness.specs.Records.{Reading, is_key, out_of, place_of, record_at, number_in, numbered_in, number_of, needs_of}
-use Rattle.pb_soundness.specs.Reuse.{IsSame, NeededNow, AreGrounded, number_if}
-use Rattle.pb_soundness.specs.Sound.{Sound, IsTrueRecord, TrueBy, HoldsCopies}
-use Rattle.pb_soundness.proofs.Becoming.{one, none_some}
+use Rattle.pb_soundness.specs.Apart.{is_of, ReadsOthers}
+use Rattle.pb_soundness.specs.Records.{Reading, is_key, out_of, place_of, record_at}
 use Rattle.pb_soundness.proofs.Flying.{unit_files, unit_record, unit_seen}
-use Rattle.pb_soundness.proofs.Places.{is_same, one_key, out_in, place_in, its_key}
-use Rattle.pb_store.specs.Keeping.{ReadBy, itself, further, HasNeeds}
-use Rattle.pb_store.specs.Migrating.{TakesNumber}
+use Rattle.pb_soundness.proofs.Places.{one_key, out_in, place_in}
 use Rattle.pb_unit.specs.declared.plan.Planned.{Planned}
 
 -- Elements.

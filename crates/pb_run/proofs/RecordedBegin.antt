@@ -1,5 +1,5 @@
 -- A unit begins: what is kept, and what its child waits for.
-use Rattle.std.proofs.Common.{◌≡◌, ◌≢◌, ◌<◌, ◌∙◌, ℕ, Bool, true, false, List, length, Option, Some, None, Contains, refl, sym, ap, subst, slice_get}
+use Rattle.std.proofs.Common.{◌≡◌, ◌≢◌, ◌∙◌, ℕ, true, false, List, Option, Some, None, Contains, refl, sym, ap, subst, slice_get}
 use Rattle.std.proofs.lemmas.Bool.{false≢true}
 use Rattle.std.specs.FinMap as finite
 use Rattle.std.specs.Prelude.{slice_set}
@@ -20,8 +20,8 @@ use Rattle.pb_run.specs.Standing.{IsInOrder, records_folder}
 use Rattle.pb_run.specs.declared.begun.Begun.{Begun}
 use Rattle.pb_run.specs.declared.begun.Launched.{Launched}
 use Rattle.pb_run.proofs.Recorded.{command_for, seen_still}
-use Rattle.pb_run.proofs.RecordedKeeps.{IfRecords, IsAfter, has_needs, keeps_over}
-use Rattle.pb_run.proofs.RecordedOthers.{vanished, names_still, needs_still, others_at, far_of}
+use Rattle.pb_run.proofs.RecordedKeeps.{has_needs, keeps_over}
+use Rattle.pb_run.proofs.RecordedOthers.{IfRecords, vanished, names_still, needs_still, others_at, far_of}
 use Rattle.pb_soundness.specs.Apart.{is_of}
 use Rattle.pb_soundness.specs.Numbers.{IsAhead, after, IsBefore}
 use Rattle.pb_soundness.specs.Reuse.{IsSame}

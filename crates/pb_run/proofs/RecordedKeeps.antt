@@ -1,26 +1,22 @@
 -- What is kept of a build, where only one unit's folder and record change.
-use Rattle.std.proofs.Common.{◌≡◌, ◌≢◌, ◌⊎◌, ◌↔◌, ◌<◌, ◌∙◌, ℕ, Bool, true, false, List, length, Option, Some, None, Contains, refl, sym, ap, subst, inl, inr, slice_get}
+use Rattle.std.proofs.Common.{◌≡◌, ◌≢◌, ◌<◌, ◌∙◌, ℕ, true, false, List, length, Option, Some, Contains, refl, sym, ap, subst, inl, inr, slice_get}
 use Rattle.std.proofs.lemmas.Bool.{cases_eq, false≢true}
-use Rattle.std.specs.Prelude.{slice_set}
 use Rattle.pb_command.specs.Externs.{reads_of}
 use Rattle.pb_command.specs.Judge.{judge}
 use Rattle.pb_directive.specs.declared.directive.Directive.{Directive}
 use Rattle.pb_flight.specs.declared.flight.State.{State}
-use Rattle.pb_flight.specs.declared.flight.State.TheVariants.{Untouched, Begun as begun_state}
+use Rattle.pb_flight.specs.declared.flight.State.TheVariants.{Untouched}
 use Rattle.pb_flight.specs.Table.{is_good_at, are_good}
-use Rattle.pb_flight.proofs.Lists.{get_set_same, get_set_other, length_set}
-use Rattle.pb_place.specs.Folders.{files_in}
 use Rattle.pb_place.specs.World.{World, Map, Answers, ChangesOnly}
 use Rattle.pb_project.specs.Targets.{unit_at}
 use Rattle.pb_project.specs.declared.fault.UnitFault.{UnitFault}
-use Rattle.pb_project.specs.declared.project.Project.{Project}
 use Rattle.pb_record.specs.declared.record.Needed.{Needed}
 use Rattle.pb_record.specs.declared.record.Needed.TheVariants.{Copies, Numbers}
 use Rattle.pb_record.specs.declared.record.Record.{Record}
-use Rattle.pb_run.specs.Halves.{Footing, OnRecords, OnNothing, Basis, StandsGood, HasRecord, HoldsRecords, HoldsNoRecord, HoldsBy, Keeps, needed_keys, records_in}
+use Rattle.pb_run.specs.Halves.{Footing, OnRecords, OnNothing, Basis, StandsGood, HasRecord, HoldsRecords, HoldsBy, Keeps, needed_keys, records_in}
 use Rattle.pb_run.specs.Standing.{IsInOrder, IsReadByNeed, records_folder}
-use Rattle.pb_run.proofs.Recorded.{AtOne, all_at, all_of, read_reached, reached_read, key_needed, needed_key, key_by_folder, keys_differ, sources_still, files_still, record_still}
-use Rattle.pb_run.proofs.RecordedOthers.{far_of}
+use Rattle.pb_run.proofs.Recorded.{all_at, all_of, read_reached, key_needed, needed_key, key_by_folder, keys_differ, sources_still, files_still, record_still}
+use Rattle.pb_run.proofs.RecordedOthers.{IfRecords, far_of}
 use Rattle.pb_soundness.specs.Apart.{is_of}
 use Rattle.pb_soundness.specs.Grounded.{Standing, Grounded, Reaches}
 use Rattle.pb_soundness.specs.Inputs.{Judge}
@@ -33,11 +29,6 @@ use Rattle.pb_soundness.proofs.Flying.{unit_record}
 use Rattle.pb_soundness.proofs.Renewing.{spares}
 use Rattle.pb_store.specs.Keeping.{ReadBy, itself, further, HasNeeds}
 use Rattle.pb_unit.specs.declared.plan.Planned.{Planned}
-
--- what is asked only where a build rests on records
-abbrev pub IfRecords : Footing → Type 0 → Type 0
-IfRecords OnRecords Fact = Fact
-IfRecords OnNothing Fact = Unit {0}
 
 -- a grounded record rests on what stands
 rests_by : (judge : Judge) (child : Answers) (folder : List ℕ) (at : Standing) (files : Map) (key : List ℕ) (r : Record) (n : ℕ) (needed : Needed) → TrueBy judge child folder at files key r needed → number_in needed ≡ Some n → Grounded at key n → Rests judge child folder at files key r
@@ -57,10 +48,12 @@ module _ (b : Basis) (order : IsInOrder b.project) (states : List (State UnitFau
       → (kept : Record) × (At v.key ≡ Some kept) × ((n : ℕ) × Grounded At v.key n × (number_of kept ≡ Some n)) × (kept.asked.reads ≡ reads_of b.project v)
   good_record place v there good =
       let h = holds.recorded place good in
-      let is : h.unit ≡ v = one h.unit v (sym h.there ∙ there) in
-      (h.kept, subst (λ (x : Planned). At x.key ≡ Some h.kept) is h.here,
-       (h.number, subst (λ (x : Planned). Grounded At x.key h.number) is h.grounded, grounded_number At h.unit.key h.number h.kept h.grounded h.here),
-       subst (λ (x : Planned). h.kept.asked.reads ≡ reads_of b.project x) is h.reads)
+      let is : h.unit ≡ v = one h.unit v (sym h.there ∙ there) in (
+        h.kept,
+        subst (λ (x : Planned). At x.key ≡ Some h.kept) is h.here,
+        (h.number, subst (λ (x : Planned). Grounded At x.key h.number) is h.grounded, grounded_number At h.unit.key h.number h.kept h.grounded h.here),
+        subst (λ (x : Planned). h.kept.asked.reads ≡ reads_of b.project x) is h.reads,
+      )
 
   -- all that a unit reads is grounded, where all that it reaches is good
   pub reads_grounded : (v : Planned) (reads : List (List ℕ)) → reads ≡ reads_of b.project v → are_good states v.reaches ≡ true → AreGrounded At Folder reads
@@ -133,7 +126,7 @@ module _ (b : Basis) (order : IsInOrder b.project) (states : List (State UnitFau
   not_reached : (holds : HoldsRecords b states next w) (p : ℕ) (good : is_good_at (slice_get states p) ≡ true) (h : HasRecord b.project (records_in b w) p) → Reaches (records_in b w) h.unit.key u.key → ⊥
   not_reached holds p good h reaches =
       let rests = rests_by judge b.child (records_folder b.project) (records_in b w) w.files h.unit.key h.kept h.number h.kept.needed (holds.sound.each h.unit.key h.kept h.here).says
-          (grounded_number (records_in b w) h.unit.key h.number h.kept h.grounded h.here) h.grounded in
+      (grounded_number (records_in b w) h.unit.key h.number h.kept h.grounded h.here) h.grounded in
       let has : Contains h.kept.asked.reads (out_of (records_folder b.project) u.key) = (rests.reads (out_of (records_folder b.project) u.key)).1 (u.key, reaches, refl) in
       let (x, where', is) = read_reached b.project order h.unit (out_of (records_folder b.project) u.key) (subst (λ (l : List (List ℕ)). Contains l (out_of (records_folder b.project) u.key)) h.reads has) in
       keys_differ b.project order where'.place place x u where'.there there

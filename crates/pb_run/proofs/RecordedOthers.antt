@@ -1,8 +1,7 @@
 -- A unit that has begun stays so, where only another unit's folder and record change.
-use Rattle.std.proofs.Common.{◌≡◌, ◌≢◌, ◌⊎◌, ◌<◌, ◌+◌, ◌==◌, ◌∙◌, ◌++◌, ◌||◌, ℕ, Bool, true, false, cond, List, [], ◌∷◌, Option, Some, None, Contains, refl, sym, ap, subst, inl, inr, arith, slice_get, map, drop, length}
-use Rattle.std.proofs.lemmas.Bool.{cases_Bool, cases_eq, false≢true}
+use Rattle.std.proofs.Common.{◌≡◌, ◌≢◌, ◌<◌, ◌+◌, ◌==◌, ◌∙◌, ◌++◌, ℕ, Bool, true, false, cond, List, [], ◌∷◌, Option, Some, None, Contains, refl, sym, ap, subst, inl, inr, arith, slice_get, map, drop, length}
+use Rattle.std.proofs.lemmas.Bool.{cases_Bool, false≢true}
 use Rattle.std.proofs.lemmas.Bool.Decides.{nat_tests}
-use Rattle.std.specs.List.{list_any, AllByRecursion}
 use Rattle.std.specs.FinMap as finite
 use Rattle.std.specs.Prelude.{IfSome}
 use Rattle.pb_command.specs.Externs.{reads_of}
@@ -10,42 +9,49 @@ use Rattle.pb_command.specs.Judge.{judge}
 use Rattle.pb_directive.specs.declared.directive.Directive.{Directive}
 use Rattle.pb_flight.specs.declared.flight.State.{State}
 use Rattle.pb_flight.specs.Table.{is_good_at, are_good}
-use Rattle.pb_place.specs.Children.{child_spawned, child_at, is_flying, inside_out, StandsStill, SeesStill, StaysStillBut}
+use Rattle.pb_place.specs.Children.{child_spawned, child_at, inside_out, StandsStill, SeesStill, StaysStillBut}
 use Rattle.pb_place.specs.Counts.{without}
 use Rattle.pb_place.specs.Folders.{files_in}
 use Rattle.pb_place.specs.Paths.{stem}
-use Rattle.pb_place.specs.World.{World, Map, Answers, ChangesOnly, from_nothing, seen_by}
+use Rattle.pb_place.specs.World.{World, Map, Answers, ChangesOnly, from_nothing}
 use Rattle.pb_place.specs.declared.child_in_flight.ChildInFlight.{ChildInFlight}
 use Rattle.pb_place.specs.declared.command.Command.{Command}
 use Rattle.pb_project.specs.Targets.{unit_at}
 use Rattle.pb_project.specs.declared.answer.InputName.{InputName}
 use Rattle.pb_project.specs.declared.answer.InputName.TheVariants.{Path, Variable}
 use Rattle.pb_project.specs.declared.fault.UnitFault.{UnitFault}
-use Rattle.pb_project.specs.declared.project.Project.{Project}
-use Rattle.pb_record.specs.Commands as asked
 use Rattle.pb_record.specs.declared.record.Input.{Input}
 use Rattle.pb_record.specs.declared.record.Needed.{Needed}
 use Rattle.pb_record.specs.declared.record.Needed.TheVariants.{Copies, Numbers}
 use Rattle.pb_record.specs.declared.record.Record.{Record}
-use Rattle.pb_run.specs.Halves.{Footing, OnRecords, OnNothing, Basis, HoldsRecords, HoldsBy, Keeps, IsBegun, IsInFlight, AwaitsRecord, AwaitsBy, IsUnchanged, WaitsBy, BeginsApart, needed_keys, records_in, command_in, view_in}
+use Rattle.pb_run.specs.Halves.{Footing, OnRecords, OnNothing, Basis, HoldsBy, Keeps, IsBegun, IsInFlight, AwaitsRecord, AwaitsBy, IsUnchanged, WaitsBy, BeginsApart, needed_keys, records_in, view_in}
 use Rattle.pb_run.specs.Standing.{IsInOrder, records_folder}
 use Rattle.pb_run.specs.declared.begun.Begun.{Begun}
 use Rattle.pb_run.specs.declared.begun.Launched.{Launched}
-use Rattle.pb_run.proofs.Recorded.{AtOne, all_at, read_reached, key_needed, key_by_folder, keys_differ, command_for, sources_still, files_still, record_still, seen_still}
+use Rattle.pb_run.proofs.Recorded.{all_at, read_reached, key_needed, key_by_folder, keys_differ, command_for, sources_still, files_still, record_still, seen_still}
 use Rattle.pb_run.proofs.Views.{IsFor}
 use Rattle.pb_soundness.specs.Apart.{is_of, KeepsStillOutside}
 use Rattle.pb_soundness.specs.Grounded.{Standing}
 use Rattle.pb_soundness.specs.Inputs.{Judge, Agrees, path_input, input_in, contents, name_of}
 use Rattle.pb_soundness.specs.Numbers.{NoneNames, IsBefore, after}
-use Rattle.pb_soundness.specs.Records.{Reading, is_key, out_of, record_at, number_of, needs_of}
+use Rattle.pb_soundness.specs.Records.{out_of, number_of, needs_of}
 use Rattle.pb_soundness.specs.Reuse.{IsSame, NeededNow, number_if}
-use Rattle.pb_soundness.specs.Sound.{Sound, IsTrueRecord, TrueBy, HoldsCopies}
+use Rattle.pb_soundness.specs.Sound.{Sound, TrueBy}
 use Rattle.pb_soundness.proofs.Becoming.{one, none_some}
 use Rattle.pb_soundness.proofs.Flying.{unit_record}
-use Rattle.pb_soundness.proofs.Places.{is_same, its_key}
-use Rattle.pb_store.specs.Keeping.{ReadBy, itself, further, HasNeeds}
+use Rattle.pb_soundness.proofs.Places.{is_same}
+use Rattle.pb_store.specs.Keeping.{Leaves, ReadBy, itself, further, HasNeeds}
 use Rattle.pb_store.specs.Migrating.{TakesNumber}
 use Rattle.pb_unit.specs.declared.plan.Planned.{Planned}
+
+-- what is asked only where a build rests on records
+abbrev pub IfRecords : Footing → Type 0 → Type 0
+IfRecords OnRecords Fact = Fact
+IfRecords OnNothing Fact = Unit {0}
+
+pub if_records : (footing : Footing) (Fact : Type 0) → Fact → IfRecords footing Fact
+if_records OnRecords Fact fact = fact
+if_records OnNothing Fact fact = tt
 
 -- what became of the record in a unit's place: none counts; it is as it was; or it is one with this number, over units that stand
 pub data Left (old new : Standing) (key : List ℕ) (number : Option ℕ) : Type 0 where
@@ -55,10 +61,13 @@ pub data Left (old new : Standing) (key : List ℕ) (number : Option ℕ) : Type
       → ((need : List ℕ) (m : ℕ) → Contains (needs_of r) (need, m) → (s : Record) × (old need ≡ Some s) × (number_of s ≡ Some m)) → Left old new key number
 
 -- of a record that was dropped, or was to be
-pub left_dropped : (old new : Standing) (key : List ℕ) → (new key ≡ None) ⊎ (new key ≡ old key) → Left old new key None
+pub left_dropped : (old new : Standing) (key : List ℕ) → Leaves None (old key) (new key) → Left old new key None
 left_dropped old new key left = elim left [
   | inl gone ↦ vanished gone
-  | inr is ↦ as_before is
+  | inr more ↦ elim more [
+    | inl is ↦ as_before is
+    | inr gone ↦ vanished gone
+  ]
 ]
 
 -- a number that was given still waits
@@ -72,9 +81,10 @@ names_still old new key given number others left apart waits other r at = elim (
     by_left (vanished gone) here = absurd (none_some r (sym gone ∙ here))
     by_left (as_before is) here = waits key r (sym is ∙ here)
     by_left (put_anew s n there numbered its over) here =
-        let is : s ≡ r = one s r (sym there ∙ here) in
-        (λ e. apart (its ∙ sym numbered ∙ ap number_of is ∙ e),
-         λ need names. let (t, stands, numbered_t) = over need number (subst (λ (x : Record). Contains (needs_of x) (need, number)) (sym is) names) in (waits need t stands).0 numbered_t)
+        let is : s ≡ r = one s r (sym there ∙ here) in (
+          λ e. apart (its ∙ sym numbered ∙ ap number_of is ∙ e),
+          λ need names. let (t, stands, numbered_t) = over need number (subst (λ (x : Record). Contains (needs_of x) (need, number)) (sym is) names) in (waits need t stands).0 numbered_t,
+        )
 
 -- a number below the next one stays so where the next one is taken
 pub before_taken : (next next' : Option ℕ) (number : ℕ) → TakesNumber next next' → IsBefore next number → IsBefore next' number
@@ -155,7 +165,7 @@ module _ (b : Basis) (order : IsInOrder b.project) (place : ℕ) (u : Planned) (
       before = before_taken next next' number taken waits.before;
     }
 
-    pub awaits_by : (footing : Footing) (next next' : Option ℕ) (given : Option ℕ) (number : ℕ) → TakesNumber next next' → Left At At' u.key given → given ≢ Some number → AwaitsBy footing b v number next w → AwaitsBy footing b v number next' w'
+    pub awaits_by : (footing : Footing) (next next' : Option ℕ) (given : Option ℕ) (number : ℕ) → TakesNumber next next' → IfRecords footing (Left At At' u.key given) → given ≢ Some number → AwaitsBy footing b v number next w → AwaitsBy footing b v number next' w'
     awaits_by OnRecords next next' given number taken left apart waits = awaits_still next next' given number taken left apart waits
     awaits_by OnNothing next next' given number taken left apart waits = tt
 
@@ -198,9 +208,10 @@ module _ (b : Basis) (order : IsInOrder b.project) (place : ℕ) (u : Planned) (
     flight_still : (c : Command) (t : ℕ) (flying : List ChildInFlight) (spawned : World) → IsFor b.project v c → child_at t flying ≡ Some (child_spawned (b.child c) c spawned t)
         → (x y : World) → ChangesOnly (is_of Folder u.key) x y → StandsStill t flying x y
     flight_still c t flying spawned for flies x y changes =
-        subst (λ (o : Option ChildInFlight). IfSome o (λ s. SeesStill s x y)) (sym flies)
-        (seen_still b.project order place u there x y changes v c for far,
-         subst (λ (o : Option (List ℕ)). inside_out o y.files ≡ inside_out o x.files) (sym for.out) (files_still b.project order place u there x y changes other v at another))
+        subst (λ (o : Option ChildInFlight). IfSome o (λ s. SeesStill s x y)) (sym flies) (
+          seen_still b.project order place u there x y changes v c for far,
+          subst (λ (o : Option (List ℕ)). inside_out o y.files ≡ inside_out o x.files) (sym for.out) (files_still b.project order place u there x y changes other v at another),
+        )
 
     pub in_flight_still : (c : Command) (view : World) (t : ℕ) (flying flying' : List ChildInFlight) (still still' : ℕ → Type 0) → IsFor b.project v c
         → ((its : ChildInFlight) → child_at t flying ≡ Some its → child_at t flying' ≡ Some its)
@@ -215,7 +226,7 @@ module _ (b : Basis) (order : IsInOrder b.project) (place : ℕ) (u : Planned) (
     }
 
     pub waits_still : (c : Command) (view : World) (launched : Option Launched) (states : List (State UnitFault)) (next next' given : Option ℕ) (flying flying' : List ChildInFlight) (still still' : ℕ → Type 0)
-        → IsFor b.project v c → HoldsBy b.footing b states next w → TakesNumber next next' → Left At At' u.key given
+        → IsFor b.project v c → HoldsBy b.footing b states next w → TakesNumber next next' → IfRecords b.footing (Left At At' u.key given)
         → ((theirs : Launched) → launched ≡ Some theirs → given ≢ Some theirs.number)
         → ((theirs : Launched) → launched ≡ Some theirs → (its : ChildInFlight) → child_at theirs.ticket flying ≡ Some its → child_at theirs.ticket flying' ≡ Some its)
         → ((theirs : Launched) → launched ≡ Some theirs → ((x y : World) → ChangesOnly (is_of Folder u.key) x y → StandsStill theirs.ticket flying x y) → still theirs.ticket → still' theirs.ticket)
@@ -235,7 +246,7 @@ pub stays_begun : (b : Basis) (order : IsInOrder b.project) (states : List (Stat
     (next next' given : Option ℕ) (w w' : World) (flying flying' : List ChildInFlight) (still still' : ℕ → Type 0)
     → unit_at b.project place ≡ Some u → is_good_at (slice_get states place) ≡ false → Keeps b states done next w
     → BeginsApart b states place launched other its next w flying still
-    → ChangesOnly (is_of (records_folder b.project) u.key) w w' → TakesNumber next next' → Left (records_in b w) (records_in b w') u.key given
+    → ChangesOnly (is_of (records_folder b.project) u.key) w w' → TakesNumber next next' → IfRecords b.footing (Left (records_in b w) (records_in b w') u.key given)
     → ((theirs : Launched) → its.launched ≡ Some theirs → given ≢ Some theirs.number)
     → ((theirs : Launched) → its.launched ≡ Some theirs → (c : ChildInFlight) → child_at theirs.ticket flying ≡ Some c → child_at theirs.ticket flying' ≡ Some c)
     → ((theirs : Launched) → its.launched ≡ Some theirs → ((x y : World) → ChangesOnly (is_of (records_folder b.project) u.key) x y → StandsStill theirs.ticket flying x y) → still theirs.ticket → still' theirs.ticket)

@@ -1,0 +1,217 @@
+-- A unit answers: its child has landed, and its record is kept where the answer is good.
+use Rattle.std.proofs.Common.{◌≡◌, ◌≢◌, ◌<◌, ◌∙◌, ◌||◌, zero, suc, ℕ, Bool, true, false, cond, pos, List, [], ◌∷◌, length, is_none, Option, Some, None, Result, Contains, refl, sym, ap, subst, inl, inr, arith, slice_get}
+use Rattle.std.proofs.lemmas.Bool.{cases_Bool, false≢true}
+use Rattle.std.proofs.lemmas.Bool.Decides.{Decides-int_eq}
+use Rattle.std.proofs.lemmas.Option.{slice_get_within}
+use Rattle.std.specs.Ordering.{int_eq}
+use Rattle.std.specs.Prelude.{slice_set}
+use Rattle.pb_command.specs.Answers.{ended_fault, unless_fault, is_too_long}
+use Rattle.pb_command.specs.Judge.{judge, judge_in, inputs_if, ended_by}
+use Rattle.pb_directive.specs.declared.directive.Directive.{Directive}
+use Rattle.pb_flight.specs.declared.flight.Answer.{Answer}
+use Rattle.pb_flight.specs.declared.flight.State.{State}
+use Rattle.pb_flight.specs.declared.flight.State.TheVariants.{Untouched, Begun as begun_state, Answered}
+use Rattle.pb_flight.specs.Table.{is_good_at}
+use Rattle.pb_flight.proofs.Lists.{get_set_same, get_set_other, length_set}
+use Rattle.pb_place.specs.Folders.{files_in}
+use Rattle.pb_place.specs.Paths.{is_at_or_below}
+use Rattle.pb_place.specs.World.{World, ChangesOnly}
+use Rattle.pb_place.specs.declared.child.Reply.{Reply}
+use Rattle.pb_place.specs.declared.child_in_flight.ChildInFlight.{ChildInFlight}
+use Rattle.pb_place.specs.declared.command.Command.{Command}
+use Rattle.pb_place.specs.declared.command.Ended.{Ended}
+use Rattle.pb_project.specs.Targets.{unit_at}
+use Rattle.pb_project.specs.declared.answer.Answered.{Answered as answer_type}
+use Rattle.pb_project.specs.declared.answer.InputName.{InputName}
+use Rattle.pb_project.specs.declared.fault.UnitFault.{UnitFault}
+use Rattle.pb_project.specs.declared.fault.UnitFault.TheVariants as unit_fault
+use Rattle.pb_run.specs.Halves.{Footing, OnRecords, OnNothing, Basis, HasRecord, Keeps, IsInFlight, AwaitsBy, IsUnchanged, WaitsBy, CanAnswer, outcomes_in, records_in, command_in, view_in}
+use Rattle.pb_run.specs.Outcome.{outcome_by, outcome_from}
+use Rattle.pb_run.specs.Standing.{IsInOrder, records_folder}
+use Rattle.pb_run.specs.declared.begun.Begun.{Begun}
+use Rattle.pb_run.specs.declared.begun.Launched.{Launched}
+use Rattle.pb_run.specs.declared.ran.Ran.{Ran}
+use Rattle.pb_run.proofs.Recorded.{command_for}
+use Rattle.pb_run.proofs.RecordedBegin.{never_by, own_far}
+use Rattle.pb_run.proofs.RecordedKeeps.{keeps_over}
+use Rattle.pb_run.proofs.RecordedOthers.{IfRecords}
+use Rattle.pb_run.proofs.Views.{IsFor}
+use Rattle.pb_soundness.specs.Apart.{is_of}
+use Rattle.pb_soundness.specs.Grounded.{Standing, Grounded, grounded}
+use Rattle.pb_soundness.specs.Numbers.{IsAhead}
+use Rattle.pb_soundness.specs.Records.{is_key, place_of}
+use Rattle.pb_soundness.specs.Sound.{Sound}
+use Rattle.pb_soundness.proofs.Becoming.{one, none_some}
+use Rattle.pb_soundness.proofs.Four.{in_output}
+use Rattle.pb_soundness.proofs.Places.{place_outside, no_key, record_same}
+use Rattle.pb_unit.specs.declared.plan.Planned.{Planned}
+
+-- A good reply has status 0.
+
+no_fault : (fault : Option UnitFault) (answered : Result answer_type UnitFault) (names : List InputName) → inputs_if (unless_fault fault answered) ≡ Some names → fault ≡ None
+no_fault None answered names is = refl
+no_fault (Some fault) answered names is = absurd (none_some names is)
+
+status_by : (long well : Bool) (f g : UnitFault) → cond long (Some f) (cond well None (Some g)) ≡ None → well ≡ true
+status_by true well f g is = absurd (none_some f (sym is))
+status_by false true f g is = refl
+status_by false false f g is = absurd (none_some g (sym is))
+
+fault_none : (e : Ended) → ended_fault e ≡ None → e.status ≡ pos 0
+fault_none e is = (Decides-int_eq e.status (pos 0)).0 (status_by (is_too_long e.stdout || is_too_long e.stderr) (int_eq e.status (pos 0)) unit_fault.OutputTooLong (unit_fault.Status e.status) is)
+
+good_by : (c : Command) (out : Option (List ℕ)) (r : Reply) (names : List InputName) → judge_in c out r ≡ Some names → r.status ≡ pos 0
+good_by c None r names is = absurd (none_some names is)
+good_by c (Some out) r names is = fault_none (ended_by r) (no_fault (ended_fault (ended_by r)) _ names is)
+
+pub good_status : (c : Command) (r : Reply) (names : List InputName) → judge c r ≡ Some names → r.status ≡ pos 0
+unfolding judge
+good_status c r names is = good_by c c.out r names is
+
+-- grounded in records that are the same
+pub grounded_alike : (old new : Standing) (key : List ℕ) (n : ℕ) → ((l : List ℕ) → new l ≡ old l) → Grounded old key n → Grounded new key n
+grounded_alike old new key n alike (grounded k r m here numbered_r less needs) =
+    grounded key r n (alike key ∙ here) numbered_r less (λ need i names. grounded_alike old new need i alike (needs need i names))
+
+pub ahead_alike : (old new : Standing) (next : Option ℕ) → ((l : List ℕ) → new l ≡ old l) → IsAhead old next → IsAhead new next
+ahead_alike old new next alike ahead key r there = ahead key r (sym (alike key) ∙ there)
+
+-- Where a unit's own work changes files.
+
+module _ (b : Basis) (order : IsInOrder b.project) (place : ℕ) (u : Planned) (there : unit_at b.project place ≡ Some u) where
+  abbrev Folder : List ℕ
+  Folder = records_folder b.project
+
+  left_false : (x y : Bool) → x || y ≡ false → x ≡ false
+  left_false true y h = absurd (false≢true (sym h))
+  left_false false y h = refl
+
+  right_false : (x y : Bool) → x || y ≡ false → y ≡ false
+  right_false true y h = absurd (false≢true (sym h))
+  right_false false y h = h
+
+  pub only_out : (old new : World) → ChangesOnly (is_at_or_below u.out) old new → ChangesOnly (is_of Folder u.key) old new
+  only_out old new only = record {
+    variables = only.variables;
+    files = λ q outside. only.files q (subst (λ f. is_at_or_below f q ≡ false) (sym (order.folders place u there)) (left_false _ _ outside));
+  }
+
+  pub only_place : (old new : World) → ChangesOnly (is_at_or_below (place_of Folder u.key)) old new → ChangesOnly (is_of Folder u.key) old new
+  only_place old new only = record { variables = only.variables; files = λ q outside. only.files q (right_false _ _ outside) }
+
+  pub only_join : (old mid new : World) → ChangesOnly (is_of Folder u.key) old mid → ChangesOnly (is_of Folder u.key) mid new → ChangesOnly (is_of Folder u.key) old new
+  only_join old mid new one_change other = record { variables = other.variables ∙ one_change.variables; files = λ q outside. other.files q outside ∙ one_change.files q outside }
+
+  -- a change in its folder changes no record
+  pub records_out : (old new : World) → ChangesOnly (is_at_or_below u.out) old new → (l : List ℕ) → records_in b new l ≡ records_in b old l
+  records_out old new only l = elim (cases_Bool (is_key l)) [
+    | inl is_l ↦ record_same b.read Folder old.files new.files l
+        (only.files (place_of Folder l) (subst (λ f. is_at_or_below f (place_of Folder l) ≡ false) (sym (order.folders place u there)) (place_outside Folder u.key l (order.keys place u there) is_l)))
+    | inr wrong ↦ no_key b.read Folder new.files l wrong ∙ sym (no_key b.read Folder old.files l wrong)
+  ]
+
+  pub sound_out : (old new : World) → ChangesOnly (is_at_or_below u.out) old new → records_in b old u.key ≡ None → Sound b.read judge b.child Folder old.files → Sound b.read judge b.child Folder new.files
+  sound_out old new only gone sound =
+      in_output b.read judge b.child Folder old.files new.files u.key order.folder (order.keys place u there) gone
+      (λ q outside. only.files q (subst (λ f. is_at_or_below f q ≡ false) (sym (order.folders place u there)) outside)) sound
+
+  -- What a unit that can answer waits for.
+
+  module _ (states : List (State UnitFault)) (done : List (Option (List Directive))) (begun : Begun) (next : Option ℕ) (w : World) (flying : List ChildInFlight) (still : ℕ → Type 0)
+      (can : CanAnswer b states done place u begun next w flying still) where
+    its_unit : can.begun_so.unit ≡ u
+    its_unit = one can.begun_so.unit u (sym can.begun_so.there ∙ there)
+
+    pub its_command : begun.command ≡ command_in b place u
+    its_command = subst (λ (x : Planned). begun.command ≡ command_in b place x) its_unit can.begun_so.command
+
+    its_waits : WaitsBy b u begun.command (view_in b place u) begun.launched next w flying still
+    its_waits = subst (λ (x : Planned). WaitsBy b x begun.command (view_in b place x) begun.launched next w flying still) its_unit can.begun_so.waits
+
+    pub its_flight : (launched : Launched) → begun.launched ≡ Some launched → IsInFlight b.child begun.command (view_in b place u) launched.ticket flying still
+    its_flight launched is = (subst (λ (o : Option Launched). WaitsBy b u begun.command (view_in b place u) o next w flying still) is its_waits).0
+
+    pub its_record : (launched : Launched) → begun.launched ≡ Some launched → AwaitsBy b.footing b u launched.number next w
+    its_record launched is = (subst (λ (o : Option Launched). WaitsBy b u begun.command (view_in b place u) o next w flying still) is its_waits).1
+
+    pub its_same : begun.launched ≡ None → IsUnchanged b.footing b u begun.command w
+    its_same is = subst (λ (o : Option Launched). WaitsBy b u begun.command (view_in b place u) o next w flying still) is its_waits
+
+    pub begun_bad : is_good_at (slice_get states place) ≡ false
+    begun_bad = ap is_good_at can.state
+
+    pub own_places : (p : ℕ) → Contains u.reaches p → p ≢ place
+    own_places = own_far b order states done place u there next w w (record { variables = refl; files = λ q outside. refl }) begun_bad can.reaches
+
+    pub its_for : IsFor b.project u begun.command
+    its_for = command_for b.project order b place u begun.command refl there its_command
+
+    -- What is kept after its answer.
+
+    -- after a fault: no unit's state is changed
+    pub keeps_fault : (w' : World) (next' : Option ℕ) → ChangesOnly (is_of Folder u.key) w w'
+        → IfRecords b.footing (Sound b.read judge b.child Folder w'.files) → IfRecords b.footing (IsAhead (records_in b w') next') → Keeps b states done next' w'
+    keeps_fault w' next' only sound ahead = keeps_over b order states done place u there begun_bad next w w' can.keeps only states done next' (λ p apart. refl) (λ p apart. refl) can.keeps.long
+        record {
+          stands = λ good. absurd (false≢true (sym begun_bad ∙ good));
+          reaches = λ good. absurd (false≢true (sym begun_bad ∙ good));
+          recorded = never_by b.footing (is_good_at (slice_get states place) ≡ true) (HasRecord b.project (records_in b w') place) (λ good. false≢true (sym begun_bad ∙ good));
+          begun = λ untouched. begun_untouched begun_state refl (sym can.state ∙ untouched);
+        } sound ahead
+      where
+        begun_untouched : (s : State UnitFault) → s ≡ begun_state → Some s ≡ Some Untouched → ⊥
+        begun_untouched s is e = cc
+
+    -- after its answer, good or bad: a good one stands, and has its record
+    pub keeps_answered : (w' : World) (next' : Option ℕ) (ran : Ran) (lines : List ℕ) → ChangesOnly (is_of Folder u.key) w w'
+        → slice_get (outcomes_in b) place ≡ Some (outcome_by (files_in u.out w'.files) ran)
+        → IfRecords b.footing (Sound b.read judge b.child Folder w'.files) → IfRecords b.footing (IsAhead (records_in b w') next') → IfRecords b.footing (ran.fault ≡ None → HasRecord b.project (records_in b w') place)
+        → Keeps b (slice_set states place (Answered record { fault = ran.fault; lines = lines })) (slice_set done place ran.directives) next' w'
+    keeps_answered w' next' ran lines only outcome sound ahead recorded =
+        keeps_over b order states done place u there begun_bad next w w' can.keeps only (slice_set states place (Answered answer)) (slice_set done place ran.directives) next'
+        (λ p apart. get_set_other states place p (Answered answer) (λ e. apart (sym e))) (λ p apart. get_set_other done place p ran.directives (λ e. apart (sym e)))
+        (length_set done place ran.directives ∙ can.keeps.long ∙ sym (length_set states place (Answered answer)))
+        record {
+          stands = λ good. record {
+            unit = u;
+            there = there;
+            files = files_in u.out w'.files;
+            directives = ran.directives;
+            messages = ran.messages;
+            good = outcome ∙ ap (λ o. Some (outcome_from o (files_in u.out w'.files) ran.directives ran.messages)) (well good);
+            noted = noted_at done place ran.directives (long_enough (slice_get_within states place begun_state can.state));
+            holds = refl;
+          };
+          reaches = λ good. can.reaches;
+          recorded = recorded_by b.footing recorded;
+          begun = λ untouched. answered_untouched (Answered answer) refl (sym now ∙ untouched);
+        } sound ahead
+      where
+        answer : Answer UnitFault
+        answer = record { fault = ran.fault; lines = lines }
+
+        now : slice_get (slice_set states place (Answered answer)) place ≡ Some (Answered answer)
+        now = get_set_same states place begun_state (Answered answer) can.state
+
+        none_of : (o : Option UnitFault) → is_none o ≡ true → o ≡ None
+        none_of None is = refl
+        none_of (Some fault) is = absurd (false≢true is)
+
+        well : is_good_at (slice_get (slice_set states place (Answered answer)) place) ≡ true → ran.fault ≡ None
+        well good = none_of ran.fault (sym (ap is_good_at now) ∙ good)
+
+        answered_untouched : (s : State UnitFault) → s ≡ Answered answer → Some s ≡ Some Untouched → ⊥
+        answered_untouched s is e = cc
+
+        long_enough : place < length states → place < length done
+        long_enough less = subst (λ n. place < n) (sym can.keeps.long) less
+
+        noted_at : (xs : List (Option (List Directive))) (i : ℕ) (x : Option (List Directive)) → i < length xs → slice_get (slice_set xs i x) i ≡ Some x
+        noted_at [] i x less = absurd (omega (arith, less))
+        noted_at (y ∷ xs) zero x less = refl
+        noted_at (y ∷ xs) (suc i) x less = noted_at xs i x (omega (arith, less))
+
+        recorded_by : (footing : Footing) → IfRecords footing (ran.fault ≡ None → HasRecord b.project (records_in b w') place)
+            → IfRecords footing (is_good_at (slice_get (slice_set states place (Answered answer)) place) ≡ true → HasRecord b.project (records_in b w') place)
+        recorded_by OnRecords has = λ good. has (well good)
+        recorded_by OnNothing has = tt

@@ -1,0 +1,194 @@
+-- A unit whose record gives its answer again, and gets a run number where it has none.
+use Rattle.std.proofs.Common.{◌≡◌, ◌≢◌, ◌<◌, ◌∙◌, ℕ, true, List, is_some, Option, Some, None, refl, sym, ap, subst, inl, inr, arith}
+use Rattle.std.proofs.lemmas.Bool.{false≢true}
+use Rattle.pb_command.specs.Externs.{reads_of}
+use Rattle.pb_command.specs.Judge.{judge}
+use Rattle.pb_directive.specs.declared.directive.Directive.{Directive}
+use Rattle.pb_flight.specs.declared.flight.State.{State}
+use Rattle.pb_place.specs.Folders.{files_in}
+use Rattle.pb_place.specs.Paths.{is_at_or_below}
+use Rattle.pb_place.specs.World.{World, ChangesOnly, seen_by}
+use Rattle.pb_place.specs.declared.child.Reply.{Reply}
+use Rattle.pb_place.specs.declared.child_in_flight.ChildInFlight.{ChildInFlight}
+use Rattle.pb_place.specs.declared.command.Command.{Command}
+use Rattle.pb_project.specs.Targets.{unit_at}
+use Rattle.pb_project.specs.declared.fault.UnitFault.{UnitFault}
+use Rattle.pb_record.specs.declared.record.Record.{Record}
+use Rattle.pb_run.specs.Halves.{Footing, OnRecords, OnNothing, Basis, HasRecord, HoldsRecords, HoldsBy, AwaitsBy, IsUnchanged, WaitsBy, CanAnswer, BeginsApart, needed_keys, records_in, view_in}
+use Rattle.pb_run.specs.Standing.{IsInOrder, records_folder}
+use Rattle.pb_run.specs.declared.begun.Begun.{Begun}
+use Rattle.pb_run.specs.declared.begun.Launched.{Launched}
+use Rattle.pb_run.proofs.RecordedAnswer.{grounded_alike, only_place, its_command, its_for}
+use Rattle.pb_run.proofs.RecordedKeeps.{has_needs, reads_grounded}
+use Rattle.pb_run.proofs.RecordedLanding.{put_over}
+use Rattle.pb_run.proofs.RecordedOthers.{IfRecords, Left, vanished, as_before, put_anew, others_at}
+use Rattle.pb_run.proofs.Views.{IsFor}
+use Rattle.pb_soundness.specs.Inputs.{IsHonest}
+use Rattle.pb_soundness.specs.Numbers.{IsAhead, IsBefore}
+use Rattle.pb_soundness.specs.Records.{out_of, place_of, number_of}
+use Rattle.pb_soundness.specs.Reuse.{IsSame, AreGrounded, NamesNeeds}
+use Rattle.pb_soundness.specs.Sound.{Sound, Backs}
+use Rattle.pb_soundness.proofs.Ahead.{next_is_new}
+use Rattle.pb_soundness.proofs.Becoming.{one, none_some, grounded_number}
+use Rattle.pb_soundness.proofs.Places.{is_same}
+use Rattle.pb_soundness.proofs.Renewing.{grounds, reuse}
+use Rattle.pb_store.specs.Keeping.{Leaves, HasNeeds, numbered}
+use Rattle.pb_store.specs.Migrating.{IsMigrated, numbered_record, migrated, migrated_by}
+use Rattle.pb_store.proofs.Earned.{names_stand}
+use Rattle.pb_unit.specs.declared.plan.Planned.{Planned}
+
+-- the next number is none that was given
+pub next_apart : (next : Option ℕ) (number : ℕ) → IsBefore next number → next ≢ Some number
+next_apart None number before e = none_some number e
+next_apart (Some n) number before e = not_less n number before (one n number e)
+  where
+    not_less : (m k : ℕ) → k < m → m ≡ k → ⊥
+    not_less m k less is = omega (arith, less, is)
+
+module _ (b : Basis) (order : IsInOrder b.project) (place : ℕ) (u : Planned) (there : unit_at b.project place ≡ Some u)
+    (states : List (State UnitFault)) (done : List (Option (List Directive))) (begun : Begun) (next : Option ℕ) (w : World) (flying : List ChildInFlight) (still : ℕ → Type 0)
+    (can : CanAnswer b states done place u begun next w flying still) where
+  abbrev Folder : List ℕ
+  Folder = records_folder b.project
+
+  for : IsFor b.project u begun.command
+  for = its_for b order place u there states done begun next w flying still can
+
+  all_grounded : HoldsRecords b states next w → AreGrounded (records_in b w) Folder begun.command.reads
+  all_grounded holds = reads_grounded b order states next w holds u begun.command.reads for.reads can.reaches
+
+  -- the record holds the reply of the child in its view, and its files stand
+  pub replay_backs : (footing : Footing) → HoldsBy footing b states next w → IsUnchanged footing b u begun.command w → seen_by begun.command w ≡ view_in b place u
+      → (r : Record) × (records_in b w u.key ≡ Some r) × Backs judge r u.out (files_in u.out w.files) (b.child begun.command (view_in b place u))
+  replay_backs OnRecords holds (r, same) sees = (
+    r,
+    same.stands,
+    subst (λ f. Backs judge r f (files_in f w.files) (b.child begun.command (view_in b place u))) (sym (order.folders place u there))
+        (subst (λ (y : Reply). Backs judge r (out_of Folder u.key) (files_in (out_of Folder u.key) w.files) y) (ap (b.child begun.command) sees)
+        (reuse b.read judge b.child Folder u.key begun.command w r holds.sound same (all_grounded holds))),
+  )
+  replay_backs OnNothing holds same sees = absurd same
+
+  -- what makes the migrated record true
+  pub is_migrated : HoldsRecords b states next w → (r : Record) → IsSame b.read Folder u.key begun.command w r → seen_by begun.command w ≡ view_in b place u
+      → (number : ℕ) → next ≡ Some number → IsMigrated b.read judge b.child Folder u.key begun.command (needed_keys b.project u) number w r
+  is_migrated holds r same sees number given =
+      let command = its_command b order place u there states done begun next w flying still can in
+      let new = next_is_new (records_in b w) number (subst (IsAhead (records_in b w)) given holds.ahead) in
+      record {
+        same = same;
+        honest = subst (λ (c : Command). IsHonest judge b.child c w) (sym command)
+            (holds.honest place u w there can.keeps.sources_stay (subst (λ (c : Command). seen_by c w ≡ view_in b place u) command sees));
+        reads_grounded = all_grounded holds;
+        needs_stand = subst (λ (reads : List (List ℕ)). HasNeeds (records_in b w) Folder reads (needed_keys b.project u) number) (sym for.reads)
+            (has_needs b order states next w holds place u number there can.reaches new.1);
+        unnamed = new.0;
+      }
+
+  -- Once it is migrated.
+
+  module _ (w' : World) (next' : Option ℕ) (only : ChangesOnly (is_at_or_below (place_of (records_folder b.project) u.key)) w w') where
+    -- in the words of the call: sound, and ahead
+    pub migrated_sound : (footing : Footing) → HoldsBy footing b states next w → IsUnchanged footing b u begun.command w → seen_by begun.command w ≡ view_in b place u
+        → ((r : Record) → ((number : ℕ) → next ≡ Some number → IsMigrated b.read judge b.child Folder u.key begun.command (needed_keys b.project u) number w r) → Sound b.read judge b.child Folder w.files → Sound b.read judge b.child Folder w'.files)
+        → IfRecords footing (Sound b.read judge b.child Folder w'.files)
+    migrated_sound OnRecords holds (r, same) sees gives = gives r (is_migrated holds r same sees) holds.sound
+    migrated_sound OnNothing holds same sees gives = tt
+
+    pub migrated_ahead : (footing : Footing) → HoldsBy footing b states next w → IsUnchanged footing b u begun.command w → seen_by begun.command w ≡ view_in b place u
+        → ((r : Record) → ((number : ℕ) → next ≡ Some number → IsMigrated b.read judge b.child Folder u.key begun.command (needed_keys b.project u) number w r) → IsAhead (records_in b w) next → IsAhead (records_in b w') next')
+        → IfRecords footing (IsAhead (records_in b w') next')
+    migrated_ahead OnRecords holds (r, same) sees gives = gives r (is_migrated holds r same sees) holds.ahead
+    migrated_ahead OnNothing holds same sees gives = tt
+
+    others_stand : (l : List ℕ) → l ≢ u.key → records_in b w' l ≡ records_in b w l
+    others_stand = others_at b order place u there w w' (only_place b order place u there w w' only)
+
+    its_reads : (r : Record) → IsSame b.read Folder u.key begun.command w r → r.asked.reads ≡ reads_of b.project u
+    its_reads r same = ap (λ (c : Command). c.reads) same.asked ∙ for.reads
+
+    -- one with a number stays
+    record_kept : HoldsRecords b states next w → (r : Record) → IsSame b.read Folder u.key begun.command w r → (n : ℕ) → number_of r ≡ Some n → records_in b w' u.key ≡ Some r → HasRecord b.project (records_in b w') place
+    record_kept holds r same n is stands = record {
+      unit = u;
+      there = there;
+      kept = r;
+      here = stands;
+      number = n;
+      grounded = grounded_alike (records_in b w) (records_in b w') u.key n
+          (λ l. elim (is_same l u.key) [
+            | inl this ↦ ap (records_in b w') this ∙ stands ∙ sym same.stands ∙ ap (records_in b w) (sym this)
+            | inr apart ↦ others_stand l apart
+          ]) (grounds b.read judge b.child Folder u.key begun.command w r n holds.sound same (all_grounded holds) is);
+      reads = its_reads r same;
+    }
+
+    new_names : HoldsRecords b states next w → (r : Record) → IsSame b.read Folder u.key begun.command w r → (number : ℕ) → next ≡ Some number
+        → NamesNeeds (records_in b w) Folder (numbered_record r number (numbered (records_in b w) (needed_keys b.project u))) number
+    new_names holds r same number given =
+        let new = next_is_new (records_in b w) number (subst (IsAhead (records_in b w)) given holds.ahead) in
+        names_stand (records_in b w) Folder (needed_keys b.project u) (numbered_record r number (numbered (records_in b w) (needed_keys b.project u))) number
+        (subst (λ (reads : List (List ℕ)). HasNeeds (records_in b w) Folder reads (needed_keys b.project u) number) (sym (its_reads r same))
+        (has_needs b order states next w holds place u number there can.reaches new.1)) refl
+
+    -- one without gets the next
+    record_made : HoldsRecords b states next w → (r : Record) → IsSame b.read Folder u.key begun.command w r → number_of r ≡ None → (number : ℕ) → next ≡ Some number
+        → records_in b w' u.key ≡ Some (numbered_record r number (numbered (records_in b w) (needed_keys b.project u))) → HasRecord b.project (records_in b w') place
+    record_made holds r same is number given stands =
+        let made = numbered_record r number (numbered (records_in b w) (needed_keys b.project u)) in
+        record {
+          unit = u;
+          there = there;
+          kept = made;
+          here = stands;
+          number = number;
+          grounded = put_over (records_in b w) (records_in b w') Folder u.key made number others_stand stands refl
+              (λ n ground. none_some n (sym is ∙ grounded_number (records_in b w) u.key n r ground same.stands)) (new_names holds r same number given)
+              (subst (λ (reads : List (List ℕ)). AreGrounded (records_in b w) Folder reads) (ap (λ (c : Command). c.reads) (sym same.asked)) (all_grounded holds));
+          reads = its_reads r same;
+        }
+
+    record_by : HoldsRecords b states next w → (r : Record) → IsSame b.read Folder u.key begun.command w r → (has : Option ℕ) → number_of r ≡ has → (given : Option ℕ) → next ≡ given
+        → records_in b w' u.key ≡ migrated_by has given (numbered (records_in b w) (needed_keys b.project u)) r
+        → ((s : Record) → records_in b w' u.key ≡ Some s → is_some (number_of s) ≡ true) → HasRecord b.project (records_in b w') place
+    record_by holds r same (Some n) is given next_is stands numbered_now = record_kept holds r same n is stands
+    record_by holds r same None is (Some number) next_is stands numbered_now = record_made holds r same is number next_is stands
+    record_by holds r same None is None next_is stands numbered_now = absurd (false≢true (sym (ap is_some is) ∙ numbered_now r stands))
+
+    -- the unit has its record
+    pub migrated_record : (footing : Footing) → HoldsBy footing b states next w → IsUnchanged footing b u begun.command w
+        → records_in b w' u.key ≡ migrated next (numbered (records_in b w) (needed_keys b.project u)) (records_in b w u.key)
+        → ((s : Record) → records_in b w' u.key ≡ Some s → is_some (number_of s) ≡ true) → IfRecords footing (HasRecord b.project (records_in b w') place)
+    migrated_record OnRecords holds (r, same) stands numbered_now =
+        record_by holds r same (number_of r) refl next refl (stands ∙ ap (migrated next (numbered (records_in b w) (needed_keys b.project u))) same.stands) numbered_now
+    migrated_record OnNothing holds same stands numbered_now = tt
+
+    -- what others find in its place
+    left_by : HoldsRecords b states next w → (r : Record) → IsSame b.read Folder u.key begun.command w r → (has : Option ℕ) → number_of r ≡ has → (given : Option ℕ) → next ≡ given
+        → records_in b w' u.key ≡ migrated_by has given (numbered (records_in b w) (needed_keys b.project u)) r → Left (records_in b w) (records_in b w') u.key next
+    left_by holds r same (Some n) is given next_is stands = as_before (stands ∙ sym same.stands)
+    left_by holds r same None is None next_is stands = as_before (stands ∙ sym same.stands)
+    left_by holds r same None is (Some number) next_is stands =
+        put_anew (numbered_record r number (numbered (records_in b w) (needed_keys b.project u))) number stands refl next_is (new_names holds r same number next_is).stand
+
+    pub left_migrated : (footing : Footing) → HoldsBy footing b states next w → IsUnchanged footing b u begun.command w
+        → Leaves (migrated next (numbered (records_in b w) (needed_keys b.project u)) (records_in b w u.key)) (records_in b w u.key) (records_in b w' u.key)
+        → IfRecords footing (Left (records_in b w) (records_in b w') u.key next)
+    left_migrated OnRecords holds (r, same) left = elim left [
+      | inl gone ↦ vanished gone
+      | inr more ↦ elim more [
+        | inl stays ↦ as_before stays
+        | inr put ↦ left_by holds r same (number_of r) refl next refl (put ∙ ap (migrated next (numbered (records_in b w) (needed_keys b.project u))) same.stands)
+      ]
+    ]
+    left_migrated OnNothing holds same left = tt
+
+-- where a unit has no child, the number that its record may get is none that another has
+pub numbers_apart : (b : Basis) (u : Planned) (c : Command) (states : List (State UnitFault)) (place : ℕ) (launched : Option Launched) (other : ℕ) (its : Begun) (next : Option ℕ) (w : World) (flying : List ChildInFlight) (still : ℕ → Type 0)
+    → IsUnchanged b.footing b u c w → BeginsApart b states place launched other its next w flying still → (theirs : Launched) → its.launched ≡ Some theirs → next ≢ Some theirs.number
+numbers_apart b u c states place launched other its next w flying still same apart theirs is =
+    by_footing b.footing same (subst (λ (o : Option Launched). WaitsBy b apart.begun_so.unit its.command (view_in b other apart.begun_so.unit) o next w flying still) is apart.begun_so.waits).1
+  where
+    by_footing : (footing : Footing) → IsUnchanged footing b u c w → AwaitsBy footing b apart.begun_so.unit theirs.number next w → next ≢ Some theirs.number
+    by_footing OnRecords same_now waits = next_apart next theirs.number waits.before
+    by_footing OnNothing same_now waits = absurd same_now
