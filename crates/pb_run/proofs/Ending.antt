@@ -34,9 +34,9 @@ finish_failed next key l start.CannotStart old new may counts = elim (may no_mem
     no_capture : start.CannotStart ≡ start.Capture → ⊥
     no_capture e = cc
 finish_failed next key l start.Died old new may counts =
-    ((refl, tt, inl refl, ap (λ (c : Counts). c.starts) counts), (ap (λ (c : Counts). c.failures) counts, ap (λ (c : Counts). c.late) counts, ap (λ (c : Counts). c.last) counts))
+    ((refl, refl, inl refl, ap (λ (c : Counts). c.starts) counts), (ap (λ (c : Counts). c.failures) counts, ap (λ (c : Counts). c.late) counts, ap (λ (c : Counts). c.last) counts))
 finish_failed next key l start.Capture old new may counts =
-    ((refl, tt, inr refl, ap (λ (c : Counts). c.starts) counts), (ap (λ (c : Counts). c.failures) counts, ap (λ (c : Counts). c.late) counts, ap (λ (c : Counts). c.last) counts))
+    ((refl, refl, inr refl, ap (λ (c : Counts). c.starts) counts), (ap (λ (c : Counts). c.failures) counts, ap (λ (c : Counts). c.late) counts, ap (λ (c : Counts). c.last) counts))
 finish_failed next key l start.OutOfMemory old new may counts = (ap (λ (c : Counts). c.starts) counts, ap (λ (c : Counts). c.failures) counts)
 
 pub finish_told : (next : Option ℕ) (key : List ℕ) (l : Launched) (e : StartFault) (told : BuildFault) (old new : Counts) → told ≡ child_fault key e → (e ≢ start.OutOfMemory → (e ≡ start.Died) ⊎ (e ≡ start.Capture))

@@ -56,7 +56,7 @@ pub no_some : {A : Type 0} (o : Option A) → is_some o ≡ false → o ≡ None
 no_some None good = refl
 no_some (Some x) good = absurd (false≢true (sym good))
 
-on_good : (footing : Footing) (Given Fact : Type 0) → IfRecords footing Fact → IfRecords footing (Given → Fact)
+pub on_good : (footing : Footing) (Given Fact : Type 0) → IfRecords footing Fact → IfRecords footing (Given → Fact)
 on_good OnRecords Given Fact has = λ given. has
 on_good OnNothing Given Fact has = tt
 

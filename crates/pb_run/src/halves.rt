@@ -17,8 +17,8 @@ ghost use Rattle.pb_run.specs.Causes.{Takes, Begins, Lands, Drops, MayBeginUnit,
 ghost use Rattle.pb_run.specs.Halves.{Footing, Basis, basis, outcomes_in, Keeps, IsBegun, CanBegin, CanAnswer, BeginsApart};
 ghost use Rattle.pb_run.specs.Outcome.{outcome_by, directives_in};
 ghost use Rattle.pb_run.specs.Standing.{IsCommandOf, IsInOrder, records_folder};
-ghost use Rattle.pb_run.specs.declared.begun as begun;
-ghost use Rattle.pb_unit.specs.declared.plan.Planned as planned;
+ghost use Rattle.pb_run.specs.declared.begun.Begun.{Begun};
+ghost use Rattle.pb_unit.specs.declared.plan.Planned.{Planned};
 ghost use Rattle.pb_soundness.specs.Apart.{is_of};
 ghost use Rattle.pb_soundness.specs.Numbers.{after};
 ghost use Rattle.pb_soundness.specs.Records.{Reading};
@@ -68,7 +68,7 @@ pub fn begin_unit<P: Place>(
     ensures keeps { (footing : Footing) (read : Reading) (sources : World) (states : List (State UnitFault)) → IsReading read → IsTrue P.tells
         → CanBegin (basis footing read P.child setup.now project.now sources) states done.now index unit.now store.old.next (P.world place.old)
         → Keeps (basis footing read P.child setup.now project.now sources) (slice_set states index state.Begun) done.now store.new.next (P.world place.new) }
-    ensures others { (footing : Footing) (read : Reading) (sources : World) (states : List (State UnitFault)) (other : ℕ) (its : begun.Begun) → IsReading read → IsTrue P.tells
+    ensures others { (footing : Footing) (read : Reading) (sources : World) (states : List (State UnitFault)) (other : ℕ) (its : Begun) → IsReading read → IsTrue P.tells
         → CanBegin (basis footing read P.child setup.now project.now sources) states done.now index unit.now store.old.next (P.world place.old)
         → BeginsApart (basis footing read P.child setup.now project.now sources) states index None other its store.old.next (P.world place.old) (P.counts place.old).starts.flying (P.still place.old)
         → IsBegun (basis footing read P.child setup.now project.now sources) other its store.new.next (P.world place.new) (P.counts place.new).starts.flying (P.still place.new) }
@@ -143,7 +143,7 @@ pub fn answer_unit<P: Place>(
         → MatchResult result
             (λ ran. (lines : List ℕ) → Keeps (basis footing read P.child setup project.now sources) (slice_set states index (state.Answered record { fault = ran.fault; lines = lines })) (slice_set done index ran.directives) store.new.next (P.world place.new))
             (λ e. Keeps (basis footing read P.child setup project.now sources) states done store.new.next (P.world place.new)) }
-    ensures others { (footing : Footing) (read : Reading) (setup : Setup) (sources : World) (states : List (State UnitFault)) (done : List (Option (List Directive))) (other : ℕ) (its : begun.Begun) → IsReading read → IsTrue P.tells
+    ensures others { (footing : Footing) (read : Reading) (setup : Setup) (sources : World) (states : List (State UnitFault)) (done : List (Option (List Directive))) (other : ℕ) (its : Begun) → IsReading read → IsTrue P.tells
         → CanAnswer (basis footing read P.child setup project.now sources) states done index unit.now begun store.old.next (P.world place.old) (P.counts place.old).starts.flying (P.still place.old)
         → BeginsApart (basis footing read P.child setup project.now sources) states index begun.launched other its store.old.next (P.world place.old) (P.counts place.old).starts.flying (P.still place.old)
         → IsBegun (basis footing read P.child setup project.now sources) other its store.new.next (P.world place.new) (P.counts place.new).starts.flying (P.still place.new) }
@@ -178,14 +178,14 @@ pub fn answer_unit<P: Place>(
 /// flight no more, whatever the place answers; a call that fails counts.
 pub fn drop_unit<P: Place>(alloc: Global, place: &mut P, begun: &Begun)
     requires flies { IfSome begun.now.launched (λ launched. is_flying launched.ticket (P.counts place.old).starts.flying ≡ true) }
-    ensures keeps { (b : Basis) (states : List (State UnitFault)) (done : List (Option (List Directive))) (index : ℕ) (unit : planned.Planned) (next : Option ℕ) → b.child ≡ P.child → IsInOrder b.project → IsTrue P.tells
+    ensures keeps { (b : Basis) (states : List (State UnitFault)) (done : List (Option (List Directive))) (index : ℕ) (unit : Planned) (next : Option ℕ) → b.child ≡ P.child → IsInOrder b.project → IsTrue P.tells
         → CanAnswer b states done index unit begun.now next (P.world place.old) (P.counts place.old).starts.flying (P.still place.old)
         → Keeps b states done next (P.world place.new) }
-    ensures others { (b : Basis) (states : List (State UnitFault)) (done : List (Option (List Directive))) (index : ℕ) (unit : planned.Planned) (next : Option ℕ) (other : ℕ) (its : begun.Begun) → b.child ≡ P.child → IsInOrder b.project → IsTrue P.tells
+    ensures others { (b : Basis) (states : List (State UnitFault)) (done : List (Option (List Directive))) (index : ℕ) (unit : Planned) (next : Option ℕ) (other : ℕ) (its : Begun) → b.child ≡ P.child → IsInOrder b.project → IsTrue P.tells
         → CanAnswer b states done index unit begun.now next (P.world place.old) (P.counts place.old).starts.flying (P.still place.old)
         → BeginsApart b states index begun.now.launched other its next (P.world place.old) (P.counts place.old).starts.flying (P.still place.old)
         → IsBegun b other its next (P.world place.new) (P.counts place.new).starts.flying (P.still place.new) }
-    ensures only { (b : Basis) (index : ℕ) (unit : planned.Planned) (next : Option ℕ) → IsInOrder b.project → unit_at b.project index ≡ Some unit → IsTrue P.tells
+    ensures only { (b : Basis) (index : ℕ) (unit : Planned) (next : Option ℕ) → IsInOrder b.project → unit_at b.project index ≡ Some unit → IsTrue P.tells
         → IsBegun b index begun.now next (P.world place.old) (P.counts place.old).starts.flying (P.still place.old)
         → ChangesOnly (is_at_or_below unit.out) (P.world place.old) (P.world place.new) }
     ensures most { P.most place.new ≡ P.most place.old }

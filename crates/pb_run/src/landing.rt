@@ -1,6 +1,6 @@
 //! A unit that answers: its child's end, or its record again; the judgement; the record kept or renewed.
 
-ghost use Rattle.std.specs.Prelude.{◌≡◌, ◌++◌, ℕ, true, false, List, Option, IsTrue, IfOk, IfSome, MatchResult, OnOk, Some, None, All, map, slice_get, slice_set};
+ghost use Rattle.std.specs.Prelude.{◌≡◌, ◌++◌, ℕ, true, false, List, Option, IsTrue, IfOk, IfSome, MatchResult, OnOk, Some, None, All, is_some, map, option_map, slice_get, slice_set};
 ghost use Rattle.std.specs.FinMap as finite;
 ghost use Rattle.pb_command.specs.Answers.{answered_of};
 ghost use Rattle.pb_command.specs.Judge.{file_at};
@@ -17,17 +17,18 @@ ghost use Rattle.pb_flight.specs.declared.flight.State.{State};
 ghost use Rattle.pb_flight.specs.declared.flight.State.TheVariants as state;
 ghost use Rattle.pb_place.specs.Folders.{files_in};
 ghost use Rattle.pb_project.specs.declared.fault.UnitFault.{UnitFault};
+ghost use Rattle.pb_project.specs.declared.project.Setup.{Setup};
 ghost use Rattle.pb_run.specs.Halves.{Footing, basis, begun_with, outcomes_in, key_at, needed_keys, Keeps, IsBegun, CanAnswer, BeginsApart};
 ghost use Rattle.pb_run.specs.Standing.{IsCommandOf, IsInOrder, records_folder};
-ghost use Rattle.pb_run.specs.declared.begun as begun;
+ghost use Rattle.pb_run.specs.declared.begun.Begun.{Begun};
 ghost use Rattle.pb_run.specs.Outcome.{judgement_by, outcome_by, directives_in, unstarted};
 ghost use Rattle.std.specs.List.{flat_map};
 ghost use Rattle.pb_soundness.specs.Apart.{is_of, KeepsStill, KeepsStillOutside};
 ghost use Rattle.pb_soundness.specs.Inputs.{Judge, input_in};
 ghost use Rattle.pb_soundness.specs.Numbers.{IsAhead, IsBefore};
-ghost use Rattle.pb_soundness.specs.Records.{Reading, is_key, out_of, place_of, record_at};
+ghost use Rattle.pb_soundness.specs.Records.{Reading, is_key, number_of, out_of, place_of, record_at};
 ghost use Rattle.pb_soundness.specs.Sound.{Sound};
-ghost use Rattle.pb_store.specs.Keeping.{HasNeeds, IsKept, kept_of, numbered};
+ghost use Rattle.pb_store.specs.Keeping.{HasNeeds, IsKept, Leaves, kept_of, numbered};
 ghost use Rattle.pb_store.specs.Migrating.{IsMigrated, TakesNumber, migrated};
 ghost use Rattle.pb_store.specs.Replaying.{replayed};
 
@@ -153,6 +154,7 @@ fn keep<P: Place>(
     requires sorted { are_sorted command.now.pairs ≡ true }
     ensures sound { (read : Reading) (judge : Judge) → IsReading read → IsTrue P.tells → IsKept read judge P.child store.now.folder unit.now.key command.now (needed_keys project.now unit.now) names.now ended.now number (P.world place.old) → Sound read judge P.child store.now.folder (P.world place.old).files → Sound read judge P.child store.now.folder (P.world place.new).files }
     ensures stands { (read : Reading) → IsReading read → IsTrue P.tells → OnOk result (record_at read store.now.folder (P.world place.new).files unit.now.key ≡ Some (kept_of store.now.folder unit.now.key command.now (map (input_in command.now.target (P.world place.old)) names.now) number (numbered (record_at read store.now.folder (P.world place.old).files) (needed_keys project.now unit.now)) ended.now)) }
+    ensures left { (read : Reading) → IsReading read → IsTrue P.tells → Leaves (Some (kept_of store.now.folder unit.now.key command.now (map (input_in command.now.target (P.world place.old)) names.now) number (numbered (record_at read store.now.folder (P.world place.old).files) (needed_keys project.now unit.now)) ended.now)) (record_at read store.now.folder (P.world place.old).files unit.now.key) (record_at read store.now.folder (P.world place.new).files unit.now.key) }
     ensures ahead { (read : Reading) → IsReading read → IsTrue P.tells → IsBefore store.now.next number → HasNeeds (record_at read store.now.folder (P.world place.old).files) store.now.folder command.now.reads (needed_keys project.now unit.now) number → IsAhead (record_at read store.now.folder (P.world place.old).files) store.now.next → IsAhead (record_at read store.now.folder (P.world place.new).files) store.now.next }
     ensures only { IsTrue P.tells → ChangesOnly (is_at_or_below (place_of store.now.folder unit.now.key)) (P.world place.old) (P.world place.new) }
     ensures most { P.most place.new ≡ P.most place.old }
@@ -181,7 +183,7 @@ fn replay<P: Place>(
     unit: &Planned,
 ) -> Result<Replayed, BuildFault>
     requires key { is_key unit.now.key ≡ true }
-    ensures replayed { (read : Reading) → IsReading read → IsTrue P.tells → IfOk result (λ again. (r : Record) × (record_at read store.now.folder (P.world place.old).files unit.now.key ≡ Some r) × (again ≡ replayed r)) }
+    ensures replayed { (read : Reading) → IsReading read → IsTrue P.tells → IfOk result (λ again. Some again ≡ option_map replayed (record_at read store.now.folder (P.world place.old).files unit.now.key)) }
     ensures same { IsTrue P.tells → P.world place.new ≡ P.world place.old }
     ensures most { P.most place.new ≡ P.most place.old }
     ensures still { IsTrue P.tells → KeepsStill (P.still place.old) (P.still place.new) }
@@ -191,10 +193,13 @@ fn replay<P: Place>(
         Ok(name) => name,
         Err(_) => return Err(BuildFault::OutOfMemory),
     };
-    match store.replay(alloc, place, &unit.key) {
-        Ok(Some(again)) => Ok(again),
-        Ok(None) => Err(BuildFault::OutOfMemory),
-        Err(fault) => Err(storeless(name, fault)),
+    let found = match store.replay(alloc, place, &unit.key) {
+        Ok(found) => found,
+        Err(fault) => return Err(storeless(name, fault)),
+    };
+    match found {
+        Some(again) => Ok(again),
+        None => Err(BuildFault::OutOfMemory),
     }
 }
 
@@ -210,6 +215,8 @@ fn migrate<P: Place>(
     requires keys { All (λ need. is_key need ≡ true) (needed_keys project.now unit.now) }
     ensures sound { (read : Reading) (judge : Judge) (c : Command) (r : Record) → IsReading read → IsTrue P.tells → ((number : ℕ) → store.old.next ≡ Some number → IsMigrated read judge P.child store.old.folder unit.now.key c (needed_keys project.now unit.now) number (P.world place.old) r) → Sound read judge P.child store.old.folder (P.world place.old).files → Sound read judge P.child store.old.folder (P.world place.new).files }
     ensures ahead { (read : Reading) (judge : Judge) (c : Command) (r : Record) → IsReading read → IsTrue P.tells → ((number : ℕ) → store.old.next ≡ Some number → IsMigrated read judge P.child store.old.folder unit.now.key c (needed_keys project.now unit.now) number (P.world place.old) r) → IsAhead (record_at read store.old.folder (P.world place.old).files) store.old.next → IsAhead (record_at read store.old.folder (P.world place.new).files) store.new.next }
+    ensures left { (read : Reading) → IsReading read → IsTrue P.tells → Leaves (migrated store.old.next (numbered (record_at read store.old.folder (P.world place.old).files) (needed_keys project.now unit.now)) (record_at read store.old.folder (P.world place.old).files unit.now.key)) (record_at read store.old.folder (P.world place.old).files unit.now.key) (record_at read store.old.folder (P.world place.new).files unit.now.key) }
+    ensures numbered { (read : Reading) (r : Record) → IsReading read → IsTrue P.tells → OnOk result (record_at read store.old.folder (P.world place.new).files unit.now.key ≡ Some r → is_some (number_of r) ≡ true) }
     ensures next { TakesNumber store.old.next store.new.next }
     ensures folder { store.new.folder ≡ store.old.folder }
     ensures stands { (read : Reading) → IsReading read → IsTrue P.tells → OnOk result (record_at read store.old.folder (P.world place.new).files unit.now.key ≡ migrated store.old.next (numbered (record_at read store.old.folder (P.world place.old).files) (needed_keys project.now unit.now)) (record_at read store.old.folder (P.world place.old).files unit.now.key)) }
@@ -270,7 +277,7 @@ pub(crate) fn land<P: Place>(
         → MatchResult result
             (λ ran. (lines : List ℕ) → Keeps (basis footing read P.child setup project.now sources) (slice_set states index (state.Answered record { fault = ran.fault; lines = lines })) (slice_set done index ran.directives) store.now.next (P.world place.new))
             (λ e. Keeps (basis footing read P.child setup project.now sources) states done store.now.next (P.world place.new)) }
-    ensures others { (footing : Footing) (read : Reading) (setup : Setup) (sources : World) (states : List (State UnitFault)) (done : List (Option (List Directive))) (other : ℕ) (its : begun.Begun) → IsReading read → IsTrue P.tells
+    ensures others { (footing : Footing) (read : Reading) (setup : Setup) (sources : World) (states : List (State UnitFault)) (done : List (Option (List Directive))) (other : ℕ) (its : Begun) → IsReading read → IsTrue P.tells
         → CanAnswer (basis footing read P.child setup project.now sources) states done index unit.now (begun_with unit.now.key command.now (Some launched.now)) store.now.next (P.world place.old) (P.counts place.old).starts.flying (P.still place.old)
         → BeginsApart (basis footing read P.child setup project.now sources) states index (Some launched.now) other its store.now.next (P.world place.old) (P.counts place.old).starts.flying (P.still place.old)
         → IsBegun (basis footing read P.child setup project.now sources) other its store.now.next (P.world place.new) (P.counts place.new).starts.flying (P.still place.new) }
@@ -322,7 +329,7 @@ pub(crate) fn reuse<P: Place>(
         → MatchResult result
             (λ ran. (lines : List ℕ) → Keeps (basis footing read P.child setup project.now sources) (slice_set states index (state.Answered record { fault = ran.fault; lines = lines })) (slice_set done index ran.directives) store.new.next (P.world place.new))
             (λ e. Keeps (basis footing read P.child setup project.now sources) states done store.new.next (P.world place.new)) }
-    ensures others { (footing : Footing) (read : Reading) (setup : Setup) (sources : World) (states : List (State UnitFault)) (done : List (Option (List Directive))) (other : ℕ) (its : begun.Begun) → IsReading read → IsTrue P.tells
+    ensures others { (footing : Footing) (read : Reading) (setup : Setup) (sources : World) (states : List (State UnitFault)) (done : List (Option (List Directive))) (other : ℕ) (its : Begun) → IsReading read → IsTrue P.tells
         → CanAnswer (basis footing read P.child setup project.now sources) states done index unit.now (begun_with unit.now.key command.now None) store.old.next (P.world place.old) (P.counts place.old).starts.flying (P.still place.old)
         → BeginsApart (basis footing read P.child setup project.now sources) states index None other its store.old.next (P.world place.old) (P.counts place.old).starts.flying (P.still place.old)
         → IsBegun (basis footing read P.child setup project.now sources) other its store.new.next (P.world place.new) (P.counts place.new).starts.flying (P.still place.new) }

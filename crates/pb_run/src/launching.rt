@@ -15,6 +15,7 @@ ghost use Rattle.pb_soundness.specs.Records.{Reading, is_key, out_of, place_of, 
 ghost use Rattle.pb_soundness.specs.Reuse.{IsSame};
 ghost use Rattle.pb_soundness.specs.Sound.{Sound};
 ghost use Rattle.pb_store.specs.Differences.{FirstDifference};
+ghost use Rattle.pb_store.specs.Keeping.{Leaves};
 ghost use Rattle.pb_store.specs.Migrating.{TakesNumber};
 
 use crate::begun::Launched;
@@ -68,6 +69,7 @@ fn drop_record<P: Place>(
     ensures folder { store.new.folder ≡ store.old.folder }
     ensures sound { (read : Reading) (judge : Judge) → IsTrue P.tells → Sound read judge P.child store.old.folder (P.world place.old).files → Sound read judge P.child store.old.folder (P.world place.new).files }
     ensures gone { (read : Reading) → IsTrue P.tells → OnOk result (record_at read store.old.folder (P.world place.new).files key.now ≡ None) }
+    ensures left { (read : Reading) → IsTrue P.tells → Leaves None (record_at read store.old.folder (P.world place.old).files key.now) (record_at read store.old.folder (P.world place.new).files key.now) }
     ensures ahead { (read : Reading) → IsTrue P.tells → IsAhead (record_at read store.old.folder (P.world place.old).files) store.old.next → IsAhead (record_at read store.old.folder (P.world place.new).files) store.new.next }
     ensures only { IsTrue P.tells → ChangesOnly (is_at_or_below (place_of store.old.folder key.now)) (P.world place.old) (P.world place.new) }
     ensures most { P.most place.new ≡ P.most place.old }
@@ -156,6 +158,7 @@ pub(crate) fn launch<P: Place>(
     ensures sound { (read : Reading) (judge : Judge) → IsTrue P.tells → Sound read judge P.child store.old.folder (P.world place.old).files → Sound read judge P.child store.old.folder (P.world place.new).files }
     ensures gone { (read : Reading) → IsTrue P.tells → OnOk result (record_at read store.old.folder (P.world place.new).files unit.now.key ≡ None) }
     ensures ahead { (read : Reading) → IsTrue P.tells → IsAhead (record_at read store.old.folder (P.world place.old).files) store.old.next → IsAhead (record_at read store.old.folder (P.world place.new).files) store.new.next }
+    ensures left { (read : Reading) → IsTrue P.tells → Leaves None (record_at read store.old.folder (P.world place.old).files unit.now.key) (record_at read store.old.folder (P.world place.new).files unit.now.key) }
     ensures spawned { IsTrue P.tells → IfOk result (λ launched. IsSpawned (is_of store.old.folder unit.now.key) P.child command.now (P.world place.old) launched.ticket (P.counts place.new).starts.flying (P.still place.new)) }
     ensures only { IsTrue P.tells → ChangesOnly (is_of store.old.folder unit.now.key) (P.world place.old) (P.world place.new) }
     ensures most { MatchResult result (λ launched. P.most place.new ≡ max (P.most place.old) (length (P.counts place.old).starts.flying + 1)) (λ e. P.most place.new ≡ P.most place.old) }

@@ -1,7 +1,7 @@
-use Rattle.std.proofs.Common.{ap}
+use Rattle.std.proofs.Common.{ap, inl}
 use Rattle.pb_place.specs.Counts.{Starts}
 use Rattle.pb_run.proofs.Ending.{lifted_after, begun_after}
-use Rattle.pb_run.proofs.Spawning.{launched_ahead, launched_sound, launched_spawned, launched_still}
+use Rattle.pb_run.proofs.Spawning.{launched_ahead, launched_gone, launched_sound, launched_spawned, launched_still}
 use Rattle.pb_run.proofs.launching.launch.Goals as goal
 
 pub returns-in-Ok-spawn_anew-clause-sound : goal.returns-in-Ok-spawn_anew-clause-sound
@@ -20,7 +20,7 @@ returns-in-Ok-spawn_anew-clause-spawned g c told =
     (c.in-Ok.ensures.only told) (c.in-Ok-spawn_anew.ensures.spawned told)
 
 pub returns-in-Ok-spawn_anew-clause-takes : goal.returns-in-Ok-spawn_anew-clause-takes
-returns-in-Ok-spawn_anew-clause-takes g c = lifted_after _ _ _ _ c.in-Ok.ensures.takes (c.in-Ok-spawn_anew.ensures.takes c.args.store.now.next)
+returns-in-Ok-spawn_anew-clause-takes g c = lifted_after _ (g.P.Place.counts c.args.place.now) (g.P.Place.counts c.drop_record.new.place) (g.P.Place.counts c.spawn_anew.new.place) c.in-Ok.ensures.takes (c.in-Ok-spawn_anew.ensures.takes c.args.store.now.next)
 
 pub returns-in-Err-spawn_anew-clause-sound : goal.returns-in-Err-spawn_anew-clause-sound
 returns-in-Err-spawn_anew-clause-sound g c read judge told sound =
@@ -37,4 +37,14 @@ returns-in-Err-spawn_anew-clause-still g c told =
     launched_still c.args.store.now.folder c.args.unit.now.key c.args.unit.now.out _ _ _ _ _ c.requires.lies (ap (λ (s : Starts). s.flying) c.in-Ok.ensures.takes.1) (c.in-Ok.ensures.still told) (c.in-Err-spawn_anew.ensures.still told)
 
 pub returns-in-Err-spawn_anew-clause-takes : goal.returns-in-Err-spawn_anew-clause-takes
-returns-in-Err-spawn_anew-clause-takes g c = begun_after c.args.store.now.next c.args.unit.now.key _ _ _ _ c.in-Ok.ensures.takes (c.in-Err-spawn_anew.ensures.takes c.args.store.now.next)
+returns-in-Err-spawn_anew-clause-takes g c = begun_after c.args.store.now.next c.args.unit.now.key _ (g.P.Place.counts c.args.place.now) (g.P.Place.counts c.drop_record.new.place) (g.P.Place.counts c.spawn_anew.new.place) c.in-Ok.ensures.takes (c.in-Err-spawn_anew.ensures.takes c.args.store.now.next)
+
+pub returns-in-Ok-spawn_anew-clause-left : goal.returns-in-Ok-spawn_anew-clause-left
+returns-in-Ok-spawn_anew-clause-left g c read told =
+    inl (launched_gone read c.args.store.now.folder c.args.unit.now.key c.args.unit.now.out (g.P.Place.world c.drop_record.new.place) (g.P.Place.world c.spawn_anew.new.place) c.requires.key c.requires.lies
+    (c.in-Ok-spawn_anew.ensures.only told) (c.in-Ok.ensures.gone read told))
+
+pub returns-in-Err-spawn_anew-clause-left : goal.returns-in-Err-spawn_anew-clause-left
+returns-in-Err-spawn_anew-clause-left g c read told =
+    inl (launched_gone read c.args.store.now.folder c.args.unit.now.key c.args.unit.now.out (g.P.Place.world c.drop_record.new.place) (g.P.Place.world c.spawn_anew.new.place) c.requires.key c.requires.lies
+    (c.in-Err-spawn_anew.ensures.only told) (c.in-Ok.ensures.gone read told))

@@ -8,7 +8,7 @@ returns-in-Ok-spawn-clause-spawned g c told =
     c.in-Ok-spawn.ensures.flies c.in-Ok-spawn.ensures.stands
 
 pub returns-in-Ok-spawn-clause-takes : goal.returns-in-Ok-spawn-clause-takes
-returns-in-Ok-spawn-clause-takes g c next = lifted_after _ _ _ _ c.in-Ok.ensures.takes (c.in-Ok-spawn.ensures.takes next)
+returns-in-Ok-spawn-clause-takes g c next = lifted_after _ (g.P.Place.counts c.args.place.now) (g.P.Place.counts c.empty.new.place) (g.P.Place.counts c.spawn.new.place) c.in-Ok.ensures.takes (c.in-Ok-spawn.ensures.takes next)
 
 pub returns-in-Err-spawn-clause-takes : goal.returns-in-Err-spawn-clause-takes
-returns-in-Err-spawn-clause-takes g c next = begun_after next c.args.unit.now.key _ _ _ _ c.in-Ok.ensures.takes (c.in-Err-spawn.ensures.takes next)
+returns-in-Err-spawn-clause-takes g c next = begun_after next c.args.unit.now.key _ (g.P.Place.counts c.args.place.now) (g.P.Place.counts c.empty.new.place) (g.P.Place.counts c.spawn.new.place) c.in-Ok.ensures.takes (c.in-Err-spawn.ensures.takes next)

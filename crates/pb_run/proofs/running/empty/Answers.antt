@@ -1,5 +1,5 @@
 use Rattle.pb_place.specs.Paths.{is_at_or_below}
-use Rattle.pb_place.proofs.Folders.{only_removed, only_partly}
+use Rattle.pb_place.proofs.Folders.{only_removed}
 use Rattle.pb_run.proofs.Spawning.{outside_still}
 use Rattle.pb_run.proofs.running.empty.Goals as goal
 
@@ -10,8 +10,3 @@ pub returns-in-Ok-remove_tree-clause-still : goal.returns-in-Ok-remove_tree-clau
 returns-in-Ok-remove_tree-clause-still g c told =
     outside_still (is_at_or_below c.args.folder.now) _ (g.P.Place.world c.args.place.now) (g.P.Place.world c.remove_tree.new.self) _ _ c.in-Ok-remove_tree.ensures.still
     (only_removed c.args.folder.now (g.P.Place.world c.args.place.now) (g.P.Place.world c.remove_tree.new.self) (c.in-Ok-remove_tree.ensures.ok told))
-
-pub returns-clause-still : goal.returns-clause-still
-returns-clause-still g c told =
-    outside_still (is_at_or_below c.args.folder.now) _ (g.P.Place.world c.args.place.now) (g.P.Place.world c.remove_tree.new.self) _ _ c.in-Err-remove_tree.ensures.still
-    (only_partly c.args.folder.now (g.P.Place.world c.args.place.now) (g.P.Place.world c.remove_tree.new.self) (c.in-Err-remove_tree.ensures.err told))
