@@ -62,7 +62,7 @@ pub landed_files : (out : List ℕ) (files : List (List ℕ × List ℕ)) (befor
 landed_files out files before old new is lands =
     ap (λ (w : World). files_in out w.files) lands
     ∙ files_alike out (put_files out files (put_back out (files_in out before) old.files)) (put_files out files empty)
-      (λ q inside. put_alike out q files (put_back out (files_in out before) old.files) empty (back_none out q before old.files is inside ∙ sym (get-empty (slice_cmp nat_cmp) q)))
+    (λ q inside. put_alike out q files (put_back out (files_in out before) old.files) empty (back_none out q before old.files is inside ∙ sym (get-empty (slice_cmp nat_cmp) q)))
 
 module _ (b : Basis) (order : IsInOrder b.project) (i : ℕ) (u : Planned) (at : unit_at b.project i ≡ Some u) where
   command_out : (command_in b i u).out ≡ Some u.out

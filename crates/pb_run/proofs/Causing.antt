@@ -100,12 +100,14 @@ spawn_failed next key start.Died spawned old new may counts = absurd (no_died (m
   where
     no_memory : start.Died ≡ start.OutOfMemory → ⊥
     no_memory e = cc
+
     no_died : start.Died ≡ start.CannotStart → ⊥
     no_died e = cc
 spawn_failed next key start.Capture spawned old new may counts = absurd (no_capture (may no_memory))
   where
     no_memory : start.Capture ≡ start.OutOfMemory → ⊥
     no_memory e = cc
+
     no_capture : start.Capture ≡ start.CannotStart → ⊥
     no_capture e = cc
 spawn_failed next key start.OutOfMemory spawned old new may counts = (inr (ap (λ (c : Counts). c.starts) counts), ap (λ (c : Counts). c.failures) counts)

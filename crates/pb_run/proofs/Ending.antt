@@ -29,8 +29,10 @@ finish_failed next key l start.CannotStart old new may counts = elim (may no_mem
   where
     no_memory : start.CannotStart ≡ start.OutOfMemory → ⊥
     no_memory e = cc
+
     no_died : start.CannotStart ≡ start.Died → ⊥
     no_died e = cc
+
     no_capture : start.CannotStart ≡ start.Capture → ⊥
     no_capture e = cc
 finish_failed next key l start.Died old new may counts =

@@ -10,7 +10,7 @@ use Rattle.pb_directive.specs.declared.directive.Directive.{Directive}
 use Rattle.pb_flight.specs.declared.flight.State.{State}
 use Rattle.pb_flight.specs.declared.flight.State.TheVariants.{Begun as begun_state}
 use Rattle.pb_flight.specs.Table.{is_good_at}
-use Rattle.pb_place.specs.Children.{child_at}
+use Rattle.pb_place.specs.Children.{StandsStill, child_at}
 use Rattle.pb_place.specs.Counts.{Starts}
 use Rattle.pb_place.specs.World.{World, ChangesOnly, seen_by}
 use Rattle.pb_place.specs.declared.child_in_flight.ChildInFlight.{ChildInFlight}
@@ -139,3 +139,8 @@ module _ (b : Basis) (order : IsInOrder b.project) (i : ℕ) (u : Planned) (at :
       others_at_folder w' next flying' still' (subst (ChangesOnly (is_of (records_folder b.project) u.key) w) (sym same) (only_same _ w)) (inl refl)
       (inr (inl (ap (λ (v : World). record_at b.read (records_folder b.project) v.files u.key) same)))
       (λ t f there. ap (child_at t) flies ∙ there) (λ t stands stood. keeps t stood)
+
+-- what stood still over a call that changes nothing, and then over one that changes these paths
+pub still_after : (inside : List ℕ → Bool) (flying next : List ChildInFlight) (before mid after' : ℕ → Type 0) → KeepsStill before mid → next ≡ flying → KeepsStillOutside inside next mid after' → KeepsStillOutside inside flying before after'
+still_after inside flying next before mid after' first same second ticket stands stood =
+    second ticket (λ x y only. subst (λ fs. StandsStill ticket fs x y) (sym same) (stands x y only)) (first ticket stood)

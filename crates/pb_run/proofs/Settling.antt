@@ -1,6 +1,7 @@
 -- A unit with a child that answers: what is kept of a build, and what another unit finds.
 use Rattle.std.proofs.Common.{◌≡◌, ◌≢◌, ◌⊎◌, ◌∙◌, ℕ, Bool, true, false, List, Option, Some, None, Result, Ok, Err, Contains, map, refl, sym, ap, subst, inl, inr, slice_get, slice_set, take}
 use Rattle.std.proofs.lemmas.Bool.{false≢true}
+use Rattle.std.specs.Prelude.{IfSome}
 use Rattle.std.specs.Option.{is_some}
 use Rattle.pb_command.specs.Answers.{answered_of}
 use Rattle.pb_command.specs.Judge.{ended_by, file_at, inputs_if, judge, replied_files}
@@ -9,14 +10,16 @@ use Rattle.pb_directive.specs.declared.directive.Directive.{Directive}
 use Rattle.pb_flight.specs.declared.flight.State.{State}
 use Rattle.pb_flight.specs.declared.flight.State.TheVariants.{Answered}
 use Rattle.pb_place.specs.Children.{StandsStill, StaysStillBut, child_at}
-use Rattle.pb_place.specs.Counts.{without}
+use Rattle.pb_place.specs.Counts.{Counts, counted_finish, without}
 use Rattle.pb_place.specs.Folders.{files_in}
 use Rattle.pb_place.specs.Paths.{is_at_or_below}
-use Rattle.pb_place.specs.World.{World, Map, ChangesOnly, seen_by}
+use Rattle.pb_place.specs.World.{World, ChangesOnly, ChangesOnlyInSome, seen_by}
 use Rattle.pb_place.specs.declared.child.Reply.{Reply}
 use Rattle.pb_place.specs.declared.child_in_flight.ChildInFlight.{ChildInFlight}
 use Rattle.pb_place.specs.declared.command.Command.{Command}
 use Rattle.pb_place.specs.declared.command.Ended.{Ended}
+use Rattle.pb_place.specs.declared.place.StartFault.{StartFault}
+use Rattle.pb_place.specs.declared.place.StartFault.TheVariants as start
 use Rattle.pb_project.specs.Targets.{crate_name_of, dep_info_of, unit_at}
 use Rattle.pb_project.specs.declared.answer.Answered as answers
 use Rattle.pb_project.specs.declared.answer.InputName.{InputName}
@@ -30,7 +33,7 @@ use Rattle.pb_run.specs.declared.begun.Begun.{Begun}
 use Rattle.pb_run.specs.declared.begun.Launched.{Launched}
 use Rattle.pb_run.specs.declared.ran.Judgement.{Judgement}
 use Rattle.pb_run.specs.declared.ran.Ran.{Ran}
-use Rattle.pb_run.proofs.Answering.{reached_stand}
+use Rattle.pb_run.proofs.Answering.{landed_only, reached_stand}
 use Rattle.pb_run.proofs.RecordedAnswer.{begun_bad, its_command, its_record, keeps_answered, keeps_fault, only_join, only_out, only_place}
 use Rattle.pb_run.proofs.RecordedLanding.{kept_ahead, kept_record, kept_sound, landed_ahead, landed_sound, left_kept, left_landed}
 use Rattle.pb_run.proofs.RecordedOthers.{IfRecords, Left, flies_without, if_records, stays_begun}
@@ -124,7 +127,7 @@ module _ (b : Basis) (order : IsInOrder b.project) (i : ℕ) (u : Planned) (at :
         ap (λ (d : Command). answered_of b.project u d ended (file_at (dep_info_of b.project u) w1.files)) is_command
         ∙ ap (λ (e : Ended). answered_of b.project u (command_in b i u) e (file_at (dep_info_of b.project u) w1.files)) is_ended
         ∙ ap (answered_of b.project u (command_in b i u) (ended_by reply))
-          (sym (inside_file u.out (dep_info_of b.project u) w1.files (λ q is. dep_info_inside b.project u u.unit.what (crate_name_of b.project u) q is)) ∙ ap (file_at (dep_info_of b.project u)) made)
+        (sym (inside_file u.out (dep_info_of b.project u) w1.files (λ q is. dep_info_inside b.project u u.unit.what (crate_name_of b.project u) q is)) ∙ ap (file_at (dep_info_of b.project u)) made)
 
     its_names : judge (command_in b i u) reply ≡ Some j.names
     its_names =
@@ -193,3 +196,35 @@ module _ (b : Basis) (order : IsInOrder b.project) (i : ℕ) (u : Planned) (at :
   pub stood_over : (t : ℕ) (mid later : ℕ → Type 0) → t ≢ l.ticket → StaysStillBut l.ticket flying w w1 still mid → KeepsStill mid later
       → ((x y : World) → ChangesOnly (is_of (records_folder b.project) u.key) x y → StandsStill t flying x y) → still t → later t
   stood_over t mid later apart ends keeps stands stood = keeps t (ends t apart (stands w w1 only_now) stood)
+
+-- Its child's end is asked for, and the answer dropped.
+
+finish_flying : (ticket : ℕ) (result : Result Ended StartFault) (old : Counts) → (counted_finish ticket result old).starts.flying ≡ without ticket old.starts.flying
+finish_flying ticket (Ok x) old = refl
+finish_flying ticket (Err start.CannotStart) old = refl
+finish_flying ticket (Err start.Died) old = refl
+finish_flying ticket (Err start.Capture) old = refl
+finish_flying ticket (Err start.OutOfMemory) old = refl
+
+module _ (b : Basis) (order : IsInOrder b.project) (i : ℕ) (u : Planned) (at : unit_at b.project i ≡ Some u) (w w1 : World) (next : Option ℕ) (flying : List ChildInFlight) (still : ℕ → Type 0)
+    (begun : Begun) (l : Launched) (is : begun.launched ≡ Some l) where
+  as_parts : begun ≡ begun_with begun.unit begun.command (Some l)
+  as_parts = ap (begun_with begun.unit begun.command) is
+
+  pub dropped_only : IsBegun b i begun next w flying still → IfSome (child_at l.ticket flying) (λ s. ChangesOnlyInSome s.command.out w w1) → ChangesOnly (is_at_or_below u.out) w w1
+  dropped_only is_begun only = landed_only b order i u at begun.unit begun.command l next flying still w w1 (subst (λ (x : Begun). IsBegun b i x next w flying still) as_parts is_begun) only
+
+  module _ (states : List (State UnitFault)) (done : List (Option (List Directive))) (can : CanAnswer b states done i u begun next w flying still) (only : IfSome (child_at l.ticket flying) (λ s. ChangesOnlyInSome s.command.out w w1)) where
+    can_parts : CanAnswer b states done i u (begun_with begun.unit begun.command (Some l)) next w flying still
+    can_parts = subst (λ (x : Begun). CanAnswer b states done i u x next w flying still) as_parts can
+
+    pub dropped_keeps : Keeps b states done next w1
+    dropped_keeps = keeps_landed b order i u at begun.unit begun.command l next w flying still states done can_parts w1 (dropped_only can.begun_so only) w1 refl
+
+    pub dropped_others : (other : ℕ) (its : Begun) (result : Result Ended StartFault) (still' : ℕ → Type 0) (old new : Counts) → old.starts.flying ≡ flying → new ≡ counted_finish l.ticket result old → w1 ≡ w1
+        → StaysStillBut l.ticket flying w w1 still still' → BeginsApart b states i begun.launched other its next w flying still → IsBegun b other its next w1 new.starts.flying still'
+    dropped_others other its result still' old new flies counts same ends apart =
+        others_unkept b order i u at begun.unit begun.command l next w flying still states done can_parts w1 (dropped_only can.begun_so only) other its w1 new.starts.flying still'
+        (subst (λ (o : Option Launched). BeginsApart b states i o other its next w flying still) is apart) refl
+        (ap (λ (c : Counts). c.starts.flying) counts ∙ finish_flying l.ticket result old ∙ ap (without l.ticket) flies)
+        (λ t ne stands stood. stood_over b order i u at begun.unit begun.command l next w flying still states done can_parts w1 (dropped_only can.begun_so only) t still' still' ne ends (λ x y. y) stands stood)

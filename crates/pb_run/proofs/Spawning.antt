@@ -70,12 +70,15 @@ spawned_flies child c w ticket old new fresh counts = ap (λ (x : Counts). child
 
 pub spawned_lifts : (child : World → Reply) (c : Command) (w : World) (ticket : ℕ) (old new : Counts) → is_flying ticket old.starts.flying ≡ false → new ≡ counted_spawn (child_spawned child c w) (Ok ticket) old
     → (new.failures ≡ old.failures) × IsLifted ticket old.starts new.starts
-spawned_lifts child c w ticket old new fresh counts = (ap (λ (x : Counts). x.failures) counts, record {
-  child = child_spawned child c w ticket;
-  its = refl;
-  free = fresh;
-  lifted = ap (λ (x : Counts). x.starts) counts;
-})
+spawned_lifts child c w ticket old new fresh counts = (
+  ap (λ (x : Counts). x.failures) counts,
+  record {
+    child = child_spawned child c w ticket;
+    its = refl;
+    free = fresh;
+    lifted = ap (λ (x : Counts). x.starts) counts;
+  },
+)
 
 -- An emptied folder holds nothing.
 

@@ -169,7 +169,16 @@ fn keep<P: Place>(
         Ok(name) => name,
         Err(_) => return Err(BuildFault::OutOfMemory),
     };
-    match store.keep(alloc, place, &unit.key, number, command, needs.as_slice(), names, ended) {
+    match store.keep(
+        alloc,
+        place,
+        &unit.key,
+        number,
+        command,
+        needs.as_slice(),
+        names,
+        ended,
+    ) {
         Ok(()) => Ok(()),
         Err(fault) => Err(storeless(name, fault)),
     }
@@ -275,8 +284,8 @@ pub(crate) fn land<P: Place>(
     ensures keeps { (footing : Footing) (read : Reading) (setup : Setup) (sources : World) (states : List (State UnitFault)) (done : List (Option (List Directive))) → IsReading read → IsTrue P.tells
         → CanAnswer (basis footing read P.child setup project.now sources) states done index unit.now (begun_with unit.now.key command.now (Some launched.now)) store.now.next (P.world place.old) (P.counts place.old).starts.flying (P.still place.old)
         → MatchResult result
-            (λ ran. (lines : List ℕ) → Keeps (basis footing read P.child setup project.now sources) (slice_set states index (state.Answered record { fault = ran.fault; lines = lines })) (slice_set done index ran.directives) store.now.next (P.world place.new))
-            (λ e. Keeps (basis footing read P.child setup project.now sources) states done store.now.next (P.world place.new)) }
+        (λ ran. (lines : List ℕ) → Keeps (basis footing read P.child setup project.now sources) (slice_set states index (state.Answered record { fault = ran.fault; lines = lines })) (slice_set done index ran.directives) store.now.next (P.world place.new))
+        (λ e. Keeps (basis footing read P.child setup project.now sources) states done store.now.next (P.world place.new)) }
     ensures others { (footing : Footing) (read : Reading) (setup : Setup) (sources : World) (states : List (State UnitFault)) (done : List (Option (List Directive))) (other : ℕ) (its : Begun) → IsReading read → IsTrue P.tells
         → CanAnswer (basis footing read P.child setup project.now sources) states done index unit.now (begun_with unit.now.key command.now (Some launched.now)) store.now.next (P.world place.old) (P.counts place.old).starts.flying (P.still place.old)
         → BeginsApart (basis footing read P.child setup project.now sources) states index (Some launched.now) other its store.now.next (P.world place.old) (P.counts place.old).starts.flying (P.still place.old)
@@ -300,7 +309,17 @@ pub(crate) fn land<P: Place>(
     if judgement.ran.fault.is_some() {
         return Ok(judgement.ran);
     }
-    match keep(alloc, place, store, project, unit, command, launched.number, &ended, judgement.names.as_slice()) {
+    match keep(
+        alloc,
+        place,
+        store,
+        project,
+        unit,
+        command,
+        launched.number,
+        &ended,
+        judgement.names.as_slice(),
+    ) {
         Ok(()) => Ok(judgement.ran),
         Err(fault) => Err(fault),
     }
@@ -327,8 +346,8 @@ pub(crate) fn reuse<P: Place>(
     ensures keeps { (footing : Footing) (read : Reading) (setup : Setup) (sources : World) (states : List (State UnitFault)) (done : List (Option (List Directive))) → IsReading read → IsTrue P.tells
         → CanAnswer (basis footing read P.child setup project.now sources) states done index unit.now (begun_with unit.now.key command.now None) store.old.next (P.world place.old) (P.counts place.old).starts.flying (P.still place.old)
         → MatchResult result
-            (λ ran. (lines : List ℕ) → Keeps (basis footing read P.child setup project.now sources) (slice_set states index (state.Answered record { fault = ran.fault; lines = lines })) (slice_set done index ran.directives) store.new.next (P.world place.new))
-            (λ e. Keeps (basis footing read P.child setup project.now sources) states done store.new.next (P.world place.new)) }
+        (λ ran. (lines : List ℕ) → Keeps (basis footing read P.child setup project.now sources) (slice_set states index (state.Answered record { fault = ran.fault; lines = lines })) (slice_set done index ran.directives) store.new.next (P.world place.new))
+        (λ e. Keeps (basis footing read P.child setup project.now sources) states done store.new.next (P.world place.new)) }
     ensures others { (footing : Footing) (read : Reading) (setup : Setup) (sources : World) (states : List (State UnitFault)) (done : List (Option (List Directive))) (other : ℕ) (its : Begun) → IsReading read → IsTrue P.tells
         → CanAnswer (basis footing read P.child setup project.now sources) states done index unit.now (begun_with unit.now.key command.now None) store.old.next (P.world place.old) (P.counts place.old).starts.flying (P.still place.old)
         → BeginsApart (basis footing read P.child setup project.now sources) states index None other its store.old.next (P.world place.old) (P.counts place.old).starts.flying (P.still place.old)
