@@ -5,8 +5,7 @@ use Rattle.pb_place.specs.World.{World, ChangesOnly}
 use Rattle.pb_run.specs.Halves.{basis, outcomes_in}
 use Rattle.pb_run.specs.Outcome.{outcome_by}
 use Rattle.pb_run.proofs.Answering.{landed_gives, landed_only}
-use Rattle.pb_run.proofs.Ending.{landed_more, landed_told}
-use Rattle.pb_run.proofs.Halving.{out_lies}
+use Rattle.pb_run.proofs.Ending.{landed_told}
 use Rattle.pb_run.proofs.Settling.{keeps_bad, keeps_landed}
 use Rattle.pb_run.proofs.Spawning.{out_within, widen}
 use Rattle.pb_run.proofs.landing.land.Goals as goal
@@ -46,19 +45,3 @@ returns-then-is_some-clause-only g c footing read setup sources told is =
 pub returns-in-Err-judged_now-clause-takes : goal.returns-in-Err-judged_now-clause-takes
 returns-in-Err-judged_now-clause-takes g c =
     landed_told c.args.store.now.next c.args.unit.now.key c.args.launched.now _ (g.P.Place.counts c.args.place.now) (g.P.Place.counts c.finish.new.place) (g.P.Place.counts c.judged_now.new.place) (c.in-Ok.ensures.takes c.args.store.now.next) c.in-Err-judged_now.ensures.takes
-
-pub returns-clause-takes : goal.returns-clause-takes
-returns-clause-takes g c =
-    landed_more c.args.store.now.next c.args.unit.now.key c.args.launched.now _ (g.P.Place.counts c.args.place.now) (g.P.Place.counts c.finish.new.place) (g.P.Place.counts c.judged_now.new.place) (g.P.Place.counts c.keep.new.place) (c.in-Ok.ensures.takes c.args.store.now.next) c.in-Ok-judged_now.ensures.takes c.in-Err-keep.ensures.takes
-
-pub returns-then-is_some-clause-takes : goal.returns-then-is_some-clause-takes
-returns-then-is_some-clause-takes g c =
-    (c.in-Ok-judged_now.ensures.takes.0 ∙ (c.in-Ok.ensures.takes c.args.store.now.next).0, c.in-Ok-judged_now.ensures.takes.1 ∙ (c.in-Ok.ensures.takes c.args.store.now.next).1)
-
-pub returns-in-Ok-keep-clause-takes : goal.returns-in-Ok-keep-clause-takes
-returns-in-Ok-keep-clause-takes g c =
-    (c.in-Ok-keep.ensures.takes.0 ∙ c.in-Ok-judged_now.ensures.takes.0 ∙ (c.in-Ok.ensures.takes c.args.store.now.next).0,
-     c.in-Ok-keep.ensures.takes.1 ∙ c.in-Ok-judged_now.ensures.takes.1 ∙ (c.in-Ok.ensures.takes c.args.store.now.next).1)
-
-pub keep-requires-clause-out : goal.keep-requires-clause-out
-keep-requires-clause-out g c = out_lies c.args.project.now c.args.index c.args.unit.now c.args.store.now.folder c.args.command.now c.requires.order c.requires.unit c.requires.folder c.requires.asks
