@@ -72,7 +72,7 @@ pub run_only : (folder : List ℕ) (out : Option (List ℕ)) (old mid new : Worl
 run_only folder out old mid new emptied is only = changes_join folder old mid new (only_removed folder old mid emptied) (only_started folder out mid new is only)
 
 -- a file of a folder, seen in the folder or in the whole
-inside_file : (folder : List ℕ) (path : Option (List ℕ)) (m : Map) → ((q : List ℕ) → path ≡ Some q → is_below folder q ≡ true) → file_at path (files_in folder m) ≡ file_at path m
+pub inside_file : (folder : List ℕ) (path : Option (List ℕ)) (m : Map) → ((q : List ℕ) → path ≡ Some q → is_below folder q ≡ true) → file_at path (files_in folder m) ≡ file_at path m
 inside_file folder None m lies = refl
 inside_file folder (Some q) m lies = get-files_in folder m q ∙ ap (λ b. cond b (get m q) None) (lies q refl)
 
@@ -85,7 +85,7 @@ named_inside folder name q true relative is = below_is_below folder name q relat
     get_or_self (Some x) = x
 named_inside folder name q false relative is = cc
 
-dep_info_inside : (project : Project) (u : Planned) (w : What) (name q : List ℕ) → dep_info_by w u.out name ≡ Some q → is_below u.out q ≡ true
+pub dep_info_inside : (project : Project) (u : Planned) (w : What) (name q : List ℕ) → dep_info_by w u.out name ≡ Some q → is_below u.out q ≡ true
 dep_info_inside project u Lib name q is = named_inside u.out (name ++ codes ".d") q (is_relative (name ++ codes ".d")) refl is
 dep_info_inside project u (Bin binary) name q is = named_inside u.out (name ++ codes ".d") q (is_relative (name ++ codes ".d")) refl is
 dep_info_inside project u Script name q is = named_inside u.out (name ++ codes ".d") q (is_relative (name ++ codes ".d")) refl is

@@ -1,8 +1,9 @@
 -- Why a step of a build ends with a fault: which call failed, with which fault, after how many starts.
-use Rattle.std.specs.Prelude.{◌≡◌, ◌≢◌, ◌⊎◌, ◌++◌, ◌∷◌, [], ℕ, false, IsSome, List, Option, Some, None, Result, MatchResult}
+use Rattle.std.specs.Prelude.{◌≡◌, ◌≢◌, ◌⊎◌, ◌++◌, ◌∷◌, [], ℕ, false, IsSome, List, Option, Some, None, IfErr, Result, MatchResult}
 use Rattle.pb_place.specs.Children.{is_flying}
-use Rattle.pb_place.specs.Counts.{Counts, Starts, up, up_starts, without}
+use Rattle.pb_place.specs.Counts.{Counts, Starts, up, up_starts, without, counted_finish}
 use Rattle.pb_place.specs.declared.child_in_flight.ChildInFlight.{ChildInFlight}
+use Rattle.pb_place.specs.declared.command.Ended.{Ended}
 use Rattle.pb_place.specs.declared.place.Failure.{Failure}
 use Rattle.pb_place.specs.declared.place.Failure.TheVariants.{Called, Started}
 use Rattle.pb_place.specs.declared.place.PlaceFault.{PlaceFault}
@@ -135,6 +136,11 @@ Begins begun old new = BeginsBy begun.launched old new
 abbrev pub Lands : {T : Type 0} → Option Launched → T → Starts → Starts → Type 0
 Lands launched x old new = LandsBy launched old new
 
+-- a child's end was asked for, where there is one, and the answer dropped
+abbrev pub Drops : Option Launched → Counts → Counts → Type 0
+Drops None old new = new ≡ old
+Drops (Some launched) old new = (result : Result Ended StartFault) × (new ≡ counted_finish launched.ticket result old) × IfErr result (λ e. e ≢ start.OutOfMemory → (e ≡ start.Died) ⊎ (e ≡ start.Capture))
+
 -- the faults of the calls that look for a difference, remove the record and the files, and spawn the child of the unit of this key; a run number is missing only where none is left
 abbrev pub MayBeginUnit : Option ℕ → List ℕ → BuildFault → Starts → Starts → Type 0
 MayBeginUnit next key (Plan refusal) old new = ⊥
@@ -144,6 +150,16 @@ MayBeginUnit next key (Device unit (Place fault)) old new = (unit ≡ key) × (f
 MayBeginUnit next key (Device unit NumbersSpent) old new = (unit ≡ key) × (next ≡ None) × (new ≡ old)
 MayBeginUnit next key Sink old new = ⊥
 MayBeginUnit next key OutOfMemory old new = (new ≡ old) ⊎ (new ≡ up_starts old)
+
+-- of those that come after the child's end, or in its place: they read and write files, list folders and read variables
+abbrev pub MayFollow : List ℕ → BuildFault → Starts → Starts → Type 0
+MayFollow key (Plan refusal) old new = ⊥
+MayFollow key Toolchain old new = ⊥
+MayFollow key (Child unit fault) old new = ⊥
+MayFollow key (Device unit (Place fault)) old new = (unit ≡ key) × (fault ≢ place.Remove) × (new ≡ old)
+MayFollow key (Device unit NumbersSpent) old new = ⊥
+MayFollow key Sink old new = ⊥
+MayFollow key OutOfMemory old new = new ≡ old
 
 -- of those that ask for the child's end, or read the record again, read the dep-info, and keep or renew the record
 abbrev pub MayAnswerUnit : Option ℕ → List ℕ → Option Launched → BuildFault → Starts → Starts → Type 0

@@ -123,9 +123,16 @@ abbrev pub key_in : Option Planned → List (List ℕ)
 key_in None = []
 key_in (Some u) = u.key ∷ []
 
+abbrev pub key_at : Project → ℕ → List (List ℕ)
+key_at project place = key_in (unit_at project place)
+
 -- the keys of the units that a unit needs, in plan order
 abbrev pub needed_keys : Project → Planned → List (List ℕ)
-needed_keys project u = flat_map (λ place. key_in (unit_at project place)) u.needs
+needed_keys project u = flat_map (key_at project) u.needs
+
+-- a unit that has begun, by its parts
+abbrev pub begun_with : List ℕ → Command → Option Launched → Begun
+begun_with key c launched = record { unit = key; command = c; launched = launched }
 
 -- its child is in flight: it was spawned for this command, saw this, found its folder empty, and all this stood still since
 pub record IsInFlight (child : Answers) (c : Command) (view : World) (ticket : ℕ) (flying : List ChildInFlight) (still : ℕ → Type 0) : Type 0 where

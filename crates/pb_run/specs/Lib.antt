@@ -4,3 +4,4 @@ pub mod Standing
 pub mod Causes
 pub mod Unfolding
 pub mod Halves
+pub mod Launching

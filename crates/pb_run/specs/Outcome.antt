@@ -19,6 +19,8 @@ use Rattle.pb_project.specs.Targets.{dep_info_of}
 use Rattle.pb_command.specs.Answers.{answered_of}
 use Rattle.pb_command.specs.Judge.{ended_by, replied_files, file_at}
 use Rattle.pb_run.specs.Telling.{good_messages, bad_messages}
+use Rattle.pb_project.specs.declared.answer.InputName.{InputName}
+use Rattle.pb_run.specs.declared.ran.Judgement.{Judgement}
 use Rattle.pb_run.specs.declared.ran.Ran.{Ran}
 
 -- what a unit gives: nothing as yet; the files of its output folder, a script's directives, and what it tells; or why it is bad, and what it tells
@@ -65,6 +67,19 @@ view_of done sources u = record sources { files = with_made done u.reaches sourc
 abbrev pub ran_by : Project → Planned → Ended → Result Answered UnitFault → Ran
 ran_by project u e (Ok a) = record { started = true; fault = None; directives = a.directives; messages = good_messages project u e.stderr a.directives }
 ran_by project u e (Err fault) = record { started = true; fault = Some fault; directives = None; messages = bad_messages u.unit.what fault e }
+
+-- the inputs found in an answer; none where it is bad
+abbrev pub names_in : Result Answered UnitFault → List InputName
+names_in (Ok a) = a.inputs
+names_in (Err fault) = []
+
+-- what comes of it, with the inputs
+abbrev pub judgement_by : Project → Planned → Ended → Result Answered UnitFault → Judgement
+judgement_by project u e a = record { ran = ran_by project u e a; names = names_in a }
+
+-- what came of a unit for which no child was started
+abbrev pub unstarted : Ran → Ran
+unstarted ran = record { started = false; fault = ran.fault; directives = ran.directives; messages = ran.messages }
 
 abbrev pub outcome_from : Option UnitFault → Map → Option (List Directive) → List Message → Outcome
 outcome_from None files directives messages = Good files directives messages

@@ -3,7 +3,9 @@ use Rattle.std.specs.Prelude.{◌≡◌, ◌≢◌, ◌<◌, ◌⊎◌, ◌↔�
 use Rattle.std.specs.List.{list_all, AllByRecursion}
 use Rattle.pb_directive.specs.declared.directive.Directive.{Directive}
 use Rattle.pb_place.specs.Folders.{files_in}
+use Rattle.pb_command.specs.Command.{command_of}
 use Rattle.pb_command.specs.Externs.{reads_of}
+use Rattle.pb_place.specs.declared.command.Command.{Command}
 use Rattle.pb_package.specs.Settled.{IsSettled}
 use Rattle.pb_package.specs.declared.options.Selection.{Selection}
 use Rattle.pb_place.specs.Paths.{is_path, is_below, is_at_or_below}
@@ -20,6 +22,10 @@ use Rattle.pb_run.specs.Outcome.{Outcome, Good, is_good_at, view_of, command_aft
 -- the package of a unit is there
 abbrev pub HasPackage : Project → Planned → Type 0
 HasPackage project u = (p : Package) × (slice_get project.workspace.packages u.unit.owner ≡ Some p)
+
+-- a command is that of a unit, after some runs
+abbrev pub IsCommandOf : Project → Planned → Command → Type 0
+IsCommandOf project u c = (setup : Setup) × (done : List (Option (List Directive))) × (c ≡ command_of setup project u done)
 
 -- the folder of the records of a project's units: the profile's, in the target folder
 abbrev pub records_folder : Project → List ℕ

@@ -1,11 +1,12 @@
 //! The faults of calls for a unit.
 
 ghost use Rattle.std.specs.Prelude.{◌≡◌};
-ghost use Rattle.pb_run.specs.Causes.{child_fault, device_fault};
+ghost use Rattle.pb_run.specs.Causes.{child_fault, device_fault, store_fault};
 
 use pb_answer::{BuildFault, DeviceFault};
 use pb_data::Text;
 use pb_place::{PlaceFault, StartFault};
+use pb_store::StoreFault;
 
 /// The fault of a child that gave no answer: `-vV` for the query, else the unit's key. Want of memory stays so.
 pub fn childless(unit: Text, fault: StartFault) -> BuildFault
@@ -28,5 +29,19 @@ pub fn deviceless(unit: Text, fault: PlaceFault) -> BuildFault
             unit,
             fault: DeviceFault::Place(fault),
         },
+    }
+}
+
+/// The fault of a call of the store for the unit of this key. Want of memory stays so.
+pub fn storeless(unit: Text, fault: StoreFault) -> BuildFault
+    ensures { result ≡ store_fault unit fault }
+{
+    match fault {
+        StoreFault::Place(fault) => deviceless(unit, fault),
+        StoreFault::NumbersSpent => BuildFault::Device {
+            unit,
+            fault: DeviceFault::NumbersSpent,
+        },
+        StoreFault::OutOfMemory => BuildFault::OutOfMemory,
     }
 }

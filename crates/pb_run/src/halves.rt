@@ -1,24 +1,43 @@
-//! The halves of a unit's run: it begins, with a child or without; it answers.
+//! The halves of a unit's run: it begins, with a child or without; it answers, or its answer is dropped.
 
-ghost use Rattle.std.specs.Prelude.{◌≡◌, ◌×◌, ℕ, true, List, Option, IsTrue, IfOk, IfSome, MatchOption, MatchResult, Some, None, max, length, is_some, option_map, slice_get, slice_set};
+ghost use Rattle.std.specs.Prelude.{◌≡◌, ◌+◌, ℕ, true, List, Option, IsTrue, IfOk, IfSome, MatchOption, MatchResult, Some, None, max, length, is_some, option_map, slice_get, slice_set};
 ghost use Rattle.std.specs.FinMap as finite;
+ghost use Rattle.pb_command.specs.Command.{command_of};
 ghost use Rattle.pb_directive.specs.declared.directive.Directive.{Directive};
 ghost use Rattle.pb_flight.specs.declared.flight.State.{State};
 ghost use Rattle.pb_flight.specs.declared.flight.State.TheVariants as state;
 ghost use Rattle.pb_place.specs.Children.{is_flying};
 ghost use Rattle.pb_place.specs.Folders.{files_in};
+ghost use Rattle.pb_place.specs.Paths.{is_at_or_below};
 ghost use Rattle.pb_place.specs.World.{World, ChangesOnly};
+ghost use Rattle.pb_project.specs.Targets.{unit_at};
 ghost use Rattle.pb_project.specs.declared.fault.UnitFault.{UnitFault};
 ghost use Rattle.pb_record.specs.Parts.{IsReading};
-ghost use Rattle.pb_run.specs.Causes.{Takes, Begins, Lands, MayBeginUnit, MayAnswerUnit};
+ghost use Rattle.pb_run.specs.Causes.{Takes, Begins, Lands, Drops, MayBeginUnit, MayAnswerUnit};
 ghost use Rattle.pb_run.specs.Halves.{Footing, Basis, basis, outcomes_in, Keeps, IsBegun, CanBegin, CanAnswer, BeginsApart};
 ghost use Rattle.pb_run.specs.Outcome.{outcome_by, directives_in};
-ghost use Rattle.pb_run.specs.Standing.{IsInOrder, records_folder};
+ghost use Rattle.pb_run.specs.Standing.{IsCommandOf, IsInOrder, records_folder};
+ghost use Rattle.pb_run.specs.declared.begun.Begun.{Begun};
+ghost use Rattle.pb_unit.specs.declared.plan.Planned.{Planned};
 ghost use Rattle.pb_soundness.specs.Apart.{is_of};
 ghost use Rattle.pb_soundness.specs.Numbers.{after};
 ghost use Rattle.pb_soundness.specs.Records.{Reading};
 ghost use Rattle.pb_store.specs.Differences.{FirstDifference};
 ghost use Rattle.pb_store.specs.Migrating.{TakesNumber};
+
+use crate::begun::Begun;
+use crate::landing::{land, reuse};
+use crate::launching::{difference_of, launch};
+use crate::ran::Ran;
+use pb_answer::BuildFault;
+use pb_command::command;
+use pb_data::TryCopy;
+use pb_directive::Directives;
+use pb_place::Place;
+use pb_project::{Project, Setup};
+use pb_store::Store;
+use pb_unit::Planned;
+use std::alloc::Global;
 
 /// Begins the unit at a place of a plan, which has not begun, and all that it reaches has answered and is good: `done`
 /// holds what their runs said. Looks for what differs from the unit's record. Where something does, a run number is
@@ -41,13 +60,15 @@ pub fn begin_unit<P: Place>(
     requires order { IsInOrder project.now }
     requires unit { slice_get project.now.plan.planned index ≡ Some unit.now }
     requires folder { store.old.folder ≡ records_folder project.now }
+    ensures unit { IfOk result (λ begun. begun.unit ≡ unit.now.key) }
+    ensures asks { IfOk result (λ begun. begun.command ≡ command_of setup.now project.now unit.now done.now) }
     ensures begun { (footing : Footing) (read : Reading) (sources : World) (states : List (State UnitFault)) → IsReading read → IsTrue P.tells
         → CanBegin (basis footing read P.child setup.now project.now sources) states done.now index unit.now store.old.next (P.world place.old)
         → IfOk result (λ begun. IsBegun (basis footing read P.child setup.now project.now sources) index begun store.new.next (P.world place.new) (P.counts place.new).starts.flying (P.still place.new)) }
     ensures keeps { (footing : Footing) (read : Reading) (sources : World) (states : List (State UnitFault)) → IsReading read → IsTrue P.tells
         → CanBegin (basis footing read P.child setup.now project.now sources) states done.now index unit.now store.old.next (P.world place.old)
         → Keeps (basis footing read P.child setup.now project.now sources) (slice_set states index state.Begun) done.now store.new.next (P.world place.new) }
-    ensures others { (footing : Footing) (read : Reading) (sources : World) (states : List (State UnitFault)) (other : ℕ) (its : begun.Begun) → IsReading read → IsTrue P.tells
+    ensures others { (footing : Footing) (read : Reading) (sources : World) (states : List (State UnitFault)) (other : ℕ) (its : Begun) → IsReading read → IsTrue P.tells
         → CanBegin (basis footing read P.child setup.now project.now sources) states done.now index unit.now store.old.next (P.world place.old)
         → BeginsApart (basis footing read P.child setup.now project.now sources) states index None other its store.old.next (P.world place.old) (P.counts place.old).starts.flying (P.still place.old)
         → IsBegun (basis footing read P.child setup.now project.now sources) other its store.new.next (P.world place.new) (P.counts place.new).starts.flying (P.still place.new) }
@@ -59,6 +80,38 @@ pub fn begin_unit<P: Place>(
     ensures number { IfOk result (λ begun. IfSome begun.launched (λ launched. (store.old.next ≡ Some launched.number) × (store.new.next ≡ after launched.number))) }
     ensures most { MatchResult result (λ begun. MatchOption begun.launched (P.most place.new ≡ P.most place.old) (λ launched. P.most place.new ≡ max (P.most place.old) (length (P.counts place.old).starts.flying + 1))) (λ e. P.most place.new ≡ P.most place.old) }
     ensures takes { Takes Begins (MayBeginUnit store.old.next unit.now.key) result (P.counts place.old) (P.counts place.new) }
+{
+    let name = match unit.key.copy(alloc) {
+        Ok(name) => name,
+        Err(_) => return Err(BuildFault::OutOfMemory),
+    };
+    let command = match command(alloc, setup, project, unit, done) {
+        Ok(command) => command,
+        Err(_) => return Err(BuildFault::OutOfMemory),
+    };
+    let found = match difference_of(alloc, place, store, &unit.key, &command) {
+        Ok(found) => found,
+        Err(fault) => return Err(fault),
+    };
+    let difference = match found {
+        Some(difference) => difference,
+        None => {
+            return Ok(Begun {
+                unit: name,
+                command,
+                launched: None,
+            });
+        }
+    };
+    match launch(alloc, place, store, unit, &command, difference) {
+        Ok(launched) => Ok(Begun {
+            unit: name,
+            command,
+            launched: Some(launched),
+        }),
+        Err(fault) => Err(fault),
+    }
+}
 
 /// Answers the unit at a place of a plan that has begun so. Where it has a child, asks for its end, reads what it left,
 /// judges the answer, and keeps the record where it is good; else reads the record's answer again, judges it, and
@@ -74,30 +127,75 @@ pub fn answer_unit<P: Place>(
     project: &Project,
     index: usize,
     unit: &Planned,
-    begun: &Begun,
+    begun: Begun,
 ) -> Result<Ran, BuildFault>
     requires order { IsInOrder project.now }
     requires unit { slice_get project.now.plan.planned index ≡ Some unit.now }
     requires folder { store.old.folder ≡ records_folder project.now }
-    requires flies { IfSome begun.now.launched (λ launched. is_flying launched.ticket (P.counts place.old).starts.flying ≡ true) }
+    requires named { begun.unit ≡ unit.now.key }
+    requires asks { IsCommandOf project.now unit.now begun.command }
+    requires flies { IfSome begun.launched (λ launched. is_flying launched.ticket (P.counts place.old).starts.flying ≡ true) }
     ensures outcome { (footing : Footing) (read : Reading) (setup : Setup) (sources : World) (states : List (State UnitFault)) (done : List (Option (List Directive))) → IsReading read → IsTrue P.tells
-        → CanAnswer (basis footing read P.child setup project.now sources) states done index unit.now begun.now store.old.next (P.world place.old) (P.counts place.old).starts.flying (P.still place.old)
+        → CanAnswer (basis footing read P.child setup project.now sources) states done index unit.now begun store.old.next (P.world place.old) (P.counts place.old).starts.flying (P.still place.old)
         → IfOk result (λ ran. slice_get (outcomes_in (basis footing read P.child setup project.now sources)) index ≡ Some (outcome_by (files_in unit.now.out (P.world place.new).files) ran)) }
     ensures keeps { (footing : Footing) (read : Reading) (setup : Setup) (sources : World) (states : List (State UnitFault)) (done : List (Option (List Directive))) → IsReading read → IsTrue P.tells
-        → CanAnswer (basis footing read P.child setup project.now sources) states done index unit.now begun.now store.old.next (P.world place.old) (P.counts place.old).starts.flying (P.still place.old)
+        → CanAnswer (basis footing read P.child setup project.now sources) states done index unit.now begun store.old.next (P.world place.old) (P.counts place.old).starts.flying (P.still place.old)
         → MatchResult result
-            (λ ran. (lines : List ℕ) → Keeps (basis footing read P.child setup project.now sources) (slice_set states index (state.Answered record { fault = ran.fault; lines = lines })) (slice_set done index ran.directives) store.new.next (P.world place.new))
-            (λ e. Keeps (basis footing read P.child setup project.now sources) states done store.new.next (P.world place.new)) }
-    ensures others { (footing : Footing) (read : Reading) (setup : Setup) (sources : World) (states : List (State UnitFault)) (done : List (Option (List Directive))) (other : ℕ) (its : begun.Begun) → IsReading read → IsTrue P.tells
-        → CanAnswer (basis footing read P.child setup project.now sources) states done index unit.now begun.now store.old.next (P.world place.old) (P.counts place.old).starts.flying (P.still place.old)
-        → BeginsApart (basis footing read P.child setup project.now sources) states index begun.now.launched other its store.old.next (P.world place.old) (P.counts place.old).starts.flying (P.still place.old)
+        (λ ran. (lines : List ℕ) → Keeps (basis footing read P.child setup project.now sources) (slice_set states index (state.Answered record { fault = ran.fault; lines = lines })) (slice_set done index ran.directives) store.new.next (P.world place.new))
+        (λ e. Keeps (basis footing read P.child setup project.now sources) states done store.new.next (P.world place.new)) }
+    ensures others { (footing : Footing) (read : Reading) (setup : Setup) (sources : World) (states : List (State UnitFault)) (done : List (Option (List Directive))) (other : ℕ) (its : Begun) → IsReading read → IsTrue P.tells
+        → CanAnswer (basis footing read P.child setup project.now sources) states done index unit.now begun store.old.next (P.world place.old) (P.counts place.old).starts.flying (P.still place.old)
+        → BeginsApart (basis footing read P.child setup project.now sources) states index begun.launched other its store.old.next (P.world place.old) (P.counts place.old).starts.flying (P.still place.old)
         → IsBegun (basis footing read P.child setup project.now sources) other its store.new.next (P.world place.new) (P.counts place.new).starts.flying (P.still place.new) }
     ensures only { (footing : Footing) (read : Reading) (setup : Setup) (sources : World) → IsTrue P.tells
-        → IsBegun (basis footing read P.child setup project.now sources) index begun.now store.old.next (P.world place.old) (P.counts place.old).starts.flying (P.still place.old)
+        → IsBegun (basis footing read P.child setup project.now sources) index begun store.old.next (P.world place.old) (P.counts place.old).starts.flying (P.still place.old)
         → ChangesOnly (is_of (records_folder project.now) unit.now.key) (P.world place.old) (P.world place.new) }
-    ensures started { IfOk result (λ ran. ran.started ≡ is_some begun.now.launched) }
+    ensures started { IfOk result (λ ran. ran.started ≡ is_some begun.launched) }
     ensures directives { IfOk result (λ ran. directives_in (outcome_by finite.empty ran) ≡ ran.directives) }
     ensures folder { store.new.folder ≡ store.old.folder }
     ensures next { TakesNumber store.old.next store.new.next }
     ensures most { P.most place.new ≡ P.most place.old }
-    ensures takes { Takes (Lands begun.now.launched) (MayAnswerUnit store.old.next unit.now.key begun.now.launched) result (P.counts place.old) (P.counts place.new) }
+    ensures takes { Takes (Lands begun.launched) (MayAnswerUnit store.old.next unit.now.key begun.launched) result (P.counts place.old) (P.counts place.new) }
+{
+    let Begun {
+        unit: name,
+        command,
+        launched,
+    } = begun;
+    match launched {
+        Some(launched) => match land(
+            alloc, place, store, project, index, unit, name, &command, &launched,
+        ) {
+            Ok(ran) => Ok(ran),
+            Err(fault) => Err(fault),
+        },
+        None => match reuse(alloc, place, store, project, index, unit, &command) {
+            Ok(ran) => Ok(ran),
+            Err(fault) => Err(fault),
+        },
+    }
+}
+
+/// Asks for the end of the child of a unit that has begun, where it has one, and drops the answer. The child is in
+/// flight no more, whatever the place answers; a call that fails counts.
+pub fn drop_unit<P: Place>(alloc: Global, place: &mut P, begun: &Begun)
+    requires flies { IfSome begun.now.launched (λ launched. is_flying launched.ticket (P.counts place.old).starts.flying ≡ true) }
+    ensures keeps { (b : Basis) (states : List (State UnitFault)) (done : List (Option (List Directive))) (index : ℕ) (unit : Planned) (next : Option ℕ) → IsInOrder b.project → unit_at b.project index ≡ Some unit → IsTrue P.tells
+        → CanAnswer b states done index unit begun.now next (P.world place.old) (P.counts place.old).starts.flying (P.still place.old)
+        → Keeps b states done next (P.world place.new) }
+    ensures others { (b : Basis) (states : List (State UnitFault)) (done : List (Option (List Directive))) (index : ℕ) (unit : Planned) (next : Option ℕ) (other : ℕ) (its : Begun) → IsInOrder b.project → unit_at b.project index ≡ Some unit → IsTrue P.tells
+        → CanAnswer b states done index unit begun.now next (P.world place.old) (P.counts place.old).starts.flying (P.still place.old)
+        → BeginsApart b states index begun.now.launched other its next (P.world place.old) (P.counts place.old).starts.flying (P.still place.old)
+        → IsBegun b other its next (P.world place.new) (P.counts place.new).starts.flying (P.still place.new) }
+    ensures only { (b : Basis) (index : ℕ) (unit : Planned) (next : Option ℕ) → IsInOrder b.project → unit_at b.project index ≡ Some unit → IsTrue P.tells
+        → IsBegun b index begun.now next (P.world place.old) (P.counts place.old).starts.flying (P.still place.old)
+        → ChangesOnly (is_at_or_below unit.out) (P.world place.old) (P.world place.new) }
+    ensures most { P.most place.new ≡ P.most place.old }
+    ensures counts { Drops begun.now.launched (P.counts place.old) (P.counts place.new) }
+{
+    let launched = match &begun.launched {
+        Some(launched) => launched,
+        None => return,
+    };
+    let _ = place.finish(alloc, launched.ticket);
+}

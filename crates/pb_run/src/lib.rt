@@ -2,16 +2,22 @@
 //! which says which unit is begun and answered when.
 #![tactic(auto)]
 
+pub mod begun;
 pub mod faults;
+pub mod halves;
+mod landing;
+mod launching;
 pub mod laws;
 pub mod messages;
 pub mod ran;
 pub mod running;
 pub mod subjects;
 
-pub use faults::{childless, deviceless};
+pub use begun::{Begun, Launched};
+pub use faults::{childless, deviceless, storeless};
+pub use halves::{answer_unit, begin_unit, drop_unit};
 pub use laws::{outcomes_unfold, views_are_shown};
 pub use pb_flight::{First, Flight, Jobs, Last, Pick, Step, Turn};
-pub use ran::Ran;
+pub use ran::{Judgement, Ran};
 pub use running::{run_unit, start};
 pub use subjects::lines_of_unit;

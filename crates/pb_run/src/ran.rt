@@ -6,7 +6,7 @@ ghost use Rattle.pb_project.specs.declared.answer.Answered.{Answered};
 ghost use Rattle.pb_project.specs.declared.fault.UnitFault.{UnitFault};
 ghost use Rattle.pb_project.specs.declared.fault.UnitFault.TheVariants as unit_fault;
 ghost use Rattle.std.specs.FinMap as finite;
-ghost use Rattle.pb_run.specs.Outcome.{ran_by, outcome_by, directives_in};
+ghost use Rattle.pb_run.specs.Outcome.{judgement_by, outcome_by, directives_in};
 
 use crate::messages::{bad_messages, good_messages};
 use pb_command::answered;
@@ -14,7 +14,7 @@ use pb_data::{Bytes, Items};
 use pb_directive::Directives;
 use pb_message::Message;
 use pb_place::{Command, Ended};
-use pb_project::{Answered, Project, UnitFault};
+use pb_project::{Answered, InputName, Project, UnitFault};
 use pb_unit::Planned;
 use std::alloc::{AllocError, Global};
 
@@ -31,46 +31,57 @@ pub struct Ran {
     pub messages: Items<Message>,
 }
 
-/// What came of a unit whose child's answer is good.
+/// How the answer of a unit's child is judged.
+#[derive(Drop)]
+pub struct Judgement {
+    /// What came of the unit.
+    pub ran: Ran,
+    /// The inputs found in its answer; none where it is bad.
+    pub names: Items<InputName>,
+}
+
+/// The judgement of a unit whose child's answer is good.
 fn good(
     alloc: Global,
     project: &Project,
     unit: &Planned,
     ended: &Ended,
     answered: Answered,
-) -> Result<Ran, AllocError>
-    ensures ran { IfOk result (λ ran. ran ≡ ran_by project.now unit.now ended.now (Ok answered)) }
-    ensures started { IfOk result (λ ran. ran.started ≡ true) }
-    ensures directives { IfOk result (λ ran. directives_in (outcome_by finite.empty ran) ≡ ran.directives) }
+) -> Result<Judgement, AllocError>
+    ensures judged { IfOk result (λ judgement. judgement ≡ judgement_by project.now unit.now ended.now (Ok answered)) }
 {
-    let directives = answered.directives;
+    let Answered { directives, inputs } = answered;
     let messages = good_messages(alloc, project, unit, &ended.stderr, &directives)?;
-    Ok(Ran {
-        started: true,
-        fault: None,
-        directives,
-        messages,
+    Ok(Judgement {
+        ran: Ran {
+            started: true,
+            fault: None,
+            directives,
+            messages,
+        },
+        names: inputs,
     })
 }
 
-/// What came of a unit whose child's answer is bad.
+/// The judgement of a unit whose child's answer is bad.
 fn bad(
     alloc: Global,
     project: &Project,
     unit: &Planned,
     ended: &Ended,
     fault: UnitFault,
-) -> Result<Ran, AllocError>
-    ensures ran { IfOk result (λ ran. ran ≡ ran_by project.now unit.now ended.now (Err fault)) }
-    ensures started { IfOk result (λ ran. ran.started ≡ true) }
-    ensures directives { IfOk result (λ ran. directives_in (outcome_by finite.empty ran) ≡ ran.directives) }
+) -> Result<Judgement, AllocError>
+    ensures judged { IfOk result (λ judgement. judgement ≡ judgement_by project.now unit.now ended.now (Err fault)) }
 {
     let messages = bad_messages(alloc, &unit.unit.what, &fault, ended)?;
-    Ok(Ran {
-        started: true,
-        fault: Some(fault),
-        directives: None,
-        messages,
+    Ok(Judgement {
+        ran: Ran {
+            started: true,
+            fault: Some(fault),
+            directives: None,
+            messages,
+        },
+        names: Items::new(alloc),
     })
 }
 
@@ -83,10 +94,10 @@ pub fn judged(
     command: &Command,
     ended: &Ended,
     dep_info: &Option<Bytes>,
-) -> Result<Ran, AllocError>
-    ensures ran { IfOk result (λ ran. ran ≡ ran_by project.now unit.now ended.now (answered_of project.now unit.now command.now ended.now dep_info.now)) }
-    ensures started { IfOk result (λ ran. ran.started ≡ true) }
-    ensures directives { IfOk result (λ ran. directives_in (outcome_by finite.empty ran) ≡ ran.directives) }
+) -> Result<Judgement, AllocError>
+    ensures judged { IfOk result (λ judgement. judgement ≡ judgement_by project.now unit.now ended.now (answered_of project.now unit.now command.now ended.now dep_info.now)) }
+    ensures started { IfOk result (λ judgement. judgement.ran.started ≡ true) }
+    ensures directives { IfOk result (λ judgement. directives_in (outcome_by finite.empty judgement.ran) ≡ judgement.ran.directives) }
 {
     match answered(alloc, project, unit, command, ended, dep_info.as_ref()) {
         Ok(answered) => good(alloc, project, unit, ended, answered),

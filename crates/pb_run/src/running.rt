@@ -13,6 +13,7 @@ ghost use Rattle.pb_place.specs.Folders.{files_in};
 ghost use Rattle.pb_run.specs.Outcome.{outcomes, ran_by, outcome_by, directives_in, directives_of, is_good};
 ghost use Rattle.pb_command.specs.Judge.{file_at};
 ghost use Rattle.pb_run.specs.Standing.{IsInOrder, IsStanding};
+ghost use Rattle.pb_soundness.specs.Apart.{KeepsStill, KeepsStillOutside};
 
 use crate::faults::{childless, deviceless};
 use crate::ran::{Ran, judged};
@@ -48,7 +49,7 @@ pub fn start<P: Place>(
 
 /// Empties the output folder of the unit of this key.
 #[tactic(auto, using(pb_place::proofs::Folders::change_laws))]
-fn empty<P: Place>(
+pub(crate) fn empty<P: Place>(
     alloc: Global,
     place: &mut P,
     key: &str,
@@ -56,6 +57,8 @@ fn empty<P: Place>(
 ) -> Result<(), BuildFault>
     ensures ok { IsTrue P.tells → OnOk result (P.world place.new ≡ removed folder.now (P.world place.old)) }
     ensures only { IsTrue P.tells → ChangesOnly (is_at_or_below folder.now) (P.world place.old) (P.world place.new) }
+    ensures most { P.most place.new ≡ P.most place.old }
+    ensures still { IsTrue P.tells → KeepsStillOutside (is_at_or_below folder.now) (P.counts place.old).starts.flying (P.still place.old) (P.still place.new) }
     ensures takes { Takes NoStart (MayRemove key.now) result (P.counts place.old) (P.counts place.new) }
 {
     let unit = match Text::from_str(alloc, key) {
@@ -93,7 +96,8 @@ fn begin<P: Place>(
 }
 
 /// Reads a file of the unit of this key, where one is named.
-fn read_at<P: Place>(
+#[tactic(auto, using(pb_store::proofs::Still::stands_same))]
+pub(crate) fn read_at<P: Place>(
     alloc: Global,
     place: &mut P,
     key: &str,
@@ -101,6 +105,8 @@ fn read_at<P: Place>(
 ) -> Result<Option<Bytes>, BuildFault>
     ensures ok { IsTrue P.tells → IfOk result (λ found. found ≡ file_at path.now (P.world place.old).files) }
     ensures same { IsTrue P.tells → P.world place.new ≡ P.world place.old }
+    ensures most { P.most place.new ≡ P.most place.old }
+    ensures still { IsTrue P.tells → KeepsStill (P.still place.old) (P.still place.new) }
     ensures takes { Takes NoStart (MayRead key.now) result (P.counts place.old) (P.counts place.new) }
 {
     let path = match path {
@@ -146,7 +152,7 @@ fn carry_out<P: Place>(
         Err(fault) => return Err(fault),
     };
     match judged(alloc, project, unit, command, &ended, &dep_info) {
-        Ok(ran) => Ok(ran),
+        Ok(judgement) => Ok(judgement.ran),
         Err(_) => Err(BuildFault::OutOfMemory),
     }
 }

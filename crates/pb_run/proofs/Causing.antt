@@ -1,0 +1,171 @@
+-- The fault of a call of the store or of the place, as one of a unit.
+use Rattle.std.proofs.Common.{◌≡◌, ◌≢◌, ◌⊎◌, ℕ, List, Option, Some, None, Result, Ok, Err, refl, sym, ap, subst, inl, inr, ◌∙◌}
+use Rattle.pb_answer.specs.declared.fault.BuildFault.{BuildFault}
+use Rattle.pb_answer.specs.declared.fault.BuildFault.TheVariants.{Plan, Toolchain, Child, Device, Sink, OutOfMemory}
+use Rattle.pb_answer.specs.declared.fault.DeviceFault.{DeviceFault}
+use Rattle.pb_answer.specs.declared.fault.DeviceFault.TheVariants.{Place, NumbersSpent}
+use Rattle.pb_place.specs.Counts.{Counts, Starts, up_starts, counted_spawn, counted_finish}
+use Rattle.pb_place.specs.declared.child_in_flight.ChildInFlight.{ChildInFlight}
+use Rattle.pb_place.specs.declared.place.Failure.TheVariants.{Called}
+use Rattle.pb_place.specs.declared.place.PlaceFault.{PlaceFault}
+use Rattle.pb_place.specs.declared.place.PlaceFault.TheVariants as place
+use Rattle.pb_place.specs.declared.place.StartFault.{StartFault}
+use Rattle.pb_place.specs.declared.place.StartFault.TheVariants as start
+use Rattle.pb_run.specs.Causes.{FailedLast, HasCause, MayBeginUnit, MayFollow, MayAnswerUnit, MayRead, MayRemove, LandsBy, child_fault, device_fault, store_fault}
+use Rattle.pb_run.specs.declared.begun.Launched.{Launched}
+use Rattle.pb_store.specs.Causes as causes
+use Rattle.pb_store.specs.declared.fault.StoreFault.{StoreFault}
+use Rattle.pb_store.specs.declared.fault.StoreFault.TheVariants as store
+
+-- the faults differ
+read_no_write : place.Read ≡ place.Write → ⊥
+read_no_write e = cc
+
+list_no_write : place.List ≡ place.Write → ⊥
+list_no_write e = cc
+
+remove_no_write : place.Remove ≡ place.Write → ⊥
+remove_no_write e = cc
+
+variable_no_write : place.Variable ≡ place.Write → ⊥
+variable_no_write e = cc
+
+read_no_remove : place.Read ≡ place.Remove → ⊥
+read_no_remove e = cc
+
+list_no_remove : place.List ≡ place.Remove → ⊥
+list_no_remove e = cc
+
+write_no_remove : place.Write ≡ place.Remove → ⊥
+write_no_remove e = cc
+
+variable_no_remove : place.Variable ≡ place.Remove → ⊥
+variable_no_remove e = cc
+
+same_fault : (f g : PlaceFault) → Place f ≡ Place g → f ≡ g
+same_fault f g e = cc
+
+-- one of three
+by_three : {F : Type 0} (P : F → Type 0) (f a b c : F) → P a → P b → P c → (f ≡ a) ⊎ ((f ≡ b) ⊎ (f ≡ c)) → P f
+by_three P f a b c at_a at_b at_c may = elim may [
+  | inl e ↦ subst P (sym e) at_a
+  | inr more ↦ elim more [
+    | inl e ↦ subst P (sym e) at_b
+    | inr e ↦ subst P (sym e) at_c
+  ]
+]
+
+-- that a unit's begin may tell the fault of a call of the place, with its cause; and that its answer may
+abbrev TellsBegin : Option ℕ → List ℕ → Counts → Counts → BuildFault → Type 0
+TellsBegin next key old new e = MayBeginUnit next key e old.starts new.starts × HasCause e old new
+
+abbrev TellsFollow : List ℕ → Counts → Counts → BuildFault → Type 0
+TellsFollow key old new e = MayFollow key e old.starts new.starts × HasCause e old new
+
+abbrev BeginsAt : Option ℕ → List ℕ → Counts → Counts → PlaceFault → Type 0
+BeginsAt next key old new f = FailedLast (Called f) old new → TellsBegin next key old new (device_fault key f)
+
+abbrev FollowsAt : List ℕ → Counts → Counts → PlaceFault → Type 0
+FollowsAt key old new f = FailedLast (Called f) old new → TellsFollow key old new (device_fault key f)
+
+-- a call of the store that looks for a difference
+looked : (next : Option ℕ) (key : List ℕ) (e : StoreFault) (old new : Counts) → new.starts ≡ old.starts → causes.MayLook e → causes.HasCause e old new → TellsBegin next key old new (store_fault key e)
+looked next key (store.Place f) old new starts may cause =
+    by_three (BeginsAt next key old new) f place.Read place.List place.Variable (λ c. ((refl, read_no_write, starts), c)) (λ c. ((refl, list_no_write, starts), c)) (λ c. ((refl, variable_no_write, starts), c)) may cause
+looked next key store.NumbersSpent old new starts may cause = absurd may
+looked next key store.OutOfMemory old new starts may cause = (inl starts, cause)
+
+pub look_told : (next : Option ℕ) (key unit : List ℕ) (e : StoreFault) (told : BuildFault) (old new : Counts) → told ≡ store_fault unit e → unit ≡ key → (new.starts ≡ old.starts) × (causes.MayLook e × causes.HasCause e old new) → TellsBegin next key old new told
+look_told next key unit e told old new is named takes =
+    subst (TellsBegin next key old new) (sym (is ∙ ap (λ k. store_fault k e) named)) (looked next key e old new takes.0 takes.1.0 takes.1.1)
+
+-- one that takes a number and removes a record
+dropped : (next : Option ℕ) (key : List ℕ) (e : StoreFault) (old new : Counts) → new.starts ≡ old.starts → causes.MayDrop next e → causes.HasCause e old new → TellsBegin next key old new (store_fault key e)
+dropped None key (store.Place f) old new starts may cause = absurd may
+dropped None key store.NumbersSpent old new starts may cause = ((refl, refl, starts), cause)
+dropped None key store.OutOfMemory old new starts may cause = absurd may
+dropped (Some n) key (store.Place f) old new starts may cause = subst (BeginsAt (Some n) key old new) (sym may) (λ c. ((refl, remove_no_write, starts), c)) cause
+dropped (Some n) key store.NumbersSpent old new starts may cause = absurd may
+dropped (Some n) key store.OutOfMemory old new starts may cause = (inl starts, cause)
+
+pub drop_told : (next : Option ℕ) (key unit : List ℕ) (e : StoreFault) (told : BuildFault) (old new : Counts) → told ≡ store_fault unit e → unit ≡ key → (new.starts ≡ old.starts) × (causes.MayDrop next e × causes.HasCause e old new) → TellsBegin next key old new told
+drop_told next key unit e told old new is named takes =
+    subst (TellsBegin next key old new) (sym (is ∙ ap (λ k. store_fault k e) named)) (dropped next key e old new takes.0 takes.1.0 takes.1.1)
+
+-- `spawn` of the place
+spawn_failed : (next : Option ℕ) (key : List ℕ) (e : StartFault) (spawned : ℕ → ChildInFlight) (old new : Counts) → (e ≢ start.OutOfMemory → e ≡ start.CannotStart) → new ≡ counted_spawn spawned (Err e) old → TellsBegin next key old new (child_fault key e)
+spawn_failed next key start.CannotStart spawned old new may counts =
+    ((refl, refl, ap (λ (c : Counts). c.starts) counts), (ap (λ (c : Counts). c.failures) counts, ap (λ (c : Counts). c.late) counts, ap (λ (c : Counts). c.last) counts))
+spawn_failed next key start.Died spawned old new may counts = absurd (no_died (may no_memory))
+  where
+    no_memory : start.Died ≡ start.OutOfMemory → ⊥
+    no_memory e = cc
+
+    no_died : start.Died ≡ start.CannotStart → ⊥
+    no_died e = cc
+spawn_failed next key start.Capture spawned old new may counts = absurd (no_capture (may no_memory))
+  where
+    no_memory : start.Capture ≡ start.OutOfMemory → ⊥
+    no_memory e = cc
+
+    no_capture : start.Capture ≡ start.CannotStart → ⊥
+    no_capture e = cc
+spawn_failed next key start.OutOfMemory spawned old new may counts = (inr (ap (λ (c : Counts). c.starts) counts), ap (λ (c : Counts). c.failures) counts)
+
+pub spawn_told : (next : Option ℕ) (key unit : List ℕ) (e : StartFault) (told : BuildFault) (spawned : ℕ → ChildInFlight) (old new : Counts) → told ≡ child_fault unit e → unit ≡ key → (e ≢ start.OutOfMemory → e ≡ start.CannotStart)
+    → new ≡ counted_spawn spawned (Err e) old → TellsBegin next key old new told
+spawn_told next key unit e told spawned old new is named may counts = subst (TellsBegin next key old new) (sym (is ∙ ap (λ k. child_fault k e) named)) (spawn_failed next key e spawned old new may counts)
+
+-- A step that removes the unit's files, as one of its begin.
+pub removed_told : (next : Option ℕ) (key : List ℕ) (e : BuildFault) (old new : Starts) → MayRemove key e old new → MayBeginUnit next key e old new
+removed_told next key (Plan refusal) old new may = absurd may
+removed_told next key Toolchain old new may = absurd may
+removed_told next key (Child unit fault) old new may = absurd may
+removed_told next key (Device unit (Place fault)) old new may =
+    (may.0, subst (λ f. f ≢ place.Write) (sym (same_fault fault place.Remove may.1)) remove_no_write, may.2)
+removed_told next key (Device unit NumbersSpent) old new may = absurd (no_number may.1)
+  where
+    no_number : NumbersSpent ≡ Place place.Remove → ⊥
+    no_number e = cc
+removed_told next key Sink old new may = absurd may
+removed_told next key OutOfMemory old new may = inl may
+
+-- The calls that come after the child's end, or in its place.
+
+kept : (key : List ℕ) (e : StoreFault) (old new : Counts) → new.starts ≡ old.starts → causes.MayKeep e → causes.HasCause e old new → TellsFollow key old new (store_fault key e)
+kept key (store.Place f) old new starts may cause = elim may [
+  | inl e ↦ subst (FollowsAt key old new) (sym e) (λ c. ((refl, write_no_remove, starts), c)) cause
+  | inr look ↦ by_three (FollowsAt key old new) f place.Read place.List place.Variable (λ c. ((refl, read_no_remove, starts), c)) (λ c. ((refl, list_no_remove, starts), c)) (λ c. ((refl, variable_no_remove, starts), c)) look cause
+]
+kept key store.NumbersSpent old new starts may cause = absurd may
+kept key store.OutOfMemory old new starts may cause = (starts, cause)
+
+pub keep_told : (key unit : List ℕ) (e : StoreFault) (told : BuildFault) (old new : Counts) → told ≡ store_fault unit e → unit ≡ key → (new.starts ≡ old.starts) × (causes.MayKeep e × causes.HasCause e old new) → TellsFollow key old new told
+keep_told key unit e told old new is named takes = subst (TellsFollow key old new) (sym (is ∙ ap (λ k. store_fault k e) named)) (kept key e old new takes.0 takes.1.0 takes.1.1)
+
+replayed : (key : List ℕ) (e : StoreFault) (old new : Counts) → new.starts ≡ old.starts → causes.MayRead e → causes.HasCause e old new → TellsFollow key old new (store_fault key e)
+replayed key (store.Place f) old new starts may cause = subst (FollowsAt key old new) (sym may) (λ c. ((refl, read_no_remove, starts), c)) cause
+replayed key store.NumbersSpent old new starts may cause = absurd may
+replayed key store.OutOfMemory old new starts may cause = (starts, cause)
+
+pub replay_told : (key unit : List ℕ) (e : StoreFault) (told : BuildFault) (old new : Counts) → told ≡ store_fault unit e → unit ≡ key → (new.starts ≡ old.starts) × (causes.MayRead e × causes.HasCause e old new) → TellsFollow key old new told
+replay_told key unit e told old new is named takes = subst (TellsFollow key old new) (sym (is ∙ ap (λ k. store_fault k e) named)) (replayed key e old new takes.0 takes.1.0 takes.1.1)
+
+-- a file that is read
+pub read_follows : (key : List ℕ) (e : BuildFault) (old new : Starts) → MayRead key e old new → MayFollow key e old new
+read_follows key (Plan refusal) old new may = absurd may
+read_follows key Toolchain old new may = absurd may
+read_follows key (Child unit fault) old new may = absurd may
+read_follows key (Device unit (Place fault)) old new may = (may.0, subst (λ f. f ≢ place.Remove) (sym (same_fault fault place.Read may.1)) read_no_remove, may.2)
+read_follows key (Device unit NumbersSpent) old new may = absurd (no_number may.1)
+  where
+    no_number : NumbersSpent ≡ Place place.Read → ⊥
+    no_number e = cc
+read_follows key Sink old new may = absurd may
+read_follows key OutOfMemory old new may = may
+
+pub ruleset look_laws = (look_told)
+
+pub ruleset drop_laws = (drop_told)
+
+pub ruleset keep_laws = (keep_told)

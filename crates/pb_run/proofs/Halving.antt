@@ -1,0 +1,146 @@
+-- A unit that begins, in the words of its calls.
+use Rattle.std.proofs.Common.{◌≡◌, ◌≢◌, ◌⊎◌, ◌∙◌, ℕ, Bool, true, false, List, [], ◌∷◌, Option, Some, None, Contains, refl, sym, ap, subst, inl, inr, slice_get, slice_set}
+use Rattle.std.specs.FinMap as finite
+use Rattle.pb_answer.specs.declared.fault.BuildFault.{BuildFault}
+use Rattle.pb_answer.specs.declared.fault.BuildFault.TheVariants.{Plan, Toolchain, Child, Device, Sink, OutOfMemory}
+use Rattle.pb_answer.specs.declared.fault.DeviceFault.TheVariants.{Place, NumbersSpent}
+use Rattle.pb_command.specs.Command.{command_of}
+use Rattle.pb_command.specs.Judge.{judge}
+use Rattle.pb_directive.specs.declared.directive.Directive.{Directive}
+use Rattle.pb_flight.specs.declared.flight.State.{State}
+use Rattle.pb_flight.specs.declared.flight.State.TheVariants.{Begun as begun_state}
+use Rattle.pb_flight.specs.Table.{is_good_at}
+use Rattle.pb_place.specs.Children.{StandsStill, child_at}
+use Rattle.pb_place.specs.Counts.{Starts}
+use Rattle.pb_place.specs.World.{World, ChangesOnly, seen_by}
+use Rattle.pb_place.specs.declared.child_in_flight.ChildInFlight.{ChildInFlight}
+use Rattle.pb_place.specs.declared.command.Command.{Command}
+use Rattle.pb_place.proofs.Folders.{only_same}
+use Rattle.pb_project.specs.Targets.{unit_at}
+use Rattle.pb_project.specs.declared.fault.UnitFault.{UnitFault}
+use Rattle.pb_project.specs.declared.project.Project.{Project}
+use Rattle.pb_project.specs.declared.project.Setup.{Setup}
+use Rattle.pb_record.specs.declared.record.Record.{Record}
+use Rattle.pb_unit.specs.declared.plan.Planned.{Planned}
+use Rattle.pb_run.specs.Causes.{IsLifted, MayBeginUnit}
+use Rattle.pb_run.specs.Halves.{Basis, BeginsApart, CanBegin, IsBegun, Keeps, begun_with, command_in, records_in, view_in}
+use Rattle.pb_run.specs.Launching.{IsSpawned}
+use Rattle.pb_run.specs.Standing.{HasPackage, IsCommandOf, IsInOrder, records_folder}
+use Rattle.pb_run.specs.declared.begun.Begun.{Begun}
+use Rattle.pb_run.specs.declared.begun.Launched.{Launched}
+use Rattle.pb_run.proofs.Answering.{reached_stand}
+use Rattle.pb_run.proofs.RecordedBegin.{begun_child, begun_same, keeps_begun}
+use Rattle.pb_run.proofs.RecordedOthers.{Left, flies_beside, if_records, left_dropped, stays_begun}
+use Rattle.pb_run.proofs.Shown.{AllStand, commanded, sees_view}
+use Rattle.pb_run.proofs.Views.{is_for}
+use Rattle.pb_soundness.specs.Apart.{KeepsStill, KeepsStillOutside, is_of}
+use Rattle.pb_soundness.specs.Numbers.{IsAhead, after}
+use Rattle.pb_soundness.specs.Records.{is_key, out_of, record_at}
+use Rattle.pb_soundness.specs.Reuse.{IsSame}
+use Rattle.pb_soundness.specs.Sound.{Sound}
+use Rattle.pb_store.specs.Keeping.{Leaves}
+use Rattle.pb_store.specs.Migrating.{TakesNumber}
+
+-- a unit's command writes into its folder
+pub out_asked : (project : Project) (setup : Setup) (i : ℕ) (u : Planned) (done : List (Option (List Directive))) (c : Command) → IsInOrder project → slice_get project.plan.planned i ≡ Some u → c ≡ command_of setup project u done → c.out ≡ Some u.out
+out_asked project setup i u done c order at is = ap (λ (d : Command). d.out) is ∙ (is_for setup project u done (order.packages i u at)).out
+
+pub lies_at : (project : Project) (i : ℕ) (u : Planned) (folder : List ℕ) → IsInOrder project → slice_get project.plan.planned i ≡ Some u → folder ≡ records_folder project → u.out ≡ out_of folder u.key
+lies_at project i u folder order at is = order.folders i u at ∙ sym (ap (λ f. out_of f u.key) is)
+
+pub out_lies : (project : Project) (i : ℕ) (u : Planned) (folder : List ℕ) (c : Command) → IsInOrder project → slice_get project.plan.planned i ≡ Some u → folder ≡ records_folder project → IsCommandOf project u c → c.out ≡ Some (out_of folder u.key)
+out_lies project i u folder c order at is (setup, done, asks) = out_asked project setup i u done c order at asks ∙ ap Some (lies_at project i u folder order at is)
+
+module _ (b : Basis) (order : IsInOrder b.project) (i : ℕ) (u : Planned) (at : unit_at b.project i ≡ Some u) (states : List (State UnitFault)) (done : List (Option (List Directive))) (next : Option ℕ) (w : World) (can : CanBegin b states done i u next w) where
+  stand : AllStand b done w u.reaches
+  stand = reached_stand b order i u at states done next w can.keeps can.reaches
+
+  pub is_command : (c : Command) → c ≡ command_of b.setup b.project u done → c ≡ command_in b i u
+  is_command c is = is ∙ commanded b done w i u order at stand
+
+  pub is_shown_view : (c : Command) → c ≡ command_of b.setup b.project u done → seen_by c w ≡ view_in b i u
+  is_shown_view c is = ap (λ (d : Command). seen_by d w) (is_command c is) ∙ sees_view b done w i u order at stand can.keeps.sources_stay
+
+  -- nothing has changed
+  keeps_here : Keeps b (slice_set states i begun_state) done next w
+  keeps_here = keeps_begun b order states done i u at next w w (only_same _ w) can next (λ s. s) (λ a. a)
+
+  pub keeps_same : (w' : World) → w' ≡ w → Keeps b (slice_set states i begun_state) done next w'
+  keeps_same w' same = subst (Keeps b (slice_set states i begun_state) done next) (sym same) keeps_here
+
+  pub begun_none : (key : List ℕ) (c : Command) (w' : World) (folder : List ℕ) (flying : List ChildInFlight) (still : ℕ → Type 0) → w' ≡ w → folder ≡ records_folder b.project → c ≡ command_of b.setup b.project u done
+      → (r : Record) × IsSame b.read folder u.key c w r → IsBegun b i (begun_with key c None) next w' flying still
+  begun_none key c w' folder flying still same is_folder is found =
+      subst (λ (v : World). IsBegun b i (begun_with key c None) next v flying still) (sym same)
+      (begun_same b order states done i u at next w w (only_same _ w) can (begun_with key c None) flying still (is_command c is) refl
+      (found.0, subst (λ f. IsSame b.read f u.key c w found.0) is_folder found.1))
+
+  -- its child was launched, or a step on the way failed
+  module _ (folder : List ℕ) (is_folder : folder ≡ records_folder b.project) (w' : World) (next' : Option ℕ) (only : ChangesOnly (is_of folder u.key) w w') where
+    only_its : ChangesOnly (is_of (records_folder b.project) u.key) w w'
+    only_its = subst (λ f. ChangesOnly (is_of f u.key) w w') is_folder only
+
+    pub keeps_launched : (Sound b.read judge b.child folder w.files → Sound b.read judge b.child folder w'.files) → (IsAhead (record_at b.read folder w.files) next → IsAhead (record_at b.read folder w'.files) next')
+        → Keeps b (slice_set states i begun_state) done next' w'
+    keeps_launched sound ahead = keeps_begun b order states done i u at next w w' only_its can next'
+        (subst (λ f. Sound b.read judge b.child f w.files → Sound b.read judge b.child f w'.files) is_folder sound)
+        (subst (λ f. IsAhead (record_at b.read f w.files) next → IsAhead (record_at b.read f w'.files) next') is_folder ahead)
+
+    pub begun_some : (key : List ℕ) (c : Command) (l : Launched) (flying : List ChildInFlight) (still : ℕ → Type 0) → c ≡ command_of b.setup b.project u done → IsSpawned (is_of folder u.key) b.child c w l.ticket flying still
+        → record_at b.read folder w'.files u.key ≡ None → next ≡ Some l.number → next' ≡ after l.number → IsBegun b i (begun_with key c (Some l)) next' w' flying still
+    begun_some key c l flying still is spawned gone given then' =
+        begun_child b order states done i u at next w w' only_its can (begun_with key c (Some l)) l spawned.spawned next' flying still (is_command c is) refl (is_shown_view c is)
+        (subst (λ f. ChangesOnly (is_of f u.key) w spawned.spawned) is_folder spawned.only) spawned.flies spawned.emptied spawned.stands
+        (subst (λ f. record_at b.read f w'.files u.key ≡ None) is_folder gone) given then'
+
+-- Another unit that has begun.
+
+pub flying_begun : (next : Option ℕ) (key : List ℕ) (e : BuildFault) (old new : Starts) → MayBeginUnit next key e old new → new.flying ≡ old.flying
+flying_begun next key (Plan refusal) old new may = absurd may
+flying_begun next key Toolchain old new may = absurd may
+flying_begun next key (Child unit fault) old new (named, kind, starts) = ap (λ (s : Starts). s.flying) starts
+flying_begun next key (Device unit (Place fault)) old new (named, kind, starts) = ap (λ (s : Starts). s.flying) starts
+flying_begun next key (Device unit NumbersSpent) old new (named, spent, starts) = ap (λ (s : Starts). s.flying) starts
+flying_begun next key Sink old new may = absurd may
+flying_begun next key OutOfMemory old new may = elim may [
+  | inl starts ↦ ap (λ (s : Starts). s.flying) starts
+  | inr starts ↦ ap (λ (s : Starts). s.flying) starts
+]
+
+pub flies_lifted : (ticket t : ℕ) (old new : Starts) (f : ChildInFlight) → IsLifted ticket old new → child_at t old.flying ≡ Some f → child_at t new.flying ≡ Some f
+flies_lifted ticket t old new f lifted there = ap (λ (s : Starts). child_at t s.flying) lifted.lifted ∙ flies_beside t old.flying (lifted.child ∷ []) f there
+
+module _ (b : Basis) (order : IsInOrder b.project) (i : ℕ) (u : Planned) (at : unit_at b.project i ≡ Some u) (states : List (State UnitFault)) (done : List (Option (List Directive))) (next : Option ℕ) (w : World) (can : CanBegin b states done i u next w)
+    (other : ℕ) (its : Begun) (flying : List ChildInFlight) (still : ℕ → Type 0) (apart : BeginsApart b states i None other its next w flying still) where
+  bad : is_good_at (slice_get states i) ≡ false
+  bad = ap is_good_at can.untouched
+
+  no_number : (n : ℕ) → None ≡ Some n → ⊥
+  no_number n e = cc
+
+  others_at_folder : (w' : World) (next' : Option ℕ) (flying' : List ChildInFlight) (still' : ℕ → Type 0) → ChangesOnly (is_of (records_folder b.project) u.key) w w' → TakesNumber next next'
+      → Leaves None (record_at b.read (records_folder b.project) w.files u.key) (record_at b.read (records_folder b.project) w'.files u.key)
+      → ((t : ℕ) (f : ChildInFlight) → child_at t flying ≡ Some f → child_at t flying' ≡ Some f) → KeepsStillOutside (is_of (records_folder b.project) u.key) flying still still' → IsBegun b other its next' w' flying' still'
+  others_at_folder w' next' flying' still' only taken left flies keeps =
+      stays_begun b order states done i u None other its next next' None w w' flying flying' still still' at bad can.keeps apart only taken
+      (if_records b.footing (Left (records_in b w) (records_in b w') u.key None) (left_dropped (records_in b w) (records_in b w') u.key left))
+      (λ theirs is e. no_number theirs.number e) (λ theirs is f there. flies theirs.ticket f there) (λ theirs is stands stood. keeps theirs.ticket stands stood)
+
+  pub others_begun : (folder : List ℕ) (w' : World) (next' : Option ℕ) (flying' : List ChildInFlight) (still' : ℕ → Type 0) → folder ≡ records_folder b.project → ChangesOnly (is_of folder u.key) w w' → TakesNumber next next'
+      → Leaves None (record_at b.read folder w.files u.key) (record_at b.read folder w'.files u.key)
+      → ((t : ℕ) (f : ChildInFlight) → child_at t flying ≡ Some f → child_at t flying' ≡ Some f) → KeepsStillOutside (is_of folder u.key) flying still still' → IsBegun b other its next' w' flying' still'
+  others_begun folder w' next' flying' still' is_folder only taken left flies keeps =
+      others_at_folder w' next' flying' still' (subst (λ f. ChangesOnly (is_of f u.key) w w') is_folder only) taken
+      (subst (λ f. Leaves None (record_at b.read f w.files u.key) (record_at b.read f w'.files u.key)) is_folder left) flies (subst (λ f. KeepsStillOutside (is_of f u.key) flying still still') is_folder keeps)
+
+  -- nothing was changed
+  pub others_same : (w' : World) (flying' : List ChildInFlight) (still' : ℕ → Type 0) → w' ≡ w → flying' ≡ flying → KeepsStill still still' → IsBegun b other its next w' flying' still'
+  others_same w' flying' still' same flies keeps =
+      others_at_folder w' next flying' still' (subst (ChangesOnly (is_of (records_folder b.project) u.key) w) (sym same) (only_same _ w)) (inl refl)
+      (inr (inl (ap (λ (v : World). record_at b.read (records_folder b.project) v.files u.key) same)))
+      (λ t f there. ap (child_at t) flies ∙ there) (λ t stands stood. keeps t stood)
+
+-- what stood still over a call that changes nothing, and then over one that changes these paths
+pub still_after : (inside : List ℕ → Bool) (flying next : List ChildInFlight) (before mid after' : ℕ → Type 0) → KeepsStill before mid → next ≡ flying → KeepsStillOutside inside next mid after' → KeepsStillOutside inside flying before after'
+still_after inside flying next before mid after' first same second ticket stands stood =
+    second ticket (λ x y only. subst (λ fs. StandsStill ticket fs x y) (sym same) (stands x y only)) (first ticket stood)

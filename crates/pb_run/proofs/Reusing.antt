@@ -1,0 +1,149 @@
+-- A unit that answers by its record: what is kept of a build, and what another unit finds.
+use Rattle.std.proofs.Common.{◌≡◌, ◌≢◌, ◌⊎◌, ◌∙◌, ℕ, Bool, true, false, List, Option, Some, None, Contains, refl, sym, ap, subst, inl, inr, pos, slice_get, slice_set}
+use Rattle.std.specs.Option.{is_some, option_map}
+use Rattle.pb_command.specs.Answers.{answered_of}
+use Rattle.pb_command.specs.Judge.{ended_by, file_at, judge, replied_files}
+use Rattle.pb_directive.specs.declared.directive.Directive.{Directive}
+use Rattle.pb_flight.specs.declared.flight.State.{State}
+use Rattle.pb_flight.specs.declared.flight.State.TheVariants.{Answered}
+use Rattle.pb_place.specs.Children.{child_at}
+use Rattle.pb_place.specs.Folders.{files_in}
+use Rattle.pb_place.specs.Paths.{is_at_or_below}
+use Rattle.pb_place.specs.World.{World, ChangesOnly, seen_by}
+use Rattle.pb_place.specs.declared.child.Reply.{Reply}
+use Rattle.pb_place.specs.declared.child_in_flight.ChildInFlight.{ChildInFlight}
+use Rattle.pb_place.specs.declared.command.Command.{Command}
+use Rattle.pb_place.specs.declared.command.Ended.{Ended}
+use Rattle.pb_place.proofs.Folders.{only_same}
+use Rattle.pb_project.specs.Targets.{dep_info_of, unit_at}
+use Rattle.pb_project.specs.declared.fault.UnitFault.{UnitFault}
+use Rattle.pb_record.specs.declared.record.Record.{Record}
+use Rattle.pb_unit.specs.declared.plan.Planned.{Planned}
+use Rattle.pb_run.specs.Halves.{Footing, OnRecords, OnNothing, Basis, BeginsApart, CanAnswer, HasRecord, HoldsBy, IsBegun, IsUnchanged, Keeps, begun_with, command_in, needed_keys, outcomes_in, records_in, view_in}
+use Rattle.pb_run.specs.Outcome.{judgement_by, outcome_by}
+use Rattle.pb_run.specs.Standing.{IsInOrder, records_folder}
+use Rattle.pb_run.specs.declared.begun.Begun.{Begun}
+use Rattle.pb_run.specs.declared.ran.Judgement.{Judgement}
+use Rattle.pb_run.specs.declared.ran.Ran.{Ran}
+use Rattle.pb_run.proofs.Answering.{judged_gives, reached_stand}
+use Rattle.pb_run.proofs.RecordedAnswer.{begun_bad, its_command, its_same, keeps_answered, keeps_fault, only_place}
+use Rattle.pb_run.proofs.RecordedOthers.{IfRecords, Left, as_before, if_records, stays_begun}
+use Rattle.pb_run.proofs.RecordedReplay.{left_migrated, migrated_ahead, migrated_record, migrated_sound, numbers_apart, replay_backs}
+use Rattle.pb_run.proofs.Settling.{not_none, on_good}
+use Rattle.pb_run.proofs.Shown.{AllStand, sees_view}
+use Rattle.pb_soundness.specs.Apart.{KeepsStill, KeepsStillOutside, is_of}
+use Rattle.pb_soundness.specs.Numbers.{IsAhead}
+use Rattle.pb_soundness.specs.Records.{number_of, place_of, record_at}
+use Rattle.pb_soundness.specs.Sound.{Backs, Sound}
+use Rattle.pb_soundness.proofs.Becoming.{one}
+use Rattle.pb_store.specs.Keeping.{Leaves, numbered}
+use Rattle.pb_store.specs.Migrating.{IsMigrated, TakesNumber, migrated}
+use Rattle.pb_store.specs.Replaying.{replayed}
+use Rattle.pb_store.specs.declared.replaying.Replayed.{Replayed}
+
+-- what the call that gives a record a number gives
+pub record Renewing (b : Basis) (folder : List ℕ) (u : Planned) (c : Command) (next next' : Option ℕ) (w w' : World) : Type 0 where
+  pub sound : (r : Record) → ((number : ℕ) → next ≡ Some number → IsMigrated b.read judge b.child folder u.key c (needed_keys b.project u) number w r) → Sound b.read judge b.child folder w.files → Sound b.read judge b.child folder w'.files
+  pub ahead : (r : Record) → ((number : ℕ) → next ≡ Some number → IsMigrated b.read judge b.child folder u.key c (needed_keys b.project u) number w r) → IsAhead (record_at b.read folder w.files) next → IsAhead (record_at b.read folder w'.files) next'
+  pub only : ChangesOnly (is_at_or_below (place_of folder u.key)) w w'
+  pub left : Leaves (migrated next (numbered (record_at b.read folder w.files) (needed_keys b.project u)) (record_at b.read folder w.files u.key)) (record_at b.read folder w.files u.key) (record_at b.read folder w'.files u.key)
+
+-- and what it gives where it ends well
+pub record Renewed (b : Basis) (folder : List ℕ) (u : Planned) (next : Option ℕ) (w w' : World) : Type 0 where
+  pub stands : record_at b.read folder w'.files u.key ≡ migrated next (numbered (record_at b.read folder w.files) (needed_keys b.project u)) (record_at b.read folder w.files u.key)
+  pub numbered_now : (s : Record) → record_at b.read folder w'.files u.key ≡ Some s → is_some (number_of s) ≡ true
+
+module _ (b : Basis) (order : IsInOrder b.project) (i : ℕ) (u : Planned) (at : unit_at b.project i ≡ Some u) (key : List ℕ) (c : Command) (next : Option ℕ) (w : World)
+    (flying : List ChildInFlight) (still : ℕ → Type 0) (states : List (State UnitFault)) (done : List (Option (List Directive))) (can : CanAnswer b states done i u (begun_with key c None) next w flying still) where
+  abbrev begun : Begun
+  begun = begun_with key c None
+
+  same_now : IsUnchanged b.footing b u c w
+  same_now = its_same b order i u at states done begun next w flying still can refl
+
+  is_command : c ≡ command_in b i u
+  is_command = its_command b order i u at states done begun next w flying still can
+
+  stand : AllStand b done w u.reaches
+  stand = reached_stand b order i u at states done next w can.keeps can.reaches
+
+  sees : seen_by c w ≡ view_in b i u
+  sees = ap (λ (d : Command). seen_by d w) is_command ∙ sees_view b done w i u order at stand can.keeps.sources_stay
+
+  ended_same : (r : Record) (reply : Reply) → Backs judge r u.out (files_in u.out w.files) reply → (replayed r).ended ≡ ended_by reply
+  ended_same r reply backs =
+      ap (λ s. let x : Ended = record { status = s; stdout = r.stdout; stderr = r.stderr } in x) (sym backs.status)
+      ∙ ap (λ s. let x : Ended = record { status = reply.status; stdout = s; stderr = r.stderr } in x) (sym backs.stdout)
+      ∙ ap (λ s. let x : Ended = record { status = reply.status; stdout = reply.stdout; stderr = s } in x) (sym backs.stderr)
+
+  -- the outcome, by what the record gives again
+  pub replay_gives : (folder : List ℕ) (again : Replayed) (j : Judgement) → folder ≡ records_folder b.project → Some again ≡ option_map replayed (record_at b.read folder w.files u.key)
+      → j ≡ judgement_by b.project u again.ended (answered_of b.project u c again.ended (file_at (dep_info_of b.project u) w.files)) → slice_get (outcomes_in b) i ≡ Some (outcome_by (files_in u.out w.files) j.ran)
+  replay_gives folder again j is_folder found is_judged =
+      let (r, stands, backs) = replay_backs b order i u at states done begun next w flying still can b.footing can.keeps.records same_now sees in
+      let again_is : again ≡ replayed r = one again (replayed r) (found ∙ ap (λ f. option_map replayed (record_at b.read f w.files u.key)) is_folder ∙ ap (option_map replayed) stands) in
+      let replies : b.child c (view_in b i u) ≡ b.child (command_in b i u) (view_in b i u) = ap (λ (d : Command). b.child d (view_in b i u)) is_command in
+      judged_gives b order i u at done w c again.ended w.files j stand is_command
+      (ap (λ (x : Replayed). x.ended) again_is ∙ ended_same r (b.child c (view_in b i u)) backs ∙ ap ended_by replies)
+      (sym backs.files ∙ ap (replied_files u.out) replies) is_judged
+
+  -- nothing was changed
+  pub keeps_unchanged : (w' : World) → w' ≡ w → Keeps b states done next w'
+  keeps_unchanged w' same = subst (Keeps b states done next) (sym same) can.keeps
+
+  sound_of : (footing : Footing) → HoldsBy footing b states next w → IfRecords footing (Sound b.read judge b.child (records_folder b.project) w.files)
+  sound_of OnRecords holds = holds.sound
+  sound_of OnNothing holds = tt
+
+  ahead_of : (footing : Footing) → HoldsBy footing b states next w → IfRecords footing (IsAhead (records_in b w) next)
+  ahead_of OnRecords holds = holds.ahead
+  ahead_of OnNothing holds = tt
+
+  keeps_bad_here : (ran : Ran) (lines : List ℕ) → is_some ran.fault ≡ true → slice_get (outcomes_in b) i ≡ Some (outcome_by (files_in u.out w.files) ran)
+      → Keeps b (slice_set states i (Answered record { fault = ran.fault; lines = lines })) (slice_set done i ran.directives) next w
+  keeps_bad_here ran lines bad outcome = keeps_answered b order i u at states done begun next w flying still can w next ran lines (only_same _ w) outcome
+      (sound_of b.footing can.keeps.records) (ahead_of b.footing can.keeps.records)
+      (if_records b.footing (ran.fault ≡ None → HasRecord b.project (records_in b w) i) (λ good. absurd (not_none ran.fault bad good)))
+
+  pub keeps_bad_again : (w' : World) (ran : Ran) (lines : List ℕ) → w' ≡ w → is_some ran.fault ≡ true → slice_get (outcomes_in b) i ≡ Some (outcome_by (files_in u.out w'.files) ran)
+      → Keeps b (slice_set states i (Answered record { fault = ran.fault; lines = lines })) (slice_set done i ran.directives) next w'
+  keeps_bad_again w' ran lines same bad outcome =
+      subst (Keeps b (slice_set states i (Answered record { fault = ran.fault; lines = lines })) (slice_set done i ran.directives) next) (sym same)
+      (keeps_bad_here ran lines bad (subst (λ (v : World). slice_get (outcomes_in b) i ≡ Some (outcome_by (files_in u.out v.files) ran)) same outcome))
+
+  module _ (w' : World) (next' : Option ℕ) (renews : Renewing b (records_folder b.project) u c next next' w w') where
+    sound_new : IfRecords b.footing (Sound b.read judge b.child (records_folder b.project) w'.files)
+    sound_new = migrated_sound b order i u at states done begun next w flying still can w' next' renews.only b.footing can.keeps.records same_now sees renews.sound
+
+    ahead_new : IfRecords b.footing (IsAhead (records_in b w') next')
+    ahead_new = migrated_ahead b order i u at states done begun next w flying still can w' next' renews.only b.footing can.keeps.records same_now sees renews.ahead
+
+    only_new : ChangesOnly (is_of (records_folder b.project) u.key) w w'
+    only_new = only_place b order i u at w w' renews.only
+
+    pub keeps_unrenewed : Keeps b states done next' w'
+    keeps_unrenewed = keeps_fault b order i u at states done begun next w flying still can w' next' only_new sound_new ahead_new
+
+    pub keeps_renewed : (ran : Ran) (lines : List ℕ) → Renewed b (records_folder b.project) u next w w' → slice_get (outcomes_in b) i ≡ Some (outcome_by (files_in u.out w'.files) ran)
+        → Keeps b (slice_set states i (Answered record { fault = ran.fault; lines = lines })) (slice_set done i ran.directives) next' w'
+    keeps_renewed ran lines renewed outcome = keeps_answered b order i u at states done begun next w flying still can w' next' ran lines only_new outcome sound_new ahead_new
+        (on_good b.footing (ran.fault ≡ None) (HasRecord b.project (records_in b w') i)
+        (migrated_record b order i u at states done begun next w flying still can w' next' renews.only b.footing can.keeps.records same_now renewed.stands renewed.numbered_now))
+
+    -- another unit that has begun
+    pub others_renewed : (other : ℕ) (its : Begun) (flying' : List ChildInFlight) (still' : ℕ → Type 0) → BeginsApart b states i None other its next w flying still → TakesNumber next next' → flying' ≡ flying
+        → KeepsStillOutside (is_of (records_folder b.project) u.key) flying still still' → IsBegun b other its next' w' flying' still'
+    others_renewed other its flying' still' apart taken flies keeps =
+        stays_begun b order states done i u None other its next next' next w w' flying flying' still still' at (begun_bad b order i u at states done begun next w flying still can) can.keeps apart only_new taken
+        (left_migrated b order i u at states done begun next w flying still can w' next' renews.only b.footing can.keeps.records same_now renews.left)
+        (λ theirs is. numbers_apart b u c states i None other its next w flying still same_now apart theirs is)
+        (λ theirs is f there. ap (child_at theirs.ticket) flies ∙ there) (λ theirs is stands stood. keeps theirs.ticket stands stood)
+
+  pub others_unchanged : (other : ℕ) (its : Begun) (w' : World) (flying' : List ChildInFlight) (still' : ℕ → Type 0) → BeginsApart b states i None other its next w flying still → w' ≡ w → flying' ≡ flying → KeepsStill still still'
+      → IsBegun b other its next w' flying' still'
+  others_unchanged other its w' flying' still' apart same flies keeps =
+      stays_begun b order states done i u None other its next next next w w' flying flying' still still' at (begun_bad b order i u at states done begun next w flying still can) can.keeps apart
+      (subst (ChangesOnly (is_of (records_folder b.project) u.key) w) (sym same) (only_same _ w)) (inl refl)
+      (if_records b.footing (Left (records_in b w) (records_in b w') u.key next) (as_before (ap (λ (v : World). record_at b.read (records_folder b.project) v.files u.key) same)))
+      (λ theirs is. numbers_apart b u c states i None other its next w flying still same_now apart theirs is)
+      (λ theirs is f there. ap (child_at theirs.ticket) flies ∙ there) (λ theirs is stands stood. keeps theirs.ticket stood)

@@ -1,0 +1,92 @@
+-- The command and the view of a unit whose reached units stand, each with its files.
+use Rattle.std.proofs.Common.{◌≡◌, ◌∙◌, ◌++◌, ◌&&◌, ◌<◌, ◌⊎◌, inl, inr, zero, suc, Bool, true, false, List, [], ◌∷◌, ℕ, Option, Some, None, Contains, refl, sym, ap, subst, arith, slice_get, take, map, length}
+use Rattle.std.proofs.lemmas.Option.{slice_get-map}
+use Rattle.std.specs.List.{list_all, flat_map, AllByRecursion}
+use Rattle.std.specs.Option.{option_map}
+use Rattle.pb_command.specs.Command.{command_of}
+use Rattle.pb_command.specs.Externs.{folder_in, reads_of}
+use Rattle.pb_directive.specs.declared.directive.Directive.{Directive}
+use Rattle.pb_message.specs.declared.message.Message.{Message}
+use Rattle.pb_place.specs.Folders.{files_in, over, folders_over}
+use Rattle.pb_place.specs.World.{World, Map, seen_by, from_nothing}
+use Rattle.pb_place.specs.declared.command.Command.{Command}
+use Rattle.pb_place.proofs.Folders.{sees_folders}
+use Rattle.pb_project.specs.Targets.{unit_at}
+use Rattle.pb_unit.specs.declared.plan.Planned.{Planned}
+use Rattle.pb_run.specs.Halves.{Basis, StandsGood, outcomes_in, command_in, view_in}
+use Rattle.pb_run.specs.Outcome.{Outcome, Good, files_at, is_good_at, with_made, directives_in, directives_of}
+use Rattle.pb_run.specs.Standing.{IsInOrder}
+use Rattle.pb_run.proofs.Commands.{command_same}
+use Rattle.pb_run.proofs.Views.{IsFor, is_for}
+use Rattle.pb_soundness.proofs.Flying.{contains_head, contains_tail}
+
+pub contains_none : {X : Type 0} (v : X) → Contains [] v → ⊥
+contains_none v (k, lt, at) = omega (arith, lt)
+
+pub contains_cases : {X : Type 0} (x : X) (xs : List X) (v : X) → Contains (x ∷ xs) v → (x ≡ v) ⊎ Contains xs v
+contains_cases x xs v (zero, lt, at) = inl at
+contains_cases x xs v (suc k, lt, at) = inr (k, omega arith, at)
+
+pub before_take : {A : Type 0} (n i : ℕ) (xs : List A) → i < n → slice_get (take n xs) i ≡ slice_get xs i
+before_take zero i xs less = absurd (omega (arith, less))
+before_take (suc n) i [] less = refl
+before_take (suc n) zero (x ∷ xs) less = refl
+before_take (suc n) (suc i) (x ∷ xs) less = before_take n i xs (omega (arith, less))
+
+pub each_of : {A : Type 0} (P : A → Type 0) (xs : List A) (x : A) → AllByRecursion P xs → Contains xs x → P x
+each_of P [] x all has = absurd (contains_none x has)
+each_of P (y ∷ xs) x all has = elim (contains_cases y xs x has) [
+  | inl same ↦ subst P same all.0
+  | inr more ↦ each_of P xs x all.1 more
+]
+
+-- each unit that is reached stands with the files of its outcome
+abbrev pub AllStand : Basis → List (Option (List Directive)) → World → List ℕ → Type 0
+AllStand b done w places = (place : ℕ) → Contains places place → StandsGood b done w place
+
+module _ (b : Basis) (done : List (Option (List Directive))) (w : World) (n : ℕ) where
+  good_there : (place : ℕ) → StandsGood b done w place → place < n → (files : Map) × (directives : Option (List Directive)) × (messages : List Message) × (slice_get (take n (outcomes_in b)) place ≡ Some (Good files directives messages))
+  good_there place s less = (s.files, s.directives, s.messages, before_take n place (outcomes_in b) less ∙ s.good)
+
+  good_one : (place : ℕ) → StandsGood b done w place → place < n → is_good_at (slice_get (take n (outcomes_in b)) place) ≡ true
+  good_one place s less = ap is_good_at (before_take n place (outcomes_in b) less ∙ s.good)
+
+  pub good_needs : (places : List ℕ) → AllByRecursion (λ v. v < n) places → AllStand b done w places → list_all (λ v. is_good_at (slice_get (take n (outcomes_in b)) v)) places ≡ true
+  good_needs [] all stand = refl
+  good_needs (place ∷ places) all stand = rw (good_one place (stand place (contains_head place places)) all.0, good_needs places all.1 (λ v has. stand v (contains_tail place places v has)))
+
+  one_over : (place : ℕ) (rest : List (List ℕ)) (m : Map) → StandsGood b done w place → place < n
+      → folders_over (folder_in (unit_at b.project place) ++ rest) w.files m ≡ over (files_at (slice_get (take n (outcomes_in b)) place)) (folders_over rest w.files m)
+  one_over place rest m s less =
+      ap (λ (x : Option Planned). folders_over (folder_in x ++ rest) w.files m) s.there
+      ∙ ap (λ (f : Map). over f (folders_over rest w.files m)) s.holds
+      ∙ sym (ap (λ (o : Option Outcome). over (files_at o) (folders_over rest w.files m)) (before_take n place (outcomes_in b) less ∙ s.good))
+
+  all_over : (places : List ℕ) (m : Map) → AllByRecursion (λ v. v < n) places → AllStand b done w places
+      → folders_over (flat_map (λ place. folder_in (unit_at b.project place)) places) w.files m ≡ with_made (take n (outcomes_in b)) places m
+  all_over [] m all stand = refl
+  all_over (place ∷ places) m all stand =
+      one_over place (flat_map (λ v. folder_in (unit_at b.project v)) places) m (stand place (contains_head place places)) all.0
+      ∙ ap (over (files_at (slice_get (take n (outcomes_in b)) place))) (all_over places m all.1 (λ v has. stand v (contains_tail place places v has)))
+
+  noted_one : (place : ℕ) → StandsGood b done w place → place < n → slice_get done place ≡ slice_get (directives_of (take n (outcomes_in b))) place
+  noted_one place s less = s.noted ∙ sym (slice_get-map directives_in (take n (outcomes_in b)) place ∙ ap (option_map directives_in) (before_take n place (outcomes_in b) less ∙ s.good))
+
+module _ (b : Basis) (done : List (Option (List Directive))) (w : World) (i : ℕ) (u : Planned) (order : IsInOrder b.project) (at : unit_at b.project i ≡ Some u) (stand : AllStand b done w u.reaches) where
+  pub commanded : command_of b.setup b.project u done ≡ command_in b i u
+  commanded = command_same b.setup b.project u done (directives_of (take i (outcomes_in b))) (order.needs_reached i u at)
+      (λ place has. noted_one b done w i place (stand place has) (each_of (λ v. v < i) u.reaches place (order.reaches i u at) has))
+
+  pub is_for_unit : IsFor b.project u (command_in b i u)
+  is_for_unit = is_for b.setup b.project u (directives_of (take i (outcomes_in b))) (order.packages i u at)
+
+  -- it is shown its view
+  pub sees_view : from_nothing b.project.workspace.target w ≡ b.sources → seen_by (command_in b i u) w ≡ view_in b i u
+  sees_view sources =
+      let c = command_in b i u in
+      let for = is_for_unit in
+      sees_folders c w
+      ∙ ap (λ (reads : List (List ℕ)). record w { files = folders_over reads w.files (from_nothing c.target w).files }) for.reads
+      ∙ ap (λ (target : List ℕ). record w { files = folders_over (reads_of b.project u) w.files (from_nothing target w).files }) for.target
+      ∙ ap (λ (m : Map). record w { files = m }) (all_over b done w i u.reaches (from_nothing b.project.workspace.target w).files (order.reaches i u at) stand)
+      ∙ ap (λ (v : World). record v { files = with_made (take i (outcomes_in b)) u.reaches v.files }) sources

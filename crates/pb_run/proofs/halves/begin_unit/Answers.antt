@@ -1,0 +1,72 @@
+use Rattle.std.proofs.Common.{◌≡◌, ◌∙◌, None, ap, refl, subst, sym}
+use Rattle.pb_command.specs.Judge.{judge}
+use Rattle.pb_place.specs.Children.{child_at}
+use Rattle.pb_place.specs.Counts.{Starts}
+use Rattle.pb_place.specs.World.{World, ChangesOnly}
+use Rattle.pb_run.specs.Halves.{CanBegin, basis}
+use Rattle.pb_run.proofs.Halving.{begun_none, begun_some, flies_lifted, flying_begun, keeps_launched, keeps_same, others_begun, others_same, still_after}
+use Rattle.pb_run.proofs.halves.begin_unit.Goals as goal
+use Rattle.pb_soundness.specs.Apart.{is_of}
+use Rattle.pb_soundness.specs.Records.{record_at}
+use Rattle.pb_store.specs.Keeping.{Leaves}
+
+pub returns-in-Err-clause-keeps : goal.returns-in-Err-clause-keeps
+returns-in-Err-clause-keeps g c footing read sources states is told can =
+    keeps_same (basis footing read g.P.Place.child c.args.setup.now c.args.project.now sources) c.requires.order c.args.index c.args.unit.now c.requires.unit states c.args.done.now c.args.store.now.next (g.P.Place.world c.args.place.now) can (g.P.Place.world c.args.place.now) refl
+
+pub returns-in-Err-command-clause-keeps : goal.returns-in-Err-command-clause-keeps
+returns-in-Err-command-clause-keeps g c footing read sources states is told can =
+    keeps_same (basis footing read g.P.Place.child c.args.setup.now c.args.project.now sources) c.requires.order c.args.index c.args.unit.now c.requires.unit states c.args.done.now c.args.store.now.next (g.P.Place.world c.args.place.now) can (g.P.Place.world c.args.place.now) refl
+
+pub returns-in-Err-difference_of-clause-keeps : goal.returns-in-Err-difference_of-clause-keeps
+returns-in-Err-difference_of-clause-keeps g c footing read sources states is told can =
+    keeps_same (basis footing read g.P.Place.child c.args.setup.now c.args.project.now sources) c.requires.order c.args.index c.args.unit.now c.requires.unit states c.args.done.now c.args.store.now.next (g.P.Place.world c.args.place.now) can (g.P.Place.world c.difference_of.new.place) (c.in-Err-difference_of.ensures.same told)
+
+pub returns-in-None-clause-keeps : goal.returns-in-None-clause-keeps
+returns-in-None-clause-keeps g c footing read sources states is told can =
+    keeps_same (basis footing read g.P.Place.child c.args.setup.now c.args.project.now sources) c.requires.order c.args.index c.args.unit.now c.requires.unit states c.args.done.now c.args.store.now.next (g.P.Place.world c.args.place.now) can (g.P.Place.world c.difference_of.new.place) (c.in-Ok-difference_of.ensures.same told)
+
+pub returns-in-Err-difference_of-clause-others : goal.returns-in-Err-difference_of-clause-others
+returns-in-Err-difference_of-clause-others g c footing read sources states other its is told can apart =
+    others_same (basis footing read g.P.Place.child c.args.setup.now c.args.project.now sources) c.requires.order c.args.index c.args.unit.now c.requires.unit states c.args.done.now c.args.store.now.next (g.P.Place.world c.args.place.now) can other its (g.P.Place.counts c.args.place.now).starts.flying (g.P.Place.still c.args.place.now) apart (g.P.Place.world c.difference_of.new.place) (g.P.Place.counts c.difference_of.new.place).starts.flying (g.P.Place.still c.difference_of.new.place) (c.in-Err-difference_of.ensures.same told)
+    (flying_begun c.args.store.now.next c.args.unit.now.key _ (g.P.Place.counts c.args.place.now).starts (g.P.Place.counts c.difference_of.new.place).starts c.in-Err-difference_of.ensures.takes.0) (c.in-Err-difference_of.ensures.still told)
+
+pub returns-in-None-clause-others : goal.returns-in-None-clause-others
+returns-in-None-clause-others g c footing read sources states other its is told can apart =
+    others_same (basis footing read g.P.Place.child c.args.setup.now c.args.project.now sources) c.requires.order c.args.index c.args.unit.now c.requires.unit states c.args.done.now c.args.store.now.next (g.P.Place.world c.args.place.now) can other its (g.P.Place.counts c.args.place.now).starts.flying (g.P.Place.still c.args.place.now) apart (g.P.Place.world c.difference_of.new.place) (g.P.Place.counts c.difference_of.new.place).starts.flying (g.P.Place.still c.difference_of.new.place) (c.in-Ok-difference_of.ensures.same told) (ap (λ (s : Starts). s.flying) c.in-Ok-difference_of.ensures.takes.1) (c.in-Ok-difference_of.ensures.still told)
+
+pub returns-in-None-clause-begun : goal.returns-in-None-clause-begun
+returns-in-None-clause-begun g c footing read sources states is told can =
+    begun_none (basis footing read g.P.Place.child c.args.setup.now c.args.project.now sources) c.requires.order c.args.index c.args.unit.now c.requires.unit states c.args.done.now c.args.store.now.next (g.P.Place.world c.args.place.now) can _ c.in-Ok-command.command (g.P.Place.world c.difference_of.new.place) c.args.store.now.folder (g.P.Place.counts c.difference_of.new.place).starts.flying (g.P.Place.still c.difference_of.new.place) (c.in-Ok-difference_of.ensures.same told) c.requires.folder c.in-Ok-command.ensures
+    (rw c.in-None.is at (c.in-Ok-difference_of.ensures.none read is told))
+
+pub returns-in-Ok-launch-clause-keeps : goal.returns-in-Ok-launch-clause-keeps
+returns-in-Ok-launch-clause-keeps g c footing read sources states is told can =
+    keeps_launched (basis footing read g.P.Place.child c.args.setup.now c.args.project.now sources) c.requires.order c.args.index c.args.unit.now c.requires.unit states c.args.done.now c.args.store.now.next (g.P.Place.world c.difference_of.new.place) (subst (CanBegin (basis footing read g.P.Place.child c.args.setup.now c.args.project.now sources) states c.args.done.now c.args.index c.args.unit.now c.args.store.now.next) (sym (c.in-Ok-difference_of.ensures.same told)) can) c.args.store.now.folder c.requires.folder
+    (g.P.Place.world c.launch.new.place) c.launch.new.store.next (c.in-Ok-launch.ensures.only told) (c.in-Ok-launch.ensures.sound read judge told) (c.in-Ok-launch.ensures.ahead read told)
+
+pub returns-in-Ok-launch-clause-begun : goal.returns-in-Ok-launch-clause-begun
+returns-in-Ok-launch-clause-begun g c footing read sources states is told can =
+    begun_some (basis footing read g.P.Place.child c.args.setup.now c.args.project.now sources) c.requires.order c.args.index c.args.unit.now c.requires.unit states c.args.done.now c.args.store.now.next (g.P.Place.world c.difference_of.new.place) (subst (CanBegin (basis footing read g.P.Place.child c.args.setup.now c.args.project.now sources) states c.args.done.now c.args.index c.args.unit.now c.args.store.now.next) (sym (c.in-Ok-difference_of.ensures.same told)) can) c.args.store.now.folder c.requires.folder
+    (g.P.Place.world c.launch.new.place) c.launch.new.store.next (c.in-Ok-launch.ensures.only told) _ c.in-Ok-command.command c.in-Ok-launch.launched (g.P.Place.counts c.launch.new.place).starts.flying (g.P.Place.still c.launch.new.place) c.in-Ok-command.ensures (c.in-Ok-launch.ensures.spawned told) (c.in-Ok-launch.ensures.gone read told) c.in-Ok-launch.ensures.number.0 c.in-Ok-launch.ensures.number.1
+
+pub returns-in-Ok-launch-clause-others : goal.returns-in-Ok-launch-clause-others
+returns-in-Ok-launch-clause-others g c footing read sources states other its is told can apart =
+    others_begun (basis footing read g.P.Place.child c.args.setup.now c.args.project.now sources) c.requires.order c.args.index c.args.unit.now c.requires.unit states c.args.done.now c.args.store.now.next (g.P.Place.world c.args.place.now) can other its (g.P.Place.counts c.args.place.now).starts.flying (g.P.Place.still c.args.place.now) apart c.args.store.now.folder (g.P.Place.world c.launch.new.place) c.launch.new.store.next (g.P.Place.counts c.launch.new.place).starts.flying (g.P.Place.still c.launch.new.place) c.requires.folder
+    (subst (λ (v : World). ChangesOnly (is_of c.args.store.now.folder c.args.unit.now.key) v (g.P.Place.world c.launch.new.place)) (c.in-Ok-difference_of.ensures.same told) (c.in-Ok-launch.ensures.only told)) c.in-Ok-launch.ensures.next
+    (subst (λ (v : World). Leaves None (record_at read c.args.store.now.folder v.files c.args.unit.now.key) (record_at read c.args.store.now.folder (g.P.Place.world c.launch.new.place).files c.args.unit.now.key)) (c.in-Ok-difference_of.ensures.same told) (c.in-Ok-launch.ensures.left read told))
+    (λ t f there. flies_lifted c.in-Ok-launch.launched.ticket t (g.P.Place.counts c.difference_of.new.place).starts (g.P.Place.counts c.launch.new.place).starts f c.in-Ok-launch.ensures.takes.1 (ap (child_at t) (ap (λ (s : Starts). s.flying) c.in-Ok-difference_of.ensures.takes.1) ∙ there))
+    (still_after (is_of c.args.store.now.folder c.args.unit.now.key) (g.P.Place.counts c.args.place.now).starts.flying (g.P.Place.counts c.difference_of.new.place).starts.flying (g.P.Place.still c.args.place.now) (g.P.Place.still c.difference_of.new.place) (g.P.Place.still c.launch.new.place) (c.in-Ok-difference_of.ensures.still told) (ap (λ (s : Starts). s.flying) c.in-Ok-difference_of.ensures.takes.1) (c.in-Ok-launch.ensures.still told))
+
+pub returns-in-Err-launch-clause-keeps : goal.returns-in-Err-launch-clause-keeps
+returns-in-Err-launch-clause-keeps g c footing read sources states is told can =
+    keeps_launched (basis footing read g.P.Place.child c.args.setup.now c.args.project.now sources) c.requires.order c.args.index c.args.unit.now c.requires.unit states c.args.done.now c.args.store.now.next (g.P.Place.world c.difference_of.new.place) (subst (CanBegin (basis footing read g.P.Place.child c.args.setup.now c.args.project.now sources) states c.args.done.now c.args.index c.args.unit.now c.args.store.now.next) (sym (c.in-Ok-difference_of.ensures.same told)) can) c.args.store.now.folder c.requires.folder
+    (g.P.Place.world c.launch.new.place) c.launch.new.store.next (c.in-Err-launch.ensures.only told) (c.in-Err-launch.ensures.sound read judge told) (c.in-Err-launch.ensures.ahead read told)
+
+pub returns-in-Err-launch-clause-others : goal.returns-in-Err-launch-clause-others
+returns-in-Err-launch-clause-others g c footing read sources states other its is told can apart =
+    others_begun (basis footing read g.P.Place.child c.args.setup.now c.args.project.now sources) c.requires.order c.args.index c.args.unit.now c.requires.unit states c.args.done.now c.args.store.now.next (g.P.Place.world c.args.place.now) can other its (g.P.Place.counts c.args.place.now).starts.flying (g.P.Place.still c.args.place.now) apart c.args.store.now.folder (g.P.Place.world c.launch.new.place) c.launch.new.store.next (g.P.Place.counts c.launch.new.place).starts.flying (g.P.Place.still c.launch.new.place) c.requires.folder
+    (subst (λ (v : World). ChangesOnly (is_of c.args.store.now.folder c.args.unit.now.key) v (g.P.Place.world c.launch.new.place)) (c.in-Ok-difference_of.ensures.same told) (c.in-Err-launch.ensures.only told)) c.in-Err-launch.ensures.next
+    (subst (λ (v : World). Leaves None (record_at read c.args.store.now.folder v.files c.args.unit.now.key) (record_at read c.args.store.now.folder (g.P.Place.world c.launch.new.place).files c.args.unit.now.key)) (c.in-Ok-difference_of.ensures.same told) (c.in-Err-launch.ensures.left read told))
+    (λ t f there. ap (child_at t) (flying_begun c.args.store.now.next c.args.unit.now.key _ (g.P.Place.counts c.difference_of.new.place).starts (g.P.Place.counts c.launch.new.place).starts c.in-Err-launch.ensures.takes.0 ∙ (ap (λ (s : Starts). s.flying) c.in-Ok-difference_of.ensures.takes.1)) ∙ there)
+    (still_after (is_of c.args.store.now.folder c.args.unit.now.key) (g.P.Place.counts c.args.place.now).starts.flying (g.P.Place.counts c.difference_of.new.place).starts.flying (g.P.Place.still c.args.place.now) (g.P.Place.still c.difference_of.new.place) (g.P.Place.still c.launch.new.place) (c.in-Ok-difference_of.ensures.still told) (ap (λ (s : Starts). s.flying) c.in-Ok-difference_of.ensures.takes.1) (c.in-Err-launch.ensures.still told))

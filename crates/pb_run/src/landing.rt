@@ -1,0 +1,378 @@
+//! A unit that answers: its child's end, or its record again; the judgement; the record kept or renewed.
+
+ghost use Rattle.std.specs.Prelude.{◌≡◌, ◌++◌, ℕ, true, false, List, Option, IsTrue, IfOk, IfSome, MatchResult, OnOk, Some, None, All, is_some, map, option_map, slice_get, slice_set};
+ghost use Rattle.std.specs.FinMap as finite;
+ghost use Rattle.pb_command.specs.Answers.{answered_of};
+ghost use Rattle.pb_command.specs.Judge.{file_at};
+ghost use Rattle.pb_place.specs.Children.{is_flying, child_at, LandsAs, StaysStillBut};
+ghost use Rattle.pb_place.specs.Paths.{is_at_or_below};
+ghost use Rattle.pb_place.specs.World.{World, ChangesOnly, ChangesOnlyInSome};
+ghost use Rattle.pb_project.specs.Targets.{dep_info_of};
+ghost use Rattle.pb_record.specs.Parts.{IsReading};
+ghost use Rattle.pb_record.specs.Sorted.{are_sorted};
+ghost use Rattle.pb_record.specs.declared.record.Record.{Record};
+ghost use Rattle.pb_run.specs.Causes.{Takes, NoStart, Lands, MayFollow, MayAnswerUnit};
+ghost use Rattle.pb_directive.specs.declared.directive.Directive.{Directive};
+ghost use Rattle.pb_flight.specs.declared.flight.State.{State};
+ghost use Rattle.pb_flight.specs.declared.flight.State.TheVariants as state;
+ghost use Rattle.pb_place.specs.Folders.{files_in};
+ghost use Rattle.pb_project.specs.declared.fault.UnitFault.{UnitFault};
+ghost use Rattle.pb_project.specs.declared.project.Setup.{Setup};
+ghost use Rattle.pb_run.specs.Halves.{Footing, basis, begun_with, outcomes_in, key_at, needed_keys, Keeps, IsBegun, CanAnswer, BeginsApart};
+ghost use Rattle.pb_run.specs.Standing.{IsCommandOf, IsInOrder, records_folder};
+ghost use Rattle.pb_run.specs.declared.begun.Begun.{Begun};
+ghost use Rattle.pb_run.specs.Outcome.{judgement_by, outcome_by, directives_in, unstarted};
+ghost use Rattle.std.specs.List.{flat_map};
+ghost use Rattle.pb_soundness.specs.Apart.{is_of, KeepsStill, KeepsStillOutside};
+ghost use Rattle.pb_soundness.specs.Inputs.{Judge, input_in};
+ghost use Rattle.pb_soundness.specs.Numbers.{IsAhead, IsBefore};
+ghost use Rattle.pb_soundness.specs.Records.{Reading, is_key, number_of, out_of, place_of, record_at};
+ghost use Rattle.pb_soundness.specs.Sound.{Sound};
+ghost use Rattle.pb_store.specs.Keeping.{HasNeeds, IsKept, Leaves, kept_of, numbered};
+ghost use Rattle.pb_store.specs.Migrating.{IsMigrated, TakesNumber, migrated};
+ghost use Rattle.pb_store.specs.Replaying.{replayed};
+
+use crate::begun::Launched;
+use crate::faults::{childless, storeless};
+use crate::ran::{Judgement, Ran, judged};
+use crate::running::read_at;
+use pb_answer::BuildFault;
+use pb_data::{Items, Text, TryCopy};
+use pb_place::{Command, Ended, Place};
+use pb_project::{InputName, Project, dep_info_path, unit_at};
+use pb_store::{Replayed, Store};
+use pb_unit::Planned;
+use std::alloc::{AllocError, Global};
+
+/// Asks for the end of the child of the unit of this key.
+#[tactic(auto, using(crate::proofs::Ending::finish_laws))]
+pub(crate) fn finish<P: Place>(
+    alloc: Global,
+    place: &mut P,
+    unit: Text,
+    launched: &Launched,
+) -> Result<Ended, BuildFault>
+    requires flies { is_flying launched.now.ticket (P.counts place.old).starts.flying ≡ true }
+    ensures ok { IsTrue P.tells → P.still place.old launched.now.ticket → IfOk result (λ ended. IfSome (child_at launched.now.ticket (P.counts place.old).starts.flying) (λ spawned. LandsAs spawned (P.world place.old) ended (P.world place.new))) }
+    ensures only { IsTrue P.tells → IfSome (child_at launched.now.ticket (P.counts place.old).starts.flying) (λ spawned. ChangesOnlyInSome spawned.command.out (P.world place.old) (P.world place.new)) }
+    ensures most { P.most place.new ≡ P.most place.old }
+    ensures still { StaysStillBut launched.now.ticket (P.counts place.old).starts.flying (P.world place.old) (P.world place.new) (P.still place.old) (P.still place.new) }
+    ensures takes { (next : Option ℕ) → Takes (Lands (Some launched.now)) (MayAnswerUnit next unit (Some launched.now)) result (P.counts place.old) (P.counts place.new) }
+{
+    match place.finish(alloc, launched.ticket) {
+        Ok(ended) => Ok(ended),
+        Err(fault) => Err(childless(unit, fault)),
+    }
+}
+
+/// Judges the answer of a unit's child by what stands in its output folder.
+pub(crate) fn judged_now<P: Place>(
+    alloc: Global,
+    place: &mut P,
+    project: &Project,
+    unit: &Planned,
+    command: &Command,
+    ended: &Ended,
+) -> Result<Judgement, BuildFault>
+    ensures judged { IsTrue P.tells → IfOk result (λ judgement. judgement ≡ judgement_by project.now unit.now ended.now (answered_of project.now unit.now command.now ended.now (file_at (dep_info_of project.now unit.now) (P.world place.old).files))) }
+    ensures started { IfOk result (λ judgement. judgement.ran.started ≡ true) }
+    ensures directives { IfOk result (λ judgement. directives_in (outcome_by finite.empty judgement.ran) ≡ judgement.ran.directives) }
+    ensures same { IsTrue P.tells → P.world place.new ≡ P.world place.old }
+    ensures most { P.most place.new ≡ P.most place.old }
+    ensures still { IsTrue P.tells → KeepsStill (P.still place.old) (P.still place.new) }
+    ensures takes { Takes NoStart (MayFollow unit.now.key) result (P.counts place.old) (P.counts place.new) }
+{
+    let path = match dep_info_path(alloc, project, unit) {
+        Ok(path) => path,
+        Err(_) => return Err(BuildFault::OutOfMemory),
+    };
+    let dep_info = match read_at(alloc, place, unit.key.as_str(), &path) {
+        Ok(dep_info) => dep_info,
+        Err(fault) => return Err(fault),
+    };
+    match judged(alloc, project, unit, command, ended, &dep_info) {
+        Ok(judgement) => Ok(judgement),
+        Err(_) => Err(BuildFault::OutOfMemory),
+    }
+}
+
+/// Adds the key of the unit at a place.
+fn push_key(
+    alloc: Global,
+    keys: &mut Items<Text>,
+    project: &Project,
+    place: usize,
+) -> Result<(), AllocError>
+    ensures { OnOk result (keys.new ≡ keys.old ++ key_at project.now place) }
+{
+    if let Some(need) = unit_at(project, place) {
+        keys.push(need.key.copy(alloc)?)?;
+    }
+    Ok(())
+}
+
+/// Adds the keys of the units at some places.
+fn push_keys(
+    alloc: Global,
+    keys: &mut Items<Text>,
+    project: &Project,
+    places: &[usize],
+) -> Result<(), AllocError>
+    ensures { OnOk result (keys.new ≡ keys.old ++ flat_map (key_at project.now) places.now) }
+{
+    for place in places {
+        push_key(alloc, keys, project, *place)?;
+    }
+    Ok(())
+}
+
+/// The keys of the units that a unit needs, in plan order.
+fn needed_keys(alloc: Global, project: &Project, unit: &Planned) -> Result<Items<Text>, AllocError>
+    ensures { IfOk result (λ keys. keys ≡ needed_keys project.now unit.now) }
+{
+    let mut keys = Items::new(alloc);
+    push_keys(alloc, &mut keys, project, unit.needs.as_slice())?;
+    Ok(keys)
+}
+
+/// Keeps the record of a unit whose answer is good.
+#[tactic(auto, using(crate::proofs::Causing::keep_laws))]
+fn keep<P: Place>(
+    alloc: Global,
+    place: &mut P,
+    store: &Store,
+    project: &Project,
+    unit: &Planned,
+    command: &Command,
+    number: u64,
+    ended: &Ended,
+    names: &[InputName],
+) -> Result<(), BuildFault>
+    requires key { is_key unit.now.key ≡ true }
+    requires keys { All (λ need. is_key need ≡ true) (needed_keys project.now unit.now) }
+    requires out { command.now.out ≡ Some (out_of store.now.folder unit.now.key) }
+    requires sorted { are_sorted command.now.pairs ≡ true }
+    ensures sound { (read : Reading) (judge : Judge) → IsReading read → IsTrue P.tells → IsKept read judge P.child store.now.folder unit.now.key command.now (needed_keys project.now unit.now) names.now ended.now number (P.world place.old) → Sound read judge P.child store.now.folder (P.world place.old).files → Sound read judge P.child store.now.folder (P.world place.new).files }
+    ensures stands { (read : Reading) → IsReading read → IsTrue P.tells → OnOk result (record_at read store.now.folder (P.world place.new).files unit.now.key ≡ Some (kept_of store.now.folder unit.now.key command.now (map (input_in command.now.target (P.world place.old)) names.now) number (numbered (record_at read store.now.folder (P.world place.old).files) (needed_keys project.now unit.now)) ended.now)) }
+    ensures left { (read : Reading) → IsReading read → IsTrue P.tells → Leaves (Some (kept_of store.now.folder unit.now.key command.now (map (input_in command.now.target (P.world place.old)) names.now) number (numbered (record_at read store.now.folder (P.world place.old).files) (needed_keys project.now unit.now)) ended.now)) (record_at read store.now.folder (P.world place.old).files unit.now.key) (record_at read store.now.folder (P.world place.new).files unit.now.key) }
+    ensures ahead { (read : Reading) → IsReading read → IsTrue P.tells → IsBefore store.now.next number → HasNeeds (record_at read store.now.folder (P.world place.old).files) store.now.folder command.now.reads (needed_keys project.now unit.now) number → IsAhead (record_at read store.now.folder (P.world place.old).files) store.now.next → IsAhead (record_at read store.now.folder (P.world place.new).files) store.now.next }
+    ensures only { IsTrue P.tells → ChangesOnly (is_at_or_below (place_of store.now.folder unit.now.key)) (P.world place.old) (P.world place.new) }
+    ensures most { P.most place.new ≡ P.most place.old }
+    ensures still { IsTrue P.tells → KeepsStillOutside (is_at_or_below (place_of store.now.folder unit.now.key)) (P.counts place.old).starts.flying (P.still place.old) (P.still place.new) }
+    ensures takes { Takes NoStart (MayFollow unit.now.key) result (P.counts place.old) (P.counts place.new) }
+{
+    let needs = match needed_keys(alloc, project, unit) {
+        Ok(needs) => needs,
+        Err(_) => return Err(BuildFault::OutOfMemory),
+    };
+    let name = match unit.key.copy(alloc) {
+        Ok(name) => name,
+        Err(_) => return Err(BuildFault::OutOfMemory),
+    };
+    match store.keep(
+        alloc,
+        place,
+        &unit.key,
+        number,
+        command,
+        needs.as_slice(),
+        names,
+        ended,
+    ) {
+        Ok(()) => Ok(()),
+        Err(fault) => Err(storeless(name, fault)),
+    }
+}
+
+/// What the record of a unit gives again; want of memory where there is none, which `differs` has found.
+fn replay<P: Place>(
+    alloc: Global,
+    place: &mut P,
+    store: &Store,
+    unit: &Planned,
+) -> Result<Replayed, BuildFault>
+    requires key { is_key unit.now.key ≡ true }
+    ensures replayed { (read : Reading) → IsReading read → IsTrue P.tells → IfOk result (λ again. Some again ≡ option_map replayed (record_at read store.now.folder (P.world place.old).files unit.now.key)) }
+    ensures same { IsTrue P.tells → P.world place.new ≡ P.world place.old }
+    ensures most { P.most place.new ≡ P.most place.old }
+    ensures still { IsTrue P.tells → KeepsStill (P.still place.old) (P.still place.new) }
+    ensures takes { Takes NoStart (MayFollow unit.now.key) result (P.counts place.old) (P.counts place.new) }
+{
+    let name = match unit.key.copy(alloc) {
+        Ok(name) => name,
+        Err(_) => return Err(BuildFault::OutOfMemory),
+    };
+    let found = match store.replay(alloc, place, &unit.key) {
+        Ok(found) => found,
+        Err(fault) => return Err(storeless(name, fault)),
+    };
+    match found {
+        Some(again) => Ok(again),
+        None => Err(BuildFault::OutOfMemory),
+    }
+}
+
+/// Gives the record of a unit a run number, where it has none.
+fn migrate<P: Place>(
+    alloc: Global,
+    place: &mut P,
+    store: &mut Store,
+    project: &Project,
+    unit: &Planned,
+) -> Result<(), BuildFault>
+    requires key { is_key unit.now.key ≡ true }
+    requires keys { All (λ need. is_key need ≡ true) (needed_keys project.now unit.now) }
+    ensures sound { (read : Reading) (judge : Judge) (c : Command) (r : Record) → IsReading read → IsTrue P.tells → ((number : ℕ) → store.old.next ≡ Some number → IsMigrated read judge P.child store.old.folder unit.now.key c (needed_keys project.now unit.now) number (P.world place.old) r) → Sound read judge P.child store.old.folder (P.world place.old).files → Sound read judge P.child store.old.folder (P.world place.new).files }
+    ensures ahead { (read : Reading) (judge : Judge) (c : Command) (r : Record) → IsReading read → IsTrue P.tells → ((number : ℕ) → store.old.next ≡ Some number → IsMigrated read judge P.child store.old.folder unit.now.key c (needed_keys project.now unit.now) number (P.world place.old) r) → IsAhead (record_at read store.old.folder (P.world place.old).files) store.old.next → IsAhead (record_at read store.old.folder (P.world place.new).files) store.new.next }
+    ensures left { (read : Reading) → IsReading read → IsTrue P.tells → Leaves (migrated store.old.next (numbered (record_at read store.old.folder (P.world place.old).files) (needed_keys project.now unit.now)) (record_at read store.old.folder (P.world place.old).files unit.now.key)) (record_at read store.old.folder (P.world place.old).files unit.now.key) (record_at read store.old.folder (P.world place.new).files unit.now.key) }
+    ensures numbered { (read : Reading) (r : Record) → IsReading read → IsTrue P.tells → OnOk result (record_at read store.old.folder (P.world place.new).files unit.now.key ≡ Some r → is_some (number_of r) ≡ true) }
+    ensures next { TakesNumber store.old.next store.new.next }
+    ensures folder { store.new.folder ≡ store.old.folder }
+    ensures stands { (read : Reading) → IsReading read → IsTrue P.tells → OnOk result (record_at read store.old.folder (P.world place.new).files unit.now.key ≡ migrated store.old.next (numbered (record_at read store.old.folder (P.world place.old).files) (needed_keys project.now unit.now)) (record_at read store.old.folder (P.world place.old).files unit.now.key)) }
+    ensures only { IsTrue P.tells → ChangesOnly (is_at_or_below (place_of store.old.folder unit.now.key)) (P.world place.old) (P.world place.new) }
+    ensures most { P.most place.new ≡ P.most place.old }
+    ensures still { IsTrue P.tells → KeepsStillOutside (is_at_or_below (place_of store.old.folder unit.now.key)) (P.counts place.old).starts.flying (P.still place.old) (P.still place.new) }
+    ensures takes { Takes NoStart (MayAnswerUnit store.old.next unit.now.key None) result (P.counts place.old) (P.counts place.new) }
+{
+    let needs = match needed_keys(alloc, project, unit) {
+        Ok(needs) => needs,
+        Err(_) => return Err(BuildFault::OutOfMemory),
+    };
+    let name = match unit.key.copy(alloc) {
+        Ok(name) => name,
+        Err(_) => return Err(BuildFault::OutOfMemory),
+    };
+    match store.migrate(alloc, place, &unit.key, needs.as_slice()) {
+        Ok(()) => Ok(()),
+        Err(fault) => Err(storeless(name, fault)),
+    }
+}
+
+/// What came of a unit for which no child was started.
+fn unstarted(ran: Ran) -> Ran
+    ensures { result ≡ unstarted ran }
+{
+    Ran {
+        started: false,
+        fault: ran.fault,
+        directives: ran.directives,
+        messages: ran.messages,
+    }
+}
+
+/// Answers a unit that has a child: asks for its end, judges the answer, and keeps the record where it is good.
+pub(crate) fn land<P: Place>(
+    alloc: Global,
+    place: &mut P,
+    store: &Store,
+    project: &Project,
+    index: usize,
+    unit: &Planned,
+    name: Text,
+    command: &Command,
+    launched: &Launched,
+) -> Result<Ran, BuildFault>
+    requires order { IsInOrder project.now }
+    requires unit { slice_get project.now.plan.planned index ≡ Some unit.now }
+    requires folder { store.now.folder ≡ records_folder project.now }
+    requires named { name ≡ unit.now.key }
+    requires asks { IsCommandOf project.now unit.now command.now }
+    requires flies { is_flying launched.now.ticket (P.counts place.old).starts.flying ≡ true }
+    ensures outcome { (footing : Footing) (read : Reading) (setup : Setup) (sources : World) (states : List (State UnitFault)) (done : List (Option (List Directive))) → IsReading read → IsTrue P.tells
+        → CanAnswer (basis footing read P.child setup project.now sources) states done index unit.now (begun_with unit.now.key command.now (Some launched.now)) store.now.next (P.world place.old) (P.counts place.old).starts.flying (P.still place.old)
+        → IfOk result (λ ran. slice_get (outcomes_in (basis footing read P.child setup project.now sources)) index ≡ Some (outcome_by (files_in unit.now.out (P.world place.new).files) ran)) }
+    ensures keeps { (footing : Footing) (read : Reading) (setup : Setup) (sources : World) (states : List (State UnitFault)) (done : List (Option (List Directive))) → IsReading read → IsTrue P.tells
+        → CanAnswer (basis footing read P.child setup project.now sources) states done index unit.now (begun_with unit.now.key command.now (Some launched.now)) store.now.next (P.world place.old) (P.counts place.old).starts.flying (P.still place.old)
+        → MatchResult result
+        (λ ran. (lines : List ℕ) → Keeps (basis footing read P.child setup project.now sources) (slice_set states index (state.Answered record { fault = ran.fault; lines = lines })) (slice_set done index ran.directives) store.now.next (P.world place.new))
+        (λ e. Keeps (basis footing read P.child setup project.now sources) states done store.now.next (P.world place.new)) }
+    ensures others { (footing : Footing) (read : Reading) (setup : Setup) (sources : World) (states : List (State UnitFault)) (done : List (Option (List Directive))) (other : ℕ) (its : Begun) → IsReading read → IsTrue P.tells
+        → CanAnswer (basis footing read P.child setup project.now sources) states done index unit.now (begun_with unit.now.key command.now (Some launched.now)) store.now.next (P.world place.old) (P.counts place.old).starts.flying (P.still place.old)
+        → BeginsApart (basis footing read P.child setup project.now sources) states index (Some launched.now) other its store.now.next (P.world place.old) (P.counts place.old).starts.flying (P.still place.old)
+        → IsBegun (basis footing read P.child setup project.now sources) other its store.now.next (P.world place.new) (P.counts place.new).starts.flying (P.still place.new) }
+    ensures only { (footing : Footing) (read : Reading) (setup : Setup) (sources : World) → IsTrue P.tells
+        → IsBegun (basis footing read P.child setup project.now sources) index (begun_with unit.now.key command.now (Some launched.now)) store.now.next (P.world place.old) (P.counts place.old).starts.flying (P.still place.old)
+        → ChangesOnly (is_of (records_folder project.now) unit.now.key) (P.world place.old) (P.world place.new) }
+    ensures started { IfOk result (λ ran. ran.started ≡ true) }
+    ensures directives { IfOk result (λ ran. directives_in (outcome_by finite.empty ran) ≡ ran.directives) }
+    ensures most { P.most place.new ≡ P.most place.old }
+    ensures takes { Takes (Lands (Some launched.now)) (MayAnswerUnit store.now.next unit.now.key (Some launched.now)) result (P.counts place.old) (P.counts place.new) }
+{
+    let ended = match finish(alloc, place, name, launched) {
+        Ok(ended) => ended,
+        Err(fault) => return Err(fault),
+    };
+    let judgement = match judged_now(alloc, place, project, unit, command, &ended) {
+        Ok(judgement) => judgement,
+        Err(fault) => return Err(fault),
+    };
+    if judgement.ran.fault.is_some() {
+        return Ok(judgement.ran);
+    }
+    match keep(
+        alloc,
+        place,
+        store,
+        project,
+        unit,
+        command,
+        launched.number,
+        &ended,
+        judgement.names.as_slice(),
+    ) {
+        Ok(()) => Ok(judgement.ran),
+        Err(fault) => Err(fault),
+    }
+}
+
+/// Answers a unit of which nothing differs: judges what its record gives again, and gives the record a run number where
+/// it has none.
+pub(crate) fn reuse<P: Place>(
+    alloc: Global,
+    place: &mut P,
+    store: &mut Store,
+    project: &Project,
+    index: usize,
+    unit: &Planned,
+    command: &Command,
+) -> Result<Ran, BuildFault>
+    requires order { IsInOrder project.now }
+    requires unit { slice_get project.now.plan.planned index ≡ Some unit.now }
+    requires folder { store.old.folder ≡ records_folder project.now }
+    requires asks { IsCommandOf project.now unit.now command.now }
+    ensures outcome { (footing : Footing) (read : Reading) (setup : Setup) (sources : World) (states : List (State UnitFault)) (done : List (Option (List Directive))) → IsReading read → IsTrue P.tells
+        → CanAnswer (basis footing read P.child setup project.now sources) states done index unit.now (begun_with unit.now.key command.now None) store.old.next (P.world place.old) (P.counts place.old).starts.flying (P.still place.old)
+        → IfOk result (λ ran. slice_get (outcomes_in (basis footing read P.child setup project.now sources)) index ≡ Some (outcome_by (files_in unit.now.out (P.world place.new).files) ran)) }
+    ensures keeps { (footing : Footing) (read : Reading) (setup : Setup) (sources : World) (states : List (State UnitFault)) (done : List (Option (List Directive))) → IsReading read → IsTrue P.tells
+        → CanAnswer (basis footing read P.child setup project.now sources) states done index unit.now (begun_with unit.now.key command.now None) store.old.next (P.world place.old) (P.counts place.old).starts.flying (P.still place.old)
+        → MatchResult result
+        (λ ran. (lines : List ℕ) → Keeps (basis footing read P.child setup project.now sources) (slice_set states index (state.Answered record { fault = ran.fault; lines = lines })) (slice_set done index ran.directives) store.new.next (P.world place.new))
+        (λ e. Keeps (basis footing read P.child setup project.now sources) states done store.new.next (P.world place.new)) }
+    ensures others { (footing : Footing) (read : Reading) (setup : Setup) (sources : World) (states : List (State UnitFault)) (done : List (Option (List Directive))) (other : ℕ) (its : Begun) → IsReading read → IsTrue P.tells
+        → CanAnswer (basis footing read P.child setup project.now sources) states done index unit.now (begun_with unit.now.key command.now None) store.old.next (P.world place.old) (P.counts place.old).starts.flying (P.still place.old)
+        → BeginsApart (basis footing read P.child setup project.now sources) states index None other its store.old.next (P.world place.old) (P.counts place.old).starts.flying (P.still place.old)
+        → IsBegun (basis footing read P.child setup project.now sources) other its store.new.next (P.world place.new) (P.counts place.new).starts.flying (P.still place.new) }
+    ensures only { IsTrue P.tells → ChangesOnly (is_of (records_folder project.now) unit.now.key) (P.world place.old) (P.world place.new) }
+    ensures started { IfOk result (λ ran. ran.started ≡ false) }
+    ensures directives { IfOk result (λ ran. directives_in (outcome_by finite.empty ran) ≡ ran.directives) }
+    ensures folder { store.new.folder ≡ store.old.folder }
+    ensures next { TakesNumber store.old.next store.new.next }
+    ensures most { P.most place.new ≡ P.most place.old }
+    ensures takes { Takes (Lands None) (MayAnswerUnit store.old.next unit.now.key None) result (P.counts place.old) (P.counts place.new) }
+{
+    let again = match replay(alloc, place, store, unit) {
+        Ok(again) => again,
+        Err(fault) => return Err(fault),
+    };
+    let judgement = match judged_now(alloc, place, project, unit, command, &again.ended) {
+        Ok(judgement) => judgement,
+        Err(fault) => return Err(fault),
+    };
+    if judgement.ran.fault.is_some() {
+        return Ok(unstarted(judgement.ran));
+    }
+    match migrate(alloc, place, store, project, unit) {
+        Ok(()) => Ok(unstarted(judgement.ran)),
+        Err(fault) => Err(fault),
+    }
+}

@@ -1,0 +1,180 @@
+//! A unit that begins: what differs, the record dropped, the folder emptied, the child spawned.
+
+ghost use Rattle.std.specs.Prelude.{◌≡◌, ◌⊎◌, ◌+◌, ℕ, true, Option, IsTrue, IfNone, IfOk, OnOk, MatchResult, Some, None, max, length};
+ghost use Rattle.pb_place.specs.Children.{child_at, child_spawned, StaysStill};
+ghost use Rattle.pb_place.specs.Paths.{is_path, is_at_or_below};
+ghost use Rattle.pb_place.specs.World.{ChangesOnly, ChangesOnlyInSome};
+ghost use Rattle.pb_record.specs.Parts.{IsReading};
+ghost use Rattle.pb_record.specs.declared.record.Record.{Record};
+ghost use Rattle.pb_run.specs.Causes.{Takes, NoStart, IsLifted, MayBeginUnit};
+ghost use Rattle.pb_run.specs.Launching.{IsSpawned};
+ghost use Rattle.pb_soundness.specs.Apart.{is_of, KeepsStill, KeepsStillOutside};
+ghost use Rattle.pb_soundness.specs.Inputs.{Judge};
+ghost use Rattle.pb_soundness.specs.Numbers.{after, IsAhead};
+ghost use Rattle.pb_soundness.specs.Records.{Reading, is_key, out_of, place_of, record_at};
+ghost use Rattle.pb_soundness.specs.Reuse.{IsSame};
+ghost use Rattle.pb_soundness.specs.Sound.{Sound};
+ghost use Rattle.pb_store.specs.Differences.{FirstDifference};
+ghost use Rattle.pb_store.specs.Keeping.{Leaves};
+ghost use Rattle.pb_store.specs.Migrating.{TakesNumber};
+
+use crate::begun::Launched;
+use crate::faults::{childless, storeless};
+use crate::running::empty;
+use pb_answer::BuildFault;
+use pb_data::{Text, TryCopy};
+use pb_place::{Command, Place};
+use pb_store::{Difference, Store};
+use pb_unit::Planned;
+use std::alloc::Global;
+
+/// What differs of a unit since its record was kept.
+#[tactic(auto, using(crate::proofs::Causing::look_laws))]
+pub(crate) fn difference_of<P: Place>(
+    alloc: Global,
+    place: &mut P,
+    store: &Store,
+    key: &Text,
+    command: &Command,
+) -> Result<Option<Difference>, BuildFault>
+    requires { is_key key.now ≡ true }
+    ensures first { (read : Reading) → IsReading read → IsTrue P.tells → IfOk result (FirstDifference read store.now.folder key.now command.now (P.world place.old)) }
+    ensures none { (read : Reading) → IsReading read → IsTrue P.tells → IfOk result (λ found. IfNone found ((r : Record) × IsSame read store.now.folder key.now command.now (P.world place.old) r)) }
+    ensures same { IsTrue P.tells → P.world place.new ≡ P.world place.old }
+    ensures most { P.most place.new ≡ P.most place.old }
+    ensures still { IsTrue P.tells → KeepsStill (P.still place.old) (P.still place.new) }
+    ensures takes { Takes NoStart (MayBeginUnit store.now.next key.now) result (P.counts place.old) (P.counts place.new) }
+{
+    let unit = match key.copy(alloc) {
+        Ok(unit) => unit,
+        Err(_) => return Err(BuildFault::OutOfMemory),
+    };
+    match store.differs(alloc, place, key, command) {
+        Ok(found) => Ok(found),
+        Err(fault) => Err(storeless(unit, fault)),
+    }
+}
+
+/// Removes the record of a unit, and gives the run number of its next one.
+#[tactic(auto, using(crate::proofs::Causing::drop_laws))]
+fn drop_record<P: Place>(
+    alloc: Global,
+    place: &mut P,
+    store: &mut Store,
+    key: &Text,
+) -> Result<u64, BuildFault>
+    requires { is_key key.now ≡ true }
+    ensures number { IfOk result (λ number. (store.old.next ≡ Some number) × (store.new.next ≡ after number)) }
+    ensures next { TakesNumber store.old.next store.new.next }
+    ensures folder { store.new.folder ≡ store.old.folder }
+    ensures sound { (read : Reading) (judge : Judge) → IsTrue P.tells → Sound read judge P.child store.old.folder (P.world place.old).files → Sound read judge P.child store.old.folder (P.world place.new).files }
+    ensures gone { (read : Reading) → IsTrue P.tells → OnOk result (record_at read store.old.folder (P.world place.new).files key.now ≡ None) }
+    ensures left { (read : Reading) → IsTrue P.tells → Leaves None (record_at read store.old.folder (P.world place.old).files key.now) (record_at read store.old.folder (P.world place.new).files key.now) }
+    ensures ahead { (read : Reading) → IsTrue P.tells → IsAhead (record_at read store.old.folder (P.world place.old).files) store.old.next → IsAhead (record_at read store.old.folder (P.world place.new).files) store.new.next }
+    ensures only { IsTrue P.tells → ChangesOnly (is_at_or_below (place_of store.old.folder key.now)) (P.world place.old) (P.world place.new) }
+    ensures most { P.most place.new ≡ P.most place.old }
+    ensures still { IsTrue P.tells → KeepsStillOutside (is_at_or_below (place_of store.old.folder key.now)) (P.counts place.old).starts.flying (P.still place.old) (P.still place.new) }
+    ensures takes { Takes NoStart (MayBeginUnit store.old.next key.now) result (P.counts place.old) (P.counts place.new) }
+{
+    let unit = match key.copy(alloc) {
+        Ok(unit) => unit,
+        Err(_) => return Err(BuildFault::OutOfMemory),
+    };
+    match store.drop_record(alloc, place, key) {
+        Ok(number) => Ok(number),
+        Err(fault) => Err(storeless(unit, fault)),
+    }
+}
+
+/// Spawns the child of a unit.
+#[tactic(auto, using(crate::proofs::Spawning::spawn_laws))]
+fn spawn<P: Place>(
+    alloc: Global,
+    place: &mut P,
+    key: &Text,
+    command: &Command,
+) -> Result<u64, BuildFault>
+    ensures only { IsTrue P.tells → ChangesOnlyInSome command.now.out (P.world place.old) (P.world place.new) }
+    ensures flies { IfOk result (λ ticket. child_at ticket (P.counts place.new).starts.flying ≡ Some (child_spawned (P.child command.now) command.now (P.world place.old) ticket)) }
+    ensures stands { IfOk result (λ ticket. P.still place.new ticket) }
+    ensures most { MatchResult result (λ ticket. P.most place.new ≡ max (P.most place.old) (length (P.counts place.old).starts.flying + 1)) (λ e. P.most place.new ≡ P.most place.old) }
+    ensures still { StaysStill (P.counts place.old).starts.flying (P.world place.old) (P.world place.new) (P.still place.old) (P.still place.new) }
+    ensures takes { (next : Option ℕ) → Takes IsLifted (MayBeginUnit next key.now) result (P.counts place.old) (P.counts place.new) }
+{
+    let unit = match key.copy(alloc) {
+        Ok(unit) => unit,
+        Err(_) => return Err(BuildFault::OutOfMemory),
+    };
+    match place.spawn(alloc, command) {
+        Ok(ticket) => Ok(ticket),
+        Err(fault) => Err(childless(unit, fault)),
+    }
+}
+
+/// Empties the output folder of a unit, and spawns its child.
+#[tactic(auto, using(crate::proofs::Spawning::launch_laws))]
+fn spawn_anew<P: Place>(
+    alloc: Global,
+    place: &mut P,
+    unit: &Planned,
+    command: &Command,
+) -> Result<u64, BuildFault>
+    requires out { command.now.out ≡ Some unit.now.out }
+    ensures spawned { IsTrue P.tells → IfOk result (λ ticket. IsSpawned (is_at_or_below unit.now.out) P.child command.now (P.world place.old) ticket (P.counts place.new).starts.flying (P.still place.new)) }
+    ensures only { IsTrue P.tells → ChangesOnly (is_at_or_below unit.now.out) (P.world place.old) (P.world place.new) }
+    ensures most { MatchResult result (λ ticket. P.most place.new ≡ max (P.most place.old) (length (P.counts place.old).starts.flying + 1)) (λ e. P.most place.new ≡ P.most place.old) }
+    ensures still { IsTrue P.tells → KeepsStillOutside (is_at_or_below unit.now.out) (P.counts place.old).starts.flying (P.still place.old) (P.still place.new) }
+    ensures takes { (next : Option ℕ) → Takes IsLifted (MayBeginUnit next unit.now.key) result (P.counts place.old) (P.counts place.new) }
+{
+    match empty(alloc, place, unit.key.as_str(), &unit.out) {
+        Ok(()) => {}
+        Err(fault) => return Err(fault),
+    }
+    match spawn(alloc, place, &unit.key, command) {
+        Ok(ticket) => Ok(ticket),
+        Err(fault) => Err(fault),
+    }
+}
+
+/// Launches the child of a unit of which something differs: takes a run number, removes the record, empties the output
+/// folder and spawns the child.
+#[tactic(auto, using(crate::proofs::Spawning::launch_laws))]
+pub(crate) fn launch<P: Place>(
+    alloc: Global,
+    place: &mut P,
+    store: &mut Store,
+    unit: &Planned,
+    command: &Command,
+    difference: Difference,
+) -> Result<Launched, BuildFault>
+    requires out { command.now.out ≡ Some unit.now.out }
+    requires lies { unit.now.out ≡ out_of store.old.folder unit.now.key }
+    requires key { is_key unit.now.key ≡ true }
+    requires path { is_path store.old.folder ≡ true }
+    ensures difference { IfOk result (λ launched. launched.difference ≡ difference) }
+    ensures number { IfOk result (λ launched. (store.old.next ≡ Some launched.number) × (store.new.next ≡ after launched.number)) }
+    ensures next { TakesNumber store.old.next store.new.next }
+    ensures folder { store.new.folder ≡ store.old.folder }
+    ensures sound { (read : Reading) (judge : Judge) → IsTrue P.tells → Sound read judge P.child store.old.folder (P.world place.old).files → Sound read judge P.child store.old.folder (P.world place.new).files }
+    ensures gone { (read : Reading) → IsTrue P.tells → OnOk result (record_at read store.old.folder (P.world place.new).files unit.now.key ≡ None) }
+    ensures ahead { (read : Reading) → IsTrue P.tells → IsAhead (record_at read store.old.folder (P.world place.old).files) store.old.next → IsAhead (record_at read store.old.folder (P.world place.new).files) store.new.next }
+    ensures left { (read : Reading) → IsTrue P.tells → Leaves None (record_at read store.old.folder (P.world place.old).files unit.now.key) (record_at read store.old.folder (P.world place.new).files unit.now.key) }
+    ensures spawned { IsTrue P.tells → IfOk result (λ launched. IsSpawned (is_of store.old.folder unit.now.key) P.child command.now (P.world place.old) launched.ticket (P.counts place.new).starts.flying (P.still place.new)) }
+    ensures only { IsTrue P.tells → ChangesOnly (is_of store.old.folder unit.now.key) (P.world place.old) (P.world place.new) }
+    ensures most { MatchResult result (λ launched. P.most place.new ≡ max (P.most place.old) (length (P.counts place.old).starts.flying + 1)) (λ e. P.most place.new ≡ P.most place.old) }
+    ensures still { IsTrue P.tells → KeepsStillOutside (is_of store.old.folder unit.now.key) (P.counts place.old).starts.flying (P.still place.old) (P.still place.new) }
+    ensures takes { Takes (λ launched. IsLifted launched.ticket) (MayBeginUnit store.old.next unit.now.key) result (P.counts place.old) (P.counts place.new) }
+{
+    let number = match drop_record(alloc, place, store, &unit.key) {
+        Ok(number) => number,
+        Err(fault) => return Err(fault),
+    };
+    match spawn_anew(alloc, place, unit, command) {
+        Ok(ticket) => Ok(Launched {
+            ticket,
+            number,
+            difference,
+        }),
+        Err(fault) => Err(fault),
+    }
+}
