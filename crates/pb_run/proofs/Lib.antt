@@ -10,7 +10,6 @@ pub mod RecordedKeeps
 pub mod RecordedLanding
 pub mod RecordedOthers
 pub mod RecordedReplay
-pub mod Reusing
 pub mod Settling
 pub mod Shown
 pub mod Spawning
