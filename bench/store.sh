@@ -9,8 +9,12 @@
 #   keep         `keep` of a unit with so many declared files of 16 KiB
 #
 # Prints a line a size with how many records, files or MiB were looked at, and 0 where the answer is not the expected
-# one. Time and instructions are to grow as these: with 4,096 of them, 64 MiB of inputs. A call may take the largest
-# record and the largest input beside what is prepared. What is measured and how is said in `measured.sh`.
+# one. Time and instructions are to grow as these: with 4,096 of them, 64 MiB of inputs. Memory shows only where a call
+# takes more than the preparation did: `keep` holds all inputs and the text of the record. What is measured and how is
+# said in `measured.sh`.
+#
+# On a busy machine, instructions grew with exponents of 1.00 to 1.03 in each shape; a record of 64 MiB took 116 million
+# of them to keep, and 193 MiB of memory; the same unit 84 million to compare.
 set -euo pipefail
 crates="pb_data pb_closure pb_order pb_place pb_directive pb_manifest pb_package pb_profile pb_feature pb_unit pb_project pb_record pb_soundness pb_store"
 uses="pb_data pb_place pb_project pb_record pb_soundness pb_store"

@@ -1,7 +1,7 @@
 //! Tests of the base types, of the readers (manifests, the output of scripts, dep-info, session files, records), of what
 //! is written (JSON strings, message lines, result lines, faults in words), of the small compiler, of the flight table and
-//! of the store, against worked examples. The crate holds nothing else: a crate with tests is proved twice, so none that others stand
-//! on has any.
+//! of the store, against worked examples. The crate holds nothing else: a crate with tests is proved twice, so none that
+//! others stand on has any.
 #![tactic(auto)]
 
 #[cfg(test)]
