@@ -31,8 +31,8 @@ use Rattle.pb_build.specs.Causes.{upped, SomeStarts, UnitStarts, MayTellAll, May
 use Rattle.pb_build.specs.Ending.{Heard, Moment, said_by, started_keys, OnlyIn, Worked, Stopped, UnitsEnd, Still, PlanningEnds, QueryEnds, ProjectEnds, WorksWith}
 use Rattle.pb_build.specs.Environment.{environment_of}
 use Rattle.pb_build.specs.Kept.{SourcesStay}
-use Rattle.pb_build.specs.Planning.{IsProject, IsRefused}
-use Rattle.pb_build.specs.Private.{MayEnd}
+use Rattle.pb_build.specs.Planning.{IsProject, IsRefused, IsToldRefusal}
+use Rattle.pb_build.specs.Private.{MayEnd, Names}
 use Rattle.pb_build.specs.Result.{Row, toolchain_in, toolchain_of, setup_of, rows_of}
 use Rattle.pb_build.specs.declared.environment.Environment.{Environment}
 use Rattle.pb_build.proofs.Loops.{up_more}
@@ -223,7 +223,8 @@ pub plan_may : (e : BuildFault) (old new : Starts) → MayPlan e old new → May
 plan_may (Plan why) old new may = may
 plan_may Toolchain old new may = absurd may
 plan_may (Child key fault) old new may = absurd may
-plan_may (Device key fault) old new may = (0, may)
+plan_may (Device key (device.Place fault)) old new may = (0, may)
+plan_may (Device key device.NumbersSpent) old new may = absurd may
 plan_may Sink old new may = absurd may
 plan_may OutOfMemory old new may = (0, may)
 
@@ -255,3 +256,14 @@ units_take old mid new (Err e) starts failures takes = (may e takes.0, caused e 
     caused (Device key device.NumbersSpent) cause = cause ∙ failures
     caused Sink cause = cause ∙ failures
     caused OutOfMemory cause = cause ∙ failures
+
+-- what comes before the query ended it
+pub planning_ends : (options : Options) (e : BuildFault) (old new : Moment) → IsToldRefusal options (environment_of options old.world.variables).target old.world e → Still old new → MayPlan e old.counts.starts new.counts.starts → HasCause e old.counts new.counts → Names e new.counts
+    → PlanningEnds options (Err e) old new
+planning_ends options (Plan why) old new told still may cause named = (told, still, may, cause)
+planning_ends options Toolchain old new told still may cause named = absurd may
+planning_ends options (Child key fault) old new told still may cause named = absurd may
+planning_ends options (Device name (device.Place fault)) old new told still may cause named = (still, may, cause, named)
+planning_ends options (Device name device.NumbersSpent) old new told still may cause named = absurd may
+planning_ends options Sink old new told still may cause named = absurd may
+planning_ends options OutOfMemory old new told still may cause named = (still, may, cause)

@@ -43,7 +43,8 @@ abbrev pub MayPlan : BuildFault → Starts → Starts → Type 0
 MayPlan (Plan why) old new = new ≡ old
 MayPlan Toolchain old new = ⊥
 MayPlan (Child unit fault) old new = ⊥
-MayPlan (Device unit fault) old new = new ≡ old
+MayPlan (Device unit (device.Place fault)) old new = new ≡ old
+MayPlan (Device unit device.NumbersSpent) old new = ⊥
 MayPlan Sink old new = ⊥
 MayPlan OutOfMemory old new = new ≡ old
 

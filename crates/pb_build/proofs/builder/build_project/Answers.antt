@@ -8,6 +8,9 @@ use Rattle.pb_build.proofs.builder.build_project.Goals as goal
 pub returns-in-Err-clause-takes : goal.returns-in-Err-clause-takes
 returns-in-Err-clause-takes g c = (ask_may c.in-Err.fault _ _ c.in-Err.ensures.takes.0, c.in-Err.ensures.takes.1)
 
+pub returns-in-Err-setup_of-clause-takes : goal.returns-in-Err-setup_of-clause-takes
+returns-in-Err-setup_of-clause-takes g c = ((1, c.in-Ok.ensures.takes.1), c.in-Ok.ensures.takes.0)
+
 pub returns-clause-ends : goal.returns-clause-ends
 returns-clause-ends g c told =
     project_ends g.P.Place.child c.args.options.now c.args.environment c.args.project.now c.in-Ok-setup_of.setup c.in-Ok.toolchain
