@@ -1,15 +1,20 @@
 -- A unit that answers by its record: what is kept of a build, and what another unit finds.
-use Rattle.std.proofs.Common.{◌≡◌, ◌≢◌, ◌⊎◌, ◌∙◌, ℕ, Bool, true, false, List, Option, Some, None, Contains, refl, sym, ap, subst, inl, inr, pos, slice_get, slice_set}
+use Rattle.std.proofs.Common.{◌≡◌, ◌≢◌, ◌⊎◌, ◌∙◌, ℕ, Bool, true, false, List, Option, Some, None, All, Contains, refl, sym, ap, subst, inl, inr, slice_get, slice_index_or, slice_set}
+use Rattle.std.proofs.lemmas.List.Elements.{Contains-get_or}
 use Rattle.std.specs.Option.{is_some, option_map}
+use Rattle.pb_answer.specs.declared.fault.BuildFault.{BuildFault}
+use Rattle.pb_answer.specs.declared.fault.BuildFault.TheVariants.{Plan, Toolchain, Child, Device, Sink, OutOfMemory}
+use Rattle.pb_answer.specs.declared.fault.DeviceFault.TheVariants.{Place, NumbersSpent}
 use Rattle.pb_command.specs.Answers.{answered_of}
 use Rattle.pb_command.specs.Judge.{ended_by, file_at, judge, replied_files}
 use Rattle.pb_directive.specs.declared.directive.Directive.{Directive}
 use Rattle.pb_flight.specs.declared.flight.State.{State}
 use Rattle.pb_flight.specs.declared.flight.State.TheVariants.{Answered}
 use Rattle.pb_place.specs.Children.{child_at}
+use Rattle.pb_place.specs.Counts.{Starts}
 use Rattle.pb_place.specs.Folders.{files_in}
 use Rattle.pb_place.specs.Paths.{is_at_or_below}
-use Rattle.pb_place.specs.World.{World, ChangesOnly, seen_by}
+use Rattle.pb_place.specs.World.{World, Map, ChangesOnly, seen_by}
 use Rattle.pb_place.specs.declared.child.Reply.{Reply}
 use Rattle.pb_place.specs.declared.child_in_flight.ChildInFlight.{ChildInFlight}
 use Rattle.pb_place.specs.declared.command.Command.{Command}
@@ -17,23 +22,28 @@ use Rattle.pb_place.specs.declared.command.Ended.{Ended}
 use Rattle.pb_place.proofs.Folders.{only_same}
 use Rattle.pb_project.specs.Targets.{dep_info_of, unit_at}
 use Rattle.pb_project.specs.declared.fault.UnitFault.{UnitFault}
+use Rattle.pb_project.specs.declared.project.Project.{Project}
 use Rattle.pb_record.specs.declared.record.Record.{Record}
 use Rattle.pb_unit.specs.declared.plan.Planned.{Planned}
+use Rattle.pb_run.specs.Causes.{MayAnswerUnit, MayFollow}
 use Rattle.pb_run.specs.Halves.{Footing, OnRecords, OnNothing, Basis, BeginsApart, CanAnswer, HasRecord, HoldsBy, IsBegun, IsUnchanged, Keeps, begun_with, command_in, needed_keys, outcomes_in, records_in, view_in}
-use Rattle.pb_run.specs.Outcome.{judgement_by, outcome_by}
+use Rattle.pb_run.specs.Outcome.{judgement_by, outcome_by, unstarted}
 use Rattle.pb_run.specs.Standing.{IsInOrder, records_folder}
 use Rattle.pb_run.specs.declared.begun.Begun.{Begun}
 use Rattle.pb_run.specs.declared.ran.Judgement.{Judgement}
 use Rattle.pb_run.specs.declared.ran.Ran.{Ran}
-use Rattle.pb_run.proofs.Answering.{judged_gives, reached_stand}
+use Rattle.pb_run.proofs.Answering.{files_kept, judged_gives, reached_stand}
+use Rattle.pb_run.proofs.Halving.{still_after}
+use Rattle.pb_run.proofs.Recorded.{key_needed}
 use Rattle.pb_run.proofs.RecordedAnswer.{begun_bad, its_command, its_same, keeps_answered, keeps_fault, only_place}
 use Rattle.pb_run.proofs.RecordedOthers.{IfRecords, Left, as_before, if_records, stays_begun}
 use Rattle.pb_run.proofs.RecordedReplay.{left_migrated, migrated_ahead, migrated_record, migrated_sound, numbers_apart, replay_backs}
 use Rattle.pb_run.proofs.Settling.{not_none, on_good}
 use Rattle.pb_run.proofs.Shown.{AllStand, sees_view}
+use Rattle.pb_run.proofs.Spawning.{place_within, still_widen, widen}
 use Rattle.pb_soundness.specs.Apart.{KeepsStill, KeepsStillOutside, is_of}
 use Rattle.pb_soundness.specs.Numbers.{IsAhead}
-use Rattle.pb_soundness.specs.Records.{number_of, place_of, record_at}
+use Rattle.pb_soundness.specs.Records.{is_key, number_of, place_of, record_at}
 use Rattle.pb_soundness.specs.Sound.{Backs, Sound}
 use Rattle.pb_soundness.proofs.Becoming.{one}
 use Rattle.pb_store.specs.Keeping.{Leaves, numbered}
@@ -52,6 +62,47 @@ pub record Renewing (b : Basis) (folder : List ℕ) (u : Planned) (c : Command) 
 pub record Renewed (b : Basis) (folder : List ℕ) (u : Planned) (next : Option ℕ) (w w' : World) : Type 0 where
   pub stands : record_at b.read folder w'.files u.key ≡ migrated next (numbered (record_at b.read folder w.files) (needed_keys b.project u)) (record_at b.read folder w.files u.key)
   pub numbered_now : (s : Record) → record_at b.read folder w'.files u.key ≡ Some s → is_some (number_of s) ≡ true
+
+-- the keys of what a unit needs are keys
+pub keys_needed : (project : Project) (order : IsInOrder project) (u : Planned) → All (λ need. is_key need ≡ true) (needed_keys project u)
+keys_needed project order u k d lt =
+    let (v, one_at, same) = key_needed project order u (slice_index_or (needed_keys project u) k d) (Contains-get_or (needed_keys project u) k d lt) in
+    subst (λ need. is_key need ≡ true) (sym same) (order.keys one_at.place v one_at.there)
+
+-- what flies after the faults of the calls
+pub flying_follow : (key : List ℕ) (e : BuildFault) (old new : Starts) → MayFollow key e old new → new.flying ≡ old.flying
+flying_follow key (Plan refusal) old new may = absurd may
+flying_follow key Toolchain old new may = absurd may
+flying_follow key (Child unit fault) old new may = absurd may
+flying_follow key (Device unit (Place fault)) old new (named, kind, starts) = ap (λ (s : Starts). s.flying) starts
+flying_follow key (Device unit NumbersSpent) old new may = absurd may
+flying_follow key Sink old new may = absurd may
+flying_follow key OutOfMemory old new may = ap (λ (s : Starts). s.flying) may
+
+pub flying_alone : (next : Option ℕ) (key : List ℕ) (e : BuildFault) (old new : Starts) → MayAnswerUnit next key None e old new → new.flying ≡ old.flying
+flying_alone next key (Plan refusal) old new may = absurd may
+flying_alone next key Toolchain old new may = absurd may
+flying_alone next key (Child unit fault) old new (named, has, kind, starts) = ap (λ (s : Starts). s.flying) starts
+flying_alone next key (Device unit (Place fault)) old new (named, kind, starts) = ap (λ (s : Starts). s.flying) starts
+flying_alone next key (Device unit NumbersSpent) old new (named, spent, none, starts) = ap (λ (s : Starts). s.flying) starts
+flying_alone next key Sink old new may = absurd may
+flying_alone next key OutOfMemory old new may = ap (λ (s : Starts). s.flying) may
+
+-- what changes, and what stands still, where nothing changes before the record is renewed
+pub reused_only : (folder root key : List ℕ) (w w2 w3 : World) → folder ≡ root → w2 ≡ w → ChangesOnly (is_at_or_below (place_of folder key)) w2 w3 → ChangesOnly (is_of root key) w w3
+reused_only folder root key w w2 w3 is_folder same only =
+    subst (λ f. ChangesOnly (is_of f key) w w3) is_folder
+    (subst (λ (v : World). ChangesOnly (is_of folder key) v w3) same (widen (is_at_or_below (place_of folder key)) (is_of folder key) w2 w3 (place_within folder key) only))
+
+pub reused_still : (folder root key : List ℕ) (flying between : List ChildInFlight) (still still1 still2 still3 : ℕ → Type 0) → folder ≡ root → between ≡ flying → KeepsStill still still1 → KeepsStill still1 still2
+    → KeepsStillOutside (is_at_or_below (place_of folder key)) between still2 still3 → KeepsStillOutside (is_of root key) flying still still3
+reused_still folder root key flying between still still1 still2 still3 is_folder same first second last =
+    subst (λ f. KeepsStillOutside (is_of f key) flying still still3) is_folder
+    (still_after (is_of folder key) flying between still still2 still3 (λ t stood. second t (first t stood)) same
+    (still_widen (is_at_or_below (place_of folder key)) (is_of folder key) between still2 still3 (place_within folder key) last))
+
+pub bad_unstarted : (ran its : Ran) → ran ≡ unstarted its → is_some its.fault ≡ true → is_some ran.fault ≡ true
+bad_unstarted ran its is bad = ap (λ (r : Ran). is_some r.fault) is ∙ bad
 
 module _ (b : Basis) (order : IsInOrder b.project) (i : ℕ) (u : Planned) (at : unit_at b.project i ≡ Some u) (key : List ℕ) (c : Command) (next : Option ℕ) (w : World)
     (flying : List ChildInFlight) (still : ℕ → Type 0) (states : List (State UnitFault)) (done : List (Option (List Directive))) (can : CanAnswer b states done i u (begun_with key c None) next w flying still) where
@@ -86,6 +137,30 @@ module _ (b : Basis) (order : IsInOrder b.project) (i : ℕ) (u : Planned) (at :
       judged_gives b order i u at done w c again.ended w.files j stand is_command
       (ap (λ (x : Replayed). x.ended) again_is ∙ ended_same r (b.child c (view_in b i u)) backs ∙ ap ended_by replies)
       (sym backs.files ∙ ap (replied_files u.out) replies) is_judged
+
+  -- for which no child was started
+  pub replay_outcome : (folder : List ℕ) (again : Replayed) (j : Judgement) (w1 w2 : World) (ran : Ran) → folder ≡ records_folder b.project → w1 ≡ w → w2 ≡ w1 → Some again ≡ option_map replayed (record_at b.read folder w.files u.key)
+      → j ≡ judgement_by b.project u again.ended (answered_of b.project u c again.ended (file_at (dep_info_of b.project u) w1.files)) → ran ≡ unstarted j.ran
+      → slice_get (outcomes_in b) i ≡ Some (outcome_by (files_in u.out w2.files) ran)
+  replay_outcome folder again j w1 w2 ran is_folder first second found is_judged is_ran =
+      replay_gives folder again j is_folder found (is_judged ∙ ap (λ (v : World). judgement_by b.project u again.ended (answered_of b.project u c again.ended (file_at (dep_info_of b.project u) v.files))) first)
+      ∙ sym (ap (λ (v : World). Some (outcome_by (files_in u.out v.files) j.ran)) (second ∙ first))
+      ∙ sym (ap (λ (r : Ran). Some (outcome_by (files_in u.out w2.files) r)) is_ran)
+
+  -- and whose record was renewed
+  pub renewed_outcome : (folder : List ℕ) (again : Replayed) (j : Judgement) (w1 w2 w3 : World) (ran : Ran) → folder ≡ records_folder b.project → w1 ≡ w → w2 ≡ w1 → Some again ≡ option_map replayed (record_at b.read folder w.files u.key)
+      → j ≡ judgement_by b.project u again.ended (answered_of b.project u c again.ended (file_at (dep_info_of b.project u) w1.files)) → ran ≡ unstarted j.ran → ChangesOnly (is_at_or_below (place_of folder u.key)) w2 w3
+      → slice_get (outcomes_in b) i ≡ Some (outcome_by (files_in u.out w3.files) ran)
+  renewed_outcome folder again j w1 w2 w3 ran is_folder first second found is_judged is_ran only =
+      replay_outcome folder again j w1 w2 ran is_folder first second found is_judged is_ran
+      ∙ sym (ap (λ (m : Map). Some (outcome_by m ran))
+      (files_kept (records_folder b.project) u.key u.out w2 w3 order.folder (order.keys i u at) (order.folders i u at) (subst (λ f. ChangesOnly (is_at_or_below (place_of f u.key)) w2 w3) is_folder only)))
+
+  pub renewing_so : (folder : List ℕ) (w2 w3 : World) (next' : Option ℕ) → folder ≡ records_folder b.project → w2 ≡ w → Renewing b folder u c next next' w2 w3 → Renewing b (records_folder b.project) u c next next' w w3
+  renewing_so folder w2 w3 next' is_folder same renews = subst (λ f. Renewing b f u c next next' w w3) is_folder (subst (λ (v : World). Renewing b folder u c next next' v w3) same renews)
+
+  pub renewed_so : (folder : List ℕ) (w2 w3 : World) → folder ≡ records_folder b.project → w2 ≡ w → Renewed b folder u next w2 w3 → Renewed b (records_folder b.project) u next w w3
+  renewed_so folder w2 w3 is_folder same renewed = subst (λ f. Renewed b f u next w w3) is_folder (subst (λ (v : World). Renewed b folder u next v w3) same renewed)
 
   -- nothing was changed
   pub keeps_unchanged : (w' : World) → w' ≡ w → Keeps b states done next w'
