@@ -30,6 +30,7 @@ use Rattle.pb_run.specs.Halves.{Footing, OnRecords, OnNothing, Basis, BeginsApar
 use Rattle.pb_run.specs.Outcome.{judgement_by, outcome_by, unstarted}
 use Rattle.pb_run.specs.Standing.{IsInOrder, records_folder}
 use Rattle.pb_run.specs.declared.begun.Begun.{Begun}
+use Rattle.pb_run.specs.declared.begun.Launched.{Launched}
 use Rattle.pb_run.specs.declared.ran.Judgement.{Judgement}
 use Rattle.pb_run.specs.declared.ran.Ran.{Ran}
 use Rattle.pb_run.proofs.Answering.{files_kept, judged_gives, reached_stand}
@@ -222,3 +223,17 @@ module _ (b : Basis) (order : IsInOrder b.project) (i : ℕ) (u : Planned) (at :
       (if_records b.footing (Left (records_in b w) (records_in b w') u.key next) (as_before (ap (λ (v : World). record_at b.read (records_folder b.project) v.files u.key) same)))
       (λ theirs is. numbers_apart b u c states i None other its next w flying still same_now apart theirs is)
       (λ theirs is f there. ap (child_at theirs.ticket) flies ∙ there) (λ theirs is stands stood. keeps theirs.ticket stood)
+
+-- A unit that has begun, by its parts.
+
+pub begun_parts : (begun : Begun) (key : List ℕ) (launched : Option Launched) → begun.unit ≡ key → begun.launched ≡ launched → begun ≡ begun_with key begun.command launched
+begun_parts begun key launched named is = ap (λ (k : List ℕ). begun_with k begun.command begun.launched) named ∙ ap (begun_with key begun.command) is
+
+module _ (b : Basis) (i : ℕ) (begun : Begun) (next : Option ℕ) (w : World) (flying : List ChildInFlight) (still : ℕ → Type 0) (key : List ℕ) (launched : Option Launched)
+    (named : begun.unit ≡ key) (is : begun.launched ≡ launched) where
+  pub is_by_parts : IsBegun b i begun next w flying still → IsBegun b i (begun_with key begun.command launched) next w flying still
+  is_by_parts has = subst (λ (x : Begun). IsBegun b i x next w flying still) (begun_parts begun key launched named is) has
+
+  pub can_by_parts : (states : List (State UnitFault)) (done : List (Option (List Directive))) (u : Planned) → CanAnswer b states done i u begun next w flying still
+      → CanAnswer b states done i u (begun_with key begun.command launched) next w flying still
+  can_by_parts states done u can = subst (λ (x : Begun). CanAnswer b states done i u x next w flying still) (begun_parts begun key launched named is) can
