@@ -1,5 +1,5 @@
 -- A unit that answers by its record: what is kept of a build, and what another unit finds.
-use Rattle.std.proofs.Common.{◌≡◌, ◌≢◌, ◌⊎◌, ◌∙◌, ℕ, Bool, true, false, List, Option, Some, None, All, Contains, refl, sym, ap, subst, inl, inr, slice_get, slice_index_or, slice_set}
+use Rattle.std.proofs.Common.{◌≡◌, ◌∙◌, ℕ, true, List, Option, Some, None, All, refl, sym, ap, subst, inl, slice_get, slice_index_or, slice_set}
 use Rattle.std.proofs.lemmas.List.Elements.{Contains-get_or}
 use Rattle.std.specs.Option.{is_some, option_map}
 use Rattle.pb_answer.specs.declared.fault.BuildFault.{BuildFault}
