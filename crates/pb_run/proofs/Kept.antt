@@ -1,5 +1,5 @@
 -- A unit with a child that answers: the record is kept after the judgement, or not.
-use Rattle.std.proofs.Common.{◌≡◌, ◌≢◌, ◌∙◌, ◌++◌, ◌&&◌, ℕ, Bool, true, false, List, [], ◌∷◌, Option, Some, None, All, map, refl, sym, ap, subst, slice_get, slice_set}
+use Rattle.std.proofs.Common.{◌≡◌, ◌≢◌, ◌∙◌, ◌&&◌, ℕ, Bool, true, false, List, [], ◌∷◌, Option, Some, None, All, map, refl, sym, ap, subst, slice_get, slice_set}
 use Rattle.std.proofs.lemmas.Bool.{false≢true}
 use Rattle.std.proofs.lemmas.List.Elements.{All-nil, All-cons, All-append}
 use Rattle.std.specs.Prelude.{IfSome}
@@ -33,8 +33,8 @@ use Rattle.pb_project.specs.declared.fault.UnitFault.{UnitFault}
 use Rattle.pb_project.specs.declared.project.Project.{Project}
 use Rattle.pb_record.specs.Sorted.{are_sorted, leads}
 use Rattle.pb_unit.specs.declared.plan.Planned.{Planned}
-use Rattle.pb_run.specs.Causes.{LandsBy, MayAnswerUnit, MayFollow}
-use Rattle.pb_run.specs.Halves.{Basis, BeginsApart, CanAnswer, IsBegun, Keeps, begun_with, command_in, key_at, key_in, needed_keys, outcomes_in, records_in, view_in}
+use Rattle.pb_run.specs.Causes.{MayAnswerUnit, MayFollow}
+use Rattle.pb_run.specs.Halves.{Basis, BeginsApart, CanAnswer, IsBegun, Keeps, begun_with, command_in, key_at, key_in, needed_keys, outcomes_in, view_in}
 use Rattle.pb_run.specs.Outcome.{judgement_by, outcome_by}
 use Rattle.pb_run.specs.Standing.{IsCommandOf, IsInOrder, records_folder}
 use Rattle.pb_run.specs.declared.begun.Begun.{Begun}
@@ -158,11 +158,12 @@ module _ (b : Basis) (order : IsInOrder b.project) (i : ℕ) (u : Planned) (at :
           let (command, flight) = its_flight b order i u at u.key c l next flying still w can.begun_so in
           let landed : LandsAs (child_spawned (b.child c) c flight.spawned l.ticket) w ended w1 = its_landing b order i u at u.key c l next flying still w w1 ended flight.spawned flight.flies (lands flight.stands) in
           let replies : b.child c (seen_by c flight.spawned) ≡ b.child (command_in b i u) (view_in b i u) = ap (b.child c) flight.sees ∙ ap (λ (d : Command). b.child d (view_in b i u)) command in
-          let out : c.out ≡ Some u.out = ap (λ (d : Command). d.out) command ∙ command_out b order i u at in
-          (landed.answer ∙ ap ended_by replies,
-          landed_files u.out (b.child c (seen_by c flight.spawned)).files (inside_out c.out flight.spawned.files) w w1 flight.emptied
-          (landed.world ∙ ap (λ (o : Option (List ℕ)). landing o (b.child c (seen_by c flight.spawned)).files (inside_out c.out flight.spawned.files) w) out)
-          ∙ ap (replied_files u.out) replies)
+          let out : c.out ≡ Some u.out = ap (λ (d : Command). d.out) command ∙ command_out b order i u at in (
+            landed.answer ∙ ap ended_by replies,
+            landed_files u.out (b.child c (seen_by c flight.spawned)).files (inside_out c.out flight.spawned.files) w w1 flight.emptied
+                (landed.world ∙ ap (λ (o : Option (List ℕ)). landing o (b.child c (seen_by c flight.spawned)).files (inside_out c.out flight.spawned.files) w) out)
+                ∙ ap (replied_files u.out) replies,
+          )
 
       made_v : files_in u.out v.files ≡ replied_files u.out (b.child (command_in b i u) (view_in b i u))
       made_v = ap (λ (x : World). files_in u.out x.files) same ∙ reply_so.1
