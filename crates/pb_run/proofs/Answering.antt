@@ -65,7 +65,7 @@ landed_files out files before old new is lands =
     (λ q inside. put_alike out q files (put_back out (files_in out before) old.files) empty (back_none out q before old.files is inside ∙ sym (get-empty (slice_cmp nat_cmp) q)))
 
 module _ (b : Basis) (order : IsInOrder b.project) (i : ℕ) (u : Planned) (at : unit_at b.project i ≡ Some u) where
-  command_out : (command_in b i u).out ≡ Some u.out
+  pub command_out : (command_in b i u).out ≡ Some u.out
   command_out = (is_for b.setup b.project u (directives_of (take i (outcomes_in b))) (order.packages i u at)).out
 
   -- a unit that has begun is this one
