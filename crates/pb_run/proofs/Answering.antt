@@ -1,11 +1,10 @@
 -- What a unit that answers gives.
-use Rattle.std.proofs.Common.{◌≡◌, ◌∙◌, ◌<◌, ◌++◌, ◌&&◌, ℕ, Bool, true, false, not, cond, List, [], ◌∷◌, Option, Some, None, Contains, refl, sym, ap, subst, slice_get, take}
+use Rattle.std.proofs.Common.{◌≡◌, ◌∙◌, ℕ, true, not, cond, List, [], ◌∷◌, Option, Some, None, sym, ap, subst, slice_get, take}
 use Rattle.std.specs.Prelude.{IfSome}
 use Rattle.std.specs.Cmp.Lexicographic.{slice_cmp, nat_list_cmp_total}
 use Rattle.std.specs.FinMap.{get, insert, empty, retain_keys, get-empty, get-insert}
 use Rattle.std.specs.Ordering.{nat_cmp, eq_by_cmp}
 use Rattle.pb_command.specs.Answers.{answered_of}
-use Rattle.pb_command.specs.Command.{command_of}
 use Rattle.pb_command.specs.Judge.{ended_by, file_at, replied_files}
 use Rattle.pb_directive.specs.declared.directive.Directive.{Directive}
 use Rattle.pb_flight.specs.declared.flight.State.{State}
@@ -13,7 +12,7 @@ use Rattle.pb_flight.specs.Table.{is_good_at, are_good}
 use Rattle.pb_place.specs.Children.{LandsAs, child_at, child_spawned, inside_out, landing, put_back}
 use Rattle.pb_place.specs.Folders.{files_in, first_of}
 use Rattle.pb_place.specs.Paths.{below, is_below, is_at_or_below, is_path}
-use Rattle.pb_place.specs.World.{World, Map, Answers, ChangesOnly, ChangesOnlyInSome, put_files, seen_by}
+use Rattle.pb_place.specs.World.{World, Map, ChangesOnly, ChangesOnlyInSome, put_files, seen_by}
 use Rattle.pb_place.specs.declared.child.Reply.{Reply}
 use Rattle.pb_place.specs.declared.child_in_flight.ChildInFlight.{ChildInFlight}
 use Rattle.pb_place.specs.declared.command.Command.{Command}
@@ -22,11 +21,10 @@ use Rattle.pb_place.proofs.Folders.{files_alike, get-files_in, get-over, only_st
 use Rattle.pb_place.proofs.MapLemmas.{get-kept}
 use Rattle.pb_project.specs.Targets.{crate_name_of, dep_info_of, unit_at}
 use Rattle.pb_project.specs.declared.fault.UnitFault.{UnitFault}
-use Rattle.pb_project.specs.declared.project.Project.{Project}
 use Rattle.pb_unit.specs.declared.plan.Planned.{Planned}
-use Rattle.pb_run.specs.Halves.{Basis, CanAnswer, IsBegun, IsInFlight, Keeps, StandsGood, WaitsBy, begun_with, command_in, outcomes_in, view_in}
-use Rattle.pb_run.specs.Outcome.{Outcome, Waiting, directives_of, judged, judgement_by, outcome_by, outcome_of, ran_by, ran_of}
-use Rattle.pb_run.specs.Standing.{IsInOrder, records_folder}
+use Rattle.pb_run.specs.Halves.{Basis, CanAnswer, IsBegun, IsInFlight, Keeps, WaitsBy, begun_with, command_in, outcomes_in, view_in}
+use Rattle.pb_run.specs.Outcome.{Waiting, directives_of, judged, judgement_by, outcome_by, outcome_of, ran_by, ran_of}
+use Rattle.pb_run.specs.Standing.{IsInOrder}
 use Rattle.pb_run.specs.declared.begun.Begun.{Begun}
 use Rattle.pb_run.specs.declared.begun.Launched.{Launched}
 use Rattle.pb_run.specs.declared.ran.Judgement.{Judgement}
@@ -65,7 +63,7 @@ landed_files out files before old new is lands =
     (λ q inside. put_alike out q files (put_back out (files_in out before) old.files) empty (back_none out q before old.files is inside ∙ sym (get-empty (slice_cmp nat_cmp) q)))
 
 module _ (b : Basis) (order : IsInOrder b.project) (i : ℕ) (u : Planned) (at : unit_at b.project i ≡ Some u) where
-  command_out : (command_in b i u).out ≡ Some u.out
+  pub command_out : (command_in b i u).out ≡ Some u.out
   command_out = (is_for b.setup b.project u (directives_of (take i (outcomes_in b))) (order.packages i u at)).out
 
   -- a unit that has begun is this one

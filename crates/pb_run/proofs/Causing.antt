@@ -1,18 +1,16 @@
 -- The fault of a call of the store or of the place, as one of a unit.
-use Rattle.std.proofs.Common.{◌≡◌, ◌≢◌, ◌⊎◌, ℕ, List, Option, Some, None, Result, Ok, Err, refl, sym, ap, subst, inl, inr, ◌∙◌}
+use Rattle.std.proofs.Common.{◌≡◌, ◌≢◌, ◌⊎◌, ℕ, List, Option, Some, None, Err, refl, sym, ap, subst, inl, inr, ◌∙◌}
 use Rattle.pb_answer.specs.declared.fault.BuildFault.{BuildFault}
 use Rattle.pb_answer.specs.declared.fault.BuildFault.TheVariants.{Plan, Toolchain, Child, Device, Sink, OutOfMemory}
-use Rattle.pb_answer.specs.declared.fault.DeviceFault.{DeviceFault}
 use Rattle.pb_answer.specs.declared.fault.DeviceFault.TheVariants.{Place, NumbersSpent}
-use Rattle.pb_place.specs.Counts.{Counts, Starts, up_starts, counted_spawn, counted_finish}
+use Rattle.pb_place.specs.Counts.{Counts, Starts, counted_spawn}
 use Rattle.pb_place.specs.declared.child_in_flight.ChildInFlight.{ChildInFlight}
 use Rattle.pb_place.specs.declared.place.Failure.TheVariants.{Called}
 use Rattle.pb_place.specs.declared.place.PlaceFault.{PlaceFault}
 use Rattle.pb_place.specs.declared.place.PlaceFault.TheVariants as place
 use Rattle.pb_place.specs.declared.place.StartFault.{StartFault}
 use Rattle.pb_place.specs.declared.place.StartFault.TheVariants as start
-use Rattle.pb_run.specs.Causes.{FailedLast, HasCause, MayBeginUnit, MayFollow, MayAnswerUnit, MayRead, MayRemove, LandsBy, child_fault, device_fault, store_fault}
-use Rattle.pb_run.specs.declared.begun.Launched.{Launched}
+use Rattle.pb_run.specs.Causes.{FailedLast, HasCause, MayBeginUnit, MayFollow, MayRead, MayRemove, child_fault, device_fault, store_fault}
 use Rattle.pb_store.specs.Causes as causes
 use Rattle.pb_store.specs.declared.fault.StoreFault.{StoreFault}
 use Rattle.pb_store.specs.declared.fault.StoreFault.TheVariants as store

@@ -3,7 +3,6 @@ use Rattle.std.proofs.Common.{◌≡◌, ◌∙◌, ◌++◌, ℕ, Bool, true, f
 use Rattle.std.specs.List.{find, flat_map, slice_get}
 use Rattle.pb_directive.specs.declared.directive.Directive.{Directive}
 use Rattle.pb_package.specs.declared.package.Package.{Package}
-use Rattle.pb_place.specs.declared.command.Command.{Command}
 use Rattle.pb_project.specs.Targets.{package_of, unit_at, is_one_of, is_run, own_run, own_said, said_at, said_in, said_there}
 use Rattle.pb_project.specs.declared.project.Project.{Project}
 use Rattle.pb_project.specs.declared.project.Setup.{Setup}
@@ -12,7 +11,7 @@ use Rattle.pb_unit.specs.declared.unit.What.{What}
 use Rattle.pb_unit.specs.declared.unit.What.TheVariants.{Lib, Bin, Script, Run}
 use Rattle.pb_command.specs.Command.{command_by, command_for, command_of, compile_of, run_of, words_of, asked_part, crate_part}
 use Rattle.pb_command.specs.Externs.{in_order, library_words}
-use Rattle.pb_command.specs.Pairs.{about_pairs, binary_pairs, building_pairs, composed, crate_pairs, described_pairs, env_pair, out_pairs, own_pairs, own_run_pairs, package_pairs, pairs_of, passed_at, passed_by, passed_pairs, run_at, run_there, version_pairs}
+use Rattle.pb_command.specs.Pairs.{about_pairs, binary_pairs, building_pairs, crate_pairs, described_pairs, env_pair, out_pairs, own_pairs, package_pairs, pairs_of, passed_at, passed_by, passed_pairs, run_there, version_pairs}
 use Rattle.pb_command.specs.Said.{own_words, said_words, search_word, search_words, searched_words}
 use Rattle.pb_soundness.proofs.Flying.{contains_head, contains_tail}
 

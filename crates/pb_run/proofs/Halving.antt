@@ -1,6 +1,5 @@
 -- A unit that begins, in the words of its calls.
-use Rattle.std.proofs.Common.{◌≡◌, ◌≢◌, ◌⊎◌, ◌∙◌, ℕ, Bool, true, false, List, [], ◌∷◌, Option, Some, None, Contains, refl, sym, ap, subst, inl, inr, slice_get, slice_set}
-use Rattle.std.specs.FinMap as finite
+use Rattle.std.proofs.Common.{◌≡◌, ◌∙◌, ℕ, Bool, false, List, [], ◌∷◌, Option, Some, None, refl, sym, ap, subst, inl, inr, slice_get, slice_set}
 use Rattle.pb_answer.specs.declared.fault.BuildFault.{BuildFault}
 use Rattle.pb_answer.specs.declared.fault.BuildFault.TheVariants.{Plan, Toolchain, Child, Device, Sink, OutOfMemory}
 use Rattle.pb_answer.specs.declared.fault.DeviceFault.TheVariants.{Place, NumbersSpent}
@@ -25,7 +24,7 @@ use Rattle.pb_unit.specs.declared.plan.Planned.{Planned}
 use Rattle.pb_run.specs.Causes.{IsLifted, MayBeginUnit}
 use Rattle.pb_run.specs.Halves.{Basis, BeginsApart, CanBegin, IsBegun, Keeps, begun_with, command_in, records_in, view_in}
 use Rattle.pb_run.specs.Launching.{IsSpawned}
-use Rattle.pb_run.specs.Standing.{HasPackage, IsCommandOf, IsInOrder, records_folder}
+use Rattle.pb_run.specs.Standing.{IsCommandOf, IsInOrder, records_folder}
 use Rattle.pb_run.specs.declared.begun.Begun.{Begun}
 use Rattle.pb_run.specs.declared.begun.Launched.{Launched}
 use Rattle.pb_run.proofs.Answering.{reached_stand}
@@ -35,7 +34,7 @@ use Rattle.pb_run.proofs.Shown.{AllStand, commanded, sees_view}
 use Rattle.pb_run.proofs.Views.{is_for}
 use Rattle.pb_soundness.specs.Apart.{KeepsStill, KeepsStillOutside, is_of}
 use Rattle.pb_soundness.specs.Numbers.{IsAhead, after}
-use Rattle.pb_soundness.specs.Records.{is_key, out_of, record_at}
+use Rattle.pb_soundness.specs.Records.{out_of, record_at}
 use Rattle.pb_soundness.specs.Reuse.{IsSame}
 use Rattle.pb_soundness.specs.Sound.{Sound}
 use Rattle.pb_store.specs.Keeping.{Leaves}

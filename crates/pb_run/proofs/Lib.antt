@@ -3,6 +3,7 @@ pub mod Causing
 pub mod Commands
 pub mod Ending
 pub mod Halving
+pub mod Kept
 pub mod Recorded
 pub mod RecordedAnswer
 pub mod RecordedBegin
@@ -10,6 +11,7 @@ pub mod RecordedKeeps
 pub mod RecordedLanding
 pub mod RecordedOthers
 pub mod RecordedReplay
+pub mod Reusing
 pub mod Settling
 pub mod Shown
 pub mod Spawning

@@ -1,5 +1,5 @@
 -- A unit with a child that answers: what is kept of a build, and what another unit finds.
-use Rattle.std.proofs.Common.{◌≡◌, ◌≢◌, ◌⊎◌, ◌∙◌, ℕ, Bool, true, false, List, Option, Some, None, Result, Ok, Err, Contains, map, refl, sym, ap, subst, inl, inr, slice_get, slice_set, take}
+use Rattle.std.proofs.Common.{◌≡◌, ◌≢◌, ◌∙◌, ℕ, true, false, List, Option, Some, None, Result, Ok, Err, map, refl, sym, ap, subst, inl, slice_get, slice_set, take}
 use Rattle.std.proofs.lemmas.Bool.{false≢true}
 use Rattle.std.specs.Prelude.{IfSome}
 use Rattle.std.specs.Option.{is_some}
@@ -35,14 +35,14 @@ use Rattle.pb_run.specs.declared.ran.Judgement.{Judgement}
 use Rattle.pb_run.specs.declared.ran.Ran.{Ran}
 use Rattle.pb_run.proofs.Answering.{landed_only, reached_stand}
 use Rattle.pb_run.proofs.RecordedAnswer.{begun_bad, its_command, its_record, keeps_answered, keeps_fault, only_join, only_out, only_place}
-use Rattle.pb_run.proofs.RecordedLanding.{kept_ahead, kept_record, kept_sound, landed_ahead, landed_sound, left_kept, left_landed}
+use Rattle.pb_run.proofs.RecordedLanding.{kept_ahead, kept_record, kept_sound, landed_ahead, landed_sound, left_landed}
 use Rattle.pb_run.proofs.RecordedOthers.{IfRecords, Left, flies_without, if_records, stays_begun}
 use Rattle.pb_run.proofs.Shown.{AllStand, sees_view}
 use Rattle.pb_run.proofs.Units.{dep_info_inside, inside_file}
-use Rattle.pb_soundness.specs.Apart.{KeepsStill, KeepsStillOutside, is_of}
+use Rattle.pb_soundness.specs.Apart.{KeepsStill, is_of}
 use Rattle.pb_soundness.specs.Inputs.{input_in}
 use Rattle.pb_soundness.specs.Numbers.{IsAhead, IsBefore}
-use Rattle.pb_soundness.specs.Records.{out_of, place_of, record_at}
+use Rattle.pb_soundness.specs.Records.{place_of, record_at}
 use Rattle.pb_soundness.specs.Sound.{Sound}
 use Rattle.pb_store.specs.Keeping.{HasNeeds, IsKept, kept_of, numbered}
 

@@ -1,5 +1,5 @@
 -- The command and the view of a unit whose reached units stand, each with its files.
-use Rattle.std.proofs.Common.{◌≡◌, ◌∙◌, ◌++◌, ◌&&◌, ◌<◌, ◌⊎◌, inl, inr, zero, suc, Bool, true, false, List, [], ◌∷◌, ℕ, Option, Some, None, Contains, refl, sym, ap, subst, arith, slice_get, take, map, length}
+use Rattle.std.proofs.Common.{◌≡◌, ◌∙◌, ◌++◌, ◌<◌, ◌⊎◌, inl, inr, zero, suc, true, List, [], ◌∷◌, ℕ, Option, Some, Contains, refl, sym, ap, subst, arith, slice_get, take}
 use Rattle.std.proofs.lemmas.Option.{slice_get-map}
 use Rattle.std.specs.List.{list_all, flat_map, AllByRecursion}
 use Rattle.std.specs.Option.{option_map}
@@ -7,9 +7,8 @@ use Rattle.pb_command.specs.Command.{command_of}
 use Rattle.pb_command.specs.Externs.{folder_in, reads_of}
 use Rattle.pb_directive.specs.declared.directive.Directive.{Directive}
 use Rattle.pb_message.specs.declared.message.Message.{Message}
-use Rattle.pb_place.specs.Folders.{files_in, over, folders_over}
+use Rattle.pb_place.specs.Folders.{over, folders_over}
 use Rattle.pb_place.specs.World.{World, Map, seen_by, from_nothing}
-use Rattle.pb_place.specs.declared.command.Command.{Command}
 use Rattle.pb_place.proofs.Folders.{sees_folders}
 use Rattle.pb_project.specs.Targets.{unit_at}
 use Rattle.pb_unit.specs.declared.plan.Planned.{Planned}

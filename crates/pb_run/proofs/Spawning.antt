@@ -1,11 +1,11 @@
 -- A child that is spawned in an emptied folder, after its unit's record was dropped.
-use Rattle.std.proofs.Common.{◌≡◌, ◌∙◌, ◌++◌, ◌||◌, ℕ, Bool, true, false, not, cond, List, [], ◌∷◌, Option, Some, None, Result, Ok, Err, refl, sym, ap, subst, inl, inr}
+use Rattle.std.proofs.Common.{◌≡◌, ◌∙◌, ◌||◌, ℕ, Bool, true, false, not, cond, List, Option, Some, None, Ok, refl, sym, ap, subst, inl, inr}
 use Rattle.std.proofs.lemmas.Bool.{cases_Bool, false≢true}
 use Rattle.std.specs.Cmp.Lexicographic.{slice_cmp, nat_list_cmp_total}
-use Rattle.std.specs.FinMap.{get, empty, retain_keys, same_map, get-empty}
+use Rattle.std.specs.FinMap.{get, empty, same_map, get-empty}
 use Rattle.std.specs.Ordering.{nat_cmp}
 use Rattle.pb_place.specs.Children.{StaysStill, StandsStill, child_at, child_spawned, inside_out, is_flying}
-use Rattle.pb_place.specs.Counts.{Counts, Starts, counted_spawn}
+use Rattle.pb_place.specs.Counts.{Counts, counted_spawn}
 use Rattle.pb_place.specs.Folders.{files_in}
 use Rattle.pb_place.specs.Paths.{is_path, is_below, is_at_or_below}
 use Rattle.pb_place.specs.World.{World, Map, Answers, AgreeBut, ChangesOnly, ChangesOnlyInSome, removed}
@@ -18,7 +18,7 @@ use Rattle.pb_place.proofs.MapLemmas.{exact, get-kept}
 use Rattle.pb_place.proofs.Within.{at_below}
 use Rattle.pb_run.specs.Causes.{IsLifted}
 use Rattle.pb_run.specs.Launching.{IsSpawned}
-use Rattle.pb_soundness.specs.Apart.{is_of, KeepsStill, KeepsStillOutside}
+use Rattle.pb_soundness.specs.Apart.{is_of, KeepsStillOutside}
 use Rattle.pb_soundness.specs.Inputs.{Judge}
 use Rattle.pb_soundness.specs.Numbers.{IsAhead}
 use Rattle.pb_soundness.specs.Records.{Reading, is_key, out_of, place_of, record_at}

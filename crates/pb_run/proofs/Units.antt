@@ -1,15 +1,13 @@
 -- What a unit that was run gives, and what it leaves standing.
-use Rattle.std.proofs.Common.{◌≡◌, ◌∙◌, ◌||◌, ◌<◌, ◌≤◌, ◌+◌, ◌++◌, codes, Bool, true, false, not, List, [], ◌∷◌, ℕ, zero, suc, cond, Option, Some, None, refl, sym, ap, subst, arith, slice_get, take, length, inl, inr}
-use Rattle.std.proofs.lemmas.Bool.{cases_Bool}
+use Rattle.std.proofs.Common.{◌≡◌, ◌∙◌, ◌<◌, ◌≤◌, ◌+◌, ◌++◌, codes, Bool, true, false, List, [], ◌∷◌, ℕ, zero, suc, cond, Option, Some, None, refl, sym, ap, subst, arith, slice_get, take, length}
 use Rattle.std.proofs.lemmas.List.{length-take-le}
 use Rattle.std.proofs.lemmas.Option.{slice_get_within}
-use Rattle.std.specs.FinMap.{get, insert, empty}
+use Rattle.std.specs.FinMap.{get}
 use Rattle.std.specs.List.{list_all, AllByRecursion}
 use Rattle.pb_directive.specs.declared.directive.Directive.{Directive}
-use Rattle.pb_message.specs.declared.message.Message.{Message}
 use Rattle.pb_place.specs.Folders.{files_in}
 use Rattle.pb_place.specs.Paths.{below, is_below, is_at_or_below, is_relative}
-use Rattle.pb_place.specs.World.{World, Map, Answers, Ends, ChangesOnly, ChangesOnlyInSome, removed, put_files, put_reply, seen_by, from_nothing}
+use Rattle.pb_place.specs.World.{World, Map, Answers, Ends, ChangesOnly, ChangesOnlyInSome, removed, put_reply, seen_by}
 use Rattle.pb_place.specs.declared.child.Reply.{Reply}
 use Rattle.pb_place.specs.declared.command.Command.{Command}
 use Rattle.pb_place.specs.declared.command.Ended.{Ended}
@@ -23,9 +21,9 @@ use Rattle.pb_project.specs.declared.project.Project.{Project}
 use Rattle.pb_project.specs.declared.project.Setup.{Setup}
 use Rattle.pb_command.specs.Answers.{answered_of}
 use Rattle.pb_command.specs.Command.{command_of}
-use Rattle.pb_project.specs.Targets.{dep_info_of, dep_info_by, file_in, crate_name_of}
+use Rattle.pb_project.specs.Targets.{dep_info_of, dep_info_by, crate_name_of}
 use Rattle.pb_run.specs.declared.ran.Ran.{Ran}
-use Rattle.pb_run.specs.Outcome.{Outcome, Waiting, Good, Bad, is_good, is_good_at, ran_of, ran_by, outcome_by, judged, view_of, command_after, directives_of, outcome_of, outcomes}
+use Rattle.pb_run.specs.Outcome.{Outcome, Waiting, Good, is_good, is_good_at, ran_of, ran_by, outcome_by, judged, view_of, command_after, directives_of, outcome_of, outcomes}
 use Rattle.pb_command.specs.Judge.{file_at, replied_files, ended_by}
 use Rattle.pb_run.specs.Standing.{IsInOrder, IsStanding, HasPackage}
 use Rattle.pb_run.proofs.Tables.{tabled-unfold, length-tabled_from}

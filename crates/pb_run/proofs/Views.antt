@@ -1,9 +1,9 @@
 -- A unit's child is shown its view.
-use Rattle.std.proofs.Common.{◌≡◌, ◌∙◌, ◌++◌, ◌&&◌, Bool, true, false, List, [], ◌∷◌, ℕ, Option, Some, None, refl, sym, ap, subst, slice_get}
+use Rattle.std.proofs.Common.{◌≡◌, ◌∙◌, ◌++◌, true, List, [], ◌∷◌, ℕ, Option, Some, None, refl, sym, ap, subst, slice_get}
 use Rattle.std.proofs.lemmas.Bool.{false≢true}
 use Rattle.std.specs.List.{list_all, flat_map}
-use Rattle.pb_place.specs.Folders.{files_in, over, folders_over}
-use Rattle.pb_place.specs.World.{World, Map, seen_by, from_nothing}
+use Rattle.pb_place.specs.Folders.{over, folders_over}
+use Rattle.pb_place.specs.World.{World, Map, from_nothing}
 use Rattle.pb_place.proofs.Folders.{sees_folders}
 use Rattle.pb_place.proofs.PathLemmas.{and_left, and_right}
 use Rattle.pb_place.specs.declared.command.Command.{Command}
@@ -17,7 +17,7 @@ use Rattle.pb_project.specs.declared.project.Setup.{Setup}
 use Rattle.pb_command.specs.Command.{command_of, command_by, command_for}
 use Rattle.pb_command.specs.Externs.{folder_in, reads_of}
 use Rattle.pb_project.specs.Targets.{unit_at}
-use Rattle.pb_run.specs.Outcome.{Outcome, Waiting, Good, Bad, is_good_at, files_at, with_made, view_of, command_after, directives_of}
+use Rattle.pb_run.specs.Outcome.{Outcome, Waiting, Good, Bad, is_good_at, files_at, with_made, command_after, directives_of}
 use Rattle.pb_run.specs.Standing.{IsStanding, HasPackage, ShowsView}
 
 -- what a command is for: it writes into the unit's folder, and reads the folders of the units that this one reaches

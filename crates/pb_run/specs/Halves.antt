@@ -1,5 +1,5 @@
 -- What holds of the outside while units of a build begin and answer, any number of them in flight.
-use Rattle.std.specs.Prelude.{◌≡◌, ◌≢◌, ◌++◌, ◌∷◌, [], ℕ, true, List, Option, Some, None, Contains, slice_get, take, length}
+use Rattle.std.specs.Prelude.{◌≡◌, ◌≢◌, ◌∷◌, [], ℕ, true, List, Option, Some, None, slice_get, take, length}
 use Rattle.std.specs.FinMap as finite
 use Rattle.std.specs.List.{flat_map}
 use Rattle.pb_command.specs.Externs.{reads_of}

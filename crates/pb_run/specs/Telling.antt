@@ -9,8 +9,6 @@ use Rattle.pb_directive.specs.Directives.{directives_of}
 use Rattle.pb_message.specs.Diagnostics.{diagnostics_of}
 use Rattle.pb_message.specs.Message.{lines_of}
 use Rattle.pb_message.specs.Targets.{library_target, binary_target, script_target}
-use Rattle.pb_message.specs.declared.message.Artifact.{Artifact}
-use Rattle.pb_message.specs.declared.message.Executed.{Executed}
 use Rattle.pb_message.specs.declared.message.Level.TheVariants.{Warning, Error}
 use Rattle.pb_message.specs.declared.message.Message.{Message}
 use Rattle.pb_message.specs.declared.message.Message.TheVariants.{CompilerMessage, CompilerArtifact, BuildScriptNote, BuildScriptExecuted}
@@ -25,7 +23,6 @@ use Rattle.pb_unit.specs.declared.plan.Planned.{Planned}
 use Rattle.pb_unit.specs.declared.unit.What.{What}
 use Rattle.pb_unit.specs.declared.unit.What.TheVariants.{Lib, Bin, Script, Run}
 use Rattle.pb_project.specs.declared.project.Project.{Project}
-use Rattle.pb_project.specs.declared.answer.Answered.{Answered}
 use Rattle.pb_project.specs.declared.fault.UnitFault.{UnitFault}
 use Rattle.pb_project.specs.declared.fault.UnitFault.TheVariants as fault
 use Rattle.pb_project.specs.Targets.{made_file_of}

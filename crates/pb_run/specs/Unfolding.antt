@@ -1,5 +1,5 @@
 -- The outcomes of units, one by one.
-use Rattle.std.specs.Prelude.{◌≡◌, ℕ, List, Some, slice_get, take, length}
+use Rattle.std.specs.Prelude.{◌≡◌, ℕ, Some, slice_get, take}
 use Rattle.pb_place.specs.World.{World, Answers}
 use Rattle.pb_unit.specs.declared.plan.Planned.{Planned}
 use Rattle.pb_project.specs.declared.project.Project.{Project}

@@ -26,6 +26,7 @@ ghost use Rattle.pb_store.specs.Differences.{FirstDifference};
 ghost use Rattle.pb_store.specs.Migrating.{TakesNumber};
 
 use crate::begun::Begun;
+use crate::landing::{land, reuse};
 use crate::launching::{difference_of, launch};
 use crate::ran::Ran;
 use pb_answer::BuildFault;
@@ -109,6 +110,69 @@ pub fn begin_unit<P: Place>(
             launched: Some(launched),
         }),
         Err(fault) => Err(fault),
+    }
+}
+
+/// Answers the unit at a place of a plan that has begun so. Where it has a child, asks for its end, reads what it left,
+/// judges the answer, and keeps the record where it is good; else reads the record's answer again, judges it, and
+/// gives a record of format 1 a run number.
+///
+/// Faults: Child, where the child gave no answer; Device, where a file, a folder or a variable cannot be read, the
+/// record cannot be written, or no run number is left; OutOfMemory. Each has the unit's key, and no call of the place
+/// comes after one that failed. Whatever it answers, the child is in flight no more. A unit that is bad is no fault.
+pub fn answer_unit<P: Place>(
+    alloc: Global,
+    place: &mut P,
+    store: &mut Store,
+    project: &Project,
+    index: usize,
+    unit: &Planned,
+    begun: Begun,
+) -> Result<Ran, BuildFault>
+    requires order { IsInOrder project.now }
+    requires unit { slice_get project.now.plan.planned index ≡ Some unit.now }
+    requires folder { store.old.folder ≡ records_folder project.now }
+    requires named { begun.unit ≡ unit.now.key }
+    requires asks { IsCommandOf project.now unit.now begun.command }
+    requires flies { IfSome begun.launched (λ launched. is_flying launched.ticket (P.counts place.old).starts.flying ≡ true) }
+    ensures outcome { (footing : Footing) (read : Reading) (setup : Setup) (sources : World) (states : List (State UnitFault)) (done : List (Option (List Directive))) → IsReading read → IsTrue P.tells
+        → CanAnswer (basis footing read P.child setup project.now sources) states done index unit.now begun store.old.next (P.world place.old) (P.counts place.old).starts.flying (P.still place.old)
+        → IfOk result (λ ran. slice_get (outcomes_in (basis footing read P.child setup project.now sources)) index ≡ Some (outcome_by (files_in unit.now.out (P.world place.new).files) ran)) }
+    ensures keeps { (footing : Footing) (read : Reading) (setup : Setup) (sources : World) (states : List (State UnitFault)) (done : List (Option (List Directive))) → IsReading read → IsTrue P.tells
+        → CanAnswer (basis footing read P.child setup project.now sources) states done index unit.now begun store.old.next (P.world place.old) (P.counts place.old).starts.flying (P.still place.old)
+        → MatchResult result
+        (λ ran. (lines : List ℕ) → Keeps (basis footing read P.child setup project.now sources) (slice_set states index (state.Answered record { fault = ran.fault; lines = lines })) (slice_set done index ran.directives) store.new.next (P.world place.new))
+        (λ e. Keeps (basis footing read P.child setup project.now sources) states done store.new.next (P.world place.new)) }
+    ensures others { (footing : Footing) (read : Reading) (setup : Setup) (sources : World) (states : List (State UnitFault)) (done : List (Option (List Directive))) (other : ℕ) (its : Begun) → IsReading read → IsTrue P.tells
+        → CanAnswer (basis footing read P.child setup project.now sources) states done index unit.now begun store.old.next (P.world place.old) (P.counts place.old).starts.flying (P.still place.old)
+        → BeginsApart (basis footing read P.child setup project.now sources) states index begun.launched other its store.old.next (P.world place.old) (P.counts place.old).starts.flying (P.still place.old)
+        → IsBegun (basis footing read P.child setup project.now sources) other its store.new.next (P.world place.new) (P.counts place.new).starts.flying (P.still place.new) }
+    ensures only { (footing : Footing) (read : Reading) (setup : Setup) (sources : World) → IsTrue P.tells
+        → IsBegun (basis footing read P.child setup project.now sources) index begun store.old.next (P.world place.old) (P.counts place.old).starts.flying (P.still place.old)
+        → ChangesOnly (is_of (records_folder project.now) unit.now.key) (P.world place.old) (P.world place.new) }
+    ensures started { IfOk result (λ ran. ran.started ≡ is_some begun.launched) }
+    ensures directives { IfOk result (λ ran. directives_in (outcome_by finite.empty ran) ≡ ran.directives) }
+    ensures folder { store.new.folder ≡ store.old.folder }
+    ensures next { TakesNumber store.old.next store.new.next }
+    ensures most { P.most place.new ≡ P.most place.old }
+    ensures takes { Takes (Lands begun.launched) (MayAnswerUnit store.old.next unit.now.key begun.launched) result (P.counts place.old) (P.counts place.new) }
+{
+    let Begun {
+        unit: name,
+        command,
+        launched,
+    } = begun;
+    match launched {
+        Some(launched) => match land(
+            alloc, place, store, project, index, unit, name, &command, &launched,
+        ) {
+            Ok(ran) => Ok(ran),
+            Err(fault) => Err(fault),
+        },
+        None => match reuse(alloc, place, store, project, index, unit, &command) {
+            Ok(ran) => Ok(ran),
+            Err(fault) => Err(fault),
+        },
     }
 }
 

@@ -247,3 +247,132 @@ fn migrate<P: Place>(
         Err(fault) => Err(storeless(name, fault)),
     }
 }
+
+/// What came of a unit for which no child was started.
+fn unstarted(ran: Ran) -> Ran
+    ensures { result ≡ unstarted ran }
+{
+    Ran {
+        started: false,
+        fault: ran.fault,
+        directives: ran.directives,
+        messages: ran.messages,
+    }
+}
+
+/// Answers a unit that has a child: asks for its end, judges the answer, and keeps the record where it is good.
+pub(crate) fn land<P: Place>(
+    alloc: Global,
+    place: &mut P,
+    store: &Store,
+    project: &Project,
+    index: usize,
+    unit: &Planned,
+    name: Text,
+    command: &Command,
+    launched: &Launched,
+) -> Result<Ran, BuildFault>
+    requires order { IsInOrder project.now }
+    requires unit { slice_get project.now.plan.planned index ≡ Some unit.now }
+    requires folder { store.now.folder ≡ records_folder project.now }
+    requires named { name ≡ unit.now.key }
+    requires asks { IsCommandOf project.now unit.now command.now }
+    requires flies { is_flying launched.now.ticket (P.counts place.old).starts.flying ≡ true }
+    ensures outcome { (footing : Footing) (read : Reading) (setup : Setup) (sources : World) (states : List (State UnitFault)) (done : List (Option (List Directive))) → IsReading read → IsTrue P.tells
+        → CanAnswer (basis footing read P.child setup project.now sources) states done index unit.now (begun_with unit.now.key command.now (Some launched.now)) store.now.next (P.world place.old) (P.counts place.old).starts.flying (P.still place.old)
+        → IfOk result (λ ran. slice_get (outcomes_in (basis footing read P.child setup project.now sources)) index ≡ Some (outcome_by (files_in unit.now.out (P.world place.new).files) ran)) }
+    ensures keeps { (footing : Footing) (read : Reading) (setup : Setup) (sources : World) (states : List (State UnitFault)) (done : List (Option (List Directive))) → IsReading read → IsTrue P.tells
+        → CanAnswer (basis footing read P.child setup project.now sources) states done index unit.now (begun_with unit.now.key command.now (Some launched.now)) store.now.next (P.world place.old) (P.counts place.old).starts.flying (P.still place.old)
+        → MatchResult result
+        (λ ran. (lines : List ℕ) → Keeps (basis footing read P.child setup project.now sources) (slice_set states index (state.Answered record { fault = ran.fault; lines = lines })) (slice_set done index ran.directives) store.now.next (P.world place.new))
+        (λ e. Keeps (basis footing read P.child setup project.now sources) states done store.now.next (P.world place.new)) }
+    ensures others { (footing : Footing) (read : Reading) (setup : Setup) (sources : World) (states : List (State UnitFault)) (done : List (Option (List Directive))) (other : ℕ) (its : Begun) → IsReading read → IsTrue P.tells
+        → CanAnswer (basis footing read P.child setup project.now sources) states done index unit.now (begun_with unit.now.key command.now (Some launched.now)) store.now.next (P.world place.old) (P.counts place.old).starts.flying (P.still place.old)
+        → BeginsApart (basis footing read P.child setup project.now sources) states index (Some launched.now) other its store.now.next (P.world place.old) (P.counts place.old).starts.flying (P.still place.old)
+        → IsBegun (basis footing read P.child setup project.now sources) other its store.now.next (P.world place.new) (P.counts place.new).starts.flying (P.still place.new) }
+    ensures only { (footing : Footing) (read : Reading) (setup : Setup) (sources : World) → IsTrue P.tells
+        → IsBegun (basis footing read P.child setup project.now sources) index (begun_with unit.now.key command.now (Some launched.now)) store.now.next (P.world place.old) (P.counts place.old).starts.flying (P.still place.old)
+        → ChangesOnly (is_of (records_folder project.now) unit.now.key) (P.world place.old) (P.world place.new) }
+    ensures started { IfOk result (λ ran. ran.started ≡ true) }
+    ensures directives { IfOk result (λ ran. directives_in (outcome_by finite.empty ran) ≡ ran.directives) }
+    ensures most { P.most place.new ≡ P.most place.old }
+    ensures takes { Takes (Lands (Some launched.now)) (MayAnswerUnit store.now.next unit.now.key (Some launched.now)) result (P.counts place.old) (P.counts place.new) }
+{
+    let ended = match finish(alloc, place, name, launched) {
+        Ok(ended) => ended,
+        Err(fault) => return Err(fault),
+    };
+    let judgement = match judged_now(alloc, place, project, unit, command, &ended) {
+        Ok(judgement) => judgement,
+        Err(fault) => return Err(fault),
+    };
+    if judgement.ran.fault.is_some() {
+        return Ok(judgement.ran);
+    }
+    match keep(
+        alloc,
+        place,
+        store,
+        project,
+        unit,
+        command,
+        launched.number,
+        &ended,
+        judgement.names.as_slice(),
+    ) {
+        Ok(()) => Ok(judgement.ran),
+        Err(fault) => Err(fault),
+    }
+}
+
+/// Answers a unit of which nothing differs: judges what its record gives again, and gives the record a run number where
+/// it has none.
+pub(crate) fn reuse<P: Place>(
+    alloc: Global,
+    place: &mut P,
+    store: &mut Store,
+    project: &Project,
+    index: usize,
+    unit: &Planned,
+    command: &Command,
+) -> Result<Ran, BuildFault>
+    requires order { IsInOrder project.now }
+    requires unit { slice_get project.now.plan.planned index ≡ Some unit.now }
+    requires folder { store.old.folder ≡ records_folder project.now }
+    requires asks { IsCommandOf project.now unit.now command.now }
+    ensures outcome { (footing : Footing) (read : Reading) (setup : Setup) (sources : World) (states : List (State UnitFault)) (done : List (Option (List Directive))) → IsReading read → IsTrue P.tells
+        → CanAnswer (basis footing read P.child setup project.now sources) states done index unit.now (begun_with unit.now.key command.now None) store.old.next (P.world place.old) (P.counts place.old).starts.flying (P.still place.old)
+        → IfOk result (λ ran. slice_get (outcomes_in (basis footing read P.child setup project.now sources)) index ≡ Some (outcome_by (files_in unit.now.out (P.world place.new).files) ran)) }
+    ensures keeps { (footing : Footing) (read : Reading) (setup : Setup) (sources : World) (states : List (State UnitFault)) (done : List (Option (List Directive))) → IsReading read → IsTrue P.tells
+        → CanAnswer (basis footing read P.child setup project.now sources) states done index unit.now (begun_with unit.now.key command.now None) store.old.next (P.world place.old) (P.counts place.old).starts.flying (P.still place.old)
+        → MatchResult result
+        (λ ran. (lines : List ℕ) → Keeps (basis footing read P.child setup project.now sources) (slice_set states index (state.Answered record { fault = ran.fault; lines = lines })) (slice_set done index ran.directives) store.new.next (P.world place.new))
+        (λ e. Keeps (basis footing read P.child setup project.now sources) states done store.new.next (P.world place.new)) }
+    ensures others { (footing : Footing) (read : Reading) (setup : Setup) (sources : World) (states : List (State UnitFault)) (done : List (Option (List Directive))) (other : ℕ) (its : Begun) → IsReading read → IsTrue P.tells
+        → CanAnswer (basis footing read P.child setup project.now sources) states done index unit.now (begun_with unit.now.key command.now None) store.old.next (P.world place.old) (P.counts place.old).starts.flying (P.still place.old)
+        → BeginsApart (basis footing read P.child setup project.now sources) states index None other its store.old.next (P.world place.old) (P.counts place.old).starts.flying (P.still place.old)
+        → IsBegun (basis footing read P.child setup project.now sources) other its store.new.next (P.world place.new) (P.counts place.new).starts.flying (P.still place.new) }
+    ensures only { IsTrue P.tells → ChangesOnly (is_of (records_folder project.now) unit.now.key) (P.world place.old) (P.world place.new) }
+    ensures started { IfOk result (λ ran. ran.started ≡ false) }
+    ensures directives { IfOk result (λ ran. directives_in (outcome_by finite.empty ran) ≡ ran.directives) }
+    ensures folder { store.new.folder ≡ store.old.folder }
+    ensures next { TakesNumber store.old.next store.new.next }
+    ensures most { P.most place.new ≡ P.most place.old }
+    ensures takes { Takes (Lands None) (MayAnswerUnit store.old.next unit.now.key None) result (P.counts place.old) (P.counts place.new) }
+{
+    let again = match replay(alloc, place, store, unit) {
+        Ok(again) => again,
+        Err(fault) => return Err(fault),
+    };
+    let judgement = match judged_now(alloc, place, project, unit, command, &again.ended) {
+        Ok(judgement) => judgement,
+        Err(fault) => return Err(fault),
+    };
+    if judgement.ran.fault.is_some() {
+        return Ok(unstarted(judgement.ran));
+    }
+    match migrate(alloc, place, store, project, unit) {
+        Ok(()) => Ok(unstarted(judgement.ran)),
+        Err(fault) => Err(fault),
+    }
+}

@@ -15,7 +15,7 @@ pub mod subjects;
 
 pub use begun::{Begun, Launched};
 pub use faults::{childless, deviceless, storeless};
-pub use halves::{begin_unit, drop_unit};
+pub use halves::{answer_unit, begin_unit, drop_unit};
 pub use laws::{outcomes_unfold, views_are_shown};
 pub use pb_flight::{First, Flight, Jobs, Last, Pick, Step, Turn};
 pub use ran::{Judgement, Ran};
