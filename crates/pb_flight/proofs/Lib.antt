@@ -7,3 +7,4 @@ pub mod Ending
 pub mod Handing
 pub mod Flying
 pub mod Stepping
+pub mod Driven

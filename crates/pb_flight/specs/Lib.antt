@@ -4,3 +4,4 @@ pub mod Calls
 pub mod Steps
 pub mod Laws
 pub mod Working
+pub mod Driving

@@ -1,6 +1,7 @@
 -- What the table keeps beside its states, so that no call looks at all needs again. These words serve private functions alone.
-use Rattle.std.specs.Prelude.{◌≡◌, ℕ, zero, suc, ◌<◌, ◌≤◌, ◌⊎◌, Bool, false, if◌then◌else◌, List, [], ◌∷◌, map, length, Contains, slice_index, slice_index_or, slice_get, Option, Some, None}
+use Rattle.std.specs.Prelude.{◌≡◌, ℕ, zero, suc, ◌<◌, ◌≤◌, ◌+◌, ◌⊎◌, Bool, false, if◌then◌else◌, List, [], ◌∷◌, map, length, Contains, slice_index, slice_index_or, slice_get, Option, Some, None}
 use Rattle.pb_flight.specs.declared.flight.State.{State}
+use Rattle.pb_flight.specs.declared.flight.State.TheVariants.{Untouched, Begun, Answered}
 use Rattle.pb_flight.specs.Table.{is_bad, is_good_at, is_open, count_due}
 
 -- how many of these units, from the first on, have answered and are good: up to the first that is not
@@ -51,3 +52,13 @@ opening_by states (Some wanted) (Some s) = if is_bad s then None else Some (is_o
 
 abbrev pub opening : {F : Type 0} → List (List ℕ) → List (State F) → ℕ → Option Bool
 opening needs states u = opening_by states (slice_get needs u) (slice_get states u)
+
+-- what is still to be done: two for a unit that has not begun, one for one that has
+abbrev pub weight : {F : Type 0} → State F → ℕ
+weight Untouched = 2
+weight Begun = 1
+weight (Answered answer) = 0
+
+abbrev pub weight_of : {F : Type 0} → List (State F) → ℕ
+weight_of [] = 0
+weight_of (s ∷ ss) = weight s + weight_of ss

@@ -2,10 +2,14 @@
 //! and no compiler: a unit is a number, and what it answers is a fault, if there is one, and bytes.
 #![tactic(auto)]
 
+pub mod crew;
+pub mod driving;
 pub mod flight;
 pub mod laws;
 pub mod needs;
 pub mod turn;
 
+pub use crew::Crew;
+pub use driving::drive;
 pub use flight::{Answer, Flight, State};
 pub use turn::{First, Jobs, Last, Pick, Step, Turn};

@@ -1,4 +1,4 @@
-use Rattle.std.proofs.Common.{◌≡◌, ◌∙◌, ◌++◌, ◌+◌, List, [], ◌∷◌, ℕ, Bool, sym, ap, subst, drop, append_assoc, append-nil, true, false, Some, None, slice_get, refl, length, Vec, Global, arith}
+use Rattle.std.proofs.Common.{◌≡◌, ◌∙◌, ◌++◌, ◌+◌, List, [], ℕ, Bool, sym, ap, drop, append_assoc, append-nil, Some, Vec, Global, arith}
 use Rattle.pb_flight.specs.Table.{if_so, ready_from, ready_of}
 use Rattle.pb_flight.specs.Working.{opening}
 use Rattle.pb_flight.proofs.Ready.{opens_none, opens_some, ready_bad, ready_skip, ready_far}

@@ -1,6 +1,6 @@
 use Rattle.std.proofs.Common.{◌≡◌, ◌≤◌, ◌<◌, ◌∙◌, [], ap, sym, arith, length}
 use Rattle.pb_flight.specs.Working.{count_met, units_at}
-use Rattle.pb_flight.proofs.Keeping.{far_full, far_less}
+use Rattle.pb_flight.proofs.Keeping.{far_less}
 use Rattle.pb_flight.proofs.Listing.{any_default}
 use Rattle.pb_flight.proofs.Meeting.{met_within}
 use Rattle.pb_flight.proofs.needs.move_one.Goals as goal

@@ -1,4 +1,4 @@
-use Rattle.std.proofs.Common.{◌≡◌, ◌<◌, ◌≤◌, ℕ, length}
+use Rattle.std.proofs.Common.{◌<◌, ◌≤◌, ℕ, length}
 use Rattle.pb_flight.specs.Working.{units_at}
 use Rattle.pb_flight.proofs.needs.reach_of.Given as goal
 

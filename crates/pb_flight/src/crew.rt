@@ -1,0 +1,82 @@
+//! Who begins units and takes their answers.
+
+ghost use Rattle.std.specs.Prelude.{◌≡◌, ◌<◌, ◌++◌, ◌∷◌, [], ℕ, Bool, List, length, IfOk, IfErr, OnOk, MatchResult, Some, Contains, slice_get};
+ghost use Rattle.std.specs.List.{remove};
+ghost use Rattle.pb_flight.specs.Table.{due_after, count_due};
+ghost use Rattle.pb_flight.specs.Events.{Event, Began, Gave, MayBegin, IsLawful, states_after, flying_after};
+ghost use Rattle.pb_flight.specs.declared.flight.State.TheVariants.{Begun};
+
+use crate::flight::Answer;
+use std::alloc::{AllocError, Global};
+
+/// Who begins units and takes their answers, in an outside of two parts: a place that units change, and what hears their
+/// lines. What it says of its work it says of all that has happened since some moment: a story, told by the events of
+/// the flight.
+pub trait Crew<P, O, F, E> {
+    /// What each unit needs, by its place in plan order.
+    ghost needs: { Self → List (List ℕ) };
+
+    /// The units in flight, in order of beginning.
+    ghost flying: { Self → List ℕ };
+
+    /// What holds at each moment, whatever has happened.
+    ghost holds: { Self → P → O → Type 0 };
+
+    /// What has happened between two moments by these events, the newest first, where the lines of so many units have
+    /// been handed out.
+    ghost story: { Self → P → O → Self → P → O → List (Event F) → ℕ → Type 0 };
+
+    /// What has happened between two moments by these events, where a fault then ended it.
+    ghost stops: { E → Self → P → O → Self → P → O → List (Event F) → Type 0 };
+
+    /// The units in flight, in order of beginning. The one fault is want of memory.
+    fn flying(&self, alloc: Global) -> Result<Vec<usize>, AllocError>
+        ensures { IfOk result (λ units. units.items ≡ flying self.now) };
+
+    /// Begins a unit, and says whether a child was started for it. After a fault it is not in flight.
+    fn begin(&mut self, alloc: Global, place: &mut P, out: &mut O, unit: usize) -> Result<bool, E>
+        requires holds { holds self.old place.old out.old }
+        requires unit { unit < length (needs self.old) }
+        requires grounded { Contains (flying self.old) unit → ⊥ }
+        ensures holds { holds self.new place.new out.new }
+        ensures needs { needs self.new ≡ needs self.old }
+        ensures flying { OnOk result (flying self.new ≡ flying self.old ++ unit ∷ []) }
+        ensures story { (first : Self) (first_place : P) (first_out : O) (es : List (Event F)) (given : ℕ) → story first first_place first_out self.old place.old out.old es given → flying self.old ≡ flying_after es
+            → IsLawful (needs self.old) es → MayBegin (needs self.old) (states_after (needs self.old) es) unit
+            → MatchResult result (λ spawned. story first first_place first_out self.new place.new out.new (Began unit spawned ∷ es) given)
+            (λ e. (spawned : Bool) × stops e first first_place first_out self.new place.new out.new (Began unit spawned ∷ es)) };
+
+    /// Takes the answer of the unit at a place of those in flight, which it is no more then, also after a fault.
+    fn answer(
+        &mut self,
+        alloc: Global,
+        place: &mut P,
+        out: &mut O,
+        index: usize,
+    ) -> Result<Answer<F>, E>
+        requires holds { holds self.old place.old out.old }
+        requires within { index < length (flying self.old) }
+        ensures holds { holds self.new place.new out.new }
+        ensures needs { needs self.new ≡ needs self.old }
+        ensures flying { flying self.new ≡ remove (flying self.old) index }
+        ensures story { (first : Self) (first_place : P) (first_out : O) (es : List (Event F)) (given : ℕ) (unit : ℕ) → story first first_place first_out self.old place.old out.old es given → flying self.old ≡ flying_after es
+            → IsLawful (needs self.old) es → slice_get (flying self.old) index ≡ Some unit → slice_get (states_after (needs self.old) es) unit ≡ Some Begun
+            → MatchResult result (λ answer. story first first_place first_out self.new place.new out.new (Gave unit answer ∷ es) given)
+            (λ e. stops e first first_place first_out self.new place.new out.new es) };
+
+    /// Hands out lines.
+    fn tell(&mut self, place: &mut P, out: &mut O, lines: &[u8]) -> Result<(), E>
+        requires holds { holds self.old place.old out.old }
+        ensures holds { holds self.new place.new out.new }
+        ensures needs { needs self.new ≡ needs self.old }
+        ensures flying { flying self.new ≡ flying self.old }
+        ensures story { (first : Self) (first_place : P) (first_out : O) (es : List (Event F)) (given : ℕ) → story first first_place first_out self.old place.old out.old es given → IsLawful (needs self.old) es
+            → lines.now ≡ due_after given (states_after (needs self.old) es)
+            → MatchResult result (λ _. story first first_place first_out self.new place.new out.new es (count_due (states_after (needs self.old) es)))
+            (λ e. stops e first first_place first_out self.new place.new out.new es) };
+
+    /// The fault of memory that was refused.
+    fn refused(&self) -> E
+        ensures { (first : Self) (first_place last_place : P) (first_out last_out : O) (es : List (Event F)) (given : ℕ) → story first first_place first_out self.now last_place last_out es given
+            → stops result first first_place first_out self.now last_place last_out es };
+}
