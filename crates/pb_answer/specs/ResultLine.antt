@@ -19,6 +19,8 @@ use Rattle.pb_unit.specs.declared.fault.PlanFault.TheVariants as plan
 use Rattle.pb_package.specs.declared.fault.LoadFault.{LoadFault}
 use Rattle.pb_package.specs.declared.fault.LoadFault.TheVariants as load
 use Rattle.pb_answer.specs.declared.fault.BuildFault.{BuildFault}
+use Rattle.pb_answer.specs.declared.fault.DeviceFault.{DeviceFault}
+use Rattle.pb_answer.specs.declared.fault.DeviceFault.TheVariants as device
 use Rattle.pb_answer.specs.declared.fault.BuildFault.TheVariants as build
 use Rattle.pb_answer.specs.declared.fault.Refusal.{Refusal}
 use Rattle.pb_answer.specs.declared.fault.Refusal.TheVariants as refusal
@@ -122,6 +124,10 @@ start_fault_name start.Died = codes "Died"
 start_fault_name start.Capture = codes "Capture"
 start_fault_name start.OutOfMemory = codes "OutOfMemory"
 
+abbrev pub device_fault_name : DeviceFault → List ℕ
+device_fault_name (device.Place fault) = codes "Device"
+device_fault_name device.NumbersSpent = codes "NumbersSpent"
+
 -- a fault at a unit or at another place of the build
 abbrev pub fault_at : List ℕ → List ℕ → List ℕ
 fault_at place name = concat (codes "fault " ∷ place ∷ codes " " ∷ name ∷ [])
@@ -130,7 +136,7 @@ abbrev pub fault_line : BuildFault → List ℕ
 fault_line (build.Plan why) = concat (codes "refused " ∷ refusal_name why ∷ [])
 fault_line build.Toolchain = codes "fault -vV Toolchain"
 fault_line (build.Child unit fault) = fault_at unit (start_fault_name fault)
-fault_line (build.Device unit fault) = fault_at unit (codes "Device")
+fault_line (build.Device unit fault) = fault_at unit (device_fault_name fault)
 fault_line build.Sink = codes "fault sink Sink"
 fault_line build.OutOfMemory = codes "fault memory OutOfMemory"
 

@@ -25,6 +25,18 @@ pub enum Refusal {
     Plan(PlanFault),
 }
 
+/// Why a call on files or variables, or one for a unit's record, failed.
+#[derive(Clone, Copy, Debug, PartialEq, Eq, Error)]
+pub enum DeviceFault {
+    /// A call of the place failed.
+    #[error("{}", .0)]
+    Place(PlaceFault),
+    /// No run number is left for a unit's record: a record of the profile folder names 18446744073709551615, or that
+    /// number was given. Nothing was removed.
+    #[error("no run number is left")]
+    NumbersSpent,
+}
+
 /// Why a build ends without a summary.
 #[derive(Debug, Drop, Error)]
 pub enum BuildFault {
@@ -38,10 +50,10 @@ pub enum BuildFault {
     /// A child gave no answer: `-vV` for the query, else the unit's key.
     #[error("the child of `{}` gave no answer: {}", .unit.as_str(), .fault)]
     Child { unit: Text, fault: StartFault },
-    /// A call on files or variables failed: the unit's key, else the variable's name or the path that the
-    /// call was given.
+    /// A call on files or variables failed, or no run number is left: the unit's key, else the variable's name or the
+    /// path that the call was given.
     #[error("a call for `{}` failed: {}", .unit.as_str(), .fault)]
-    Device { unit: Text, fault: PlaceFault },
+    Device { unit: Text, fault: DeviceFault },
     /// The sink of the message lines failed.
     #[error("the message lines cannot be written")]
     Sink,

@@ -5,6 +5,6 @@ pub mod fault;
 pub mod line;
 pub mod summary;
 
-pub use fault::{BuildFault, Refusal};
+pub use fault::{BuildFault, DeviceFault, Refusal};
 pub use line::result_line;
 pub use summary::Summary;

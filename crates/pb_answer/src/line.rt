@@ -2,9 +2,9 @@
 
 ghost use Rattle.std.specs.Prelude.{◌≡◌, ◌++◌, map, IfOk, OnOk, string_bytes};
 ghost use Rattle.std.specs.List.{concat};
-ghost use Rattle.pb_answer.specs.ResultLine.{keys_rest, keys_text, line_fault_name, unit_fault_text, summary_line, manifest_fault_name, load_fault_name, feature_fault_name, profile_fault_name, plan_fault_name, refusal_name, start_fault_name, fault_at, fault_line, result_line};
+ghost use Rattle.pb_answer.specs.ResultLine.{keys_rest, keys_text, line_fault_name, unit_fault_text, summary_line, manifest_fault_name, load_fault_name, feature_fault_name, profile_fault_name, plan_fault_name, refusal_name, start_fault_name, device_fault_name, fault_at, fault_line, result_line};
 
-use crate::fault::{BuildFault, Refusal};
+use crate::fault::{BuildFault, DeviceFault, Refusal};
 use crate::summary::Summary;
 use pb_data::Text;
 use pb_directive::LineFault;
@@ -207,6 +207,16 @@ fn start_fault_name(fault: StartFault) -> &'static str
     }
 }
 
+/// The name of a call's fault: one word for all calls on files and variables.
+fn device_fault_name(fault: DeviceFault) -> &'static str
+    ensures { result.now ≡ device_fault_name fault }
+{
+    match fault {
+        DeviceFault::Place(_) => "Device",
+        DeviceFault::NumbersSpent => "NumbersSpent",
+    }
+}
+
 /// A fault at a unit or at another place of the build.
 fn fault_at(alloc: Global, place: &str, name: &str) -> Result<String, AllocError>
     ensures { IfOk result (λ text. string_bytes text ≡ fault_at place.now name.now) }
@@ -224,7 +234,9 @@ fn fault_line(alloc: Global, fault: &BuildFault) -> Result<String, AllocError>
         BuildFault::Child { unit, fault } => {
             fault_at(alloc, unit.as_str(), start_fault_name(*fault))
         }
-        BuildFault::Device { unit, fault: _ } => fault_at(alloc, unit.as_str(), "Device"),
+        BuildFault::Device { unit, fault } => {
+            fault_at(alloc, unit.as_str(), device_fault_name(*fault))
+        }
         BuildFault::Sink => String::from_str(alloc, "fault sink Sink"),
         BuildFault::OutOfMemory => String::from_str(alloc, "fault memory OutOfMemory"),
     }
@@ -238,8 +250,8 @@ fn fault_line(alloc: Global, fault: &BuildFault) -> Result<String, AllocError>
 ///   signed number in decimal; `Directive(NAME)` with the name of the line's fault; `ScriptError`,
 ///   `NoDepInfo`, `ForeignInput`, `OutputTooLong`;
 /// - `refused NAME` with the innermost fault's name without its fields;
-/// - `fault AT NAME` with the unit's key and the name of the child's fault, or `Device` for a call on files or
-///   variables; `fault -vV Toolchain`, `fault sink Sink` and `fault memory OutOfMemory`.
+/// - `fault AT NAME` with the unit's key and the name of the child's fault, `Device` for a call on files or
+///   variables, or `NumbersSpent`; `fault -vV Toolchain`, `fault sink Sink` and `fault memory OutOfMemory`.
 ///
 /// KEYS are the keys of the units whose child was started, in order of starting, with `,` between them, or
 /// `-` where there are none. The one error is want of memory.

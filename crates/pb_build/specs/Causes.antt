@@ -3,6 +3,7 @@ use Rattle.std.specs.Prelude.{◌≡◌, ◌⊎◌, ℕ, zero, suc, ◌+◌, cod
 use Rattle.pb_place.specs.Counts.{Starts, up_starts}
 use Rattle.pb_place.specs.declared.place.PlaceFault.TheVariants as place
 use Rattle.pb_answer.specs.declared.fault.BuildFault.{BuildFault}
+use Rattle.pb_answer.specs.declared.fault.DeviceFault.TheVariants as device
 use Rattle.pb_answer.specs.declared.fault.BuildFault.TheVariants.{Plan, Toolchain, Child, Device, Sink, OutOfMemory}
 use Rattle.pb_answer.specs.declared.summary.Summary.{Summary}
 
@@ -24,7 +25,7 @@ abbrev pub MayTell : List ℕ → BuildFault → Starts → Starts → Type 0
 MayTell key (Plan why) old new = ⊥
 MayTell key Toolchain old new = ⊥
 MayTell key (Child unit fault) old new = (unit ≡ key) × (new ≡ up_starts old)
-MayTell key (Device unit fault) old new = (unit ≡ key) × (((fault ≡ place.Remove) × (new ≡ old)) ⊎ ((fault ≡ place.Read) × (new ≡ up_starts old)))
+MayTell key (Device unit fault) old new = (unit ≡ key) × (((fault ≡ device.Place place.Remove) × (new ≡ old)) ⊎ ((fault ≡ device.Place place.Read) × (new ≡ up_starts old)))
 MayTell key Sink old new = new ≡ up_starts old
 MayTell key OutOfMemory old new = (new ≡ old) ⊎ (new ≡ up_starts old)
 

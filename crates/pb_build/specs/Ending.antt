@@ -15,6 +15,7 @@ use Rattle.pb_place.specs.declared.place.PlaceFault.TheVariants as place
 use Rattle.pb_project.specs.declared.fault.UnitFault.{UnitFault}
 use Rattle.pb_project.specs.declared.project.Project.{Project}
 use Rattle.pb_answer.specs.declared.fault.BuildFault.{BuildFault}
+use Rattle.pb_answer.specs.declared.fault.DeviceFault.TheVariants as device
 use Rattle.pb_answer.specs.declared.fault.BuildFault.TheVariants.{Plan, Toolchain, Child, Device, Sink, OutOfMemory}
 use Rattle.pb_answer.specs.declared.summary.Summary.{Summary}
 use Rattle.pb_run.specs.Causes.{FailedLast, Takes}
@@ -169,7 +170,7 @@ UnitsEnd more project rows (Err (Plan why)) old new = ⊥
 UnitsEnd more project rows (Err Toolchain) old new = ⊥
 UnitsEnd more project rows (Err (Child key fault)) old new = Stopped (1 + more) project rows key (Started fault) old new
 UnitsEnd more project rows (Err (Device key fault)) old new =
-    ((fault ≡ place.Remove) × Stopped more project rows key (Called fault) old new) ⊎ ((fault ≡ place.Read) × Stopped (1 + more) project rows key (Called fault) old new)
+    ((fault ≡ device.Place place.Remove) × Stopped more project rows key (Called place.Remove) old new) ⊎ ((fault ≡ device.Place place.Read) × Stopped (1 + more) project rows key (Called place.Read) old new)
 UnitsEnd more project rows (Err Sink) old new = Cut more project rows old new
 UnitsEnd more project rows (Err OutOfMemory) old new = Short more project rows old new
 
@@ -186,8 +187,9 @@ PlanningEnds options (Err (Plan why)) old new =
     IsRefused options (environment_of options old.world.variables).target old.world why × Still old new × (new.counts.starts ≡ old.counts.starts) × (new.counts.failures ≡ old.counts.failures)
 PlanningEnds options (Err Toolchain) old new = ⊥
 PlanningEnds options (Err (Child key fault)) old new = ⊥
-PlanningEnds options (Err (Device name fault)) old new =
+PlanningEnds options (Err (Device name (device.Place fault))) old new =
     Still old new × (new.counts.starts ≡ old.counts.starts) × FailedLast (Called fault) old.counts new.counts × (new.counts.named ≡ name)
+PlanningEnds options (Err (Device name device.NumbersSpent)) old new = ⊥
 PlanningEnds options (Err Sink) old new = ⊥
 PlanningEnds options (Err OutOfMemory) old new = Still old new × (new.counts.starts ≡ old.counts.starts) × (new.counts.failures ≡ old.counts.failures)
 

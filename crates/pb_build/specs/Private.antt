@@ -5,6 +5,7 @@ use Rattle.std.specs.Io.KnownBytes.{Appends}
 use Rattle.pb_place.specs.Counts.{Counts, Starts, up, up_starts}
 use Rattle.pb_project.specs.declared.project.Project.{Project}
 use Rattle.pb_answer.specs.declared.fault.BuildFault.{BuildFault}
+use Rattle.pb_answer.specs.declared.fault.DeviceFault.TheVariants as device
 use Rattle.pb_answer.specs.declared.fault.BuildFault.TheVariants.{Plan, Toolchain, Child, Device, Sink, OutOfMemory}
 use Rattle.pb_run.specs.Telling.{unit_lines}
 use Rattle.pb_run.specs.declared.ran.Ran.{Ran}
@@ -89,7 +90,7 @@ unread load.LinksWithoutScript = Plan (refusal.Load load.LinksWithoutScript)
 unread load.NoInherited = Plan (refusal.Load load.NoInherited)
 unread load.TooMany = Plan (refusal.Load load.TooMany)
 unread load.SameBinary = Plan (refusal.Load load.SameBinary)
-unread (load.Place path fault) = Device path fault
+unread (load.Place path fault) = Device path (device.Place fault)
 unread load.NoSuchPackage = Plan (refusal.Load load.NoSuchPackage)
 unread load.OutOfMemory = OutOfMemory
 

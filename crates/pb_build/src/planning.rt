@@ -20,7 +20,7 @@ ghost use Rattle.pb_package.specs.declared.options.Selection.{Selection};
 ghost use Rattle.pb_run.specs.Causes.{Takes, NoStart};
 ghost use Rattle.pb_run.specs.Standing.{IsInOrder};
 
-use pb_answer::{BuildFault, Refusal};
+use pb_answer::{BuildFault, DeviceFault, Refusal};
 use pb_data::TryCopy;
 use pb_feature::{FeatureFault, Features, resolve};
 use pb_package::{LoadFault, Options, Selection, Workspace};
@@ -37,7 +37,7 @@ fn unread(fault: LoadFault) -> BuildFault
     match fault {
         LoadFault::Place(path, fault) => BuildFault::Device {
             unit: path.into_text(),
-            fault,
+            fault: DeviceFault::Place(fault),
         },
         LoadFault::OutOfMemory => BuildFault::OutOfMemory,
         fault => BuildFault::Plan(Refusal::Load(fault)),

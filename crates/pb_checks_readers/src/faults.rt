@@ -1,6 +1,6 @@
 //! Faults for tests, by their names: they hold owned values, so no table can.
 
-use pb_answer::{BuildFault, Refusal};
+use pb_answer::{BuildFault, DeviceFault, Refusal};
 use pb_data::{Items, Text};
 use pb_manifest::ManifestFault;
 use pb_package::LoadFault;
@@ -92,7 +92,10 @@ pub fn child_fault(alloc: Global, key: &str, fault: StartFault) -> Result<BuildF
 /// The fault of a build whose call for this path or key failed.
 pub fn device_fault(alloc: Global, at: &str, fault: PlaceFault) -> Result<BuildFault, AllocError> {
     let unit = Text::from_str(alloc, at)?;
-    Ok(BuildFault::Device { unit, fault })
+    Ok(BuildFault::Device {
+        unit,
+        fault: DeviceFault::Place(fault),
+    })
 }
 
 /// The fault of a build that has this name: that of a child is one of `-vV`, that of a call one of `/w`, and the plan

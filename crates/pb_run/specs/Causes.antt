@@ -1,6 +1,8 @@
 -- Why a step of a build ends with a fault: which call failed, with which fault, after how many starts.
-use Rattle.std.specs.Prelude.{◌≡◌, ◌⊎◌, ℕ, List, Some, Result, MatchResult}
-use Rattle.pb_place.specs.Counts.{Counts, Starts, up, up_starts}
+use Rattle.std.specs.Prelude.{◌≡◌, ◌≢◌, ◌⊎◌, ◌++◌, ◌∷◌, [], ℕ, false, IsSome, List, Option, Some, None, Result, MatchResult}
+use Rattle.pb_place.specs.Children.{is_flying}
+use Rattle.pb_place.specs.Counts.{Counts, Starts, up, up_starts, without}
+use Rattle.pb_place.specs.declared.child_in_flight.ChildInFlight.{ChildInFlight}
 use Rattle.pb_place.specs.declared.place.Failure.{Failure}
 use Rattle.pb_place.specs.declared.place.Failure.TheVariants.{Called, Started}
 use Rattle.pb_place.specs.declared.place.PlaceFault.{PlaceFault}
@@ -8,6 +10,11 @@ use Rattle.pb_place.specs.declared.place.PlaceFault.TheVariants as place
 use Rattle.pb_place.specs.declared.place.StartFault.{StartFault}
 use Rattle.pb_place.specs.declared.place.StartFault.TheVariants as start
 use Rattle.pb_answer.specs.declared.fault.BuildFault.{BuildFault}
+use Rattle.pb_run.specs.declared.begun.Begun.{Begun}
+use Rattle.pb_run.specs.declared.begun.Launched.{Launched}
+use Rattle.pb_store.specs.declared.fault.StoreFault.{StoreFault}
+use Rattle.pb_store.specs.declared.fault.StoreFault.TheVariants as store
+use Rattle.pb_answer.specs.declared.fault.DeviceFault.TheVariants.{Place, NumbersSpent}
 use Rattle.pb_answer.specs.declared.fault.BuildFault.TheVariants.{Plan, Toolchain, Child, Device, Sink, OutOfMemory}
 
 -- The fault of a step, by that of the call which ended it.
@@ -19,12 +26,18 @@ child_fault unit start.Capture = Child unit start.Capture
 child_fault unit start.OutOfMemory = OutOfMemory
 
 abbrev pub device_fault : List ℕ → PlaceFault → BuildFault
-device_fault unit place.Read = Device unit place.Read
-device_fault unit place.List = Device unit place.List
-device_fault unit place.Write = Device unit place.Write
-device_fault unit place.Remove = Device unit place.Remove
-device_fault unit place.Variable = Device unit place.Variable
+device_fault unit place.Read = Device unit (Place place.Read)
+device_fault unit place.List = Device unit (Place place.List)
+device_fault unit place.Write = Device unit (Place place.Write)
+device_fault unit place.Remove = Device unit (Place place.Remove)
+device_fault unit place.Variable = Device unit (Place place.Variable)
 device_fault unit place.OutOfMemory = OutOfMemory
+
+-- a fault of the store as one of the unit of this key
+abbrev pub store_fault : List ℕ → StoreFault → BuildFault
+store_fault unit (store.Place fault) = device_fault unit fault
+store_fault unit store.NumbersSpent = Device unit NumbersSpent
+store_fault unit store.OutOfMemory = OutOfMemory
 
 -- Why it ended so.
 
@@ -37,7 +50,8 @@ abbrev pub HasCause : BuildFault → Counts → Counts → Type 0
 HasCause (Plan refusal) old new = new.failures ≡ old.failures
 HasCause Toolchain old new = new.failures ≡ old.failures
 HasCause (Child unit fault) old new = FailedLast (Started fault) old new
-HasCause (Device unit fault) old new = FailedLast (Called fault) old new
+HasCause (Device unit (Place fault)) old new = FailedLast (Called fault) old new
+HasCause (Device unit NumbersSpent) old new = new.failures ≡ old.failures
 HasCause Sink old new = new.failures ≡ old.failures
 HasCause OutOfMemory old new = new.failures ≡ old.failures
 
@@ -66,7 +80,7 @@ abbrev pub MayRemove : List ℕ → BuildFault → Starts → Starts → Type 0
 MayRemove key (Plan refusal) old new = ⊥
 MayRemove key Toolchain old new = ⊥
 MayRemove key (Child unit fault) old new = ⊥
-MayRemove key (Device unit fault) old new = (unit ≡ key) × (fault ≡ place.Remove) × (new ≡ old)
+MayRemove key (Device unit fault) old new = (unit ≡ key) × (fault ≡ Place place.Remove) × (new ≡ old)
 MayRemove key Sink old new = ⊥
 MayRemove key OutOfMemory old new = new ≡ old
 
@@ -75,7 +89,7 @@ abbrev pub MayRead : List ℕ → BuildFault → Starts → Starts → Type 0
 MayRead key (Plan refusal) old new = ⊥
 MayRead key Toolchain old new = ⊥
 MayRead key (Child unit fault) old new = ⊥
-MayRead key (Device unit fault) old new = (unit ≡ key) × (fault ≡ place.Read) × (new ≡ old)
+MayRead key (Device unit fault) old new = (unit ≡ key) × (fault ≡ Place place.Read) × (new ≡ old)
 MayRead key Sink old new = ⊥
 MayRead key OutOfMemory old new = new ≡ old
 
@@ -84,7 +98,7 @@ abbrev pub MayBegin : List ℕ → BuildFault → Starts → Starts → Type 0
 MayBegin key (Plan refusal) old new = ⊥
 MayBegin key Toolchain old new = ⊥
 MayBegin key (Child unit fault) old new = (unit ≡ key) × (new ≡ up_starts old)
-MayBegin key (Device unit fault) old new = (unit ≡ key) × (fault ≡ place.Remove) × (new ≡ old)
+MayBegin key (Device unit fault) old new = (unit ≡ key) × (fault ≡ Place place.Remove) × (new ≡ old)
 MayBegin key Sink old new = ⊥
 MayBegin key OutOfMemory old new = (new ≡ old) ⊎ (new ≡ up_starts old)
 
@@ -93,6 +107,50 @@ abbrev pub MayRun : List ℕ → BuildFault → Starts → Starts → Type 0
 MayRun key (Plan refusal) old new = ⊥
 MayRun key Toolchain old new = ⊥
 MayRun key (Child unit fault) old new = (unit ≡ key) × (new ≡ up_starts old)
-MayRun key (Device unit fault) old new = (unit ≡ key) × (((fault ≡ place.Remove) × (new ≡ old)) ⊎ ((fault ≡ place.Read) × (new ≡ up_starts old)))
+MayRun key (Device unit fault) old new = (unit ≡ key) × (((fault ≡ Place place.Remove) × (new ≡ old)) ⊎ ((fault ≡ Place place.Read) × (new ≡ up_starts old)))
 MayRun key Sink old new = ⊥
 MayRun key OutOfMemory old new = (new ≡ old) ⊎ (new ≡ up_starts old)
+
+-- The halves of a unit's run.
+
+-- a child of this ticket flies beside those that flew
+pub record IsLifted (ticket : ℕ) (old new : Starts) : Type 0 where
+  pub child : ChildInFlight
+  pub its : child.ticket ≡ ticket
+  pub free : is_flying ticket old.flying ≡ false
+  pub lifted : new ≡ record { count = up old.count; flying = old.flying ++ child ∷ [] }
+
+-- how the beginning of a unit leaves the starts, and how its answer does
+abbrev pub BeginsBy : Option Launched → Starts → Starts → Type 0
+BeginsBy None old new = new ≡ old
+BeginsBy (Some launched) old new = IsLifted launched.ticket old new
+
+abbrev pub LandsBy : Option Launched → Starts → Starts → Type 0
+LandsBy None old new = new ≡ old
+LandsBy (Some launched) old new = new ≡ record old { flying = without launched.ticket old.flying }
+
+abbrev pub Begins : Begun → Starts → Starts → Type 0
+Begins begun old new = BeginsBy begun.launched old new
+
+abbrev pub Lands : {T : Type 0} → Option Launched → T → Starts → Starts → Type 0
+Lands launched x old new = LandsBy launched old new
+
+-- the faults of the calls that look for a difference, remove the record and the files, and spawn the child of the unit of this key; a run number is missing only where none is left
+abbrev pub MayBeginUnit : Option ℕ → List ℕ → BuildFault → Starts → Starts → Type 0
+MayBeginUnit next key (Plan refusal) old new = ⊥
+MayBeginUnit next key Toolchain old new = ⊥
+MayBeginUnit next key (Child unit fault) old new = (unit ≡ key) × (fault ≡ start.CannotStart) × (new ≡ up_starts old)
+MayBeginUnit next key (Device unit (Place fault)) old new = (unit ≡ key) × (fault ≢ place.Write) × (new ≡ old)
+MayBeginUnit next key (Device unit NumbersSpent) old new = (unit ≡ key) × (next ≡ None) × (new ≡ old)
+MayBeginUnit next key Sink old new = ⊥
+MayBeginUnit next key OutOfMemory old new = (new ≡ old) ⊎ (new ≡ up_starts old)
+
+-- of those that ask for the child's end, or read the record again, read the dep-info, and keep or renew the record
+abbrev pub MayAnswerUnit : Option ℕ → List ℕ → Option Launched → BuildFault → Starts → Starts → Type 0
+MayAnswerUnit next key launched (Plan refusal) old new = ⊥
+MayAnswerUnit next key launched Toolchain old new = ⊥
+MayAnswerUnit next key launched (Child unit fault) old new = (unit ≡ key) × IsSome launched × ((fault ≡ start.Died) ⊎ (fault ≡ start.Capture)) × LandsBy launched old new
+MayAnswerUnit next key launched (Device unit (Place fault)) old new = (unit ≡ key) × (fault ≢ place.Remove) × LandsBy launched old new
+MayAnswerUnit next key launched (Device unit NumbersSpent) old new = (unit ≡ key) × (next ≡ None) × (launched ≡ None) × (new ≡ old)
+MayAnswerUnit next key launched Sink old new = ⊥
+MayAnswerUnit next key launched OutOfMemory old new = LandsBy launched old new

@@ -3,3 +3,4 @@ pub mod Outcome
 pub mod Standing
 pub mod Causes
 pub mod Unfolding
+pub mod Halves

@@ -1,9 +1,14 @@
 -- Where a place stands for the outcomes of the units that have ended.
-use Rattle.std.specs.Prelude.{◌≡◌, ◌≢◌, ◌<◌, ℕ, true, false, List, Option, Some, slice_get}
+use Rattle.std.specs.Prelude.{◌≡◌, ◌≢◌, ◌<◌, ◌⊎◌, ◌↔◌, ℕ, true, false, List, Option, Some, Contains, slice_get}
 use Rattle.std.specs.List.{list_all, AllByRecursion}
 use Rattle.pb_directive.specs.declared.directive.Directive.{Directive}
 use Rattle.pb_place.specs.Folders.{files_in}
-use Rattle.pb_place.specs.Paths.{is_below, is_at_or_below}
+use Rattle.pb_command.specs.Externs.{reads_of}
+use Rattle.pb_package.specs.Settled.{IsSettled}
+use Rattle.pb_package.specs.declared.options.Selection.{Selection}
+use Rattle.pb_place.specs.Paths.{is_path, is_below, is_at_or_below}
+use Rattle.pb_soundness.specs.Records.{is_key, out_of}
+use Rattle.pb_unit.specs.Plan.{IsPlan, profile_folder}
 use Rattle.pb_place.specs.World.{World, Map, from_nothing, seen_by}
 use Rattle.pb_message.specs.declared.message.Message.{Message}
 use Rattle.pb_unit.specs.declared.plan.Planned.{Planned}
@@ -16,8 +21,29 @@ use Rattle.pb_run.specs.Outcome.{Outcome, Good, is_good_at, view_of, command_aft
 abbrev pub HasPackage : Project → Planned → Type 0
 HasPackage project u = (p : Package) × (slice_get project.workspace.packages u.unit.owner ≡ Some p)
 
--- what a build asks of a plan: the package of each unit is there; units come after what they need and reach; their output folders lie in the target folder, and no path is at or below two of them
+-- the folder of the records of a project's units: the profile's, in the target folder
+abbrev pub records_folder : Project → List ℕ
+records_folder project = profile_folder project.workspace project.profile
+
+-- the folder of a unit that a unit needs, or one that such a unit reads
+pub record IsReadByNeed (project : Project) (u : Planned) (f : List ℕ) : Type 0 where
+  pub place : ℕ
+  pub needed : Contains u.needs place
+  pub need : Planned
+  pub there : slice_get project.plan.planned place ≡ Some need
+  pub own_or_read : (f ≡ need.out) ⊎ Contains (reads_of project need) f
+
+-- what a build asks of a project: its workspace is settled, and its plan is one. So the package of each unit is there; units come after what they need and reach; their output folders lie in the target folder, and no path is at or below two of them; each lies by its key in the folder of the records; what a unit needs it reaches, and it reads the folders of what it needs and what that reads
 pub record IsInOrder (project : Project) : Type 0 where
+  pub settled : IsSettled project.workspace
+  pub selection : Selection
+  pub planned : IsPlan project.workspace project.features selection project.profile project.plan
+  pub folder : is_path (records_folder project) ≡ true
+  pub target : is_at_or_below project.workspace.target (records_folder project) ≡ true
+  pub keys : (i : ℕ) (u : Planned) → slice_get project.plan.planned i ≡ Some u → is_key u.key ≡ true
+  pub folders : (i : ℕ) (u : Planned) → slice_get project.plan.planned i ≡ Some u → u.out ≡ out_of (records_folder project) u.key
+  pub needs_reached : (i : ℕ) (u : Planned) → slice_get project.plan.planned i ≡ Some u → (place : ℕ) → Contains u.needs place → Contains u.reaches place
+  pub reads_are : (i : ℕ) (u : Planned) → slice_get project.plan.planned i ≡ Some u → (f : List ℕ) → Contains (reads_of project u) f ↔ IsReadByNeed project u f
   pub packages : (i : ℕ) (u : Planned) → slice_get project.plan.planned i ≡ Some u → HasPackage project u
   pub inside : (i : ℕ) (u : Planned) → slice_get project.plan.planned i ≡ Some u → is_below project.workspace.target u.out ≡ true
   pub apart : (i j : ℕ) (u v : Planned) → slice_get project.plan.planned i ≡ Some u → slice_get project.plan.planned j ≡ Some v → i ≢ j

@@ -3,7 +3,7 @@
 ghost use Rattle.std.specs.Prelude.{◌≡◌};
 ghost use Rattle.pb_run.specs.Causes.{child_fault, device_fault};
 
-use pb_answer::BuildFault;
+use pb_answer::{BuildFault, DeviceFault};
 use pb_data::Text;
 use pb_place::{PlaceFault, StartFault};
 
@@ -24,6 +24,9 @@ pub fn deviceless(unit: Text, fault: PlaceFault) -> BuildFault
 {
     match fault {
         PlaceFault::OutOfMemory => BuildFault::OutOfMemory,
-        fault => BuildFault::Device { unit, fault },
+        fault => BuildFault::Device {
+            unit,
+            fault: DeviceFault::Place(fault),
+        },
     }
 }

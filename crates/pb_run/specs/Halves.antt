@@ -1,0 +1,188 @@
+-- What holds of the outside while units of a build begin and answer, any number of them in flight.
+use Rattle.std.specs.Prelude.{◌≡◌, ◌≢◌, ◌++◌, ◌∷◌, [], ℕ, true, List, Option, Some, None, Contains, slice_get, take}
+use Rattle.std.specs.FinMap as finite
+use Rattle.std.specs.List.{flat_map}
+use Rattle.pb_command.specs.Externs.{reads_of}
+use Rattle.pb_command.specs.Judge.{judge}
+use Rattle.pb_directive.specs.declared.directive.Directive.{Directive}
+use Rattle.pb_flight.specs.declared.flight.State.{State}
+use Rattle.pb_flight.specs.declared.flight.State.TheVariants.{Untouched, Begun as begun_state}
+use Rattle.pb_flight.specs.Table.{is_good_at, are_good}
+use Rattle.pb_message.specs.declared.message.Message.{Message}
+use Rattle.pb_place.specs.Children.{child_spawned, child_at, inside_out}
+use Rattle.pb_place.specs.Folders.{files_in}
+use Rattle.pb_place.specs.World.{World, Map, Answers, from_nothing, seen_by}
+use Rattle.pb_place.specs.declared.child_in_flight.ChildInFlight.{ChildInFlight}
+use Rattle.pb_place.specs.declared.command.Command.{Command}
+use Rattle.pb_project.specs.Targets.{unit_at}
+use Rattle.pb_project.specs.declared.fault.UnitFault.{UnitFault}
+use Rattle.pb_project.specs.declared.project.Project.{Project}
+use Rattle.pb_project.specs.declared.project.Setup.{Setup}
+use Rattle.pb_record.specs.declared.record.Record.{Record}
+use Rattle.pb_run.specs.Outcome.{Outcome, Good, outcomes, view_of, command_after}
+use Rattle.pb_run.specs.Standing.{records_folder}
+use Rattle.pb_run.specs.declared.begun.Begun.{Begun}
+use Rattle.pb_run.specs.declared.begun.Launched.{Launched}
+use Rattle.pb_soundness.specs.Grounded.{Standing, Grounded}
+use Rattle.pb_soundness.specs.Inputs.{IsHonest}
+use Rattle.pb_soundness.specs.Numbers.{IsAhead, IsBefore, NoneNames}
+use Rattle.pb_soundness.specs.Records.{Reading, record_at}
+use Rattle.pb_soundness.specs.Reuse.{IsSame}
+use Rattle.pb_soundness.specs.Sound.{Sound}
+use Rattle.pb_store.specs.Keeping.{HasNeeds}
+use Rattle.pb_unit.specs.declared.plan.Planned.{Planned}
+
+-- What a build rests on: a sound folder of records and a child that is honest; or nothing, where no unit that has not begun has a record.
+pub data Footing : Type 0 where
+  OnRecords : Footing
+  OnNothing : Footing
+
+-- what the facts of a build are about: what it rests on, how texts are read as records, the child, how things are compiled, the project, and the sources
+pub record Basis : Type 0 where
+  pub footing : Footing
+  pub read : Reading
+  pub child : Answers
+  pub setup : Setup
+  pub project : Project
+  pub sources : World
+
+abbrev pub basis : Footing → Reading → Answers → Setup → Project → World → Basis
+basis footing read child setup project sources = record { footing = footing; read = read; child = child; setup = setup; project = project; sources = sources }
+
+-- what each unit gives from nothing
+abbrev pub outcomes_in : Basis → List Outcome
+outcomes_in b = outcomes b.child b.setup b.project b.sources
+
+-- the command and the view of the unit at a place, from the outcomes of the units before it
+abbrev pub command_in : Basis → ℕ → Planned → Command
+command_in b place u = command_after b.setup b.project (take place (outcomes_in b)) u
+
+abbrev pub view_in : Basis → ℕ → Planned → World
+view_in b place u = view_of (take place (outcomes_in b)) b.sources u
+
+-- the records that count
+abbrev pub records_in : Basis → World → Standing
+records_in b w = record_at b.read (records_folder b.project) w.files
+
+-- The units that have answered and are good.
+
+-- the outcome of the unit at a place is good: what its run said is noted, and its files stand in its folder
+pub record StandsGood (b : Basis) (done : List (Option (List Directive))) (w : World) (place : ℕ) : Type 0 where
+  pub unit : Planned
+  pub there : unit_at b.project place ≡ Some unit
+  pub files : Map
+  pub directives : Option (List Directive)
+  pub messages : List Message
+  pub good : slice_get (outcomes_in b) place ≡ Some (Good files directives messages)
+  pub noted : slice_get done place ≡ Some directives
+  pub holds : files_in unit.out w.files ≡ files
+
+-- the unit at a place has a grounded record, of what its command reads
+pub record HasRecord (project : Project) (at : Standing) (place : ℕ) : Type 0 where
+  pub unit : Planned
+  pub there : unit_at project place ≡ Some unit
+  pub kept : Record
+  pub here : at unit.key ≡ Some kept
+  pub number : ℕ
+  pub grounded : Grounded at unit.key number
+  pub reads : kept.asked.reads ≡ reads_of project unit
+
+-- What is kept while units begin and answer.
+
+-- the child is honest on the command of each unit, in the unit's view
+abbrev pub IsHonestOnUnits : Basis → Type 0
+IsHonestOnUnits b = (place : ℕ) (u : Planned) (w : World) → unit_at b.project place ≡ Some u → from_nothing b.project.workspace.target w ≡ b.sources
+    → seen_by (command_in b place u) w ≡ view_in b place u → IsHonest judge b.child (command_in b place u) w
+
+-- the folder of records is sound, its records have and name only numbers below the next one, and each unit that has answered and is good has its record
+pub record HoldsRecords (b : Basis) (states : List (State UnitFault)) (next : Option ℕ) (w : World) : Type 0 where
+  pub honest : IsHonestOnUnits b
+  pub sound : Sound b.read judge b.child (records_folder b.project) w.files
+  pub ahead : IsAhead (records_in b w) next
+  pub recorded : (place : ℕ) → is_good_at (slice_get states place) ≡ true → HasRecord b.project (records_in b w) place
+
+-- no unit that has not begun has a record
+abbrev pub HoldsNoRecord : Basis → List (State UnitFault) → World → Type 0
+HoldsNoRecord b states w = (place : ℕ) (u : Planned) → unit_at b.project place ≡ Some u → slice_get states place ≡ Some Untouched → records_in b w u.key ≡ None
+
+abbrev pub HoldsBy : Footing → Basis → List (State UnitFault) → Option ℕ → World → Type 0
+HoldsBy OnRecords b states next w = HoldsRecords b states next w
+HoldsBy OnNothing b states next w = HoldsNoRecord b states w
+
+-- while units are in these states: the sources are as they were; each unit that has answered and is good stands, and so does all that it reaches; and the records are as the footing says
+pub record Keeps (b : Basis) (states : List (State UnitFault)) (done : List (Option (List Directive))) (next : Option ℕ) (w : World) : Type 0 where
+  pub sources_stay : from_nothing b.project.workspace.target w ≡ b.sources
+  pub good : (place : ℕ) → is_good_at (slice_get states place) ≡ true → StandsGood b done w place
+  pub closed : (place : ℕ) (u : Planned) → is_good_at (slice_get states place) ≡ true → unit_at b.project place ≡ Some u → are_good states u.reaches ≡ true
+  pub records : HoldsBy b.footing b states next w
+
+-- A unit that has begun and not answered.
+
+abbrev pub key_in : Option Planned → List (List ℕ)
+key_in None = []
+key_in (Some u) = u.key ∷ []
+
+-- the keys of the units that a unit needs, in plan order
+abbrev pub needed_keys : Project → Planned → List (List ℕ)
+needed_keys project u = flat_map (λ place. key_in (unit_at project place)) u.needs
+
+-- its child is in flight: it was spawned for this command, saw this, found its folder empty, and all this stood still since
+pub record IsInFlight (child : Answers) (c : Command) (view : World) (ticket : ℕ) (flying : List ChildInFlight) (still : ℕ → Type 0) : Type 0 where
+  pub spawned : World
+  pub flies : child_at ticket flying ≡ Some (child_spawned (child c) c spawned ticket)
+  pub sees : seen_by c spawned ≡ view
+  pub emptied : inside_out c.out spawned.files ≡ finite.empty
+  pub stands : still ticket
+
+-- a record of it may be kept with this number: none stands in its place, no record names the number, it is below the next one, and what the unit needs has its records
+pub record AwaitsRecord (b : Basis) (u : Planned) (number : ℕ) (next : Option ℕ) (w : World) : Type 0 where
+  pub gone : records_in b w u.key ≡ None
+  pub unnamed : NoneNames (records_in b w) number
+  pub needs_stand : HasNeeds (records_in b w) (records_folder b.project) (reads_of b.project u) (needed_keys b.project u) number
+  pub before : IsBefore next number
+
+abbrev pub AwaitsBy : Footing → Basis → Planned → ℕ → Option ℕ → World → Type 0
+AwaitsBy OnRecords b u number next w = AwaitsRecord b u number next w
+AwaitsBy OnNothing b u number next w = Unit {0}
+
+-- nothing differs from its record
+abbrev pub IsUnchanged : Footing → Basis → Planned → Command → World → Type 0
+IsUnchanged OnRecords b u c w = (r : Record) × IsSame b.read (records_folder b.project) u.key c w r
+IsUnchanged OnNothing b u c w = ⊥
+
+-- it has a child, or nothing differs from its record
+abbrev pub WaitsBy : Basis → Planned → Command → World → Option Launched → Option ℕ → World → List ChildInFlight → (ℕ → Type 0) → Type 0
+WaitsBy b u c view (Some launched) next w flying still = IsInFlight b.child c view launched.ticket flying still × AwaitsBy b.footing b u launched.number next w
+WaitsBy b u c view None next w flying still = IsUnchanged b.footing b u c w
+
+-- the unit at a place has begun so
+pub record IsBegun (b : Basis) (place : ℕ) (begun : Begun) (next : Option ℕ) (w : World) (flying : List ChildInFlight) (still : ℕ → Type 0) : Type 0 where
+  pub unit : Planned
+  pub there : unit_at b.project place ≡ Some unit
+  pub command : begun.command ≡ command_in b place unit
+  pub waits : WaitsBy b unit begun.command (view_in b place unit) begun.launched next w flying still
+
+-- What the halves start from.
+
+-- the unit at a place can begin: it has not, and all that it reaches has answered and is good
+pub record CanBegin (b : Basis) (states : List (State UnitFault)) (done : List (Option (List Directive))) (place : ℕ) (u : Planned) (next : Option ℕ) (w : World) : Type 0 where
+  pub keeps : Keeps b states done next w
+  pub untouched : slice_get states place ≡ Some Untouched
+  pub reaches : are_good states u.reaches ≡ true
+
+-- it can answer: it has begun so
+pub record CanAnswer (b : Basis) (states : List (State UnitFault)) (done : List (Option (List Directive))) (place : ℕ) (u : Planned) (begun : Begun) (next : Option ℕ) (w : World) (flying : List ChildInFlight) (still : ℕ → Type 0) : Type 0 where
+  pub keeps : Keeps b states done next w
+  pub state : slice_get states place ≡ Some begun_state
+  pub reaches : are_good states u.reaches ≡ true
+  pub begun_so : IsBegun b place begun next w flying still
+
+-- another unit has begun, with another ticket and another number than this one has
+pub record BeginsApart (b : Basis) (states : List (State UnitFault)) (place : ℕ) (launched : Option Launched) (other : ℕ) (its : Begun) (next : Option ℕ) (w : World) (flying : List ChildInFlight) (still : ℕ → Type 0) : Type 0 where
+  pub another : other ≢ place
+  pub unit : Planned
+  pub there : unit_at b.project other ≡ Some unit
+  pub reaches : are_good states unit.reaches ≡ true
+  pub tickets : (ours theirs : Launched) → launched ≡ Some ours → its.launched ≡ Some theirs → theirs.ticket ≢ ours.ticket
+  pub numbers : (ours theirs : Launched) → launched ≡ Some ours → its.launched ≡ Some theirs → theirs.number ≢ ours.number
+  pub begun_so : IsBegun b other its next w flying still

@@ -1,0 +1,24 @@
+//! A unit that has begun.
+
+use pb_place::Command;
+use pb_store::Difference;
+
+/// A child that was spawned for a unit.
+#[derive(Debug, Drop)]
+pub struct Launched {
+    /// The ticket by which its end is asked for.
+    pub ticket: u64,
+    /// The run number of the record that is kept of the unit where its answer is good.
+    pub number: u64,
+    /// What differs: why it was spawned.
+    pub difference: Difference,
+}
+
+/// A unit that has begun.
+#[derive(Drop)]
+pub struct Begun {
+    /// Its command.
+    pub command: Command,
+    /// Its child; none where nothing differs from its record, which then gives its answer again.
+    pub launched: Option<Launched>,
+}
