@@ -1,5 +1,5 @@
 -- What a step of a flight asks and gives.
-use Rattle.std.proofs.Common.{inl, inr, AllPairs, ◌≡◌, ◌≢◌, ◌∙◌, ◌<◌, ◌+◌, ◌++◌, ◌⊎◌, Bool, false, List, [], ◌∷◌, ℕ, zero, suc, Some, refl, sym, ap, subst, arith, slice_get, length, Contains, slice_set}
+use Rattle.std.proofs.Common.{inl, inr, is_none, map, AllPairs, ◌≡◌, ◌≢◌, ◌∙◌, ◌<◌, ◌+◌, ◌++◌, ◌⊎◌, Bool, false, List, [], ◌∷◌, ℕ, zero, suc, Some, refl, sym, ap, subst, arith, slice_get, length, Contains, slice_set}
 use Rattle.std.specs.Prelude.{slice_index_or}
 use Rattle.std.specs.List.{remove}
 use Rattle.std.proofs.lemmas.Bool.{cases_eq, ne_eqb}
@@ -10,7 +10,7 @@ use Rattle.pb_flight.specs.declared.flight.State.{State}
 use Rattle.pb_flight.specs.declared.flight.State.TheVariants.{Untouched, Begun, Answered}
 use Rattle.pb_flight.specs.declared.turn.Step.{Step}
 use Rattle.pb_flight.specs.declared.turn.Step.TheVariants as step
-use Rattle.pb_flight.specs.Table.{Table, ready_of, is_finished, begun, fresh}
+use Rattle.pb_flight.specs.Table.{Table, ready_of, is_finished, begun, fresh, count_due}
 use Rattle.pb_flight.specs.Driving.{IsFlown}
 use Rattle.pb_flight.specs.Events.{Event, Began, Gave, MayBegin, IsLawful, Anything, states_after, flying_after, without}
 use Rattle.pb_flight.specs.Laws.{IsInPlanOrder}
@@ -58,6 +58,16 @@ module _ {F : Type 0} where
       → slice_get (states_after needs es) u ≡ Some Begun
   has_begun states needs es flying k u lawful same flies at = flying_begun needs Anything es lawful u (subst (λ us. Contains us u) flies (at_contains flying k u at))
 
+  -- a unit that begins makes none due
+  pub count_begun : (states : List (State F)) (u : ℕ) → slice_get states u ≡ Some Untouched → count_due (slice_set states u Begun) ≡ count_due states
+  count_begun [] u at = refl
+  count_begun (Untouched ∷ states) zero at = refl
+  count_begun (Begun ∷ states) zero at = refl
+  count_begun (Answered given ∷ states) zero at = cc
+  count_begun (Untouched ∷ states) (suc u) at = refl
+  count_begun (Begun ∷ states) (suc u) at = refl
+  count_begun (Answered given ∷ states) (suc u) at = ap (λ n. suc (if is_none given.fault then n else 0)) (count_begun states u at)
+
   -- what is left to do gets less
   pub weight_set : (states : List (State F)) (u : ℕ) (s t : State F) → slice_get states u ≡ Some s → weight_of (slice_set states u t) + weight s ≡ weight_of states + weight t
   weight_set [] u s t at = absurd (clash at)
@@ -96,6 +106,12 @@ module _ {F S : Type 0} (Turns : S → List ℕ → List ℕ → Step → S → 
     left_is : is_finished (states_after needs es) ≡ false
     left_is = ap is_finished (sym flown.states_are) ∙ left
 
+    pub begun_in : (u : ℕ) → slice_get list i ≡ Some u → slice_get table.states u ≡ Some Begun
+    begun_in u at = ap (λ ss. slice_get ss u) flown.states_are ∙ has_begun table.states needs es list i u lawful flown.states_are list_is at
+
+    pub untouched_in : (u : ℕ) → slice_get ready i ≡ Some u → slice_get table.states u ≡ Some Untouched
+    untouched_in u at = (ready_may table.needs table.states u (subst (λ r. Contains r u) is (at_contains ready i u at))).untouched
+
     pub flies_begun : (u : ℕ) (spawned : Bool) → Turns now ready list (step.Begin i) next → slice_get ready i ≡ Some u → Flies Turns needs Anyhow Anything from (Began u spawned ∷ es) next
     flies_begun u spawned turned at =
         begin es now next i u spawned flown.flies left_is (subst (λ l. Turns now (ready_of needs (states_after needs es)) l (step.Begin i) next) list_is (subst (λ r. Turns now r list (step.Begin i) next) ready_is turned))
@@ -108,6 +124,7 @@ module _ {F S : Type 0} (Turns : S → List ℕ → List ℕ → Step → S → 
       needs_are = ap (λ (t : Table F). t.needs) e ∙ flown.needs_are;
       states_are = ap (λ (t : Table F). t.states) e ∙ ap (λ ss. slice_set ss u Begun) flown.states_are;
       flying_are = f ∙ ap (λ us. us ++ u ∷ []) flown.flying_are;
+      given_are = ap (λ (t : Table F). t.given) e ∙ flown.given_are ∙ sym (count_begun table.states u (untouched_in u at)) ∙ ap (λ (t : Table F). count_due t.states) (sym e);
     }
 
     pub flies_answered : (u : ℕ) (given : Answer F) → Turns now ready list (step.Answer i) next → slice_get list i ≡ Some u → Flies Turns needs Anyhow Anything from (Gave u given ∷ es) next
@@ -115,20 +132,15 @@ module _ {F S : Type 0} (Turns : S → List ℕ → List ℕ → Step → S → 
         answer es now next i u given flown.flies left_is (subst (λ l. Turns now (ready_of needs (states_after needs es)) l (step.Answer i) next) list_is (subst (λ r. Turns now r list (step.Answer i) next) ready_is turned))
         (ap (λ l. slice_get l i) (sym list_is) ∙ at) tt
 
-    pub flown_answered : (u : ℕ) (given : Answer F) (new : Table F) (flying_now : List ℕ) → Turns now ready list (step.Answer i) next → slice_get list i ≡ Some u → new.needs ≡ table.needs → new.states ≡ slice_set table.states u (Answered given)
+    pub flown_answered : (u : ℕ) (given : Answer F) (new : Table F) (flying_now : List ℕ) → new.given ≡ count_due new.states → Turns now ready list (step.Answer i) next → slice_get list i ≡ Some u → new.needs ≡ table.needs → new.states ≡ slice_set table.states u (Answered given)
         → flying_now ≡ remove flying i → IsFlown Turns needs from (Gave u given ∷ es) next new flying_now
-    flown_answered u given new flying_now turned at n e f = record {
+    flown_answered u given new flying_now told turned at n e f = record {
       flies = flies_answered u given turned at;
       needs_are = n ∙ flown.needs_are;
       states_are = e ∙ ap (λ ss. slice_set ss u (Answered given)) flown.states_are;
       flying_are = f ∙ ap (λ us. remove us i) flown.flying_are ∙ removed_is (flying_after es) i u (apart_at (flying_after es) (flying_apart needs Anything es lawful)) (ap (λ l. slice_get l i) (sym list_is) ∙ at);
+      given_are = told;
     }
-
-    pub begun_in : (u : ℕ) → slice_get list i ≡ Some u → slice_get table.states u ≡ Some Begun
-    begun_in u at = ap (λ ss. slice_get ss u) flown.states_are ∙ has_begun table.states needs es list i u lawful flown.states_are list_is at
-
-    pub untouched_in : (u : ℕ) → slice_get ready i ≡ Some u → slice_get table.states u ≡ Some Untouched
-    untouched_in u at = (ready_may table.needs table.states u (subst (λ r. Contains r u) is (at_contains ready i u at))).untouched
 
     pub less_begun : (u : ℕ) (new : Table F) → slice_get ready i ≡ Some u → new ≡ begun u table → weight_of new.states < weight_of table.states
     less_begun u new at e =
@@ -155,4 +167,12 @@ flown_fresh {F} Turns needs now table flying is none = record {
   needs_are = ap (λ (t : Table F). t.needs) is;
   states_are = ap (λ (t : Table F). t.states) is;
   flying_are = none;
+  given_are = ap (λ (t : Table F). t.given) is ∙ sym (count_fresh needs) ∙ ap (λ (t : Table F). count_due t.states) (sym is);
 }
+  where
+    untouched : List ℕ → State F
+    untouched ns = Untouched
+
+    count_fresh : (ns : List (List ℕ)) → count_due (map untouched ns) ≡ 0
+    count_fresh [] = refl
+    count_fresh (n ∷ ns) = refl

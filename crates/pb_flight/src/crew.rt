@@ -42,7 +42,7 @@ pub trait Crew<P, O, F, E> {
         ensures needs { needs self.new ≡ needs self.old }
         ensures flying { OnOk result (flying self.new ≡ flying self.old ++ unit ∷ []) }
         ensures story { (first : Self) (first_place : P) (first_out : O) (es : List (Event F)) (given : ℕ) → story first first_place first_out self.old place.old out.old es given → flying self.old ≡ flying_after es
-            → IsLawful (needs self.old) es → MayBegin (needs self.old) (states_after (needs self.old) es) unit
+            → IsLawful (needs self.old) es → given ≡ count_due (states_after (needs self.old) es) → MayBegin (needs self.old) (states_after (needs self.old) es) unit
             → MatchResult result (λ spawned. story first first_place first_out self.new place.new out.new (Began unit spawned ∷ es) given)
             (λ e. (spawned : Bool) × stops e first first_place first_out self.new place.new out.new (Began unit spawned ∷ es)) };
 
@@ -60,7 +60,7 @@ pub trait Crew<P, O, F, E> {
         ensures needs { needs self.new ≡ needs self.old }
         ensures flying { flying self.new ≡ remove (flying self.old) index }
         ensures story { (first : Self) (first_place : P) (first_out : O) (es : List (Event F)) (given : ℕ) (unit : ℕ) → story first first_place first_out self.old place.old out.old es given → flying self.old ≡ flying_after es
-            → IsLawful (needs self.old) es → slice_get (flying self.old) index ≡ Some unit → slice_get (states_after (needs self.old) es) unit ≡ Some Begun
+            → IsLawful (needs self.old) es → given ≡ count_due (states_after (needs self.old) es) → slice_get (flying self.old) index ≡ Some unit → slice_get (states_after (needs self.old) es) unit ≡ Some Begun
             → MatchResult result (λ answer. story first first_place first_out self.new place.new out.new (Gave unit answer ∷ es) given)
             (λ e. stops e first first_place first_out self.new place.new out.new es) };
 

@@ -32,7 +32,7 @@ fn begin_one<P, O, F: Drop, E, C: Crew<P, O, F, E>>(
     ensures table { flight.new ≡ begun unit flight.old }
     ensures flying { OnOk result (C.flying crew.new ≡ C.flying crew.old ++ unit ∷ []) }
     ensures story { (first : C) (first_place : P) (first_out : O) (es : List (Event F)) (given : ℕ) → C.story first first_place first_out crew.old place.old out.old es given → C.flying crew.old ≡ flying_after es
-        → IsLawful (C.needs crew.old) es → flight.old.states ≡ states_after (C.needs crew.old) es
+        → IsLawful (C.needs crew.old) es → given ≡ count_due (states_after (C.needs crew.old) es) → flight.old.states ≡ states_after (C.needs crew.old) es
         → MatchResult result (λ _. (spawned : Bool) × C.story first first_place first_out crew.new place.new out.new (Began unit spawned ∷ es) given)
         (λ e. (spawned : Bool) × C.stops e first first_place first_out crew.new place.new out.new (Began unit spawned ∷ es)) }
 {
@@ -55,6 +55,7 @@ fn tell<P, O, F: Drop, E, C: Crew<P, O, F, E>>(
     ensures holds { C.holds crew.new place.new out.new }
     ensures needs { C.needs crew.new ≡ C.needs crew.old }
     ensures table { (flight.new.needs ≡ flight.old.needs) × (flight.new.states ≡ flight.old.states) }
+    ensures given { OnOk result (flight.new.given ≡ count_due flight.new.states) }
     ensures flying { C.flying crew.new ≡ C.flying crew.old }
     ensures story { (first : C) (first_place : P) (first_out : O) (es : List (Event F)) → C.story first first_place first_out crew.old place.old out.old es flight.old.given → IsLawful (C.needs crew.old) es
         → flight.old.states ≡ states_after (C.needs crew.old) es
@@ -90,8 +91,9 @@ fn answer_one<P, O, F: Drop, E, C: Crew<P, O, F, E>>(
     ensures needs { C.needs crew.new ≡ C.needs crew.old }
     ensures flying { C.flying crew.new ≡ remove (C.flying crew.old) index }
     ensures table { (unit : ℕ) → slice_get flying.now index ≡ Some unit → OnOk result ((answer : Answer F) × (flight.new.needs ≡ flight.old.needs) × (flight.new.states ≡ (answered unit answer flight.old).states)) }
+    ensures given { OnOk result (flight.new.given ≡ count_due flight.new.states) }
     ensures story { (first : C) (first_place : P) (first_out : O) (es : List (Event F)) (unit : ℕ) → C.story first first_place first_out crew.old place.old out.old es flight.old.given → C.flying crew.old ≡ flying_after es
-        → IsLawful (C.needs crew.old) es → flight.old.states ≡ states_after (C.needs crew.old) es → slice_get flying.now index ≡ Some unit
+        → IsLawful (C.needs crew.old) es → flight.old.given ≡ count_due (states_after (C.needs crew.old) es) → flight.old.states ≡ states_after (C.needs crew.old) es → slice_get flying.now index ≡ Some unit
         → MatchResult result (λ _. (answer : Answer F) × (flight.new.states ≡ states_after (C.needs crew.old) (Gave unit answer ∷ es)) × C.story first first_place first_out crew.new place.new out.new (Gave unit answer ∷ es) flight.new.given)
         (λ e. (more : List (Event F)) × ((more ≡ es) ⊎ ((answer : Answer F) × (more ≡ Gave unit answer ∷ es))) × C.stops e first first_place first_out crew.new place.new out.new more) }
 {

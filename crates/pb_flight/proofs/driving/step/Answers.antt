@@ -3,7 +3,7 @@ use Rattle.std.specs.Prelude.{slice_index_or}
 use Rattle.pb_flight.specs.declared.flight.State.TheVariants.{Answered}
 use Rattle.std.proofs.lemmas.Option.{slice_get-get_or, slice_get_read}
 use Rattle.pb_flight.specs.Events.{Began, Gave}
-use Rattle.pb_flight.specs.Table.{Table}
+use Rattle.pb_flight.specs.Table.{Table, count_due}
 use Rattle.pb_flight.proofs.Driven.{lawful, after, some_step, flies_begun, flown_begun, flown_answered, less_begun, less_answered, stopped_at}
 use Rattle.pb_flight.proofs.driving.step.Goals as goal
 
@@ -27,7 +27,7 @@ returns-in-Ok-begin_one-clause-less g c =
 pub returns-in-Ok-begin_one-clause-goes : goal.returns-in-Ok-begin_one-clause-goes
 returns-in-Ok-begin_one-clause-goes g c = λ from first first_place first_out es flown story.
     let at = ap (λ xs. slice_get xs c.in-Begin.index) c.as_slice.ensures.value ∙ slice_get_read c.in-Ok.ready.items (length c.in-Ok.ready.items) c.in-Begin.index c.index-unit.result.now refl (subst (λ xs. c.in-Begin.index < length xs) c.as_slice.ensures.value c.in-Begin.ensures.within) c.index-unit.ensures in
-    let (spawned, told) = c.in-Ok-begin_one.ensures.story first first_place first_out es c.args.flight.now.given story flown.flying_are (lawful g.T.Turn.turns (g.C.Crew.needs c.args.crew.now) from es c.args.turn.now c.turn.new.self c.args.flight.now (g.C.Crew.flying c.args.crew.now) flown) flown.states_are in (
+    let (spawned, told) = c.in-Ok-begin_one.ensures.story first first_place first_out es c.args.flight.now.given story flown.flying_are (lawful g.T.Turn.turns (g.C.Crew.needs c.args.crew.now) from es c.args.turn.now c.turn.new.self c.args.flight.now (g.C.Crew.flying c.args.crew.now) flown) (flown.given_are ∙ ap count_due flown.states_are) flown.states_are in (
       Began c.index-unit.result.now spawned ∷ es,
       flown_begun g.T.Turn.turns (g.C.Crew.needs c.args.crew.now) from es c.args.turn.now c.turn.new.self c.args.flight.now (g.C.Crew.flying c.args.crew.now) flown c.as_slice.result.now c.as_slice-2.result.now c.requires.left (c.as_slice.ensures.value ∙ c.in-Ok.ensures) (c.as_slice-2.ensures.value ∙ c.in-Ok-flying.ensures)
           c.in-Begin.index c.index-unit.result.now spawned c.begin_one.new.flight (g.C.Crew.flying c.begin_one.new.crew) c.in-Begin.ensures.turned at c.begin_one.ensures.table c.in-Ok-begin_one.ensures.flying,
@@ -45,7 +45,7 @@ returns-in-Ok-begin_one-clause-flown g c = λ from es flown.
 pub returns-in-Begin-clause-goes : goal.returns-in-Begin-clause-goes
 returns-in-Begin-clause-goes g c = λ from first first_place first_out es flown story.
     let at = ap (λ xs. slice_get xs c.in-Begin.index) c.as_slice.ensures.value ∙ slice_get_read c.in-Ok.ready.items (length c.in-Ok.ready.items) c.in-Begin.index c.index-unit.result.now refl (subst (λ xs. c.in-Begin.index < length xs) c.as_slice.ensures.value c.in-Begin.ensures.within) c.index-unit.ensures in
-    let (spawned, told) = c.in-Err-begin_one.ensures.story first first_place first_out es c.args.flight.now.given story flown.flying_are (lawful g.T.Turn.turns (g.C.Crew.needs c.args.crew.now) from es c.args.turn.now c.turn.new.self c.args.flight.now (g.C.Crew.flying c.args.crew.now) flown) flown.states_are in (
+    let (spawned, told) = c.in-Err-begin_one.ensures.story first first_place first_out es c.args.flight.now.given story flown.flying_are (lawful g.T.Turn.turns (g.C.Crew.needs c.args.crew.now) from es c.args.turn.now c.turn.new.self c.args.flight.now (g.C.Crew.flying c.args.crew.now) flown) (flown.given_are ∙ ap count_due flown.states_are) flown.states_are in (
       c.turn.new.self,
       Began c.index-unit.result.now spawned ∷ es,
       flies_begun g.T.Turn.turns (g.C.Crew.needs c.args.crew.now) from es c.args.turn.now c.turn.new.self c.args.flight.now (g.C.Crew.flying c.args.crew.now) flown c.as_slice.result.now c.as_slice-2.result.now c.requires.left (c.as_slice.ensures.value ∙ c.in-Ok.ensures) (c.as_slice-2.ensures.value ∙ c.in-Ok-flying.ensures)
@@ -71,11 +71,11 @@ returns-in-Ok-answer_one-clause-goes g c = λ from first first_place first_out e
     let at = slice_get-get_or c.as_slice-2.result.now c.in-Answer.index 0 c.in-Answer.ensures.within in
     let unit = slice_index_or c.as_slice-2.result.now c.in-Answer.index 0 in
     let there = ap (λ xs. slice_get xs c.in-Answer.index) (c.as_slice-in-Answer.ensures.value ∙ sym c.as_slice-2.ensures.value) ∙ at in
-    let (given, states, told) = c.in-Ok-answer_one.ensures.story first first_place first_out es unit story flown.flying_are (lawful g.T.Turn.turns (g.C.Crew.needs c.args.crew.now) from es c.args.turn.now c.turn.new.self c.args.flight.now (g.C.Crew.flying c.args.crew.now) flown) flown.states_are there in
+    let (given, states, told) = c.in-Ok-answer_one.ensures.story first first_place first_out es unit story flown.flying_are (lawful g.T.Turn.turns (g.C.Crew.needs c.args.crew.now) from es c.args.turn.now c.turn.new.self c.args.flight.now (g.C.Crew.flying c.args.crew.now) flown) (flown.given_are ∙ ap count_due flown.states_are) flown.states_are there in
     let (one, needs, table) = c.in-Ok-answer_one.ensures.table unit there in (
       Gave unit given ∷ es,
       flown_answered g.T.Turn.turns (g.C.Crew.needs c.args.crew.now) from es c.args.turn.now c.turn.new.self c.args.flight.now (g.C.Crew.flying c.args.crew.now) flown c.as_slice.result.now c.as_slice-2.result.now c.requires.left (c.as_slice.ensures.value ∙ c.in-Ok.ensures) (c.as_slice-2.ensures.value ∙ c.in-Ok-flying.ensures)
-          c.in-Answer.index unit given c.answer_one.new.flight (g.C.Crew.flying c.answer_one.new.crew) c.in-Answer.ensures.turned at needs (states ∙ ap (λ ss. slice_set ss unit (Answered given)) (sym flown.states_are)) c.answer_one.ensures.flying,
+          c.in-Answer.index unit given c.answer_one.new.flight (g.C.Crew.flying c.answer_one.new.crew) c.in-Ok-answer_one.ensures.given c.in-Answer.ensures.turned at needs (states ∙ ap (λ ss. slice_set ss unit (Answered given)) (sym flown.states_are)) c.answer_one.ensures.flying,
       told,
     )
 
@@ -86,7 +86,7 @@ returns-in-Ok-answer_one-clause-flown g c = λ from es flown.
     let (given, needs, states) = c.in-Ok-answer_one.ensures.table unit (ap (λ xs. slice_get xs c.in-Answer.index) (c.as_slice-in-Answer.ensures.value ∙ sym c.as_slice-2.ensures.value) ∙ at) in (
       Gave unit given ∷ es,
       flown_answered g.T.Turn.turns (g.C.Crew.needs c.args.crew.now) from es c.args.turn.now c.turn.new.self c.args.flight.now (g.C.Crew.flying c.args.crew.now) flown c.as_slice.result.now c.as_slice-2.result.now c.requires.left (c.as_slice.ensures.value ∙ c.in-Ok.ensures) (c.as_slice-2.ensures.value ∙ c.in-Ok-flying.ensures)
-          c.in-Answer.index unit given c.answer_one.new.flight (g.C.Crew.flying c.answer_one.new.crew) c.in-Answer.ensures.turned at needs states c.answer_one.ensures.flying,
+          c.in-Answer.index unit given c.answer_one.new.flight (g.C.Crew.flying c.answer_one.new.crew) c.in-Ok-answer_one.ensures.given c.in-Answer.ensures.turned at needs states c.answer_one.ensures.flying,
     )
 
 pub returns-clause-goes : goal.returns-clause-goes
@@ -94,6 +94,6 @@ returns-clause-goes g c = λ from first first_place first_out es flown story.
     let at = slice_get-get_or c.as_slice-2.result.now c.in-Answer.index 0 c.in-Answer.ensures.within in
     let unit = slice_index_or c.as_slice-2.result.now c.in-Answer.index 0 in
     let there = ap (λ xs. slice_get xs c.in-Answer.index) (c.as_slice-in-Answer.ensures.value ∙ sym c.as_slice-2.ensures.value) ∙ at in
-    let (more, which, told) = c.in-Err-answer_one.ensures.story first first_place first_out es unit story flown.flying_are (lawful g.T.Turn.turns (g.C.Crew.needs c.args.crew.now) from es c.args.turn.now c.turn.new.self c.args.flight.now (g.C.Crew.flying c.args.crew.now) flown) flown.states_are there in
+    let (more, which, told) = c.in-Err-answer_one.ensures.story first first_place first_out es unit story flown.flying_are (lawful g.T.Turn.turns (g.C.Crew.needs c.args.crew.now) from es c.args.turn.now c.turn.new.self c.args.flight.now (g.C.Crew.flying c.args.crew.now) flown) (flown.given_are ∙ ap count_due flown.states_are) flown.states_are there in
     stopped_at g.T.Turn.turns (g.C.Crew.needs c.args.crew.now) from es c.args.turn.now c.turn.new.self c.args.flight.now (g.C.Crew.flying c.args.crew.now) flown c.as_slice.result.now c.as_slice-2.result.now c.requires.left (c.as_slice.ensures.value ∙ c.in-Ok.ensures) (c.as_slice-2.ensures.value ∙ c.in-Ok-flying.ensures)
     c.in-Answer.index unit c.in-Answer.ensures.turned at (g.C.Crew.stops c.in-Err-answer_one.fault first first_place first_out c.answer_one.new.crew c.answer_one.new.place c.answer_one.new.out) more which told
