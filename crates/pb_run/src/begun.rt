@@ -1,5 +1,6 @@
 //! A unit that has begun.
 
+use pb_data::Text;
 use pb_place::Command;
 use pb_store::Difference;
 
@@ -17,6 +18,8 @@ pub struct Launched {
 /// A unit that has begun.
 #[derive(Drop)]
 pub struct Begun {
+    /// Its key: made before its child was spawned, so that no want of memory comes before the child's end is asked for.
+    pub unit: Text,
     /// Its command.
     pub command: Command,
     /// Its child; none where nothing differs from its record, which then gives its answer again.

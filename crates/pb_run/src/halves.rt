@@ -1,6 +1,6 @@
 //! The halves of a unit's run: it begins, with a child or without; it answers.
 
-ghost use Rattle.std.specs.Prelude.{◌≡◌, ◌×◌, ℕ, true, List, Option, IsTrue, IfOk, IfSome, MatchOption, MatchResult, Some, None, max, length, is_some, option_map, slice_get, slice_set};
+ghost use Rattle.std.specs.Prelude.{◌≡◌, ◌+◌, ℕ, true, List, Option, IsTrue, IfOk, IfSome, MatchOption, MatchResult, Some, None, max, length, is_some, option_map, slice_get, slice_set};
 ghost use Rattle.std.specs.FinMap as finite;
 ghost use Rattle.pb_directive.specs.declared.directive.Directive.{Directive};
 ghost use Rattle.pb_flight.specs.declared.flight.State.{State};
@@ -14,90 +14,107 @@ ghost use Rattle.pb_run.specs.Causes.{Takes, Begins, Lands, MayBeginUnit, MayAns
 ghost use Rattle.pb_run.specs.Halves.{Footing, Basis, basis, outcomes_in, Keeps, IsBegun, CanBegin, CanAnswer, BeginsApart};
 ghost use Rattle.pb_run.specs.Outcome.{outcome_by, directives_in};
 ghost use Rattle.pb_run.specs.Standing.{IsInOrder, records_folder};
+ghost use Rattle.pb_run.specs.declared.begun.Begun as unit_begun;
 ghost use Rattle.pb_soundness.specs.Apart.{is_of};
 ghost use Rattle.pb_soundness.specs.Numbers.{after};
 ghost use Rattle.pb_soundness.specs.Records.{Reading};
 ghost use Rattle.pb_store.specs.Differences.{FirstDifference};
 ghost use Rattle.pb_store.specs.Migrating.{TakesNumber};
 
-/// Begins the unit at a place of a plan, which has not begun, and all that it reaches has answered and is good: `done`
-/// holds what their runs said. Looks for what differs from the unit's record. Where something does, a run number is
-/// taken, the record is removed, the output folder is emptied and the unit's child is spawned, in this order; where
-/// nothing does, nothing is changed.
-///
-/// Faults: Child, where the child cannot be spawned; Device, where a file, a folder or a variable cannot be read, the
-/// record or the folder cannot be removed, or no run number is left; OutOfMemory. Each has the unit's key, no call of
-/// the place comes after one that failed, and no child is in flight for the unit then.
-pub fn begin_unit<P: Place>(
-    alloc: Global,
-    place: &mut P,
-    store: &mut Store,
-    setup: &Setup,
-    project: &Project,
-    done: &[Option<Directives>],
-    index: usize,
-    unit: &Planned,
-) -> Result<Begun, BuildFault>
-    requires order { IsInOrder project.now }
-    requires unit { slice_get project.now.plan.planned index ≡ Some unit.now }
-    requires folder { store.old.folder ≡ records_folder project.now }
-    ensures begun { (footing : Footing) (read : Reading) (sources : World) (states : List (State UnitFault)) → IsReading read → IsTrue P.tells
-        → CanBegin (basis footing read P.child setup.now project.now sources) states done.now index unit.now store.old.next (P.world place.old)
-        → IfOk result (λ begun. IsBegun (basis footing read P.child setup.now project.now sources) index begun store.new.next (P.world place.new) (P.counts place.new).starts.flying (P.still place.new)) }
-    ensures keeps { (footing : Footing) (read : Reading) (sources : World) (states : List (State UnitFault)) → IsReading read → IsTrue P.tells
-        → CanBegin (basis footing read P.child setup.now project.now sources) states done.now index unit.now store.old.next (P.world place.old)
-        → Keeps (basis footing read P.child setup.now project.now sources) (slice_set states index state.Begun) done.now store.new.next (P.world place.new) }
-    ensures others { (footing : Footing) (read : Reading) (sources : World) (states : List (State UnitFault)) (other : ℕ) (its : begun.Begun) → IsReading read → IsTrue P.tells
-        → CanBegin (basis footing read P.child setup.now project.now sources) states done.now index unit.now store.old.next (P.world place.old)
-        → BeginsApart (basis footing read P.child setup.now project.now sources) states index None other its store.old.next (P.world place.old) (P.counts place.old).starts.flying (P.still place.old)
-        → IsBegun (basis footing read P.child setup.now project.now sources) other its store.new.next (P.world place.new) (P.counts place.new).starts.flying (P.still place.new) }
-    ensures differs { (read : Reading) → IsReading read → IsTrue P.tells → IfOk result (λ begun. FirstDifference read (records_folder project.now) unit.now.key begun.command (P.world place.old) (option_map (λ launched. launched.difference) begun.launched)) }
-    ensures only { IsTrue P.tells → ChangesOnly (is_of (records_folder project.now) unit.now.key) (P.world place.old) (P.world place.new) }
-    ensures same { IsTrue P.tells → IfOk result (λ begun. begun.launched ≡ None → P.world place.new ≡ P.world place.old) }
-    ensures folder { store.new.folder ≡ store.old.folder }
-    ensures next { TakesNumber store.old.next store.new.next }
-    ensures number { IfOk result (λ begun. IfSome begun.launched (λ launched. (store.old.next ≡ Some launched.number) × (store.new.next ≡ after launched.number))) }
-    ensures most { MatchResult result (λ begun. MatchOption begun.launched (P.most place.new ≡ P.most place.old) (λ launched. P.most place.new ≡ max (P.most place.old) (length (P.counts place.old).starts.flying + 1))) (λ e. P.most place.new ≡ P.most place.old) }
-    ensures takes { Takes Begins (MayBeginUnit store.old.next unit.now.key) result (P.counts place.old) (P.counts place.new) }
+use crate::begun::Begun;
+use crate::ran::Ran;
+use pb_answer::BuildFault;
+use pb_directive::Directives;
+use pb_place::Place;
+use pb_project::{Project, Setup};
+use pb_store::Store;
+use pb_unit::Planned;
+use std::alloc::Global;
 
-/// Answers the unit at a place of a plan that has begun so. Where it has a child, asks for its end, reads what it left,
-/// judges the answer, and keeps the record where it is good; else reads the record's answer again, judges it, and
-/// gives a record of format 1 a run number.
-///
-/// Faults: Child, where the child gave no answer; Device, where a file, a folder or a variable cannot be read, the
-/// record cannot be written, or no run number is left; OutOfMemory. Each has the unit's key, and no call of the place
-/// comes after one that failed. Whatever it answers, the child is in flight no more. A unit that is bad is no fault.
-pub fn answer_unit<P: Place>(
-    alloc: Global,
-    place: &mut P,
-    store: &mut Store,
-    project: &Project,
-    index: usize,
-    unit: &Planned,
-    begun: &Begun,
-) -> Result<Ran, BuildFault>
-    requires order { IsInOrder project.now }
-    requires unit { slice_get project.now.plan.planned index ≡ Some unit.now }
-    requires folder { store.old.folder ≡ records_folder project.now }
-    requires flies { IfSome begun.now.launched (λ launched. is_flying launched.ticket (P.counts place.old).starts.flying ≡ true) }
-    ensures outcome { (footing : Footing) (read : Reading) (setup : Setup) (sources : World) (states : List (State UnitFault)) (done : List (Option (List Directive))) → IsReading read → IsTrue P.tells
-        → CanAnswer (basis footing read P.child setup project.now sources) states done index unit.now begun.now store.old.next (P.world place.old) (P.counts place.old).starts.flying (P.still place.old)
-        → IfOk result (λ ran. slice_get (outcomes_in (basis footing read P.child setup project.now sources)) index ≡ Some (outcome_by (files_in unit.now.out (P.world place.new).files) ran)) }
-    ensures keeps { (footing : Footing) (read : Reading) (setup : Setup) (sources : World) (states : List (State UnitFault)) (done : List (Option (List Directive))) → IsReading read → IsTrue P.tells
-        → CanAnswer (basis footing read P.child setup project.now sources) states done index unit.now begun.now store.old.next (P.world place.old) (P.counts place.old).starts.flying (P.still place.old)
-        → MatchResult result
+pub trait Halves<P: Place> {
+    /// Begins the unit at a place of a plan, which has not begun, and all that it reaches has answered and is good: `done`
+    /// holds what their runs said. Looks for what differs from the unit's record. Where something does, a run number is
+    /// taken, the record is removed, the output folder is emptied and the unit's child is spawned, in this order; where
+    /// nothing does, nothing is changed.
+    ///
+    /// Faults: Child, where the child cannot be spawned; Device, where a file, a folder or a variable cannot be read, the
+    /// record or the folder cannot be removed, or no run number is left; OutOfMemory. Each has the unit's key, no call of
+    /// the place comes after one that failed, and no child is in flight for the unit then.
+    fn begin_unit(
+        &self,
+        alloc: Global,
+        place: &mut P,
+        store: &mut Store,
+        setup: &Setup,
+        project: &Project,
+        done: &[Option<Directives>],
+        index: usize,
+        unit: &Planned,
+    ) -> Result<Begun, BuildFault>
+        requires order { IsInOrder project.now }
+        requires unit { slice_get project.now.plan.planned index ≡ Some unit.now }
+        requires folder { store.old.folder ≡ records_folder project.now }
+        ensures begun { (footing : Footing) (read : Reading) (sources : World) (states : List (State UnitFault)) → IsReading read → IsTrue P.tells
+            → CanBegin (basis footing read P.child setup.now project.now sources) states done.now index unit.now store.old.next (P.world place.old)
+            → IfOk result (λ begun. IsBegun (basis footing read P.child setup.now project.now sources) index begun store.new.next (P.world place.new) (P.counts place.new).starts.flying (P.still place.new)) }
+        ensures keeps { (footing : Footing) (read : Reading) (sources : World) (states : List (State UnitFault)) → IsReading read → IsTrue P.tells
+            → CanBegin (basis footing read P.child setup.now project.now sources) states done.now index unit.now store.old.next (P.world place.old)
+            → Keeps (basis footing read P.child setup.now project.now sources) (slice_set states index state.Begun) done.now store.new.next (P.world place.new) }
+        ensures others { (footing : Footing) (read : Reading) (sources : World) (states : List (State UnitFault)) (other : ℕ) (its : unit_begun.Begun) → IsReading read → IsTrue P.tells
+            → CanBegin (basis footing read P.child setup.now project.now sources) states done.now index unit.now store.old.next (P.world place.old)
+            → BeginsApart (basis footing read P.child setup.now project.now sources) states index None other its store.old.next (P.world place.old) (P.counts place.old).starts.flying (P.still place.old)
+            → IsBegun (basis footing read P.child setup.now project.now sources) other its store.new.next (P.world place.new) (P.counts place.new).starts.flying (P.still place.new) }
+        ensures differs { (read : Reading) → IsReading read → IsTrue P.tells → IfOk result (λ begun. FirstDifference read (records_folder project.now) unit.now.key begun.command (P.world place.old) (option_map (λ launched. launched.difference) begun.launched)) }
+        ensures only { IsTrue P.tells → ChangesOnly (is_of (records_folder project.now) unit.now.key) (P.world place.old) (P.world place.new) }
+        ensures same { IsTrue P.tells → IfOk result (λ begun. begun.launched ≡ None → P.world place.new ≡ P.world place.old) }
+        ensures folder { store.new.folder ≡ store.old.folder }
+        ensures next { TakesNumber store.old.next store.new.next }
+        ensures number { IfOk result (λ begun. IfSome begun.launched (λ launched. (store.old.next ≡ Some launched.number) × (store.new.next ≡ after launched.number))) }
+        ensures most { MatchResult result (λ begun. MatchOption begun.launched (P.most place.new ≡ P.most place.old) (λ launched. P.most place.new ≡ max (P.most place.old) (length (P.counts place.old).starts.flying + 1))) (λ e. P.most place.new ≡ P.most place.old) }
+        ensures named { IfOk result (λ begun. begun.unit ≡ unit.now.key) }
+        ensures takes { Takes Begins (MayBeginUnit store.old.next unit.now.key) result (P.counts place.old) (P.counts place.new) };
+
+    /// Answers the unit at a place of a plan that has begun so. Where it has a child, asks for its end, reads what it left,
+    /// judges the answer, and keeps the record where it is good; else reads the record's answer again, judges it, and
+    /// gives a record of format 1 a run number.
+    ///
+    /// Faults: Child, where the child gave no answer; Device, where a file, a folder or a variable cannot be read, the
+    /// record cannot be written, or no run number is left; OutOfMemory. Each has the unit's key, and no call of the place
+    /// comes after one that failed. Whatever it answers, the child is in flight no more. A unit that is bad is no fault.
+    fn answer_unit(
+        &self,
+        alloc: Global,
+        place: &mut P,
+        store: &mut Store,
+        project: &Project,
+        index: usize,
+        unit: &Planned,
+        begun: Begun,
+    ) -> Result<Ran, BuildFault>
+        requires order { IsInOrder project.now }
+        requires unit { slice_get project.now.plan.planned index ≡ Some unit.now }
+        requires folder { store.old.folder ≡ records_folder project.now }
+        requires named { begun.unit ≡ unit.now.key }
+        requires flies { IfSome begun.launched (λ launched. is_flying launched.ticket (P.counts place.old).starts.flying ≡ true) }
+        ensures outcome { (footing : Footing) (read : Reading) (setup : Setup) (sources : World) (states : List (State UnitFault)) (done : List (Option (List Directive))) → IsReading read → IsTrue P.tells
+            → CanAnswer (basis footing read P.child setup project.now sources) states done index unit.now begun store.old.next (P.world place.old) (P.counts place.old).starts.flying (P.still place.old)
+            → IfOk result (λ ran. slice_get (outcomes_in (basis footing read P.child setup project.now sources)) index ≡ Some (outcome_by (files_in unit.now.out (P.world place.new).files) ran)) }
+        ensures keeps { (footing : Footing) (read : Reading) (setup : Setup) (sources : World) (states : List (State UnitFault)) (done : List (Option (List Directive))) → IsReading read → IsTrue P.tells
+            → CanAnswer (basis footing read P.child setup project.now sources) states done index unit.now begun store.old.next (P.world place.old) (P.counts place.old).starts.flying (P.still place.old)
+            → MatchResult result
             (λ ran. (lines : List ℕ) → Keeps (basis footing read P.child setup project.now sources) (slice_set states index (state.Answered record { fault = ran.fault; lines = lines })) (slice_set done index ran.directives) store.new.next (P.world place.new))
             (λ e. Keeps (basis footing read P.child setup project.now sources) states done store.new.next (P.world place.new)) }
-    ensures others { (footing : Footing) (read : Reading) (setup : Setup) (sources : World) (states : List (State UnitFault)) (done : List (Option (List Directive))) (other : ℕ) (its : begun.Begun) → IsReading read → IsTrue P.tells
-        → CanAnswer (basis footing read P.child setup project.now sources) states done index unit.now begun.now store.old.next (P.world place.old) (P.counts place.old).starts.flying (P.still place.old)
-        → BeginsApart (basis footing read P.child setup project.now sources) states index begun.now.launched other its store.old.next (P.world place.old) (P.counts place.old).starts.flying (P.still place.old)
-        → IsBegun (basis footing read P.child setup project.now sources) other its store.new.next (P.world place.new) (P.counts place.new).starts.flying (P.still place.new) }
-    ensures only { (footing : Footing) (read : Reading) (setup : Setup) (sources : World) → IsTrue P.tells
-        → IsBegun (basis footing read P.child setup project.now sources) index begun.now store.old.next (P.world place.old) (P.counts place.old).starts.flying (P.still place.old)
-        → ChangesOnly (is_of (records_folder project.now) unit.now.key) (P.world place.old) (P.world place.new) }
-    ensures started { IfOk result (λ ran. ran.started ≡ is_some begun.now.launched) }
-    ensures directives { IfOk result (λ ran. directives_in (outcome_by finite.empty ran) ≡ ran.directives) }
-    ensures folder { store.new.folder ≡ store.old.folder }
-    ensures next { TakesNumber store.old.next store.new.next }
-    ensures most { P.most place.new ≡ P.most place.old }
-    ensures takes { Takes (Lands begun.now.launched) (MayAnswerUnit store.old.next unit.now.key begun.now.launched) result (P.counts place.old) (P.counts place.new) }
+        ensures others { (footing : Footing) (read : Reading) (setup : Setup) (sources : World) (states : List (State UnitFault)) (done : List (Option (List Directive))) (other : ℕ) (its : unit_begun.Begun) → IsReading read → IsTrue P.tells
+            → CanAnswer (basis footing read P.child setup project.now sources) states done index unit.now begun store.old.next (P.world place.old) (P.counts place.old).starts.flying (P.still place.old)
+            → BeginsApart (basis footing read P.child setup project.now sources) states index begun.launched other its store.old.next (P.world place.old) (P.counts place.old).starts.flying (P.still place.old)
+            → IsBegun (basis footing read P.child setup project.now sources) other its store.new.next (P.world place.new) (P.counts place.new).starts.flying (P.still place.new) }
+        ensures only { (footing : Footing) (read : Reading) (setup : Setup) (sources : World) → IsTrue P.tells
+            → IsBegun (basis footing read P.child setup project.now sources) index begun store.old.next (P.world place.old) (P.counts place.old).starts.flying (P.still place.old)
+            → ChangesOnly (is_of (records_folder project.now) unit.now.key) (P.world place.old) (P.world place.new) }
+        ensures started { IfOk result (λ ran. ran.started ≡ is_some begun.launched) }
+        ensures directives { IfOk result (λ ran. directives_in (outcome_by finite.empty ran) ≡ ran.directives) }
+        ensures folder { store.new.folder ≡ store.old.folder }
+        ensures next { TakesNumber store.old.next store.new.next }
+        ensures most { P.most place.new ≡ P.most place.old }
+        ensures takes { Takes (Lands begun.launched) (MayAnswerUnit store.old.next unit.now.key begun.launched) result (P.counts place.old) (P.counts place.new) };
+}

@@ -1,0 +1,6 @@
+//! The units of a build, begun and answered by turns.
+#![tactic(auto)]
+
+pub mod crew;
+
+pub use crew::{Aloft, UnitCrew};
