@@ -1,5 +1,5 @@
 -- What has happened while the units of a build began and answered.
-use Rattle.std.specs.Prelude.{◌≡◌, ◌≢◌, ◌≤◌, ◌<◌, ◌++◌, ◌∷◌, [], ℕ, zero, suc, max, Bool, true, false, List, map, length, take, Option, Some, None, is_some, IsTrue, Contains, AllPairs, slice_get}
+use Rattle.std.specs.Prelude.{◌≡◌, ◌≢◌, ◌≤◌, ◌<◌, ◌++◌, ◌∷◌, [], ℕ, zero, suc, max, Bool, true, false, List, map, length, take, Option, Some, None, is_some, IsTrue, Contains, slice_get}
 use Rattle.std.specs.FinMap as finite
 use Rattle.std.specs.Io.KnownBytes.{Appends}
 use Rattle.std.specs.List.{flat_map, AllByRecursion}
@@ -66,11 +66,19 @@ abbrev pub number_in : Option Launched → List ℕ
 number_in None = []
 number_in (Some launched) = launched.number ∷ []
 
+abbrev pub ticket_of_child : ChildInFlight → ℕ
+ticket_of_child child = child.ticket
+
 abbrev pub tickets_of : List Aloft → List ℕ
 tickets_of aloft = flat_map (λ (a : Aloft). ticket_in a.begun.launched) aloft
 
 abbrev pub numbers_of : List Aloft → List ℕ
 numbers_of aloft = flat_map (λ (a : Aloft). number_in a.begun.launched) aloft
+
+-- no two of them are one
+abbrev pub AreApart : List ℕ → Type 0
+AreApart [] = Unit {0}
+AreApart (n ∷ ns) = AllByRecursion (λ m. n ≢ m) ns × AreApart ns
 
 -- a unit in flight is one of the plan, by its own key
 pub record IsOfPlan (project : Project) (a : Aloft) : Type 0 where
@@ -84,9 +92,9 @@ pub record IsManned (c : UnitCrew) (counts : Counts) : Type 0 where
   pub folder : c.store.folder ≡ records_folder c.project
   pub long : length c.done.items ≡ length c.project.plan.planned
   pub units : AllByRecursion (IsOfPlan c.project) c.aloft.items
-  pub tickets : map (λ (child : ChildInFlight). child.ticket) counts.starts.flying ≡ tickets_of c.aloft.items
-  pub tickets_apart : AllPairs (λ t u. t ≢ u) (tickets_of c.aloft.items)
-  pub numbers_apart : AllPairs (λ n m. n ≢ m) (numbers_of c.aloft.items)
+  pub tickets : map ticket_of_child counts.starts.flying ≡ tickets_of c.aloft.items
+  pub tickets_apart : AreApart (tickets_of c.aloft.items)
+  pub numbers_apart : AreApart (numbers_of c.aloft.items)
   pub before : AllByRecursion (IsBefore c.store.next) (numbers_of c.aloft.items)
 
 -- What units gave, and why they began.
