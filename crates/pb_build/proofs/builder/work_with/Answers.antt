@@ -16,8 +16,8 @@ returns-in-Err-clause-works g c told =
     let old = (moment (g.P.Place.world c.args.place.now) (g.P.Place.counts c.args.place.now) (g.O.Out.taken c.args.out.now) (g.O.Out.faults c.args.out.now)) in
     let new = (moment (g.P.Place.world c.planned.new.place) (g.P.Place.counts c.planned.new.place) (g.O.Out.taken c.args.out.now) (g.O.Out.faults c.args.out.now)) in
     inl (planning_ends c.args.options.now c.in-Err.fault old new
-      (subst (λ (e : Environment). IsToldRefusal c.args.options.now e.target (g.P.Place.world c.args.place.now) c.in-Err.fault) (c.requires.environment told) (c.in-Err.ensures.refused told))
-      (c.in-Err.ensures.same told, refl) c.in-Err.ensures.takes.0 c.in-Err.ensures.takes.1 c.in-Err.ensures.names)
+    (subst (λ (e : Environment). IsToldRefusal c.args.options.now e.target (g.P.Place.world c.args.place.now) c.in-Err.fault) (c.requires.environment told) (c.in-Err.ensures.refused told))
+    (c.in-Err.ensures.same told, refl) c.in-Err.ensures.takes.0 c.in-Err.ensures.takes.1 c.in-Err.ensures.names)
 
 pub returns-clause-works : goal.returns-clause-works
 returns-clause-works g c told =
