@@ -33,6 +33,8 @@ pub struct Options {
     pub runner: Items<Text>,
     /// The text of the variable `CARGO` of a child: the builder as it was called (our own choice).
     pub tool: Text,
+    /// `--jobs`: how many units may be in flight at one time. 0 counts as 1 (our own choice).
+    pub jobs: u64,
 }
 
 /// The packages that a build is asked for, and what is asked of them.
