@@ -1,0 +1,271 @@
+-- Counters, lines and lists, after one more step.
+use Rattle.std.proofs.Common.{◌≡◌, ◌≢◌, ◌∙◌, ◌++◌, ◌<◌, ◌≤◌, ◌+◌, ◌⊎◌, inl, inr, Bool, true, false, List, [], ◌∷◌, ℕ, zero, suc, Option, Some, None, max, refl, sym, ap, subst, arith, slice_get, slice_set, is_some, map, length, append_assoc, append-nil, take}
+use Rattle.std.proofs.lemmas.List.{length-map}
+use Rattle.std.specs.Io.KnownBytes.{Appends}
+use Rattle.std.specs.List.{AllByRecursion, flat_map, remove}
+use Rattle.std.specs.Prelude.{MatchOption}
+use Rattle.pb_answer.specs.declared.fault.BuildFault.{BuildFault}
+use Rattle.pb_answer.specs.declared.fault.BuildFault.TheVariants.{Plan, Toolchain, Child, Device, Sink, OutOfMemory}
+use Rattle.pb_answer.specs.declared.fault.DeviceFault.TheVariants.{Place, NumbersSpent}
+use Rattle.pb_flight.specs.declared.flight.Answer.{Answer}
+use Rattle.pb_flight.specs.declared.flight.State.TheVariants.{Untouched, Begun, Answered}
+use Rattle.pb_flight.specs.Events as events
+use Rattle.pb_flight.specs.Events.{Event, Began, Gave, started_by, launched_after, peak}
+use Rattle.pb_flight.specs.Table.{due, due_first, due_after, count_due, if_so}
+use Rattle.pb_flight.proofs.Ending.{due_begun}
+use Rattle.pb_flight.proofs.Handing.{due_split}
+use Rattle.pb_flight.proofs.Lists.{injective, clash, get_set_same}
+use Rattle.pb_place.specs.Counts.{Counts, Starts, up, up_starts}
+use Rattle.pb_project.specs.Targets.{unit_at}
+use Rattle.pb_project.specs.declared.fault.UnitFault.{UnitFault}
+use Rattle.pb_project.specs.declared.project.Project.{Project}
+use Rattle.pb_run.specs.Causes.{HasCause, MayBeginUnit, MayAnswerUnit, BeginsBy, LandsBy}
+use Rattle.pb_run.specs.declared.begun.Launched.{Launched}
+use Rattle.pb_turns.specs.Crew.{AreApart, places_of, ticket_of_child, ticket_in, tickets_of, launched_of}
+use Rattle.pb_turns.specs.Moments.{Moment, Heard}
+use Rattle.pb_turns.specs.Story.{states_in, upped, Goes, Stops, StopsAt, StopsBy}
+use Rattle.pb_turns.specs.declared.crew.Aloft.{Aloft}
+use Rattle.pb_turns.proofs.Lists.{all_get, flat_more, get_map, length_push, without_first, without_other}
+use Rattle.pb_turns.proofs.Manning.{answer_fault_lands}
+use Rattle.pb_turns.proofs.States.{due_first_begun, due_first_answered, due_all}
+use Rattle.pb_unit.specs.declared.plan.Planned.{Planned}
+
+-- Bytes that a sink took.
+
+pub appends_more : (a b c : Option (List ℕ)) (xs ys : List ℕ) → Appends a b xs → Appends b c ys → Appends a c (xs ++ ys)
+appends_more None b c xs ys first then' = tt
+appends_more (Some as') None c xs ys first then' = absurd first
+appends_more (Some as') (Some bs) None xs ys first then' = absurd then'
+appends_more (Some as') (Some bs) (Some cs) xs ys first then' = then' ∙ ap (λ l. l ++ ys) first ∙ append_assoc as' xs ys
+
+pub appends_none : (a : Option (List ℕ)) → Appends a a []
+appends_none None = tt
+appends_none (Some xs) = sym (append-nil xs)
+
+-- the first bytes of more, after others
+pub appends_part : (a b c : Option (List ℕ)) (xs ys : List ℕ) (n : ℕ) → Appends a b xs → Appends b c (take n ys) → (m : ℕ) × Appends a c (take m (xs ++ ys))
+appends_part a b c xs ys n first then' = (length xs + n, subst (Appends a c) (sym (take_past xs ys n)) (appends_more a b c xs (take n ys) first then'))
+  where
+    take_past : (xs ys : List ℕ) (n : ℕ) → take (length xs + n) (xs ++ ys) ≡ xs ++ take n ys
+    take_past [] ys n = let e : length {A = ℕ} [] + n ≡ n = omega arith in ap (λ k. take k ys) e
+    take_past (x ∷ xs) ys n = let e : length (x ∷ xs) + n ≡ suc (length xs + n) = omega arith in ap (λ k. take k (x ∷ (xs ++ ys))) e ∙ ap (λ l. x ∷ l) (take_past xs ys n)
+
+-- Units that have a child.
+
+without_none : (n : ℕ) (ns : List Aloft) → AllByRecursion (λ m. n ≢ m) (places_of ns) → launched_of ns ≡ events.without n (launched_of ns)
+without_none n [] all = refl
+without_none n (x ∷ ns) all = by (is_some x.begun.launched) (without_none n ns all.1)
+  where
+    by : (b : Bool) → launched_of ns ≡ events.without n (launched_of ns) → if_so b x.unit ++ launched_of ns ≡ events.without n (if_so b x.unit ++ launched_of ns)
+    by true more = ap (λ l. x.unit ∷ l) more ∙ sym (without_other x.unit n (launched_of ns) (λ e. all.0 (sym e)))
+    by false more = more
+
+pub launched_left : (aloft : List Aloft) (index : ℕ) (a : Aloft) → AreApart (places_of aloft) → slice_get aloft index ≡ Some a → launched_of (remove aloft index) ≡ events.without a.unit (launched_of aloft)
+launched_left [] index a apart at = absurd (clash at)
+launched_left (x ∷ aloft) zero a apart at = subst (λ (y : Aloft). launched_of aloft ≡ events.without y.unit (if_so (is_some x.begun.launched) x.unit ++ launched_of aloft)) (injective at) (by (is_some x.begun.launched))
+  where
+    by : (b : Bool) → launched_of aloft ≡ events.without x.unit (if_so b x.unit ++ launched_of aloft)
+    by true = sym (without_first x.unit (launched_of aloft))
+    by false = without_none x.unit aloft apart.0
+launched_left (x ∷ aloft) (suc k) a apart at = by (is_some x.begun.launched) (launched_left aloft k a apart.1 at)
+  where
+    ne : x.unit ≢ a.unit
+    ne = all_get (λ m. x.unit ≢ m) (places_of aloft) k a.unit apart.0 (get_map (λ (y : Aloft). y.unit) aloft k a at)
+
+    by : (b : Bool) → launched_of (remove aloft k) ≡ events.without a.unit (launched_of aloft) → if_so b x.unit ++ launched_of (remove aloft k) ≡ events.without a.unit (if_so b x.unit ++ launched_of aloft)
+    by true more = ap (λ l. x.unit ∷ l) more ∙ sym (without_other x.unit a.unit (launched_of aloft) ne)
+    by false more = more
+
+-- as many children as tickets
+as_many : (aloft : List Aloft) → length (tickets_of aloft) ≡ length (launched_of aloft)
+as_many [] = refl
+as_many (x ∷ aloft) = by x.begun.launched (as_many aloft)
+  where
+    by : (o : Option Launched) → length (tickets_of aloft) ≡ length (launched_of aloft) → length (ticket_in o ++ tickets_of aloft) ≡ length (if_so (is_some o) x.unit ++ launched_of aloft)
+    by None more = more
+    by (Some l) more = ap suc more
+
+pub children_are : (now : Counts) (aloft : List Aloft) → map ticket_of_child now.starts.flying ≡ tickets_of aloft → length now.starts.flying ≡ length (launched_of aloft)
+children_are now aloft tickets = sym (length-map now.starts.flying ticket_of_child) ∙ ap length tickets ∙ as_many aloft
+
+-- The cause is that since the first.
+
+pub cause_from : (e : BuildFault) (first now new : Counts) → now.failures ≡ first.failures → HasCause e now new → HasCause e first new
+cause_from (Plan why) first now new same cause = cause ∙ same
+cause_from Toolchain first now new same cause = cause ∙ same
+cause_from (Child unit fault) first now new same (failed, late, last) = (failed ∙ ap up same, late, last)
+cause_from (Device unit (Place fault)) first now new same (failed, late, last) = (failed ∙ ap up same, late, last)
+cause_from (Device unit NumbersSpent) first now new same cause = cause ∙ same
+cause_from Sink first now new same cause = cause ∙ same
+cause_from OutOfMemory first now new same cause = cause ∙ same
+
+upped_more : (n m : ℕ) (xs : List ℕ) (unit : ℕ) → n ≡ upped (length xs) m → up n ≡ upped (length (xs ++ unit ∷ [])) m
+upped_more n m xs unit is = ap up is ∙ ap (λ k. upped k m) (sym (length_push xs unit))
+
+-- A unit begins.
+
+module _ (project : Project) (first now new : Moment) (started : List ℕ) (aloft : List Aloft) (es : List (Event UnitFault)) (given unit : ℕ) (goes : Goes project first now started aloft es given)
+  (is_given : given ≡ count_due (states_in project es)) (untouched : slice_get (states_in project es) unit ≡ Some Untouched) (heard : new.heard ≡ now.heard) where
+  lines_begun : Appends first.heard.taken new.heard.taken (due_first given (slice_set (states_in project es) unit Begun))
+  lines_begun =
+      subst (λ (x : Heard). Appends first.heard.taken x.taken (due_first given (slice_set (states_in project es) unit Begun))) (sym heard)
+      (subst (Appends first.heard.taken now.heard.taken) (sym (due_first_begun given (states_in project es) unit is_given untouched)) goes.lines)
+
+  due_lines_begun : Appends first.heard.taken new.heard.taken (due (slice_set (states_in project es) unit Begun))
+  due_lines_begun =
+      subst (Appends first.heard.taken new.heard.taken) (due_first_begun given (states_in project es) unit is_given untouched ∙ due_all given (states_in project es) is_given ∙ sym (due_begun (states_in project es) unit untouched).0) lines_begun
+
+  faults_begun : new.heard.faults ≡ first.heard.faults
+  faults_begun = ap (λ (x : Heard). x.faults) heard ∙ goes.faults
+
+  starts_begun : (o : Option Launched) → BeginsBy o now.counts.starts new.counts.starts → new.counts.starts.count ≡ upped (length (started_by es ++ if_so (is_some o) unit)) first.counts.starts.count
+  starts_begun None same = ap (λ (s : Starts). s.count) same ∙ goes.starts ∙ ap (λ xs. upped (length xs) first.counts.starts.count) (sym (append-nil (started_by es)))
+  starts_begun (Some l) lifted = ap (λ (s : Starts). s.count) lifted.lifted ∙ upped_more now.counts.starts.count first.counts.starts.count (started_by es) unit goes.starts
+
+  most_begun : (o : Option Launched) → length now.counts.starts.flying ≡ length (launched_of aloft) → MatchOption o (new.most ≡ now.most) (λ l. new.most ≡ max now.most (length now.counts.starts.flying + 1)) → new.most ≡ max first.most (peak (Began unit (is_some o) ∷ es))
+  most_begun None long same = same ∙ goes.most
+  most_begun (Some l) long more =
+      let e : length now.counts.starts.flying ≡ length (launched_after es) = long ∙ ap length goes.launched_are in
+      omega (arith, more, e, goes.most)
+
+  pub goes_begun : (a : Aloft) → a.unit ≡ unit → new.counts.failures ≡ now.counts.failures → BeginsBy a.begun.launched now.counts.starts new.counts.starts → length now.counts.starts.flying ≡ length (launched_of aloft)
+      → MatchOption a.begun.launched (new.most ≡ now.most) (λ l. new.most ≡ max now.most (length now.counts.starts.flying + 1))
+      → Goes project first new (started ++ if_so (is_some a.begun.launched) unit) (aloft ++ a ∷ []) (Began unit (is_some a.begun.launched) ∷ es) given
+  goes_begun a its failures begins long most = record {
+    started_are = ap (λ l. l ++ if_so (is_some a.begun.launched) unit) goes.started_are;
+    launched_are = flat_more (λ (x : Aloft). if_so (is_some x.begun.launched) x.unit) aloft (a ∷ []) ∙ ap (λ l. launched_of aloft ++ l) (append-nil (if_so (is_some a.begun.launched) a.unit))
+        ∙ ap (λ n. launched_of aloft ++ if_so (is_some a.begun.launched) n) its ∙ ap (λ l. l ++ if_so (is_some a.begun.launched) unit) goes.launched_are;
+    lines = lines_begun;
+    faults = faults_begun;
+    failures = failures ∙ goes.failures;
+    starts = starts_begun a.begun.launched begins;
+    most = most_begun a.begun.launched long most;
+  }
+
+  -- memory is refused before
+  pub stops_refused_begun : new.counts ≡ now.counts → Stops OutOfMemory project first new (Began unit false ∷ es)
+  stops_refused_begun counts = record {
+    by = ((given, lines_begun), faults_begun);
+    cause = ap (λ (c : Counts). c.failures) counts ∙ goes.failures;
+    starts = starts_begun None (ap (λ (c : Counts). c.starts) counts);
+  }
+
+  -- a fault ends it
+  module _ (u : Planned) (there : unit_at project unit ≡ Some u) where
+    stops_at : (key : List ℕ) (spawned : Bool) → key ≡ u.key → StopsAt project first new key (Began unit spawned ∷ es)
+    stops_at key spawned named = record {
+      place = unit;
+      unit = u;
+      there = there;
+      named = sym named;
+      flies = get_set_same (states_in project es) unit Untouched Begun untouched;
+      lines = due_lines_begun;
+      faults = faults_begun;
+    }
+
+    none_started : new.counts.starts ≡ now.counts.starts → new.counts.starts.count ≡ upped (length (started_by es ++ if_so false unit)) first.counts.starts.count
+    none_started same = starts_begun None same
+
+    one_started : new.counts.starts ≡ up_starts now.counts.starts → new.counts.starts.count ≡ upped (length (started_by es ++ if_so true unit)) first.counts.starts.count
+    one_started same = ap (λ (s : Starts). s.count) same ∙ upped_more now.counts.starts.count first.counts.starts.count (started_by es) unit goes.starts
+
+    pub stops_begun : (next : Option ℕ) (e : BuildFault) → MayBeginUnit next u.key e now.counts.starts new.counts.starts → HasCause e now.counts new.counts → (spawned : Bool) × Stops e project first new (Began unit spawned ∷ es)
+    stops_begun next (Plan why) may cause = absurd may
+    stops_begun next Toolchain may cause = absurd may
+    stops_begun next (Child key fault) may cause = (true, record { by = stops_at key true may.0; cause = cause_from (Child key fault) first.counts now.counts new.counts goes.failures cause; starts = one_started may.2 })
+    stops_begun next (Device key (Place fault)) may cause = (false, record { by = stops_at key false may.0; cause = cause_from (Device key (Place fault)) first.counts now.counts new.counts goes.failures cause; starts = none_started may.2 })
+    stops_begun next (Device key NumbersSpent) may cause = (false, record { by = stops_at key false may.0; cause = cause_from (Device key NumbersSpent) first.counts now.counts new.counts goes.failures cause; starts = none_started may.2 })
+    stops_begun next Sink may cause = absurd may
+    stops_begun next OutOfMemory (inl same) cause = (false, record { by = ((given, lines_begun), faults_begun); cause = cause_from OutOfMemory first.counts now.counts new.counts goes.failures cause; starts = none_started same })
+    stops_begun next OutOfMemory (inr more) cause = (true, record { by = ((given, lines_begun), faults_begun); cause = cause_from OutOfMemory first.counts now.counts new.counts goes.failures cause; starts = one_started more })
+
+-- A unit answers.
+
+module _ (project : Project) (first now new : Moment) (started : List ℕ) (aloft : List Aloft) (es : List (Event UnitFault)) (given : ℕ) (goes : Goes project first now started aloft es given)
+  (is_given : given ≡ count_due (states_in project es)) (index : ℕ) (a : Aloft) (at : slice_get aloft index ≡ Some a) (begun : slice_get (states_in project es) a.unit ≡ Some Begun) (heard : new.heard ≡ now.heard) where
+  lines_same : (n : ℕ) → Appends first.heard.taken now.heard.taken (due_first n (states_in project es)) → Appends first.heard.taken new.heard.taken (due_first n (states_in project es))
+  lines_same n lines = subst (λ (x : Heard). Appends first.heard.taken x.taken (due_first n (states_in project es))) (sym heard) lines
+
+  faults_same : new.heard.faults ≡ first.heard.faults
+  faults_same = ap (λ (x : Heard). x.faults) heard ∙ goes.faults
+
+  starts_same : (o : Option Launched) → LandsBy o now.counts.starts new.counts.starts → new.counts.starts.count ≡ upped (length (started_by es)) first.counts.starts.count
+  starts_same None same = ap (λ (s : Starts). s.count) same ∙ goes.starts
+  starts_same (Some l) landed = ap (λ (s : Starts). s.count) landed ∙ goes.starts
+
+  pub goes_answered : AreApart (places_of aloft) → (answer : Answer UnitFault) → new.counts.failures ≡ now.counts.failures → LandsBy a.begun.launched now.counts.starts new.counts.starts → new.most ≡ now.most
+      → Goes project first new started (remove aloft index) (Gave a.unit answer ∷ es) given
+  goes_answered apart answer failures lands most = record {
+    started_are = goes.started_are;
+    launched_are = launched_left aloft index a apart at ∙ ap (events.without a.unit) goes.launched_are;
+    lines = subst (Appends first.heard.taken new.heard.taken) (sym (due_first_answered given (states_in project es) a.unit answer is_given begun)) (lines_same given goes.lines);
+    faults = faults_same;
+    failures = failures ∙ goes.failures;
+    starts = starts_same a.begun.launched lands;
+    most = most ∙ goes.most;
+  }
+
+  module _ (u : Planned) (there : unit_at project a.unit ≡ Some u) where
+    stops_there : (key : List ℕ) → key ≡ u.key → StopsAt project first new key es
+    stops_there key named = record {
+      place = a.unit;
+      unit = u;
+      there = there;
+      named = sym named;
+      flies = begun;
+      lines = subst (Appends first.heard.taken new.heard.taken) (due_all given (states_in project es) is_given) (lines_same given goes.lines);
+      faults = faults_same;
+    }
+
+    by_fault : (next : Option ℕ) (e : BuildFault) → MayAnswerUnit next u.key a.begun.launched e now.counts.starts new.counts.starts → StopsBy e project first new es
+    by_fault next (Plan why) may = absurd may
+    by_fault next Toolchain may = absurd may
+    by_fault next (Child key fault) may = stops_there key may.0
+    by_fault next (Device key (Place fault)) may = stops_there key may.0
+    by_fault next (Device key NumbersSpent) may = stops_there key may.0
+    by_fault next Sink may = absurd may
+    by_fault next OutOfMemory may = ((given, lines_same given goes.lines), faults_same)
+
+    pub stops_answered : (next : Option ℕ) (e : BuildFault) → MayAnswerUnit next u.key a.begun.launched e now.counts.starts new.counts.starts → HasCause e now.counts new.counts → Stops e project first new es
+    stops_answered next e may cause = record {
+      by = by_fault next e may;
+      cause = cause_from e first.counts now.counts new.counts goes.failures cause;
+      starts = starts_same a.begun.launched (answer_fault_lands next u.key a.begun.launched e now.counts.starts new.counts.starts may);
+    }
+
+  -- memory is refused for its lines
+  pub stops_untold : LandsBy a.begun.launched now.counts.starts new.counts.starts → new.counts.failures ≡ now.counts.failures → Stops OutOfMemory project first new es
+  stops_untold lands failures = record { by = ((given, lines_same given goes.lines), faults_same); cause = failures ∙ goes.failures; starts = starts_same a.begun.launched lands }
+
+-- Lines are handed out.
+
+module _ (project : Project) (first now new : Moment) (started : List ℕ) (aloft : List Aloft) (es : List (Event UnitFault)) (given : ℕ) (goes : Goes project first now started aloft es given)
+  (counts : new.counts ≡ now.counts) (most : new.most ≡ now.most) where
+  pub goes_told : Appends now.heard.taken new.heard.taken (due_after given (states_in project es)) → new.heard.faults ≡ now.heard.faults → Goes project first new started aloft es (count_due (states_in project es))
+  goes_told lines faults = record {
+    started_are = goes.started_are;
+    launched_are = goes.launched_are;
+    lines = subst (Appends first.heard.taken new.heard.taken) (due_split given (states_in project es) ∙ sym (due_all (count_due (states_in project es)) (states_in project es) refl))
+        (appends_more first.heard.taken now.heard.taken new.heard.taken (due_first given (states_in project es)) (due_after given (states_in project es)) goes.lines lines);
+    faults = faults ∙ goes.faults;
+    failures = ap (λ (c : Counts). c.failures) counts ∙ goes.failures;
+    starts = ap (λ (c : Counts). c.starts.count) counts ∙ goes.starts;
+    most = most ∙ goes.most;
+  }
+
+  pub stops_sink : (n : ℕ) → Appends now.heard.taken new.heard.taken (take n (due_after given (states_in project es))) → new.heard.faults ≡ up now.heard.faults → Stops Sink project first new es
+  stops_sink n lines faults =
+      let (m, part) = appends_part first.heard.taken now.heard.taken new.heard.taken (due_first given (states_in project es)) (due_after given (states_in project es)) n goes.lines lines in
+      record {
+        by = ((m, subst (λ l. Appends first.heard.taken new.heard.taken (take m l)) (due_split given (states_in project es)) part), faults ∙ ap up goes.faults);
+        cause = ap (λ (c : Counts). c.failures) counts ∙ goes.failures;
+        starts = ap (λ (c : Counts). c.starts.count) counts ∙ goes.starts;
+      }
+
+  -- memory is refused
+  pub stops_refused : new.heard ≡ now.heard → Stops OutOfMemory project first new es
+  stops_refused heard = record {
+    by = ((given, subst (λ (x : Heard). Appends first.heard.taken x.taken (due_first given (states_in project es))) (sym heard) goes.lines), ap (λ (x : Heard). x.faults) heard ∙ goes.faults);
+    cause = ap (λ (c : Counts). c.failures) counts ∙ goes.failures;
+    starts = ap (λ (c : Counts). c.starts.count) counts ∙ goes.starts;
+  }

@@ -1,0 +1,9 @@
+pub mod Lists
+pub mod Manning
+pub mod States
+pub mod Reaching
+pub mod Happening
+pub mod Answered
+pub mod Counting
+pub mod Beginning
+pub mod Answering

@@ -1,0 +1,88 @@
+-- What a unit that may begin reaches is good; and whose paths are whose.
+use Rattle.std.proofs.Common.{◌≡◌, ◌≢◌, ◌∙◌, ◌<◌, ◌||◌, ◌⊎◌, inl, inr, Bool, true, false, List, [], ◌∷◌, ℕ, zero, suc, Option, Some, None, Contains, refl, sym, ap, subst, arith, slice_get, get_or, map, length}
+use Rattle.std.proofs.lemmas.Bool.{cases_eq, false≢true}
+use Rattle.std.proofs.lemmas.List.{length-map}
+use Rattle.std.proofs.lemmas.Option.{slice_get_read, slice_get_within}
+use Rattle.std.specs.FinMap as finite
+use Rattle.std.specs.List.{AllByRecursion}
+use Rattle.pb_directive.specs.declared.directive.Directive.{Directive}
+use Rattle.pb_flight.specs.declared.flight.State.{State}
+use Rattle.pb_flight.specs.declared.flight.State.TheVariants.{Untouched}
+use Rattle.pb_flight.specs.Events.{MayBegin}
+use Rattle.pb_flight.specs.Table.{is_good_at, are_good}
+use Rattle.pb_flight.proofs.Lists.{injective, clash}
+use Rattle.pb_flight.proofs.Ready.{good_at, all_good}
+use Rattle.pb_place.specs.Paths.{is_at_or_below}
+use Rattle.pb_place.specs.World.{World}
+use Rattle.pb_project.specs.Targets.{unit_at}
+use Rattle.pb_project.specs.declared.fault.UnitFault.{UnitFault}
+use Rattle.pb_project.specs.declared.project.Project.{Project}
+use Rattle.pb_run.specs.Halves.{Basis, Keeps, CanBegin}
+use Rattle.pb_run.specs.Standing.{IsInOrder, IsReadByNeed, records_folder}
+use Rattle.pb_run.proofs.Recorded.{read_reached, reached_read, keys_differ, places_same}
+use Rattle.pb_run.proofs.Shown.{each_of}
+use Rattle.pb_soundness.specs.Apart.{is_of}
+use Rattle.pb_soundness.specs.Records.{out_of, place_of}
+use Rattle.pb_soundness.proofs.Places.{one_key, place_outside, places_differ}
+use Rattle.pb_turns.specs.Crew.{needs_of}
+use Rattle.pb_unit.specs.declared.plan.Planned.{Planned}
+
+-- a unit at a place before another of the list is there
+unit_before : (us : List Planned) (i j : ℕ) (u : Planned) → slice_get us i ≡ Some u → j < i → (v : Planned) × (slice_get us j ≡ Some v)
+unit_before [] i j u at less = absurd (clash at)
+unit_before (v ∷ us) zero j u at less = absurd (omega (arith, less))
+unit_before (v ∷ us) (suc i) zero u at less = (v, refl)
+unit_before (v ∷ us) (suc i) (suc j) u at less = unit_before us i j u at (omega (arith, less))
+
+needs_get : (us : List Planned) (i : ℕ) (u : Planned) → slice_get us i ≡ Some u → slice_get (map (λ (x : Planned). x.needs) us) i ≡ Some u.needs
+needs_get [] i u at = absurd (clash at)
+needs_get (v ∷ us) zero u at = ap (λ (x : Planned). Some x.needs) (injective at)
+needs_get (v ∷ us) (suc i) u at = needs_get us i u at
+
+-- a unit of which the needs are there
+pub there_at : (us seen : List Planned) (place : ℕ) (u : Planned) → place < length (map (λ (x : Planned). x.needs) us) → seen ≡ us → u ≡ get_or seen place u → slice_get us place ≡ Some u
+there_at us seen place u less same is =
+    slice_get_read us (length us) place u refl (subst (λ n. place < n) (length-map us (λ (x : Planned). x.needs)) less) (subst (λ xs. u ≡ get_or xs place u) same is)
+
+pub there_some : (us : List Planned) (place : ℕ) → place < length (map (λ (x : Planned). x.needs) us) → (u : Planned) × (slice_get us place ≡ Some u)
+there_some [] place less = absurd (omega (arith, less))
+there_some (u ∷ us) zero less = (u, refl)
+there_some (u ∷ us) (suc place) less = there_some us place (omega (arith, less))
+
+-- a unit that is there and is read
+pub there_of : (us seen : List Planned) (place : ℕ) (u v : Planned) → slice_get us place ≡ Some v → seen ≡ us → u ≡ get_or seen place u → slice_get us place ≡ Some u
+there_of us seen place u v there same is = slice_get_read us (length us) place u refl (slice_get_within us place v there) (subst (λ xs. u ≡ get_or xs place u) same is)
+
+module _ (project : Project) (order : IsInOrder project) where
+  same_out : (i j : ℕ) (u v : Planned) → unit_at project i ≡ Some u → unit_at project j ≡ Some v → u.out ≡ v.out → i ≡ j
+  same_out i j u v at_i at_j same =
+      places_same project order i j u v at_i at_j (one_key (records_folder project) u.key v.key (sym (order.folders i u at_i) ∙ same ∙ order.folders j v at_j))
+
+  -- the record's place of one unit is no path of another
+  pub place_outside_other : (i j : ℕ) (u v : Planned) → unit_at project i ≡ Some u → unit_at project j ≡ Some v → i ≢ j → is_of (records_folder project) u.key (place_of (records_folder project) v.key) ≡ false
+  place_outside_other i j u v at_i at_j apart =
+      let left : is_at_or_below (out_of (records_folder project) u.key) (place_of (records_folder project) v.key) ≡ false = place_outside (records_folder project) u.key v.key (order.keys i u at_i) (order.keys j v at_j) in
+      ap (λ b. b || is_at_or_below (place_of (records_folder project) u.key) (place_of (records_folder project) v.key)) left
+      ∙ places_differ (records_folder project) u.key v.key (order.keys i u at_i) (order.keys j v at_j) (keys_differ project order i j u v at_i at_j apart)
+
+module _ (b : Basis) (order : IsInOrder b.project) (states : List (State UnitFault)) (done : List (Option (List Directive))) (next : Option ℕ) (w : World) (keeps : Keeps b states done next w)
+  (place : ℕ) (u : Planned) (there : unit_at b.project place ≡ Some u) (may : MayBegin (needs_of b.project) states place) where
+  need_good : (p : ℕ) → Contains u.needs p → is_good_at (slice_get states p) ≡ true
+  need_good p has = may.good p (subst (λ ns. Contains ns p) (injective (sym (needs_get b.project.plan.planned place u there) ∙ may.unit)) has)
+
+  reached_at : (p : ℕ) (x : Planned) → unit_at b.project p ≡ Some x → IsReadByNeed b.project u x.out → is_good_at (slice_get states p) ≡ true
+  reached_at p x at by = elim by.own_or_read [
+    | inl own ↦ subst (λ n. is_good_at (slice_get states n) ≡ true) (sym (same_out b.project order p by.place x by.need at by.there own)) (need_good by.place by.needed)
+    | inr read ↦
+        let (y, one, same) = read_reached b.project order by.need x.out read in
+        subst (λ n. is_good_at (slice_get states n) ≡ true) (sym (same_out b.project order p one.place x y at one.there same))
+        (good_at states by.need.reaches one.place (keeps.closed by.place by.need (need_good by.place by.needed) by.there) one.among)
+  ]
+
+  pub reached_good : are_good states u.reaches ≡ true
+  reached_good = all_good states u.reaches (λ p has.
+      let (x, at) = unit_before b.project.plan.planned place p u there (each_of (λ q. q < place) u.reaches p (order.reaches place u there) has) in
+      reached_at p x at ((order.reads_are place u there x.out).0 (reached_read b.project order u x p has at)))
+
+  pub can_begin : CanBegin b states done place u next w
+  can_begin = record { keeps = keeps; untouched = may.untouched; reaches = reached_good }

@@ -1,0 +1,140 @@
+use Rattle.std.proofs.Common.{◌≡◌, ◌∙◌, ◌<◌, ◌∷◌, ℕ, Some, refl, sym, ap, subst, inl, slice_get, length, map}
+use Rattle.std.proofs.lemmas.List.{length-map}
+use Rattle.std.proofs.lemmas.Option.{slice_get_read, slice_get_within}
+use Rattle.pb_flight.specs.declared.flight.Answer.{Answer}
+use Rattle.pb_flight.specs.declared.flight.State.TheVariants.{Begun}
+use Rattle.pb_project.specs.declared.fault.UnitFault.{UnitFault}
+use Rattle.pb_turns.specs.declared.crew.UnitCrew.{UnitCrew}
+use Rattle.pb_flight.specs.Events.{Gave}
+use Rattle.pb_flight.proofs.Lists.{injective, length_set}
+use Rattle.pb_run.specs.Standing.{IsCommandOf}
+use Rattle.pb_run.specs.Telling.{unit_lines}
+use Rattle.pb_turns.specs.Crew.{IsOfPlan, place_of_unit}
+use Rattle.pb_turns.specs.Moments.{moment}
+use Rattle.pb_turns.specs.Story.{Story, states_in}
+use Rattle.pb_turns.proofs.Answering.{failed_happened, untold_happened, answered_happened}
+use Rattle.pb_turns.proofs.Beginning.{goes_lists}
+use Rattle.pb_turns.proofs.Counting.{goes_answered, stops_answered, stops_untold}
+use Rattle.pb_turns.proofs.Lists.{all_get, get_map, map_removed}
+use Rattle.pb_turns.proofs.Manning.{answer_fault_lands, flying_of, manned_answered}
+use Rattle.pb_turns.proofs.Reaching.{there_of}
+use Rattle.pb_turns.proofs.crew.answer_at.Goals as goal
+
+pub answer_unit-requires-clause-asks : goal.answer_unit-requires-clause-asks
+answer_unit-requires-clause-asks g c =
+    let at_index = slice_get_read c.args.crew.now.aloft.items (length c.args.crew.now.aloft.items) c.args.index c.remove-unit.result refl
+        (subst (λ n. c.args.index < n) (length-map c.args.crew.now.aloft.items place_of_unit) c.requires.within) c.remove-unit.ensures.value in
+    let of_plan = all_get (IsOfPlan c.args.crew.now.project) c.args.crew.now.aloft.items c.args.index c.remove-unit.result c.requires.manned.units at_index in
+    let there = there_of c.args.crew.now.project.plan.planned c.as_slice.result.now c.remove-unit.result.unit c.index-as_slice-unit.result of_plan.unit of_plan.there c.as_slice.ensures c.index-as_slice-unit.is in
+    subst (λ u. IsCommandOf c.args.crew.now.project u c.remove-unit.result.begun.command) (injective (sym of_plan.there ∙ there)) of_plan.asks
+
+pub answer_unit-requires-clause-flies : goal.answer_unit-requires-clause-flies
+answer_unit-requires-clause-flies g c =
+    let at_index = slice_get_read c.args.crew.now.aloft.items (length c.args.crew.now.aloft.items) c.args.index c.remove-unit.result refl
+        (subst (λ n. c.args.index < n) (length-map c.args.crew.now.aloft.items place_of_unit) c.requires.within) c.remove-unit.ensures.value in
+    flying_of c.args.crew.now (g.P.Place.counts c.args.place.now) c.args.index c.remove-unit.result c.requires.manned at_index
+
+pub note_answer-requires : goal.note_answer-requires
+note_answer-requires g c =
+    let at_index = slice_get_read c.args.crew.now.aloft.items (length c.args.crew.now.aloft.items) c.args.index c.remove-unit.result refl
+        (subst (λ n. c.args.index < n) (length-map c.args.crew.now.aloft.items place_of_unit) c.requires.within) c.remove-unit.ensures.value in
+    let of_plan = all_get (IsOfPlan c.args.crew.now.project) c.args.crew.now.aloft.items c.args.index c.remove-unit.result c.requires.manned.units at_index in
+    let there = there_of c.args.crew.now.project.plan.planned c.as_slice.result.now c.remove-unit.result.unit c.index-as_slice-unit.result of_plan.unit of_plan.there c.as_slice.ensures c.index-as_slice-unit.is in
+    record { within = subst (λ n. c.remove-unit.result.unit < n) (sym c.requires.manned.long) (slice_get_within c.args.crew.now.project.plan.planned c.remove-unit.result.unit c.index-as_slice-unit.result there) }
+
+pub returns-in-Err-clause-manned : goal.returns-in-Err-clause-manned
+returns-in-Err-clause-manned g c =
+    let at_index = slice_get_read c.args.crew.now.aloft.items (length c.args.crew.now.aloft.items) c.args.index c.remove-unit.result refl
+        (subst (λ n. c.args.index < n) (length-map c.args.crew.now.aloft.items place_of_unit) c.requires.within) c.remove-unit.ensures.value in
+    manned_answered c.args.crew.now _ (g.P.Place.counts c.args.place.now) (g.P.Place.counts c.answer_unit.new.place) c.args.index c.remove-unit.result c.requires.manned at_index refl c.answer_unit.ensures.folder refl c.remove-unit.ensures.items c.answer_unit.ensures.next
+    (answer_fault_lands _ _ c.remove-unit.result.begun.launched c.in-Err.fault _ _ c.in-Err.ensures.takes.0)
+
+pub returns-in-Err-lines_of_unit-clause-manned : goal.returns-in-Err-lines_of_unit-clause-manned
+returns-in-Err-lines_of_unit-clause-manned g c =
+    let at_index = slice_get_read c.args.crew.now.aloft.items (length c.args.crew.now.aloft.items) c.args.index c.remove-unit.result refl
+        (subst (λ n. c.args.index < n) (length-map c.args.crew.now.aloft.items place_of_unit) c.requires.within) c.remove-unit.ensures.value in
+    manned_answered c.args.crew.now _ (g.P.Place.counts c.args.place.now) (g.P.Place.counts c.answer_unit.new.place) c.args.index c.remove-unit.result c.requires.manned at_index refl c.answer_unit.ensures.folder refl c.remove-unit.ensures.items c.answer_unit.ensures.next c.in-Ok.ensures.takes.1
+
+pub returns-clause-manned : goal.returns-clause-manned
+returns-clause-manned g c =
+    let at_index = slice_get_read c.args.crew.now.aloft.items (length c.args.crew.now.aloft.items) c.args.index c.remove-unit.result refl
+        (subst (λ n. c.args.index < n) (length-map c.args.crew.now.aloft.items place_of_unit) c.requires.within) c.remove-unit.ensures.value in
+    manned_answered c.args.crew.now _ (g.P.Place.counts c.args.place.now) (g.P.Place.counts c.answer_unit.new.place) c.args.index c.remove-unit.result c.requires.manned at_index refl c.answer_unit.ensures.folder
+    (ap length c.note_answer.ensures.done ∙ length_set c.args.crew.now.done.items c.remove-unit.result.unit c.in-Ok.ran.directives) c.remove-unit.ensures.items c.answer_unit.ensures.next c.in-Ok.ensures.takes.1
+
+pub returns-in-Err-clause-flying : goal.returns-in-Err-clause-flying
+returns-in-Err-clause-flying g c = ap (λ items. map place_of_unit items) c.remove-unit.ensures.items ∙ map_removed place_of_unit c.args.crew.now.aloft.items c.args.index
+
+pub returns-in-Err-lines_of_unit-clause-flying : goal.returns-in-Err-lines_of_unit-clause-flying
+returns-in-Err-lines_of_unit-clause-flying g c = ap (λ items. map place_of_unit items) c.remove-unit.ensures.items ∙ map_removed place_of_unit c.args.crew.now.aloft.items c.args.index
+
+pub returns-clause-flying : goal.returns-clause-flying
+returns-clause-flying g c = ap (λ items. map place_of_unit items) c.remove-unit.ensures.items ∙ map_removed place_of_unit c.args.crew.now.aloft.items c.args.index
+
+pub returns-in-Err-clause-story : goal.returns-in-Err-clause-story
+returns-in-Err-clause-story g c = λ first at taken faults es given unit s flying lawful is_given is_unit flies.
+    let at_index = slice_get_read c.args.crew.now.aloft.items (length c.args.crew.now.aloft.items) c.args.index c.remove-unit.result refl
+        (subst (λ n. c.args.index < n) (length-map c.args.crew.now.aloft.items place_of_unit) c.requires.within) c.remove-unit.ensures.value in
+    let of_plan = all_get (IsOfPlan c.args.crew.now.project) c.args.crew.now.aloft.items c.args.index c.remove-unit.result c.requires.manned.units at_index in
+    let there = there_of c.args.crew.now.project.plan.planned c.as_slice.result.now c.remove-unit.result.unit c.index-as_slice-unit.result of_plan.unit of_plan.there c.as_slice.ensures c.index-as_slice-unit.is in
+    let now = moment (g.P.Place.world c.args.place.now) (g.P.Place.counts c.args.place.now) (g.P.Place.most c.args.place.now) taken faults in
+    let new = moment (g.P.Place.world c.answer_unit.new.place) (g.P.Place.counts c.answer_unit.new.place) (g.P.Place.most c.answer_unit.new.place) taken faults in
+    let its = injective (sym is_unit ∙ get_map place_of_unit c.args.crew.now.aloft.items c.args.index c.remove-unit.result at_index) in
+    let begun = subst (λ n. slice_get (states_in c.args.crew.now.project es) n ≡ Some Begun) its flies in
+    record {
+      setup = s.setup;
+      project = s.project;
+      stops = stops_answered c.args.crew.now.project at now new c.args.crew.now.started.items c.args.crew.now.aloft.items es given s.goes is_given c.args.index c.remove-unit.result at_index begun refl c.index-as_slice-unit.result there c.args.crew.now.store.next c.in-Err.fault
+          c.in-Err.ensures.takes.0 c.in-Err.ensures.takes.1;
+      before = es;
+      begins = inl refl;
+      happened = failed_happened g.P.Place.tells g.P.Place.child first c.args.crew.now at now new (g.P.Place.still c.args.place.now) (g.P.Place.still c.answer_unit.new.place) es given c.args.index c.remove-unit.result c.index-as_slice-unit.result there s at_index
+          c.requires.manned.units_apart c.requires.manned.tickets_apart c.requires.manned.numbers_apart c.answer_unit.new.store.next c.answer_unit.ensures.others c.answer_unit.ensures.only
+          c.remove-unit.new.self.items c.remove-unit.ensures.items c.in-Err.ensures.keeps;
+    }
+
+pub returns-in-Err-lines_of_unit-clause-story : goal.returns-in-Err-lines_of_unit-clause-story
+returns-in-Err-lines_of_unit-clause-story g c = λ first at taken faults es given unit s flying lawful is_given is_unit flies.
+    let at_index = slice_get_read c.args.crew.now.aloft.items (length c.args.crew.now.aloft.items) c.args.index c.remove-unit.result refl
+        (subst (λ n. c.args.index < n) (length-map c.args.crew.now.aloft.items place_of_unit) c.requires.within) c.remove-unit.ensures.value in
+    let of_plan = all_get (IsOfPlan c.args.crew.now.project) c.args.crew.now.aloft.items c.args.index c.remove-unit.result c.requires.manned.units at_index in
+    let there = there_of c.args.crew.now.project.plan.planned c.as_slice.result.now c.remove-unit.result.unit c.index-as_slice-unit.result of_plan.unit of_plan.there c.as_slice.ensures c.index-as_slice-unit.is in
+    let now = moment (g.P.Place.world c.args.place.now) (g.P.Place.counts c.args.place.now) (g.P.Place.most c.args.place.now) taken faults in
+    let new = moment (g.P.Place.world c.answer_unit.new.place) (g.P.Place.counts c.answer_unit.new.place) (g.P.Place.most c.answer_unit.new.place) taken faults in
+    let its = injective (sym is_unit ∙ get_map place_of_unit c.args.crew.now.aloft.items c.args.index c.remove-unit.result at_index) in
+    let begun = subst (λ n. slice_get (states_in c.args.crew.now.project es) n ≡ Some Begun) its flies in
+    record {
+      setup = s.setup;
+      project = s.project;
+      stops = stops_untold c.args.crew.now.project at now new c.args.crew.now.started.items c.args.crew.now.aloft.items es given s.goes is_given c.args.index c.remove-unit.result at_index begun refl c.in-Ok.ensures.takes.1 c.in-Ok.ensures.takes.0;
+      before = es;
+      begins = inl refl;
+      happened = untold_happened g.P.Place.tells g.P.Place.child first c.args.crew.now at now new (g.P.Place.still c.args.place.now) (g.P.Place.still c.answer_unit.new.place) es given c.args.index c.remove-unit.result c.index-as_slice-unit.result there s at_index
+          c.requires.manned.units_apart c.requires.manned.tickets_apart c.requires.manned.numbers_apart c.answer_unit.new.store.next c.answer_unit.ensures.others c.answer_unit.ensures.only
+          c.in-Ok.ran c.in-Ok.ensures.outcome c.in-Ok.ensures.keeps c.in-Ok.ensures.directives c.remove-unit.new.self.items c.remove-unit.ensures.items;
+    }
+
+pub returns-clause-story : goal.returns-clause-story
+returns-clause-story g c = λ first at taken faults es given unit s flying lawful is_given is_unit flies.
+    let at_index = slice_get_read c.args.crew.now.aloft.items (length c.args.crew.now.aloft.items) c.args.index c.remove-unit.result refl
+        (subst (λ n. c.args.index < n) (length-map c.args.crew.now.aloft.items place_of_unit) c.requires.within) c.remove-unit.ensures.value in
+    let of_plan = all_get (IsOfPlan c.args.crew.now.project) c.args.crew.now.aloft.items c.args.index c.remove-unit.result c.requires.manned.units at_index in
+    let there = there_of c.args.crew.now.project.plan.planned c.as_slice.result.now c.remove-unit.result.unit c.index-as_slice-unit.result of_plan.unit of_plan.there c.as_slice.ensures c.index-as_slice-unit.is in
+    let now = moment (g.P.Place.world c.args.place.now) (g.P.Place.counts c.args.place.now) (g.P.Place.most c.args.place.now) taken faults in
+    let new = moment (g.P.Place.world c.answer_unit.new.place) (g.P.Place.counts c.answer_unit.new.place) (g.P.Place.most c.answer_unit.new.place) taken faults in
+    let its = injective (sym is_unit ∙ get_map place_of_unit c.args.crew.now.aloft.items c.args.index c.remove-unit.result at_index) in
+    let begun = subst (λ n. slice_get (states_in c.args.crew.now.project es) n ≡ Some Begun) its flies in
+    let crew : UnitCrew = record { setup = c.args.crew.now.setup; project = c.args.crew.now.project; store = c.answer_unit.new.store; done = c.note_answer.new.done; aloft = c.remove-unit.new.self; started = c.args.crew.now.started } in
+    let answer : Answer UnitFault = record { fault = c.in-Ok.ran.fault; lines = c.in-Ok-lines_of_unit.lines } in
+    subst (λ n. Story g.P.Place.tells g.P.Place.child first at crew new (g.P.Place.still c.answer_unit.new.place) (Gave n c.note_answer.result ∷ es) given) (sym its)
+    (subst (λ given_answer. Story g.P.Place.tells g.P.Place.child first at crew new (g.P.Place.still c.answer_unit.new.place) (Gave c.remove-unit.result.unit given_answer ∷ es) given) (sym c.note_answer.ensures.answer) record {
+      setup = s.setup;
+      project = s.project;
+      goes = goes_lists c.args.crew.now.project at new c.args.crew.now.started.items c.args.crew.now.started.items _ c.remove-unit.new.self.items (Gave c.remove-unit.result.unit answer ∷ es) given refl c.remove-unit.ensures.items
+          (goes_answered c.args.crew.now.project at now new c.args.crew.now.started.items c.args.crew.now.aloft.items es given s.goes is_given c.args.index c.remove-unit.result at_index begun refl c.requires.manned.units_apart answer
+          c.in-Ok.ensures.takes.0 c.in-Ok.ensures.takes.1 c.answer_unit.ensures.most);
+      happened = answered_happened g.P.Place.tells g.P.Place.child first c.args.crew.now at now new (g.P.Place.still c.args.place.now) (g.P.Place.still c.answer_unit.new.place) es given c.args.index c.remove-unit.result c.index-as_slice-unit.result there s at_index
+          c.requires.manned.units_apart c.requires.manned.tickets_apart c.requires.manned.numbers_apart c.answer_unit.new.store.next c.answer_unit.ensures.others c.answer_unit.ensures.only
+          c.in-Ok.ran c.in-Ok.ensures.outcome c.in-Ok.ensures.keeps c.in-Ok.ensures.directives c.in-Ok-lines_of_unit.lines c.remove-unit.new.self.items c.note_answer.new.done.items c.remove-unit.ensures.items c.note_answer.ensures.done
+          c.in-Ok.ensures.started (c.in-Ok-lines_of_unit.ensures ∙ ap (λ ms. unit_lines c.args.crew.now.project c.index-as_slice-unit.result c.in-Ok.ran.started ms) c.as_slice-2.ensures);
+    })

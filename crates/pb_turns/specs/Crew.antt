@@ -1,0 +1,68 @@
+-- The units in flight of a build, and what holds of them at each moment.
+use Rattle.std.specs.Prelude.{◌≡◌, ◌≢◌, ◌∷◌, [], ℕ, Bool, true, false, List, map, length, Option, Some, None, is_some, slice_get}
+use Rattle.std.specs.List.{flat_map, AllByRecursion}
+use Rattle.pb_flight.specs.Table.{if_so}
+use Rattle.pb_place.specs.Counts.{Counts}
+use Rattle.pb_place.specs.declared.child_in_flight.ChildInFlight.{ChildInFlight}
+use Rattle.pb_project.specs.declared.project.Project.{Project}
+use Rattle.pb_run.specs.Standing.{IsInOrder, IsCommandOf, records_folder}
+use Rattle.pb_run.specs.declared.begun.Launched.{Launched}
+use Rattle.pb_soundness.specs.Numbers.{IsBefore}
+use Rattle.pb_turns.specs.declared.crew.Aloft.{Aloft}
+use Rattle.pb_turns.specs.declared.crew.UnitCrew.{UnitCrew}
+use Rattle.pb_unit.specs.declared.plan.Planned.{Planned}
+
+-- what each unit needs
+abbrev pub needs_of : Project → List (List ℕ)
+needs_of project = map (λ (u : Planned). u.needs) project.plan.planned
+
+abbrev pub place_of_unit : Aloft → ℕ
+place_of_unit a = a.unit
+
+abbrev pub places_of : List Aloft → List ℕ
+places_of aloft = map place_of_unit aloft
+
+abbrev pub ticket_in : Option Launched → List ℕ
+ticket_in None = []
+ticket_in (Some launched) = launched.ticket ∷ []
+
+abbrev pub number_in : Option Launched → List ℕ
+number_in None = []
+number_in (Some launched) = launched.number ∷ []
+
+abbrev pub ticket_of_child : ChildInFlight → ℕ
+ticket_of_child child = child.ticket
+
+-- the tickets of their children, their run numbers, and the units among them that have a child
+abbrev pub tickets_of : List Aloft → List ℕ
+tickets_of aloft = flat_map (λ (a : Aloft). ticket_in a.begun.launched) aloft
+
+abbrev pub numbers_of : List Aloft → List ℕ
+numbers_of aloft = flat_map (λ (a : Aloft). number_in a.begun.launched) aloft
+
+abbrev pub launched_of : List Aloft → List ℕ
+launched_of aloft = flat_map (λ (a : Aloft). if_so (is_some a.begun.launched) a.unit) aloft
+
+-- no two of them are one
+abbrev pub AreApart : List ℕ → Type 0
+AreApart [] = Unit {0}
+AreApart (n ∷ ns) = AllByRecursion (λ m. n ≢ m) ns × AreApart ns
+
+-- a unit in flight is one of the plan, by its own key, for a command of the unit
+pub record IsOfPlan (project : Project) (a : Aloft) : Type 0 where
+  pub unit : Planned
+  pub there : slice_get project.plan.planned a.unit ≡ Some unit
+  pub key : a.begun.unit ≡ unit.key
+  pub asks : IsCommandOf project unit a.begun.command
+
+-- what holds of a crew at each moment: its project is in order and its store is that of the project's records; the children in flight are those of its units, each with a ticket of its own; no two of them have one place or one run number, and each has one below the next
+pub record IsManned (c : UnitCrew) (counts : Counts) : Type 0 where
+  pub order : IsInOrder c.project
+  pub folder : c.store.folder ≡ records_folder c.project
+  pub long : length c.done.items ≡ length c.project.plan.planned
+  pub units : AllByRecursion (IsOfPlan c.project) c.aloft.items
+  pub units_apart : AreApart (places_of c.aloft.items)
+  pub tickets : map ticket_of_child counts.starts.flying ≡ tickets_of c.aloft.items
+  pub tickets_apart : AreApart (tickets_of c.aloft.items)
+  pub numbers_apart : AreApart (numbers_of c.aloft.items)
+  pub before : AllByRecursion (IsBefore c.store.next) (numbers_of c.aloft.items)

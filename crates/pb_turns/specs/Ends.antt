@@ -1,0 +1,103 @@
+-- How the units of a project end.
+use Rattle.std.specs.Prelude.{Bool, ◌≡◌, ◌≢◌, ◌⊎◌, ◌++◌, ◌∷◌, [], ℕ, zero, suc, max, true, List, map, length, take, Option, Some, None, IsTrue, IfErr, Result, Ok, Err, slice_get}
+use Rattle.std.specs.Io.KnownBytes.{Appends}
+use Rattle.pb_answer.specs.declared.fault.BuildFault.{BuildFault}
+use Rattle.pb_answer.specs.declared.summary.Summary.{Summary}
+use Rattle.pb_directive.specs.declared.directive.Directive.{Directive}
+use Rattle.pb_flight.specs.declared.turn.Step.{Step}
+use Rattle.pb_flight.specs.Events.{Event, Anything, started_by, peak}
+use Rattle.pb_flight.specs.Steps.{Flies, Anyhow}
+use Rattle.pb_flight.specs.Table.{due, count_due, is_finished}
+use Rattle.pb_place.specs.Counts.{Counts, counted_finish}
+use Rattle.pb_place.specs.World.{World, Answers}
+use Rattle.pb_place.specs.declared.command.Ended.{Ended}
+use Rattle.pb_place.specs.declared.place.StartFault.{StartFault}
+use Rattle.pb_place.specs.declared.place.StartFault.TheVariants as start
+use Rattle.pb_project.specs.declared.fault.UnitFault.{UnitFault}
+use Rattle.pb_project.specs.declared.project.Project.{Project}
+use Rattle.pb_project.specs.declared.project.Setup.{Setup}
+use Rattle.pb_record.specs.Parts.{IsReading}
+use Rattle.pb_run.specs.Halves.{Footing, Basis, basis, Keeps}
+use Rattle.pb_soundness.specs.Records.{Reading}
+use Rattle.pb_turns.specs.Crew.{needs_of, ticket_of_child}
+use Rattle.pb_turns.specs.Moments.{Moment}
+use Rattle.pb_turns.specs.Rows.{Row, rows_of, said_from, started_keys, summary_of}
+use Rattle.pb_turns.specs.Story.{states_in, untouched, upped, Stops, OnlyOf, AllBeganFor, IsBeginning}
+use Rattle.pb_unit.specs.declared.plan.Planned.{Planned}
+
+-- the children of these tickets were asked for their ends, in this order, their answers were dropped, and nothing else was called
+abbrev pub Dropped : List ℕ → Counts → Counts → Type 0
+Dropped [] old new = new ≡ old
+Dropped (ticket ∷ tickets) old new = (result : Result Ended StartFault) × IfErr result (λ e. e ≢ start.OutOfMemory → (e ≡ start.Died) ⊎ (e ≡ start.Capture)) × Dropped tickets (counted_finish ticket result old) new
+
+-- those in flight
+abbrev pub Drained : Counts → Counts → Type 0
+Drained old new = Dropped (map ticket_of_child old.starts.flying) old new
+
+-- the rows of a basis: what the units give from nothing, up to and with the first bad one
+abbrev pub rows_in : Basis → List Row
+rows_in b = rows_of b.child b.setup b.project b.sources
+
+-- no run has said anything yet
+abbrev pub nothing_said : Project → List (Option (List Directive))
+nothing_said project = map (λ (u : Planned). None) project.plan.planned
+
+-- whatever a build rests on that keeps, before a unit has begun, what the halves of units keep
+abbrev pub Grounding : Answers → Setup → Project → Option ℕ → World → (Basis → Type 0) → Type 0
+Grounding child setup project next w Since = (footing : Footing) (read : Reading) (sources : World) → IsReading read
+    → Keeps (basis footing read child setup project sources) (untouched project) (nothing_said project) next w → Since (basis footing read child setup project sources)
+
+-- what stands after some events: what the halves of units keep; the lines that are due are those of the first rows; and nothing but the folders and records of units that have begun was changed
+pub record Stands (b : Basis) (es : List (Event UnitFault)) (old new : World) : Type 0 where
+  pub done : List (Option (List Directive))
+  pub next : Option ℕ
+  pub keeps : Keeps b (states_in b.project es) done next new
+  pub lines : due (states_in b.project es) ≡ said_from b.project es 0 (take (count_due (states_in b.project es)) (rows_in b))
+  pub only : OnlyOf b.project es old new
+
+-- all units have answered, or all up to and with the first bad one: the summary is that of the rows, all of which are told, and each unit that began did so for what differed of it
+pub record StandsWhole (b : Basis) (es : List (Event UnitFault)) (summary : Summary) (old new : World) : Type 0 where
+  pub stands : Stands b es old new
+  pub all : count_due (states_in b.project es) ≡ length (rows_in b)
+  pub answer : summary ≡ summary_of b.project es (rows_in b)
+  pub began : AllBeganFor b es old
+
+-- a fault ended it
+pub record StandsCut (b : Basis) (es : List (Event UnitFault)) (old new : World) : Type 0 where
+  pub stands : Stands b es old new
+  pub before : List (Event UnitFault)
+  pub begins : IsBeginning before es
+  pub began : AllBeganFor b before old
+
+-- the units came to their end
+pub record EndsWhole {S : Type 0} (tells : Bool) (child : Answers) (Turns : S → List ℕ → List ℕ → Step → S → Type 0) (setup : Setup) (project : Project) (next : Option ℕ) (from last : S) (summary : Summary) (old new : Moment) : Type 0 where
+  pub es : List (Event UnitFault)
+  pub flies : Flies Turns (needs_of project) Anyhow Anything from es last
+  pub finished : is_finished (states_in project es) ≡ true
+  pub started : summary.started ≡ started_keys project es
+  pub lines : Appends old.heard.taken new.heard.taken (due (states_in project es))
+  pub faults : new.heard.faults ≡ old.heard.faults
+  pub mid : Counts
+  pub failures : mid.failures ≡ old.counts.failures
+  pub starts : mid.starts.count ≡ upped (length (started_by es)) old.counts.starts.count
+  pub drained : Drained mid new.counts
+  pub landed : new.counts.starts.flying ≡ []
+  pub most : new.most ≡ max old.most (peak es)
+  pub told : IsTrue tells → Grounding child setup project next old.world (λ b. StandsWhole b es summary old.world new.world)
+
+-- a fault ended them: its cause, and what the sink had heard, are those of the moment before the children in flight were dropped
+pub record EndsCut {S : Type 0} (tells : Bool) (child : Answers) (Turns : S → List ℕ → List ℕ → Step → S → Type 0) (setup : Setup) (project : Project) (next : Option ℕ) (from : S) (fault : BuildFault) (old new : Moment) : Type 0 where
+  pub es : List (Event UnitFault)
+  pub last : S
+  pub flies : Flies Turns (needs_of project) Anyhow Anything from es last
+  pub mid : Moment
+  pub heard : new.heard ≡ mid.heard
+  pub stops : Stops fault project old mid es
+  pub drained : Drained mid.counts new.counts
+  pub landed : new.counts.starts.flying ≡ []
+  pub told : IsTrue tells → Grounding child setup project next old.world (λ b. StandsCut b es old.world new.world)
+
+-- how they end, by the answer
+abbrev pub TurnsEnd : {S : Type 0} → Bool → Answers → (S → List ℕ → List ℕ → Step → S → Type 0) → Setup → Project → Option ℕ → S → S → Result Summary BuildFault → Moment → Moment → Type 0
+TurnsEnd tells child Turns setup project next from last (Ok summary) old new = EndsWhole tells child Turns setup project next from last summary old new
+TurnsEnd tells child Turns setup project next from last (Err fault) old new = EndsCut tells child Turns setup project next from fault old new

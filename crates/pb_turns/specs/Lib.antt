@@ -1,0 +1,6 @@
+pub mod Moments
+pub mod Rows
+pub mod Crew
+pub mod Story
+pub mod Ends
+pub mod Summing

@@ -1,0 +1,166 @@
+-- What has happened while the units of a build began and answered.
+use Rattle.std.specs.Prelude.{◌≡◌, ◌⊎◌, ◌++◌, ◌∷◌, [], ℕ, zero, suc, max, Bool, true, false, List, length, take, Option, Some, None, is_some, IsTrue, slice_get}
+use Rattle.std.specs.FinMap as finite
+use Rattle.std.specs.Io.KnownBytes.{Appends}
+use Rattle.std.specs.List.{AllByRecursion}
+use Rattle.pb_answer.specs.declared.fault.BuildFault.{BuildFault}
+use Rattle.pb_answer.specs.declared.fault.BuildFault.TheVariants.{Plan, Toolchain, Child, Device, Sink, OutOfMemory}
+use Rattle.pb_directive.specs.declared.directive.Directive.{Directive}
+use Rattle.pb_flight.specs.declared.flight.Answer.{Answer}
+use Rattle.pb_flight.specs.declared.flight.State.{State}
+use Rattle.pb_flight.specs.declared.flight.State.TheVariants.{Begun, Answered}
+use Rattle.pb_flight.specs.Events.{Event, Began, started_by, launched_after, states_after, peak}
+use Rattle.pb_flight.specs.Laws.{HasBegun}
+use Rattle.pb_flight.specs.Table.{due_first, due, are_good}
+use Rattle.pb_place.specs.Counts.{up}
+use Rattle.pb_place.specs.World.{World, Answers, from_nothing}
+use Rattle.pb_place.specs.declared.child_in_flight.ChildInFlight.{ChildInFlight}
+use Rattle.pb_project.specs.Targets.{unit_at}
+use Rattle.pb_project.specs.declared.fault.UnitFault.{UnitFault}
+use Rattle.pb_project.specs.declared.project.Project.{Project}
+use Rattle.pb_record.specs.Parts.{IsReading}
+use Rattle.pb_run.specs.Causes.{HasCause}
+use Rattle.pb_run.specs.Halves.{Footing, Basis, basis, outcomes_in, command_in, Keeps, IsBegun}
+use Rattle.pb_run.specs.Outcome.{Outcome, directives_in}
+use Rattle.pb_run.specs.Standing.{records_folder}
+use Rattle.pb_run.specs.Telling.{unit_lines}
+use Rattle.pb_soundness.specs.Apart.{is_of}
+use Rattle.pb_soundness.specs.Records.{Reading, place_of}
+use Rattle.pb_store.specs.Differences.{FirstDifference}
+use Rattle.pb_store.specs.declared.difference.Difference.{Difference}
+use Rattle.pb_turns.specs.Crew.{needs_of, launched_of}
+use Rattle.pb_turns.specs.Moments.{Moment}
+use Rattle.pb_turns.specs.Rows.{fault_in, messages_in, is_started}
+use Rattle.pb_turns.specs.declared.crew.Aloft.{Aloft}
+use Rattle.pb_turns.specs.declared.crew.UnitCrew.{UnitCrew}
+use Rattle.pb_unit.specs.declared.plan.Planned.{Planned}
+
+-- where the units stand after some events
+abbrev pub states_in : Project → List (Event UnitFault) → List (State UnitFault)
+states_in project es = states_after (needs_of project) es
+
+-- What the counters, the sink and the lists say, over every place.
+
+-- so many more
+abbrev pub upped : ℕ → ℕ → ℕ
+upped zero n = n
+upped (suc k) n = up (upped k n)
+
+-- so far no call failed; the lines of the first so many units were handed out; one child was started for each unit that began with one, and no more flew at one time than by the events
+pub record Goes (project : Project) (first now : Moment) (started : List ℕ) (aloft : List Aloft) (es : List (Event UnitFault)) (given : ℕ) : Type 0 where
+  pub started_are : started ≡ started_by es
+  pub launched_are : launched_of aloft ≡ launched_after es
+  pub lines : Appends first.heard.taken now.heard.taken (due_first given (states_in project es))
+  pub faults : now.heard.faults ≡ first.heard.faults
+  pub failures : now.counts.failures ≡ first.counts.failures
+  pub starts : now.counts.starts.count ≡ upped (length (started_by es)) first.counts.starts.count
+  pub most : now.most ≡ max first.most (peak es)
+
+-- a call for the unit of this key failed, or no run number is left for it: it has begun and not answered, and all lines that were due have been handed out
+pub record StopsAt (project : Project) (first now : Moment) (key : List ℕ) (es : List (Event UnitFault)) : Type 0 where
+  pub place : ℕ
+  pub unit : Planned
+  pub there : unit_at project place ≡ Some unit
+  pub named : unit.key ≡ key
+  pub flies : slice_get (states_in project es) place ≡ Some Begun
+  pub lines : Appends first.heard.taken now.heard.taken (due (states_in project es))
+  pub faults : now.heard.faults ≡ first.heard.faults
+
+-- how a fault ends it: at a unit; at the sink, which took the first of the lines that were due; or for want of memory, with the lines of the first units
+abbrev pub StopsBy : BuildFault → Project → Moment → Moment → List (Event UnitFault) → Type 0
+StopsBy (Plan why) project first now es = ⊥
+StopsBy Toolchain project first now es = ⊥
+StopsBy (Child key fault) project first now es = StopsAt project first now key es
+StopsBy (Device key fault) project first now es = StopsAt project first now key es
+StopsBy Sink project first now es = ((n : ℕ) × Appends first.heard.taken now.heard.taken (take n (due (states_in project es)))) × (now.heard.faults ≡ up first.heard.faults)
+StopsBy OutOfMemory project first now es = ((n : ℕ) × Appends first.heard.taken now.heard.taken (due_first n (states_in project es))) × (now.heard.faults ≡ first.heard.faults)
+
+-- with its cause, and one child for each unit that began with one; of the last of them it may have been tried alone
+pub record Stops (fault : BuildFault) (project : Project) (first now : Moment) (es : List (Event UnitFault)) : Type 0 where
+  pub by : StopsBy fault project first now es
+  pub cause : HasCause fault first.counts now.counts
+  pub starts : now.counts.starts.count ≡ upped (length (started_by es)) first.counts.starts.count
+
+-- What the place says, where it tells its maps.
+
+-- the unit at a place gave its outcome from nothing: its fault, its lines, which say whether a child was started for it, and its directives, which are noted
+pub record HasGiven (b : Basis) (es : List (Event UnitFault)) (done : List (Option (List Directive))) (place : ℕ) (answer : Answer UnitFault) : Type 0 where
+  pub unit : Planned
+  pub there : unit_at b.project place ≡ Some unit
+  pub outcome : Outcome
+  pub is : slice_get (outcomes_in b) place ≡ Some outcome
+  pub fault : answer.fault ≡ fault_in outcome
+  pub lines : answer.lines ≡ unit_lines b.project unit (is_started es place) (messages_in outcome)
+  pub noted : slice_get done place ≡ Some (directives_in outcome)
+
+-- what differed first of the unit at a place when it began, in a world with the same sources in which its record's text was as at first; a child was started for it exactly where something differed
+pub record BeganFor (b : Basis) (es : List (Event UnitFault)) (first : World) (place : ℕ) : Type 0 where
+  pub unit : Planned
+  pub there : unit_at b.project place ≡ Some unit
+  pub world : World
+  pub sources_stay : from_nothing b.project.workspace.target world ≡ b.sources
+  pub record_stays : finite.get world.files (place_of (records_folder b.project) unit.key) ≡ finite.get first.files (place_of (records_folder b.project) unit.key)
+  pub difference : Option Difference
+  pub named : FirstDifference b.read (records_folder b.project) unit.key (command_in b place unit) world difference
+  pub started : is_started es place ≡ is_some difference
+
+-- each unit that has begun did so for what differed of it
+abbrev pub AllBeganFor : Basis → List (Event UnitFault) → World → Type 0
+AllBeganFor b es first = (place : ℕ) → HasBegun (states_in b.project es) place → BeganFor b es first place
+
+-- a path is in no folder and no record's place of the units that have begun
+abbrev pub IsOutside : Project → List (Event UnitFault) → List ℕ → Type 0
+IsOutside project es q = (place : ℕ) (u : Planned) → HasBegun (states_in project es) place → unit_at project place ≡ Some u → is_of (records_folder project) u.key q ≡ false
+
+-- only files in the folders and the records' places of these units were changed
+pub record OnlyOf (project : Project) (es : List (Event UnitFault)) (old new : World) : Type 0 where
+  pub variables : new.variables ≡ old.variables
+  pub files : (q : List ℕ) → IsOutside project es q → finite.get new.files q ≡ finite.get old.files q
+
+-- a unit in flight has begun so; all that it reaches is good
+pub record FliesSo (b : Basis) (es : List (Event UnitFault)) (next : Option ℕ) (world : World) (flying : List ChildInFlight) (still : ℕ → Type 0) (a : Aloft) : Type 0 where
+  pub state : slice_get (states_in b.project es) a.unit ≡ Some Begun
+  pub begun_so : IsBegun b a.unit a.begun next world flying still
+  pub reaches : (u : Planned) → unit_at b.project a.unit ≡ Some u → are_good (states_in b.project es) u.reaches ≡ true
+  pub started : is_started es a.unit ≡ is_some a.begun.launched
+
+-- what the halves of units keep; the units in flight; what has answered; and nothing but the folders and records of units that have begun was changed
+pub record Happened (b : Basis) (first : World) (done : List (Option (List Directive))) (aloft : List Aloft) (next : Option ℕ) (es : List (Event UnitFault)) (world : World) (flying : List ChildInFlight) (still : ℕ → Type 0) : Type 0 where
+  pub keeps : Keeps b (states_in b.project es) done next world
+  pub begun : AllByRecursion (FliesSo b es next world flying still) aloft
+  pub gave : (place : ℕ) (answer : Answer UnitFault) → slice_get (states_in b.project es) place ≡ Some (Answered answer) → HasGiven b es done place answer
+  pub only : OnlyOf b.project es first world
+
+-- The story.
+
+-- where no unit has begun
+abbrev pub untouched : Project → List (State UnitFault)
+untouched project = states_in project []
+
+-- whatever a build rests on that kept at first what the halves of units keep: this has happened
+abbrev pub FromFirst : Answers → UnitCrew → Moment → UnitCrew → (Basis → Type 0) → Type 0
+FromFirst child first at c Since = (footing : Footing) (read : Reading) (sources : World) → IsReading read
+    → Keeps (basis footing read child c.setup c.project sources) (untouched c.project) first.done.items first.store.next at.world
+    → Since (basis footing read child c.setup c.project sources)
+
+-- the story of a crew between two moments
+pub record Story (tells : Bool) (child : Answers) (first : UnitCrew) (at : Moment) (c : UnitCrew) (now : Moment) (still : ℕ → Type 0) (es : List (Event UnitFault)) (given : ℕ) : Type 0 where
+  pub setup : c.setup ≡ first.setup
+  pub project : c.project ≡ first.project
+  pub goes : Goes c.project at now c.started.items c.aloft.items es given
+  pub happened : IsTrue tells
+      → FromFirst child first at c (λ b. Happened b at.world c.done.items c.aloft.items c.store.next es now.world now.counts.starts.flying still × AllBeganFor b es at.world)
+
+-- the events before a beginning that failed
+abbrev pub IsBeginning : List (Event UnitFault) → List (Event UnitFault) → Type 0
+IsBeginning before es = (es ≡ before) ⊎ ((unit : ℕ) × (spawned : Bool) × (es ≡ Began unit spawned ∷ before))
+
+-- and where a fault has ended it; of a unit that failed to begin it is not said what differed
+pub record StoryEnds (tells : Bool) (child : Answers) (fault : BuildFault) (first : UnitCrew) (at : Moment) (c : UnitCrew) (now : Moment) (still : ℕ → Type 0) (es : List (Event UnitFault)) : Type 0 where
+  pub setup : c.setup ≡ first.setup
+  pub project : c.project ≡ first.project
+  pub stops : Stops fault c.project at now es
+  pub before : List (Event UnitFault)
+  pub begins : IsBeginning before es
+  pub happened : IsTrue tells
+      → FromFirst child first at c (λ b. Happened b at.world c.done.items c.aloft.items c.store.next es now.world now.counts.starts.flying still × AllBeganFor b before at.world)

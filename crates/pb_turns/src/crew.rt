@@ -1,0 +1,263 @@
+//! The crew of a build's units: it begins them, takes their answers, and hands out their lines.
+
+ghost use Rattle.std.specs.Prelude.{◌≡◌, ◌<◌, ◌++◌, ◌∷◌, [], ℕ, Bool, is_some, vec_len, vec_capacity, List, Option, length, IfOk, OnOk, MatchResult, Some, Contains, slice_get, slice_set, take};
+ghost use Rattle.std.specs.Io.KnownBytes.{Appends};
+ghost use Rattle.std.specs.List.{remove};
+ghost use Rattle.pb_flight.specs.Events.{Event, Began, Gave, MayBegin, IsLawful, flying_after};
+ghost use Rattle.pb_flight.specs.Table.{due_after, count_due, if_so};
+ghost use Rattle.pb_flight.specs.declared.flight.State.TheVariants as state;
+ghost use Rattle.pb_place.specs.Counts.{up};
+ghost use Rattle.pb_project.specs.declared.fault.UnitFault.{UnitFault};
+ghost use Rattle.pb_turns.specs.Crew.{needs_of, places_of, IsManned};
+ghost use Rattle.pb_turns.specs.Moments.{Moment, moment};
+ghost use Rattle.pb_turns.specs.Story.{Story, StoryEnds, states_in};
+
+use pb_answer::BuildFault;
+use pb_data::{Bytes, Text};
+use pb_directive::Directives;
+use pb_flight::{Answer, Crew};
+use pb_place::{Out, Place, write_all};
+use pb_project::{Project, Setup, UnitFault};
+use pb_run::{Begun, Ran, answer_unit, begin_unit, lines_of_unit};
+use pb_store::Store;
+use std::alloc::{AllocError, Global};
+
+/// A unit in flight.
+#[derive(Drop)]
+pub struct Aloft {
+    /// Its place in plan order.
+    pub unit: usize,
+    /// How it has begun.
+    pub begun: Begun,
+}
+
+/// Who begins the units of a build and takes their answers.
+#[derive(Drop)]
+pub struct UnitCrew {
+    /// How things are compiled.
+    pub setup: Setup,
+    /// What is built.
+    pub project: Project,
+    /// The records of the profile's folder.
+    pub store: Store,
+    /// What the runs among the units have said: none of a unit that has not answered, or is bad, or is no run.
+    pub done: Vec<Option<Directives>>,
+    /// The units in flight, in order of beginning.
+    pub aloft: Vec<Aloft>,
+    /// The units for which a child was started, in order.
+    pub started: Vec<usize>,
+}
+
+/// Adds an item where there is room.
+fn put<T: Drop>(items: &mut Vec<T>, item: T)
+    requires { vec_len items.old < vec_capacity items.old }
+    ensures { items.new.items ≡ items.old.items ++ item ∷ [] }
+{
+    match items.push(item) {
+        Ok(()) => {}
+        Err(_) => {}
+    }
+}
+
+/// Makes room for one unit more in flight, and for one more that was started.
+fn make_room(aloft: &mut Vec<Aloft>, started: &mut Vec<usize>) -> Result<(), AllocError>
+    ensures aloft { aloft.new.items ≡ aloft.old.items }
+    ensures started { started.new.items ≡ started.old.items }
+    ensures room { OnOk result (vec_len aloft.new < vec_capacity aloft.new) }
+    ensures more { OnOk result (vec_len started.new < vec_capacity started.new) }
+{
+    aloft.reserve(1)?;
+    started.reserve(1)?;
+    Ok(())
+}
+
+/// Notes a unit that has begun.
+fn note_begun(aloft: &mut Vec<Aloft>, started: &mut Vec<usize>, unit: usize, begun: Begun)
+    requires room { vec_len aloft.old < vec_capacity aloft.old }
+    requires more { vec_len started.old < vec_capacity started.old }
+    ensures aloft { aloft.new.items ≡ aloft.old.items ++ record { unit = unit; begun = begun } ∷ [] }
+    ensures started { started.new.items ≡ started.old.items ++ if_so (is_some begun.launched) unit }
+{
+    let spawned = begun.launched.is_some();
+    put(aloft, Aloft { unit, begun });
+    if spawned {
+        put(started, unit);
+    }
+}
+
+/// Begins a unit of the crew's project, which is not in flight. After a fault it is not in flight either.
+fn begin_at<P: Place>(
+    alloc: Global,
+    crew: &mut UnitCrew,
+    place: &mut P,
+    unit: usize,
+) -> Result<bool, BuildFault>
+    requires manned { IsManned crew.old (P.counts place.old) }
+    requires unit { unit < length (needs_of crew.old.project) }
+    requires grounded { Contains (places_of crew.old.aloft.items) unit → ⊥ }
+    ensures manned { IsManned crew.new (P.counts place.new) }
+    ensures project { crew.new.project ≡ crew.old.project }
+    ensures flying { OnOk result (places_of crew.new.aloft.items ≡ places_of crew.old.aloft.items ++ unit ∷ []) }
+    ensures story { (first : UnitCrew) (at : Moment) (taken : Option (List ℕ)) (faults : ℕ) (es : List (Event UnitFault)) (given : ℕ)
+        → Story P.tells P.child first at crew.old (moment (P.world place.old) (P.counts place.old) (P.most place.old) taken faults) (P.still place.old) es given
+        → places_of crew.old.aloft.items ≡ flying_after es → IsLawful (needs_of crew.old.project) es → given ≡ count_due (states_in crew.old.project es) → MayBegin (needs_of crew.old.project) (states_in crew.old.project es) unit
+        → MatchResult result
+        (λ spawned. Story P.tells P.child first at crew.new (moment (P.world place.new) (P.counts place.new) (P.most place.new) taken faults) (P.still place.new) (Began unit spawned ∷ es) given)
+        (λ e. (spawned : Bool) × StoryEnds P.tells P.child e first at crew.new (moment (P.world place.new) (P.counts place.new) (P.most place.new) taken faults) (P.still place.new) (Began unit spawned ∷ es)) }
+{
+    match make_room(&mut crew.aloft, &mut crew.started) {
+        Ok(()) => {}
+        Err(_) => return Err(BuildFault::OutOfMemory),
+    }
+    let project = &crew.project;
+    let planned = &project.plan.planned.as_slice()[unit];
+    let begun = match begin_unit(
+        alloc,
+        place,
+        &mut crew.store,
+        &crew.setup,
+        project,
+        crew.done.as_slice(),
+        unit,
+        planned,
+    ) {
+        Ok(begun) => begun,
+        Err(fault) => return Err(fault),
+    };
+    let spawned = begun.launched.is_some();
+    note_begun(&mut crew.aloft, &mut crew.started, unit, begun);
+    Ok(spawned)
+}
+
+/// The bytes of a text.
+fn bytes_of(text: Text) -> Bytes
+    ensures { result ≡ text }
+{
+    Bytes::new(text.into_string().into_bytes())
+}
+
+/// Notes what came of a unit, and gives its answer.
+fn note_answer(
+    done: &mut Vec<Option<Directives>>,
+    unit: usize,
+    ran: Ran,
+    lines: Text,
+) -> Answer<UnitFault>
+    requires within { unit < length done.old.items }
+    ensures done { done.new.items ≡ slice_set done.old.items unit ran.directives }
+    ensures answer { result ≡ record { fault = ran.fault; lines = lines } }
+{
+    let fault = ran.fault;
+    done[unit] = ran.directives;
+    let lines = bytes_of(lines);
+    Answer { fault, lines }
+}
+
+/// Takes the answer of the unit at a place of those in flight, which it is no more then, also after a fault.
+fn answer_at<P: Place>(
+    alloc: Global,
+    crew: &mut UnitCrew,
+    place: &mut P,
+    index: usize,
+) -> Result<Answer<UnitFault>, BuildFault>
+    requires manned { IsManned crew.old (P.counts place.old) }
+    requires within { index < length (places_of crew.old.aloft.items) }
+    ensures manned { IsManned crew.new (P.counts place.new) }
+    ensures project { crew.new.project ≡ crew.old.project }
+    ensures flying { places_of crew.new.aloft.items ≡ remove (places_of crew.old.aloft.items) index }
+    ensures story { (first : UnitCrew) (at : Moment) (taken : Option (List ℕ)) (faults : ℕ) (es : List (Event UnitFault)) (given unit : ℕ)
+        → Story P.tells P.child first at crew.old (moment (P.world place.old) (P.counts place.old) (P.most place.old) taken faults) (P.still place.old) es given
+        → places_of crew.old.aloft.items ≡ flying_after es → IsLawful (needs_of crew.old.project) es → given ≡ count_due (states_in crew.old.project es)
+        → slice_get (places_of crew.old.aloft.items) index ≡ Some unit → slice_get (states_in crew.old.project es) unit ≡ Some state.Begun
+        → MatchResult result
+        (λ answer. Story P.tells P.child first at crew.new (moment (P.world place.new) (P.counts place.new) (P.most place.new) taken faults) (P.still place.new) (Gave unit answer ∷ es) given)
+        (λ e. StoryEnds P.tells P.child e first at crew.new (moment (P.world place.new) (P.counts place.new) (P.most place.new) taken faults) (P.still place.new) es) }
+{
+    let Aloft { unit, begun } = crew.aloft.remove(index);
+    let project = &crew.project;
+    let planned = &project.plan.planned.as_slice()[unit];
+    let ran = match answer_unit(
+        alloc,
+        place,
+        &mut crew.store,
+        project,
+        unit,
+        planned,
+        begun,
+    ) {
+        Ok(ran) => ran,
+        Err(fault) => return Err(fault),
+    };
+    let lines = match lines_of_unit(
+        alloc,
+        project,
+        planned,
+        ran.started,
+        ran.messages.as_slice(),
+    ) {
+        Ok(lines) => lines,
+        Err(_) => return Err(BuildFault::OutOfMemory),
+    };
+    Ok(note_answer(&mut crew.done, unit, ran, lines))
+}
+
+/// The places of the units in flight.
+fn places_of(alloc: Global, aloft: &[Aloft]) -> Result<Vec<usize>, AllocError>
+    ensures { IfOk result (λ places. places.items ≡ places_of aloft.now) }
+{
+    let mut places = Vec::new(alloc);
+    for one in aloft {
+        places.push(one.unit)?;
+    }
+    Ok(places)
+}
+
+impl<P: Place, O: Out> Crew<P, O, UnitFault, BuildFault> for UnitCrew {
+    ghost needs = { λ crew. needs_of crew.project };
+
+    ghost flying = { λ crew. places_of crew.aloft.items };
+
+    ghost holds = { λ crew place out. IsManned crew (P.counts place) };
+
+    ghost story = { λ first first_place first_out crew place out es given.
+        Story P.tells P.child first (moment (P.world first_place) (P.counts first_place) (P.most first_place) (O.taken first_out) (O.faults first_out)) crew (moment (P.world place) (P.counts place) (P.most place) (O.taken out) (O.faults out)) (P.still place) es given };
+
+    ghost stops = { λ fault first first_place first_out crew place out es.
+        StoryEnds P.tells P.child fault first (moment (P.world first_place) (P.counts first_place) (P.most first_place) (O.taken first_out) (O.faults first_out)) crew (moment (P.world place) (P.counts place) (P.most place) (O.taken out) (O.faults out)) (P.still place) es };
+
+    fn flying(&self, alloc: Global) -> Result<Vec<usize>, AllocError> {
+        places_of(alloc, self.aloft.as_slice())
+    }
+
+    fn begin(
+        &mut self,
+        alloc: Global,
+        place: &mut P,
+        out: &mut O,
+        unit: usize,
+    ) -> Result<bool, BuildFault> {
+        begin_at(alloc, self, place, unit)
+    }
+
+    fn answer(
+        &mut self,
+        alloc: Global,
+        place: &mut P,
+        out: &mut O,
+        index: usize,
+    ) -> Result<Answer<UnitFault>, BuildFault> {
+        answer_at(alloc, self, place, index)
+    }
+
+    fn tell(&mut self, place: &mut P, out: &mut O, lines: &[u8]) -> Result<(), BuildFault> {
+        if write_all(out, lines) {
+            Ok(())
+        } else {
+            Err(BuildFault::Sink)
+        }
+    }
+
+    fn refused(&self) -> BuildFault {
+        BuildFault::OutOfMemory
+    }
+}

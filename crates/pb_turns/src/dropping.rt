@@ -1,0 +1,49 @@
+//! Children in flight at the end of a build: each is asked for its end, and its answer is dropped.
+
+ghost use Rattle.std.specs.Prelude.{◌≡◌, ◌<◌, [], ℕ, List, length, IsTrue};
+ghost use Rattle.pb_flight.specs.Events.{Event};
+ghost use Rattle.pb_place.specs.Counts.{Counts};
+ghost use Rattle.pb_place.specs.World.{World};
+ghost use Rattle.pb_project.specs.declared.fault.UnitFault.{UnitFault};
+ghost use Rattle.pb_run.specs.Halves.{Basis};
+ghost use Rattle.pb_turns.specs.Crew.{tickets_of, IsManned};
+ghost use Rattle.pb_turns.specs.Ends.{Dropped, Drained};
+ghost use Rattle.pb_turns.specs.Story.{Happened};
+
+use crate::crew::UnitCrew;
+use pb_place::Place;
+use pb_run::drop_unit;
+use std::alloc::Global;
+
+/// Drops the unit that was begun first of those in flight.
+fn drop_first<P: Place>(alloc: Global, crew: &mut UnitCrew, place: &mut P)
+    requires manned { IsManned crew.old (P.counts place.old) }
+    requires some { 0 < length crew.old.aloft.items }
+    ensures manned { IsManned crew.new (P.counts place.new) }
+    ensures less { length crew.new.aloft.items < length crew.old.aloft.items }
+    ensures same { crew.new ≡ record crew.old { aloft = crew.new.aloft } }
+    ensures most { P.most place.new ≡ P.most place.old }
+    ensures dropped { (new : Counts) → Dropped (tickets_of crew.new.aloft.items) (P.counts place.new) new → Dropped (tickets_of crew.old.aloft.items) (P.counts place.old) new }
+    ensures happened { (b : Basis) (first : World) (es : List (Event UnitFault)) → IsTrue P.tells → b.project ≡ crew.old.project
+        → Happened b first crew.old.done.items crew.old.aloft.items crew.old.store.next es (P.world place.old) (P.counts place.old).starts.flying (P.still place.old)
+        → Happened b first crew.new.done.items crew.new.aloft.items crew.new.store.next es (P.world place.new) (P.counts place.new).starts.flying (P.still place.new) }
+{
+    let aloft = crew.aloft.remove(0);
+    drop_unit(alloc, place, &aloft.begun);
+}
+
+/// Drops all units in flight, in order of beginning. No child is in flight then, and no other call was made.
+pub(crate) fn drain<P: Place>(alloc: Global, crew: &mut UnitCrew, place: &mut P)
+    requires manned { IsManned crew.old (P.counts place.old) }
+    ensures same { crew.new ≡ record crew.old { aloft = crew.new.aloft } }
+    ensures landed { (P.counts place.new).starts.flying ≡ [] }
+    ensures drained { Drained (P.counts place.old) (P.counts place.new) }
+    ensures most { P.most place.new ≡ P.most place.old }
+    ensures happened { (b : Basis) (first : World) (es : List (Event UnitFault)) → IsTrue P.tells → b.project ≡ crew.old.project
+        → Happened b first crew.old.done.items crew.old.aloft.items crew.old.store.next es (P.world place.old) (P.counts place.old).starts.flying (P.still place.old)
+        → Happened b first crew.new.done.items crew.new.aloft.items crew.new.store.next es (P.world place.new) (P.counts place.new).starts.flying (P.still place.new) }
+{
+    while !crew.aloft.is_empty() {
+        drop_first(alloc, crew, place);
+    }
+}

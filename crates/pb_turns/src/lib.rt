@@ -1,0 +1,10 @@
+//! The units of a build, begun and answered by turns.
+#![tactic(auto)]
+
+pub mod crew;
+mod dropping;
+mod summing;
+mod turns;
+
+pub use crew::{Aloft, UnitCrew};
+pub use turns::run_turns;

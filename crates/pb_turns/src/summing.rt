@@ -1,0 +1,160 @@
+//! The summary of a build's units.
+
+ghost use Rattle.std.specs.Prelude.{◌≡◌, ◌++◌, ◌≤◌, ◌<◌, ℕ, List, length, take, IfOk, IfSome, OnOk, Some, None, slice_get};
+ghost use Rattle.pb_run.specs.Halves.{key_in};
+ghost use Rattle.pb_turns.specs.Rows.{keyed};
+ghost use Rattle.pb_turns.specs.Summing.{noted_of, fault_of, with_key, bad_told, keys_at, count_told, summary_by};
+
+use pb_answer::Summary;
+use pb_data::{Items, Text, TryCopy};
+use pb_directive::Directives;
+use pb_flight::State;
+use pb_project::{Project, UnitFault};
+use pb_unit::Planned;
+use std::alloc::{AllocError, Global};
+
+/// Notes the key of the unit at a place.
+fn note_key(
+    alloc: Global,
+    keys: &mut Items<Text>,
+    units: &[Planned],
+    place: usize,
+) -> Result<(), AllocError>
+    ensures { OnOk result (keys.new ≡ keys.old ++ key_in (slice_get units.now place)) }
+{
+    match units.get(place) {
+        None => Ok(()),
+        Some(unit) => {
+            keys.push(unit.key.copy(alloc)?)?;
+            Ok(())
+        }
+    }
+}
+
+/// The keys of the units at these places.
+fn keys_at(alloc: Global, units: &[Planned], places: &[usize]) -> Result<Items<Text>, AllocError>
+    ensures { IfOk result (λ keys. keys ≡ keys_at units.now places.now) }
+{
+    let mut keys = Items::new(alloc);
+    for place in places {
+        note_key(alloc, &mut keys, units, *place)?;
+    }
+    Ok(keys)
+}
+
+/// Notes the directives of a run.
+fn note_directives(
+    alloc: Global,
+    noted: &mut Items<(Text, Directives)>,
+    key: &Text,
+    directives: &Option<Directives>,
+) -> Result<(), AllocError>
+    ensures { OnOk result (noted.new ≡ noted.old ++ keyed key.now directives.now) }
+{
+    match directives {
+        None => Ok(()),
+        Some(directives) => {
+            noted.push((key.copy(alloc)?, directives.copy(alloc)?))?;
+            Ok(())
+        }
+    }
+}
+
+/// The keys and the directives of the runs among the first so many units.
+fn noted_of(
+    alloc: Global,
+    units: &[Planned],
+    done: &[Option<Directives>],
+    count: usize,
+) -> Result<Items<(Text, Directives)>, AllocError>
+    requires long { length units.now ≡ length done.now }
+    requires within { count ≤ length units.now }
+    ensures { IfOk result (λ noted. noted ≡ noted_of (take count units.now) (take count done.now)) }
+{
+    let mut noted = Items::new(alloc);
+    for index in 0..count {
+        note_directives(alloc, &mut noted, &units[index].key, &done[index])?;
+    }
+    Ok(noted)
+}
+
+/// The fault of a unit that has answered and is bad.
+fn fault_of(state: State<UnitFault>) -> Option<UnitFault>
+    ensures { result ≡ fault_of state }
+{
+    match state {
+        State::Untouched => None,
+        State::Begun => None,
+        State::Answered(answer) => answer.fault,
+    }
+}
+
+/// A key with a fault, if there is one.
+fn with_key(alloc: Global, key: &Text, fault: Option<UnitFault>) -> Result<Option<(Text, UnitFault)>, AllocError>
+    ensures { IfOk result (λ bad. bad ≡ with_key key.now fault) }
+{
+    match fault {
+        None => Ok(None),
+        Some(fault) => Ok(Some((key.copy(alloc)?, fault))),
+    }
+}
+
+/// The key and the fault of the unit at a place.
+fn bad_at(
+    alloc: Global,
+    units: &[Planned],
+    states: Vec<State<UnitFault>>,
+    place: usize,
+) -> Result<Option<(Text, UnitFault)>, AllocError>
+    requires long { length units.now ≡ length states.items }
+    ensures { IfOk result (λ bad. bad ≡ bad_told units.now states.items (Some place)) }
+{
+    if place >= units.len() {
+        return Ok(None);
+    }
+    let mut states = states;
+    let state = states.swap_remove(place);
+    with_key(alloc, &units[place].key, fault_of(state))
+}
+
+/// How many units are told, from the start of plan order: all, or all up to and with the first bad one.
+fn count_told(units: usize, bad: Option<usize>) -> usize
+    requires { IfSome bad (λ place. place < units) }
+    ensures { result ≡ count_told units bad }
+{
+    match bad {
+        None => units,
+        Some(place) => place + 1,
+    }
+}
+
+/// The summary of units that came to their end, by where each stands, what the runs among them have said, the places
+/// of those that were started and that of the first bad one. The one fault is want of memory.
+pub(crate) fn summary_of(
+    alloc: Global,
+    units: &[Planned],
+    states: Vec<State<UnitFault>>,
+    done: &[Option<Directives>],
+    started: &[usize],
+    first_bad: Option<usize>,
+) -> Result<Summary, AllocError>
+    requires long { length units.now ≡ length states.items }
+    requires noted { length units.now ≡ length done.now }
+    requires within { IfSome first_bad (λ place. place < length units.now) }
+    ensures { IfOk result (λ summary. summary ≡ summary_by units.now states.items done.now started.now first_bad) }
+{
+    let count = count_told(units.len(), first_bad);
+    let started = keys_at(alloc, units, started)?;
+    let directives = noted_of(alloc, units, done, count)?;
+    let bad = match first_bad {
+        None => None,
+        Some(place) => bad_at(alloc, units, states, place)?,
+    };
+    let success = bad.is_none();
+    Ok(Summary {
+        success,
+        bad,
+        started,
+        directives,
+    })
+}

@@ -1,0 +1,149 @@
+//! The units of a project, by turns.
+
+ghost use Rattle.std.specs.Prelude.{◌≡◌, [], ℕ, List, IfOk, length, map, None};
+ghost use Rattle.pb_flight.specs.Table.{fresh, first_bad};
+ghost use Rattle.pb_run.specs.Standing.{IsInOrder, records_folder};
+ghost use Rattle.pb_turns.specs.Crew.{needs_of};
+ghost use Rattle.pb_turns.specs.Ends.{TurnsEnd, nothing_said};
+ghost use Rattle.pb_turns.specs.Moments.{moment};
+ghost use Rattle.pb_turns.specs.Summing.{summary_by};
+
+use crate::crew::UnitCrew;
+use crate::dropping::drain;
+use crate::summing::summary_of;
+use pb_answer::{BuildFault, Summary};
+use pb_data::Items;
+use pb_directive::Directives;
+use pb_flight::{Flight, Turn, drive};
+use pb_place::{Out, Place};
+use pb_project::{Project, Setup, UnitFault};
+use pb_store::Store;
+use pb_unit::Planned;
+use std::alloc::{AllocError, Global};
+
+/// The same places.
+fn copied(alloc: Global, places: &[usize]) -> Result<Items<usize>, AllocError>
+    ensures { IfOk result (λ items. items ≡ places.now) }
+{
+    let mut items = Items::new(alloc);
+    for place in places {
+        items.push(*place)?;
+    }
+    Ok(items)
+}
+
+/// What each unit needs.
+fn needs_of(alloc: Global, units: &[Planned]) -> Result<Items<Items<usize>>, AllocError>
+    ensures { IfOk result (λ needs. needs ≡ map (λ (u : Planned). u.needs) units.now) }
+{
+    let mut needs = Items::new(alloc);
+    for unit in units {
+        needs.push(copied(alloc, unit.needs.as_slice())?)?;
+    }
+    Ok(needs)
+}
+
+/// Nothing said yet, for each unit.
+fn nothing_said(alloc: Global, units: &[Planned]) -> Result<Vec<Option<Directives>>, AllocError>
+    ensures { IfOk result (λ done. done.items ≡ map (λ (u : Planned). None) units.now) }
+{
+    let mut done = Vec::new(alloc);
+    for _ in units {
+        done.push(None)?;
+    }
+    Ok(done)
+}
+
+/// A flight of a project's units on which nothing has begun.
+fn flight_of(alloc: Global, project: &Project) -> Result<Flight<UnitFault>, AllocError>
+    ensures { IfOk result (λ flight. flight ≡ fresh (needs_of project.now)) }
+{
+    let needs = needs_of(alloc, project.plan.planned.as_slice())?;
+    Flight::new(alloc, needs)
+}
+
+/// A crew with no unit in flight.
+fn crew_of(
+    alloc: Global,
+    setup: Setup,
+    project: Project,
+    store: Store,
+) -> Result<UnitCrew, AllocError>
+    ensures { IfOk result (λ crew. (crew.setup ≡ setup) × (crew.project ≡ project) × (crew.store ≡ store) × (crew.done.items ≡ nothing_said project) × (crew.aloft.items ≡ []) × (crew.started.items ≡ [])) }
+{
+    let done = match nothing_said(alloc, project.plan.planned.as_slice()) {
+        Ok(done) => done,
+        Err(refused) => return Err(refused),
+    };
+    Ok(UnitCrew {
+        setup,
+        project,
+        store,
+        done,
+        aloft: Vec::new(alloc),
+        started: Vec::new(alloc),
+    })
+}
+
+/// The summary of the units of a crew that came to their end, by the flight. The one fault is want of memory.
+fn sum_up(
+    alloc: Global,
+    crew: &UnitCrew,
+    flight: Flight<UnitFault>,
+) -> Result<Summary, AllocError>
+    requires long { length flight.states ≡ length crew.now.project.plan.planned }
+    requires noted { length crew.now.done.items ≡ length crew.now.project.plan.planned }
+    ensures { IfOk result (λ summary. summary ≡ summary_by crew.now.project.plan.planned flight.states crew.now.done.items crew.now.started.items (first_bad flight.states)) }
+{
+    let bad = flight.first_bad();
+    let states = flight.into_states();
+    let project = &crew.project;
+    summary_of(
+        alloc,
+        project.plan.planned.as_slice(),
+        states,
+        crew.done.as_slice(),
+        crew.started.as_slice(),
+        bad,
+    )
+}
+
+/// Runs the units of a project that is in order, by the steps that a turn says, until all have answered, or all up to
+/// and with the first bad one. Children that are in flight then are asked for their ends, in order of beginning, and
+/// their answers dropped; so too after a fault, with no other call of the place.
+///
+/// Faults: Child, where a child cannot be spawned or gives no answer; Device, where a file, a folder or a variable
+/// cannot be read, a record or a file cannot be written or removed, or no run number is left; Sink; OutOfMemory.
+pub fn run_turns<P: Place, O: Out, T: Turn>(
+    alloc: Global,
+    place: &mut P,
+    out: &mut O,
+    setup: Setup,
+    project: Project,
+    store: Store,
+    turn: &mut T,
+) -> Result<Summary, BuildFault>
+    requires order { IsInOrder project }
+    requires folder { store.folder ≡ records_folder project }
+    requires none { (P.counts place.old).starts.flying ≡ [] }
+    ensures { TurnsEnd P.tells P.child T.turns setup project store.next turn.old turn.new result
+        (moment (P.world place.old) (P.counts place.old) (P.most place.old) (O.taken out.old) (O.faults out.old)) (moment (P.world place.new) (P.counts place.new) (P.most place.new) (O.taken out.new) (O.faults out.new)) }
+{
+    let mut flight = match flight_of(alloc, &project) {
+        Ok(flight) => flight,
+        Err(_) => return Err(BuildFault::OutOfMemory),
+    };
+    let mut crew = match crew_of(alloc, setup, project, store) {
+        Ok(crew) => crew,
+        Err(_) => return Err(BuildFault::OutOfMemory),
+    };
+    let driven = drive(alloc, &mut crew, place, out, &mut flight, turn);
+    drain(alloc, &mut crew, place);
+    match driven {
+        Ok(()) => match sum_up(alloc, &crew, flight) {
+            Ok(summary) => Ok(summary),
+            Err(_) => Err(BuildFault::OutOfMemory),
+        },
+        Err(fault) => Err(fault),
+    }
+}
