@@ -7,3 +7,7 @@ pub mod Answered
 pub mod Counting
 pub mod Beginning
 pub mod Answering
+pub mod Landing
+pub mod Noting
+pub mod Telling
+pub mod Finishing

@@ -22,13 +22,11 @@ fn note_key(
 ) -> Result<(), AllocError>
     ensures { OnOk result (keys.new ≡ keys.old ++ key_in (slice_get units.now place)) }
 {
-    match units.get(place) {
-        None => Ok(()),
-        Some(unit) => {
-            keys.push(unit.key.copy(alloc)?)?;
-            Ok(())
-        }
+    if place >= units.len() {
+        return Ok(());
     }
+    keys.push(units[place].key.copy(alloc)?)?;
+    Ok(())
 }
 
 /// The keys of the units at these places.

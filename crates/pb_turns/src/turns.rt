@@ -62,29 +62,6 @@ fn flight_of(alloc: Global, project: &Project) -> Result<Flight<UnitFault>, Allo
     Flight::new(alloc, needs)
 }
 
-/// A crew with no unit in flight.
-fn crew_of(
-    alloc: Global,
-    setup: Setup,
-    project: Project,
-    store: Store,
-) -> Result<UnitCrew, AllocError>
-    ensures { IfOk result (λ crew. (crew.setup ≡ setup) × (crew.project ≡ project) × (crew.store ≡ store) × (crew.done.items ≡ nothing_said project) × (crew.aloft.items ≡ []) × (crew.started.items ≡ [])) }
-{
-    let done = match nothing_said(alloc, project.plan.planned.as_slice()) {
-        Ok(done) => done,
-        Err(refused) => return Err(refused),
-    };
-    Ok(UnitCrew {
-        setup,
-        project,
-        store,
-        done,
-        aloft: Vec::new(alloc),
-        started: Vec::new(alloc),
-    })
-}
-
 /// The summary of the units of a crew that came to their end, by the flight. The one fault is want of memory.
 fn sum_up(
     alloc: Global,
@@ -133,9 +110,17 @@ pub fn run_turns<P: Place, O: Out, T: Turn>(
         Ok(flight) => flight,
         Err(_) => return Err(BuildFault::OutOfMemory),
     };
-    let mut crew = match crew_of(alloc, setup, project, store) {
-        Ok(crew) => crew,
+    let done = match nothing_said(alloc, project.plan.planned.as_slice()) {
+        Ok(done) => done,
         Err(_) => return Err(BuildFault::OutOfMemory),
+    };
+    let mut crew = UnitCrew {
+        setup,
+        project,
+        store,
+        done,
+        aloft: Vec::new(alloc),
+        started: Vec::new(alloc),
     };
     let driven = drive(alloc, &mut crew, place, out, &mut flight, turn);
     drain(alloc, &mut crew, place);

@@ -1,0 +1,268 @@
+-- How the units of a project end, from the story of their crew.
+use Rattle.std.proofs.Common.{◌≡◌, ◌∙◌, ◌++◌, ◌+◌, ◌<◌, Bool, true, false, List, [], ◌∷◌, ℕ, zero, suc, Option, Some, None, Contains, IsTrue, Ok, Err, refl, sym, ap, subst, inl, arith, slice_get, map, take, length, is_none, max}
+use Rattle.std.proofs.lemmas.List.{length-map}
+use Rattle.std.proofs.lemmas.Bool.{false≢true}
+use Rattle.std.specs.Io.KnownBytes.{Appends}
+use Rattle.std.specs.List.{AllByRecursion, flat_map}
+use Rattle.pb_answer.specs.declared.fault.BuildFault.{BuildFault}
+use Rattle.pb_answer.specs.declared.fault.BuildFault.TheVariants.{OutOfMemory}
+use Rattle.pb_answer.specs.declared.summary.Summary.{Summary}
+use Rattle.pb_directive.specs.declared.directive.Directive.{Directive}
+use Rattle.pb_flight.specs.declared.flight.Answer.{Answer}
+use Rattle.pb_flight.specs.declared.flight.State.{State}
+use Rattle.pb_flight.specs.declared.flight.State.TheVariants.{Untouched, Begun, Answered}
+use Rattle.pb_flight.specs.declared.turn.Step.{Step}
+use Rattle.pb_flight.specs.Driving.{IsFlown}
+use Rattle.pb_flight.specs.Events.{Event, Began, Gave, Anything, started_by, states_after}
+use Rattle.pb_flight.specs.Steps.{Flies, nothing, Anyhow}
+use Rattle.pb_flight.specs.Laws.{HasBegun, IsInPlanOrder}
+use Rattle.pb_flight.specs.Table.{Table, is_untouched, due, count_due, is_finished, first_bad}
+use Rattle.pb_flight.proofs.Lists.{injective, clash, length_set}
+use Rattle.pb_place.specs.World.{World, Answers}
+use Rattle.pb_place.specs.declared.child_in_flight.ChildInFlight.{ChildInFlight}
+use Rattle.pb_project.specs.declared.fault.UnitFault.{UnitFault}
+use Rattle.pb_project.specs.declared.project.Project.{Project}
+use Rattle.pb_project.specs.declared.project.Setup.{Setup}
+use Rattle.pb_record.specs.Parts.{IsReading}
+use Rattle.pb_run.specs.Halves.{Footing, Basis, basis, Keeps, outcomes_in}
+use Rattle.pb_run.specs.Standing.{IsInOrder}
+use Rattle.pb_run.specs.Telling.{unit_lines}
+use Rattle.pb_run.proofs.Shown.{each_of}
+use Rattle.pb_soundness.specs.Records.{Reading}
+use Rattle.pb_turns.specs.Crew.{needs_of, launched_of, ticket_of_child}
+use Rattle.pb_turns.specs.Ends.{rows_in, nothing_said, Stands, StandsWhole, StandsCut, EndsWhole, EndsCut, Grounding, Dropped, Drained}
+use Rattle.pb_turns.specs.Moments.{Moment, Heard}
+use Rattle.pb_turns.specs.Rows.{summary_of, started_keys, is_started, messages_in, bad_of, directives_told}
+use Rattle.pb_turns.specs.Story.{states_in, untouched, Goes, Stops, Happened, AllBeganFor, Story, StoryEnds, OnlyOf}
+use Rattle.pb_turns.specs.Summing.{summary_by, bad_told, noted_of, count_told, keys_at}
+use Rattle.pb_turns.specs.declared.crew.Aloft.{Aloft}
+use Rattle.pb_turns.specs.declared.crew.UnitCrew.{UnitCrew}
+use Rattle.pb_turns.proofs.Counting.{appends_none, stops_refused}
+use Rattle.pb_turns.proofs.States.{due_all}
+use Rattle.pb_turns.proofs.Telling.{AllTold, Ended, due_told, ended_of, success_of}
+use Rattle.pb_unit.specs.declared.plan.Planned.{Planned}
+
+-- Needs come earlier in plan order.
+
+need_before : (us : List Planned) (i u v : ℕ) (wanted : List ℕ) → ((k : ℕ) (x : Planned) → slice_get us k ≡ Some x → AllByRecursion (λ place. place < i + k) x.needs) → slice_get (map (λ (x : Planned). x.needs) us) u ≡ Some wanted → Contains wanted v → v < i + u
+need_before [] i u v wanted each at has = absurd (clash at)
+need_before (x ∷ us) i zero v wanted each at has = each_of (λ place. place < i + 0) wanted v (subst (AllByRecursion (λ place. place < i + 0)) (injective at) (each 0 x refl)) has
+need_before (x ∷ us) i (suc u) v wanted each at has =
+    let less : v < suc i + u = need_before us (suc i) u v wanted (λ k y at_y. subst (λ n. AllByRecursion (λ place. place < n) y.needs) (shift k) (each (suc k) y at_y)) at has in
+    omega (arith, less)
+  where
+    shift : (k : ℕ) → i + suc k ≡ suc i + k
+    shift k = omega arith
+
+pub in_plan_order : (project : Project) → IsInOrder project → IsInPlanOrder (needs_of project)
+in_plan_order project order u v wanted at has =
+    let less : v < 0 + u = need_before project.plan.planned 0 u v wanted (λ k x at_x. subst (λ n. AllByRecursion (λ place. place < n) x.needs) (none k) (order.needs k x at_x)) at has in
+    omega (arith, less)
+  where
+    none : (k : ℕ) → k ≡ 0 + k
+    none k = omega arith
+
+-- Nothing has begun.
+
+untouched_at : (needs : List (List ℕ)) (place : ℕ) (s : State UnitFault) → slice_get (map (λ _. Untouched) needs) place ≡ Some s → s ≡ Untouched
+untouched_at [] place s at = absurd (clash at)
+untouched_at (n ∷ needs) zero s at = sym (injective at)
+untouched_at (n ∷ needs) (suc place) s at = untouched_at needs place s at
+
+no_answer : (answer : Answer UnitFault) → Answered answer ≡ Untouched → ⊥
+no_answer answer e = cc
+
+none_begun : (project : Project) (place : ℕ) → HasBegun (untouched project) place → ⊥
+none_begun project place (s, at, begun) = false≢true (sym begun ∙ ap is_untouched (untouched_at (needs_of project) place s at))
+
+pub story_first : (tells : Bool) (child : Answers) (c : UnitCrew) (at : Moment) (still : ℕ → Type 0) → c.aloft.items ≡ [] → c.started.items ≡ [] → Story tells child c at c at still [] 0
+story_first tells child c at still aloft started = record {
+  setup = refl;
+  project = refl;
+  goes = record {
+    started_are = started;
+    launched_are = ap launched_of aloft;
+    lines = appends_none at.heard.taken;
+    faults = refl;
+    failures = refl;
+    starts = refl;
+    most = omega arith;
+  };
+  happened = λ t f r s reading keeps. (
+    record {
+      keeps = keeps;
+      begun = subst (AllByRecursion _) (sym aloft) tt;
+      gave = λ place answer is. absurd (no_answer answer (untouched_at (needs_of c.project) place (Answered answer) is));
+      only = record { variables = refl; files = λ q outside. refl };
+    },
+    λ place has. absurd (none_begun c.project place has),
+  );
+}
+
+-- What stands.
+
+module _ (b : Basis) (first : World) (done : List (Option (List Directive))) (aloft : List Aloft) (next : Option ℕ) (es : List (Event UnitFault)) (w : World) (flying : List ChildInFlight) (still : ℕ → Type 0) (h : Happened b first done aloft next es w flying still) where
+  all_told : AllTold b.project es 0 b.project.plan.planned (outcomes_in b) done (states_in b.project es)
+  all_told k answer at =
+      let g = h.gave k answer at in
+      record {
+        unit = g.unit;
+        there = g.there;
+        outcome = g.outcome;
+        is = g.is;
+        fault = g.fault;
+        lines = λ place same. let e : k ≡ place = omega (arith, same) in g.lines ∙ ap (λ n. unit_lines b.project g.unit (is_started es n) (messages_in g.outcome)) e;
+        noted = g.noted;
+      }
+
+  pub stands : Stands b es first w
+  stands = record { done = done; next = next; keeps = h.keeps; lines = due_told b.project es 0 b.project.plan.planned (outcomes_in b) done (states_in b.project es) all_told; only = h.only }
+
+  module _ (finished : is_finished (states_in b.project es) ≡ true) (long : length (states_in b.project es) ≡ length b.project.plan.planned) (began : AllBeganFor b es first) where
+    ended : Ended b.project es b.project.plan.planned (outcomes_in b) done (states_in b.project es)
+    ended = ended_of b.project es 0 b.project.plan.planned (outcomes_in b) done (states_in b.project es) long finished all_told
+
+    bad_is : bad_told b.project.plan.planned (states_in b.project es) (first_bad (states_in b.project es)) ≡ bad_of (rows_in b)
+    bad_is = ended.bad
+
+    noted_is : noted_of (take (count_told (length b.project.plan.planned) (first_bad (states_in b.project es))) b.project.plan.planned) (take (count_told (length b.project.plan.planned) (first_bad (states_in b.project es))) done) ≡ directives_told (rows_in b)
+    noted_is = ap (λ n. noted_of (take n b.project.plan.planned) (take n done)) ended.count ∙ ended.noted
+
+    summary_so : summary_by b.project.plan.planned (states_in b.project es) done (started_by es) (first_bad (states_in b.project es)) ≡ summary_of b.project es (rows_in b)
+    summary_so =
+        ap (λ bad. with_bad bad (noted_of (take (count_told (length b.project.plan.planned) (first_bad (states_in b.project es))) b.project.plan.planned) (take (count_told (length b.project.plan.planned) (first_bad (states_in b.project es))) done))) bad_is
+        ∙ ap (λ told. with_bad (bad_of (rows_in b)) told) noted_is
+        ∙ ap (λ well. summary_with well (bad_of (rows_in b)) (directives_told (rows_in b))) (success_of (bad_of (rows_in b)))
+      where
+        summary_with : Bool → Option (List ℕ × UnitFault) → List (List ℕ × List Directive) → Summary
+        summary_with well bad told = record { success = well; bad = bad; started = started_keys b.project es; directives = told }
+
+        with_bad : Option (List ℕ × UnitFault) → List (List ℕ × List Directive) → Summary
+        with_bad bad told = record { success = is_none bad; bad = bad; started = started_keys b.project es; directives = told }
+
+    pub stands_whole : (started : List ℕ) → started ≡ started_by es → (summary : Summary) → summary ≡ summary_by b.project.plan.planned (states_in b.project es) done started (first_bad (states_in b.project es)) → StandsWhole b es summary first w
+    stands_whole started same summary is = record {
+      stands = stands;
+      all = ended.all;
+      answer = is ∙ ap (λ places. summary_by b.project.plan.planned (states_in b.project es) done places (first_bad (states_in b.project es))) same ∙ summary_so;
+      began = began;
+    }
+
+length_states : (needs : List (List ℕ)) (es : List (Event UnitFault)) → length (states_after needs es) ≡ length needs
+length_states needs [] = length-map needs (λ _. Untouched)
+length_states needs (Began u spawned ∷ es) = length_set (states_after needs es) u Begun ∙ length_states needs es
+length_states needs (Gave u answer ∷ es) = length_set (states_after needs es) u (Answered answer) ∙ length_states needs es
+
+-- The ends.
+
+module _ {S : Type 0} (tells : Bool) (child : Answers) (Turns : S → List ℕ → List ℕ → Step → S → Type 0) (first c d : UnitCrew) (from last : S) (at mid new : Moment) (still still' : ℕ → Type 0) (es : List (Event UnitFault))
+  (said : first.done.items ≡ nothing_said first.project) (drained : Drained mid.counts new.counts) (landed : new.counts.starts.flying ≡ []) (heard : new.heard ≡ mid.heard) (same : d ≡ record c { aloft = d.aloft })
+  (happened : (b : Basis) (fw : World) (events : List (Event UnitFault)) → IsTrue tells → b.project ≡ c.project → Happened b fw c.done.items c.aloft.items c.store.next events mid.world mid.counts.starts.flying still
+    → Happened b fw d.done.items d.aloft.items d.store.next events new.world new.counts.starts.flying still') where
+  -- what a basis keeps at first
+  abbrev Since : (Basis → Type 0) → Setup → Project → Type 0
+  Since Stand setup project = IsTrue tells → (f : Footing) (r : Reading) (sources : World) → IsReading r → Keeps (basis f r child setup project sources) (untouched project) first.done.items first.store.next at.world → Stand (basis f r child setup project sources)
+
+  since_first : (Stand : Basis → Type 0) → c.setup ≡ first.setup → c.project ≡ first.project → Since Stand c.setup c.project → IsTrue tells → Grounding child first.setup first.project first.store.next at.world Stand
+  since_first Stand setup project since t f r sources reading keeps =
+      subst (λ (s : Setup). Since Stand s first.project) setup (subst (λ (p : Project). Since Stand c.setup p) project since) t f r sources reading
+      (subst (λ ds. Keeps (basis f r child first.setup first.project sources) (untouched first.project) ds first.store.next at.world) (sym said) keeps)
+
+  pub ends_cut : (fault : BuildFault) → Flies Turns (needs_of first.project) Anyhow Anything from es last → StoryEnds tells child fault first at c mid still es → EndsCut tells child Turns first.setup first.project first.store.next from fault at new
+  ends_cut fault flies ends = record {
+    es = es;
+    last = last;
+    flies = flies;
+    mid = mid;
+    heard = heard;
+    stops = subst (λ (p : Project). Stops fault p at mid es) ends.project ends.stops;
+    drained = drained;
+    landed = landed;
+    told = since_first (λ b. StandsCut b es at.world new.world) ends.setup ends.project (λ t f r sources reading keeps.
+        let (h, began) = ends.happened t f r sources reading keeps in
+        record {
+          stands = stands (basis f r child c.setup c.project sources) at.world d.done.items d.aloft.items d.store.next es new.world new.counts.starts.flying still' (happened (basis f r child c.setup c.project sources) at.world es t refl h);
+          before = ends.before;
+          begins = ends.begins;
+          began = began;
+        });
+  }
+
+  -- memory is refused for the summary
+  pub untold : (given : ℕ) → Story tells child first at c mid still es given → StoryEnds tells child OutOfMemory first at c mid still es
+  untold given s = record {
+    setup = s.setup;
+    project = s.project;
+    stops = stops_refused c.project at mid mid c.started.items c.aloft.items es given s.goes refl refl refl;
+    before = es;
+    begins = inl refl;
+    happened = s.happened;
+  }
+
+  module _ (table : Table UnitFault) (flying : List ℕ) (flown : IsFlown Turns (needs_of first.project) from es last table flying) (story : Story tells child first at c mid still es table.given) (finished : is_finished table.states ≡ true)
+    (most : new.most ≡ mid.most) (summary : Summary) (is : summary ≡ summary_by d.project.plan.planned table.states d.done.items d.started.items (first_bad table.states)) where
+    states_are : table.states ≡ states_in c.project es
+    states_are = flown.states_are ∙ ap (λ (p : Project). states_in p es) (sym story.project)
+
+    project_is : d.project ≡ c.project
+    project_is = ap (λ (x : UnitCrew). x.project) same
+
+    started_is : d.started.items ≡ started_by es
+    started_is = ap (λ (x : UnitCrew). x.started.items) same ∙ story.goes.started_are
+
+    now_is : summary ≡ summary_by c.project.plan.planned (states_in c.project es) d.done.items d.started.items (first_bad (states_in c.project es))
+    now_is = is ∙ ap (λ (p : Project). summary_by p.plan.planned table.states d.done.items d.started.items (first_bad table.states)) project_is
+        ∙ ap (λ ss. summary_by c.project.plan.planned ss d.done.items d.started.items (first_bad ss)) states_are
+
+    keys_are : summary.started ≡ started_keys first.project es
+    keys_are = ap (λ (s : Summary). s.started) now_is ∙ ap (λ places. keys_at c.project.plan.planned places) started_is ∙ ap (λ (p : Project). started_keys p es) story.project
+
+    lines_are : Appends at.heard.taken new.heard.taken (due (states_in first.project es))
+    lines_are =
+        subst (λ (x : Heard). Appends at.heard.taken x.taken (due (states_in first.project es))) (sym heard)
+        (subst (Appends at.heard.taken mid.heard.taken) (due_all table.given (states_in c.project es) (flown.given_are ∙ ap count_due states_are) ∙ ap (λ (p : Project). due (states_in p es)) story.project) story.goes.lines)
+
+    pub ends_whole : EndsWhole tells child Turns first.setup first.project first.store.next from last summary at new
+    ends_whole = record {
+      es = es;
+      flies = flown.flies;
+      finished = ap is_finished (sym flown.states_are) ∙ finished;
+      started = keys_are;
+      lines = lines_are;
+      faults = ap (λ (x : Heard). x.faults) heard ∙ story.goes.faults;
+      mid = mid.counts;
+      failures = story.goes.failures;
+      starts = story.goes.starts;
+      drained = drained;
+      landed = landed;
+      most = most ∙ story.goes.most;
+      told = since_first (λ b. StandsWhole b es summary at.world new.world) story.setup story.project (λ t f r sources reading keeps.
+          let (h, began) = story.happened t f r sources reading keeps in
+          stands_whole (basis f r child c.setup c.project sources) at.world d.done.items d.aloft.items d.store.next es new.world new.counts.starts.flying still' (happened (basis f r child c.setup c.project sources) at.world es t refl h)
+          (ap is_finished (sym states_are) ∙ finished) (length_states (needs_of c.project) es ∙ length-map c.project.plan.planned (λ (u : Planned). u.needs)) began d.started.items started_is summary now_is);
+    }
+
+-- memory is refused before a unit begins
+pub ends_before : {S : Type 0} (tells : Bool) (child : Answers) (Turns : S → List ℕ → List ℕ → Step → S → Type 0) (setup : Setup) (project : Project) (next : Option ℕ) (from : S) (at : Moment) → at.counts.starts.flying ≡ []
+    → EndsCut tells child Turns setup project next from OutOfMemory at at
+ends_before tells child Turns setup project next from at none = record {
+  es = [];
+  last = from;
+  flies = nothing;
+  mid = at;
+  heard = refl;
+  stops = record { by = ((0, appends_none at.heard.taken), refl); cause = refl; starts = refl };
+  drained = subst (λ fs. Dropped (map ticket_of_child fs) at.counts at.counts) (sym none) refl;
+  landed = none;
+  told = λ t f r sources reading keeps. record {
+    stands = stands (basis f r child setup project sources) at.world (nothing_said project) [] next [] at.world [] (λ n. Unit {0}) record {
+      keeps = keeps;
+      begun = tt;
+      gave = λ place answer is. absurd (no_answer answer (untouched_at (needs_of project) place (Answered answer) is));
+      only = record { variables = refl; files = λ q outside. refl };
+    };
+    before = [];
+    begins = inl refl;
+    began = λ place has. absurd (none_begun project place has);
+  };
+}

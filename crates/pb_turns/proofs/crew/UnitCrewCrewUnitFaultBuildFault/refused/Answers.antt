@@ -1,0 +1,13 @@
+use Rattle.std.proofs.Common.{◌≡◌, refl, inl}
+use Rattle.pb_turns.proofs.Counting.{stops_refused}
+use Rattle.pb_turns.proofs.crew.UnitCrewCrewUnitFaultBuildFault.refused.Goals as goal
+
+pub returns : goal.returns
+returns g c = λ first first_place last_place first_out last_out es given s. record {
+  setup = s.setup;
+  project = s.project;
+  stops = stops_refused _ _ _ _ _ _ _ _ s.goes refl refl refl;
+  before = es;
+  begins = inl refl;
+  happened = s.happened;
+}

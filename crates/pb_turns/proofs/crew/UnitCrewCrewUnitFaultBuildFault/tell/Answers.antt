@@ -1,0 +1,24 @@
+use Rattle.std.proofs.Common.{◌≡◌, ◌∙◌, refl, inl, subst, take}
+use Rattle.std.specs.Io.KnownBytes.{Appends}
+use Rattle.pb_turns.proofs.Counting.{goes_told, stops_sink}
+use Rattle.pb_turns.proofs.crew.UnitCrewCrewUnitFaultBuildFault.tell.Goals as goal
+
+pub returns-then-write_all-clause-story : goal.returns-then-write_all-clause-story
+returns-then-write_all-clause-story g c = λ first first_place first_out es given s lawful lines. record {
+  setup = s.setup;
+  project = s.project;
+  goes = goes_told _ _ _ _ _ _ _ _ s.goes refl refl (subst (Appends (g.O.Out.taken c.args.out.now) (g.O.Out.taken c.write_all.new.out)) lines (c.write_all.ensures.all c.if-write_all.true)) (c.write_all.ensures.whole c.if-write_all.true);
+  happened = s.happened;
+}
+
+pub returns-else-write_all-clause-story : goal.returns-else-write_all-clause-story
+returns-else-write_all-clause-story g c = λ first first_place first_out es given s lawful lines.
+    let (n, part) = c.write_all.ensures.part c.if-write_all.false in
+    record {
+      setup = s.setup;
+      project = s.project;
+      stops = stops_sink _ _ _ _ _ _ _ _ s.goes refl refl n (subst (λ l. Appends (g.O.Out.taken c.args.out.now) (g.O.Out.taken c.write_all.new.out) (take n l)) lines part) (c.write_all.ensures.fault c.if-write_all.false);
+      before = es;
+      begins = inl refl;
+      happened = s.happened;
+    }

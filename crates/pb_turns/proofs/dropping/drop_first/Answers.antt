@@ -1,0 +1,27 @@
+use Rattle.std.proofs.Common.{◌≡◌, ◌∙◌, ◌<◌, refl, sym, ap, subst, inl, slice_get, length}
+use Rattle.std.proofs.lemmas.Option.{slice_get_read}
+use Rattle.pb_turns.specs.Crew.{IsOfPlan}
+use Rattle.pb_turns.proofs.Landing.{drops_land, happened_dropped}
+use Rattle.pb_turns.proofs.Lists.{all_get}
+use Rattle.pb_turns.proofs.Manning.{flying_of, manned_answered}
+use Rattle.pb_turns.proofs.dropping.drop_first.Goals as goal
+
+pub drop_unit-requires : goal.drop_unit-requires
+drop_unit-requires g c =
+    let at = slice_get_read c.args.crew.now.aloft.items (length c.args.crew.now.aloft.items) 0 c.remove-aloft.result refl c.requires.some c.remove-aloft.ensures.value in
+    record { flies = flying_of c.args.crew.now (g.P.Place.counts c.args.place.now) 0 c.remove-aloft.result c.requires.manned at }
+
+pub returns-clause-manned : goal.returns-clause-manned
+returns-clause-manned g c =
+    let at = slice_get_read c.args.crew.now.aloft.items (length c.args.crew.now.aloft.items) 0 c.remove-aloft.result refl c.requires.some c.remove-aloft.ensures.value in
+    manned_answered c.args.crew.now _ (g.P.Place.counts c.args.place.now) (g.P.Place.counts c.drop_unit.new.place) 0 c.remove-aloft.result c.requires.manned at refl refl refl c.remove-aloft.ensures.items (inl refl)
+    (drops_land c.remove-aloft.result.begun.launched _ _ c.drop_unit.ensures.counts)
+
+pub returns-clause-happened : goal.returns-clause-happened
+returns-clause-happened g c = λ b first es tells project h.
+    let at = slice_get_read c.args.crew.now.aloft.items (length c.args.crew.now.aloft.items) 0 c.remove-aloft.result refl c.requires.some c.remove-aloft.ensures.value in
+    happened_dropped b c.args.crew.now (g.P.Place.counts c.args.place.now) c.requires.manned project first es (g.P.Place.world c.args.place.now) (g.P.Place.world c.drop_unit.new.place) (g.P.Place.still c.args.place.now) (g.P.Place.counts c.drop_unit.new.place).starts.flying (g.P.Place.still c.drop_unit.new.place)
+    0 c.remove-aloft.result at c.remove-aloft.new.self.items c.remove-aloft.ensures.items h
+    (λ index unit next order there. c.drop_unit.ensures.keeps b _ _ index unit next order there tells)
+    (λ states done index unit next other its order there. c.drop_unit.ensures.others b states done index unit next other its order there tells)
+    (λ index unit next order there. c.drop_unit.ensures.only b index unit next order there tells)
