@@ -266,3 +266,8 @@ ends_before tells child Turns setup project next from at none = record {
     began = λ place has. absurd (none_begun project place has);
   };
 }
+
+pub states_long : {S : Type 0} (Turns : S → List ℕ → List ℕ → Step → S → Type 0) (first c d : UnitCrew) (from last : S) (es : List (Event UnitFault)) (table : Table UnitFault) (flying : List ℕ) → IsFlown Turns (needs_of first.project) from es last table flying
+    → needs_of c.project ≡ needs_of first.project → d ≡ record c { aloft = d.aloft } → length table.states ≡ length d.project.plan.planned
+states_long Turns first c d from last es table flying flown needs same =
+    ap length flown.states_are ∙ length_states (needs_of first.project) es ∙ ap length (sym needs) ∙ length-map c.project.plan.planned (λ (u : Planned). u.needs) ∙ ap (λ (x : UnitCrew). length x.project.plan.planned) (sym same)
