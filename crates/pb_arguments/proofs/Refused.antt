@@ -11,7 +11,7 @@ use Rattle.clap.specs.declared.error.kind.ErrorKind.TheVariants as kind
 use Rattle.clap.proofs.OnLiterals.{clap_on_literals}
 use Rattle.pb_place.specs.Paths.{joined}
 use Rattle.pb_place.specs.declared.path.PathFault.{PathFault}
-use Rattle.pb_arguments.specs.Asking.{AsksWrongly, two_profiles, bad_manifest, bad_file, HasTwoProfiles, Unasks, manifest_of, file_of}
+use Rattle.pb_arguments.specs.Asking.{AsksWrongly, two_profiles, bad_jobs, bad_manifest, bad_file, HasTwoProfiles, HasBadJobs, Unasks, manifest_of, file_of}
 use Rattle.pb_arguments.specs.Description.{IsJson, program}
 use Rattle.pb_arguments.specs.Private.{ToldWrong, TellsKind, RefusedBy}
 use Rattle.pb_arguments.specs.declared.asked.Unasked.{Unasked}
@@ -33,10 +33,11 @@ refused_by words formats app e OutOfMemory json is has tells = tt
 
 -- what is wrong with a build or a session
 pub wrong_build : (folder : Text) (given : Option (Text × List Row)) (rows : List Row) (unasked : Unasked) → given ≡ Some (codes "build", rows)
-    → ToldWrong (HasTwoProfiles rows ⊎ ((fault : PathFault) × (joined folder (manifest_of rows) ≡ Err fault))) unasked → ToldWrong (AsksWrongly folder given) unasked
+    → ToldWrong (HasTwoProfiles rows ⊎ HasBadJobs rows ⊎ ((fault : PathFault) × (joined folder (manifest_of rows) ≡ Err fault))) unasked → ToldWrong (AsksWrongly folder given) unasked
 wrong_build folder given rows (Help text) is told = absurd told
 wrong_build folder given rows (Wrong text) is (inl both) = two_profiles rows is both
-wrong_build folder given rows (Wrong text) is (inr (fault, bad)) = bad_manifest rows fault is bad
+wrong_build folder given rows (Wrong text) is (inr (inl bad)) = bad_jobs rows is bad
+wrong_build folder given rows (Wrong text) is (inr (inr (fault, bad))) = bad_manifest rows fault is bad
 wrong_build folder given rows OutOfMemory is told = tt
 
 pub wrong_session : (folder : Text) (given : Option (Text × List Row)) (rows : List Row) (unasked : Unasked) → given ≡ Some (codes "session", rows)

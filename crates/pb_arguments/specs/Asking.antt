@@ -1,5 +1,6 @@
 -- What the words of a command line ask for, or why they ask for nothing.
-use Rattle.std.specs.Prelude.{◌≡◌, ◌≢◌, ◌⊎◌, Bool, true, false, codes, List, [], ◌∷◌, Option, Some, None, Ok, Err, unwrap_or, option_map, if◌then◌else◌}
+use Rattle.std.specs.Prelude.{◌≡◌, ◌≢◌, ◌⊎◌, ◌<◌, ◌^◌, ℕ, Bool, true, false, codes, List, [], ◌∷◌, Option, Some, None, Ok, Err, unwrap_or, option_map, if◌then◌else◌}
+use Rattle.std.specs.Str.Parse.{IsNumeral, digits_value}
 use Rattle.clap.specs.Faults.{fault_of}
 use Rattle.clap.specs.Kinds.{IsAmong}
 use Rattle.clap.specs.Walk.{Row, Text, first_of, one_of, all_of}
@@ -40,6 +41,19 @@ abbrev pub IsProfile : List Row → Text → Type 0
 IsProfile rows profile =
     (release : Bool) × IsFlag (codes "release") rows release × (release ≡ true → first_of (codes "profile") rows ≡ None) × (profile ≡ profile_of release rows)
 
+-- digits alone write this number, which is below 2 ^ 64
+abbrev pub IsNumber : Text → ℕ → Type 0
+IsNumber text n = IsNumeral 10 text × (digits_value 10 text < 2 ^ 64) × (n ≡ digits_value 10 text)
+
+-- how many units may be in flight at one time: the number that was given, or 1
+abbrev pub IsJobs : Option Text → ℕ → Type 0
+IsJobs None n = n ≡ 1
+IsJobs (Some text) n = IsNumber text n
+
+-- `--jobs` was given, and no number to it
+abbrev pub HasBadJobs : List Row → Type 0
+HasBadJobs rows = (text : Text) × (first_of (codes "jobs") rows ≡ Some text) × ((n : ℕ) → ¬ IsNumber text n)
+
 -- the path of a build's manifest: `Cargo.toml` where none was given
 abbrev pub manifest_of : List Row → Text
 manifest_of rows = unwrap_or (first_of (codes "manifest-path") rows) (codes "Cargo.toml")
@@ -63,6 +77,7 @@ pub record IsOptions (called folder : Text) (rows : List Row) (options : Options
   pub target_dir : options.target_dir ≡ first_of (codes "target-dir") rows
   pub runner : options.runner ≡ words_of (unwrap_or (first_of (codes "runner") rows) [])
   pub tool : options.tool ≡ called
+  pub jobs : IsJobs (first_of (codes "jobs") rows) options.jobs
 
 -- what a subcommand with these values asks for
 abbrev pub AsksBy : Text → Text → Option (Text × List Row) → Asked → Type 0
@@ -84,9 +99,10 @@ Asks words folder asked = (formats : ValueParser) × IsJson formats × IsTaken f
 
 -- Why the words ask for nothing.
 
--- a subcommand with these values asks for nothing: two profiles, or a path with byte 0; or it is neither of the two
+-- a subcommand with these values asks for nothing: two profiles, jobs that are no number, or a path with byte 0; or it is neither of the two
 pub data AsksWrongly (folder : Text) (given : Option (Text × List Row)) : Type 0 where
   two_profiles : (rows : List Row) (build : given ≡ Some (codes "build", rows)) (both : HasTwoProfiles rows) → AsksWrongly folder given
+  bad_jobs : (rows : List Row) (build : given ≡ Some (codes "build", rows)) (bad : HasBadJobs rows) → AsksWrongly folder given
   bad_manifest : (rows : List Row) (fault : PathFault) (build : given ≡ Some (codes "build", rows)) (bad : joined folder (manifest_of rows) ≡ Err fault) → AsksWrongly folder given
   bad_file : (rows : List Row) (fault : PathFault) (session : given ≡ Some (codes "session", rows)) (bad : joined folder (file_of rows) ≡ Err fault) → AsksWrongly folder given
   no_command : (no_build : option_map (λ p. p.0) given ≢ Some (codes "build")) (no_session : option_map (λ p. p.0) given ≢ Some (codes "session")) → AsksWrongly folder given

@@ -31,6 +31,10 @@ features =
     ∷ flag (codes "all-features") ∷ flag (codes "no-default-features")
     ∷ record (flag (codes "release")) { short = Some 114 } ∷ option (codes "profile") ∷ []
 
+-- how much is done at one time
+abbrev pub at_one_time : List Rule
+at_one_time = record (option (codes "jobs")) { short = Some 106 } ∷ []
+
 -- where it is read from and written to, and in which of these forms
 abbrev pub places : ValueParser → List Rule
 places formats =
@@ -49,7 +53,7 @@ with_rules (rule ∷ rules) app = with_rules rules (with_rule app rule)
 
 -- `pb_tool build`
 abbrev pub build : ValueParser → App
-build formats = with_rules (places formats) (with_rules features (with_rules selection (new_app (codes "build"))))
+build formats = with_rules (places formats) (with_rules at_one_time (with_rules features (with_rules selection (new_app (codes "build")))))
 
 -- `pb_tool session FILE`
 abbrev pub session : App

@@ -95,3 +95,13 @@ pub(crate) fn two_profiles(alloc: Global) -> Unasked
         "error: the argument '--release' cannot be used with '--profile <NAME>'\n",
     )
 }
+
+/// It is no number how many units may be in flight at one time.
+pub(crate) fn bad_jobs(alloc: Global) -> Unasked
+    ensures { ToldWrong (Unit {0}) result }
+{
+    wrong(
+        alloc,
+        "error: the value of '--jobs <N>' is digits alone, up to 18446744073709551615\n",
+    )
+}

@@ -4,7 +4,7 @@ ghost use Rattle.std.specs.Prelude.{◌≡◌, IfOk, false};
 ghost use Rattle.clap.specs.Walk.{rule_of};
 ghost use Rattle.clap.specs.Simple.{app_of};
 ghost use Rattle.clap.specs.declared.builder.value_parser.ValueParser.{ValueParser};
-ghost use Rattle.pb_arguments.specs.Description.{flag, option, options, selection, features, places, with_rules, IsJson, build, session, program};
+ghost use Rattle.pb_arguments.specs.Description.{flag, option, options, selection, features, at_one_time, places, with_rules, IsJson, build, session, program};
 
 use clap::{Arg, ArgAction, Command};
 use std::alloc::{AllocError, Global};
@@ -106,6 +106,20 @@ fn with_features<'a>(alloc: Global, command: Command<'a>) -> Result<Command<'a>,
     Ok(command)
 }
 
+/// How much is done at one time.
+fn with_jobs<'a>(alloc: Global, command: Command<'a>) -> Result<Command<'a>, AllocError>
+    ensures { IfOk result (λ new. app_of new ≡ with_rules at_one_time (app_of command.entry)) }
+{
+    let jobs = option(
+        alloc,
+        "jobs",
+        "N",
+        "How many units may be in flight at one time (default 1)",
+    );
+    let command = command.arg(jobs.short('j'))?;
+    Ok(command)
+}
+
 /// Where it is read from and written to.
 fn with_places<'a>(alloc: Global, command: Command<'a>) -> Result<Command<'a>, AllocError>
     ensures { IfOk result (λ new. (formats : ValueParser) × IsJson formats × (app_of new ≡ with_rules (places formats) (app_of command.entry))) }
@@ -151,6 +165,7 @@ fn build_command<'a>(alloc: Global) -> Result<Command<'a>, AllocError>
     );
     let command = with_selection(alloc, command)?;
     let command = with_features(alloc, command)?;
+    let command = with_jobs(alloc, command)?;
     with_places(alloc, command)
 }
 

@@ -1,6 +1,6 @@
 //! From the words of a command line to what it asks for.
 
-ghost use Rattle.std.specs.Prelude.{◌≡◌, ◌⊎◌, Ok, Err, IfOk, IfErr, Bool, [], codes, map, option_map, unwrap_or};
+ghost use Rattle.std.specs.Prelude.{◌≡◌, ◌⊎◌, ℕ, Ok, Err, IfOk, IfErr, MatchOption, Bool, [], codes, map, option_map, unwrap_or};
 ghost use Rattle.clap.specs.Matches.{found_of};
 ghost use Rattle.clap.specs.Walk.{rows_of, first_of};
 ghost use Rattle.clap.specs.Simple.{subcommand_of, subcommand_rows_of};
@@ -9,10 +9,10 @@ ghost use Rattle.pb_directive.specs.Directives.{words_of};
 ghost use Rattle.pb_place.specs.Paths.{joined};
 ghost use Rattle.pb_place.specs.declared.path.PathFault.{PathFault};
 ghost use Rattle.pb_arguments.specs.Description.{IsJson, program};
-ghost use Rattle.pb_arguments.specs.Asking.{IsFlag, HasTwoProfiles, IsProfile, IsOptions, IsTaken, AsksBy, Asks, AsksWrongly, Unasks, values_of, manifest_of, tool_of};
+ghost use Rattle.pb_arguments.specs.Asking.{IsFlag, HasTwoProfiles, IsProfile, IsNumber, IsJobs, HasBadJobs, IsOptions, IsTaken, AsksBy, Asks, AsksWrongly, Unasks, values_of, manifest_of, tool_of};
 ghost use Rattle.pb_arguments.specs.Private.{ToldWrong, RefusedBy};
 
-use crate::asked::{Asked, Unasked, bad_path, no_command, two_profiles, unasked_of};
+use crate::asked::{Asked, Unasked, bad_jobs, bad_path, no_command, two_profiles, unasked_of};
 use crate::description::program;
 use clap::ArgMatches;
 use pb_data::{Items, Text};
@@ -94,6 +94,30 @@ fn profile_of(alloc: Global, matches: &ArgMatches<'_>) -> Result<Text, Unasked>
     }
 }
 
+/// The number that digits alone write; none where the text has anything else, or where the number is too great.
+fn number_in(text: &str) -> Option<u64>
+    ensures { MatchOption result ((n : ℕ) → ¬ IsNumber text.now n) (IsNumber text.now) }
+{
+    if text.starts_with('+') {
+        return None;
+    }
+    text.parse::<u64>().ok()
+}
+
+/// How many units may be in flight at one time: what `--jobs` says, else 1. Wrong where it says no number.
+fn jobs_of(alloc: Global, matches: &ArgMatches<'_>) -> Result<u64, Unasked>
+    ensures jobs { IfOk result (IsJobs (first_of (codes "jobs") (rows_of (found_of matches.now)))) }
+    ensures wrong { IfErr result (ToldWrong (HasBadJobs (rows_of (found_of matches.now)))) }
+{
+    match first(matches, "jobs") {
+        None => Ok(1),
+        Some(text) => match number_in(text) {
+            Some(jobs) => Ok(jobs),
+            None => Err(bad_jobs(alloc)),
+        },
+    }
+}
+
 /// The words of a text, which spaces part.
 fn parted(alloc: Global, text: &str) -> Result<Items<Text>, AllocError>
     ensures { IfOk result (λ words. words ≡ words_of text.now) }
@@ -124,7 +148,7 @@ fn options_of(
     matches: &ArgMatches<'_>,
 ) -> Result<Options, Unasked>
     ensures options { IfOk result (IsOptions tool.now folder.now (rows_of (found_of matches.now))) }
-    ensures wrong { IfErr result (ToldWrong (HasTwoProfiles (rows_of (found_of matches.now)) ⊎ ((fault : PathFault) × (joined folder.now (manifest_of (rows_of (found_of matches.now))) ≡ Err fault)))) }
+    ensures wrong { IfErr result (ToldWrong (HasTwoProfiles (rows_of (found_of matches.now)) ⊎ HasBadJobs (rows_of (found_of matches.now)) ⊎ ((fault : PathFault) × (joined folder.now (manifest_of (rows_of (found_of matches.now))) ≡ Err fault)))) }
 {
     let manifest = path_of(
         alloc,
@@ -134,6 +158,7 @@ fn options_of(
     let packages = values_of(alloc, matches, "package")?;
     let features = values_of(alloc, matches, "features")?;
     let profile = profile_of(alloc, matches)?;
+    let jobs = jobs_of(alloc, matches)?;
     let bin = values_of(alloc, matches, "bin")?;
     let target_dir = value_of(alloc, matches, "target-dir")?;
     let runner = parted(alloc, first_or(matches, "runner", ""))?;
@@ -152,6 +177,7 @@ fn options_of(
         target_dir,
         runner,
         tool,
+        jobs,
     })
 }
 
@@ -206,8 +232,8 @@ fn tool_of<S: AsStr>(words: &[S]) -> &str
 /// What a command line asks for. The words are those of the whole command line, the program's own name first; relative
 /// paths start at `folder`.
 ///
-/// Help where help was asked for; Wrong where the words are none of a command line, where two profiles are asked for, or
-/// where a path has byte 0; each with the text that is to be printed. OutOfMemory where memory is refused.
+/// Help where help was asked for; Wrong where the words are none of a command line, where two profiles are asked for,
+/// where the value of `--jobs` is not digits alone or above 18446744073709551615, or where a path has byte 0; each with the text that is to be printed. OutOfMemory where memory is refused.
 pub fn read_command_line<S: AsStr>(
     alloc: Global,
     words: &[S],

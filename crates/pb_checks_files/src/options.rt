@@ -21,5 +21,6 @@ pub fn no_options(alloc: Global) -> Result<Options, PathFault> {
         target_dir: None,
         runner: Items::new(alloc),
         tool: Text::from_str(alloc, "tool")?,
+        jobs: 1,
     })
 }

@@ -3,7 +3,8 @@
 use crate::shown::{put, put_call, put_each};
 use pb_data::Text;
 use pb_package::Options;
-use pb_session::{BadSession, SessionStep, read_session};
+use pb_place::StartFault;
+use pb_session::{BadSession, Death, PickBy, SessionStep, read_session};
 use std::alloc::{AllocError, Global};
 use std::test::Fail;
 
@@ -24,8 +25,26 @@ fn put_switch(out: &mut String, name: &str, is_on: bool) -> Result<(), AllocErro
     Ok(())
 }
 
+/// Puts how many units may be in flight at one time, where that is not one, and which of those that may begin does,
+/// where that is not the first.
+fn put_turns(alloc: Global, out: &mut String, jobs: u64, pick: &PickBy) -> Result<(), AllocError> {
+    if jobs != 1 {
+        let jobs = format!(in alloc; " jobs={jobs}")?;
+        out.push_str(jobs.as_str())?;
+    }
+    match pick {
+        PickBy::First => Ok(()),
+        PickBy::Last => out.push_str(" last"),
+    }
+}
+
 /// Puts the options of a build in words.
-fn put_build(out: &mut String, options: &Options) -> Result<(), AllocError> {
+fn put_build(
+    alloc: Global,
+    out: &mut String,
+    options: &Options,
+    pick: &PickBy,
+) -> Result<(), AllocError> {
     put_call(
         out,
         "build",
@@ -39,17 +58,37 @@ fn put_build(out: &mut String, options: &Options) -> Result<(), AllocError> {
     put_switch(out, "bins", options.bins)?;
     put_texts(out, "packages", options.packages.as_slice())?;
     put_texts(out, "features", options.features.as_slice())?;
-    put_texts(out, "bin", options.bin.as_slice())
+    put_texts(out, "bin", options.bin.as_slice())?;
+    put_turns(alloc, out, options.jobs, pick)
+}
+
+/// Puts how a start fails in words, by what it answers.
+fn put_die(out: &mut String, key: &str, death: &Death) -> Result<(), AllocError> {
+    let fault = match death.fault() {
+        StartFault::CannotStart => "cannot start",
+        StartFault::Died => "died",
+        StartFault::Capture => "capture",
+        StartFault::OutOfMemory => "memory",
+    };
+    put_call(out, "die", key, fault)
+}
+
+/// Puts a fuse in words.
+fn put_fuse(alloc: Global, out: &mut String, number: u64) -> Result<(), AllocError> {
+    let number = format!(in alloc; "{number}")?;
+    put_call(out, "fuse", number.as_str(), "")
 }
 
 /// Puts a step in words.
-fn put_step(out: &mut String, step: &SessionStep) -> Result<(), AllocError> {
+fn put_step(alloc: Global, out: &mut String, step: &SessionStep) -> Result<(), AllocError> {
     match step {
         SessionStep::Write(path, text) => put_call(out, "write", path.as_str(), text.as_str()),
         SessionStep::Remove(path) => put_call(out, "remove", path.as_str(), ""),
         SessionStep::Set(name, value) => put_call(out, "set", name.as_str(), value.as_str()),
         SessionStep::Unset(name) => put_call(out, "unset", name.as_str(), ""),
-        SessionStep::Build(options) => put_build(out, options),
+        SessionStep::Build(options, pick) => put_build(alloc, out, options, pick),
+        SessionStep::Die(key, death) => put_die(out, key.as_str(), death),
+        SessionStep::Fuse(number) => put_fuse(alloc, out, *number),
     }
 }
 
@@ -57,7 +96,7 @@ fn put_step(out: &mut String, step: &SessionStep) -> Result<(), AllocError> {
 fn steps_shown(alloc: Global, steps: &[SessionStep]) -> Result<String, AllocError> {
     let mut shown = String::new(alloc);
     for step in steps {
-        put_step(&mut shown, step)?;
+        put_step(alloc, &mut shown, step)?;
         shown.push_str(";")?;
     }
     Ok(shown)
@@ -101,12 +140,33 @@ const GOOD: &[(&str, &str)] = &[
         r#"[{"build":{}},{"remove":"/a"},{"set":["b","c"]}]"#,
         "build</w/Cargo.toml><dev>;remove</a><>;set<b><c>;",
     ),
+    (
+        r#"[{"die":["a.target.lib","CannotStart"]}]"#,
+        "die<a.target.lib><cannot start>;",
+    ),
+    (
+        r#"[{"die":["a.target.lib","Died"]}]"#,
+        "die<a.target.lib><died>;",
+    ),
+    (r#"[{"die":["","Capture"]}]"#, "die<><capture>;"),
+    (r#"[{"die":["/\u0000","Died"]}]"#, "die</\0><died>;"),
+    (r#"[{"fuse":0}]"#, "fuse<0><>;"),
+    (r#"[{"fuse":1}]"#, "fuse<1><>;"),
+    (
+        r#"[{"fuse":18446744073709551615}]"#,
+        "fuse<18446744073709551615><>;",
+    ),
+    (
+        r#"[{"die":["a","Died"]},{"die":["a","Died"]},{"fuse":7},{"build":{"jobs":2}}]"#,
+        "die<a><died>;die<a><died>;fuse<7><>;build</w/Cargo.toml><dev> jobs=2;",
+    ),
     // Of a key that stands twice the last value counts.
     (
         r#"[{"build":{},"build":{"manifest":"/b"}}]"#,
         "build</b><dev>;",
     ),
     (r#"[{"unset":"a","unset":"b"}]"#, "unset<b><>;"),
+    (r#"[{"fuse":1.0,"fuse":2}]"#, "fuse<2><>;"),
 ];
 
 #[test]
@@ -161,8 +221,34 @@ const BAD: &[&str] = &[
     r#"[{"build":{"Manifest":"/a"}}]"#,
     r#"[{"build":{"":"/a"}}]"#,
     r#"[null]"#,
-    r#"[{"die":["a.target.lib","Died"]}]"#,
-    r#"[{"fuse":1}]"#,
+    r#"[{"die":"a"}]"#,
+    r#"[{"die":[]}]"#,
+    r#"[{"die":["a"]}]"#,
+    r#"[{"die":["a","X"]}]"#,
+    r#"[{"die":["a",""]}]"#,
+    r#"[{"die":["a","died"]}]"#,
+    r#"[{"die":["a","OutOfMemory"]}]"#,
+    r#"[{"die":["a","Died","b"]}]"#,
+    r#"[{"die":["Died","a"]}]"#,
+    r#"[{"die":[1,"Died"]}]"#,
+    r#"[{"die":["a",null]}]"#,
+    r#"[{"die":{"a":"Died"}}]"#,
+    r#"[{"Die":["a","Died"]}]"#,
+    r#"[{"fuse":1.0}]"#,
+    r#"[{"fuse":1e1}]"#,
+    r#"[{"fuse":1E0}]"#,
+    r#"[{"fuse":0.0}]"#,
+    r#"[{"fuse":-0}]"#,
+    r#"[{"fuse":-1}]"#,
+    r#"[{"fuse":01}]"#,
+    r#"[{"fuse":+1}]"#,
+    r#"[{"fuse":18446744073709551616}]"#,
+    r#"[{"fuse":99999999999999999999999}]"#,
+    r#"[{"fuse":"1"}]"#,
+    r#"[{"fuse":[1]}]"#,
+    r#"[{"fuse":null}]"#,
+    r#"[{"fuse":true}]"#,
+    r#"[{"fuse":1,"build":{}}]"#,
     r#"[{"build":{}},{"write":["a","b"]}]"#,
 ];
 
@@ -237,6 +323,14 @@ const OPTIONS: &[(&str, &str)] = &[
     (r#"{"lib":false}"#, "build</w/Cargo.toml><dev>;"),
     (r#"{"bins":true}"#, "build</w/Cargo.toml><dev> bins;"),
     (r#"{"bins":false}"#, "build</w/Cargo.toml><dev>;"),
+    (r#"{"pick":"first"}"#, "build</w/Cargo.toml><dev>;"),
+    (r#"{"pick":"last"}"#, "build</w/Cargo.toml><dev> last;"),
+    (r#"{"jobs":0}"#, "build</w/Cargo.toml><dev> jobs=0;"),
+    (r#"{"jobs":1}"#, "build</w/Cargo.toml><dev>;"),
+    (
+        r#"{"jobs":18446744073709551615,"pick":"last"}"#,
+        "build</w/Cargo.toml><dev> jobs=18446744073709551615 last;",
+    ),
     (
         r#"{"bin":["x"],"lib":true,"features":["f"],"packages":["p"],"workspace":true}"#,
         "build</w/Cargo.toml><dev> workspace lib packages=p| features=f| bin=x|;",
@@ -281,6 +375,21 @@ const BAD_OPTIONS: &[&str] = &[
     r#"{"lib":"lib"}"#,
     r#"{"lib":{}}"#,
     r#"{"bins":["a"]}"#,
+    r#"{"pick":"middle"}"#,
+    r#"{"pick":""}"#,
+    r#"{"pick":"First"}"#,
+    r#"{"pick":["first"]}"#,
+    r#"{"pick":0}"#,
+    r#"{"pick":null}"#,
+    r#"{"jobs":"2"}"#,
+    r#"{"jobs":1.0}"#,
+    r#"{"jobs":1e1}"#,
+    r#"{"jobs":-0}"#,
+    r#"{"jobs":-1}"#,
+    r#"{"jobs":18446744073709551616}"#,
+    r#"{"jobs":[2]}"#,
+    r#"{"jobs":null}"#,
+    r#"{"jobs":true}"#,
     r#"{"target_dir":"/t"}"#,
     r#"{"runner":["mini"]}"#,
     r#"{"tool":"cargo"}"#,
@@ -310,7 +419,7 @@ fn fixed_shown(alloc: Global, options: &Options) -> Result<String, AllocError> {
 /// Whether steps are one build, of which no key changes this.
 fn have_fixed(alloc: Global, steps: &[SessionStep], wanted: &str) -> Result<bool, AllocError> {
     match steps {
-        [SessionStep::Build(options)] => {
+        [SessionStep::Build(options, _)] => {
             let found = fixed_shown(alloc, options)?;
             Ok(found.as_str() == wanted)
         }

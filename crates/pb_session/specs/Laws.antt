@@ -4,9 +4,10 @@ use Rattle.serde_json.specs.Data.{Data, object, no_members}
 use Rattle.serde_json.specs.View.{items_of}
 use Rattle.pb_data.specs.Gives.{◌>>=◌}
 use Rattle.pb_session.specs.Faults.{Read}
-use Rattle.pb_session.specs.Sessions.{steps_of}
-use Rattle.pb_session.specs.Options.{options_of}
+use Rattle.pb_session.specs.Sessions.{build_of, steps_of}
+use Rattle.pb_session.specs.declared.pick.PickBy.TheVariants.{First}
 use Rattle.pb_session.specs.declared.step.SessionStep.{SessionStep}
+use Rattle.pb_session.specs.declared.step.SessionStep.TheVariants.{Build}
 
 -- what the one gives, and then what the other gives
 abbrev pub both : Read (List SessionStep) → Read (List SessionStep) → Read (List SessionStep)
@@ -16,9 +17,9 @@ both first second = first >>= (λ a. second >>= (λ b. Ok (a ++ b)))
 abbrev pub StepsJoin : Type 0
 StepsJoin = (ds es : List Data) → steps_of (items_of (ds ++ es)) ≡ both (steps_of (items_of ds)) (steps_of (items_of es))
 
--- a build whose options are empty is asked for the manifest `/w/Cargo.toml` under the profile `dev`, with nothing selected or narrowed
+-- a build whose options are empty is asked for the manifest `/w/Cargo.toml` under the profile `dev`, with nothing selected or narrowed and one unit in flight at one time, and the first of the units that may begin does
 abbrev pub OptionsHaveDefaults : Type 0
-OptionsHaveDefaults = options_of (object no_members) ≡ Ok record {
+OptionsHaveDefaults = build_of (object no_members) ≡ Ok (Build (record {
   manifest = codes "/w/Cargo.toml";
   packages = [];
   workspace = false;
@@ -32,4 +33,5 @@ OptionsHaveDefaults = options_of (object no_members) ≡ Ok record {
   target_dir = None;
   runner = codes "mini" ∷ codes "--run" ∷ [];
   tool = codes "cargo";
-}
+  jobs = 1;
+}) First)

@@ -5,7 +5,10 @@ use Rattle.serde_json.specs.Data.{Data, Items, no_items, item, Members, no_membe
 use Rattle.serde_json.specs.Find.{get, as_object, as_bool}
 use Rattle.pb_data.specs.Gives.{◌>>=◌, some_or}
 use Rattle.pb_session.specs.Faults.{Read}
-use Rattle.pb_session.specs.Values.{text_of, path_in, path_of, array_of}
+use Rattle.pb_session.specs.Values.{text_of, number_of, path_in, path_of, array_of}
+use Rattle.pb_session.specs.Picks.{pick_named}
+use Rattle.pb_session.specs.declared.pick.PickBy.{PickBy}
+use Rattle.pb_session.specs.declared.pick.PickBy.TheVariants.{First}
 use Rattle.pb_session.specs.declared.fault.BadSession.TheVariants.{BadForm}
 use Rattle.pb_package.specs.declared.options.Options.{Options}
 
@@ -14,6 +17,7 @@ abbrev pub is_known : List ℕ → Bool
 is_known name =
     bytes_eq name (codes "manifest") || bytes_eq name (codes "packages") || bytes_eq name (codes "workspace") || bytes_eq name (codes "features") || bytes_eq name (codes "all_features")
     || bytes_eq name (codes "no_default_features") || bytes_eq name (codes "profile") || bytes_eq name (codes "lib") || bytes_eq name (codes "bins") || bytes_eq name (codes "bin")
+    || bytes_eq name (codes "pick") || bytes_eq name (codes "jobs")
 
 -- all keys are known
 abbrev pub are_known : Members → Bool
@@ -31,7 +35,7 @@ texts_of d = array_of d >>= texts_in
 abbrev pub truth_of : Data → Read Bool
 truth_of d = some_or BadForm (as_bool d)
 
--- the value of a key; where the key is absent: no texts, false, this text, the manifest `/w/Cargo.toml`
+-- the value of a key; where the key is absent: no texts, false, this text, this number, the manifest `/w/Cargo.toml`
 abbrev pub texts_or_none : Option Data → Read (List (List ℕ))
 texts_or_none None = Ok []
 texts_or_none (Some d) = texts_of d
@@ -43,6 +47,10 @@ truth_or_false (Some d) = truth_of d
 abbrev pub text_or : List ℕ → Option Data → Read (List ℕ)
 text_or default None = Ok default
 text_or default (Some d) = text_of d
+
+abbrev pub number_or : ℕ → Option Data → Read ℕ
+number_or default None = Ok default
+number_or default (Some d) = number_of d
 
 abbrev pub default_manifest : List ℕ
 default_manifest = codes "/w/Cargo.toml"
@@ -57,7 +65,7 @@ texts_at key d = texts_or_none (get key d)
 abbrev pub truth_at : List ℕ → Data → Read Bool
 truth_at key d = truth_or_false (get key d)
 
--- the profile is `dev` unless another is asked for; the builder is called `cargo`, and build scripts are run by `mini --run`
+-- the profile is `dev` unless another is asked for, and one unit is in flight at one time unless more may be; the builder is called `cargo`, and build scripts are run by `mini --run`
 abbrev pub options_in : Data → Read Options
 options_in d =
     manifest_or_default (get (codes "manifest") d) >>= (λ manifest.
@@ -70,6 +78,7 @@ options_in d =
     truth_at (codes "lib") d >>= (λ lib.
     truth_at (codes "bins") d >>= (λ bins.
     texts_at (codes "bin") d >>= (λ bin.
+    number_or 1 (get (codes "jobs") d) >>= (λ jobs.
     Ok record {
       manifest = manifest;
       packages = packages;
@@ -84,8 +93,17 @@ options_in d =
       target_dir = None;
       runner = codes "mini" ∷ codes "--run" ∷ [];
       tool = codes "cargo";
-    }))))))))))
+      jobs = jobs;
+    })))))))))))
 
 -- what a build is asked for
 abbrev pub options_of : Data → Read Options
 options_of d = some_or BadForm (as_object d) >>= (λ ms. if are_known ms then options_in d else Err BadForm)
+
+abbrev pub pick_of : Data → Read PickBy
+pick_of d = text_of d >>= pick_named
+
+-- which of the units that may begin does: the first, unless another choice is asked for
+abbrev pub pick_or_first : Option Data → Read PickBy
+pick_or_first None = Ok First
+pick_or_first (Some d) = pick_of d

@@ -2,21 +2,28 @@
 use Rattle.std.specs.Prelude.{ℕ, if◌then◌else◌, codes, List, [], ◌∷◌, Ok, Err}
 use Rattle.std.specs.Str.{bytes_eq, is_utf8}
 use Rattle.serde_json.specs.Data.{Data, Items, no_items, item}
-use Rattle.serde_json.specs.Find.{as_object}
+use Rattle.serde_json.specs.Find.{get, as_object}
 use Rattle.serde_json.specs.Read.{read}
 use Rattle.pb_data.specs.Gives.{◌>>=◌, some_or}
+use Rattle.pb_session.specs.Deaths.{death_named}
 use Rattle.pb_session.specs.Faults.{Read}
-use Rattle.pb_session.specs.Values.{text_of, path_in, path_of, pair_of, array_of, only_member}
+use Rattle.pb_session.specs.Values.{text_of, number_of, path_in, path_of, pair_of, array_of, only_member}
 use Rattle.pb_session.specs.declared.fault.BadSession.TheVariants.{BadForm}
-use Rattle.pb_session.specs.Options.{options_of}
+use Rattle.pb_session.specs.Options.{options_of, pick_or_first}
 use Rattle.pb_session.specs.declared.step.SessionStep.{SessionStep}
-use Rattle.pb_session.specs.declared.step.SessionStep.TheVariants.{Write, Remove, Set, Unset, Build}
+use Rattle.pb_session.specs.declared.step.SessionStep.TheVariants.{Write, Remove, Set, Unset, Build, Die, Fuse}
 
 abbrev pub write_of : Data → Read SessionStep
 write_of d = pair_of d >>= (λ p. path_in p.0 >>= (λ path. Ok (Write path p.1)))
 
 abbrev pub set_of : Data → Read SessionStep
 set_of d = pair_of d >>= (λ p. Ok (Set p.0 p.1))
+
+abbrev pub build_of : Data → Read SessionStep
+build_of d = options_of d >>= (λ options. pick_or_first (get (codes "pick") d) >>= (λ pick. Ok (Build options pick)))
+
+abbrev pub die_of : Data → Read SessionStep
+die_of d = pair_of d >>= (λ p. death_named p.1 >>= (λ death. Ok (Die p.0 death)))
 
 -- the step of a name
 abbrev pub step_named : List ℕ → Data → Read SessionStep
@@ -25,7 +32,9 @@ step_named name d =
     else if bytes_eq name (codes "remove") then (path_of d >>= (λ path. Ok (Remove path)))
     else if bytes_eq name (codes "set") then set_of d
     else if bytes_eq name (codes "unset") then (text_of d >>= (λ text. Ok (Unset text)))
-    else if bytes_eq name (codes "build") then (options_of d >>= (λ options. Ok (Build options)))
+    else if bytes_eq name (codes "build") then build_of d
+    else if bytes_eq name (codes "die") then die_of d
+    else if bytes_eq name (codes "fuse") then (number_of d >>= (λ number. Ok (Fuse number)))
     else Err BadForm
 
 -- a step: an object with one key, the step's name

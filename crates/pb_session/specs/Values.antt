@@ -1,7 +1,7 @@
 -- What JSON values of a session say.
-use Rattle.std.specs.Prelude.{ℕ, List, Option, Some, None, Ok, Err}
+use Rattle.std.specs.Prelude.{ℕ, List, Option, Some, None, Ok, Err, option_and_then}
 use Rattle.serde_json.specs.Data.{Data, Items, no_items, item, Members, no_members, member}
-use Rattle.serde_json.specs.Find.{as_str, as_array}
+use Rattle.serde_json.specs.Find.{as_str, as_array, as_number, as_u64}
 use Rattle.pb_data.specs.Gives.{◌>>=◌, lifted, some_or}
 use Rattle.pb_place.specs.Paths.{parsed}
 use Rattle.pb_session.specs.Faults.{Read, of_path_fault}
@@ -9,6 +9,10 @@ use Rattle.pb_session.specs.declared.fault.BadSession.TheVariants.{BadForm}
 
 abbrev pub text_of : Data → Read (List ℕ)
 text_of d = some_or BadForm (as_str d)
+
+-- a number of digits alone, below 2 ^ 64: JSON knows those of no sign, point and exponent from all others
+abbrev pub number_of : Data → Read ℕ
+number_of d = some_or BadForm (option_and_then as_u64 (as_number d))
 
 -- the path that a text says
 abbrev pub path_in : List ℕ → Read (List ℕ)

@@ -4,10 +4,11 @@ ghost use Rattle.std.specs.Prelude.{◌≡◌, ◌∷◌, [], IfOk, codes};
 ghost use Rattle.serde_json.specs.Find.{get};
 ghost use Rattle.serde_json.specs.View.{view, items_view, members_view};
 ghost use Rattle.pb_session.specs.Faults.{Gives};
-ghost use Rattle.pb_session.specs.Options.{are_known, is_known, texts_in, texts_of, truth_of, texts_or_none, truth_or_false, text_or, manifest_or_default, texts_at, truth_at, options_in, options_of};
+ghost use Rattle.pb_session.specs.Options.{are_known, is_known, texts_in, texts_of, truth_of, texts_or_none, truth_or_false, text_or, number_or, manifest_or_default, texts_at, truth_at, options_in, options_of, pick_of, pick_or_first};
 
 use crate::fault::BadSession;
-use crate::value::{array_of, path_in, path_of, text_of};
+use crate::pick::{PickBy, pick_named};
+use crate::value::{array_of, number_of, path_in, path_of, text_of};
 use pb_data::{Items, Text};
 use pb_package::Options;
 use pb_place::PathText;
@@ -28,6 +29,8 @@ fn is_known(name: &str) -> bool
         || name == "lib"
         || name == "bins"
         || name == "bin"
+        || name == "pick"
+        || name == "jobs"
 }
 
 /// Whether the options of a build have no key but those that they may have.
@@ -104,6 +107,16 @@ fn profile_of(alloc: Global, value: &Value) -> Result<Text, BadSession>
     }
 }
 
+/// How many units may be in flight at one time, 1 where the key `jobs` is absent.
+fn jobs_of(value: &Value) -> Result<u64, BadSession>
+    ensures { Gives result (number_or 1 (get (codes "jobs") (view value.now))) }
+{
+    match value.get("jobs") {
+        None => Ok(1),
+        Some(found) => number_of(found),
+    }
+}
+
 /// The path of the root manifest, by the value of the key `manifest`.
 fn manifest_of(alloc: Global, value: &Value) -> Result<PathText, BadSession>
     ensures { Gives result (manifest_or_default (get (codes "manifest") (view value.now))) }
@@ -138,6 +151,7 @@ fn options_in(alloc: Global, value: &Value) -> Result<Options, BadSession>
     let lib = truth_at("lib", value)?;
     let bins = truth_at("bins", value)?;
     let bin = texts_at(alloc, "bin", value)?;
+    let jobs = jobs_of(value)?;
     let runner = runner_words(alloc)?;
     let tool = Text::from_str(alloc, "cargo")?;
     Ok(Options {
@@ -154,6 +168,7 @@ fn options_in(alloc: Global, value: &Value) -> Result<Options, BadSession>
         target_dir: None,
         runner,
         tool,
+        jobs,
     })
 }
 
@@ -169,4 +184,24 @@ pub(crate) fn options_of(alloc: Global, value: &Value) -> Result<Options, BadSes
         return Err(BadSession::BadForm);
     }
     options_in(alloc, value)
+}
+
+/// A choice among the units that may begin.
+fn pick_of(value: &Value) -> Result<PickBy, BadSession>
+    ensures { Gives result (pick_of (view value.now)) }
+{
+    match value.as_str() {
+        Some(name) => pick_named(name),
+        None => Err(BadSession::BadForm),
+    }
+}
+
+/// Which of the units that may begin does, the first of them where the key `pick` is absent.
+pub(crate) fn pick_in(value: &Value) -> Result<PickBy, BadSession>
+    ensures { Gives result (pick_or_first (get (codes "pick") (view value.now))) }
+{
+    match value.get("pick") {
+        None => Ok(PickBy::First),
+        Some(found) => pick_of(found),
+    }
 }

@@ -3,13 +3,14 @@
 ghost use Rattle.std.specs.Prelude.{◌≡◌, ℕ, List};
 ghost use Rattle.serde_json.specs.View.{view, items_view};
 ghost use Rattle.pb_session.specs.Faults.{Gives, GivesAs};
-ghost use Rattle.pb_session.specs.Options.{options_of};
-ghost use Rattle.pb_session.specs.Sessions.{write_of, set_of, step_named, step_of, steps_of, document_in, session_of};
+ghost use Rattle.pb_session.specs.Options.{options_of, pick_or_first};
+ghost use Rattle.pb_session.specs.Sessions.{write_of, set_of, build_of, die_of, step_named, step_of, steps_of, document_in, session_of};
 
+use crate::death::death_named;
 use crate::fault::BadSession;
-use crate::options::options_of;
+use crate::options::{options_of, pick_in};
 use crate::step::SessionStep;
-use crate::value::{array_of, only_member, pair_of, path_in, path_of, text_of};
+use crate::value::{array_of, number_of, only_member, pair_of, path_in, path_of, text_of};
 use pb_data::Items;
 use serde_json::Value;
 use std::alloc::Global;
@@ -31,6 +32,24 @@ fn set_of(alloc: Global, value: &Value) -> Result<SessionStep, BadSession>
     Ok(SessionStep::Set(name, text))
 }
 
+/// The step that builds.
+fn build_of(alloc: Global, value: &Value) -> Result<SessionStep, BadSession>
+    ensures { Gives result (build_of (view value.now)) }
+{
+    let options = options_of(alloc, value)?;
+    let pick = pick_in(value)?;
+    Ok(SessionStep::Build(options, pick))
+}
+
+/// The step that sets a start to fail.
+fn die_of(alloc: Global, value: &Value) -> Result<SessionStep, BadSession>
+    ensures { Gives result (die_of (view value.now)) }
+{
+    let (key, kind) = pair_of(alloc, value)?;
+    let death = death_named(kind.as_str())?;
+    Ok(SessionStep::Die(key, death))
+}
+
 /// The step of this name.
 fn step_named(alloc: Global, name: &str, value: &Value) -> Result<SessionStep, BadSession>
     ensures { Gives result (step_named name.now (view value.now)) }
@@ -46,9 +65,11 @@ fn step_named(alloc: Global, name: &str, value: &Value) -> Result<SessionStep, B
             let name = text_of(alloc, value)?;
             Ok(SessionStep::Unset(name))
         }
-        "build" => {
-            let options = options_of(alloc, value)?;
-            Ok(SessionStep::Build(options))
+        "build" => build_of(alloc, value),
+        "die" => die_of(alloc, value),
+        "fuse" => {
+            let number = number_of(value)?;
+            Ok(SessionStep::Fuse(number))
         }
         _ => Err(BadSession::BadForm),
     }
@@ -104,12 +125,16 @@ fn document_in(alloc: Global, bytes: &[u8]) -> Result<Value, BadSession>
 ///
 /// - `{"write":[PATH,TEXT]}` writes a file, `{"remove":PATH}` takes away a file and all below it;
 /// - `{"set":[NAME,VALUE]}` sets a variable, `{"unset":NAME}` takes it away;
+/// - `{"die":[KEY,KIND]}` lets the next start whose output folder has the name KEY fail in the way KIND, which is
+///   `CannotStart`, `Died` or `Capture`;
+/// - `{"fuse":N}` lets the Nth call fail that the next build makes to what lies outside it; 0 takes the fuse away;
 /// - `{"build":OPTIONS}` builds. OPTIONS is an object with any of the keys `manifest`, the path of the root
 ///   manifest (else `/w/Cargo.toml`); `profile`, a text (else `dev`); `packages`, `features` and `bin`, lists of
-///   texts; `workspace`, `all_features`, `no_default_features`, `lib` and `bins`, truth values. The builder is called
-///   `cargo`, and build scripts are run by `mini --run`.
+///   texts; `workspace`, `all_features`, `no_default_features`, `lib` and `bins`, truth values; `jobs`, a number (else
+///   1): how many units may be in flight at one time; `pick`, `first` (also where it is absent) or `last`: which of the
+///   units that may begin does. The builder is called `cargo`, and build scripts are run by `mini --run`.
 ///
-/// A path is an absolute text without byte 0. Of a key that an object has twice the last value counts, as
+/// A path is an absolute text without byte 0. A number is digits alone, up to 18446744073709551615. Of a key that an object has twice the last value counts, as
 /// `serde_json` reads it. BadForm where the bytes are of any other form, and OutOfMemory where memory is
 /// refused.
 pub fn read_session(alloc: Global, bytes: &[u8]) -> Result<Items<SessionStep>, BadSession>

@@ -1,10 +1,12 @@
 //! A step of a session.
 
+use crate::death::Death;
+use crate::pick::PickBy;
 use pb_data::Text;
 use pb_package::Options;
 use pb_place::PathText;
 
-/// A step of a session: an edit of what lies outside the builder, or a build.
+/// A step of a session: an edit of what lies outside the builder, a failure that is prepared there, or a build.
 #[derive(Drop)]
 pub enum SessionStep {
     /// The file at this path has this text from now on.
@@ -15,6 +17,10 @@ pub enum SessionStep {
     Set(Text, Text),
     /// The variable of this name is not set from now on.
     Unset(Text),
-    /// A build.
-    Build(Options),
+    /// A build, and which of the units that may begin does.
+    Build(Options, PickBy),
+    /// The next start whose output folder has this name fails in this way. Any name is taken.
+    Die(Text, Death),
+    /// The call of this number that the next build makes to what lies outside it fails, counted from 1. 0: none does.
+    Fuse(u64),
 }

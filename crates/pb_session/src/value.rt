@@ -5,7 +5,7 @@ ghost use Rattle.pb_data.specs.Gives.{lifted};
 ghost use Rattle.pb_place.specs.Paths.{parsed};
 ghost use Rattle.serde_json.specs.View.{view, items_view, members_view};
 ghost use Rattle.pb_session.specs.Faults.{Gives, of_path_fault};
-ghost use Rattle.pb_session.specs.Values.{text_of, path_in, path_of, pair_of, pair_in, array_of, only_member};
+ghost use Rattle.pb_session.specs.Values.{text_of, number_of, path_in, path_of, pair_of, pair_in, array_of, only_member};
 
 use crate::fault::BadSession;
 use pb_data::Text;
@@ -22,6 +22,17 @@ pub(crate) fn text_of(alloc: Global, value: &Value) -> Result<Text, BadSession>
             let text = Text::from_str(alloc, text)?;
             Ok(text)
         }
+        None => Err(BadSession::BadForm),
+    }
+}
+
+/// A number of digits alone, up to 18446744073709551615. `serde_json` takes one with a sign, a point or an exponent, as
+/// `-0`, `1.0` and `1e1`, and one that is greater, for another kind of number.
+pub(crate) fn number_of(value: &Value) -> Result<u64, BadSession>
+    ensures { Gives result (number_of (view value.now)) }
+{
+    match value.as_u64() {
+        Some(number) => Ok(number),
         None => Err(BadSession::BadForm),
     }
 }
