@@ -1,7 +1,7 @@
 -- Lemmas on what differs.
 use Rattle.std.proofs.Common.{◌≡◌, ◌∙◌, ◌++◌, ◌&&◌, ℕ, zero, suc, Bool, true, false, List, [], ◌∷◌, take, drop, Contains, Option, Some, None, refl, sym, ap, subst, arith, ◌+◌, ◌<◌, length, get_or}
 use Rattle.std.proofs.Math.Seq.{take-suc}
-use Rattle.std.proofs.lemmas.List.{take-append-drop, drop_more}
+use Rattle.std.proofs.lemmas.List.{take-append-drop, drop_more, get_or_default}
 use Rattle.std.specs.Prelude.{Decides, IfNone}
 use Rattle.std.specs.List.{AllByRecursion}
 use Rattle.std.specs.Str.{bytes_eq}
@@ -119,4 +119,18 @@ module _ {A B : Type 0} (Holds : World → A → Type 0) (told : A → B) (old m
     hold = all;
     fails = λ holds. let passes = test.1 (subst (λ w. Holds w here) (sym same) holds) in cc;
     tells = tells;
+  }
+
+-- the first of a row whose items are copied out
+
+module _ {A : Type 0} (Holds : A → Type 0) (row : List A) (i : ℕ) (first : A) (within : i < length row) where
+  pub row_fails : (b : Bool) → AllByRecursion Holds (take i row) → Decides b (Holds (get_or row i first)) → b ≡ false → IsFirst Holds (λ x. x) row (get_or row i first)
+  row_fails b all test wrong = record {
+    before = take i row;
+    here = get_or row i first;
+    after = drop (i + 1) row;
+    place = sym (take-append-drop i row) ∙ ap (λ rest. take i row ++ rest) (drop_more row i (get_or row i first) within ∙ ap (λ x. x ∷ drop (i + 1) row) (get_or_default row i (get_or row i first) first within));
+    hold = all;
+    fails = λ holds. let passes = test.1 holds in cc;
+    tells = refl;
   }

@@ -6,3 +6,4 @@ pub mod Present
 pub mod Firsts
 pub mod Still
 pub mod Once
+pub mod Names

@@ -1,5 +1,5 @@
 -- A record that gets a number and the numbers of the needed units may be put.
-use Rattle.std.proofs.Common.{◌⊎◌, inl, inr, ◌≡◌, ◌∙◌, ℕ, true, List, Option, Some, None, refl, sym, ap, subst, cond, inl, inr, is_some, false}
+use Rattle.std.proofs.Common.{◌⊎◌, inl, inr, ◌≡◌, ◌∙◌, ℕ, true, List, Option, Some, None, refl, sym, ap, subst, cond, inl, inr, is_some, not, false}
 use Rattle.std.proofs.lemmas.Slice.Eq.{bytes_eq-Decides}
 use Rattle.std.specs.FinMap.{get}
 use Rattle.std.specs.Str.{bytes_eq}
@@ -19,7 +19,10 @@ use Rattle.pb_soundness.proofs.Places.{its_key, text_at}
 use Rattle.pb_soundness.proofs.Renewing.{reuse}
 use Rattle.std.proofs.lemmas.Bool.{cases_Bool}
 use Rattle.pb_store.specs.Keeping.{Leaves, HasNeeds, MayPut, numbered}
-use Rattle.pb_store.specs.Migrating.{IsMigrated, numbered_record, migrated, migrated_by}
+use Rattle.pb_store.specs.Migrating.{IsMigrated, lacks_number, migrated, migrated_by, numbered_record}
+use Rattle.pb_store.specs.Causes.{MayRead}
+use Rattle.pb_store.specs.declared.fault.StoreFault.{StoreFault}
+use Rattle.pb_store.specs.declared.fault.StoreFault.TheVariants.{Place, NumbersSpent, OutOfMemory}
 use Rattle.pb_store.proofs.Earned.{names_stand, unnamed_of, before_less}
 
 -- a record that counts has the key of its place
@@ -115,3 +118,13 @@ renumbered_left read folder key needs next old mid new found kept same found_is 
 
 pub has_number : (r s : Record) (number : ℕ) (pairs : List (List ℕ × ℕ)) (o : Option Record) → o ≡ Some (numbered_record s number pairs) → o ≡ Some r → is_some (number_of r) ≡ true
 has_number r s number pairs o put is = ap (λ (t : Record). is_some (number_of t)) (sym (one (numbered_record s number pairs) r (sym put ∙ is)))
+
+-- the record that was found lacks a number
+pub lacks_it : (read : Reading) (folder key : List ℕ) (old : World) (found : Option Record) (kept : Record) → found ≡ record_at read folder old.files key → found ≡ Some kept → is_some (number_of kept) ≡ false → lacks_number (record_at read folder old.files key) ≡ true
+lacks_it read folder key old found kept found_is is lacks = ap lacks_number (sym found_is ∙ is) ∙ ap not lacks
+
+-- a call that reads does not tell that no number is left
+pub read_unspent : (fault : StoreFault) → MayRead fault → fault ≡ NumbersSpent → ⊥
+read_unspent (Place fault) may is = cc
+read_unspent NumbersSpent may is = may
+read_unspent OutOfMemory may is = cc

@@ -16,9 +16,12 @@ use Rattle.pb_soundness.specs.Inputs.{name_of}
 use Rattle.pb_soundness.specs.Records.{Reading, record_at}
 use Rattle.pb_soundness.specs.Reuse.{IsSame, NeededNow}
 use Rattle.pb_soundness.proofs.Flying.{contains_head, contains_tail}
+use Rattle.pb_store.specs.Asking.{IsFirstName, SamePart, parts}
 use Rattle.pb_store.specs.Differences.{AreNeeded, DifferencesAreOne, DiffersFrom, FirstDifference, FirstFrom, FirstNeed, FirstOf, HasFiles, HasNumber, IsAsRecorded, IsFirst, IsPresent, NamesPaths}
+use Rattle.pb_store.specs.declared.difference.CommandPart.{CommandPart}
 use Rattle.pb_store.specs.declared.difference.Difference.{Difference}
 use Rattle.pb_store.specs.declared.difference.Difference.TheVariants.{NoRecord, Command, Pair, Input, Dependency}
+use Rattle.pb_store.proofs.Names.{names_apart, one_name}
 use Rattle.pb_store.proofs.Firsts.{first_for, same_for}
 
 -- the first of a row of which something does not hold
@@ -64,6 +67,15 @@ asks_of a c same = record {
 sets_of : (a : Asked) (c : commands.Command) → command_of a ≡ c → a.pairs ≡ c.pairs
 sets_of a c same = ap (λ (d : commands.Command). d.pairs) same
 
+asks_all : (a : Asked) (c : commands.Command) → AsksAs a c → AllByRecursion (SamePart a c) parts
+asks_all a c asks = (asks.program, (asks.words, (asks.folder, (asks.out, (asks.target, (asks.toolchain, (asks.reads, tt)))))))
+
+part_apart : (a : Asked) (c : commands.Command) (part : CommandPart) → AsksAs a c → IsFirst (SamePart a c) (λ p. p) parts part → ⊥
+part_apart a c part asks first = none_fails (SamePart a c) (λ p. p) parts part (asks_all a c asks) first
+
+name_apart : (a : Asked) (c : commands.Command) (name : List ℕ) → command_of a ≡ c → IsFirstName a.pairs c.pairs name → ⊥
+name_apart a c name same first = names_apart a.pairs c.pairs name first (sets_of a c same)
+
 -- what is told of a record is one
 
 module _ (folder : List ℕ) (at : Standing) (c : commands.Command) (w : World) where
@@ -77,31 +89,31 @@ module _ (folder : List ℕ) (at : Standing) (c : commands.Command) (w : World) 
 
   nothing_differs : (r : Record) (d : Difference) → IsAsRecorded folder at c w r → DiffersFrom folder at c w r d → ⊥
   nothing_differs r NoRecord is told = told
-  nothing_differs r Command is told = told (asks_of r.asked c is.asked)
-  nothing_differs r Pair is told = told.1 (sets_of r.asked c is.asked)
+  nothing_differs r (Command part) is told = part_apart r.asked c part (asks_of r.asked c is.asked) told
+  nothing_differs r (Pair name) is told = name_apart r.asked c name is.asked told.1
   nothing_differs r (Input name) is told = none_fails (IsPresent c.target w) name_of r.inputs name is.inputs told.1
   nothing_differs r (Dependency need) is told = need_fails r.needed need is.needed told.2
 
   one_differs : (r : Record) (d e : Difference) → DiffersFrom folder at c w r d → DiffersFrom folder at c w r e → d ≡ e
   one_differs r NoRecord e told other = absurd told
-  one_differs r Command NoRecord told other = absurd other
-  one_differs r Command Command told other = refl
-  one_differs r Command Pair told other = absurd (told other.0)
-  one_differs r Command (Input name) told other = absurd (told (asks_of r.asked c other.0))
-  one_differs r Command (Dependency need) told other = absurd (told (asks_of r.asked c other.0))
-  one_differs r Pair NoRecord told other = absurd other
-  one_differs r Pair Command told other = absurd (other told.0)
-  one_differs r Pair Pair told other = refl
-  one_differs r Pair (Input name) told other = absurd (told.1 (sets_of r.asked c other.0))
-  one_differs r Pair (Dependency need) told other = absurd (told.1 (sets_of r.asked c other.0))
+  one_differs r (Command part) NoRecord told other = absurd other
+  one_differs r (Command part) (Command second) told other = ap Command (one_first (SamePart r.asked c) (λ p. p) parts part second told other)
+  one_differs r (Command part) (Pair name) told other = absurd (part_apart r.asked c part other.0 told)
+  one_differs r (Command part) (Input name) told other = absurd (part_apart r.asked c part (asks_of r.asked c other.0) told)
+  one_differs r (Command part) (Dependency need) told other = absurd (part_apart r.asked c part (asks_of r.asked c other.0) told)
+  one_differs r (Pair name) NoRecord told other = absurd other
+  one_differs r (Pair name) (Command part) told other = absurd (part_apart r.asked c part told.0 other)
+  one_differs r (Pair name) (Pair second) told other = ap Pair (one_name r.asked.pairs c.pairs name second told.1 other.1)
+  one_differs r (Pair name) (Input second) told other = absurd (name_apart r.asked c name other.0 told.1)
+  one_differs r (Pair name) (Dependency need) told other = absurd (name_apart r.asked c name other.0 told.1)
   one_differs r (Input name) NoRecord told other = absurd other
-  one_differs r (Input name) Command told other = absurd (other (asks_of r.asked c told.0))
-  one_differs r (Input name) Pair told other = absurd (other.1 (sets_of r.asked c told.0))
+  one_differs r (Input name) (Command part) told other = absurd (part_apart r.asked c part (asks_of r.asked c told.0) other)
+  one_differs r (Input name) (Pair second) told other = absurd (name_apart r.asked c second told.0 other.1)
   one_differs r (Input name) (Input second) told other = ap Input (one_first (IsPresent c.target w) name_of r.inputs name second told.1 other.1)
   one_differs r (Input name) (Dependency need) told other = absurd (none_fails (IsPresent c.target w) name_of r.inputs name other.1 told.1)
   one_differs r (Dependency need) NoRecord told other = absurd other
-  one_differs r (Dependency need) Command told other = absurd (other (asks_of r.asked c told.0))
-  one_differs r (Dependency need) Pair told other = absurd (other.1 (sets_of r.asked c told.0))
+  one_differs r (Dependency need) (Command part) told other = absurd (part_apart r.asked c part (asks_of r.asked c told.0) other)
+  one_differs r (Dependency need) (Pair name) told other = absurd (name_apart r.asked c name told.0 other.1)
   one_differs r (Dependency need) (Input name) told other = absurd (none_fails (IsPresent c.target w) name_of r.inputs name told.1 other.1)
   one_differs r (Dependency need) (Dependency second) told other = ap Dependency (one_need r.needed need second told.2 other.2)
 

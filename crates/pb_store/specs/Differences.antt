@@ -14,6 +14,7 @@ use Rattle.pb_soundness.specs.Grounded.{Standing}
 use Rattle.pb_soundness.specs.Inputs.{Agrees, contents, input_in, name_of}
 use Rattle.pb_soundness.specs.Records.{Reading, out_of, record_at}
 use Rattle.pb_soundness.specs.Reuse.{number_if}
+use Rattle.pb_store.specs.Asking.{IsFirstName, SamePart, parts}
 use Rattle.pb_store.specs.declared.difference.Difference.{Difference}
 use Rattle.pb_store.specs.declared.difference.Difference.TheVariants.{NoRecord, Command, Pair, Input, Dependency}
 
@@ -59,11 +60,11 @@ pub record IsAsRecorded (folder : List ℕ) (at : Standing) (c : commands.Comman
   pub inputs : Agrees c.target r.inputs w
   pub needed : AreNeeded folder at w.files r.needed
 
--- what differs first from a record: its command, the variables apart; then its variables; then an input; then a needed unit
+-- what differs first from a record: a part of its command, the variables apart; then a variable; then an input; then a needed unit
 abbrev pub DiffersFrom : List ℕ → Standing → commands.Command → World → Record → Difference → Type 0
 DiffersFrom folder at c w r NoRecord = ⊥
-DiffersFrom folder at c w r Command = AsksAs r.asked c → ⊥
-DiffersFrom folder at c w r Pair = AsksAs r.asked c × (r.asked.pairs ≡ c.pairs → ⊥)
+DiffersFrom folder at c w r (Command part) = IsFirst (SamePart r.asked c) (λ p. p) parts part
+DiffersFrom folder at c w r (Pair name) = AsksAs r.asked c × IsFirstName r.asked.pairs c.pairs name
 DiffersFrom folder at c w r (Input name) = (command_of r.asked ≡ c) × IsFirst (IsPresent c.target w) name_of r.inputs name
 DiffersFrom folder at c w r (Dependency need) = (command_of r.asked ≡ c) × Agrees c.target r.inputs w × FirstNeed folder at w.files r.needed need
 

@@ -1,5 +1,5 @@
 -- A record of format 1 that becomes one of format 2.
-use Rattle.std.specs.Prelude.{◌≡◌, ◌⊎◌, ℕ, List, Option, Some, None}
+use Rattle.std.specs.Prelude.{◌≡◌, ◌⊎◌, ℕ, Bool, false, not, is_some, List, Option, Some, None}
 use Rattle.pb_place.specs.World.{World, Answers}
 use Rattle.pb_place.specs.declared.command.Command.{Command}
 use Rattle.pb_record.specs.declared.record.Needed.TheVariants.{Numbers}
@@ -13,6 +13,11 @@ use Rattle.pb_store.specs.Keeping.{HasNeeds}
 -- the record with a number and the needed units with theirs, in place of copies
 abbrev pub numbered_record : Record → ℕ → List (List ℕ × ℕ) → Record
 numbered_record r number pairs = record { key = r.key; asked = r.asked; inputs = r.inputs; needed = Numbers number pairs; stdout = r.stdout; stderr = r.stderr }
+
+-- a record counts in a unit's place, and it is of format 1: it has no number
+abbrev pub lacks_number : Option Record → Bool
+lacks_number None = false
+lacks_number (Some r) = not (is_some (number_of r))
 
 -- what becomes of the record in a unit's place: one with a number of its own stays as it is, and one without is written again with the next number
 abbrev pub migrated_by : Option ℕ → Option ℕ → List (List ℕ × ℕ) → Record → Option Record

@@ -13,6 +13,7 @@ ghost use Rattle.pb_soundness.specs.Reuse.{IsSame, number_if};
 ghost use Rattle.pb_store.specs.Causes.{Takes, MayRead, MayLook};
 ghost use Rattle.pb_store.specs.Differences.{IsFirst, FirstOrAll, IsPresent, HasNumber, HasFiles, AreNeeded, FirstNeed, FirstFrom, FirstDifference, NamesPaths};
 
+use crate::asking::{first_part, first_variable};
 use crate::comparing::{are_same_files, is_same_input};
 use crate::difference::Difference;
 use crate::fault::StoreFault;
@@ -301,11 +302,13 @@ fn first_from<P: Place>(
     ensures still { IsTrue P.tells → KeepsStill (P.still place.old) (P.still place.new) }
     ensures takes { Takes MayLook result (P.counts place.old) (P.counts place.new) }
 {
-    if !kept.asked.asks_as(command) {
-        return Ok(Some(Difference::Command));
+    if let Some(part) = first_part(&kept.asked, command) {
+        return Ok(Some(Difference::Command(part)));
     }
-    if !kept.asked.sets_as(command) {
-        return Ok(Some(Difference::Pair));
+    match first_variable(alloc, kept.asked.pairs.as_slice(), command.pairs.as_slice()) {
+        Ok(Some(name)) => return Ok(Some(Difference::Pair(name))),
+        Ok(None) => {}
+        Err(_) => return Err(StoreFault::OutOfMemory),
     }
     match first_around(alloc, place, folder, command, kept) {
         Ok(found) => Ok(found),

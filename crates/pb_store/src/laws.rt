@@ -1,9 +1,17 @@
 //! Laws of the store. Each function does nothing; its contract is the law.
 
+ghost use Rattle.pb_store.specs.Asking.{FirstNameIsFirst};
 ghost use Rattle.pb_store.specs.Differences.{DifferencesAreOne};
 
 /// What differs first of a unit is determined by the world: two calls of `differs` in one world that answer well give
 /// the same answer.
 pub fn differences_are_one()
     ensures { DifferencesAreOne }
+{}
+
+/// The name that `differs` tells of two rows of variables, each sorted by name, is the first in byte order of which they
+/// do not say the same: there only one of them has a text, or they have two; at each lesser name they have the same
+/// text, or none.
+pub fn first_name_is_first()
+    ensures { FirstNameIsFirst }
 {}

@@ -2,6 +2,7 @@
 //! the folder is sound after every call.
 #![tactic(auto)]
 
+mod asking;
 mod comparing;
 pub mod difference;
 pub mod differing;
@@ -16,8 +17,8 @@ pub mod opening;
 pub mod replaying;
 pub mod store;
 
-pub use difference::Difference;
+pub use difference::{CommandPart, Difference};
 pub use fault::StoreFault;
-pub use laws::differences_are_one;
+pub use laws::{differences_are_one, first_name_is_first};
 pub use replaying::Replayed;
 pub use store::Store;

@@ -1,6 +1,6 @@
 //! A record of format 1 that becomes one of format 2.
 
-ghost use Rattle.std.specs.Prelude.{is_some, ◌≡◌, ◌⊎◌, ℕ, List, true, IsTrue, IfOk, OnOk, Some, None, Err, All};
+ghost use Rattle.std.specs.Prelude.{is_some, false, ◌≡◌, ◌⊎◌, ℕ, List, true, IsTrue, IfOk, OnOk, Some, None, Err, All};
 ghost use Rattle.pb_place.specs.Paths.{is_at_or_below};
 ghost use Rattle.pb_place.specs.World.{ChangesOnly};
 ghost use Rattle.pb_place.specs.declared.command.Command.{Command};
@@ -14,7 +14,7 @@ ghost use Rattle.pb_soundness.specs.Sound.{Sound};
 ghost use Rattle.pb_store.specs.Causes.{Takes, MayMigrate};
 ghost use Rattle.pb_store.specs.Keeping.{Leaves, numbered};
 ghost use Rattle.pb_store.specs.declared.fault.StoreFault.TheVariants as store_fault;
-ghost use Rattle.pb_store.specs.Migrating.{IsMigrated, numbered_record, migrated, TakesNumber};
+ghost use Rattle.pb_store.specs.Migrating.{IsMigrated, TakesNumber, lacks_number, migrated, numbered_record};
 
 use crate::dropping::number_after;
 use crate::fault::StoreFault;
@@ -85,8 +85,8 @@ impl Store {
     /// place as format 2. Where the record is of format 2, or none counts, nothing is changed. `needs` are the keys of
     /// the units that the unit needs, in plan order. After a fault the old record stands, none, or the new one.
     ///
-    /// Faults: NumbersSpent, where the record is of format 1 and no number is left: nothing was changed then; Place,
-    /// where a record cannot be read or written; OutOfMemory.
+    /// Faults: NumbersSpent, only where the record is of format 1 and no number is left: nothing was changed then;
+    /// Place, where a record cannot be read or written; OutOfMemory.
     pub fn migrate<P: Place>(
         &mut self,
         alloc: Global,
@@ -100,6 +100,10 @@ impl Store {
         ensures ahead { (read : Reading) (judge : Judge) (c : Command) (r : Record) → IsReading read → IsTrue P.tells → ((number : ℕ) → self.old.next ≡ Some number → IsMigrated read judge P.child self.old.folder key.now c needs.now number (P.world place.old) r) → IsAhead (record_at read self.old.folder (P.world place.old).files) self.old.next → IsAhead (record_at read self.old.folder (P.world place.new).files) self.new.next }
         ensures next { TakesNumber self.old.next self.new.next }
         ensures folder { self.new.folder ≡ self.old.folder }
+        ensures spent { self.old.next ≡ None → IsTrue P.tells → P.world place.new ≡ P.world place.old }
+        ensures cause { (read : Reading) → IsReading read → IsTrue P.tells → result ≡ Err store_fault.NumbersSpent → lacks_number (record_at read self.old.folder (P.world place.old).files key.now) ≡ true }
+        ensures same { (read : Reading) → IsReading read → IsTrue P.tells → lacks_number (record_at read self.old.folder (P.world place.old).files key.now) ≡ false → P.world place.new ≡ P.world place.old }
+        ensures unused { (read : Reading) → IsReading read → IsTrue P.tells → lacks_number (record_at read self.old.folder (P.world place.old).files key.now) ≡ false → self.new.next ≡ self.old.next }
         ensures stands { (read : Reading) → IsReading read → IsTrue P.tells → OnOk result (record_at read self.old.folder (P.world place.new).files key.now ≡ migrated self.old.next (numbered (record_at read self.old.folder (P.world place.old).files) needs.now) (record_at read self.old.folder (P.world place.old).files key.now)) }
         ensures left { (read : Reading) → IsReading read → IsTrue P.tells → Leaves (migrated self.old.next (numbered (record_at read self.old.folder (P.world place.old).files) needs.now) (record_at read self.old.folder (P.world place.old).files key.now)) (record_at read self.old.folder (P.world place.old).files key.now) (record_at read self.old.folder (P.world place.new).files key.now) }
         ensures numbered { (read : Reading) (r : Record) → IsReading read → IsTrue P.tells → OnOk result (record_at read self.old.folder (P.world place.new).files key.now ≡ Some r → is_some (number_of r) ≡ true) }

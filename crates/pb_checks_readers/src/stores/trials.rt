@@ -70,29 +70,62 @@ const DIFFERENCES: &[(&str, &str)] = &[
         "file /t/debug/a.target.lib.record\ndiffers",
         "nothing is kept of it, ",
     ),
-    ("differs rustc rustd", "its command has changed, "),
-    ("differs -C -D", "its command has changed, "),
-    ("differs 1_2_-C_ 0_", "its command has changed, "),
-    ("differs /w /v", "its command has changed, "),
-    ("differs debug/a debug/c", "its command has changed, "),
-    ("differs _/t_ _/s_", "its command has changed, "),
-    ("differs x_y x_z", "its command has changed, "),
-    ("differs debug/b debug/c", "its command has changed, "),
+    ("differs rustc rustd", "its program has changed, "),
+    ("differs -C -D", "its words have changed, "),
+    ("differs 1_2_-C_ 0_", "its words have changed, "),
+    ("differs /w /v", "its folder has changed, "),
+    ("differs debug/a debug/c", "its output folder has changed, "),
+    ("differs _/t_ _/s_", "its target folder has changed, "),
+    ("differs x_y x_z", "its compiler has changed, "),
+    (
+        "differs debug/b debug/c",
+        "the folders that it may read have changed, ",
+    ),
+    (
+        "differs rustc_1_2_-C rustd_1_2_-D",
+        "its program has changed, ",
+    ),
+    ("differs -C_2_/w -D_2_/v", "its words have changed, "),
+    (
+        "differs /w_1_1_A_1_1 /v_1_1_A_1_2",
+        "its folder has changed, ",
+    ),
+    (
+        "differs a.target.lib_2_/t c.target.lib_2_/s",
+        "its output folder has changed, ",
+    ),
+    ("differs _/t_3_x _/s_3_z", "its target folder has changed, "),
+    (
+        "differs x_y_1_21_/t/debug/b x_z_1_21_/t/debug/c",
+        "its compiler has changed, ",
+    ),
+    (
+        "differs A_1_1_21_/t/debug/a.target.lib_2_/t_3_x_y_1_21_/t/debug/b A_1_2_21_/t/debug/a.target.lib_2_/t_3_x_y_1_21_/t/debug/c",
+        "the folders that it may read have changed, ",
+    ),
     (
         "differs A_1_1 A_1_2",
-        "a variable that its command sets has changed, ",
+        "the variable `A` that its command sets has changed, ",
     ),
     (
         "differs A B",
-        "a variable that its command sets has changed, ",
+        "the variable `A` that its command sets has changed, ",
     ),
     (
         "differs 1_1_A_1_1_ 0_",
-        "a variable that its command sets has changed, ",
+        "the variable `A` that its command sets has changed, ",
+    ),
+    (
+        "differs 1_1_A_1_1_ 2_1_A_1_1_1_B_1_1_",
+        "the variable `B` that its command sets has changed, ",
+    ),
+    (
+        "differs 1_1_A_1_1_ 2_1_0_1_1_1_A_1_2_",
+        "the variable `0` that its command sets has changed, ",
     ),
     (
         "file /w/a fm\nset V w\nedit /t/debug/b.target.lib.record 3 4\ndiffers rustc rustd\ndiffers 1_1_A_1_1_21_/t/debug/a 0_21_/t/debug/c\ndiffers A B\ndiffers\nfile /w/a fn\ndiffers\nset V v\ndiffers\nedit /t/debug/b.target.lib.record 4 3\ndiffers",
-        "its command has changed, its command has changed, a variable that its command sets has changed, `/w/a` has changed, `V` has changed, `b.target.lib` was built anew, same, ",
+        "its program has changed, its output folder has changed, the variable `A` that its command sets has changed, `/w/a` has changed, `V` has changed, `b.target.lib` was built anew, same, ",
     ),
     ("first\ndiffers", "same, "),
     (
@@ -117,7 +150,7 @@ const DIFFERENCES: &[(&str, &str)] = &[
     ),
     (
         "first\nfile /w/a fm\nfile /t/debug/b.target.lib/b.lib C\ndiffers A B\ndiffers\nfile /w/a fn\ndiffers",
-        "a variable that its command sets has changed, `/w/a` has changed, `b.target.lib` was built anew, ",
+        "the variable `A` that its command sets has changed, `/w/a` has changed, `b.target.lib` was built anew, ",
     ),
 ];
 

@@ -1,9 +1,10 @@
 use Rattle.std.proofs.Common.{◌∙◌, ap, is_some, sym, subst}
+use Rattle.std.proofs.lemmas.Bool.{false≢true}
 use Rattle.pb_place.specs.World.{World}
 use Rattle.pb_soundness.specs.Numbers.{IsAhead}
 use Rattle.pb_soundness.specs.Records.{record_at}
 use Rattle.pb_soundness.specs.Sound.{Sound}
-use Rattle.pb_store.proofs.Migrated.{renumbered_left, has_number, stands_by_key, same_migrated, renumbered}
+use Rattle.pb_store.proofs.Migrated.{lacks_it, renumbered_left, has_number, stands_by_key, same_migrated, renumbered}
 use Rattle.pb_store.proofs.store.Store.migrate.Goals as goal
 
 pub returns-in-Ok-renumber-clause-sound : goal.returns-in-Ok-renumber-clause-sound
@@ -52,3 +53,18 @@ pub returns-in-Ok-renumber-clause-numbered : goal.returns-in-Ok-renumber-clause-
 returns-in-Ok-renumber-clause-numbered g c read r is told there =
     let (number, next, put) = c.in-Ok-renumber.ensures.stands read is told (stands_by_key read c.args.self.now.folder c.args.key.now (g.P.Place.world c.args.place.now).files c.in-Some.kept (sym (c.in-Ok.ensures.ok read is told) ∙ c.in-Some.is)) in
     has_number r c.in-Some.kept number _ _ put there
+
+pub returns-in-Ok-renumber-clause-same : goal.returns-in-Ok-renumber-clause-same
+returns-in-Ok-renumber-clause-same g c read is told has = absurd (false≢true (sym has ∙ lacks_it read c.args.self.now.folder c.args.key.now (g.P.Place.world c.args.place.now) _ c.in-Some.kept (c.in-Ok.ensures.ok read is told) c.in-Some.is (ap is_some (sym c.number_of.ensures) ∙ sym c.is_some.ensures ∙ c.if-is_some.false)))
+
+pub returns-in-Ok-renumber-clause-unused : goal.returns-in-Ok-renumber-clause-unused
+returns-in-Ok-renumber-clause-unused g c read is told has = absurd (false≢true (sym has ∙ lacks_it read c.args.self.now.folder c.args.key.now (g.P.Place.world c.args.place.now) _ c.in-Some.kept (c.in-Ok.ensures.ok read is told) c.in-Some.is (ap is_some (sym c.number_of.ensures) ∙ sym c.is_some.ensures ∙ c.if-is_some.false)))
+
+pub returns-in-Err-renumber-clause-same : goal.returns-in-Err-renumber-clause-same
+returns-in-Err-renumber-clause-same g c read is told has = absurd (false≢true (sym has ∙ lacks_it read c.args.self.now.folder c.args.key.now (g.P.Place.world c.args.place.now) _ c.in-Some.kept (c.in-Ok.ensures.ok read is told) c.in-Some.is (ap is_some (sym c.number_of.ensures) ∙ sym c.is_some.ensures ∙ c.if-is_some.false)))
+
+pub returns-in-Err-renumber-clause-unused : goal.returns-in-Err-renumber-clause-unused
+returns-in-Err-renumber-clause-unused g c read is told has = absurd (false≢true (sym has ∙ lacks_it read c.args.self.now.folder c.args.key.now (g.P.Place.world c.args.place.now) _ c.in-Some.kept (c.in-Ok.ensures.ok read is told) c.in-Some.is (ap is_some (sym c.number_of.ensures) ∙ sym c.is_some.ensures ∙ c.if-is_some.false)))
+
+pub returns-in-Err-renumber-clause-cause : goal.returns-in-Err-renumber-clause-cause
+returns-in-Err-renumber-clause-cause g c read is told spent = lacks_it read c.args.self.now.folder c.args.key.now (g.P.Place.world c.args.place.now) _ c.in-Some.kept (c.in-Ok.ensures.ok read is told) c.in-Some.is (ap is_some (sym c.number_of.ensures) ∙ sym c.is_some.ensures ∙ c.if-is_some.false)

@@ -1,0 +1,131 @@
+//! What a command asks beside what was asked: the first part that is another, and the first variable.
+
+ghost use Rattle.std.specs.Prelude.{◌≡◌, ◌&&◌, Decides, IfOk, MatchOption, Some, option_map};
+ghost use Rattle.std.specs.Str.{bytes_eq};
+ghost use Rattle.pb_record.specs.Commands.{AsksAs};
+ghost use Rattle.pb_store.specs.Asking.{IsFirstName, SamePart, first_name, lesser, parts};
+ghost use Rattle.pb_store.specs.Differences.{IsFirst};
+
+use crate::difference::CommandPart;
+use pb_data::{Text, TryCopy};
+use pb_place::{Command, PathText};
+use pb_record::Asked;
+use std::alloc::{AllocError, Global};
+
+/// The parts of a command, its variables apart, in order.
+const PARTS: &[CommandPart] = &[
+    CommandPart::Program,
+    CommandPart::Words,
+    CommandPart::Folder,
+    CommandPart::Out,
+    CommandPart::Target,
+    CommandPart::Toolchain,
+    CommandPart::Reads,
+];
+
+/// Whether two lists of texts are the same.
+#[tactic(auto, using(pb_record::proofs::CommandLemmas::texts_same))]
+fn are_same_texts(texts: &[Text], others: &[Text]) -> bool
+    ensures { Decides result (texts.now ≡ others.now) }
+{
+    texts == others
+}
+
+/// Whether two lists of paths are the same.
+#[tactic(auto, using(pb_record::proofs::CommandLemmas::texts_same))]
+fn are_same_paths(paths: &[PathText], others: &[PathText]) -> bool
+    ensures { Decides result (paths.now ≡ others.now) }
+{
+    paths == others
+}
+
+/// Whether a command has this output folder.
+fn has_out(out: &PathText, other: &Option<PathText>) -> bool
+    ensures { Decides result (Some out.now ≡ other.now) }
+{
+    match other {
+        Some(other) => out == other,
+        None => false,
+    }
+}
+
+/// Whether a part of a command is the one that was asked.
+fn is_same_part(asked: &Asked, command: &Command, part: CommandPart) -> bool
+    ensures { Decides result (SamePart asked.now command.now part) }
+{
+    match part {
+        CommandPart::Program => asked.program == command.program,
+        CommandPart::Words => are_same_texts(asked.words.as_slice(), command.words.as_slice()),
+        CommandPart::Folder => asked.folder == command.folder,
+        CommandPart::Out => has_out(&asked.out, &command.out),
+        CommandPart::Target => asked.target == command.target,
+        CommandPart::Toolchain => asked.toolchain == command.toolchain,
+        CommandPart::Reads => are_same_paths(asked.reads.as_slice(), command.reads.as_slice()),
+    }
+}
+
+/// The first part of a command, its variables apart, that is another than what was asked. It takes no memory.
+pub(crate) fn first_part(asked: &Asked, command: &Command) -> Option<CommandPart>
+    ensures { MatchOption result (AsksAs asked.now command.now) (IsFirst (SamePart asked.now command.now) (λ part. part) parts) }
+{
+    for part in PARTS {
+        if !is_same_part(asked, command, *part) {
+            return Some(*part);
+        }
+    }
+    None
+}
+
+/// The lesser of two names in byte order.
+fn lesser<'a>(name: &'a Text, other: &'a Text) -> &'a Text
+    ensures { result.now ≡ lesser name.now other.now }
+{
+    if other.cmp(name).is_lt() { other } else { name }
+}
+
+/// Whether two variables are the same, by name and by text.
+fn is_same_variable(pair: &(Text, Text), other: &(Text, Text)) -> bool
+    ensures { result ≡ bytes_eq pair.now.0 other.now.0 && bytes_eq pair.now.1 other.now.1 }
+{
+    pair.0.as_bytes() == other.0.as_bytes() && pair.1.as_bytes() == other.1.as_bytes()
+}
+
+/// The first name at which two rows of variables are not the same. It takes no memory.
+fn first_name<'a>(pairs: &'a [(Text, Text)], others: &'a [(Text, Text)]) -> Option<&'a Text>
+    ensures { option_map (λ name. name.now) result ≡ first_name pairs.now others.now }
+{
+    let mut left = pairs;
+    let mut right = others;
+    while let [pair, after @ ..] = left {
+        match right {
+            [other, others_after @ ..] => {
+                if !is_same_variable(pair, other) {
+                    return Some(lesser(&pair.0, &other.0));
+                }
+                left = after;
+                right = others_after;
+            }
+            [] => return Some(&pair.0),
+        }
+    }
+    match right {
+        [] => None,
+        [other, ..] => Some(&other.0),
+    }
+}
+
+/// The name of the first variable, in byte order of names, that one of two rows sets and the other does not, or to
+/// another text. Both are sorted by name.
+#[tactic(auto, using(crate::proofs::Names::name_laws))]
+pub(crate) fn first_variable(
+    alloc: Global,
+    pairs: &[(Text, Text)],
+    others: &[(Text, Text)],
+) -> Result<Option<Text>, AllocError>
+    ensures { IfOk result (λ found. MatchOption found (pairs.now ≡ others.now) (IsFirstName pairs.now others.now)) }
+{
+    match first_name(pairs, others) {
+        None => Ok(None),
+        Some(name) => Ok(Some(name.copy(alloc)?)),
+    }
+}
