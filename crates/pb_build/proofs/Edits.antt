@@ -8,7 +8,7 @@ use Rattle.pb_place.specs.World.{World, Map, Answers, written, removed, from_not
 use Rattle.pb_place.proofs.Folders.{sources_alike}
 use Rattle.pb_place.proofs.MapLemmas.{get-kept}
 use Rattle.pb_session.specs.declared.step.SessionStep.{SessionStep}
-use Rattle.pb_session.specs.declared.step.SessionStep.TheVariants.{Write, Remove, Set, Unset, Build}
+use Rattle.pb_session.specs.declared.step.SessionStep.TheVariants.{Write, Remove, Set, Unset, Build, Die, Fuse}
 use Rattle.pb_build.specs.Kept.{SourcesStay}
 use Rattle.pb_build.specs.Environment.{environment_of}
 use Rattle.pb_build.specs.Ending.{Moment}
@@ -54,7 +54,9 @@ edit_alike target (Remove path) v w stay =
 edit_alike target (Set name value) v w stay =
     stay_by target (set name value v) (set name value w) (stay_at target v w stay) (ap (λ (m : Map). insert m name value) (same_variables target v w stay))
 edit_alike target (Unset name) v w stay = stay_by target (unset name v) (unset name w) (stay_at target v w stay) (ap (λ (m : Map). remove m name) (same_variables target v w stay))
-edit_alike target (Build o) v w stay = stay
+edit_alike target (Build o pick) v w stay = stay
+edit_alike target (Die key death) v w stay = stay
+edit_alike target (Fuse number) v w stay = stay
 
 -- the sources are those of the edits
 sources_edited : (child : Answers) (target : List ℕ) (steps : List SessionStep) (v : World) (before after : Point) → SourcesStay target v before.moment.world → OneTarget target steps v → Course child steps before after
@@ -68,7 +70,11 @@ sources_edited child target (Set name value ∷ steps) v before after stay one (
     sources_edited child target steps (edit (Set name value) v) mid after (ap (λ (m : Moment). from_nothing target m.world) e.0 ∙ edit_alike target (Set name value) v before.moment.world stay) one.1 rest
 sources_edited child target (Unset name ∷ steps) v before after stay one (mid, e, rest) =
     sources_edited child target steps (edit (Unset name) v) mid after (ap (λ (m : Moment). from_nothing target m.world) e.0 ∙ edit_alike target (Unset name) v before.moment.world stay) one.1 rest
-sources_edited child target (Build o ∷ steps) v before after stay one (mid, (answer, builds, kept, answers), rest) =
+sources_edited child target (Die key death ∷ steps) v before after stay one (mid, same, rest) =
+    sources_edited child target steps v mid after (ap (λ (p : Point). from_nothing target p.moment.world) same ∙ stay) one.1 rest
+sources_edited child target (Fuse number ∷ steps) v before after stay one (mid, same, rest) =
+    sources_edited child target steps v mid after (ap (λ (p : Point). from_nothing target p.moment.world) same ∙ stay) one.1 rest
+sources_edited child target (Build o pick ∷ steps) v before after stay one (mid, (answer, builds, kept, answers), rest) =
     let is : (environment_of o before.moment.world.variables).target ≡ target = ap (λ (m : Map). (environment_of o m).target) (same_variables target v before.moment.world stay) ∙ one.0 in
     let stays : SourcesStay target before.moment.world mid.moment.world = subst (λ (t : List ℕ). SourcesStay t before.moment.world mid.moment.world) is kept in
     sources_edited child target steps v mid after (stays ∙ stay) one.1 rest

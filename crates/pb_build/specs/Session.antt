@@ -3,7 +3,7 @@ use Rattle.std.specs.Prelude.{◌≡◌, ◌↔◌, ⊤, ℕ, true, List, [], �
 use Rattle.pb_place.specs.World.{World, Answers, written, removed}
 use Rattle.pb_place.specs.Memory.{Held, counts_in, set, unset}
 use Rattle.pb_session.specs.declared.step.SessionStep.{SessionStep}
-use Rattle.pb_session.specs.declared.step.SessionStep.TheVariants.{Write, Remove, Set, Unset, Build}
+use Rattle.pb_session.specs.declared.step.SessionStep.TheVariants.{Write, Remove, Set, Unset, Build, Die, Fuse}
 use Rattle.pb_build.specs.declared.sessions.Answer.{Answer}
 use Rattle.pb_build.specs.Ending.{Moment, moment, Builds}
 use Rattle.pb_build.specs.Environment.{environment_of}
@@ -24,13 +24,15 @@ point memory taken faults answers = record { moment = moment memory.world (count
 abbrev pub Edits : World → Point → Point → Type 0
 Edits w before after = (after.moment ≡ record before.moment { world = w }) × (after.answers ≡ before.answers)
 
--- a step: an edit, or a build, which adds its answer
+-- a step: an edit; a failure that is prepared, of which nothing is seen yet; or a build, which adds its answer. Which unit is picked has no effect on what a build gives
 abbrev pub Takes : Answers → SessionStep → Point → Point → Type 0
 Takes child (Write path text) before after = Edits (written path text before.moment.world) before after
 Takes child (Remove path) before after = Edits (removed path before.moment.world) before after
 Takes child (Set name value) before after = Edits (set name value before.moment.world) before after
 Takes child (Unset name) before after = Edits (unset name before.moment.world) before after
-Takes child (Build options) before after =
+Takes child (Die key death) before after = after ≡ before
+Takes child (Fuse number) before after = after ≡ before
+Takes child (Build options pick) before after =
     (answer : Answer) × Builds true child options answer.result before.moment after.moment
     × SourcesStay (environment_of options before.moment.world.variables).target before.moment.world after.moment.world × (after.answers ≡ before.answers ++ answer ∷ [])
 
@@ -39,13 +41,15 @@ abbrev pub Course : Answers → List SessionStep → Point → Point → Type 0
 Course child [] before after = after ≡ before
 Course child (step ∷ steps) before after = (mid : Point) × Takes child step before mid × Course child steps mid after
 
--- what an edit makes of the world; a build is none
+-- what an edit makes of the world; other steps are none
 abbrev pub edit : SessionStep → World → World
 edit (Write path text) w = written path text w
 edit (Remove path) w = removed path w
 edit (Set name value) w = set name value w
 edit (Unset name) w = unset name w
-edit (Build options) w = w
+edit (Build options pick) w = w
+edit (Die key death) w = w
+edit (Fuse number) w = w
 
 -- the present workspace: what the edits among some steps have made of the world
 abbrev pub edited : List SessionStep → World → World
@@ -58,7 +62,9 @@ UsesTarget target (Write path text) w = ⊤
 UsesTarget target (Remove path) w = ⊤
 UsesTarget target (Set name value) w = ⊤
 UsesTarget target (Unset name) w = ⊤
-UsesTarget target (Build options) w = (environment_of options w.variables).target ≡ target
+UsesTarget target (Die key death) w = ⊤
+UsesTarget target (Fuse number) w = ⊤
+UsesTarget target (Build options pick) w = (environment_of options w.variables).target ≡ target
 
 -- all builds among some steps have one target folder
 abbrev pub OneTarget : List ℕ → List SessionStep → World → Type 0

@@ -1,6 +1,7 @@
 //! Sessions in memory: edits and builds, one after another.
 
 ghost use Rattle.std.specs.Prelude.{◌≡◌, [], IfOk, OnOk};
+ghost use Rattle.pb_session.specs.declared.pick.PickBy.{PickBy};
 ghost use Rattle.pb_session.specs.declared.step.SessionStep.TheVariants.{Build};
 ghost use Rattle.pb_build.specs.Session.{Takes, Course, point};
 
@@ -19,7 +20,7 @@ pub struct Answer {
     pub result: Result<Summary, BuildFault>,
 }
 
-/// Builds, and adds the answer to those of the builds before it.
+/// Builds, and adds the answer to those of the builds before it. A fuse that the build did not reach is gone then.
 fn add_build<C: Child, O: Out>(
     alloc: Global,
     memory: &mut Memory<C>,
@@ -27,14 +28,15 @@ fn add_build<C: Child, O: Out>(
     options: &Options,
     answers: &mut Items<Answer>,
 ) -> Result<(), AllocError>
-    ensures { OnOk result (Takes C.answers (Build options.now) (point memory.old (O.taken out.old) (O.faults out.old) answers.old) (point memory.new (O.taken out.new) (O.faults out.new) answers.new)) }
+    ensures { (pick : PickBy) → OnOk result (Takes C.answers (Build options.now pick) (point memory.old (O.taken out.old) (O.faults out.old) answers.old) (point memory.new (O.taken out.new) (O.faults out.new) answers.new)) }
 {
     let result = build(alloc, memory, out, options);
+    memory.fuse(0);
     answers.push(Answer { result })?;
     Ok(())
 }
 
-/// Takes a step. A build adds its answer to those of the builds before it; an edit has none.
+/// Takes a step. A build adds its answer to those of the builds before it; another step has none.
 fn take_step<C: Child, O: Out>(
     alloc: Global,
     memory: &mut Memory<C>,
@@ -49,8 +51,18 @@ fn take_step<C: Child, O: Out>(
         SessionStep::Remove(path) => memory.remove(alloc, path),
         SessionStep::Set(name, value) => memory.set(alloc, name.as_str(), value.as_str()),
         SessionStep::Unset(name) => memory.unset(alloc, name.as_str()),
-        SessionStep::Build(options) => add_build(alloc, memory, out, options, answers),
+        SessionStep::Build(options, _) => add_build(alloc, memory, out, options, answers),
+        SessionStep::Die(name, death) => memory.die(alloc, name.as_str(), death.fault()),
+        SessionStep::Fuse(number) => light(memory, *number),
     }
+}
+
+/// Lets the call of this number of the next build fail; 0 lets none.
+fn light<C: Child>(memory: &mut Memory<C>, number: u64) -> Result<(), AllocError>
+    ensures { memory.new ≡ record memory.old { fuse = number } }
+{
+    memory.fuse(number);
+    Ok(())
 }
 
 /// Takes steps in turn over a place in memory, and gives an answer for each build. The message lines of all builds go
