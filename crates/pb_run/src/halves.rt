@@ -1,20 +1,21 @@
 //! The halves of a unit's run: it begins, with a child or without; it answers, or its answer is dropped.
 
-ghost use Rattle.std.specs.Prelude.{◌≡◌, ◌+◌, ℕ, true, List, Option, IsTrue, IfOk, IfSome, MatchOption, MatchResult, Some, None, max, length, is_some, option_map, slice_get, slice_set};
+ghost use Rattle.std.specs.Prelude.{◌≡◌, ◌≢◌, ◌+◌, ℕ, true, List, Option, IsTrue, IfOk, IfSome, MatchOption, MatchResult, Some, None, max, length, is_some, option_map, slice_get, slice_set};
 ghost use Rattle.std.specs.FinMap as finite;
 ghost use Rattle.pb_command.specs.Command.{command_of};
 ghost use Rattle.pb_directive.specs.declared.directive.Directive.{Directive};
 ghost use Rattle.pb_flight.specs.declared.flight.State.{State};
 ghost use Rattle.pb_flight.specs.declared.flight.State.TheVariants as state;
-ghost use Rattle.pb_place.specs.Children.{is_flying};
+ghost use Rattle.pb_place.specs.Children.{child_at, is_flying};
 ghost use Rattle.pb_place.specs.Folders.{files_in};
 ghost use Rattle.pb_place.specs.Paths.{is_at_or_below};
 ghost use Rattle.pb_place.specs.World.{World, ChangesOnly};
+ghost use Rattle.pb_place.specs.declared.child_in_flight.ChildInFlight.{ChildInFlight};
 ghost use Rattle.pb_project.specs.Targets.{unit_at};
 ghost use Rattle.pb_project.specs.declared.fault.UnitFault.{UnitFault};
 ghost use Rattle.pb_record.specs.Parts.{IsReading};
 ghost use Rattle.pb_run.specs.Causes.{Takes, Begins, Lands, Drops, MayBeginUnit, MayAnswerUnit};
-ghost use Rattle.pb_run.specs.Halves.{Footing, Basis, basis, outcomes_in, Keeps, IsBegun, CanBegin, CanAnswer, BeginsApart};
+ghost use Rattle.pb_run.specs.Halves.{Footing, Basis, basis, outcomes_in, Keeps, IsBegun, CanBegin, CanAnswer, BeginsApart, WritesTo};
 ghost use Rattle.pb_run.specs.Outcome.{outcome_by, directives_in};
 ghost use Rattle.pb_run.specs.Standing.{IsCommandOf, IsInOrder, records_folder};
 ghost use Rattle.pb_run.specs.declared.begun.Begun.{Begun};
@@ -75,6 +76,8 @@ pub fn begin_unit<P: Place>(
     ensures differs { (read : Reading) → IsReading read → IsTrue P.tells → IfOk result (λ begun. FirstDifference read (records_folder project.now) unit.now.key begun.command (P.world place.old) (option_map (λ launched. launched.difference) begun.launched)) }
     ensures only { IsTrue P.tells → ChangesOnly (is_of (records_folder project.now) unit.now.key) (P.world place.old) (P.world place.new) }
     ensures same { IsTrue P.tells → IfOk result (λ begun. begun.launched ≡ None → P.world place.new ≡ P.world place.old) }
+    ensures writes { IsTrue P.tells → IfOk result (λ begun. WritesTo unit.now.out begun.launched (P.counts place.new).starts.flying) }
+    ensures stay { (ticket : ℕ) (its : ChildInFlight) → child_at ticket (P.counts place.old).starts.flying ≡ Some its → child_at ticket (P.counts place.new).starts.flying ≡ Some its }
     ensures folder { store.new.folder ≡ store.old.folder }
     ensures next { TakesNumber store.old.next store.new.next }
     ensures number { IfOk result (λ begun. IfSome begun.launched (λ launched. (store.old.next ≡ Some launched.number) × (store.new.next ≡ after launched.number))) }
@@ -147,9 +150,8 @@ pub fn answer_unit<P: Place>(
         → CanAnswer (basis footing read P.child setup project.now sources) states done index unit.now begun store.old.next (P.world place.old) (P.counts place.old).starts.flying (P.still place.old)
         → BeginsApart (basis footing read P.child setup project.now sources) states index begun.launched other its store.old.next (P.world place.old) (P.counts place.old).starts.flying (P.still place.old)
         → IsBegun (basis footing read P.child setup project.now sources) other its store.new.next (P.world place.new) (P.counts place.new).starts.flying (P.still place.new) }
-    ensures only { (footing : Footing) (read : Reading) (setup : Setup) (sources : World) → IsTrue P.tells
-        → IsBegun (basis footing read P.child setup project.now sources) index begun store.old.next (P.world place.old) (P.counts place.old).starts.flying (P.still place.old)
-        → ChangesOnly (is_of (records_folder project.now) unit.now.key) (P.world place.old) (P.world place.new) }
+    ensures only { IsTrue P.tells → WritesTo unit.now.out begun.launched (P.counts place.old).starts.flying → ChangesOnly (is_of (records_folder project.now) unit.now.key) (P.world place.old) (P.world place.new) }
+    ensures stay { (ticket : ℕ) (its : ChildInFlight) → IfSome begun.launched (λ launched. ticket ≢ launched.ticket) → child_at ticket (P.counts place.old).starts.flying ≡ Some its → child_at ticket (P.counts place.new).starts.flying ≡ Some its }
     ensures started { IfOk result (λ ran. ran.started ≡ is_some begun.launched) }
     ensures directives { IfOk result (λ ran. directives_in (outcome_by finite.empty ran) ≡ ran.directives) }
     ensures folder { store.new.folder ≡ store.old.folder }
@@ -187,9 +189,8 @@ pub fn drop_unit<P: Place>(alloc: Global, place: &mut P, begun: &Begun)
         → CanAnswer b states done index unit begun.now next (P.world place.old) (P.counts place.old).starts.flying (P.still place.old)
         → BeginsApart b states index begun.now.launched other its next (P.world place.old) (P.counts place.old).starts.flying (P.still place.old)
         → IsBegun b other its next (P.world place.new) (P.counts place.new).starts.flying (P.still place.new) }
-    ensures only { (b : Basis) (index : ℕ) (unit : Planned) (next : Option ℕ) → IsInOrder b.project → unit_at b.project index ≡ Some unit → IsTrue P.tells
-        → IsBegun b index begun.now next (P.world place.old) (P.counts place.old).starts.flying (P.still place.old)
-        → ChangesOnly (is_at_or_below unit.out) (P.world place.old) (P.world place.new) }
+    ensures only { (out : List ℕ) → IsTrue P.tells → WritesTo out begun.now.launched (P.counts place.old).starts.flying → ChangesOnly (is_at_or_below out) (P.world place.old) (P.world place.new) }
+    ensures stay { (ticket : ℕ) (its : ChildInFlight) → IfSome begun.now.launched (λ launched. ticket ≢ launched.ticket) → child_at ticket (P.counts place.old).starts.flying ≡ Some its → child_at ticket (P.counts place.new).starts.flying ≡ Some its }
     ensures most { P.most place.new ≡ P.most place.old }
     ensures counts { Drops begun.now.launched (P.counts place.old) (P.counts place.new) }
 {
