@@ -41,7 +41,7 @@ begun_writes b order i u at begun next w flying still is =
 
 -- The child has landed.
 
-flying_at : (ticket : ℕ) (flying : List ChildInFlight) → is_flying ticket flying ≡ true → (f : ChildInFlight) × (child_at ticket flying ≡ Some f)
+pub flying_at : (ticket : ℕ) (flying : List ChildInFlight) → is_flying ticket flying ≡ true → (f : ChildInFlight) × (child_at ticket flying ≡ Some f)
 flying_at ticket [] flies = absurd (false≢true flies)
 flying_at ticket (f ∷ flying) flies = elim (cases_Bool (f.ticket == ticket)) [
   | inl its ↦ (f, ap (λ x. cond x (Some f) (child_at ticket flying)) its)
