@@ -11,7 +11,7 @@ use Rattle.pb_place.specs.declared.command.Command.{Command}
 use Rattle.pb_place.proofs.Folders.{only_started}
 use Rattle.pb_project.specs.Targets.{unit_at}
 use Rattle.pb_unit.specs.declared.plan.Planned.{Planned}
-use Rattle.pb_run.specs.Halves.{Basis, IsBegun, WaitsBy, WritesTo, command_in, view_in}
+use Rattle.pb_run.specs.Halves.{Basis, IsBegun, WaitsBy, WritesTo, view_in}
 use Rattle.pb_run.specs.Launching.{IsSpawned}
 use Rattle.pb_run.specs.Standing.{IsInOrder}
 use Rattle.pb_run.specs.declared.begun.Begun.{Begun}
@@ -46,8 +46,8 @@ flying_at ticket [] flies = absurd (false≢true flies)
 flying_at ticket (f ∷ flying) flies = elim (cases_Bool (f.ticket == ticket)) [
   | inl its ↦ (f, ap (λ x. cond x (Some f) (child_at ticket flying)) its)
   | inr not_its ↦
-    let (g, at) = flying_at ticket flying (sym (ap (λ x. x || is_flying ticket flying) not_its) ∙ flies) in
-    (g, ap (λ x. cond x (Some f) (child_at ticket flying)) not_its ∙ at)
+      let (g, at) = flying_at ticket flying (sym (ap (λ x. x || is_flying ticket flying) not_its) ∙ flies) in
+      (g, ap (λ x. cond x (Some f) (child_at ticket flying)) not_its ∙ at)
 ]
 
 -- it changes only the folder into which it writes

@@ -47,7 +47,8 @@ use std::alloc::Global;
 ///
 /// Faults: Child, where the child cannot be spawned; Device, where a file, a folder or a variable cannot be read, the
 /// record or the folder cannot be removed, or no run number is left; OutOfMemory. Each has the unit's key, no call of
-/// the place comes after one that failed, and no child is in flight for the unit then.
+/// the place comes after one that failed, and no child is in flight for the unit then. A child that is spawned writes
+/// into the unit's folder, and the others in flight fly on.
 pub fn begin_unit<P: Place>(
     alloc: Global,
     place: &mut P,
@@ -122,7 +123,9 @@ pub fn begin_unit<P: Place>(
 ///
 /// Faults: Child, where the child gave no answer; Device, where a file, a folder or a variable cannot be read, the
 /// record cannot be written, or no run number is left; OutOfMemory. Each has the unit's key, and no call of the place
-/// comes after one that failed. Whatever it answers, the child is in flight no more. A unit that is bad is no fault.
+/// comes after one that failed. Whatever it answers, the child is in flight no more, and the others fly on. Where the
+/// child writes into the unit's folder, only that folder and the unit's record change, whatever the records hold and the
+/// child leaves. A unit that is bad is no fault.
 pub fn answer_unit<P: Place>(
     alloc: Global,
     place: &mut P,
@@ -179,7 +182,8 @@ pub fn answer_unit<P: Place>(
 }
 
 /// Asks for the end of the child of a unit that has begun, where it has one, and drops the answer. The child is in
-/// flight no more, whatever the place answers; a call that fails counts.
+/// flight no more, whatever the place answers, and the others fly on; only the folder changes into which it writes. A
+/// call that fails counts.
 pub fn drop_unit<P: Place>(alloc: Global, place: &mut P, begun: &Begun)
     requires flies { IfSome begun.now.launched (λ launched. is_flying launched.ticket (P.counts place.old).starts.flying ≡ true) }
     ensures keeps { (b : Basis) (states : List (State UnitFault)) (done : List (Option (List Directive))) (index : ℕ) (unit : Planned) (next : Option ℕ) → IsInOrder b.project → unit_at b.project index ≡ Some unit → IsTrue P.tells

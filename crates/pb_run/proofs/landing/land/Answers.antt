@@ -4,19 +4,15 @@ use Rattle.pb_place.specs.Counts.{Starts}
 use Rattle.pb_run.proofs.Halving.{out_lies}
 use Rattle.pb_run.proofs.Kept.{flying_answer, flying_follow, keeps_kept, keeps_over, needed_are_keys, others_ended, others_kept, outcome_kept, pairs_sorted}
 use Rattle.pb_place.specs.Folders.{files_in}
-use Rattle.pb_place.specs.Paths.{is_at_or_below}
-use Rattle.pb_place.specs.World.{World, ChangesOnly}
+use Rattle.pb_place.specs.World.{World}
 use Rattle.pb_run.specs.Halves.{basis, outcomes_in}
 use Rattle.pb_run.specs.Outcome.{outcome_by}
-use Rattle.pb_run.proofs.Answering.{kept_only, landed_gives, landed_only}
+use Rattle.pb_run.proofs.Answering.{landed_gives, landed_only}
 use Rattle.pb_run.proofs.Ending.{TellsAnswer, landed_more, landed_told}
 use Rattle.pb_run.proofs.Settling.{keeps_bad, keeps_landed}
-use Rattle.pb_run.proofs.Spawning.{out_within, widen}
 use Rattle.pb_run.proofs.Writes.{record_only, unkept_only}
 use Rattle.pb_run.proofs.landing.land.Goals as goal
 use Rattle.pb_run.specs.Standing.{records_folder}
-use Rattle.pb_soundness.specs.Apart.{is_of}
-use Rattle.pb_soundness.specs.Records.{out_of, place_of}
 
 pub returns-in-Err-clause-keeps : goal.returns-in-Err-clause-keeps
 returns-in-Err-clause-keeps g c footing read setup sources states done is told can =
