@@ -1,15 +1,13 @@
 -- Where the children in flight write, and what was changed, whatever a build rests on.
-use Rattle.std.proofs.Common.{◌≡◌, ◌≢◌, ◌∙◌, ◌++◌, Bool, true, List, [], ◌∷◌, ℕ, Option, Some, None, refl, sym, ap, subst, slice_get, slice_set, is_some}
+use Rattle.std.proofs.Common.{◌≡◌, ◌≢◌, ◌∙◌, ◌++◌, Bool, true, List, [], ◌∷◌, ℕ, Option, Some, None, refl, sym, ap, subst, slice_get, slice_set}
 use Rattle.std.specs.List.{AllByRecursion, remove}
 use Rattle.std.specs.Prelude.{IfSome}
 use Rattle.pb_flight.specs.declared.flight.Answer.{Answer}
-use Rattle.pb_flight.specs.declared.flight.State.{State}
 use Rattle.pb_flight.specs.declared.flight.State.TheVariants.{Untouched, Begun, Answered}
 use Rattle.pb_flight.specs.Events.{Event, Began, Gave}
 use Rattle.pb_flight.specs.Laws.{HasBegun}
 use Rattle.pb_flight.proofs.Lists.{injective, get_set_same, get_set_other}
 use Rattle.pb_place.specs.Children.{child_at, is_flying}
-use Rattle.pb_place.specs.Paths.{is_at_or_below}
 use Rattle.pb_place.specs.World.{World, ChangesOnly}
 use Rattle.pb_place.specs.declared.child_in_flight.ChildInFlight.{ChildInFlight}
 use Rattle.pb_project.specs.Targets.{unit_at}
@@ -21,7 +19,7 @@ use Rattle.pb_run.specs.declared.begun.Launched.{Launched}
 use Rattle.pb_run.proofs.Writes.{flying_at}
 use Rattle.pb_soundness.specs.Apart.{is_of}
 use Rattle.pb_turns.specs.Crew.{AreApart, places_of, place_of_unit, tickets_of, ticket_in}
-use Rattle.pb_turns.specs.Story.{states_in, Changes, FliesIn, OnlyOf, IsOutside}
+use Rattle.pb_turns.specs.Story.{states_in, Changes, FliesIn, OnlyOf}
 use Rattle.pb_turns.specs.declared.crew.Aloft.{Aloft}
 use Rattle.pb_turns.proofs.Lists.{all_more, all_at_each, all_get, all_left, apart_places, flat_apart, get_map}
 use Rattle.pb_turns.proofs.States.{another, begun_more, begun_now}
@@ -52,11 +50,11 @@ changes_first project w aloft flying none = record {
 }
 
 module _ (project : Project) (first : World) (aloft : List Aloft) (es : List (Event UnitFault)) (w w' : World) (flying flying' : List ChildInFlight) (old : Changes project first aloft es w flying)
-  (flies : (index : ℕ) (a : Aloft) → slice_get aloft index ≡ Some a → IfSome a.begun.launched (λ l. is_flying l.ticket flying ≡ true)) where
+    (flies : (index : ℕ) (a : Aloft) → slice_get aloft index ≡ Some a → IfSome a.begun.launched (λ l. is_flying l.ticket flying ≡ true)) where
   -- A unit begins.
 
   module _ (unit : ℕ) (u : Planned) (there : unit_at project unit ≡ Some u) (untouched : slice_get (states_in project es) unit ≡ Some Untouched) (only : ChangesOnly (is_of (records_folder project) u.key) w w')
-    (stay : (ticket : ℕ) (its : ChildInFlight) → child_at ticket flying ≡ Some its → child_at ticket flying' ≡ Some its) (spawned : Bool) where
+      (stay : (ticket : ℕ) (its : ChildInFlight) → child_at ticket flying ≡ Some its → child_at ticket flying' ≡ Some its) (spawned : Bool) where
     flies_on : (index : ℕ) (a : Aloft) → slice_get aloft index ≡ Some a → FliesIn project es flying a → FliesIn project (Began unit spawned ∷ es) flying' a
     flies_on index a at f = record {
       state = get_set_other (states_in project es) unit a.unit Begun (another (states_in project es) unit a.unit untouched (Begun, f.state, refl)) ∙ f.state;
@@ -96,7 +94,7 @@ module _ (project : Project) (first : World) (aloft : List Aloft) (es : List (Ev
     its_writes = so.writes u there
 
     module _ (places : AreApart (places_of aloft)) (tickets : AreApart (tickets_of aloft)) (only : ChangesOnly (is_of (records_folder project) u.key) w w')
-      (stay : (ticket : ℕ) (its : ChildInFlight) → IfSome a.begun.launched (λ l. ticket ≢ l.ticket) → child_at ticket flying ≡ Some its → child_at ticket flying' ≡ Some its) (aloft' : List Aloft) (is : aloft' ≡ remove aloft index) where
+        (stay : (ticket : ℕ) (its : ChildInFlight) → IfSome a.begun.launched (λ l. ticket ≢ l.ticket) → child_at ticket flying ≡ Some its → child_at ticket flying' ≡ Some its) (aloft' : List Aloft) (is : aloft' ≡ remove aloft index) where
       ne_unit : (j : ℕ) (y : Aloft) → slice_get aloft j ≡ Some y → j ≢ index → a.unit ≢ y.unit
       ne_unit j y at_j ne e = apart_places (places_of aloft) j index y.unit a.unit places (get_map place_of_unit aloft j y at_j) (get_map place_of_unit aloft index a at) ne (sym e)
 
