@@ -5,7 +5,8 @@ use Rattle.pb_place.specs.Memory.{Held, counts_in, set, unset}
 use Rattle.pb_session.specs.declared.step.SessionStep.{SessionStep}
 use Rattle.pb_session.specs.declared.step.SessionStep.TheVariants.{Write, Remove, Set, Unset, Build, Die, Fuse}
 use Rattle.pb_build.specs.declared.sessions.Answer.{Answer}
-use Rattle.pb_build.specs.Ending.{Moment, moment, Builds}
+use Rattle.pb_build.specs.Ending.{Builds}
+use Rattle.pb_turns.specs.Moments.{Moment, moment}
 use Rattle.pb_build.specs.Environment.{environment_of}
 use Rattle.pb_build.specs.Kept.{SourcesStay}
 use Rattle.pb_build.specs.Result.{BuildResult, IsResult}
@@ -18,7 +19,7 @@ pub record Point : Type 0 where
 
 -- with a place in memory
 abbrev pub point : Held → Option (List ℕ) → ℕ → List Answer → Point
-point memory taken faults answers = record { moment = moment memory.world (counts_in memory) taken faults; answers = answers }
+point memory taken faults answers = record { moment = moment memory.world (counts_in memory) memory.most taken faults; answers = answers }
 
 -- an edit makes this of the world, and nothing else happens
 abbrev pub Edits : World → Point → Point → Type 0
