@@ -121,7 +121,7 @@ module _ (read : Reading) (folder : List ℕ) (w : World) where
 pub opened_ahead : (read : Reading) (folder : List ℕ) (w : World) (next : Option ℕ) → next ≡ next_in read folder w → IsAhead (record_at read folder w.files) next
 opened_ahead read folder w next is = subst (IsAhead (record_at read folder w.files)) (sym is) (open_ahead read folder w)
 
-pub opened_next : (read : Reading) (folder : List ℕ) (old mid : World) (paths : List (List ℕ)) (greatest : ℕ) (next : Option ℕ) → (passed : List (List ℕ)) → mid ≡ old → passed ≡ paths → paths ≡ listed folder old
-    → greatest ≡ greatest_of read folder mid.files passed → next ≡ after greatest → next ≡ next_in read folder old
-opened_next read folder old mid paths greatest next passed same given are most is =
-    is ∙ ap after (most ∙ ap (λ (w : World). greatest_of read folder w.files passed) same ∙ ap (greatest_of read folder old.files) (given ∙ are))
+pub opened_next : (read : Reading) (folder : List ℕ) (old mid : World) (paths : List (List ℕ)) (greatest : ℕ) (next : Option ℕ) → mid ≡ old → paths ≡ listed folder old
+    → greatest ≡ greatest_of read folder mid.files paths → next ≡ after greatest → next ≡ next_in read folder old
+opened_next read folder old mid paths greatest next same are most is =
+    is ∙ ap after (most ∙ ap (λ (w : World). greatest_of read folder w.files paths) same ∙ ap (greatest_of read folder old.files) are)

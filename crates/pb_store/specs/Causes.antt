@@ -1,10 +1,12 @@
 -- Why a call of the store ends with a fault: which call of the place failed, and that it was the last.
-use Rattle.std.specs.Prelude.{◌≡◌, ◌⊎◌, ℕ, Option, Some, None, Result, MatchResult}
+use Rattle.std.specs.Prelude.{◌≡◌, ◌⊎◌, ℕ, List, Option, Some, None, Result, MatchResult}
 use Rattle.pb_place.specs.Counts.{Counts, up}
 use Rattle.pb_place.specs.declared.place.Failure.{Failure}
 use Rattle.pb_place.specs.declared.place.Failure.TheVariants.{Called}
 use Rattle.pb_place.specs.declared.place.PlaceFault.{PlaceFault}
 use Rattle.pb_place.specs.declared.place.PlaceFault.TheVariants as place
+use Rattle.pb_store.specs.declared.fault.OpenFault.{OpenFault}
+use Rattle.pb_store.specs.declared.fault.OpenFault.TheVariants as open_fault
 use Rattle.pb_store.specs.declared.fault.StoreFault.{StoreFault}
 use Rattle.pb_store.specs.declared.fault.StoreFault.TheVariants.{Place, NumbersSpent, OutOfMemory}
 
@@ -16,6 +18,15 @@ stored place.Write = Place place.Write
 stored place.Remove = Place place.Remove
 stored place.Variable = Place place.Variable
 stored place.OutOfMemory = OutOfMemory
+
+-- a fault of a call of the place on this path as one of opening; want of memory stays so
+abbrev pub opened : List ℕ → PlaceFault → OpenFault
+opened path place.Read = open_fault.Place path place.Read
+opened path place.List = open_fault.Place path place.List
+opened path place.Write = open_fault.Place path place.Write
+opened path place.Remove = open_fault.Place path place.Remove
+opened path place.Variable = open_fault.Place path place.Variable
+opened path place.OutOfMemory = open_fault.OutOfMemory
 
 -- a call failed, with this fault, and none came after it
 abbrev pub FailedLast : Failure → Counts → Counts → Type 0
@@ -42,12 +53,6 @@ abbrev pub MayLook : StoreFault → Type 0
 MayLook (Place fault) = (fault ≡ place.Read) ⊎ ((fault ≡ place.List) ⊎ (fault ≡ place.Variable))
 MayLook NumbersSpent = ⊥
 MayLook OutOfMemory = Unit {0}
-
--- of one that lists the profile folder, and reads records in it
-abbrev pub MayOpen : StoreFault → Type 0
-MayOpen (Place fault) = (fault ≡ place.List) ⊎ (fault ≡ place.Read)
-MayOpen NumbersSpent = ⊥
-MayOpen OutOfMemory = Unit {0}
 
 -- of one that removes a record
 abbrev pub MayRemove : StoreFault → Type 0
@@ -79,3 +84,11 @@ abbrev pub MayMigrate : Option ℕ → StoreFault → Type 0
 MayMigrate next (Place fault) = (fault ≡ place.Read) ⊎ (fault ≡ place.Write)
 MayMigrate next NumbersSpent = next ≡ None
 MayMigrate next OutOfMemory = Unit {0}
+
+-- what opening says of the counters: it starts no child; where it ended well, no call failed; else the call on this path failed, with this fault, and was the last, or memory was refused and none failed
+abbrev pub FailsToOpen : OpenFault → Counts → Counts → Type 0
+FailsToOpen (open_fault.Place path fault) old new = ((fault ≡ place.List) ⊎ (fault ≡ place.Read)) × FailedLast (Called fault) old new × (new.named ≡ path)
+FailsToOpen open_fault.OutOfMemory old new = new.failures ≡ old.failures
+
+abbrev pub TakesOpen : {T : Type 0} → Result T OpenFault → Counts → Counts → Type 0
+TakesOpen result old new = (new.starts ≡ old.starts) × MatchResult result (λ x. new.failures ≡ old.failures) (λ e. FailsToOpen e old new)

@@ -1,9 +1,9 @@
 //! Why a call of the store fails.
 
 ghost use Rattle.std.specs.Prelude.{◌≡◌};
-ghost use Rattle.pb_store.specs.Causes.{stored};
+ghost use Rattle.pb_store.specs.Causes.{stored, opened};
 
-use pb_place::PlaceFault;
+use pb_place::{PathText, PlaceFault};
 use thiserror::Error;
 
 /// Why a call of the store fails.
@@ -28,5 +28,26 @@ pub(crate) fn stored(fault: PlaceFault) -> StoreFault
     match fault {
         PlaceFault::OutOfMemory => StoreFault::OutOfMemory,
         fault => StoreFault::Place(fault),
+    }
+}
+
+/// Why a store cannot be opened.
+#[derive(Debug, Drop, Error)]
+pub enum OpenFault {
+    /// The call of the place on this path failed: the folder could not be listed, or a record not read.
+    #[error("{}", .1)]
+    Place(PathText, PlaceFault),
+    /// Memory was refused.
+    #[error("out of memory")]
+    OutOfMemory,
+}
+
+/// The fault of a call of the place on this path. Want of memory stays so.
+pub(crate) fn opened(path: PathText, fault: PlaceFault) -> OpenFault
+    ensures { result ≡ opened path fault }
+{
+    match fault {
+        PlaceFault::OutOfMemory => OpenFault::OutOfMemory,
+        fault => OpenFault::Place(path, fault),
     }
 }

@@ -18,7 +18,7 @@ pub mod replaying;
 pub mod store;
 
 pub use difference::{CommandPart, Difference};
-pub use fault::StoreFault;
+pub use fault::{OpenFault, StoreFault};
 pub use laws::{differences_are_one, first_name_is_first};
 pub use replaying::Replayed;
 pub use store::Store;

@@ -7,14 +7,14 @@ ghost use Rattle.pb_place.specs.World.{listed};
 ghost use Rattle.pb_soundness.specs.Apart.{KeepsStill};
 ghost use Rattle.pb_soundness.specs.Numbers.{IsAhead};
 ghost use Rattle.pb_soundness.specs.Records.{Reading, read_text, record_at};
-ghost use Rattle.pb_store.specs.Causes.{Takes, MayRead, MayOpen};
+ghost use Rattle.pb_store.specs.Causes.{TakesOpen};
 ghost use Rattle.pb_store.specs.Opening.{greatest_named, greatest_if, is_record_name, name_in, greatest_at, greatest_of, next_in};
 ghost use Rattle.pb_record.specs.Parts.{IsReading};
 
 use crate::dropping::number_after;
-use crate::fault::{StoreFault, stored};
+use crate::fault::{OpenFault, opened};
 use crate::keys::{ends_as_record, has_slash};
-use crate::store::{Store, read_text, text_of};
+use crate::store::{Store, read_text};
 use pb_data::{Items, Text};
 use pb_place::{PathText, Place};
 use pb_record::{Needed, Record};
@@ -85,20 +85,21 @@ fn name_in<'a>(folder: &PathText, path: &'a PathText) -> &'a [u8]
 }
 
 /// The greatest number that the record at a path has or names.
-fn read_greatest<P: Place>(alloc: Global, place: &mut P, path: &PathText) -> Result<u64, StoreFault>
-    ensures ok { (read : Reading) → IsReading read → IsTrue P.tells → IfOk result (λ n. n ≡ greatest_if (read_text read (map.get (P.world place.old).files path.now))) }
+#[tactic(auto, using(crate::proofs::Still::stands_same))]
+fn read_greatest<P: Place>(alloc: Global, place: &mut P, path: PathText) -> Result<u64, OpenFault>
+    ensures ok { (read : Reading) → IsReading read → IsTrue P.tells → IfOk result (λ n. n ≡ greatest_if (read_text read (map.get (P.world place.old).files path))) }
     ensures same { IsTrue P.tells → P.world place.new ≡ P.world place.old }
     ensures most { P.most place.new ≡ P.most place.old }
     ensures still { IsTrue P.tells → KeepsStill (P.still place.old) (P.still place.new) }
-    ensures takes { Takes MayRead result (P.counts place.old) (P.counts place.new) }
+    ensures takes { TakesOpen result (P.counts place.old) (P.counts place.new) }
 {
-    let text = match text_of(alloc, place, path) {
+    let text = match place.read(alloc, &path) {
         Ok(text) => text,
-        Err(fault) => return Err(fault),
+        Err(fault) => return Err(opened(path, fault)),
     };
     match read_text(alloc, &text) {
         Ok(found) => Ok(greatest_if(&found)),
-        Err(_) => Err(StoreFault::OutOfMemory),
+        Err(_) => Err(OpenFault::OutOfMemory),
     }
 }
 
@@ -107,15 +108,15 @@ fn greatest_at<P: Place>(
     alloc: Global,
     place: &mut P,
     folder: &PathText,
-    path: &PathText,
-) -> Result<u64, StoreFault>
-    ensures ok { (read : Reading) → IsReading read → IsTrue P.tells → IfOk result (λ n. n ≡ greatest_at read folder.now (P.world place.old).files path.now) }
+    path: PathText,
+) -> Result<u64, OpenFault>
+    ensures ok { (read : Reading) → IsReading read → IsTrue P.tells → IfOk result (λ n. n ≡ greatest_at read folder.now (P.world place.old).files path) }
     ensures same { IsTrue P.tells → P.world place.new ≡ P.world place.old }
     ensures most { P.most place.new ≡ P.most place.old }
     ensures still { IsTrue P.tells → KeepsStill (P.still place.old) (P.still place.new) }
-    ensures takes { Takes MayRead result (P.counts place.old) (P.counts place.new) }
+    ensures takes { TakesOpen result (P.counts place.old) (P.counts place.new) }
 {
-    if !is_record_name(name_in(folder, path)) {
+    if !is_record_name(name_in(folder, &path)) {
         return Ok(0);
     }
     match read_greatest(alloc, place, path) {
@@ -129,16 +130,16 @@ fn greatest_of<P: Place>(
     alloc: Global,
     place: &mut P,
     folder: &PathText,
-    paths: &[PathText],
-) -> Result<u64, StoreFault>
-    ensures ok { (read : Reading) → IsReading read → IsTrue P.tells → IfOk result (λ n. n ≡ greatest_of read folder.now (P.world place.old).files paths.now) }
+    paths: Items<PathText>,
+) -> Result<u64, OpenFault>
+    ensures ok { (read : Reading) → IsReading read → IsTrue P.tells → IfOk result (λ n. n ≡ greatest_of read folder.now (P.world place.old).files paths) }
     ensures same { IsTrue P.tells → P.world place.new ≡ P.world place.old }
     ensures most { P.most place.new ≡ P.most place.old }
     ensures still { IsTrue P.tells → KeepsStill (P.still place.old) (P.still place.new) }
-    ensures takes { Takes MayRead result (P.counts place.old) (P.counts place.new) }
+    ensures takes { TakesOpen result (P.counts place.old) (P.counts place.new) }
 {
     let mut greatest = 0;
-    for path in paths {
+    for path in paths.into_vec() {
         let number = match greatest_at(alloc, place, folder, path) {
             Ok(number) => number,
             Err(fault) => return Err(fault),
@@ -148,49 +149,32 @@ fn greatest_of<P: Place>(
     Ok(greatest)
 }
 
-/// The files of a folder.
-#[tactic(auto, using(crate::proofs::Still::stands_same))]
-fn files_of<P: Place>(
-    alloc: Global,
-    place: &mut P,
-    folder: &PathText,
-) -> Result<Items<PathText>, StoreFault>
-    ensures ok { IsTrue P.tells → IfOk result (λ paths. paths ≡ listed folder.now (P.world place.old)) }
-    ensures same { IsTrue P.tells → P.world place.new ≡ P.world place.old }
-    ensures most { P.most place.new ≡ P.most place.old }
-    ensures still { IsTrue P.tells → KeepsStill (P.still place.old) (P.still place.new) }
-    ensures takes { Takes MayOpen result (P.counts place.old) (P.counts place.new) }
-{
-    match place.list(alloc, folder) {
-        Ok(paths) => Ok(paths),
-        Err(fault) => Err(stored(fault)),
-    }
-}
-
 impl Store {
     /// Opens the store of a profile folder. Each record directly in the folder is read once; a text that is that of no
     /// record is none. The next run number is one above the greatest that one of them has or names, also of a record
     /// in the place of another key, and 1 where there is none.
     ///
-    /// Faults: Place, where the folder cannot be listed or a record cannot be read; OutOfMemory.
+    /// Faults: Place, where the folder cannot be listed or a record cannot be read, with the path of the one or the
+    /// other; OutOfMemory.
+    #[tactic(auto, using(crate::proofs::Still::stands_same))]
     pub fn open<P: Place>(
         alloc: Global,
         place: &mut P,
         folder: PathText,
-    ) -> Result<Store, StoreFault>
+    ) -> Result<Store, OpenFault>
         ensures folder { IfOk result (λ store. store.folder ≡ folder) }
         ensures next { (read : Reading) → IsReading read → IsTrue P.tells → IfOk result (λ store. store.next ≡ next_in read folder (P.world place.old)) }
         ensures ahead { (read : Reading) → IsReading read → IsTrue P.tells → IfOk result (λ store. IsAhead (record_at read folder (P.world place.old).files) store.next) }
         ensures same { IsTrue P.tells → P.world place.new ≡ P.world place.old }
         ensures most { P.most place.new ≡ P.most place.old }
         ensures still { IsTrue P.tells → KeepsStill (P.still place.old) (P.still place.new) }
-        ensures takes { Takes MayOpen result (P.counts place.old) (P.counts place.new) }
+        ensures takes { TakesOpen result (P.counts place.old) (P.counts place.new) }
     {
-        let paths = match files_of(alloc, place, &folder) {
+        let paths = match place.list(alloc, &folder) {
             Ok(paths) => paths,
-            Err(fault) => return Err(fault),
+            Err(fault) => return Err(opened(folder, fault)),
         };
-        match greatest_of(alloc, place, &folder, paths.as_slice()) {
+        match greatest_of(alloc, place, &folder, paths) {
             Ok(greatest) => Ok(Store {
                 folder,
                 next: number_after(greatest),

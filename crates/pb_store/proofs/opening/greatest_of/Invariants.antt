@@ -1,5 +1,6 @@
-use Rattle.std.proofs.Common.{◌≡◌, max, drop, IsTrue}
+use Rattle.std.proofs.Common.{◌≡◌, max, IsTrue}
 use Rattle.std.specs.List.{fold}
+use Rattle.std.specs.Vec.Iter.{into_iter_items}
 use Rattle.pb_soundness.specs.Apart.{KeepsStill}
 use Rattle.pb_soundness.specs.Records.{Reading}
 use Rattle.pb_store.specs.Opening.{greatest_at, greatest_of}
@@ -11,7 +12,7 @@ invariant-loop-path g l = record {
   same : IsTrue g.P.Place.tells → g.P.Place.world l.place ≡ g.P.Place.world l.fn.place;
   most : g.P.Place.most l.place ≡ g.P.Place.most l.fn.place;
   still : IsTrue g.P.Place.tells → KeepsStill (g.P.Place.still l.fn.place) (g.P.Place.still l.place);
-  found : (read : Reading) → IsReading read → IsTrue g.P.Place.tells → fold (λ m path. max m (greatest_at read l.folder (g.P.Place.world l.fn.place).files path)) l.greatest (drop l.path-index l.paths) ≡ greatest_of read l.folder (g.P.Place.world l.fn.place).files l.paths;
+  found : (read : Reading) → IsReading read → IsTrue g.P.Place.tells → fold (λ m path. max m (greatest_at read l.folder (g.P.Place.world l.fn.place).files path)) l.greatest (into_iter_items l.path-iterator) ≡ greatest_of read l.folder (g.P.Place.world l.fn.place).files l.fn.paths;
   starts : (g.P.Place.counts l.place).starts ≡ (g.P.Place.counts l.fn.place).starts;
   failures : (g.P.Place.counts l.place).failures ≡ (g.P.Place.counts l.fn.place).failures;
 }

@@ -4,4 +4,4 @@ use Rattle.pb_store.proofs.store.Store.open.Goals as goal
 pub returns-in-Ok-greatest_of-clause-ahead : goal.returns-in-Ok-greatest_of-clause-ahead
 returns-in-Ok-greatest_of-clause-ahead g c read is told =
     opened_ahead read c.args.folder (g.P.Place.world c.args.place.now) _
-    (opened_next read c.args.folder _ _ _ _ _ _ (c.in-Ok.ensures.same told) c.as_slice.ensures (c.in-Ok.ensures.ok told) (c.in-Ok-greatest_of.ensures.ok read is told) c.number_after.ensures)
+    (opened_next read c.args.folder _ _ _ _ _ (c.in-Ok.ensures.same told) (c.in-Ok.ensures.ok told) (c.in-Ok-greatest_of.ensures.ok read is told) c.number_after.ensures)
