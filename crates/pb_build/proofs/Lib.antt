@@ -1,6 +1,5 @@
-pub mod Rows
-pub mod Loops
-pub mod Works
+pub mod Asking
+pub mod Preparing
 pub mod InOrder
 pub mod StepsTaken
 pub mod Refusals

@@ -14,7 +14,8 @@ use Rattle.pb_package.specs.declared.workspace.Workspace.{Workspace}
 use Rattle.pb_build.specs.Environment.{environment_of}
 use Rattle.pb_build.specs.Laws.{LooksAtSources, GivesFromNothing}
 use Rattle.pb_build.specs.Planning.{IsProject, IsRefused, by_load, by_selection, by_feature, by_plan}
-use Rattle.pb_build.specs.Result.{BuildResult, Comes, refused, no_toolchain, finished, Finished, toolchain_of, setup_of, rows_of}
+use Rattle.pb_build.specs.Result.{BuildResult, Comes, refused, no_toolchain, finished, Finished, toolchain_of, setup_of}
+use Rattle.pb_turns.specs.Rows.{rows_of}
 use Rattle.pb_build.specs.declared.environment.Environment.{Environment}
 
 same_refusal : (options : Options) (target : List ℕ) (v w : World) (why : Refusal) → from_nothing target v ≡ from_nothing target w → IsRefused options target v why → IsRefused options target w why

@@ -247,7 +247,7 @@ pub fn build_turns<P: Place, O: Out, T: Turn>(
 
 /// Builds with as many units in flight at one time as the options say; who picks says which of those that may begin
 /// does. While fewer fly and one may begin, it begins; else the one that was begun first is answered.
-pub fn build_with<P: Place, O: Out, K: Pick>(
+pub fn build_with<P: Place, O: Out, K: Pick + Drop>(
     alloc: Global,
     place: &mut P,
     out: &mut O,

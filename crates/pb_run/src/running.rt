@@ -1,6 +1,6 @@
 //! One unit: its folder is emptied, its child started, its answer judged.
 
-ghost use Rattle.std.specs.Prelude.{◌≡◌, ℕ, true, IsTrue, IfOk, OnOk, Some, slice_get, take};
+ghost use Rattle.std.specs.Prelude.{◌≡◌, ◌+◌, ℕ, true, max, length, IsTrue, IfOk, OnOk, Some, slice_get, take};
 ghost use Rattle.std.specs.FinMap as finite;
 ghost use Rattle.std.specs.List.{list_all};
 ghost use Rattle.pb_place.specs.Paths.{is_at_or_below};
@@ -35,6 +35,7 @@ pub fn start<P: Place>(
 ) -> Result<Ended, BuildFault>
     ensures ok { IsTrue P.tells → IfOk result (λ ended. Ends (P.child command.now) command.now (P.world place.old) ended (P.world place.new)) }
     ensures only { IsTrue P.tells → ChangesOnlyInSome command.now.out (P.world place.old) (P.world place.new) }
+    ensures most { OnOk result (P.most place.new ≡ max (P.most place.old) (length (P.counts place.old).starts.flying + 1)) }
     ensures takes { Takes OneStart (MayStart name.now) result (P.counts place.old) (P.counts place.new) }
 {
     let unit = match Text::from_str(alloc, name) {
