@@ -25,7 +25,7 @@ use Rattle.pb_build.specs.Causes.{MayPlan, MayAsk, MayReady}
 use Rattle.pb_build.specs.Ending.{FailsBefore, IsSilent, IsPrepared, Prepares}
 use Rattle.pb_build.specs.Environment.{environment_of}
 use Rattle.pb_build.specs.Planning.{IsProject, IsRefused, IsToldRefusal}
-use Rattle.pb_build.specs.Private.{Names, IsReadyFor, IsSilentFault, unopened}
+use Rattle.pb_build.specs.Private.{Names, IsReadyFor, IsSilentFault, IsUnrefused, unopened}
 use Rattle.pb_build.specs.Result.{toolchain_of, setup_of}
 use Rattle.pb_build.specs.declared.builder.Prepared.{Prepared}
 use Rattle.pb_build.specs.declared.environment.Environment.{Environment}
@@ -45,6 +45,16 @@ open_may (open_fault.Place path place.OutOfMemory) old new starts (kind, failed,
     no_memory (inr e) = cc
 open_may open_fault.OutOfMemory old new starts none = (starts, none, tt)
 
+-- no store tells a refusal
+pub open_unrefused : (e : OpenFault) → IsUnrefused (unopened e)
+open_unrefused (open_fault.Place path place.Read) = tt
+open_unrefused (open_fault.Place path place.List) = tt
+open_unrefused (open_fault.Place path place.Write) = tt
+open_unrefused (open_fault.Place path place.Remove) = tt
+open_unrefused (open_fault.Place path place.Variable) = tt
+open_unrefused (open_fault.Place path place.OutOfMemory) = tt
+open_unrefused open_fault.OutOfMemory = tt
+
 -- The query.
 
 pub ask_ready : (e : BuildFault) (old new : Starts) → MayAsk e old new → MayReady e old new
@@ -56,14 +66,14 @@ ask_ready (Device key device.NumbersSpent) old new may = absurd may
 ask_ready Sink old new may = absurd may
 ask_ready OutOfMemory old new may = may
 
-pub open_ready : (e : BuildFault) (old mid new : Starts) → mid ≡ up_starts old → MayPlan e mid new → (why_not : (w : _) → e ≡ Plan w → ⊥) → MayReady e old new
-open_ready (Plan why) old mid new one may no_refusal = absurd (no_refusal why refl)
-open_ready Toolchain old mid new one may no_refusal = absurd may
-open_ready (Child key fault) old mid new one may no_refusal = absurd may
-open_ready (Device key (device.Place fault)) old mid new one may no_refusal = may ∙ one
-open_ready (Device key device.NumbersSpent) old mid new one may no_refusal = absurd may
-open_ready Sink old mid new one may no_refusal = absurd may
-open_ready OutOfMemory old mid new one may no_refusal = inr (may ∙ one)
+pub open_ready : (e : BuildFault) (old mid new : Starts) → mid ≡ up_starts old → IsUnrefused e → MayPlan e mid new → MayReady e old new
+open_ready (Plan why) old mid new one unrefused may = absurd unrefused
+open_ready Toolchain old mid new one unrefused may = absurd may
+open_ready (Child key fault) old mid new one unrefused may = absurd may
+open_ready (Device key (device.Place fault)) old mid new one unrefused may = may ∙ one
+open_ready (Device key device.NumbersSpent) old mid new one unrefused may = absurd may
+open_ready Sink old mid new one unrefused may = absurd may
+open_ready OutOfMemory old mid new one unrefused may = inr (may ∙ one)
 
 -- Faults before the units.
 

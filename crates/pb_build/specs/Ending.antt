@@ -6,6 +6,10 @@ use Rattle.pb_answer.specs.declared.fault.BuildFault.TheVariants.{Plan, Toolchai
 use Rattle.pb_answer.specs.declared.fault.DeviceFault.TheVariants as device
 use Rattle.pb_answer.specs.declared.summary.Summary.{Summary}
 use Rattle.pb_command.specs.Judge.{judge}
+use Rattle.pb_flight.specs.Steps.{PicksFirst, PicksLast, TurnsOfJobs}
+use Rattle.pb_flight.specs.declared.turn.First.{First}
+use Rattle.pb_flight.specs.declared.turn.Jobs.{Jobs}
+use Rattle.pb_flight.specs.declared.turn.Last.{Last}
 use Rattle.pb_flight.specs.declared.turn.Step.{Step}
 use Rattle.pb_message.specs.Message.{finish_line}
 use Rattle.pb_package.specs.declared.options.Options.{Options}
@@ -18,7 +22,7 @@ use Rattle.pb_project.specs.declared.project.Setup.{Setup}
 use Rattle.pb_record.specs.Parts.{IsReading}
 use Rattle.pb_run.specs.Causes.{FailedLast}
 use Rattle.pb_run.specs.Halves.{Footing, OnRecords, OnNothing, Basis, basis, IsHonestOnUnits, records_in}
-use Rattle.pb_run.specs.Standing.{records_folder}
+use Rattle.pb_run.specs.Standing.{IsInOrder, records_folder}
 use Rattle.pb_soundness.specs.Numbers.{IsAhead}
 use Rattle.pb_soundness.specs.Records.{Reading}
 use Rattle.pb_soundness.specs.Sound.{Sound}
@@ -60,9 +64,10 @@ pub record IsPrepared (child : Answers) (options : Options) (w : World) (prepare
   pub project : IsProject options (environment_of options w.variables).target w prepared.project
   pub ahead : (footing : Footing) (read : Reading) (sources : World) → IsReading read → IsAhead (records_in (basis footing read child prepared.setup prepared.project sources) w) prepared.store.next
 
--- they start after one query of the compiler, which answered; nothing was changed
+-- they start after one query of the compiler, which answered; the project is in order, and nothing was changed
 pub record Prepares (tells : Bool) (child : Answers) (options : Options) (prepared : Prepared) (old new : World) (before now : Counts) (most : ℕ) (after : ℕ) : Type 0 where
   pub is : IsTrue tells → IsPrepared child options old prepared
+  pub order : IsInOrder prepared.project
   pub stays : Stays tells old new
   pub starts : now.starts ≡ up_starts before.starts
   pub failures : now.failures ≡ before.failures
@@ -121,3 +126,16 @@ pub record Builds {S : Type 0} (tells : Bool) (child : Answers) (Turns : S → L
   pub heard : Heard
   pub works : Works tells child Turns options from last inner old record new { heard = heard }
   pub closes : Closes inner result heard new.heard
+
+-- a build with as many units in flight as the options say, of which those begin that are picked
+abbrev pub BuildsBy : {S : Type 0} → Bool → Answers → (S → List ℕ → ℕ → S → Type 0) → Options → S → Result Summary BuildFault → Moment → Moment → Type 0
+BuildsBy {S} tells child Picks options pick result old new =
+    let from : Jobs S = record { pick = pick; jobs = options.jobs } in (last : Jobs S) × Builds tells child (TurnsOfJobs Picks) options from last result old new
+
+-- the unit that begins is the first in plan order of those that may
+abbrev pub PicksFirstOf : First → List ℕ → ℕ → First → Type 0
+PicksFirstOf old ready place new = PicksFirst ready place
+
+-- it is the last
+abbrev pub PicksLastOf : Last → List ℕ → ℕ → Last → Type 0
+PicksLastOf old ready place new = PicksLast ready place

@@ -1,15 +1,13 @@
 //! A whole build.
 
 ghost use Rattle.std.specs.Prelude.{◌≡◌, ◌+◌, [], max, length, IsTrue, IfOk, IfErr};
-ghost use Rattle.pb_flight.specs.Steps.{PicksFirst, TurnsOfJobs};
-ghost use Rattle.pb_flight.specs.declared.turn.Jobs.{Jobs};
 ghost use Rattle.pb_flight.specs.declared.turn.First.{First};
 ghost use Rattle.pb_record.specs.Parts.{IsReading};
 ghost use Rattle.pb_build.specs.Causes.{MayPlan, MayReady};
-ghost use Rattle.pb_build.specs.Ending.{FailsBefore, Prepares, Works, Closes, Builds};
+ghost use Rattle.pb_build.specs.Ending.{FailsBefore, Prepares, Works, Closes, Builds, BuildsBy, PicksFirstOf};
 ghost use Rattle.pb_build.specs.Environment.{environment_of};
 ghost use Rattle.pb_build.specs.Planning.{IsProject, IsToldRefusal};
-ghost use Rattle.pb_build.specs.Private.{NamesCall, IsReadyFor, IsSilentFault, unopened};
+ghost use Rattle.pb_build.specs.Private.{NamesCall, IsReadyFor, IsSilentFault, IsUnrefused, unopened};
 ghost use Rattle.pb_build.specs.Result.{setup_of};
 ghost use Rattle.pb_run.specs.Causes.{Takes, NoStart, OneStart};
 ghost use Rattle.pb_run.specs.Standing.{IsInOrder, records_folder};
@@ -99,6 +97,7 @@ fn opened<P: Place>(alloc: Global, place: &mut P, project: &Project) -> Result<S
     ensures most { P.most place.new ≡ P.most place.old }
     ensures takes { Takes NoStart MayPlan result (P.counts place.old) (P.counts place.new) }
     ensures names { NamesCall result (P.counts place.new) }
+    ensures unrefused { IfErr result IsUnrefused }
 {
     let folder = match records_folder(alloc, project) {
         Ok(folder) => folder,
@@ -255,7 +254,7 @@ pub fn build_with<P: Place, O: Out, K: Pick + Drop>(
     pick: K,
 ) -> Result<Summary, BuildFault>
     requires none { (P.counts place.old).starts.flying ≡ [] }
-    ensures { (last : Jobs K) × Builds P.tells P.child (TurnsOfJobs K.picks) options.now record { pick = pick; jobs = options.now.jobs } last result
+    ensures { BuildsBy P.tells P.child K.picks options.now pick result
         (moment (P.world place.old) (P.counts place.old) (P.most place.old) (O.taken out.old) (O.faults out.old)) (moment (P.world place.new) (P.counts place.new) (P.most place.new) (O.taken out.new) (O.faults out.new)) }
 {
     let mut jobs = Jobs {
@@ -273,7 +272,7 @@ pub fn build<P: Place, O: Out>(
     options: &Options,
 ) -> Result<Summary, BuildFault>
     requires none { (P.counts place.old).starts.flying ≡ [] }
-    ensures { (first last : Jobs First) × Builds P.tells P.child (TurnsOfJobs (λ old ready index new. PicksFirst ready index)) options.now first last result
+    ensures { (pick : First) × BuildsBy P.tells P.child PicksFirstOf options.now pick result
         (moment (P.world place.old) (P.counts place.old) (P.most place.old) (O.taken out.old) (O.faults out.old)) (moment (P.world place.new) (P.counts place.new) (P.most place.new) (O.taken out.new) (O.faults out.new)) }
 {
     build_with(alloc, place, out, options, First {})
