@@ -1,5 +1,6 @@
 pub mod Asking
 pub mod Preparing
+pub mod Staying
 pub mod InOrder
 pub mod StepsTaken
 pub mod Refusals

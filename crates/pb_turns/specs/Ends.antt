@@ -47,24 +47,23 @@ abbrev pub Grounding : Answers → Setup → Project → Option ℕ → World �
 Grounding child setup project next w Since = (footing : Footing) (read : Reading) (sources : World) → IsReading read
     → Keeps (basis footing read child setup project sources) (untouched project) (nothing_said project) next w → Since (basis footing read child setup project sources)
 
--- what stands after some events: what the halves of units keep; the lines that are due are those of the first rows; and nothing but the folders and records of units that have begun was changed
-pub record Stands (b : Basis) (es : List (Event UnitFault)) (old new : World) : Type 0 where
+-- what stands after some events: what the halves of units keep; and the lines that are due are those of the first rows
+pub record Stands (b : Basis) (es : List (Event UnitFault)) (new : World) : Type 0 where
   pub done : List (Option (List Directive))
   pub next : Option ℕ
   pub keeps : Keeps b (states_in b.project es) done next new
   pub lines : due (states_in b.project es) ≡ said_from b.project es 0 (take (count_due (states_in b.project es)) (rows_in b))
-  pub only : OnlyOf b.project es old new
 
 -- all units have answered, or all up to and with the first bad one: the summary is that of the rows, all of which are told, and each unit that began did so for what differed of it
 pub record StandsWhole (b : Basis) (es : List (Event UnitFault)) (summary : Summary) (old new : World) : Type 0 where
-  pub stands : Stands b es old new
+  pub stands : Stands b es new
   pub all : count_due (states_in b.project es) ≡ length (rows_in b)
   pub answer : summary ≡ summary_of b.project es (rows_in b)
   pub began : AllBeganFor b es old
 
 -- a fault ended it
 pub record StandsCut (b : Basis) (es : List (Event UnitFault)) (old new : World) : Type 0 where
-  pub stands : Stands b es old new
+  pub stands : Stands b es new
   pub before : List (Event UnitFault)
   pub begins : IsBeginning before es
   pub began : AllBeganFor b before old
@@ -83,6 +82,7 @@ pub record EndsWhole {S : Type 0} (tells : Bool) (child : Answers) (Turns : S �
   pub drained : Drained mid new.counts
   pub landed : new.counts.starts.flying ≡ []
   pub most : new.most ≡ max old.most (peak es)
+  pub only : IsTrue tells → OnlyOf project es old.world new.world
   pub told : IsTrue tells → Grounding child setup project next old.world (λ b. StandsWhole b es summary old.world new.world)
 
 -- a fault ended them: its cause, and what the sink had heard, are those of the moment before the children in flight were dropped
@@ -95,6 +95,7 @@ pub record EndsCut {S : Type 0} (tells : Bool) (child : Answers) (Turns : S → 
   pub stops : Stops fault project old mid es
   pub drained : Drained mid.counts new.counts
   pub landed : new.counts.starts.flying ≡ []
+  pub only : IsTrue tells → OnlyOf project es old.world new.world
   pub told : IsTrue tells → Grounding child setup project next old.world (λ b. StandsCut b es old.world new.world)
 
 -- how they end, by the answer
