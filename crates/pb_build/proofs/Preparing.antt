@@ -98,25 +98,18 @@ ready_fails tells child options Sink w old new may cause named silent = absurd m
 ready_fails tells child options OutOfMemory w old new may cause named silent = (may, cause)
 
 -- the counters of a call that ended well before
-pub may_plan_from : (e : BuildFault) (old mid new : Starts) → mid ≡ old → MayPlan e mid new → MayPlan e old new
-may_plan_from e old mid new same may = subst (λ s. MayPlan e s new) same may
-
 pub may_ready_from : (e : BuildFault) (old mid new : Starts) → mid ≡ old → MayReady e mid new → MayReady e old new
 may_ready_from e old mid new same may = subst (λ s. MayReady e s new) same may
 
 -- What the units start from.
 
-silent_at : (child : Answers) (options : Options) (environment : Environment) (project : Project) (v w : World) (e : BuildFault) → v ≡ w → environment ≡ environment_of options w.variables → IsProject options environment.target w project
+pub silent_of : (child : Answers) (options : Options) (environment : Environment) (project : Project) (v w : World) (e : BuildFault) → v ≡ w → environment ≡ environment_of options w.variables → IsProject options environment.target w project
     → IsSilentFault child environment project v e → e ≡ Toolchain → IsSilent child options w
-silent_at child options environment project v w e same is of_world silent toolchain =
+silent_of child options environment project v w e same is of_world silent toolchain =
     let told : toolchain_of child environment project (from_nothing project.workspace.target v) ≡ None = subst (IsSilentFault child environment project v) toolchain silent in
     let target : project.workspace.target ≡ environment.target = target_kept options.manifest environment.target w project.workspace of_world.selected.read in
     subst (λ (env : Environment). (project : Project) × IsProject options env.target w project × (toolchain_of child env project (from_nothing env.target w) ≡ None)) is
     (project, of_world, subst (λ (x : World). toolchain_of child environment project (from_nothing environment.target x) ≡ None) same (subst (λ t. toolchain_of child environment project (from_nothing t v) ≡ None) target told))
-
-pub silent_of : (child : Answers) (options : Options) (environment : Environment) (project : Project) (v w : World) (e : BuildFault) → v ≡ w → environment ≡ environment_of options w.variables → IsProject options environment.target w project
-    → IsSilentFault child environment project v e → e ≡ Toolchain → IsSilent child options w
-silent_of = silent_at
 
 pub prepared_of : (child : Answers) (options : Options) (environment : Environment) (project : Project) (v w : World) (prepared : Prepared) → v ≡ w → environment ≡ environment_of options w.variables → IsProject options environment.target w project
     → IsReadyFor child options environment project v prepared → IsPrepared child options w prepared

@@ -14,8 +14,6 @@ use Rattle.pb_project.specs.declared.fault.UnitFault.{UnitFault}
 use Rattle.pb_project.specs.declared.project.Project.{Project}
 use Rattle.pb_project.specs.declared.project.Setup.{Setup}
 use Rattle.pb_run.specs.Standing.{IsInOrder, records_folder}
-use Rattle.pb_session.specs.declared.pick.PickBy.{PickBy}
-use Rattle.pb_session.specs.declared.pick.PickBy.TheVariants.{First, Last}
 use Rattle.pb_soundness.specs.Apart.{is_of}
 use Rattle.pb_soundness.specs.Records.{is_key, out_of, place_of}
 use Rattle.pb_soundness.proofs.Places.{out_in, place_in}
@@ -26,7 +24,6 @@ use Rattle.pb_workspace.proofs.Accepted.{target_kept}
 use Rattle.pb_build.specs.Ending.{Works, Builds}
 use Rattle.pb_build.specs.Environment.{environment_of}
 use Rattle.pb_build.specs.Kept.{SourcesStay}
-use Rattle.pb_build.specs.Session.{Picked}
 
 -- what lies outside the target folder is no path of a unit
 none_of : (target folder key q : List ℕ) → is_at_or_below target folder ≡ true → is_key key ≡ true → is_at_or_below target q ≡ false → is_of folder key q ≡ false
@@ -70,13 +67,3 @@ module _ {S : Type 0} (tells : Bool) (child : Answers) (Turns : S → List ℕ �
 
   pub builds_landed : (result : Result Summary BuildFault) (old new : Moment) → Builds tells child Turns options from last result old new → new.counts.starts.flying ≡ []
   builds_landed result old new builds = works_landed builds.inner old record new { heard = builds.heard } builds.works
-
--- the builds of a session
-pub picked_stay : (child : Answers) (options : Options) (pick : PickBy) (result : Result Summary BuildFault) (old new : Moment) → IsTrue true → Picked child options pick result old new
-    → SourcesStay (environment_of options old.world.variables).target old.world new.world
-picked_stay child options First result old new told (pick, (last, builds)) = builds_stay true child _ options _ last result old new told builds
-picked_stay child options Last result old new told (pick, (last, builds)) = builds_stay true child _ options _ last result old new told builds
-
-pub picked_landed : (child : Answers) (options : Options) (pick : PickBy) (result : Result Summary BuildFault) (old new : Moment) → Picked child options pick result old new → new.counts.starts.flying ≡ []
-picked_landed child options First result old new (pick, (last, builds)) = builds_landed true child _ options _ last result old new builds
-picked_landed child options Last result old new (pick, (last, builds)) = builds_landed true child _ options _ last result old new builds

@@ -132,10 +132,16 @@ abbrev pub BuildsBy : {S : Type 0} → Bool → Answers → (S → List ℕ → 
 BuildsBy {S} tells child Picks options pick result old new =
     let from : Jobs S = record { pick = pick; jobs = options.jobs } in (last : Jobs S) × Builds tells child (TurnsOfJobs Picks) options from last result old new
 
--- the unit that begins is the first in plan order of those that may
+-- of those that may begin the first in plan order does
 abbrev pub PicksFirstOf : First → List ℕ → ℕ → First → Type 0
 PicksFirstOf old ready place new = PicksFirst ready place
 
--- it is the last
+abbrev pub BuildsFirst : Bool → Answers → Options → Result Summary BuildFault → Moment → Moment → Type 0
+BuildsFirst tells child options result old new = (pick : First) × BuildsBy tells child PicksFirstOf options pick result old new
+
+-- the last does
 abbrev pub PicksLastOf : Last → List ℕ → ℕ → Last → Type 0
 PicksLastOf old ready place new = PicksLast ready place
+
+abbrev pub BuildsLast : Bool → Answers → Options → Result Summary BuildFault → Moment → Moment → Type 0
+BuildsLast tells child options result old new = (pick : Last) × BuildsBy tells child PicksLastOf options pick result old new

@@ -4,14 +4,12 @@ use Rattle.pb_place.specs.World.{World, Answers, written, removed}
 use Rattle.pb_place.specs.Memory.{Held, counts_in, set, unset}
 use Rattle.pb_answer.specs.declared.fault.BuildFault.{BuildFault}
 use Rattle.pb_answer.specs.declared.summary.Summary.{Summary}
-use Rattle.pb_flight.specs.declared.turn.First as first
-use Rattle.pb_flight.specs.declared.turn.Last as last
 use Rattle.pb_session.specs.declared.pick.PickBy.{PickBy}
 use Rattle.pb_session.specs.declared.pick.PickBy.TheVariants.{First, Last}
 use Rattle.pb_session.specs.declared.step.SessionStep.{SessionStep}
 use Rattle.pb_session.specs.declared.step.SessionStep.TheVariants.{Write, Remove, Set, Unset, Build, Die, Fuse}
 use Rattle.pb_build.specs.declared.sessions.Answer.{Answer}
-use Rattle.pb_build.specs.Ending.{BuildsBy, PicksFirstOf, PicksLastOf}
+use Rattle.pb_build.specs.Ending.{BuildsFirst, BuildsLast}
 use Rattle.pb_turns.specs.Moments.{Moment, moment}
 use Rattle.pb_build.specs.Environment.{environment_of}
 use Rattle.pb_build.specs.Kept.{SourcesStay}
@@ -33,8 +31,8 @@ Edits w before after = (after.moment ≡ record before.moment { world = w }) × 
 
 -- a build, of which those units begin that the session picks
 abbrev pub Picked : Answers → Options → PickBy → Result Summary BuildFault → Moment → Moment → Type 0
-Picked child options First result old new = (pick : first.First) × BuildsBy true child PicksFirstOf options pick result old new
-Picked child options Last result old new = (pick : last.Last) × BuildsBy true child PicksLastOf options pick result old new
+Picked child options First result old new = BuildsFirst true child options result old new
+Picked child options Last result old new = BuildsLast true child options result old new
 
 -- a step: an edit; a failure that is prepared, of which nothing is seen yet; or a build, which adds its answer
 abbrev pub Takes : Answers → SessionStep → Point → Point → Type 0

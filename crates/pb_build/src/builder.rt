@@ -1,11 +1,11 @@
 //! A whole build.
 
 ghost use Rattle.std.specs.Prelude.{◌≡◌, ◌+◌, [], max, length, IsTrue, IfOk, IfErr};
-ghost use Rattle.pb_flight.specs.declared.turn.First.{First};
 ghost use Rattle.pb_record.specs.Parts.{IsReading};
 ghost use Rattle.pb_build.specs.Causes.{MayPlan, MayReady};
-ghost use Rattle.pb_build.specs.Ending.{FailsBefore, Prepares, Works, Closes, Builds, BuildsBy, PicksFirstOf};
+ghost use Rattle.pb_build.specs.Ending.{FailsBefore, Prepares, Works, Closes, Builds, BuildsBy, BuildsFirst};
 ghost use Rattle.pb_build.specs.Environment.{environment_of};
+ghost use Rattle.pb_build.specs.Kept.{SourcesStay};
 ghost use Rattle.pb_build.specs.Planning.{IsProject, IsToldRefusal};
 ghost use Rattle.pb_build.specs.Private.{NamesCall, IsReadyFor, IsSilentFault, IsUnrefused, unopened};
 ghost use Rattle.pb_build.specs.Result.{setup_of};
@@ -228,7 +228,7 @@ fn close<O: Out>(out: &mut O, inner: Result<Summary, BuildFault>) -> Result<Summ
 /// not say its host; Child, where a child gave no answer, and Device, where a call on files or variables failed or no
 /// run number is left, after which no further call of the place is made but the ends of children in flight; Sink;
 /// OutOfMemory. All but Plan and Sink write the failing finish line. A unit that is bad is no fault: the summary names
-/// it.
+/// it. However it ends, the files outside the target folder and the variables stay, and no child is in flight.
 pub fn build_turns<P: Place, O: Out, T: Turn>(
     alloc: Global,
     place: &mut P,
@@ -237,8 +237,10 @@ pub fn build_turns<P: Place, O: Out, T: Turn>(
     turn: &mut T,
 ) -> Result<Summary, BuildFault>
     requires none { (P.counts place.old).starts.flying ≡ [] }
-    ensures { Builds P.tells P.child T.turns options.now turn.old turn.new result
+    ensures builds { Builds P.tells P.child T.turns options.now turn.old turn.new result
         (moment (P.world place.old) (P.counts place.old) (P.most place.old) (O.taken out.old) (O.faults out.old)) (moment (P.world place.new) (P.counts place.new) (P.most place.new) (O.taken out.new) (O.faults out.new)) }
+    ensures kept { IsTrue P.tells → SourcesStay (environment_of options.now (P.world place.old).variables).target (P.world place.old) (P.world place.new) }
+    ensures landed { (P.counts place.new).starts.flying ≡ [] }
 {
     let inner = work(alloc, place, out, options, turn);
     close(out, inner)
@@ -254,8 +256,10 @@ pub fn build_with<P: Place, O: Out, K: Pick + Drop>(
     pick: K,
 ) -> Result<Summary, BuildFault>
     requires none { (P.counts place.old).starts.flying ≡ [] }
-    ensures { BuildsBy P.tells P.child K.picks options.now pick result
+    ensures builds { BuildsBy P.tells P.child K.picks options.now pick result
         (moment (P.world place.old) (P.counts place.old) (P.most place.old) (O.taken out.old) (O.faults out.old)) (moment (P.world place.new) (P.counts place.new) (P.most place.new) (O.taken out.new) (O.faults out.new)) }
+    ensures kept { IsTrue P.tells → SourcesStay (environment_of options.now (P.world place.old).variables).target (P.world place.old) (P.world place.new) }
+    ensures landed { (P.counts place.new).starts.flying ≡ [] }
 {
     let mut jobs = Jobs {
         pick,
@@ -272,8 +276,10 @@ pub fn build<P: Place, O: Out>(
     options: &Options,
 ) -> Result<Summary, BuildFault>
     requires none { (P.counts place.old).starts.flying ≡ [] }
-    ensures { (pick : First) × BuildsBy P.tells P.child PicksFirstOf options.now pick result
+    ensures builds { BuildsFirst P.tells P.child options.now result
         (moment (P.world place.old) (P.counts place.old) (P.most place.old) (O.taken out.old) (O.faults out.old)) (moment (P.world place.new) (P.counts place.new) (P.most place.new) (O.taken out.new) (O.faults out.new)) }
+    ensures kept { IsTrue P.tells → SourcesStay (environment_of options.now (P.world place.old).variables).target (P.world place.old) (P.world place.new) }
+    ensures landed { (P.counts place.new).starts.flying ≡ [] }
 {
     build_with(alloc, place, out, options, First {})
 }

@@ -35,6 +35,8 @@ fn built<C: Child, O: Out>(
     requires none { (counts_in memory.old).starts.flying ≡ [] }
     ensures picked { Picked C.answers options.now pick result
         (moment memory.old.world (counts_in memory.old) memory.old.most (O.taken out.old) (O.faults out.old)) (moment memory.new.world (counts_in memory.new) memory.new.most (O.taken out.new) (O.faults out.new)) }
+    ensures kept { SourcesStay (environment_of options.now memory.old.world.variables).target memory.old.world memory.new.world }
+    ensures landed { (counts_in memory.new).starts.flying ≡ [] }
 {
     match pick {
         PickBy::First => build(alloc, memory, out, options),
