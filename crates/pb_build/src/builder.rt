@@ -301,6 +301,7 @@ pub fn missing_libraries<P: Place>(
 ) -> Result<Items<Text>, BuildFault>
     ensures names { IsTrue P.tells → IfOk result (λ names. (project : Project) × IsProject options.now (environment_of options.now (P.world place.old).variables).target (P.world place.old) project × (names ≡ project.plan.without_library)) }
     ensures same { IsTrue P.tells → P.world place.new ≡ P.world place.old }
+    ensures most { P.most place.new ≡ P.most place.old }
     ensures refused { IsTrue P.tells → IfErr result (IsToldRefusal options.now (environment_of options.now (P.world place.old).variables).target (P.world place.old)) }
     ensures takes { Takes NoStart MayPlan result (P.counts place.old) (P.counts place.new) }
 {
