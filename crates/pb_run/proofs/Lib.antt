@@ -18,3 +18,4 @@ pub mod Spawning
 pub mod Tables
 pub mod Units
 pub mod Views
+pub mod Writes

@@ -231,9 +231,6 @@ begun_parts begun key launched named is = ap (λ (k : List ℕ). begun_with k be
 
 module _ (b : Basis) (i : ℕ) (begun : Begun) (next : Option ℕ) (w : World) (flying : List ChildInFlight) (still : ℕ → Type 0) (key : List ℕ) (launched : Option Launched)
     (named : begun.unit ≡ key) (is : begun.launched ≡ launched) where
-  pub is_by_parts : IsBegun b i begun next w flying still → IsBegun b i (begun_with key begun.command launched) next w flying still
-  is_by_parts has = subst (λ (x : Begun). IsBegun b i x next w flying still) (begun_parts begun key launched named is) has
-
   pub can_by_parts : (states : List (State UnitFault)) (done : List (Option (List Directive))) (u : Planned) → CanAnswer b states done i u begun next w flying still
       → CanAnswer b states done i u (begun_with key begun.command launched) next w flying still
   can_by_parts states done u can = subst (λ (x : Begun). CanAnswer b states done i u x next w flying still) (begun_parts begun key launched named is) can

@@ -199,7 +199,7 @@ module _ (b : Basis) (order : IsInOrder b.project) (i : ℕ) (u : Planned) (at :
 
 -- Its child's end is asked for, and the answer dropped.
 
-finish_flying : (ticket : ℕ) (result : Result Ended StartFault) (old : Counts) → (counted_finish ticket result old).starts.flying ≡ without ticket old.starts.flying
+pub finish_flying : (ticket : ℕ) (result : Result Ended StartFault) (old : Counts) → (counted_finish ticket result old).starts.flying ≡ without ticket old.starts.flying
 finish_flying ticket (Ok x) old = refl
 finish_flying ticket (Err start.CannotStart) old = refl
 finish_flying ticket (Err start.Died) old = refl
@@ -211,7 +211,7 @@ module _ (b : Basis) (order : IsInOrder b.project) (i : ℕ) (u : Planned) (at :
   as_parts : begun ≡ begun_with begun.unit begun.command (Some l)
   as_parts = ap (begun_with begun.unit begun.command) is
 
-  pub dropped_only : IsBegun b i begun next w flying still → IfSome (child_at l.ticket flying) (λ s. ChangesOnlyInSome s.command.out w w1) → ChangesOnly (is_at_or_below u.out) w w1
+  dropped_only : IsBegun b i begun next w flying still → IfSome (child_at l.ticket flying) (λ s. ChangesOnlyInSome s.command.out w w1) → ChangesOnly (is_at_or_below u.out) w w1
   dropped_only is_begun only = landed_only b order i u at begun.unit begun.command l next flying still w w1 (subst (λ (x : Begun). IsBegun b i x next w flying still) as_parts is_begun) only
 
   module _ (states : List (State UnitFault)) (done : List (Option (List Directive))) (can : CanAnswer b states done i u begun next w flying still) (only : IfSome (child_at l.ticket flying) (λ s. ChangesOnlyInSome s.command.out w w1)) where

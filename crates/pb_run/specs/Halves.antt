@@ -1,5 +1,5 @@
 -- What holds of the outside while units of a build begin and answer, any number of them in flight.
-use Rattle.std.specs.Prelude.{◌≡◌, ◌≢◌, ◌∷◌, [], ℕ, true, List, Option, Some, None, slice_get, take, length}
+use Rattle.std.specs.Prelude.{◌≡◌, ◌≢◌, ◌∷◌, [], ℕ, true, List, Option, Some, None, IfSome, slice_get, take, length}
 use Rattle.std.specs.FinMap as finite
 use Rattle.std.specs.List.{flat_map}
 use Rattle.pb_command.specs.Externs.{reads_of}
@@ -169,6 +169,11 @@ pub record IsBegun (b : Basis) (place : ℕ) (begun : Begun) (next : Option ℕ)
   pub there : unit_at b.project place ≡ Some unit
   pub command : begun.command ≡ command_in b place unit
   pub waits : WaitsBy b unit begun.command (view_in b place unit) begun.launched next w flying still
+
+-- the child of a unit that has begun, where it has one, writes into this folder
+abbrev pub WritesTo : List ℕ → Option Launched → List ChildInFlight → Type 0
+WritesTo out None flying = Unit {0}
+WritesTo out (Some launched) flying = IfSome (child_at launched.ticket flying) (λ spawned. spawned.command.out ≡ Some out)
 
 -- What the halves start from.
 

@@ -1,20 +1,21 @@
 //! The halves of a unit's run: it begins, with a child or without; it answers, or its answer is dropped.
 
-ghost use Rattle.std.specs.Prelude.{◌≡◌, ◌+◌, ℕ, true, List, Option, IsTrue, IfOk, IfSome, MatchOption, MatchResult, Some, None, max, length, is_some, option_map, slice_get, slice_set};
+ghost use Rattle.std.specs.Prelude.{◌≡◌, ◌≢◌, ◌+◌, ℕ, true, List, Option, IsTrue, IfOk, IfSome, MatchOption, MatchResult, Some, None, max, length, is_some, option_map, slice_get, slice_set};
 ghost use Rattle.std.specs.FinMap as finite;
 ghost use Rattle.pb_command.specs.Command.{command_of};
 ghost use Rattle.pb_directive.specs.declared.directive.Directive.{Directive};
 ghost use Rattle.pb_flight.specs.declared.flight.State.{State};
 ghost use Rattle.pb_flight.specs.declared.flight.State.TheVariants as state;
-ghost use Rattle.pb_place.specs.Children.{is_flying};
+ghost use Rattle.pb_place.specs.Children.{child_at, is_flying};
 ghost use Rattle.pb_place.specs.Folders.{files_in};
 ghost use Rattle.pb_place.specs.Paths.{is_at_or_below};
 ghost use Rattle.pb_place.specs.World.{World, ChangesOnly};
+ghost use Rattle.pb_place.specs.declared.child_in_flight.ChildInFlight.{ChildInFlight};
 ghost use Rattle.pb_project.specs.Targets.{unit_at};
 ghost use Rattle.pb_project.specs.declared.fault.UnitFault.{UnitFault};
 ghost use Rattle.pb_record.specs.Parts.{IsReading};
 ghost use Rattle.pb_run.specs.Causes.{Takes, Begins, Lands, Drops, MayBeginUnit, MayAnswerUnit};
-ghost use Rattle.pb_run.specs.Halves.{Footing, Basis, basis, outcomes_in, Keeps, IsBegun, CanBegin, CanAnswer, BeginsApart};
+ghost use Rattle.pb_run.specs.Halves.{Footing, Basis, basis, outcomes_in, Keeps, IsBegun, CanBegin, CanAnswer, BeginsApart, WritesTo};
 ghost use Rattle.pb_run.specs.Outcome.{outcome_by, directives_in};
 ghost use Rattle.pb_run.specs.Standing.{IsCommandOf, IsInOrder, records_folder};
 ghost use Rattle.pb_run.specs.declared.begun.Begun.{Begun};
@@ -46,7 +47,8 @@ use std::alloc::Global;
 ///
 /// Faults: Child, where the child cannot be spawned; Device, where a file, a folder or a variable cannot be read, the
 /// record or the folder cannot be removed, or no run number is left; OutOfMemory. Each has the unit's key, no call of
-/// the place comes after one that failed, and no child is in flight for the unit then.
+/// the place comes after one that failed, and no child is in flight for the unit then. A child that is spawned writes
+/// into the unit's folder, and the others in flight fly on.
 pub fn begin_unit<P: Place>(
     alloc: Global,
     place: &mut P,
@@ -75,6 +77,8 @@ pub fn begin_unit<P: Place>(
     ensures differs { (read : Reading) → IsReading read → IsTrue P.tells → IfOk result (λ begun. FirstDifference read (records_folder project.now) unit.now.key begun.command (P.world place.old) (option_map (λ launched. launched.difference) begun.launched)) }
     ensures only { IsTrue P.tells → ChangesOnly (is_of (records_folder project.now) unit.now.key) (P.world place.old) (P.world place.new) }
     ensures same { IsTrue P.tells → IfOk result (λ begun. begun.launched ≡ None → P.world place.new ≡ P.world place.old) }
+    ensures writes { IsTrue P.tells → IfOk result (λ begun. WritesTo unit.now.out begun.launched (P.counts place.new).starts.flying) }
+    ensures stay { (ticket : ℕ) (its : ChildInFlight) → child_at ticket (P.counts place.old).starts.flying ≡ Some its → child_at ticket (P.counts place.new).starts.flying ≡ Some its }
     ensures folder { store.new.folder ≡ store.old.folder }
     ensures next { TakesNumber store.old.next store.new.next }
     ensures number { IfOk result (λ begun. IfSome begun.launched (λ launched. (store.old.next ≡ Some launched.number) × (store.new.next ≡ after launched.number))) }
@@ -119,7 +123,9 @@ pub fn begin_unit<P: Place>(
 ///
 /// Faults: Child, where the child gave no answer; Device, where a file, a folder or a variable cannot be read, the
 /// record cannot be written, or no run number is left; OutOfMemory. Each has the unit's key, and no call of the place
-/// comes after one that failed. Whatever it answers, the child is in flight no more. A unit that is bad is no fault.
+/// comes after one that failed. Whatever it answers, the child is in flight no more, and the others fly on. Where the
+/// child writes into the unit's folder, only that folder and the unit's record change, whatever the records hold and the
+/// child leaves. A unit that is bad is no fault.
 pub fn answer_unit<P: Place>(
     alloc: Global,
     place: &mut P,
@@ -147,9 +153,8 @@ pub fn answer_unit<P: Place>(
         → CanAnswer (basis footing read P.child setup project.now sources) states done index unit.now begun store.old.next (P.world place.old) (P.counts place.old).starts.flying (P.still place.old)
         → BeginsApart (basis footing read P.child setup project.now sources) states index begun.launched other its store.old.next (P.world place.old) (P.counts place.old).starts.flying (P.still place.old)
         → IsBegun (basis footing read P.child setup project.now sources) other its store.new.next (P.world place.new) (P.counts place.new).starts.flying (P.still place.new) }
-    ensures only { (footing : Footing) (read : Reading) (setup : Setup) (sources : World) → IsTrue P.tells
-        → IsBegun (basis footing read P.child setup project.now sources) index begun store.old.next (P.world place.old) (P.counts place.old).starts.flying (P.still place.old)
-        → ChangesOnly (is_of (records_folder project.now) unit.now.key) (P.world place.old) (P.world place.new) }
+    ensures only { IsTrue P.tells → WritesTo unit.now.out begun.launched (P.counts place.old).starts.flying → ChangesOnly (is_of (records_folder project.now) unit.now.key) (P.world place.old) (P.world place.new) }
+    ensures stay { (ticket : ℕ) (its : ChildInFlight) → IfSome begun.launched (λ launched. ticket ≢ launched.ticket) → child_at ticket (P.counts place.old).starts.flying ≡ Some its → child_at ticket (P.counts place.new).starts.flying ≡ Some its }
     ensures started { IfOk result (λ ran. ran.started ≡ is_some begun.launched) }
     ensures directives { IfOk result (λ ran. directives_in (outcome_by finite.empty ran) ≡ ran.directives) }
     ensures folder { store.new.folder ≡ store.old.folder }
@@ -177,7 +182,8 @@ pub fn answer_unit<P: Place>(
 }
 
 /// Asks for the end of the child of a unit that has begun, where it has one, and drops the answer. The child is in
-/// flight no more, whatever the place answers; a call that fails counts.
+/// flight no more, whatever the place answers, and the others fly on; only the folder changes into which it writes. A
+/// call that fails counts.
 pub fn drop_unit<P: Place>(alloc: Global, place: &mut P, begun: &Begun)
     requires flies { IfSome begun.now.launched (λ launched. is_flying launched.ticket (P.counts place.old).starts.flying ≡ true) }
     ensures keeps { (b : Basis) (states : List (State UnitFault)) (done : List (Option (List Directive))) (index : ℕ) (unit : Planned) (next : Option ℕ) → IsInOrder b.project → unit_at b.project index ≡ Some unit → IsTrue P.tells
@@ -187,9 +193,8 @@ pub fn drop_unit<P: Place>(alloc: Global, place: &mut P, begun: &Begun)
         → CanAnswer b states done index unit begun.now next (P.world place.old) (P.counts place.old).starts.flying (P.still place.old)
         → BeginsApart b states index begun.now.launched other its next (P.world place.old) (P.counts place.old).starts.flying (P.still place.old)
         → IsBegun b other its next (P.world place.new) (P.counts place.new).starts.flying (P.still place.new) }
-    ensures only { (b : Basis) (index : ℕ) (unit : Planned) (next : Option ℕ) → IsInOrder b.project → unit_at b.project index ≡ Some unit → IsTrue P.tells
-        → IsBegun b index begun.now next (P.world place.old) (P.counts place.old).starts.flying (P.still place.old)
-        → ChangesOnly (is_at_or_below unit.out) (P.world place.old) (P.world place.new) }
+    ensures only { (out : List ℕ) → IsTrue P.tells → WritesTo out begun.now.launched (P.counts place.old).starts.flying → ChangesOnly (is_at_or_below out) (P.world place.old) (P.world place.new) }
+    ensures stay { (ticket : ℕ) (its : ChildInFlight) → IfSome begun.now.launched (λ launched. ticket ≢ launched.ticket) → child_at ticket (P.counts place.old).starts.flying ≡ Some its → child_at ticket (P.counts place.new).starts.flying ≡ Some its }
     ensures most { P.most place.new ≡ P.most place.old }
     ensures counts { Drops begun.now.launched (P.counts place.old) (P.counts place.new) }
 {

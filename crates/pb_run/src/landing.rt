@@ -18,7 +18,7 @@ ghost use Rattle.pb_flight.specs.declared.flight.State.TheVariants as state;
 ghost use Rattle.pb_place.specs.Folders.{files_in};
 ghost use Rattle.pb_project.specs.declared.fault.UnitFault.{UnitFault};
 ghost use Rattle.pb_project.specs.declared.project.Setup.{Setup};
-ghost use Rattle.pb_run.specs.Halves.{Footing, basis, begun_with, outcomes_in, key_at, needed_keys, Keeps, IsBegun, CanAnswer, BeginsApart};
+ghost use Rattle.pb_run.specs.Halves.{Footing, basis, begun_with, outcomes_in, key_at, needed_keys, Keeps, IsBegun, CanAnswer, BeginsApart, WritesTo};
 ghost use Rattle.pb_run.specs.Standing.{IsCommandOf, IsInOrder, records_folder};
 ghost use Rattle.pb_run.specs.declared.begun.Begun.{Begun};
 ghost use Rattle.pb_run.specs.Outcome.{judgement_by, outcome_by, directives_in, unstarted};
@@ -290,9 +290,7 @@ pub(crate) fn land<P: Place>(
         → CanAnswer (basis footing read P.child setup project.now sources) states done index unit.now (begun_with unit.now.key command.now (Some launched.now)) store.now.next (P.world place.old) (P.counts place.old).starts.flying (P.still place.old)
         → BeginsApart (basis footing read P.child setup project.now sources) states index (Some launched.now) other its store.now.next (P.world place.old) (P.counts place.old).starts.flying (P.still place.old)
         → IsBegun (basis footing read P.child setup project.now sources) other its store.now.next (P.world place.new) (P.counts place.new).starts.flying (P.still place.new) }
-    ensures only { (footing : Footing) (read : Reading) (setup : Setup) (sources : World) → IsTrue P.tells
-        → IsBegun (basis footing read P.child setup project.now sources) index (begun_with unit.now.key command.now (Some launched.now)) store.now.next (P.world place.old) (P.counts place.old).starts.flying (P.still place.old)
-        → ChangesOnly (is_of (records_folder project.now) unit.now.key) (P.world place.old) (P.world place.new) }
+    ensures only { IsTrue P.tells → WritesTo unit.now.out (Some launched.now) (P.counts place.old).starts.flying → ChangesOnly (is_of (records_folder project.now) unit.now.key) (P.world place.old) (P.world place.new) }
     ensures started { IfOk result (λ ran. ran.started ≡ true) }
     ensures directives { IfOk result (λ ran. directives_in (outcome_by finite.empty ran) ≡ ran.directives) }
     ensures most { P.most place.new ≡ P.most place.old }

@@ -85,10 +85,11 @@ MayMigrate next (Place fault) = (fault ≡ place.Read) ⊎ (fault ≡ place.Writ
 MayMigrate next NumbersSpent = next ≡ None
 MayMigrate next OutOfMemory = Unit {0}
 
--- what opening says of the counters: it starts no child; where it ended well, no call failed; else the call on this path failed, with this fault, and was the last, or memory was refused and none failed
+-- the cause of a fault of opening: the call on this path failed, with this fault, and was the last; or memory was refused, and none failed
 abbrev pub FailsToOpen : OpenFault → Counts → Counts → Type 0
 FailsToOpen (open_fault.Place path fault) old new = ((fault ≡ place.List) ⊎ (fault ≡ place.Read)) × FailedLast (Called fault) old new × (new.named ≡ path)
 FailsToOpen open_fault.OutOfMemory old new = new.failures ≡ old.failures
 
+-- what opening says of the counters: it starts no child; where it ended well, no call failed; else its fault has its cause
 abbrev pub TakesOpen : {T : Type 0} → Result T OpenFault → Counts → Counts → Type 0
 TakesOpen result old new = (new.starts ≡ old.starts) × MatchResult result (λ x. new.failures ≡ old.failures) (λ e. FailsToOpen e old new)

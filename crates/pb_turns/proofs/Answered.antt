@@ -1,33 +1,29 @@
 -- What has happened, where a unit in flight answers, or a fault comes in its place.
-use Rattle.std.proofs.Common.{◌≡◌, ◌≢◌, ◌∙◌, ◌++◌, ◌<◌, ◌⊎◌, inl, inr, Bool, true, false, List, [], ◌∷◌, ℕ, Option, Some, None, refl, sym, ap, subst, slice_get, slice_set, is_some, length}
-use Rattle.std.proofs.lemmas.Bool.{cases_eq, false≢true}
+use Rattle.std.proofs.Common.{◌≡◌, ◌≢◌, ◌∙◌, ◌<◌, inl, inr, true, List, ◌∷◌, ℕ, Option, Some, refl, sym, ap, subst, slice_get, slice_set, is_some, length}
+use Rattle.std.proofs.lemmas.Bool.{false≢true}
 use Rattle.std.proofs.lemmas.Option.{slice_get_within}
-use Rattle.std.specs.List.{AllByRecursion, remove}
+use Rattle.std.specs.List.{remove}
 use Rattle.pb_directive.specs.declared.directive.Directive.{Directive}
 use Rattle.pb_flight.specs.declared.flight.Answer.{Answer}
 use Rattle.pb_flight.specs.declared.flight.State.{State}
 use Rattle.pb_flight.specs.declared.flight.State.TheVariants.{Untouched, Begun, Answered}
-use Rattle.pb_flight.specs.Events.{Event, Began, Gave}
-use Rattle.pb_flight.specs.Laws.{HasBegun}
-use Rattle.pb_flight.specs.Table.{is_good_at, are_good}
-use Rattle.pb_flight.proofs.Lists.{injective, get_set_same, get_set_other}
-use Rattle.pb_place.specs.World.{World, ChangesOnly}
+use Rattle.pb_flight.specs.Events.{Event, Gave}
+use Rattle.pb_flight.specs.Table.{is_good_at}
+use Rattle.pb_flight.proofs.Lists.{injective, get_set_other}
+use Rattle.pb_place.specs.World.{World}
 use Rattle.pb_place.specs.declared.child_in_flight.ChildInFlight.{ChildInFlight}
 use Rattle.pb_project.specs.Targets.{unit_at}
 use Rattle.pb_project.specs.declared.fault.UnitFault.{UnitFault}
 use Rattle.pb_run.specs.Halves.{Footing, OnRecords, OnNothing, Basis, HoldsBy, Keeps, StandsGood, IsBegun, CanAnswer, BeginsApart, outcomes_in}
 use Rattle.pb_run.specs.Outcome.{Outcome, directives_in}
-use Rattle.pb_run.specs.Standing.{IsInOrder, records_folder}
 use Rattle.pb_run.specs.Telling.{unit_lines}
 use Rattle.pb_run.specs.declared.begun.Begun.{Begun as unit_begun}
-use Rattle.pb_run.specs.declared.begun.Launched.{Launched}
-use Rattle.pb_soundness.specs.Apart.{is_of}
 use Rattle.pb_turns.specs.Crew.{places_of, place_of_unit, ticket_in, number_in, tickets_of, numbers_of, AreApart}
 use Rattle.pb_turns.specs.Rows.{is_started, fault_in, messages_in}
-use Rattle.pb_turns.specs.Story.{states_in, Happened, HasGiven, FliesSo, AllBeganFor, BeganFor, OnlyOf}
+use Rattle.pb_turns.specs.Story.{states_in, Happened, HasGiven, FliesSo, AllBeganFor, BeganFor}
 use Rattle.pb_turns.specs.declared.crew.Aloft.{Aloft}
 use Rattle.pb_turns.proofs.Lists.{all_left, all_get, apart_places, flat_apart, get_map, get_set_within}
-use Rattle.pb_turns.proofs.States.{good_set, begun_cases, begun_more, begun_now, answered_cases}
+use Rattle.pb_turns.proofs.States.{good_set, begun_cases, answered_cases}
 use Rattle.pb_unit.specs.declared.plan.Planned.{Planned}
 
 not_begun : (s : State UnitFault) → s ≡ Begun → s ≡ Untouched → ⊥
@@ -38,7 +34,7 @@ not_begun (Answered a) e f = cc
 -- What is kept, where the answer of a unit is not told.
 
 module _ (b : Basis) (ss : List (State UnitFault)) (done : List (Option (List Directive))) (next next' : Option ℕ) (w w' : World) (i : ℕ) (answer : Answer UnitFault) (d : Option (List Directive))
-  (old : Keeps b ss done next w) (new : Keeps b (slice_set ss i (Answered answer)) (slice_set done i d) next' w') (at : slice_get ss i ≡ Some Begun) where
+    (old : Keeps b ss done next w) (new : Keeps b (slice_set ss i (Answered answer)) (slice_set done i d) next' w') (at : slice_get ss i ≡ Some Begun) where
   good_other : (place : ℕ) → is_good_at (slice_get ss place) ≡ true → i ≢ place
   good_other place good same = false≢true (ap is_good_at (sym at ∙ ap (slice_get ss) same) ∙ good)
 
@@ -73,9 +69,9 @@ module _ (b : Basis) (ss : List (State UnitFault)) (done : List (Option (List Di
     records = records_back b.footing new.records;
   }
 
-module _ (b : Basis) (first : World) (done : List (Option (List Directive))) (aloft : List Aloft) (next next' : Option ℕ) (es : List (Event UnitFault)) (w w' : World)
-  (flying flying' : List ChildInFlight) (still still' : ℕ → Type 0) (h : Happened b first done aloft next es w flying still)
-  (index : ℕ) (a : Aloft) (at : slice_get aloft index ≡ Some a) (u : Planned) (there : unit_at b.project a.unit ≡ Some u) where
+module _ (b : Basis) (done : List (Option (List Directive))) (aloft : List Aloft) (next next' : Option ℕ) (es : List (Event UnitFault)) (w w' : World)
+    (flying flying' : List ChildInFlight) (still still' : ℕ → Type 0) (h : Happened b done aloft next es w flying still)
+    (index : ℕ) (a : Aloft) (at : slice_get aloft index ≡ Some a) (u : Planned) (there : unit_at b.project a.unit ≡ Some u) where
   so : FliesSo b es next w flying still a
   so = all_get (FliesSo b es next w flying still) aloft index a h.begun at
 
@@ -89,7 +85,7 @@ module _ (b : Basis) (first : World) (done : List (Option (List Directive))) (al
   its_start = so.started
 
   module _ (places : AreApart (places_of aloft)) (tickets : AreApart (tickets_of aloft)) (numbers : AreApart (numbers_of aloft))
-    (others : (other : ℕ) (its : unit_begun) → BeginsApart b (states_in b.project es) a.unit a.begun.launched other its next w flying still → IsBegun b other its next' w' flying' still') where
+      (others : (other : ℕ) (its : unit_begun) → BeginsApart b (states_in b.project es) a.unit a.begun.launched other its next w flying still → IsBegun b other its next' w' flying' still') where
     ne_unit : (j : ℕ) (y : Aloft) → slice_get aloft j ≡ Some y → j ≢ index → y.unit ≢ a.unit
     ne_unit j y at_j ne = apart_places (places_of aloft) j index y.unit a.unit places (get_map place_of_unit aloft j y at_j) (get_map place_of_unit aloft index a at) ne
 
@@ -109,92 +105,78 @@ module _ (b : Basis) (first : World) (done : List (Option (List Directive))) (al
     flies_still : (j : ℕ) (y : Aloft) → slice_get aloft j ≡ Some y → j ≢ index → FliesSo b es next w flying still y → FliesSo b es next' w' flying' still' y
     flies_still j y at_j ne f = record { state = f.state; begun_so = others y.unit y.begun (apart_from j y at_j ne f); reaches = f.reaches; started = f.started }
 
-    module _ (only : ChangesOnly (is_of (records_folder b.project) u.key) w w') where
-      only_still : OnlyOf b.project es first w'
-      only_still = record {
-        variables = only.variables ∙ h.only.variables;
-        files = λ q outside. only.files q (outside a.unit u (Begun, so.state, refl) there) ∙ h.only.files q outside;
-      }
+    pub happened_less : Keeps b (states_in b.project es) done next' w' → Happened b done (remove aloft index) next' es w' flying' still'
+    happened_less keeps = record {
+      keeps = keeps;
+      begun = all_left (FliesSo b es next w flying still) (FliesSo b es next' w' flying' still') aloft index flies_still h.begun;
+      gave = h.gave;
+    }
 
-      pub happened_less : Keeps b (states_in b.project es) done next' w' → Happened b first done (remove aloft index) next' es w' flying' still'
-      happened_less keeps = record {
-        keeps = keeps;
-        begun = all_left (FliesSo b es next w flying still) (FliesSo b es next' w' flying' still') aloft index flies_still h.begun;
-        gave = h.gave;
-        only = only_still;
-      }
+    -- The answer is noted.
 
-      -- The answer is noted.
-
-      module _ (answer : Answer UnitFault) (d : Option (List Directive)) (keeps : Keeps b (slice_set (states_in b.project es) a.unit (Answered answer)) (slice_set done a.unit d) next' w')
+    module _ (answer : Answer UnitFault) (d : Option (List Directive)) (keeps : Keeps b (slice_set (states_in b.project es) a.unit (Answered answer)) (slice_set done a.unit d) next' w')
         (outcome : Outcome) (is : slice_get (outcomes_in b) a.unit ≡ Some outcome) (fault : answer.fault ≡ fault_in outcome) (noted : d ≡ directives_in outcome)
         (lines : answer.lines ≡ unit_lines b.project u (is_some a.begun.launched) (messages_in outcome)) where
-        flies_after : (j : ℕ) (y : Aloft) → slice_get aloft j ≡ Some y → j ≢ index → FliesSo b es next w flying still y → FliesSo b (Gave a.unit answer ∷ es) next' w' flying' still' y
-        flies_after j y at_j ne f = record {
-          state = get_set_other (states_in b.project es) a.unit y.unit (Answered answer) (λ e. ne_unit j y at_j ne (sym e)) ∙ f.state;
-          begun_so = others y.unit y.begun (apart_from j y at_j ne f);
-          reaches = λ v at_v. good_set (states_in b.project es) a.unit Begun (Answered answer) v.reaches so.state refl (f.reaches v at_v);
-          started = f.started;
-        }
+      flies_after : (j : ℕ) (y : Aloft) → slice_get aloft j ≡ Some y → j ≢ index → FliesSo b es next w flying still y → FliesSo b (Gave a.unit answer ∷ es) next' w' flying' still' y
+      flies_after j y at_j ne f = record {
+        state = get_set_other (states_in b.project es) a.unit y.unit (Answered answer) (λ e. ne_unit j y at_j ne (sym e)) ∙ f.state;
+        begun_so = others y.unit y.begun (apart_from j y at_j ne f);
+        reaches = λ v at_v. good_set (states_in b.project es) a.unit Begun (Answered answer) v.reaches so.state refl (f.reaches v at_v);
+        started = f.started;
+      }
 
-        within : a.unit < length done
-        within = subst (λ n. a.unit < n) (sym h.keeps.long) (slice_get_within (states_in b.project es) a.unit Begun so.state)
+      within : a.unit < length done
+      within = subst (λ n. a.unit < n) (sym h.keeps.long) (slice_get_within (states_in b.project es) a.unit Begun so.state)
 
-        own_given : HasGiven b (Gave a.unit answer ∷ es) (slice_set done a.unit d) a.unit answer
-        own_given = record {
-          unit = u;
-          there = there;
-          outcome = outcome;
-          is = is;
-          fault = fault;
-          lines = lines ∙ ap (λ s. unit_lines b.project u s (messages_in outcome)) (sym so.started);
-          noted = get_set_within done a.unit d within ∙ ap Some noted;
-        }
+      own_given : HasGiven b (Gave a.unit answer ∷ es) (slice_set done a.unit d) a.unit answer
+      own_given = record {
+        unit = u;
+        there = there;
+        outcome = outcome;
+        is = is;
+        fault = fault;
+        lines = lines ∙ ap (λ s. unit_lines b.project u s (messages_in outcome)) (sym so.started);
+        noted = get_set_within done a.unit d within ∙ ap Some noted;
+      }
 
-        old_given : (place : ℕ) (other : Answer UnitFault) → a.unit ≢ place → HasGiven b es done place other → HasGiven b (Gave a.unit answer ∷ es) (slice_set done a.unit d) place other
-        old_given place other ne g = record {
-          unit = g.unit;
-          there = g.there;
-          outcome = g.outcome;
-          is = g.is;
-          fault = g.fault;
-          lines = g.lines;
-          noted = get_set_other done a.unit place d ne ∙ g.noted;
-        }
+      old_given : (place : ℕ) (other : Answer UnitFault) → a.unit ≢ place → HasGiven b es done place other → HasGiven b (Gave a.unit answer ∷ es) (slice_set done a.unit d) place other
+      old_given place other ne g = record {
+        unit = g.unit;
+        there = g.there;
+        outcome = g.outcome;
+        is = g.is;
+        fault = g.fault;
+        lines = g.lines;
+        noted = get_set_other done a.unit place d ne ∙ g.noted;
+      }
 
-        given_after : (place : ℕ) (other : Answer UnitFault) → slice_get (slice_set (states_in b.project es) a.unit (Answered answer)) place ≡ Some (Answered other) → HasGiven b (Gave a.unit answer ∷ es) (slice_set done a.unit d) place other
-        given_after place other at_place = elim (answered_cases (states_in b.project es) a.unit place other answer Begun so.state at_place) [
-          | inl (same, is_other) ↦ subst (λ n. HasGiven b (Gave a.unit answer ∷ es) (slice_set done a.unit d) n other) same (subst (HasGiven b (Gave a.unit answer ∷ es) (slice_set done a.unit d) a.unit) is_other own_given)
-          | inr (ne, before) ↦ old_given place other ne (h.gave place other before)
-        ]
+      given_after : (place : ℕ) (other : Answer UnitFault) → slice_get (slice_set (states_in b.project es) a.unit (Answered answer)) place ≡ Some (Answered other) → HasGiven b (Gave a.unit answer ∷ es) (slice_set done a.unit d) place other
+      given_after place other at_place = elim (answered_cases (states_in b.project es) a.unit place other answer Begun so.state at_place) [
+        | inl (same, is_other) ↦ subst (λ n. HasGiven b (Gave a.unit answer ∷ es) (slice_set done a.unit d) n other) same (subst (HasGiven b (Gave a.unit answer ∷ es) (slice_set done a.unit d) a.unit) is_other own_given)
+        | inr (ne, before) ↦ old_given place other ne (h.gave place other before)
+      ]
 
-        pub happened_after : Happened b first (slice_set done a.unit d) (remove aloft index) next' (Gave a.unit answer ∷ es) w' flying' still'
-        happened_after = record {
-          keeps = keeps;
-          begun = all_left (FliesSo b es next w flying still) (FliesSo b (Gave a.unit answer ∷ es) next' w' flying' still') aloft index flies_after h.begun;
-          gave = given_after;
-          only = record {
-            variables = only.variables ∙ h.only.variables;
-            files = λ q outside.
-                only.files q (outside a.unit u (begun_now (states_in b.project es) a.unit Begun (Answered answer) so.state refl) there)
-                ∙ h.only.files q (λ place v has at_v. outside place v (begun_more (states_in b.project es) a.unit place Begun (Answered answer) so.state refl has) at_v);
-          };
-        }
+      pub happened_after : Happened b (slice_set done a.unit d) (remove aloft index) next' (Gave a.unit answer ∷ es) w' flying' still'
+      happened_after = record {
+        keeps = keeps;
+        begun = all_left (FliesSo b es next w flying still) (FliesSo b (Gave a.unit answer ∷ es) next' w' flying' still') aloft index flies_after h.begun;
+        gave = given_after;
+      }
 
-        pub began_after : AllBeganFor b es first → AllBeganFor b (Gave a.unit answer ∷ es) first
-        began_after began place has = elim (begun_cases (states_in b.project es) a.unit place (Answered answer) has) [
-          | inl same ↦ went place (began place (Begun, subst (λ n. slice_get (states_in b.project es) n ≡ Some Begun) same so.state, refl))
-          | inr before ↦ went place (began place before)
-        ]
-          where
-            went : (n : ℕ) → BeganFor b es first n → BeganFor b (Gave a.unit answer ∷ es) first n
-            went n f = record {
-              unit = f.unit;
-              there = f.there;
-              world = f.world;
-              sources_stay = f.sources_stay;
-              record_stays = f.record_stays;
-              difference = f.difference;
-              named = f.named;
-              started = f.started;
-            }
+      pub began_after : (first : World) → AllBeganFor b es first → AllBeganFor b (Gave a.unit answer ∷ es) first
+      began_after first began place has = elim (begun_cases (states_in b.project es) a.unit place (Answered answer) has) [
+        | inl same ↦ went place (began place (Begun, subst (λ n. slice_get (states_in b.project es) n ≡ Some Begun) same so.state, refl))
+        | inr before ↦ went place (began place before)
+      ]
+        where
+          went : (n : ℕ) → BeganFor b es first n → BeganFor b (Gave a.unit answer ∷ es) first n
+          went n f = record {
+            unit = f.unit;
+            there = f.there;
+            world = f.world;
+            sources_stay = f.sources_stay;
+            record_stays = f.record_stays;
+            difference = f.difference;
+            named = f.named;
+            started = f.started;
+          }

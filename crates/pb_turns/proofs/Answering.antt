@@ -1,33 +1,28 @@
 -- The story of a crew, where a unit answers.
-use Rattle.std.proofs.Common.{◌≡◌, ◌∙◌, ◌++◌, ◌<◌, Bool, true, false, List, [], ◌∷◌, ℕ, Option, Some, None, IsTrue, refl, sym, ap, subst, slice_get, slice_set, is_some, length}
+use Rattle.std.proofs.Common.{◌≡◌, ◌∙◌, Bool, List, [], ◌∷◌, ℕ, Option, Some, None, IsTrue, refl, sym, ap, subst, slice_get, slice_set, is_some}
 use Rattle.std.specs.FinMap as finite
 use Rattle.std.specs.List.{remove}
 use Rattle.pb_directive.specs.declared.directive.Directive.{Directive}
-use Rattle.pb_flight.specs.declared.flight.Answer.{Answer}
 use Rattle.pb_flight.specs.declared.flight.State.{State}
-use Rattle.pb_flight.specs.declared.flight.State.TheVariants.{Begun, Answered}
+use Rattle.pb_flight.specs.declared.flight.State.TheVariants.{Answered}
 use Rattle.pb_flight.specs.Events.{Event, Gave}
 use Rattle.pb_message.specs.declared.message.Message.{Message}
 use Rattle.pb_place.specs.Folders.{files_in}
-use Rattle.pb_place.specs.World.{World, Map, Answers, ChangesOnly}
-use Rattle.pb_place.specs.declared.child_in_flight.ChildInFlight.{ChildInFlight}
+use Rattle.pb_place.specs.World.{World, Map, Answers}
 use Rattle.pb_project.specs.Targets.{unit_at}
 use Rattle.pb_project.specs.declared.fault.UnitFault.{UnitFault}
 use Rattle.pb_project.specs.declared.project.Setup.{Setup}
 use Rattle.pb_record.specs.Parts.{IsReading}
 use Rattle.pb_run.specs.Halves.{Footing, Basis, basis, Keeps, IsBegun, CanAnswer, BeginsApart, outcomes_in}
-use Rattle.pb_run.specs.Outcome.{Outcome, Good, Bad, outcome_from, outcome_by, directives_in}
-use Rattle.pb_run.specs.Standing.{records_folder}
+use Rattle.pb_run.specs.Outcome.{outcome_from, outcome_by, directives_in}
 use Rattle.pb_run.specs.Telling.{unit_lines}
 use Rattle.pb_run.specs.declared.begun.Begun.{Begun as unit_begun}
-use Rattle.pb_run.specs.declared.begun.Launched.{Launched}
 use Rattle.pb_run.specs.declared.ran.Ran.{Ran}
-use Rattle.pb_soundness.specs.Apart.{is_of}
 use Rattle.pb_soundness.specs.Records.{Reading}
 use Rattle.pb_turns.specs.Crew.{AreApart, places_of, tickets_of, numbers_of}
 use Rattle.pb_turns.specs.Moments.{Moment}
 use Rattle.pb_turns.specs.Rows.{fault_in, messages_in}
-use Rattle.pb_turns.specs.Story.{states_in, Happened, AllBeganFor, FromFirst, Story, FliesSo}
+use Rattle.pb_turns.specs.Story.{states_in, Happened, AllBeganFor, FromFirst, Story}
 use Rattle.pb_turns.specs.declared.crew.Aloft.{Aloft}
 use Rattle.pb_turns.specs.declared.crew.UnitCrew.{UnitCrew}
 use Rattle.pb_turns.proofs.Answered as answered
@@ -48,38 +43,33 @@ directives_any None files other directives messages = refl
 directives_any (Some e) files other directives messages = refl
 
 module _ (tells : Bool) (child : Answers) (first old : UnitCrew) (at now new : Moment) (still still' : ℕ → Type 0) (es : List (Event UnitFault)) (given index : ℕ) (a : Aloft) (u : Planned)
-  (there : unit_at old.project a.unit ≡ Some u) (story : Story tells child first at old now still es given) (at_index : slice_get old.aloft.items index ≡ Some a)
-  (places : AreApart (places_of old.aloft.items)) (tickets : AreApart (tickets_of old.aloft.items)) (numbers : AreApart (numbers_of old.aloft.items)) (next' : Option ℕ)
-  (others : (footing : Footing) (read : Reading) (setup : Setup) (sources : World) (states : List (State UnitFault)) (done : List (Option (List Directive))) (other : ℕ) (its : unit_begun) → IsReading read → IsTrue tells
+    (there : unit_at old.project a.unit ≡ Some u) (story : Story tells child first at old now still es given) (at_index : slice_get old.aloft.items index ≡ Some a)
+    (places : AreApart (places_of old.aloft.items)) (tickets : AreApart (tickets_of old.aloft.items)) (numbers : AreApart (numbers_of old.aloft.items)) (next' : Option ℕ)
+    (others : (footing : Footing) (read : Reading) (setup : Setup) (sources : World) (states : List (State UnitFault)) (done : List (Option (List Directive))) (other : ℕ) (its : unit_begun) → IsReading read → IsTrue tells
     → CanAnswer (basis footing read child setup old.project sources) states done a.unit u a.begun old.store.next now.world now.counts.starts.flying still
     → BeginsApart (basis footing read child setup old.project sources) states a.unit a.begun.launched other its old.store.next now.world now.counts.starts.flying still
-    → IsBegun (basis footing read child setup old.project sources) other its next' new.world new.counts.starts.flying still')
-  (only : (footing : Footing) (read : Reading) (setup : Setup) (sources : World) → IsTrue tells
-    → IsBegun (basis footing read child setup old.project sources) a.unit a.begun old.store.next now.world now.counts.starts.flying still → ChangesOnly (is_of (records_folder old.project) u.key) now.world new.world) where
+    → IsBegun (basis footing read child setup old.project sources) other its next' new.world new.counts.starts.flying still') where
   abbrev Of : Footing → Reading → World → Basis
   Of footing read sources = basis footing read child old.setup old.project sources
 
   module _ (t : IsTrue tells) (f : Footing) (r : Reading) (s : World) (reading : IsReading r)
-    (h : Happened (Of f r s) at.world old.done.items old.aloft.items old.store.next es now.world now.counts.starts.flying still) where
+      (h : Happened (Of f r s) old.done.items old.aloft.items old.store.next es now.world now.counts.starts.flying still) where
     pub could : CanAnswer (Of f r s) (states_in old.project es) old.done.items a.unit u a.begun old.store.next now.world now.counts.starts.flying still
-    could = answered.can_answer (Of f r s) at.world old.done.items old.aloft.items old.store.next next' es now.world new.world now.counts.starts.flying new.counts.starts.flying still still' h index a at_index u there
+    could = answered.can_answer (Of f r s) old.done.items old.aloft.items old.store.next next' es now.world new.world now.counts.starts.flying new.counts.starts.flying still still' h index a at_index u there
 
     others_now : (other : ℕ) (its : unit_begun) → BeginsApart (Of f r s) (states_in old.project es) a.unit a.begun.launched other its old.store.next now.world now.counts.starts.flying still → IsBegun (Of f r s) other its next' new.world new.counts.starts.flying still'
     others_now other its apart = others f r old.setup s (states_in old.project es) old.done.items other its reading t could apart
 
-    only_now : ChangesOnly (is_of (records_folder old.project) u.key) now.world new.world
-    only_now = only f r old.setup s t could.begun_so
-
-    less : Keeps (Of f r s) (states_in old.project es) old.done.items next' new.world → Happened (Of f r s) at.world old.done.items (remove old.aloft.items index) next' es new.world new.counts.starts.flying still'
+    less : Keeps (Of f r s) (states_in old.project es) old.done.items next' new.world → Happened (Of f r s) old.done.items (remove old.aloft.items index) next' es new.world new.counts.starts.flying still'
     less keeps =
-        answered.happened_less (Of f r s) at.world old.done.items old.aloft.items old.store.next next' es now.world new.world now.counts.starts.flying new.counts.starts.flying still still' h index a at_index u there
-        places tickets numbers others_now only_now keeps
+        answered.happened_less (Of f r s) old.done.items old.aloft.items old.store.next next' es now.world new.world now.counts.starts.flying new.counts.starts.flying still still' h index a at_index u there
+        places tickets numbers others_now keeps
 
     module _ (ran : Ran) (lines : List ℕ) (outcome : slice_get (outcomes_in (Of f r s)) a.unit ≡ Some (outcome_by (files_in u.out new.world.files) ran))
-      (keeps : Keeps (Of f r s) (slice_set (states_in old.project es) a.unit (Answered record { fault = ran.fault; lines = lines })) (slice_set old.done.items a.unit ran.directives) next' new.world)
-      (noted : directives_in (outcome_by finite.empty ran) ≡ ran.directives) where
+        (keeps : Keeps (Of f r s) (slice_set (states_in old.project es) a.unit (Answered record { fault = ran.fault; lines = lines })) (slice_set old.done.items a.unit ran.directives) next' new.world)
+        (noted : directives_in (outcome_by finite.empty ran) ≡ ran.directives) where
       -- memory is refused for its lines
-      untold : Happened (Of f r s) at.world old.done.items (remove old.aloft.items index) next' es new.world new.counts.starts.flying still'
+      untold : Happened (Of f r s) old.done.items (remove old.aloft.items index) next' es new.world new.counts.starts.flying still'
       untold = less (answered.keeps_back (Of f r s) (states_in old.project es) old.done.items old.store.next next' now.world new.world a.unit record { fault = ran.fault; lines = lines } ran.directives h.keeps keeps could.state)
 
       module _ (started : ran.started ≡ is_some a.begun.launched) (told : lines ≡ unit_lines old.project u ran.started ran.messages) where
@@ -90,46 +80,44 @@ module _ (tells : Bool) (child : Answers) (first old : UnitCrew) (at now new : M
         noted_is : ran.directives ≡ directives_in (outcome_by (files_in u.out new.world.files) ran)
         noted_is = sym noted ∙ directives_any ran.fault finite.empty (files_in u.out new.world.files) ran.directives ran.messages
 
-        after : Happened (Of f r s) at.world (slice_set old.done.items a.unit ran.directives) (remove old.aloft.items index) next' (Gave a.unit record { fault = ran.fault; lines = lines } ∷ es) new.world new.counts.starts.flying still'
+        after : Happened (Of f r s) (slice_set old.done.items a.unit ran.directives) (remove old.aloft.items index) next' (Gave a.unit record { fault = ran.fault; lines = lines } ∷ es) new.world new.counts.starts.flying still'
         after =
-            answered.happened_after (Of f r s) at.world old.done.items old.aloft.items old.store.next next' es now.world new.world now.counts.starts.flying new.counts.starts.flying still still' h index a at_index u there
-            places tickets numbers others_now only_now record { fault = ran.fault; lines = lines } ran.directives keeps (outcome_by (files_in u.out new.world.files) ran) outcome
+            answered.happened_after (Of f r s) old.done.items old.aloft.items old.store.next next' es now.world new.world now.counts.starts.flying new.counts.starts.flying still still' h index a at_index u there
+            places tickets numbers others_now record { fault = ran.fault; lines = lines } ran.directives keeps (outcome_by (files_in u.out new.world.files) ran) outcome
             (fault_of ran.fault (files_in u.out new.world.files) ran.directives ran.messages) noted_is lines_are
 
         after_began : AllBeganFor (Of f r s) es at.world → AllBeganFor (Of f r s) (Gave a.unit record { fault = ran.fault; lines = lines } ∷ es) at.world
         after_began =
-            answered.began_after (Of f r s) at.world old.done.items old.aloft.items old.store.next next' es now.world new.world now.counts.starts.flying new.counts.starts.flying still still' h index a at_index u there
-            places tickets numbers others_now only_now record { fault = ran.fault; lines = lines } ran.directives keeps (outcome_by (files_in u.out new.world.files) ran) outcome
-            (fault_of ran.fault (files_in u.out new.world.files) ran.directives ran.messages) noted_is lines_are
+            answered.began_after (Of f r s) old.done.items old.aloft.items old.store.next next' es now.world new.world now.counts.starts.flying new.counts.starts.flying still still' h index a at_index u there
+            places tickets numbers others_now record { fault = ran.fault; lines = lines } ran.directives keeps (outcome_by (files_in u.out new.world.files) ran) outcome
+            (fault_of ran.fault (files_in u.out new.world.files) ran.directives ran.messages) noted_is lines_are at.world
 
   -- a fault came in its place
   pub failed_happened : (aloft' : List Aloft) → aloft' ≡ remove old.aloft.items index
       → ((footing : Footing) (read : Reading) (setup : Setup) (sources : World) (states : List (State UnitFault)) (done : List (Option (List Directive))) → IsReading read → IsTrue tells
       → CanAnswer (basis footing read child setup old.project sources) states done a.unit u a.begun old.store.next now.world now.counts.starts.flying still → Keeps (basis footing read child setup old.project sources) states done next' new.world)
-      → IsTrue tells → FromFirst child first at old (λ b. Happened b at.world old.done.items aloft' next' es new.world new.counts.starts.flying still' × AllBeganFor b es at.world)
+      → IsTrue tells → FromFirst child first at old (λ b. Happened b old.done.items aloft' next' es new.world new.counts.starts.flying still' × AllBeganFor b es at.world)
   failed_happened aloft' same keeps t f r s reading k =
-      let (h, began) = story.happened t f r s reading k in
-      (
-        subst (λ (items : List Aloft). Happened (Of f r s) at.world old.done.items items next' es new.world new.counts.starts.flying still') (sym same)
+      let (h, began) = story.happened t f r s reading k in (
+        subst (λ (items : List Aloft). Happened (Of f r s) old.done.items items next' es new.world new.counts.starts.flying still') (sym same)
             (less t f r s reading h (keeps f r old.setup s (states_in old.project es) old.done.items reading t (could t f r s reading h))),
         began,
       )
 
   module _ (ran : Ran)
-    (outcome : (footing : Footing) (read : Reading) (setup : Setup) (sources : World) (states : List (State UnitFault)) (done : List (Option (List Directive))) → IsReading read → IsTrue tells
+      (outcome : (footing : Footing) (read : Reading) (setup : Setup) (sources : World) (states : List (State UnitFault)) (done : List (Option (List Directive))) → IsReading read → IsTrue tells
       → CanAnswer (basis footing read child setup old.project sources) states done a.unit u a.begun old.store.next now.world now.counts.starts.flying still
       → slice_get (outcomes_in (basis footing read child setup old.project sources)) a.unit ≡ Some (outcome_by (files_in u.out new.world.files) ran))
-    (keeps : (footing : Footing) (read : Reading) (setup : Setup) (sources : World) (states : List (State UnitFault)) (done : List (Option (List Directive))) → IsReading read → IsTrue tells
+      (keeps : (footing : Footing) (read : Reading) (setup : Setup) (sources : World) (states : List (State UnitFault)) (done : List (Option (List Directive))) → IsReading read → IsTrue tells
       → CanAnswer (basis footing read child setup old.project sources) states done a.unit u a.begun old.store.next now.world now.counts.starts.flying still
       → (lines : List ℕ) → Keeps (basis footing read child setup old.project sources) (slice_set states a.unit (Answered record { fault = ran.fault; lines = lines })) (slice_set done a.unit ran.directives) next' new.world)
-    (noted : directives_in (outcome_by finite.empty ran) ≡ ran.directives) where
+      (noted : directives_in (outcome_by finite.empty ran) ≡ ran.directives) where
     -- memory is refused for its lines
-    pub untold_happened : (aloft' : List Aloft) → aloft' ≡ remove old.aloft.items index → IsTrue tells → FromFirst child first at old (λ b. Happened b at.world old.done.items aloft' next' es new.world new.counts.starts.flying still' × AllBeganFor b es at.world)
+    pub untold_happened : (aloft' : List Aloft) → aloft' ≡ remove old.aloft.items index → IsTrue tells → FromFirst child first at old (λ b. Happened b old.done.items aloft' next' es new.world new.counts.starts.flying still' × AllBeganFor b es at.world)
     untold_happened aloft' same t f r s reading k =
         let (h, began) = story.happened t f r s reading k in
-        let can = could t f r s reading h in
-        (
-          subst (λ (items : List Aloft). Happened (Of f r s) at.world old.done.items items next' es new.world new.counts.starts.flying still') (sym same)
+        let can = could t f r s reading h in (
+          subst (λ (items : List Aloft). Happened (Of f r s) old.done.items items next' es new.world new.counts.starts.flying still') (sym same)
               (untold t f r s reading h ran [] (outcome f r old.setup s (states_in old.project es) old.done.items reading t can) (keeps f r old.setup s (states_in old.project es) old.done.items reading t can []) noted),
           began,
         )
@@ -137,15 +125,14 @@ module _ (tells : Bool) (child : Answers) (first old : UnitCrew) (at now new : M
     -- it has answered
     pub answered_happened : (lines : List ℕ) (aloft' : List Aloft) (done' : List (Option (List Directive))) → aloft' ≡ remove old.aloft.items index → done' ≡ slice_set old.done.items a.unit ran.directives
         → ran.started ≡ is_some a.begun.launched → lines ≡ unit_lines old.project u ran.started ran.messages → IsTrue tells
-        → FromFirst child first at old (λ b. Happened b at.world done' aloft' next' (Gave a.unit record { fault = ran.fault; lines = lines } ∷ es) new.world new.counts.starts.flying still' × AllBeganFor b (Gave a.unit record { fault = ran.fault; lines = lines } ∷ es) at.world)
+        → FromFirst child first at old (λ b. Happened b done' aloft' next' (Gave a.unit record { fault = ran.fault; lines = lines } ∷ es) new.world new.counts.starts.flying still' × AllBeganFor b (Gave a.unit record { fault = ran.fault; lines = lines } ∷ es) at.world)
     answered_happened lines aloft' done' same set started told t f r s reading k =
         let (h, began) = story.happened t f r s reading k in
         let can = could t f r s reading h in
         let is = outcome f r old.setup s (states_in old.project es) old.done.items reading t can in
-        let kept = keeps f r old.setup s (states_in old.project es) old.done.items reading t can lines in
-        (
-          subst (λ ds. Happened (Of f r s) at.world ds aloft' next' (Gave a.unit record { fault = ran.fault; lines = lines } ∷ es) new.world new.counts.starts.flying still') (sym set)
-              (subst (λ (items : List Aloft). Happened (Of f r s) at.world (slice_set old.done.items a.unit ran.directives) items next' (Gave a.unit record { fault = ran.fault; lines = lines } ∷ es) new.world new.counts.starts.flying still') (sym same)
+        let kept = keeps f r old.setup s (states_in old.project es) old.done.items reading t can lines in (
+          subst (λ ds. Happened (Of f r s) ds aloft' next' (Gave a.unit record { fault = ran.fault; lines = lines } ∷ es) new.world new.counts.starts.flying still') (sym set)
+              (subst (λ (items : List Aloft). Happened (Of f r s) (slice_set old.done.items a.unit ran.directives) items next' (Gave a.unit record { fault = ran.fault; lines = lines } ∷ es) new.world new.counts.starts.flying still') (sym same)
               (after t f r s reading h ran lines is kept noted started told)),
           after_began t f r s reading h ran lines is kept noted started told began,
         )

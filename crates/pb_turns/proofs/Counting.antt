@@ -1,14 +1,14 @@
 -- Counters, lines and lists, after one more step.
-use Rattle.std.proofs.Common.{◌≡◌, ◌≢◌, ◌∙◌, ◌++◌, ◌<◌, ◌≤◌, ◌+◌, ◌⊎◌, inl, inr, Bool, true, false, List, [], ◌∷◌, ℕ, zero, suc, Option, Some, None, max, refl, sym, ap, subst, arith, slice_get, slice_set, is_some, map, length, append_assoc, append-nil, take}
+use Rattle.std.proofs.Common.{◌≡◌, ◌≢◌, ◌∙◌, ◌++◌, ◌+◌, inl, inr, Bool, true, false, List, [], ◌∷◌, ℕ, zero, suc, Option, Some, None, max, refl, sym, ap, subst, arith, slice_get, slice_set, is_some, map, length, append_assoc, append-nil, take}
 use Rattle.std.proofs.lemmas.List.{length-map}
 use Rattle.std.specs.Io.KnownBytes.{Appends}
-use Rattle.std.specs.List.{AllByRecursion, flat_map, remove}
+use Rattle.std.specs.List.{AllByRecursion, remove}
 use Rattle.std.specs.Prelude.{MatchOption}
 use Rattle.pb_answer.specs.declared.fault.BuildFault.{BuildFault}
 use Rattle.pb_answer.specs.declared.fault.BuildFault.TheVariants.{Plan, Toolchain, Child, Device, Sink, OutOfMemory}
 use Rattle.pb_answer.specs.declared.fault.DeviceFault.TheVariants.{Place, NumbersSpent}
 use Rattle.pb_flight.specs.declared.flight.Answer.{Answer}
-use Rattle.pb_flight.specs.declared.flight.State.TheVariants.{Untouched, Begun, Answered}
+use Rattle.pb_flight.specs.declared.flight.State.TheVariants.{Untouched, Begun}
 use Rattle.pb_flight.specs.Events as events
 use Rattle.pb_flight.specs.Events.{Event, Began, Gave, started_by, launched_after, peak}
 use Rattle.pb_flight.specs.Table.{due, due_first, due_after, count_due, if_so}
@@ -105,7 +105,7 @@ upped_more n m xs unit is = ap up is ∙ ap (λ k. upped k m) (sym (length_push 
 -- A unit begins.
 
 module _ (project : Project) (first now new : Moment) (started : List ℕ) (aloft : List Aloft) (es : List (Event UnitFault)) (given unit : ℕ) (goes : Goes project first now started aloft es given)
-  (is_given : given ≡ count_due (states_in project es)) (untouched : slice_get (states_in project es) unit ≡ Some Untouched) (heard : new.heard ≡ now.heard) where
+    (is_given : given ≡ count_due (states_in project es)) (untouched : slice_get (states_in project es) unit ≡ Some Untouched) (heard : new.heard ≡ now.heard) where
   lines_begun : Appends first.heard.taken new.heard.taken (due_first given (slice_set (states_in project es) unit Begun))
   lines_begun =
       subst (λ (x : Heard). Appends first.heard.taken x.taken (due_first given (slice_set (states_in project es) unit Begun))) (sym heard)
@@ -182,7 +182,7 @@ module _ (project : Project) (first now new : Moment) (started : List ℕ) (alof
 -- A unit answers.
 
 module _ (project : Project) (first now new : Moment) (started : List ℕ) (aloft : List Aloft) (es : List (Event UnitFault)) (given : ℕ) (goes : Goes project first now started aloft es given)
-  (is_given : given ≡ count_due (states_in project es)) (index : ℕ) (a : Aloft) (at : slice_get aloft index ≡ Some a) (begun : slice_get (states_in project es) a.unit ≡ Some Begun) (heard : new.heard ≡ now.heard) where
+    (is_given : given ≡ count_due (states_in project es)) (index : ℕ) (a : Aloft) (at : slice_get aloft index ≡ Some a) (begun : slice_get (states_in project es) a.unit ≡ Some Begun) (heard : new.heard ≡ now.heard) where
   lines_same : (n : ℕ) → Appends first.heard.taken now.heard.taken (due_first n (states_in project es)) → Appends first.heard.taken new.heard.taken (due_first n (states_in project es))
   lines_same n lines = subst (λ (x : Heard). Appends first.heard.taken x.taken (due_first n (states_in project es))) (sym heard) lines
 
@@ -240,7 +240,7 @@ module _ (project : Project) (first now new : Moment) (started : List ℕ) (alof
 -- Lines are handed out.
 
 module _ (project : Project) (first now new : Moment) (started : List ℕ) (aloft : List Aloft) (es : List (Event UnitFault)) (given : ℕ) (goes : Goes project first now started aloft es given)
-  (counts : new.counts ≡ now.counts) (most : new.most ≡ now.most) where
+    (counts : new.counts ≡ now.counts) (most : new.most ≡ now.most) where
   pub goes_told : Appends now.heard.taken new.heard.taken (due_after given (states_in project es)) → new.heard.faults ≡ now.heard.faults → Goes project first new started aloft es (count_due (states_in project es))
   goes_told lines faults = record {
     started_are = goes.started_are;

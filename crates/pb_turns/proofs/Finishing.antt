@@ -1,9 +1,9 @@
 -- How the units of a project end, from the story of their crew.
-use Rattle.std.proofs.Common.{◌≡◌, ◌∙◌, ◌++◌, ◌+◌, ◌<◌, Bool, true, false, List, [], ◌∷◌, ℕ, zero, suc, Option, Some, None, Contains, IsTrue, Ok, Err, refl, sym, ap, subst, inl, arith, slice_get, map, take, length, is_none, max}
+use Rattle.std.proofs.Common.{◌≡◌, ◌∙◌, ◌+◌, ◌<◌, Bool, true, List, [], ◌∷◌, ℕ, zero, suc, Option, Some, Contains, IsTrue, refl, sym, ap, subst, inl, arith, slice_get, map, take, length, is_none}
 use Rattle.std.proofs.lemmas.List.{length-map}
 use Rattle.std.proofs.lemmas.Bool.{false≢true}
 use Rattle.std.specs.Io.KnownBytes.{Appends}
-use Rattle.std.specs.List.{AllByRecursion, flat_map}
+use Rattle.std.specs.List.{AllByRecursion}
 use Rattle.pb_answer.specs.declared.fault.BuildFault.{BuildFault}
 use Rattle.pb_answer.specs.declared.fault.BuildFault.TheVariants.{OutOfMemory}
 use Rattle.pb_answer.specs.declared.summary.Summary.{Summary}
@@ -33,10 +33,11 @@ use Rattle.pb_turns.specs.Crew.{needs_of, launched_of, ticket_of_child}
 use Rattle.pb_turns.specs.Ends.{rows_in, nothing_said, Stands, StandsWhole, StandsCut, EndsWhole, EndsCut, Grounding, Dropped, Drained}
 use Rattle.pb_turns.specs.Moments.{Moment, Heard}
 use Rattle.pb_turns.specs.Rows.{summary_of, started_keys, is_started, messages_in, bad_of, directives_told}
-use Rattle.pb_turns.specs.Story.{states_in, untouched, Goes, Stops, Happened, AllBeganFor, Story, StoryEnds, OnlyOf}
+use Rattle.pb_turns.specs.Story.{states_in, untouched, Stops, Changes, Happened, AllBeganFor, Story, StoryEnds, OnlyOf}
 use Rattle.pb_turns.specs.Summing.{summary_by, bad_told, noted_of, count_told, keys_at}
 use Rattle.pb_turns.specs.declared.crew.Aloft.{Aloft}
 use Rattle.pb_turns.specs.declared.crew.UnitCrew.{UnitCrew}
+use Rattle.pb_turns.proofs.Changing.{changes_first}
 use Rattle.pb_turns.proofs.Counting.{appends_none, stops_refused}
 use Rattle.pb_turns.proofs.States.{due_all}
 use Rattle.pb_turns.proofs.Telling.{AllTold, Ended, due_told, ended_of, success_of}
@@ -88,12 +89,12 @@ story_first tells child c at still aloft started = record {
     starts = refl;
     most = omega arith;
   };
+  changes = λ t. changes_first c.project at.world c.aloft.items at.counts.starts.flying aloft;
   happened = λ t f r s reading keeps. (
     record {
       keeps = keeps;
       begun = subst (AllByRecursion _) (sym aloft) tt;
       gave = λ place answer is. absurd (no_answer answer (untouched_at (needs_of c.project) place (Answered answer) is));
-      only = record { variables = refl; files = λ q outside. refl };
     },
     λ place has. absurd (none_begun c.project place has),
   );
@@ -101,7 +102,7 @@ story_first tells child c at still aloft started = record {
 
 -- What stands.
 
-module _ (b : Basis) (first : World) (done : List (Option (List Directive))) (aloft : List Aloft) (next : Option ℕ) (es : List (Event UnitFault)) (w : World) (flying : List ChildInFlight) (still : ℕ → Type 0) (h : Happened b first done aloft next es w flying still) where
+module _ (b : Basis) (done : List (Option (List Directive))) (aloft : List Aloft) (next : Option ℕ) (es : List (Event UnitFault)) (w : World) (flying : List ChildInFlight) (still : ℕ → Type 0) (h : Happened b done aloft next es w flying still) where
   all_told : AllTold b.project es 0 b.project.plan.planned (outcomes_in b) done (states_in b.project es)
   all_told k answer at =
       let g = h.gave k answer at in
@@ -115,10 +116,10 @@ module _ (b : Basis) (first : World) (done : List (Option (List Directive))) (al
         noted = g.noted;
       }
 
-  pub stands : Stands b es first w
-  stands = record { done = done; next = next; keeps = h.keeps; lines = due_told b.project es 0 b.project.plan.planned (outcomes_in b) done (states_in b.project es) all_told; only = h.only }
+  pub stands : Stands b es w
+  stands = record { done = done; next = next; keeps = h.keeps; lines = due_told b.project es 0 b.project.plan.planned (outcomes_in b) done (states_in b.project es) all_told }
 
-  module _ (finished : is_finished (states_in b.project es) ≡ true) (long : length (states_in b.project es) ≡ length b.project.plan.planned) (began : AllBeganFor b es first) where
+  module _ (finished : is_finished (states_in b.project es) ≡ true) (long : length (states_in b.project es) ≡ length b.project.plan.planned) (first : World) (began : AllBeganFor b es first) where
     ended : Ended b.project es b.project.plan.planned (outcomes_in b) done (states_in b.project es)
     ended = ended_of b.project es 0 b.project.plan.planned (outcomes_in b) done (states_in b.project es) long finished all_told
 
@@ -156,9 +157,10 @@ length_states needs (Gave u answer ∷ es) = length_set (states_after needs es) 
 -- The ends.
 
 module _ {S : Type 0} (tells : Bool) (child : Answers) (Turns : S → List ℕ → List ℕ → Step → S → Type 0) (first c d : UnitCrew) (from last : S) (at mid new : Moment) (still still' : ℕ → Type 0) (es : List (Event UnitFault))
-  (said : first.done.items ≡ nothing_said first.project) (drained : Drained mid.counts new.counts) (landed : new.counts.starts.flying ≡ []) (heard : new.heard ≡ mid.heard) (same : d ≡ record c { aloft = d.aloft })
-  (happened : (b : Basis) (fw : World) (events : List (Event UnitFault)) → IsTrue tells → b.project ≡ c.project → Happened b fw c.done.items c.aloft.items c.store.next events mid.world mid.counts.starts.flying still
-    → Happened b fw d.done.items d.aloft.items d.store.next events new.world new.counts.starts.flying still') where
+    (said : first.done.items ≡ nothing_said first.project) (drained : Drained mid.counts new.counts) (landed : new.counts.starts.flying ≡ []) (heard : new.heard ≡ mid.heard) (same : d ≡ record c { aloft = d.aloft })
+    (changes : (fw : World) (events : List (Event UnitFault)) → IsTrue tells → Changes c.project fw c.aloft.items events mid.world mid.counts.starts.flying → Changes c.project fw d.aloft.items events new.world new.counts.starts.flying)
+    (happened : (b : Basis) (events : List (Event UnitFault)) → IsTrue tells → b.project ≡ c.project → Happened b c.done.items c.aloft.items c.store.next events mid.world mid.counts.starts.flying still
+    → Happened b d.done.items d.aloft.items d.store.next events new.world new.counts.starts.flying still') where
   -- what a basis keeps at first
   abbrev Since : (Basis → Type 0) → Setup → Project → Type 0
   Since Stand setup project = IsTrue tells → (f : Footing) (r : Reading) (sources : World) → IsReading r → Keeps (basis f r child setup project sources) (untouched project) first.done.items first.store.next at.world → Stand (basis f r child setup project sources)
@@ -178,10 +180,11 @@ module _ {S : Type 0} (tells : Bool) (child : Answers) (Turns : S → List ℕ �
     stops = subst (λ (p : Project). Stops fault p at mid es) ends.project ends.stops;
     drained = drained;
     landed = landed;
+    only = λ t. subst (λ (p : Project). OnlyOf p es at.world new.world) ends.project (changes at.world es t (ends.changes t)).only;
     told = since_first (λ b. StandsCut b es at.world new.world) ends.setup ends.project (λ t f r sources reading keeps.
         let (h, began) = ends.happened t f r sources reading keeps in
         record {
-          stands = stands (basis f r child c.setup c.project sources) at.world d.done.items d.aloft.items d.store.next es new.world new.counts.starts.flying still' (happened (basis f r child c.setup c.project sources) at.world es t refl h);
+          stands = stands (basis f r child c.setup c.project sources) d.done.items d.aloft.items d.store.next es new.world new.counts.starts.flying still' (happened (basis f r child c.setup c.project sources) es t refl h);
           before = ends.before;
           begins = ends.begins;
           began = began;
@@ -196,11 +199,12 @@ module _ {S : Type 0} (tells : Bool) (child : Answers) (Turns : S → List ℕ �
     stops = stops_refused c.project at mid mid c.started.items c.aloft.items es given s.goes refl refl refl;
     before = es;
     begins = inl refl;
+    changes = s.changes;
     happened = s.happened;
   }
 
   module _ (table : Table UnitFault) (flying : List ℕ) (flown : IsFlown Turns (needs_of first.project) from es last table flying) (story : Story tells child first at c mid still es table.given) (finished : is_finished table.states ≡ true)
-    (most : new.most ≡ mid.most) (summary : Summary) (is : summary ≡ summary_by d.project.plan.planned table.states d.done.items d.started.items (first_bad table.states)) where
+      (most : new.most ≡ mid.most) (summary : Summary) (is : summary ≡ summary_by d.project.plan.planned table.states d.done.items d.started.items (first_bad table.states)) where
     states_are : table.states ≡ states_in c.project es
     states_are = flown.states_are ∙ ap (λ (p : Project). states_in p es) (sym story.project)
 
@@ -236,10 +240,11 @@ module _ {S : Type 0} (tells : Bool) (child : Answers) (Turns : S → List ℕ �
       drained = drained;
       landed = landed;
       most = most ∙ story.goes.most;
+      only = λ t. subst (λ (p : Project). OnlyOf p es at.world new.world) story.project (changes at.world es t (story.changes t)).only;
       told = since_first (λ b. StandsWhole b es summary at.world new.world) story.setup story.project (λ t f r sources reading keeps.
           let (h, began) = story.happened t f r sources reading keeps in
-          stands_whole (basis f r child c.setup c.project sources) at.world d.done.items d.aloft.items d.store.next es new.world new.counts.starts.flying still' (happened (basis f r child c.setup c.project sources) at.world es t refl h)
-          (ap is_finished (sym states_are) ∙ finished) (length_states (needs_of c.project) es ∙ length-map c.project.plan.planned (λ (u : Planned). u.needs)) began d.started.items started_is summary now_is);
+          stands_whole (basis f r child c.setup c.project sources) d.done.items d.aloft.items d.store.next es new.world new.counts.starts.flying still' (happened (basis f r child c.setup c.project sources) es t refl h)
+          (ap is_finished (sym states_are) ∙ finished) (length_states (needs_of c.project) es ∙ length-map c.project.plan.planned (λ (u : Planned). u.needs)) at.world began d.started.items started_is summary now_is);
     }
 
 -- memory is refused before a unit begins
@@ -254,12 +259,12 @@ ends_before tells child Turns setup project next from at none = record {
   stops = record { by = ((0, appends_none at.heard.taken), refl); cause = refl; starts = refl };
   drained = subst (λ fs. Dropped (map ticket_of_child fs) at.counts at.counts) (sym none) refl;
   landed = none;
+  only = λ t. record { variables = refl; files = λ q outside. refl };
   told = λ t f r sources reading keeps. record {
-    stands = stands (basis f r child setup project sources) at.world (nothing_said project) [] next [] at.world [] (λ n. Unit {0}) record {
+    stands = stands (basis f r child setup project sources) (nothing_said project) [] next [] at.world [] (λ n. Unit {0}) record {
       keeps = keeps;
       begun = tt;
       gave = λ place answer is. absurd (no_answer answer (untouched_at (needs_of project) place (Answered answer) is));
-      only = record { variables = refl; files = λ q outside. refl };
     };
     before = [];
     begins = inl refl;

@@ -1,38 +1,33 @@
 -- What has happened, where nothing, a beginning or an answer comes next.
-use Rattle.std.proofs.Common.{◌≡◌, ◌≢◌, ◌∙◌, ◌++◌, ◌||◌, ◌==◌, ◌⊎◌, inl, inr, Bool, true, false, List, [], ◌∷◌, ℕ, Option, Some, None, if◌then◌else◌, refl, sym, ap, subst, slice_get, slice_set, eq-eqb, is_some}
-use Rattle.std.proofs.lemmas.Bool.{cases_eq, ne_eqb, false≢true}
+use Rattle.std.proofs.Common.{◌≡◌, ◌≢◌, ◌∙◌, ◌++◌, inl, inr, Bool, true, List, [], ◌∷◌, ℕ, Option, Some, None, if◌then◌else◌, refl, sym, ap, subst, slice_get, slice_set, eq-eqb, is_some}
+use Rattle.std.proofs.lemmas.Bool.{ne_eqb}
 use Rattle.std.specs.FinMap as finite
-use Rattle.std.specs.List.{AllByRecursion, remove}
 use Rattle.pb_directive.specs.declared.directive.Directive.{Directive}
 use Rattle.pb_flight.specs.declared.flight.Answer.{Answer}
-use Rattle.pb_flight.specs.declared.flight.State.{State}
-use Rattle.pb_flight.specs.declared.flight.State.TheVariants.{Untouched, Begun, Answered}
-use Rattle.pb_flight.specs.Events.{Event, Began, Gave, MayBegin}
+use Rattle.pb_flight.specs.declared.flight.State.TheVariants.{Untouched, Begun}
+use Rattle.pb_flight.specs.Events.{Event, Began, MayBegin}
 use Rattle.pb_flight.specs.Laws.{HasBegun}
-use Rattle.pb_flight.specs.Table.{is_good_at, are_good}
-use Rattle.pb_flight.proofs.Lists.{injective, clash, get_set_same, get_set_other}
-use Rattle.pb_place.specs.World.{World, ChangesOnly}
+use Rattle.pb_flight.specs.Table.{are_good}
+use Rattle.pb_flight.proofs.Lists.{injective, get_set_same, get_set_other}
+use Rattle.pb_place.specs.World.{World}
 use Rattle.pb_place.specs.declared.child_in_flight.ChildInFlight.{ChildInFlight}
 use Rattle.pb_project.specs.Targets.{unit_at}
 use Rattle.pb_project.specs.declared.fault.UnitFault.{UnitFault}
 use Rattle.pb_project.specs.declared.project.Project.{Project}
-use Rattle.pb_run.specs.Halves.{Basis, Keeps, IsBegun, CanBegin, CanAnswer, BeginsApart, command_in, outcomes_in}
-use Rattle.pb_run.specs.Outcome.{Outcome, directives_in}
+use Rattle.pb_run.specs.Halves.{Basis, Keeps, IsBegun, CanBegin, BeginsApart, command_in}
 use Rattle.pb_run.specs.Standing.{IsInOrder, records_folder}
 use Rattle.pb_run.specs.Telling.{unit_lines}
 use Rattle.pb_run.specs.declared.begun.Begun.{Begun as unit_begun}
-use Rattle.pb_run.specs.declared.begun.Launched.{Launched}
-use Rattle.pb_soundness.specs.Apart.{is_of}
 use Rattle.pb_soundness.specs.Records.{place_of}
 use Rattle.pb_store.specs.Differences.{FirstDifference}
 use Rattle.pb_store.specs.declared.difference.Difference.{Difference}
-use Rattle.pb_turns.specs.Crew.{needs_of, places_of, place_of_unit, ticket_in, number_in, tickets_of, numbers_of, AreApart}
-use Rattle.pb_turns.specs.Rows.{is_started, fault_in, messages_in}
-use Rattle.pb_turns.specs.Story.{states_in, Happened, HasGiven, FliesSo, AllBeganFor, BeganFor, OnlyOf, IsOutside}
+use Rattle.pb_turns.specs.Crew.{needs_of}
+use Rattle.pb_turns.specs.Rows.{is_started, messages_in}
+use Rattle.pb_turns.specs.Story.{states_in, Happened, HasGiven, FliesSo, AllBeganFor, BeganFor, OnlyOf}
 use Rattle.pb_turns.specs.declared.crew.Aloft.{Aloft}
-use Rattle.pb_turns.proofs.Lists.{all_more, all_as, all_get, all_at_each, all_removed, apart_places, flat_apart, get_map}
+use Rattle.pb_turns.proofs.Lists.{all_more, all_as}
 use Rattle.pb_turns.proofs.Reaching.{can_begin, place_outside_other}
-use Rattle.pb_turns.proofs.States.{good_set, begun_cases, begun_more, begun_now, another, answered_before, answered_cases, begun_is}
+use Rattle.pb_turns.proofs.States.{good_set, begun_cases, another, answered_before}
 use Rattle.pb_unit.specs.declared.plan.Planned.{Planned}
 
 -- whether a child was started for a unit, where another begins, or this one
@@ -51,8 +46,8 @@ none_some x e = cc
 -- A unit begins.
 
 module _ (b : Basis) (order : IsInOrder b.project) (first : World) (done : List (Option (List Directive))) (aloft : List Aloft) (next next' : Option ℕ) (es : List (Event UnitFault)) (w w' : World)
-  (flying flying' : List ChildInFlight) (still still' : ℕ → Type 0) (h : Happened b first done aloft next es w flying still) (began : AllBeganFor b es first)
-  (unit : ℕ) (u : Planned) (there : unit_at b.project unit ≡ Some u) (may : MayBegin (needs_of b.project) (states_in b.project es) unit) where
+    (flying flying' : List ChildInFlight) (still still' : ℕ → Type 0) (h : Happened b done aloft next es w flying still) (began : AllBeganFor b es first) (only_first : OnlyOf b.project es first w)
+    (unit : ℕ) (u : Planned) (there : unit_at b.project unit ≡ Some u) (may : MayBegin (needs_of b.project) (states_in b.project es) unit) where
   pub can : CanBegin b (states_in b.project es) done unit u next w
   can = can_begin b order (states_in b.project es) done next w h.keeps unit u there may
 
@@ -68,8 +63,8 @@ module _ (b : Basis) (order : IsInOrder b.project) (first : World) (done : List 
     begun_so = so.begun_so;
   }
 
-  module _ (spawned : Bool) (keeps : Keeps b (slice_set (states_in b.project es) unit Begun) done next' w') (only : ChangesOnly (is_of (records_folder b.project) u.key) w w')
-    (others : (other : ℕ) (its : unit_begun) → BeginsApart b (states_in b.project es) unit None other its next w flying still → IsBegun b other its next' w' flying' still') where
+  module _ (spawned : Bool) (keeps : Keeps b (slice_set (states_in b.project es) unit Begun) done next' w')
+      (others : (other : ℕ) (its : unit_begun) → BeginsApart b (states_in b.project es) unit None other its next w flying still → IsBegun b other its next' w' flying' still') where
     ne_flying : (a : Aloft) → FliesSo b es next w flying still a → unit ≢ a.unit
     ne_flying a so = another (states_in b.project es) unit a.unit may.untouched (Begun, so.state, refl)
 
@@ -92,28 +87,19 @@ module _ (b : Basis) (order : IsInOrder b.project) (first : World) (done : List 
       noted = g.noted;
     }
 
-    only_on : OnlyOf b.project (Began unit spawned ∷ es) first w'
-    only_on = record {
-      variables = only.variables ∙ h.only.variables;
-      files = λ q outside.
-          only.files q (outside unit u (begun_now (states_in b.project es) unit Untouched Begun may.untouched refl) there)
-          ∙ h.only.files q (λ place v has at. outside place v (begun_more (states_in b.project es) unit place Untouched Begun may.untouched refl has) at);
-    }
-
     -- the units that were in flight
-    pub happened_begun : Happened b first done aloft next' (Began unit spawned ∷ es) w' flying' still'
+    pub happened_begun : Happened b done aloft next' (Began unit spawned ∷ es) w' flying' still'
     happened_begun = record {
       keeps = keeps;
       begun = all_as (FliesSo b es next w flying still) (FliesSo b (Began unit spawned ∷ es) next' w' flying' still') aloft flies_on h.begun;
       gave = λ place answer at. let (ne, before) = answered_before (states_in b.project es) unit place answer Untouched may.untouched at in given_on place answer ne (h.gave place answer before);
-      only = only_on;
     }
 
     module _ (a : Aloft) (its : a.unit ≡ unit) (flag : spawned ≡ is_some a.begun.launched) (begun_so : IsBegun b unit a.begun next' w' flying' still') where
       own : FliesSo b (Began unit spawned ∷ es) next' w' flying' still' a
       own = subst (λ n. (slice_get (slice_set (states_in b.project es) unit Begun) n ≡ Some Begun) → IsBegun b n a.begun next' w' flying' still'
-              → ((v : Planned) → unit_at b.project n ≡ Some v → are_good (slice_set (states_in b.project es) unit Begun) v.reaches ≡ true) → is_started (Began unit spawned ∷ es) n ≡ is_some a.begun.launched
-              → FliesSo b (Began unit spawned ∷ es) next' w' flying' still' a) its
+          → ((v : Planned) → unit_at b.project n ≡ Some v → are_good (slice_set (states_in b.project es) unit Begun) v.reaches ≡ true) → is_started (Began unit spawned ∷ es) n ≡ is_some a.begun.launched
+          → FliesSo b (Began unit spawned ∷ es) next' w' flying' still' a) its
           (λ state so reaches started. record { state = state; begun_so = so; reaches = reaches; started = started })
           (get_set_same (states_in b.project es) unit Untouched Begun may.untouched)
           begun_so
@@ -121,17 +107,16 @@ module _ (b : Basis) (order : IsInOrder b.project) (first : World) (done : List 
           (started_now es unit spawned ∙ flag)
 
       -- and this one
-      pub happened_more : Happened b first done (aloft ++ a ∷ []) next' (Began unit spawned ∷ es) w' flying' still'
+      pub happened_more : Happened b done (aloft ++ a ∷ []) next' (Began unit spawned ∷ es) w' flying' still'
       happened_more = record {
         keeps = keeps;
         begun = all_more (FliesSo b (Began unit spawned ∷ es) next' w' flying' still') aloft (a ∷ []) happened_begun.begun (own, tt);
         gave = happened_begun.gave;
-        only = only_on;
       }
 
       module _ (difference : Option Difference) (named : FirstDifference b.read (records_folder b.project) u.key a.begun.command w difference) (differs : is_some a.begun.launched ≡ is_some difference) where
         stays : finite.get w.files (place_of (records_folder b.project) u.key) ≡ finite.get first.files (place_of (records_folder b.project) u.key)
-        stays = h.only.files (place_of (records_folder b.project) u.key) (λ place v has at. place_outside_other b.project order place unit v u at there (λ e. another (states_in b.project es) unit place may.untouched has (sym e)))
+        stays = only_first.files (place_of (records_folder b.project) u.key) (λ place v has at. place_outside_other b.project order place unit v u at there (λ e. another (states_in b.project es) unit place may.untouched has (sym e)))
 
         its_command : a.begun.command ≡ command_in b unit u
         its_command = begun_so.command ∙ ap (command_in b unit) (one_unit b.project unit begun_so.unit u begun_so.there there)

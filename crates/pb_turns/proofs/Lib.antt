@@ -4,6 +4,7 @@ pub mod States
 pub mod Reaching
 pub mod Happening
 pub mod Answered
+pub mod Changing
 pub mod Counting
 pub mod Beginning
 pub mod Answering

@@ -1,6 +1,6 @@
 -- Lists: what is added at the end, taken out at a place, and said of each item.
-use Rattle.std.proofs.Common.{◌≡◌, ◌≢◌, ◌∙◌, ◌++◌, ◌<◌, ◌+◌, ◌==◌, ◌⊎◌, inl, inr, Bool, true, false, List, [], ◌∷◌, ℕ, zero, suc, Option, Some, None, Contains, if◌then◌else◌, refl, sym, ap, subst, arith, slice_get, map, length, append_assoc, append-nil, eq-eqb}
-use Rattle.std.proofs.lemmas.Bool.{cases_eq, ne_eqb}
+use Rattle.std.proofs.Common.{◌≡◌, ◌≢◌, ◌∙◌, ◌++◌, ◌<◌, inl, inr, List, [], ◌∷◌, ℕ, zero, suc, Some, Contains, if◌then◌else◌, refl, sym, ap, subst, arith, slice_get, map, length, append_assoc, eq-eqb}
+use Rattle.std.proofs.lemmas.Bool.{ne_eqb}
 use Rattle.std.specs.List.{AllByRecursion, flat_map, remove}
 use Rattle.std.specs.Prelude.{slice_set}
 use Rattle.pb_flight.specs.Events.{without}

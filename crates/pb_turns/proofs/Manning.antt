@@ -1,8 +1,8 @@
 -- A crew stays manned.
-use Rattle.std.proofs.Common.{◌≡◌, ◌≢◌, ◌∙◌, ◌<◌, ◌+◌, ◌++◌, ◌||◌, ◌⊎◌, ◌==◌, Bool, true, false, List, [], ◌∷◌, ℕ, Option, Some, None, Contains, if◌then◌else◌, refl, sym, ap, subst, inl, inr, cond, map, length, arith, slice_get, append-nil, eq-eqb}
-use Rattle.std.proofs.lemmas.Bool.{cases_eq, ne_eqb, false≢true}
+use Rattle.std.proofs.Common.{◌≡◌, ◌≢◌, ◌∙◌, ◌<◌, ◌+◌, ◌++◌, ◌||◌, ◌==◌, Bool, true, false, List, [], ◌∷◌, ℕ, Option, Some, None, Contains, if◌then◌else◌, refl, sym, ap, subst, inl, inr, cond, map, length, arith, slice_get, append-nil, eq-eqb}
+use Rattle.std.proofs.lemmas.Bool.{cases_eq, false≢true}
 use Rattle.std.proofs.lemmas.List.{map-append}
-use Rattle.std.specs.List.{AllByRecursion, flat_map, remove}
+use Rattle.std.specs.List.{AllByRecursion, remove}
 use Rattle.std.specs.Prelude.{IfSome}
 use Rattle.pb_answer.specs.declared.fault.BuildFault.{BuildFault}
 use Rattle.pb_answer.specs.declared.fault.BuildFault.TheVariants.{Plan, Toolchain, Child, Device, Sink, OutOfMemory}
@@ -13,9 +13,8 @@ use Rattle.pb_place.specs.Children.{is_flying}
 use Rattle.pb_place.specs.Counts.{Counts, Starts, without}
 use Rattle.pb_place.specs.declared.child_in_flight.ChildInFlight.{ChildInFlight}
 use Rattle.pb_project.specs.declared.project.Project.{Project}
-use Rattle.pb_run.specs.Causes.{MayBeginUnit, MayAnswerUnit, BeginsBy, LandsBy, IsLifted}
+use Rattle.pb_run.specs.Causes.{MayBeginUnit, MayAnswerUnit, BeginsBy, LandsBy}
 use Rattle.pb_run.specs.Standing.{IsInOrder, records_folder}
-use Rattle.pb_run.specs.declared.begun.Begun.{Begun}
 use Rattle.pb_run.specs.declared.begun.Launched.{Launched}
 use Rattle.pb_soundness.specs.Numbers.{after, IsBefore}
 use Rattle.pb_store.specs.Migrating.{TakesNumber}
@@ -130,9 +129,9 @@ manned_same old new before now manned project folder done aloft next flying = re
 
 -- a unit more in flight
 module _ (old new : UnitCrew) (before now : Counts) (a : Aloft) (manned : IsManned old before) (free : Contains (places_of old.aloft.items) a.unit → ⊥) (of_plan : IsOfPlan old.project a)
-  (project : new.project ≡ old.project) (folder : new.store.folder ≡ old.store.folder) (done : new.done.items ≡ old.done.items) (aloft : new.aloft.items ≡ old.aloft.items ++ a ∷ [])
-  (next : TakesNumber old.store.next new.store.next) (begins : BeginsBy a.begun.launched before.starts now.starts)
-  (number : (l : Launched) → a.begun.launched ≡ Some l → (old.store.next ≡ Some l.number) × (new.store.next ≡ after l.number)) where
+    (project : new.project ≡ old.project) (folder : new.store.folder ≡ old.store.folder) (done : new.done.items ≡ old.done.items) (aloft : new.aloft.items ≡ old.aloft.items ++ a ∷ [])
+    (next : TakesNumber old.store.next new.store.next) (begins : BeginsBy a.begun.launched before.starts now.starts)
+    (number : (l : Launched) → a.begun.launched ≡ Some l → (old.store.next ≡ Some l.number) × (new.store.next ≡ after l.number)) where
   tickets_are : tickets_of new.aloft.items ≡ tickets_of old.aloft.items ++ ticket_in a.begun.launched
   tickets_are = ap tickets_of aloft ∙ flat_more (λ (x : Aloft). ticket_in x.begun.launched) old.aloft.items (a ∷ []) ∙ ap (λ ts. tickets_of old.aloft.items ++ ts) (append-nil (ticket_in a.begun.launched))
 
@@ -177,8 +176,8 @@ module _ (old new : UnitCrew) (before now : Counts) (a : Aloft) (manned : IsMann
 
 -- a unit less
 module _ (old new : UnitCrew) (before now : Counts) (index : ℕ) (a : Aloft) (manned : IsManned old before) (at : slice_get old.aloft.items index ≡ Some a)
-  (project : new.project ≡ old.project) (folder : new.store.folder ≡ old.store.folder) (done : length new.done.items ≡ length old.done.items) (aloft : new.aloft.items ≡ remove old.aloft.items index)
-  (next : TakesNumber old.store.next new.store.next) (lands : LandsBy a.begun.launched before.starts now.starts) where
+    (project : new.project ≡ old.project) (folder : new.store.folder ≡ old.store.folder) (done : length new.done.items ≡ length old.done.items) (aloft : new.aloft.items ≡ remove old.aloft.items index)
+    (next : TakesNumber old.store.next new.store.next) (lands : LandsBy a.begun.launched before.starts now.starts) where
   flies_less : (o : Option Launched) → a.begun.launched ≡ o → LandsBy o before.starts now.starts → map ticket_of_child now.starts.flying ≡ tickets_of (remove old.aloft.items index)
   flies_less None is same = ap (λ (s : Starts). map ticket_of_child s.flying) same ∙ manned.tickets ∙ sym (flat_stays (λ (x : Aloft). ticket_in x.begun.launched) old.aloft.items index a at (ap ticket_in is))
   flies_less (Some l) is landed =

@@ -1,5 +1,5 @@
 -- What is noted of the first units, one more.
-use Rattle.std.proofs.Common.{◌≡◌, ◌∙◌, ◌++◌, ◌<◌, ◌+◌, List, [], ◌∷◌, ℕ, zero, suc, Option, Some, refl, sym, ap, subst, arith, slice_get, take, length, append_assoc, append-nil}
+use Rattle.std.proofs.Common.{◌≡◌, ◌∙◌, ◌++◌, List, [], ◌∷◌, ℕ, zero, suc, Option, Some, sym, ap, slice_get, take, append_assoc, append-nil}
 use Rattle.pb_directive.specs.declared.directive.Directive.{Directive}
 use Rattle.pb_flight.proofs.Lists.{injective, clash}
 use Rattle.pb_turns.specs.Rows.{keyed}

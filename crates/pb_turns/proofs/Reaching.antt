@@ -1,13 +1,9 @@
 -- What a unit that may begin reaches is good; and whose paths are whose.
-use Rattle.std.proofs.Common.{◌≡◌, ◌≢◌, ◌∙◌, ◌<◌, ◌||◌, ◌⊎◌, inl, inr, Bool, true, false, List, [], ◌∷◌, ℕ, zero, suc, Option, Some, None, Contains, refl, sym, ap, subst, arith, slice_get, get_or, map, length}
-use Rattle.std.proofs.lemmas.Bool.{cases_eq, false≢true}
+use Rattle.std.proofs.Common.{◌≡◌, ◌≢◌, ◌∙◌, ◌<◌, ◌||◌, inl, inr, true, false, List, [], ◌∷◌, ℕ, zero, suc, Option, Some, Contains, refl, sym, ap, subst, arith, slice_get, get_or, map, length}
 use Rattle.std.proofs.lemmas.List.{length-map}
 use Rattle.std.proofs.lemmas.Option.{slice_get_read, slice_get_within}
-use Rattle.std.specs.FinMap as finite
-use Rattle.std.specs.List.{AllByRecursion}
 use Rattle.pb_directive.specs.declared.directive.Directive.{Directive}
 use Rattle.pb_flight.specs.declared.flight.State.{State}
-use Rattle.pb_flight.specs.declared.flight.State.TheVariants.{Untouched}
 use Rattle.pb_flight.specs.Events.{MayBegin}
 use Rattle.pb_flight.specs.Table.{is_good_at, are_good}
 use Rattle.pb_flight.proofs.Lists.{injective, clash}
@@ -66,7 +62,7 @@ module _ (project : Project) (order : IsInOrder project) where
       ∙ places_differ (records_folder project) u.key v.key (order.keys i u at_i) (order.keys j v at_j) (keys_differ project order i j u v at_i at_j apart)
 
 module _ (b : Basis) (order : IsInOrder b.project) (states : List (State UnitFault)) (done : List (Option (List Directive))) (next : Option ℕ) (w : World) (keeps : Keeps b states done next w)
-  (place : ℕ) (u : Planned) (there : unit_at b.project place ≡ Some u) (may : MayBegin (needs_of b.project) states place) where
+    (place : ℕ) (u : Planned) (there : unit_at b.project place ≡ Some u) (may : MayBegin (needs_of b.project) states place) where
   need_good : (p : ℕ) → Contains u.needs p → is_good_at (slice_get states p) ≡ true
   need_good p has = may.good p (subst (λ ns. Contains ns p) (injective (sym (needs_get b.project.plan.planned place u there) ∙ may.unit)) has)
 

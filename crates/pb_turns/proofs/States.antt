@@ -1,5 +1,5 @@
 -- Where units stand, after one more event.
-use Rattle.std.proofs.Common.{◌≡◌, ◌≢◌, ◌∙◌, ◌++◌, ◌<◌, ◌⊎◌, inl, inr, Bool, true, false, List, [], ◌∷◌, ℕ, zero, suc, Option, Some, None, Contains, if◌then◌else◌, refl, sym, ap, subst, arith, slice_get, map, length}
+use Rattle.std.proofs.Common.{◌≡◌, ◌≢◌, ◌∙◌, ◌⊎◌, inl, inr, true, false, List, ℕ, Some, sym, ap, subst, slice_get}
 use Rattle.std.specs.Prelude.{slice_set}
 use Rattle.std.proofs.lemmas.Bool.{cases_eq, false≢true}
 use Rattle.pb_flight.specs.declared.flight.Answer.{Answer}
@@ -7,7 +7,7 @@ use Rattle.pb_flight.specs.declared.flight.State.{State}
 use Rattle.pb_flight.specs.declared.flight.State.TheVariants.{Untouched, Begun, Answered}
 use Rattle.pb_flight.specs.Table.{due, due_first, count_due, is_untouched, is_good_at, are_good}
 use Rattle.pb_flight.specs.Laws.{EndsAs, HasBegun}
-use Rattle.pb_flight.proofs.Lists.{injective, clash, get_set_same, get_set_other, and_left, and_right, both, length_set}
+use Rattle.pb_flight.proofs.Lists.{injective, get_set_same, get_set_other}
 use Rattle.pb_flight.proofs.Ending.{due_begun}
 use Rattle.pb_flight.proofs.Handing.{first_all, due_is_start}
 use Rattle.pb_flight.proofs.Ready.{good_at, all_good}

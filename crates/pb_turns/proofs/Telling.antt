@@ -1,5 +1,5 @@
 -- What is told of units that have answered is what their rows say.
-use Rattle.std.proofs.Common.{◌≡◌, ◌∙◌, ◌++◌, ◌+◌, ◌<◌, Bool, true, false, List, [], ◌∷◌, ℕ, zero, suc, Option, Some, None, if◌then◌else◌, refl, sym, ap, subst, arith, slice_get, take, length, is_none, is_some}
+use Rattle.std.proofs.Common.{◌≡◌, ◌∙◌, ◌++◌, ◌+◌, ◌<◌, Bool, true, false, List, [], ◌∷◌, ℕ, suc, Option, Some, None, if◌then◌else◌, refl, sym, ap, subst, arith, slice_get, take, length, is_none}
 use Rattle.std.proofs.lemmas.Bool.{false≢true}
 use Rattle.std.specs.Option.{option_map}
 use Rattle.std.specs.Prelude.{IfSome}
@@ -14,8 +14,8 @@ use Rattle.pb_project.specs.declared.fault.UnitFault.{UnitFault}
 use Rattle.pb_project.specs.declared.project.Project.{Project}
 use Rattle.pb_run.specs.Outcome.{Outcome, Waiting, Good, Bad, directives_in}
 use Rattle.pb_run.specs.Telling.{unit_lines}
-use Rattle.pb_turns.specs.Rows.{Row, to_first_bad, is_bad, is_started, fault_in, messages_in, said_from, keyed, directives_told, bad_of, bad_or, is_success}
-use Rattle.pb_turns.specs.Summing.{noted_of, bad_told, bad_with, with_key, count_told}
+use Rattle.pb_turns.specs.Rows.{to_first_bad, is_bad, is_started, fault_in, messages_in, said_from, keyed, directives_told, bad_of, bad_or, is_success}
+use Rattle.pb_turns.specs.Summing.{noted_of, bad_told, with_key, count_told}
 use Rattle.pb_unit.specs.declared.plan.Planned.{Planned}
 
 module _ (project : Project) (es : List (Event UnitFault)) where

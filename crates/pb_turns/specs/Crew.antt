@@ -1,5 +1,5 @@
 -- The units in flight of a build, and what holds of them at each moment.
-use Rattle.std.specs.Prelude.{◌≡◌, ◌≢◌, ◌∷◌, [], ℕ, Bool, true, false, List, map, length, Option, Some, None, is_some, slice_get}
+use Rattle.std.specs.Prelude.{◌≡◌, ◌≢◌, ◌∷◌, [], ℕ, List, map, length, Option, Some, None, is_some, slice_get}
 use Rattle.std.specs.List.{flat_map, AllByRecursion}
 use Rattle.pb_flight.specs.Table.{if_so}
 use Rattle.pb_place.specs.Counts.{Counts}

@@ -1,5 +1,5 @@
 -- What has happened while the units of a build began and answered.
-use Rattle.std.specs.Prelude.{◌≡◌, ◌⊎◌, ◌++◌, ◌∷◌, [], ℕ, zero, suc, max, Bool, true, false, List, length, take, Option, Some, None, is_some, IsTrue, slice_get}
+use Rattle.std.specs.Prelude.{◌≡◌, ◌⊎◌, ◌∷◌, [], ℕ, zero, suc, max, Bool, true, false, List, length, take, Option, Some, is_some, IsTrue, slice_get}
 use Rattle.std.specs.FinMap as finite
 use Rattle.std.specs.Io.KnownBytes.{Appends}
 use Rattle.std.specs.List.{AllByRecursion}
@@ -20,7 +20,7 @@ use Rattle.pb_project.specs.declared.fault.UnitFault.{UnitFault}
 use Rattle.pb_project.specs.declared.project.Project.{Project}
 use Rattle.pb_record.specs.Parts.{IsReading}
 use Rattle.pb_run.specs.Causes.{HasCause}
-use Rattle.pb_run.specs.Halves.{Footing, Basis, basis, outcomes_in, command_in, Keeps, IsBegun}
+use Rattle.pb_run.specs.Halves.{Footing, Basis, basis, outcomes_in, command_in, Keeps, IsBegun, WritesTo}
 use Rattle.pb_run.specs.Outcome.{Outcome, directives_in}
 use Rattle.pb_run.specs.Standing.{records_folder}
 use Rattle.pb_run.specs.Telling.{unit_lines}
@@ -117,6 +117,16 @@ pub record OnlyOf (project : Project) (es : List (Event UnitFault)) (old new : W
   pub variables : new.variables ≡ old.variables
   pub files : (q : List ℕ) → IsOutside project es q → finite.get new.files q ≡ finite.get old.files q
 
+-- a unit in flight has begun, and its child, if it has one, writes into the unit's folder
+pub record FliesIn (project : Project) (es : List (Event UnitFault)) (flying : List ChildInFlight) (a : Aloft) : Type 0 where
+  pub state : slice_get (states_in project es) a.unit ≡ Some Begun
+  pub writes : (u : Planned) → unit_at project a.unit ≡ Some u → WritesTo u.out a.begun.launched flying
+
+-- whatever a build rests on: the units in flight, and what was changed
+pub record Changes (project : Project) (first : World) (aloft : List Aloft) (es : List (Event UnitFault)) (world : World) (flying : List ChildInFlight) : Type 0 where
+  pub flies : AllByRecursion (FliesIn project es flying) aloft
+  pub only : OnlyOf project es first world
+
 -- a unit in flight has begun so; all that it reaches is good
 pub record FliesSo (b : Basis) (es : List (Event UnitFault)) (next : Option ℕ) (world : World) (flying : List ChildInFlight) (still : ℕ → Type 0) (a : Aloft) : Type 0 where
   pub state : slice_get (states_in b.project es) a.unit ≡ Some Begun
@@ -124,12 +134,11 @@ pub record FliesSo (b : Basis) (es : List (Event UnitFault)) (next : Option ℕ)
   pub reaches : (u : Planned) → unit_at b.project a.unit ≡ Some u → are_good (states_in b.project es) u.reaches ≡ true
   pub started : is_started es a.unit ≡ is_some a.begun.launched
 
--- what the halves of units keep; the units in flight; what has answered; and nothing but the folders and records of units that have begun was changed
-pub record Happened (b : Basis) (first : World) (done : List (Option (List Directive))) (aloft : List Aloft) (next : Option ℕ) (es : List (Event UnitFault)) (world : World) (flying : List ChildInFlight) (still : ℕ → Type 0) : Type 0 where
+-- what the halves of units keep; the units in flight; and what has answered
+pub record Happened (b : Basis) (done : List (Option (List Directive))) (aloft : List Aloft) (next : Option ℕ) (es : List (Event UnitFault)) (world : World) (flying : List ChildInFlight) (still : ℕ → Type 0) : Type 0 where
   pub keeps : Keeps b (states_in b.project es) done next world
   pub begun : AllByRecursion (FliesSo b es next world flying still) aloft
   pub gave : (place : ℕ) (answer : Answer UnitFault) → slice_get (states_in b.project es) place ≡ Some (Answered answer) → HasGiven b es done place answer
-  pub only : OnlyOf b.project es first world
 
 -- The story.
 
@@ -148,8 +157,9 @@ pub record Story (tells : Bool) (child : Answers) (first : UnitCrew) (at : Momen
   pub setup : c.setup ≡ first.setup
   pub project : c.project ≡ first.project
   pub goes : Goes c.project at now c.started.items c.aloft.items es given
+  pub changes : IsTrue tells → Changes c.project at.world c.aloft.items es now.world now.counts.starts.flying
   pub happened : IsTrue tells
-      → FromFirst child first at c (λ b. Happened b at.world c.done.items c.aloft.items c.store.next es now.world now.counts.starts.flying still × AllBeganFor b es at.world)
+      → FromFirst child first at c (λ b. Happened b c.done.items c.aloft.items c.store.next es now.world now.counts.starts.flying still × AllBeganFor b es at.world)
 
 -- the events before a beginning that failed
 abbrev pub IsBeginning : List (Event UnitFault) → List (Event UnitFault) → Type 0
@@ -162,5 +172,6 @@ pub record StoryEnds (tells : Bool) (child : Answers) (fault : BuildFault) (firs
   pub stops : Stops fault c.project at now es
   pub before : List (Event UnitFault)
   pub begins : IsBeginning before es
+  pub changes : IsTrue tells → Changes c.project at.world c.aloft.items es now.world now.counts.starts.flying
   pub happened : IsTrue tells
-      → FromFirst child first at c (λ b. Happened b at.world c.done.items c.aloft.items c.store.next es now.world now.counts.starts.flying still × AllBeganFor b before at.world)
+      → FromFirst child first at c (λ b. Happened b c.done.items c.aloft.items c.store.next es now.world now.counts.starts.flying still × AllBeganFor b before at.world)

@@ -176,15 +176,7 @@ fn answer_at<P: Place>(
     let Aloft { unit, begun } = crew.aloft.remove(index);
     let project = &crew.project;
     let planned = &project.plan.planned.as_slice()[unit];
-    let ran = match answer_unit(
-        alloc,
-        place,
-        &mut crew.store,
-        project,
-        unit,
-        planned,
-        begun,
-    ) {
+    let ran = match answer_unit(alloc, place, &mut crew.store, project, unit, planned, begun) {
         Ok(ran) => ran,
         Err(fault) => return Err(fault),
     };

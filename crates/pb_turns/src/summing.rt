@@ -88,7 +88,11 @@ fn fault_of(state: State<UnitFault>) -> Option<UnitFault>
 }
 
 /// A key with a fault, if there is one.
-fn with_key(alloc: Global, key: &Text, fault: Option<UnitFault>) -> Result<Option<(Text, UnitFault)>, AllocError>
+fn with_key(
+    alloc: Global,
+    key: &Text,
+    fault: Option<UnitFault>,
+) -> Result<Option<(Text, UnitFault)>, AllocError>
     ensures { IfOk result (λ bad. bad ≡ with_key key.now fault) }
 {
     match fault {

@@ -63,11 +63,7 @@ fn flight_of(alloc: Global, project: &Project) -> Result<Flight<UnitFault>, Allo
 }
 
 /// The summary of the units of a crew that came to their end, by the flight. The one fault is want of memory.
-fn sum_up(
-    alloc: Global,
-    crew: &UnitCrew,
-    flight: Flight<UnitFault>,
-) -> Result<Summary, AllocError>
+fn sum_up(alloc: Global, crew: &UnitCrew, flight: Flight<UnitFault>) -> Result<Summary, AllocError>
     requires long { length flight.states ≡ length crew.now.project.plan.planned }
     requires noted { length crew.now.done.items ≡ length crew.now.project.plan.planned }
     ensures { IfOk result (λ summary. summary ≡ summary_by crew.now.project.plan.planned flight.states crew.now.done.items crew.now.started.items (first_bad flight.states)) }

@@ -4,7 +4,8 @@ use Rattle.pb_place.specs.Children.{child_at}
 use Rattle.pb_place.specs.Counts.{Starts}
 use Rattle.pb_place.specs.World.{World, ChangesOnly}
 use Rattle.pb_run.specs.Halves.{CanBegin, basis}
-use Rattle.pb_run.proofs.Halving.{begun_none, begun_some, flies_lifted, flying_begun, keeps_launched, keeps_same, others_begun, others_same, still_after}
+use Rattle.pb_run.proofs.Halving.{begun_none, begun_some, flies_lifted, flying_begun, keeps_launched, keeps_same, others_begun, others_same, out_asked, still_after}
+use Rattle.pb_run.proofs.Writes.{spawned_writes}
 use Rattle.pb_run.proofs.halves.begin_unit.Goals as goal
 use Rattle.pb_soundness.specs.Apart.{is_of}
 use Rattle.pb_soundness.specs.Records.{record_at}
@@ -70,3 +71,22 @@ returns-in-Err-launch-clause-others g c footing read sources states other its is
     (subst (λ (v : World). Leaves None (record_at read c.args.store.now.folder v.files c.args.unit.now.key) (record_at read c.args.store.now.folder (g.P.Place.world c.launch.new.place).files c.args.unit.now.key)) (c.in-Ok-difference_of.ensures.same told) (c.in-Err-launch.ensures.left read told))
     (λ t f there. ap (child_at t) (flying_begun c.args.store.now.next c.args.unit.now.key _ (g.P.Place.counts c.difference_of.new.place).starts (g.P.Place.counts c.launch.new.place).starts c.in-Err-launch.ensures.takes.0 ∙ (ap (λ (s : Starts). s.flying) c.in-Ok-difference_of.ensures.takes.1)) ∙ there)
     (still_after (is_of c.args.store.now.folder c.args.unit.now.key) (g.P.Place.counts c.args.place.now).starts.flying (g.P.Place.counts c.difference_of.new.place).starts.flying (g.P.Place.still c.args.place.now) (g.P.Place.still c.difference_of.new.place) (g.P.Place.still c.launch.new.place) (c.in-Ok-difference_of.ensures.still told) (ap (λ (s : Starts). s.flying) c.in-Ok-difference_of.ensures.takes.1) (c.in-Err-launch.ensures.still told))
+
+pub returns-in-Ok-launch-clause-writes : goal.returns-in-Ok-launch-clause-writes
+returns-in-Ok-launch-clause-writes g c told =
+    spawned_writes c.args.unit.now.out (is_of c.args.store.now.folder c.args.unit.now.key) g.P.Place.child c.in-Ok-command.command (g.P.Place.world c.difference_of.new.place) c.in-Ok-launch.launched (g.P.Place.counts c.launch.new.place).starts.flying (g.P.Place.still c.launch.new.place)
+    (out_asked c.args.project.now c.args.setup.now c.args.index c.args.unit.now c.args.done.now c.in-Ok-command.command c.requires.order c.requires.unit c.in-Ok-command.ensures) (c.in-Ok-launch.ensures.spawned told)
+
+pub returns-in-Err-difference_of-clause-stay : goal.returns-in-Err-difference_of-clause-stay
+returns-in-Err-difference_of-clause-stay g c ticket its there = ap (child_at ticket) (flying_begun c.args.store.now.next c.args.unit.now.key _ (g.P.Place.counts c.args.place.now).starts (g.P.Place.counts c.difference_of.new.place).starts c.in-Err-difference_of.ensures.takes.0) ∙ there
+
+pub returns-in-None-clause-stay : goal.returns-in-None-clause-stay
+returns-in-None-clause-stay g c ticket its there = ap (child_at ticket) (ap (λ (s : Starts). s.flying) c.in-Ok-difference_of.ensures.takes.1) ∙ there
+
+pub returns-in-Ok-launch-clause-stay : goal.returns-in-Ok-launch-clause-stay
+returns-in-Ok-launch-clause-stay g c ticket its there =
+    flies_lifted c.in-Ok-launch.launched.ticket ticket (g.P.Place.counts c.difference_of.new.place).starts (g.P.Place.counts c.launch.new.place).starts its c.in-Ok-launch.ensures.takes.1 (ap (child_at ticket) (ap (λ (s : Starts). s.flying) c.in-Ok-difference_of.ensures.takes.1) ∙ there)
+
+pub returns-in-Err-launch-clause-stay : goal.returns-in-Err-launch-clause-stay
+returns-in-Err-launch-clause-stay g c ticket its there =
+    ap (child_at ticket) (flying_begun c.args.store.now.next c.args.unit.now.key _ (g.P.Place.counts c.difference_of.new.place).starts (g.P.Place.counts c.launch.new.place).starts c.in-Err-launch.ensures.takes.0 ∙ (ap (λ (s : Starts). s.flying) c.in-Ok-difference_of.ensures.takes.1)) ∙ there

@@ -4,18 +4,15 @@ use Rattle.pb_place.specs.Counts.{Starts}
 use Rattle.pb_run.proofs.Halving.{out_lies}
 use Rattle.pb_run.proofs.Kept.{flying_answer, flying_follow, keeps_kept, keeps_over, needed_are_keys, others_ended, others_kept, outcome_kept, pairs_sorted}
 use Rattle.pb_place.specs.Folders.{files_in}
-use Rattle.pb_place.specs.Paths.{is_at_or_below}
-use Rattle.pb_place.specs.World.{World, ChangesOnly}
+use Rattle.pb_place.specs.World.{World}
 use Rattle.pb_run.specs.Halves.{basis, outcomes_in}
 use Rattle.pb_run.specs.Outcome.{outcome_by}
-use Rattle.pb_run.proofs.Answering.{kept_only, landed_gives, landed_only}
+use Rattle.pb_run.proofs.Answering.{landed_gives, landed_only}
 use Rattle.pb_run.proofs.Ending.{TellsAnswer, landed_more, landed_told}
 use Rattle.pb_run.proofs.Settling.{keeps_bad, keeps_landed}
-use Rattle.pb_run.proofs.Spawning.{out_within, widen}
+use Rattle.pb_run.proofs.Writes.{record_only, unkept_only}
 use Rattle.pb_run.proofs.landing.land.Goals as goal
 use Rattle.pb_run.specs.Standing.{records_folder}
-use Rattle.pb_soundness.specs.Apart.{is_of}
-use Rattle.pb_soundness.specs.Records.{out_of, place_of}
 
 pub returns-in-Err-clause-keeps : goal.returns-in-Err-clause-keeps
 returns-in-Err-clause-keeps g c footing read setup sources states done is told can =
@@ -35,16 +32,16 @@ returns-then-is_some-clause-keeps g c footing read setup sources states done is 
     (subst (λ (v : World). slice_get (outcomes_in (basis footing read g.P.Place.child setup c.args.project.now sources)) c.args.index ≡ Some (outcome_by (files_in c.args.unit.now.out v.files) c.in-Ok-judged_now.judgement.ran)) (sym (c.in-Ok-judged_now.ensures.same told)) (landed_gives (basis footing read g.P.Place.child setup c.args.project.now sources) c.requires.order c.args.index c.args.unit.now c.requires.unit c.args.unit.now.key c.args.command.now c.args.launched.now c.args.store.now.next (g.P.Place.counts c.args.place.now).starts.flying (g.P.Place.still c.args.place.now) states done (g.P.Place.world c.args.place.now) (g.P.Place.world c.finish.new.place) c.in-Ok.ended c.in-Ok-judged_now.judgement can (λ stood. c.in-Ok.ensures.ok told stood) (c.in-Ok-judged_now.ensures.judged told)))
 
 pub returns-in-Err-clause-only : goal.returns-in-Err-clause-only
-returns-in-Err-clause-only g c footing read setup sources told is =
-    (widen (is_at_or_below (out_of (records_folder c.args.project.now) c.args.unit.now.key)) (is_of (records_folder c.args.project.now) c.args.unit.now.key) (g.P.Place.world c.args.place.now) (g.P.Place.world c.finish.new.place) (out_within (records_folder c.args.project.now) c.args.unit.now.key) (subst (λ o. ChangesOnly (is_at_or_below o) (g.P.Place.world c.args.place.now) (g.P.Place.world c.finish.new.place)) (c.requires.order.folders c.args.index c.args.unit.now c.requires.unit) (landed_only (basis footing read g.P.Place.child setup c.args.project.now sources) c.requires.order c.args.index c.args.unit.now c.requires.unit c.args.unit.now.key c.args.command.now c.args.launched.now c.args.store.now.next (g.P.Place.counts c.args.place.now).starts.flying (g.P.Place.still c.args.place.now) (g.P.Place.world c.args.place.now) (g.P.Place.world c.finish.new.place) is (c.in-Err.ensures.only told))))
+returns-in-Err-clause-only g c told writes =
+    unkept_only (records_folder c.args.project.now) c.args.unit.now.key c.args.unit.now.out (c.requires.order.folders c.args.index c.args.unit.now c.requires.unit) c.args.launched.now (g.P.Place.counts c.args.place.now).starts.flying c.requires.flies writes (g.P.Place.world c.args.place.now) (g.P.Place.world c.finish.new.place) (g.P.Place.world c.finish.new.place) (c.in-Err.ensures.only told) refl
 
 pub returns-in-Err-judged_now-clause-only : goal.returns-in-Err-judged_now-clause-only
-returns-in-Err-judged_now-clause-only g c footing read setup sources told is =
-    subst (λ (v : World). ChangesOnly (is_of (records_folder c.args.project.now) c.args.unit.now.key) (g.P.Place.world c.args.place.now) v) (sym (c.in-Err-judged_now.ensures.same told)) (widen (is_at_or_below (out_of (records_folder c.args.project.now) c.args.unit.now.key)) (is_of (records_folder c.args.project.now) c.args.unit.now.key) (g.P.Place.world c.args.place.now) (g.P.Place.world c.finish.new.place) (out_within (records_folder c.args.project.now) c.args.unit.now.key) (subst (λ o. ChangesOnly (is_at_or_below o) (g.P.Place.world c.args.place.now) (g.P.Place.world c.finish.new.place)) (c.requires.order.folders c.args.index c.args.unit.now c.requires.unit) (landed_only (basis footing read g.P.Place.child setup c.args.project.now sources) c.requires.order c.args.index c.args.unit.now c.requires.unit c.args.unit.now.key c.args.command.now c.args.launched.now c.args.store.now.next (g.P.Place.counts c.args.place.now).starts.flying (g.P.Place.still c.args.place.now) (g.P.Place.world c.args.place.now) (g.P.Place.world c.finish.new.place) is (c.in-Ok.ensures.only told))))
+returns-in-Err-judged_now-clause-only g c told writes =
+    unkept_only (records_folder c.args.project.now) c.args.unit.now.key c.args.unit.now.out (c.requires.order.folders c.args.index c.args.unit.now c.requires.unit) c.args.launched.now (g.P.Place.counts c.args.place.now).starts.flying c.requires.flies writes (g.P.Place.world c.args.place.now) (g.P.Place.world c.finish.new.place) (g.P.Place.world c.judged_now.new.place) (c.in-Ok.ensures.only told) (c.in-Err-judged_now.ensures.same told)
 
 pub returns-then-is_some-clause-only : goal.returns-then-is_some-clause-only
-returns-then-is_some-clause-only g c footing read setup sources told is =
-    subst (λ (v : World). ChangesOnly (is_of (records_folder c.args.project.now) c.args.unit.now.key) (g.P.Place.world c.args.place.now) v) (sym (c.in-Ok-judged_now.ensures.same told)) (widen (is_at_or_below (out_of (records_folder c.args.project.now) c.args.unit.now.key)) (is_of (records_folder c.args.project.now) c.args.unit.now.key) (g.P.Place.world c.args.place.now) (g.P.Place.world c.finish.new.place) (out_within (records_folder c.args.project.now) c.args.unit.now.key) (subst (λ o. ChangesOnly (is_at_or_below o) (g.P.Place.world c.args.place.now) (g.P.Place.world c.finish.new.place)) (c.requires.order.folders c.args.index c.args.unit.now c.requires.unit) (landed_only (basis footing read g.P.Place.child setup c.args.project.now sources) c.requires.order c.args.index c.args.unit.now c.requires.unit c.args.unit.now.key c.args.command.now c.args.launched.now c.args.store.now.next (g.P.Place.counts c.args.place.now).starts.flying (g.P.Place.still c.args.place.now) (g.P.Place.world c.args.place.now) (g.P.Place.world c.finish.new.place) is (c.in-Ok.ensures.only told))))
+returns-then-is_some-clause-only g c told writes =
+    unkept_only (records_folder c.args.project.now) c.args.unit.now.key c.args.unit.now.out (c.requires.order.folders c.args.index c.args.unit.now c.requires.unit) c.args.launched.now (g.P.Place.counts c.args.place.now).starts.flying c.requires.flies writes (g.P.Place.world c.args.place.now) (g.P.Place.world c.finish.new.place) (g.P.Place.world c.judged_now.new.place) (c.in-Ok.ensures.only told) (c.in-Ok-judged_now.ensures.same told)
 
 pub returns-in-Err-judged_now-clause-takes : goal.returns-in-Err-judged_now-clause-takes
 returns-in-Err-judged_now-clause-takes g c =
@@ -103,12 +100,12 @@ returns-clause-others g c footing read setup sources states done other its is to
     others_kept (basis footing read g.P.Place.child setup c.args.project.now sources) c.requires.order c.args.index c.args.unit.now c.requires.unit c.args.command.now c.args.launched.now c.args.store.now.next (g.P.Place.world c.args.place.now) (g.P.Place.counts c.args.place.now).starts.flying (g.P.Place.still c.args.place.now) states done can (g.P.Place.world c.finish.new.place) (c.in-Ok.ensures.only told) (g.P.Place.world c.judged_now.new.place) (c.in-Ok-judged_now.ensures.same told) c.in-Ok.ended c.in-Ok-judged_now.judgement c.args.store.now.folder c.as_slice.result.now (g.P.Place.world c.keep.new.place) other its (g.P.Place.counts c.judged_now.new.place).starts.flying (g.P.Place.counts c.keep.new.place).starts.flying (g.P.Place.still c.finish.new.place) (g.P.Place.still c.judged_now.new.place) (g.P.Place.still c.keep.new.place) c.requires.folder (c.in-Err-keep.ensures.only told) (c.in-Err-keep.ensures.left read is told) (ap (λ (s : Starts). s.flying) (c.in-Ok-judged_now.ensures.takes.1 ∙ (c.in-Ok.ensures.takes c.args.store.now.next).1)) (flying_follow c.args.unit.now.key _ (g.P.Place.counts c.judged_now.new.place).starts (g.P.Place.counts c.keep.new.place).starts c.in-Err-keep.ensures.takes.0) c.in-Ok.ensures.still (c.in-Ok-judged_now.ensures.still told) (c.in-Err-keep.ensures.still told) apart
 
 pub returns-in-Ok-keep-clause-only : goal.returns-in-Ok-keep-clause-only
-returns-in-Ok-keep-clause-only g c footing read setup sources told is =
-    kept_only (records_folder c.args.project.now) c.args.unit.now.key c.args.unit.now.out (g.P.Place.world c.args.place.now) (g.P.Place.world c.judged_now.new.place) (g.P.Place.world c.keep.new.place) (c.requires.order.folders c.args.index c.args.unit.now c.requires.unit) (subst (λ (v : World). ChangesOnly (is_at_or_below c.args.unit.now.out) (g.P.Place.world c.args.place.now) v) (sym (c.in-Ok-judged_now.ensures.same told)) (landed_only (basis footing read g.P.Place.child setup c.args.project.now sources) c.requires.order c.args.index c.args.unit.now c.requires.unit c.args.unit.now.key c.args.command.now c.args.launched.now c.args.store.now.next (g.P.Place.counts c.args.place.now).starts.flying (g.P.Place.still c.args.place.now) (g.P.Place.world c.args.place.now) (g.P.Place.world c.finish.new.place) is (c.in-Ok.ensures.only told))) (subst (λ f. ChangesOnly (is_at_or_below (place_of f c.args.unit.now.key)) (g.P.Place.world c.judged_now.new.place) (g.P.Place.world c.keep.new.place)) c.requires.folder (c.in-Ok-keep.ensures.only told))
+returns-in-Ok-keep-clause-only g c told writes =
+    record_only (records_folder c.args.project.now) c.args.unit.now.key c.args.unit.now.out (c.requires.order.folders c.args.index c.args.unit.now c.requires.unit) c.args.launched.now (g.P.Place.counts c.args.place.now).starts.flying c.requires.flies writes (g.P.Place.world c.args.place.now) (g.P.Place.world c.finish.new.place) (g.P.Place.world c.judged_now.new.place) (c.in-Ok.ensures.only told) (c.in-Ok-judged_now.ensures.same told) c.args.store.now.folder (g.P.Place.world c.keep.new.place) c.requires.folder (c.in-Ok-keep.ensures.only told)
 
 pub returns-clause-only : goal.returns-clause-only
-returns-clause-only g c footing read setup sources told is =
-    kept_only (records_folder c.args.project.now) c.args.unit.now.key c.args.unit.now.out (g.P.Place.world c.args.place.now) (g.P.Place.world c.judged_now.new.place) (g.P.Place.world c.keep.new.place) (c.requires.order.folders c.args.index c.args.unit.now c.requires.unit) (subst (λ (v : World). ChangesOnly (is_at_or_below c.args.unit.now.out) (g.P.Place.world c.args.place.now) v) (sym (c.in-Ok-judged_now.ensures.same told)) (landed_only (basis footing read g.P.Place.child setup c.args.project.now sources) c.requires.order c.args.index c.args.unit.now c.requires.unit c.args.unit.now.key c.args.command.now c.args.launched.now c.args.store.now.next (g.P.Place.counts c.args.place.now).starts.flying (g.P.Place.still c.args.place.now) (g.P.Place.world c.args.place.now) (g.P.Place.world c.finish.new.place) is (c.in-Ok.ensures.only told))) (subst (λ f. ChangesOnly (is_at_or_below (place_of f c.args.unit.now.key)) (g.P.Place.world c.judged_now.new.place) (g.P.Place.world c.keep.new.place)) c.requires.folder (c.in-Err-keep.ensures.only told))
+returns-clause-only g c told writes =
+    record_only (records_folder c.args.project.now) c.args.unit.now.key c.args.unit.now.out (c.requires.order.folders c.args.index c.args.unit.now c.requires.unit) c.args.launched.now (g.P.Place.counts c.args.place.now).starts.flying c.requires.flies writes (g.P.Place.world c.args.place.now) (g.P.Place.world c.finish.new.place) (g.P.Place.world c.judged_now.new.place) (c.in-Ok.ensures.only told) (c.in-Ok-judged_now.ensures.same told) c.args.store.now.folder (g.P.Place.world c.keep.new.place) c.requires.folder (c.in-Err-keep.ensures.only told)
 
 pub returns-in-Ok-keep-clause-takes : goal.returns-in-Ok-keep-clause-takes
 returns-in-Ok-keep-clause-takes g c =

@@ -1,4 +1,4 @@
-use Rattle.std.proofs.Common.{◌≡◌, ◌∙◌, ◌<◌, ◌∷◌, ℕ, Some, refl, sym, ap, subst, inl, slice_get, length, map}
+use Rattle.std.proofs.Common.{◌≡◌, ◌∙◌, ◌<◌, ◌∷◌, Some, refl, sym, ap, subst, inl, slice_get, length, map}
 use Rattle.std.proofs.lemmas.List.{length-map}
 use Rattle.std.proofs.lemmas.Option.{slice_get_read, slice_get_within}
 use Rattle.pb_flight.specs.declared.flight.Answer.{Answer}
@@ -14,6 +14,7 @@ use Rattle.pb_turns.specs.Moments.{moment}
 use Rattle.pb_turns.specs.Story.{Story, states_in}
 use Rattle.pb_turns.proofs.Answering.{failed_happened, untold_happened, answered_happened}
 use Rattle.pb_turns.proofs.Beginning.{goes_lists}
+use Rattle.pb_turns.proofs.Changing.{its_writes, changes_less, changes_after}
 use Rattle.pb_turns.proofs.Counting.{goes_answered, stops_answered, stops_untold}
 use Rattle.pb_turns.proofs.Lists.{all_get, get_map, map_removed}
 use Rattle.pb_turns.proofs.Manning.{answer_fault_lands, flying_of, manned_answered}
@@ -23,7 +24,7 @@ use Rattle.pb_turns.proofs.crew.answer_at.Goals as goal
 pub answer_unit-requires-clause-asks : goal.answer_unit-requires-clause-asks
 answer_unit-requires-clause-asks g c =
     let at_index = slice_get_read c.args.crew.now.aloft.items (length c.args.crew.now.aloft.items) c.args.index c.remove-unit.result refl
-        (subst (λ n. c.args.index < n) (length-map c.args.crew.now.aloft.items place_of_unit) c.requires.within) c.remove-unit.ensures.value in
+    (subst (λ n. c.args.index < n) (length-map c.args.crew.now.aloft.items place_of_unit) c.requires.within) c.remove-unit.ensures.value in
     let of_plan = all_get (IsOfPlan c.args.crew.now.project) c.args.crew.now.aloft.items c.args.index c.remove-unit.result c.requires.manned.units at_index in
     let there = there_of c.args.crew.now.project.plan.planned c.as_slice.result.now c.remove-unit.result.unit c.index-as_slice-unit.result of_plan.unit of_plan.there c.as_slice.ensures c.index-as_slice-unit.is in
     subst (λ u. IsCommandOf c.args.crew.now.project u c.remove-unit.result.begun.command) (injective (sym of_plan.there ∙ there)) of_plan.asks
@@ -31,13 +32,13 @@ answer_unit-requires-clause-asks g c =
 pub answer_unit-requires-clause-flies : goal.answer_unit-requires-clause-flies
 answer_unit-requires-clause-flies g c =
     let at_index = slice_get_read c.args.crew.now.aloft.items (length c.args.crew.now.aloft.items) c.args.index c.remove-unit.result refl
-        (subst (λ n. c.args.index < n) (length-map c.args.crew.now.aloft.items place_of_unit) c.requires.within) c.remove-unit.ensures.value in
+    (subst (λ n. c.args.index < n) (length-map c.args.crew.now.aloft.items place_of_unit) c.requires.within) c.remove-unit.ensures.value in
     flying_of c.args.crew.now (g.P.Place.counts c.args.place.now) c.args.index c.remove-unit.result c.requires.manned at_index
 
 pub note_answer-requires : goal.note_answer-requires
 note_answer-requires g c =
     let at_index = slice_get_read c.args.crew.now.aloft.items (length c.args.crew.now.aloft.items) c.args.index c.remove-unit.result refl
-        (subst (λ n. c.args.index < n) (length-map c.args.crew.now.aloft.items place_of_unit) c.requires.within) c.remove-unit.ensures.value in
+    (subst (λ n. c.args.index < n) (length-map c.args.crew.now.aloft.items place_of_unit) c.requires.within) c.remove-unit.ensures.value in
     let of_plan = all_get (IsOfPlan c.args.crew.now.project) c.args.crew.now.aloft.items c.args.index c.remove-unit.result c.requires.manned.units at_index in
     let there = there_of c.args.crew.now.project.plan.planned c.as_slice.result.now c.remove-unit.result.unit c.index-as_slice-unit.result of_plan.unit of_plan.there c.as_slice.ensures c.index-as_slice-unit.is in
     record { within = subst (λ n. c.remove-unit.result.unit < n) (sym c.requires.manned.long) (slice_get_within c.args.crew.now.project.plan.planned c.remove-unit.result.unit c.index-as_slice-unit.result there) }
@@ -45,20 +46,20 @@ note_answer-requires g c =
 pub returns-in-Err-clause-manned : goal.returns-in-Err-clause-manned
 returns-in-Err-clause-manned g c =
     let at_index = slice_get_read c.args.crew.now.aloft.items (length c.args.crew.now.aloft.items) c.args.index c.remove-unit.result refl
-        (subst (λ n. c.args.index < n) (length-map c.args.crew.now.aloft.items place_of_unit) c.requires.within) c.remove-unit.ensures.value in
+    (subst (λ n. c.args.index < n) (length-map c.args.crew.now.aloft.items place_of_unit) c.requires.within) c.remove-unit.ensures.value in
     manned_answered c.args.crew.now _ (g.P.Place.counts c.args.place.now) (g.P.Place.counts c.answer_unit.new.place) c.args.index c.remove-unit.result c.requires.manned at_index refl c.answer_unit.ensures.folder refl c.remove-unit.ensures.items c.answer_unit.ensures.next
     (answer_fault_lands _ _ c.remove-unit.result.begun.launched c.in-Err.fault _ _ c.in-Err.ensures.takes.0)
 
 pub returns-in-Err-lines_of_unit-clause-manned : goal.returns-in-Err-lines_of_unit-clause-manned
 returns-in-Err-lines_of_unit-clause-manned g c =
     let at_index = slice_get_read c.args.crew.now.aloft.items (length c.args.crew.now.aloft.items) c.args.index c.remove-unit.result refl
-        (subst (λ n. c.args.index < n) (length-map c.args.crew.now.aloft.items place_of_unit) c.requires.within) c.remove-unit.ensures.value in
+    (subst (λ n. c.args.index < n) (length-map c.args.crew.now.aloft.items place_of_unit) c.requires.within) c.remove-unit.ensures.value in
     manned_answered c.args.crew.now _ (g.P.Place.counts c.args.place.now) (g.P.Place.counts c.answer_unit.new.place) c.args.index c.remove-unit.result c.requires.manned at_index refl c.answer_unit.ensures.folder refl c.remove-unit.ensures.items c.answer_unit.ensures.next c.in-Ok.ensures.takes.1
 
 pub returns-clause-manned : goal.returns-clause-manned
 returns-clause-manned g c =
     let at_index = slice_get_read c.args.crew.now.aloft.items (length c.args.crew.now.aloft.items) c.args.index c.remove-unit.result refl
-        (subst (λ n. c.args.index < n) (length-map c.args.crew.now.aloft.items place_of_unit) c.requires.within) c.remove-unit.ensures.value in
+    (subst (λ n. c.args.index < n) (length-map c.args.crew.now.aloft.items place_of_unit) c.requires.within) c.remove-unit.ensures.value in
     manned_answered c.args.crew.now _ (g.P.Place.counts c.args.place.now) (g.P.Place.counts c.answer_unit.new.place) c.args.index c.remove-unit.result c.requires.manned at_index refl c.answer_unit.ensures.folder
     (ap length c.note_answer.ensures.done ∙ length_set c.args.crew.now.done.items c.remove-unit.result.unit c.in-Ok.ran.directives) c.remove-unit.ensures.items c.answer_unit.ensures.next c.in-Ok.ensures.takes.1
 
@@ -74,7 +75,7 @@ returns-clause-flying g c = ap (λ items. map place_of_unit items) c.remove-unit
 pub returns-in-Err-clause-story : goal.returns-in-Err-clause-story
 returns-in-Err-clause-story g c = λ first at taken faults es given unit s flying lawful is_given is_unit flies.
     let at_index = slice_get_read c.args.crew.now.aloft.items (length c.args.crew.now.aloft.items) c.args.index c.remove-unit.result refl
-        (subst (λ n. c.args.index < n) (length-map c.args.crew.now.aloft.items place_of_unit) c.requires.within) c.remove-unit.ensures.value in
+    (subst (λ n. c.args.index < n) (length-map c.args.crew.now.aloft.items place_of_unit) c.requires.within) c.remove-unit.ensures.value in
     let of_plan = all_get (IsOfPlan c.args.crew.now.project) c.args.crew.now.aloft.items c.args.index c.remove-unit.result c.requires.manned.units at_index in
     let there = there_of c.args.crew.now.project.plan.planned c.as_slice.result.now c.remove-unit.result.unit c.index-as_slice-unit.result of_plan.unit of_plan.there c.as_slice.ensures c.index-as_slice-unit.is in
     let now = moment (g.P.Place.world c.args.place.now) (g.P.Place.counts c.args.place.now) (g.P.Place.most c.args.place.now) taken faults in
@@ -88,15 +89,19 @@ returns-in-Err-clause-story g c = λ first at taken faults es given unit s flyin
           c.in-Err.ensures.takes.0 c.in-Err.ensures.takes.1;
       before = es;
       begins = inl refl;
+      changes = λ t. changes_less c.args.crew.now.project at.world c.args.crew.now.aloft.items es now.world new.world now.counts.starts.flying new.counts.starts.flying (s.changes t) (λ j y at_j. flying_of c.args.crew.now now.counts j y c.requires.manned at_j)
+          c.args.index c.remove-unit.result at_index c.index-as_slice-unit.result there c.requires.manned.units_apart c.requires.manned.tickets_apart
+          (c.answer_unit.ensures.only t (its_writes c.args.crew.now.project at.world c.args.crew.now.aloft.items es now.world new.world now.counts.starts.flying new.counts.starts.flying (s.changes t) (λ j y at_j. flying_of c.args.crew.now now.counts j y c.requires.manned at_j)
+          c.args.index c.remove-unit.result at_index c.index-as_slice-unit.result there)) c.answer_unit.ensures.stay c.remove-unit.new.self.items c.remove-unit.ensures.items;
       happened = failed_happened g.P.Place.tells g.P.Place.child first c.args.crew.now at now new (g.P.Place.still c.args.place.now) (g.P.Place.still c.answer_unit.new.place) es given c.args.index c.remove-unit.result c.index-as_slice-unit.result there s at_index
-          c.requires.manned.units_apart c.requires.manned.tickets_apart c.requires.manned.numbers_apart c.answer_unit.new.store.next c.answer_unit.ensures.others c.answer_unit.ensures.only
+          c.requires.manned.units_apart c.requires.manned.tickets_apart c.requires.manned.numbers_apart c.answer_unit.new.store.next c.answer_unit.ensures.others
           c.remove-unit.new.self.items c.remove-unit.ensures.items c.in-Err.ensures.keeps;
     }
 
 pub returns-in-Err-lines_of_unit-clause-story : goal.returns-in-Err-lines_of_unit-clause-story
 returns-in-Err-lines_of_unit-clause-story g c = λ first at taken faults es given unit s flying lawful is_given is_unit flies.
     let at_index = slice_get_read c.args.crew.now.aloft.items (length c.args.crew.now.aloft.items) c.args.index c.remove-unit.result refl
-        (subst (λ n. c.args.index < n) (length-map c.args.crew.now.aloft.items place_of_unit) c.requires.within) c.remove-unit.ensures.value in
+    (subst (λ n. c.args.index < n) (length-map c.args.crew.now.aloft.items place_of_unit) c.requires.within) c.remove-unit.ensures.value in
     let of_plan = all_get (IsOfPlan c.args.crew.now.project) c.args.crew.now.aloft.items c.args.index c.remove-unit.result c.requires.manned.units at_index in
     let there = there_of c.args.crew.now.project.plan.planned c.as_slice.result.now c.remove-unit.result.unit c.index-as_slice-unit.result of_plan.unit of_plan.there c.as_slice.ensures c.index-as_slice-unit.is in
     let now = moment (g.P.Place.world c.args.place.now) (g.P.Place.counts c.args.place.now) (g.P.Place.most c.args.place.now) taken faults in
@@ -109,15 +114,19 @@ returns-in-Err-lines_of_unit-clause-story g c = λ first at taken faults es give
       stops = stops_untold c.args.crew.now.project at now new c.args.crew.now.started.items c.args.crew.now.aloft.items es given s.goes is_given c.args.index c.remove-unit.result at_index begun refl c.in-Ok.ensures.takes.1 c.in-Ok.ensures.takes.0;
       before = es;
       begins = inl refl;
+      changes = λ t. changes_less c.args.crew.now.project at.world c.args.crew.now.aloft.items es now.world new.world now.counts.starts.flying new.counts.starts.flying (s.changes t) (λ j y at_j. flying_of c.args.crew.now now.counts j y c.requires.manned at_j)
+          c.args.index c.remove-unit.result at_index c.index-as_slice-unit.result there c.requires.manned.units_apart c.requires.manned.tickets_apart
+          (c.answer_unit.ensures.only t (its_writes c.args.crew.now.project at.world c.args.crew.now.aloft.items es now.world new.world now.counts.starts.flying new.counts.starts.flying (s.changes t) (λ j y at_j. flying_of c.args.crew.now now.counts j y c.requires.manned at_j)
+          c.args.index c.remove-unit.result at_index c.index-as_slice-unit.result there)) c.answer_unit.ensures.stay c.remove-unit.new.self.items c.remove-unit.ensures.items;
       happened = untold_happened g.P.Place.tells g.P.Place.child first c.args.crew.now at now new (g.P.Place.still c.args.place.now) (g.P.Place.still c.answer_unit.new.place) es given c.args.index c.remove-unit.result c.index-as_slice-unit.result there s at_index
-          c.requires.manned.units_apart c.requires.manned.tickets_apart c.requires.manned.numbers_apart c.answer_unit.new.store.next c.answer_unit.ensures.others c.answer_unit.ensures.only
+          c.requires.manned.units_apart c.requires.manned.tickets_apart c.requires.manned.numbers_apart c.answer_unit.new.store.next c.answer_unit.ensures.others
           c.in-Ok.ran c.in-Ok.ensures.outcome c.in-Ok.ensures.keeps c.in-Ok.ensures.directives c.remove-unit.new.self.items c.remove-unit.ensures.items;
     }
 
 pub returns-clause-story : goal.returns-clause-story
 returns-clause-story g c = λ first at taken faults es given unit s flying lawful is_given is_unit flies.
     let at_index = slice_get_read c.args.crew.now.aloft.items (length c.args.crew.now.aloft.items) c.args.index c.remove-unit.result refl
-        (subst (λ n. c.args.index < n) (length-map c.args.crew.now.aloft.items place_of_unit) c.requires.within) c.remove-unit.ensures.value in
+    (subst (λ n. c.args.index < n) (length-map c.args.crew.now.aloft.items place_of_unit) c.requires.within) c.remove-unit.ensures.value in
     let of_plan = all_get (IsOfPlan c.args.crew.now.project) c.args.crew.now.aloft.items c.args.index c.remove-unit.result c.requires.manned.units at_index in
     let there = there_of c.args.crew.now.project.plan.planned c.as_slice.result.now c.remove-unit.result.unit c.index-as_slice-unit.result of_plan.unit of_plan.there c.as_slice.ensures c.index-as_slice-unit.is in
     let now = moment (g.P.Place.world c.args.place.now) (g.P.Place.counts c.args.place.now) (g.P.Place.most c.args.place.now) taken faults in
@@ -133,8 +142,12 @@ returns-clause-story g c = λ first at taken faults es given unit s flying lawfu
       goes = goes_lists c.args.crew.now.project at new c.args.crew.now.started.items c.args.crew.now.started.items _ c.remove-unit.new.self.items (Gave c.remove-unit.result.unit answer ∷ es) given refl c.remove-unit.ensures.items
           (goes_answered c.args.crew.now.project at now new c.args.crew.now.started.items c.args.crew.now.aloft.items es given s.goes is_given c.args.index c.remove-unit.result at_index begun refl c.requires.manned.units_apart answer
           c.in-Ok.ensures.takes.0 c.in-Ok.ensures.takes.1 c.answer_unit.ensures.most);
+      changes = λ t. changes_after c.args.crew.now.project at.world c.args.crew.now.aloft.items es now.world new.world now.counts.starts.flying new.counts.starts.flying (s.changes t) (λ j y at_j. flying_of c.args.crew.now now.counts j y c.requires.manned at_j)
+          c.args.index c.remove-unit.result at_index c.index-as_slice-unit.result there c.requires.manned.units_apart c.requires.manned.tickets_apart
+          (c.answer_unit.ensures.only t (its_writes c.args.crew.now.project at.world c.args.crew.now.aloft.items es now.world new.world now.counts.starts.flying new.counts.starts.flying (s.changes t) (λ j y at_j. flying_of c.args.crew.now now.counts j y c.requires.manned at_j)
+          c.args.index c.remove-unit.result at_index c.index-as_slice-unit.result there)) c.answer_unit.ensures.stay c.remove-unit.new.self.items c.remove-unit.ensures.items answer;
       happened = answered_happened g.P.Place.tells g.P.Place.child first c.args.crew.now at now new (g.P.Place.still c.args.place.now) (g.P.Place.still c.answer_unit.new.place) es given c.args.index c.remove-unit.result c.index-as_slice-unit.result there s at_index
-          c.requires.manned.units_apart c.requires.manned.tickets_apart c.requires.manned.numbers_apart c.answer_unit.new.store.next c.answer_unit.ensures.others c.answer_unit.ensures.only
+          c.requires.manned.units_apart c.requires.manned.tickets_apart c.requires.manned.numbers_apart c.answer_unit.new.store.next c.answer_unit.ensures.others
           c.in-Ok.ran c.in-Ok.ensures.outcome c.in-Ok.ensures.keeps c.in-Ok.ensures.directives c.in-Ok-lines_of_unit.lines c.remove-unit.new.self.items c.note_answer.new.done.items c.remove-unit.ensures.items c.note_answer.ensures.done
           c.in-Ok.ensures.started (c.in-Ok-lines_of_unit.ensures ∙ ap (λ ms. unit_lines c.args.crew.now.project c.index-as_slice-unit.result c.in-Ok.ran.started ms) c.as_slice-2.ensures);
     })

@@ -1,17 +1,13 @@
-use Rattle.std.proofs.Common.{◌≡◌, ◌∙◌, ◌<◌, ◌++◌, ◌∷◌, [], ℕ, Bool, false, Option, Some, get_or, is_some, refl, sym, ap, subst, inl, inr, slice_get, length, map}
-use Rattle.std.specs.Prelude.{IfSome}
-use Rattle.pb_flight.specs.Events.{Event, Began}
+use Rattle.std.proofs.Common.{◌∙◌, ◌++◌, ◌∷◌, [], false, is_some, refl, sym, ap, subst, inr}
+use Rattle.pb_flight.specs.Events.{Began}
 use Rattle.pb_flight.specs.Table.{if_so}
-use Rattle.pb_project.specs.declared.fault.UnitFault.{UnitFault}
-use Rattle.pb_run.specs.declared.begun.Launched.{Launched}
-use Rattle.pb_soundness.specs.Numbers.{after}
-use Rattle.pb_turns.specs.Crew.{IsManned}
+use Rattle.pb_place.proofs.Folders.{only_same}
 use Rattle.pb_turns.specs.Moments.{moment}
-use Rattle.pb_turns.specs.Story.{Story, states_in}
+use Rattle.pb_turns.specs.Story.{Story}
 use Rattle.pb_turns.proofs.Beginning.{goes_lists, refused_happened, failed_happened, begun_happened, by_number}
+use Rattle.pb_turns.proofs.Changing.{changes_begun, changes_more}
 use Rattle.pb_turns.proofs.Counting.{goes_begun, stops_begun, stops_refused_begun, children_are}
-use Rattle.pb_turns.proofs.Manning.{manned_same, manned_begun, begin_fault_flies}
-use Rattle.pb_unit.specs.declared.plan.Planned.{Planned}
+use Rattle.pb_turns.proofs.Manning.{manned_same, manned_begun, begin_fault_flies, flying_of}
 use Rattle.pb_turns.proofs.Reaching.{there_at, there_some}
 use Rattle.pb_turns.proofs.crew.begin_at.Goals as goal
 
@@ -34,34 +30,43 @@ returns-clause-manned g c =
 pub returns-in-Err-clause-story : goal.returns-in-Err-clause-story
 returns-in-Err-clause-story g c = λ first at taken faults es given s flying lawful is_given may.
     let (u, there) = there_some c.args.crew.now.project.plan.planned c.args.unit c.requires.unit in
-    let now = moment (g.P.Place.world c.args.place.now) (g.P.Place.counts c.args.place.now) (g.P.Place.most c.args.place.now) taken faults in
-    (false, record {
-      setup = s.setup;
-      project = s.project;
-      stops = stops_refused_begun c.args.crew.now.project at now now c.args.crew.now.started.items c.args.crew.now.aloft.items es given c.args.unit s.goes is_given may.untouched refl refl;
-      before = es;
-      begins = inr (c.args.unit, false, refl);
-      happened = refused_happened g.P.Place.tells g.P.Place.child first c.args.crew.now at now now (g.P.Place.still c.args.place.now) (g.P.Place.still c.args.place.now) es given c.args.unit u c.requires.manned.order there s may c.make_room.new.aloft.items c.make_room.ensures.aloft;
-    })
+    let now = moment (g.P.Place.world c.args.place.now) (g.P.Place.counts c.args.place.now) (g.P.Place.most c.args.place.now) taken faults in (
+      false,
+      record {
+        setup = s.setup;
+        project = s.project;
+        stops = stops_refused_begun c.args.crew.now.project at now now c.args.crew.now.started.items c.args.crew.now.aloft.items es given c.args.unit s.goes is_given may.untouched refl refl;
+        before = es;
+        begins = inr (c.args.unit, false, refl);
+        changes = λ t. changes_begun c.args.crew.now.project at.world c.args.crew.now.aloft.items es now.world now.world now.counts.starts.flying now.counts.starts.flying (s.changes t) (λ index a at. flying_of c.args.crew.now (g.P.Place.counts c.args.place.now) index a c.requires.manned at)
+            c.args.unit u there may.untouched (only_same _ now.world) (λ ticket its is. is) false c.make_room.new.aloft.items c.make_room.ensures.aloft;
+        happened = refused_happened g.P.Place.tells g.P.Place.child first c.args.crew.now at now now (g.P.Place.still c.args.place.now) (g.P.Place.still c.args.place.now) es given c.args.unit u c.requires.manned.order there s may c.make_room.new.aloft.items c.make_room.ensures.aloft;
+      },
+    )
 
 pub returns-in-Err-begin_unit-clause-story : goal.returns-in-Err-begin_unit-clause-story
 returns-in-Err-begin_unit-clause-story g c = λ first at taken faults es given s flying lawful is_given may.
     let there = there_at c.args.crew.now.project.plan.planned c.as_slice.result.now c.args.unit c.index-as_slice-unit.result c.requires.unit c.as_slice.ensures c.index-as_slice-unit.is in
     let (spawned, stops) = stops_begun c.args.crew.now.project at (moment (g.P.Place.world c.args.place.now) (g.P.Place.counts c.args.place.now) (g.P.Place.most c.args.place.now) taken faults)
-        (moment (g.P.Place.world c.begin_unit.new.place) (g.P.Place.counts c.begin_unit.new.place) (g.P.Place.most c.begin_unit.new.place) taken faults)
-        c.args.crew.now.started.items c.args.crew.now.aloft.items es given c.args.unit s.goes is_given may.untouched refl c.index-as_slice-unit.result there c.args.crew.now.store.next c.in-Err-begin_unit.fault
-        c.in-Err-begin_unit.ensures.takes.0 c.in-Err-begin_unit.ensures.takes.1 in
-    (spawned, record {
-      setup = s.setup;
-      project = s.project;
-      stops = stops;
-      before = es;
-      begins = inr (c.args.unit, spawned, refl);
-      happened = failed_happened g.P.Place.tells g.P.Place.child first c.args.crew.now at (moment (g.P.Place.world c.args.place.now) (g.P.Place.counts c.args.place.now) (g.P.Place.most c.args.place.now) taken faults)
-          (moment (g.P.Place.world c.begin_unit.new.place) (g.P.Place.counts c.begin_unit.new.place) (g.P.Place.most c.begin_unit.new.place) taken faults) (g.P.Place.still c.args.place.now) (g.P.Place.still c.begin_unit.new.place)
-          es given c.args.unit c.index-as_slice-unit.result c.requires.manned.order there s may c.begin_unit.new.store.next c.as_slice-2.result.now c.as_slice-2.ensures.value
-          c.begin_unit.ensures.keeps c.begin_unit.ensures.others c.begin_unit.ensures.only spawned c.make_room.new.aloft.items c.make_room.ensures.aloft;
-    })
+    (moment (g.P.Place.world c.begin_unit.new.place) (g.P.Place.counts c.begin_unit.new.place) (g.P.Place.most c.begin_unit.new.place) taken faults)
+    c.args.crew.now.started.items c.args.crew.now.aloft.items es given c.args.unit s.goes is_given may.untouched refl c.index-as_slice-unit.result there c.args.crew.now.store.next c.in-Err-begin_unit.fault
+    c.in-Err-begin_unit.ensures.takes.0 c.in-Err-begin_unit.ensures.takes.1 in (
+      spawned,
+      record {
+        setup = s.setup;
+        project = s.project;
+        stops = stops;
+        before = es;
+        begins = inr (c.args.unit, spawned, refl);
+        changes = λ t. changes_begun c.args.crew.now.project at.world c.args.crew.now.aloft.items es (g.P.Place.world c.args.place.now) (g.P.Place.world c.begin_unit.new.place) (g.P.Place.counts c.args.place.now).starts.flying (g.P.Place.counts c.begin_unit.new.place).starts.flying
+            (s.changes t) (λ index a at. flying_of c.args.crew.now (g.P.Place.counts c.args.place.now) index a c.requires.manned at)
+            c.args.unit c.index-as_slice-unit.result there may.untouched (c.begin_unit.ensures.only t) c.begin_unit.ensures.stay spawned c.make_room.new.aloft.items c.make_room.ensures.aloft;
+        happened = failed_happened g.P.Place.tells g.P.Place.child first c.args.crew.now at (moment (g.P.Place.world c.args.place.now) (g.P.Place.counts c.args.place.now) (g.P.Place.most c.args.place.now) taken faults)
+            (moment (g.P.Place.world c.begin_unit.new.place) (g.P.Place.counts c.begin_unit.new.place) (g.P.Place.most c.begin_unit.new.place) taken faults) (g.P.Place.still c.args.place.now) (g.P.Place.still c.begin_unit.new.place)
+            es given c.args.unit c.index-as_slice-unit.result c.requires.manned.order there s may c.begin_unit.new.store.next c.as_slice-2.result.now c.as_slice-2.ensures.value
+            c.begin_unit.ensures.keeps c.begin_unit.ensures.others spawned c.make_room.new.aloft.items c.make_room.ensures.aloft;
+      },
+    )
 
 pub returns-clause-story : goal.returns-clause-story
 returns-clause-story g c = λ first at taken faults es given s flying lawful is_given may.
@@ -70,7 +75,7 @@ returns-clause-story g c = λ first at taken faults es given s flying lawful is_
     let new = moment (g.P.Place.world c.begin_unit.new.place) (g.P.Place.counts c.begin_unit.new.place) (g.P.Place.most c.begin_unit.new.place) taken faults in
     let more = c.note_begun.ensures.aloft ∙ ap (λ items. items ++ record { unit = c.args.unit; begun = c.in-Ok-begin_unit.begun } ∷ []) c.make_room.ensures.aloft in
     subst (λ flag. Story g.P.Place.tells g.P.Place.child first at record { setup = c.args.crew.now.setup; project = c.args.crew.now.project; store = c.begin_unit.new.store; done = c.args.crew.now.done; aloft = c.note_begun.new.aloft; started = c.note_begun.new.started }
-        new (g.P.Place.still c.begin_unit.new.place) (Began c.args.unit flag ∷ es) given) (sym c.is_some-spawned.ensures) record {
+    new (g.P.Place.still c.begin_unit.new.place) (Began c.args.unit flag ∷ es) given) (sym c.is_some-spawned.ensures) record {
       setup = s.setup;
       project = s.project;
       goes = goes_lists c.args.crew.now.project at new _ c.note_begun.new.started.items _ c.note_begun.new.aloft.items (Began c.args.unit (is_some c.in-Ok-begin_unit.begun.launched) ∷ es) given
@@ -78,7 +83,10 @@ returns-clause-story g c = λ first at taken faults es given s flying lawful is_
           (goes_begun c.args.crew.now.project at now new c.args.crew.now.started.items c.args.crew.now.aloft.items es given c.args.unit s.goes is_given may.untouched refl
           record { unit = c.args.unit; begun = c.in-Ok-begin_unit.begun } refl c.in-Ok-begin_unit.ensures.takes.0 c.in-Ok-begin_unit.ensures.takes.1
           (children_are (g.P.Place.counts c.args.place.now) c.args.crew.now.aloft.items c.requires.manned.tickets) c.in-Ok-begin_unit.ensures.most);
+      changes = λ t. changes_more c.args.crew.now.project at.world c.args.crew.now.aloft.items es now.world new.world now.counts.starts.flying new.counts.starts.flying (s.changes t) (λ index a at. flying_of c.args.crew.now (g.P.Place.counts c.args.place.now) index a c.requires.manned at)
+          c.args.unit c.index-as_slice-unit.result there may.untouched (c.begin_unit.ensures.only t) c.begin_unit.ensures.stay (is_some c.in-Ok-begin_unit.begun.launched)
+          record { unit = c.args.unit; begun = c.in-Ok-begin_unit.begun } c.note_begun.new.aloft.items refl more (c.in-Ok-begin_unit.ensures.writes t);
       happened = begun_happened g.P.Place.tells g.P.Place.child first c.args.crew.now at now new (g.P.Place.still c.args.place.now) (g.P.Place.still c.begin_unit.new.place)
           es given c.args.unit c.index-as_slice-unit.result c.requires.manned.order there s may c.begin_unit.new.store.next c.as_slice-2.result.now c.as_slice-2.ensures.value
-          c.begin_unit.ensures.keeps c.begin_unit.ensures.others c.begin_unit.ensures.only c.in-Ok-begin_unit.begun c.note_begun.new.aloft.items more c.in-Ok-begin_unit.ensures.begun c.in-Ok-begin_unit.ensures.differs;
+          c.begin_unit.ensures.keeps c.begin_unit.ensures.others c.in-Ok-begin_unit.begun c.note_begun.new.aloft.items more c.in-Ok-begin_unit.ensures.begun c.in-Ok-begin_unit.ensures.differs;
     }

@@ -1,4 +1,6 @@
-use Rattle.std.proofs.Common.{◌≡◌, ◌∙◌, sym, ap}
+use Rattle.std.proofs.Common.{◌∙◌, sym, ap, subst}
+use Rattle.pb_project.specs.declared.project.Project.{Project}
+use Rattle.pb_turns.specs.Story.{Changes}
 use Rattle.pb_turns.specs.declared.crew.UnitCrew.{UnitCrew}
 use Rattle.pb_turns.proofs.dropping.drain.Goals as goal
 
@@ -8,6 +10,10 @@ loop-alloc-preserved g c = record {
   same = c.drop_first.ensures.same ∙ ap (λ (x : UnitCrew). record x { aloft = c.drop_first.new.crew.aloft }) c.loop-alloc.invariant.same;
   most = c.drop_first.ensures.most ∙ c.loop-alloc.invariant.most;
   dropped = λ new d. c.loop-alloc.invariant.dropped new (c.drop_first.ensures.dropped new d);
-  happened = λ b first es tells project h.
-      c.drop_first.ensures.happened b first es tells (project ∙ sym (ap (λ (x : UnitCrew). x.project) c.loop-alloc.invariant.same)) (c.loop-alloc.invariant.happened b first es tells project h);
+  changes = λ first es tells old.
+      subst (λ (p : Project). Changes p first c.drop_first.new.crew.aloft.items es (g.P.Place.world c.drop_first.new.place) (g.P.Place.counts c.drop_first.new.place).starts.flying) (ap (λ (x : UnitCrew). x.project) c.loop-alloc.invariant.same)
+      (c.drop_first.ensures.changes first es tells (subst (λ (p : Project). Changes p first c.loop-alloc.crew.aloft.items es (g.P.Place.world c.loop-alloc.place) (g.P.Place.counts c.loop-alloc.place).starts.flying)
+      (sym (ap (λ (x : UnitCrew). x.project) c.loop-alloc.invariant.same)) (c.loop-alloc.invariant.changes first es tells old)));
+  happened = λ b es tells project h.
+      c.drop_first.ensures.happened b es tells (project ∙ sym (ap (λ (x : UnitCrew). x.project) c.loop-alloc.invariant.same)) (c.loop-alloc.invariant.happened b es tells project h);
 }

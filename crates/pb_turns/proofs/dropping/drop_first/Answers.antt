@@ -1,8 +1,6 @@
-use Rattle.std.proofs.Common.{◌≡◌, ◌∙◌, ◌<◌, refl, sym, ap, subst, inl, slice_get, length}
+use Rattle.std.proofs.Common.{refl, inl, length}
 use Rattle.std.proofs.lemmas.Option.{slice_get_read}
-use Rattle.pb_turns.specs.Crew.{IsOfPlan}
-use Rattle.pb_turns.proofs.Landing.{drops_land, happened_dropped}
-use Rattle.pb_turns.proofs.Lists.{all_get}
+use Rattle.pb_turns.proofs.Landing.{drops_land, happened_dropped, changes_dropped}
 use Rattle.pb_turns.proofs.Manning.{flying_of, manned_answered}
 use Rattle.pb_turns.proofs.dropping.drop_first.Goals as goal
 
@@ -18,10 +16,15 @@ returns-clause-manned g c =
     (drops_land c.remove-aloft.result.begun.launched _ _ c.drop_unit.ensures.counts)
 
 pub returns-clause-happened : goal.returns-clause-happened
-returns-clause-happened g c = λ b first es tells project h.
+returns-clause-happened g c = λ b es tells project h.
     let at = slice_get_read c.args.crew.now.aloft.items (length c.args.crew.now.aloft.items) 0 c.remove-aloft.result refl c.requires.some c.remove-aloft.ensures.value in
-    happened_dropped b c.args.crew.now (g.P.Place.counts c.args.place.now) c.requires.manned project first es (g.P.Place.world c.args.place.now) (g.P.Place.world c.drop_unit.new.place) (g.P.Place.still c.args.place.now) (g.P.Place.counts c.drop_unit.new.place).starts.flying (g.P.Place.still c.drop_unit.new.place)
+    happened_dropped b c.args.crew.now (g.P.Place.counts c.args.place.now) c.requires.manned project es (g.P.Place.world c.args.place.now) (g.P.Place.world c.drop_unit.new.place) (g.P.Place.still c.args.place.now) (g.P.Place.counts c.drop_unit.new.place).starts.flying (g.P.Place.still c.drop_unit.new.place)
     0 c.remove-aloft.result at c.remove-aloft.new.self.items c.remove-aloft.ensures.items h
     (λ index unit next order there. c.drop_unit.ensures.keeps b _ _ index unit next order there tells)
     (λ states done index unit next other its order there. c.drop_unit.ensures.others b states done index unit next other its order there tells)
-    (λ index unit next order there. c.drop_unit.ensures.only b index unit next order there tells)
+
+pub returns-clause-changes : goal.returns-clause-changes
+returns-clause-changes g c = λ first es tells old.
+    let at = slice_get_read c.args.crew.now.aloft.items (length c.args.crew.now.aloft.items) 0 c.remove-aloft.result refl c.requires.some c.remove-aloft.ensures.value in
+    changes_dropped c.args.crew.now (g.P.Place.counts c.args.place.now) c.requires.manned first es (g.P.Place.world c.args.place.now) (g.P.Place.world c.drop_unit.new.place) (g.P.Place.counts c.drop_unit.new.place).starts.flying
+    0 c.remove-aloft.result at c.remove-aloft.new.self.items c.remove-aloft.ensures.items old (λ out. c.drop_unit.ensures.only out tells) c.drop_unit.ensures.stay

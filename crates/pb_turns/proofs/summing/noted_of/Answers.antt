@@ -13,6 +13,6 @@ loop-index-preserved c =
     c.in_ok-note_directives.ensures ∙ ap (λ (u : Planned). c.loop-index.noted ++ keyed u.key c.index-done-index.result) (sym c.index-units-index.is)
     ∙ ap (λ l. l ++ keyed c.index-units-index.result.key c.index-done-index.result) c.loop-index.invariant
     ∙ sym (noted_more c.args.units.now c.args.done.now c.loop-index.index c.index-units-index.result c.index-done-index.result
-        (slice_get_read c.args.units.now (length c.args.units.now) c.loop-index.index c.index-units-index.result refl within c.index-units-index.is)
-        (slice_get_read c.args.done.now (length c.args.units.now) c.loop-index.index c.index-done-index.result c.requires.long within c.index-done-index.is))
+    (slice_get_read c.args.units.now (length c.args.units.now) c.loop-index.index c.index-units-index.result refl within c.index-units-index.is)
+    (slice_get_read c.args.done.now (length c.args.units.now) c.loop-index.index c.index-done-index.result c.requires.long within c.index-done-index.is))
     ∙ sym (ap (λ n. noted_of (take n c.args.units.now) (take n c.args.done.now)) next)

@@ -1,4 +1,4 @@
-use Rattle.std.proofs.Common.{◌≡◌, ◌++◌, take}
+use Rattle.std.proofs.Common.{◌≡◌, take}
 use Rattle.pb_turns.specs.Summing.{noted_of}
 use Rattle.pb_turns.proofs.summing.noted_of.Given as goal
 

@@ -1,4 +1,4 @@
-use Rattle.std.proofs.Common.{◌≡◌, ◌++◌, None, take, map}
+use Rattle.std.proofs.Common.{◌≡◌, None, take, map}
 use Rattle.pb_unit.specs.declared.plan.Planned.{Planned}
 use Rattle.pb_turns.proofs.turns.nothing_said.Given as goal
 

@@ -1,6 +1,5 @@
-use Rattle.std.proofs.Common.{◌≡◌, ◌∙◌, sym, ap, length}
+use Rattle.std.proofs.Common.{◌∙◌, sym, ap, length}
 use Rattle.pb_turns.proofs.Telling.{bad_fits}
-use Rattle.pb_turns.proofs.Finishing.{in_plan_order}
 use Rattle.pb_turns.proofs.turns.sum_up.Goals as goal
 
 pub summary_of-requires-clause-within : goal.summary_of-requires-clause-within

@@ -1,4 +1,4 @@
-use Rattle.std.proofs.Common.{◌≡◌, refl, inl}
+use Rattle.std.proofs.Common.{refl, inl}
 use Rattle.pb_turns.proofs.Counting.{stops_refused}
 use Rattle.pb_turns.proofs.crew.UnitCrewCrewUnitFaultBuildFault.refused.Goals as goal
 
@@ -9,5 +9,6 @@ returns g c = λ first first_place last_place first_out last_out es given s. rec
   stops = stops_refused _ _ _ _ _ _ _ _ s.goes refl refl refl;
   before = es;
   begins = inl refl;
+  changes = s.changes;
   happened = s.happened;
 }

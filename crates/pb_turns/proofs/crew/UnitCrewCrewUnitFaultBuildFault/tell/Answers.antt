@@ -1,4 +1,4 @@
-use Rattle.std.proofs.Common.{◌≡◌, ◌∙◌, refl, inl, subst, take}
+use Rattle.std.proofs.Common.{refl, inl, subst, take}
 use Rattle.std.specs.Io.KnownBytes.{Appends}
 use Rattle.pb_turns.proofs.Counting.{goes_told, stops_sink}
 use Rattle.pb_turns.proofs.crew.UnitCrewCrewUnitFaultBuildFault.tell.Goals as goal
@@ -8,6 +8,7 @@ returns-then-write_all-clause-story g c = λ first first_place first_out es give
   setup = s.setup;
   project = s.project;
   goes = goes_told _ _ _ _ _ _ _ _ s.goes refl refl (subst (Appends (g.O.Out.taken c.args.out.now) (g.O.Out.taken c.write_all.new.out)) lines (c.write_all.ensures.all c.if-write_all.true)) (c.write_all.ensures.whole c.if-write_all.true);
+  changes = s.changes;
   happened = s.happened;
 }
 
@@ -20,5 +21,6 @@ returns-else-write_all-clause-story g c = λ first first_place first_out es give
       stops = stops_sink _ _ _ _ _ _ _ _ s.goes refl refl n (subst (λ l. Appends (g.O.Out.taken c.args.out.now) (g.O.Out.taken c.write_all.new.out) (take n l)) lines part) (c.write_all.ensures.fault c.if-write_all.false);
       before = es;
       begins = inl refl;
+      changes = s.changes;
       happened = s.happened;
     }

@@ -1,0 +1,84 @@
+-- The folder into which the child of a unit writes, and the others that fly.
+use Rattle.std.proofs.Common.{◌≡◌, ◌≢◌, ◌∙◌, ◌||◌, ℕ, Bool, true, cond, List, [], ◌∷◌, Option, Some, None, sym, ap, subst, inl, inr}
+use Rattle.std.proofs.lemmas.Bool.{cases_Bool, false≢true}
+use Rattle.std.specs.Prelude.{◌==◌, IfSome}
+use Rattle.pb_place.specs.Children.{child_at, is_flying}
+use Rattle.pb_place.specs.Counts.{without}
+use Rattle.pb_place.specs.Paths.{is_at_or_below}
+use Rattle.pb_place.specs.World.{World, Answers, ChangesOnly, ChangesOnlyInSome}
+use Rattle.pb_place.specs.declared.child_in_flight.ChildInFlight.{ChildInFlight}
+use Rattle.pb_place.specs.declared.command.Command.{Command}
+use Rattle.pb_place.proofs.Folders.{only_started}
+use Rattle.pb_project.specs.Targets.{unit_at}
+use Rattle.pb_unit.specs.declared.plan.Planned.{Planned}
+use Rattle.pb_run.specs.Halves.{Basis, IsBegun, WaitsBy, WritesTo, view_in}
+use Rattle.pb_run.specs.Launching.{IsSpawned}
+use Rattle.pb_run.specs.Standing.{IsInOrder}
+use Rattle.pb_run.specs.declared.begun.Begun.{Begun}
+use Rattle.pb_run.specs.declared.begun.Launched.{Launched}
+use Rattle.pb_run.proofs.Answering.{begun_as, command_out, kept_only}
+use Rattle.pb_run.proofs.RecordedOthers.{flies_without}
+use Rattle.pb_run.proofs.Spawning.{out_within, widen}
+use Rattle.pb_soundness.specs.Apart.{is_of}
+use Rattle.pb_soundness.specs.Records.{out_of, place_of}
+
+-- a child was spawned for a command that writes into this folder
+pub spawned_writes : (out : List ℕ) (inside : List ℕ → Bool) (child : Answers) (c : Command) (old : World) (l : Launched) (flying : List ChildInFlight) (still : ℕ → Type 0) → c.out ≡ Some out
+    → IsSpawned inside child c old l.ticket flying still → WritesTo out (Some l) flying
+spawned_writes out inside child c old l flying still is spawned = subst (λ (o : Option ChildInFlight). IfSome o (λ s. s.command.out ≡ Some out)) (sym spawned.flies) is
+
+waits_write : (b : Basis) (u : Planned) (c : Command) (view : World) (launched : Option Launched) (next : Option ℕ) (w : World) (flying : List ChildInFlight) (still : ℕ → Type 0) → c.out ≡ Some u.out
+    → WaitsBy b u c view launched next w flying still → WritesTo u.out launched flying
+waits_write b u c view None next w flying still is waits = tt
+waits_write b u c view (Some l) next w flying still is waits = subst (λ (o : Option ChildInFlight). IfSome o (λ s. s.command.out ≡ Some u.out)) (sym waits.0.flies) is
+
+-- the child of a unit that has begun writes into the unit's folder
+pub begun_writes : (b : Basis) (order : IsInOrder b.project) (i : ℕ) (u : Planned) (at : unit_at b.project i ≡ Some u) (begun : Begun) (next : Option ℕ) (w : World) (flying : List ChildInFlight) (still : ℕ → Type 0)
+    → IsBegun b i begun next w flying still → WritesTo u.out begun.launched flying
+begun_writes b order i u at begun next w flying still is =
+    let (command, waits) = begun_as b order i u at begun next w flying still is in
+    waits_write b u begun.command (view_in b i u) begun.launched next w flying still (ap (λ (d : Command). d.out) command ∙ command_out b order i u at) waits
+
+-- The child has landed.
+
+pub flying_at : (ticket : ℕ) (flying : List ChildInFlight) → is_flying ticket flying ≡ true → (f : ChildInFlight) × (child_at ticket flying ≡ Some f)
+flying_at ticket [] flies = absurd (false≢true flies)
+flying_at ticket (f ∷ flying) flies = elim (cases_Bool (f.ticket == ticket)) [
+  | inl its ↦ (f, ap (λ x. cond x (Some f) (child_at ticket flying)) its)
+  | inr not_its ↦
+      let (g, at) = flying_at ticket flying (sym (ap (λ x. x || is_flying ticket flying) not_its) ∙ flies) in
+      (g, ap (λ x. cond x (Some f) (child_at ticket flying)) not_its ∙ at)
+]
+
+-- it changes only the folder into which it writes
+pub ended_only : (out : List ℕ) (l : Launched) (flying : List ChildInFlight) (old new : World) → is_flying l.ticket flying ≡ true → WritesTo out (Some l) flying → IfSome (child_at l.ticket flying) (λ s. ChangesOnlyInSome s.command.out old new)
+    → ChangesOnly (is_at_or_below out) old new
+ended_only out l flying old new flies writes only =
+    let (f, at) = flying_at l.ticket flying flies in
+    only_started out f.command.out old new (subst (λ (o : Option ChildInFlight). IfSome o (λ s. s.command.out ≡ Some out)) at writes)
+    (subst (λ (o : Option ChildInFlight). IfSome o (λ s. ChangesOnlyInSome s.command.out old new)) at only)
+
+module _ (root key out : List ℕ) (lies : out ≡ out_of root key) (l : Launched) (flying : List ChildInFlight) (flies : is_flying l.ticket flying ≡ true) (writes : WritesTo out (Some l) flying) (w w1 v : World)
+    (only : IfSome (child_at l.ticket flying) (λ s. ChangesOnlyInSome s.command.out w w1)) (same : v ≡ w1) where
+  ended_v : ChangesOnly (is_at_or_below out) w v
+  ended_v = subst (ChangesOnly (is_at_or_below out) w) (sym same) (ended_only out l flying w w1 flies writes only)
+
+  -- nothing is kept
+  pub unkept_only : ChangesOnly (is_of root key) w v
+  unkept_only = widen (is_at_or_below (out_of root key)) (is_of root key) w v (out_within root key) (subst (λ (o : List ℕ). ChangesOnly (is_at_or_below o) w v) lies ended_v)
+
+  -- the record is kept, or was to be
+  pub record_only : (folder : List ℕ) (v2 : World) → folder ≡ root → ChangesOnly (is_at_or_below (place_of folder key)) v v2 → ChangesOnly (is_of root key) w v2
+  record_only folder v2 is_folder then' = kept_only root key out w v v2 lies ended_v (subst (λ f. ChangesOnly (is_at_or_below (place_of f key)) v v2) is_folder then')
+
+-- it is that of a unit which has begun so
+module _ (launched : Option Launched) (l : Launched) (is : launched ≡ Some l) (flying : List ChildInFlight) where
+  pub dropped_in : (out : List ℕ) (old new : World) → IfSome launched (λ k. is_flying k.ticket flying ≡ true) → WritesTo out launched flying → IfSome (child_at l.ticket flying) (λ s. ChangesOnlyInSome s.command.out old new)
+      → ChangesOnly (is_at_or_below out) old new
+  dropped_in out old new flies writes only =
+      ended_only out l flying old new (subst (λ (o : Option Launched). IfSome o (λ k. is_flying k.ticket flying ≡ true)) is flies) (subst (λ (o : Option Launched). WritesTo out o flying) is writes) only
+
+  -- another child flies on
+  pub stays_apart : (flying' : List ChildInFlight) (ticket : ℕ) (f : ChildInFlight) → flying' ≡ without l.ticket flying → IfSome launched (λ k. ticket ≢ k.ticket) → child_at ticket flying ≡ Some f → child_at ticket flying' ≡ Some f
+  stays_apart flying' ticket f flies apart there =
+      ap (child_at ticket) flies ∙ flies_without ticket l.ticket flying (subst (λ (o : Option Launched). IfSome o (λ k. ticket ≢ k.ticket)) is apart) ∙ there
