@@ -1,30 +1,25 @@
 -- What comes before a build's units.
-use Rattle.std.proofs.Common.{◌≡◌, ◌∙◌, ◌⊎◌, ◌+◌, Bool, List, ℕ, Option, Some, None, IsTrue, Result, Ok, Err, codes, refl, sym, ap, subst, inl, inr, max, length, arith}
+use Rattle.std.proofs.Common.{◌≡◌, ◌∙◌, ◌⊎◌, Bool, List, Some, None, IsTrue, refl, sym, ap, subst, inl, inr}
 use Rattle.pb_answer.specs.declared.fault.BuildFault.{BuildFault}
 use Rattle.pb_answer.specs.declared.fault.BuildFault.TheVariants.{Plan, Toolchain, Child, Device, Sink, OutOfMemory}
 use Rattle.pb_answer.specs.declared.fault.DeviceFault.TheVariants as device
-use Rattle.pb_place.specs.Counts.{Counts, Starts, up, up_starts}
+use Rattle.pb_place.specs.Counts.{Counts, Starts, up_starts}
 use Rattle.pb_place.specs.World.{World, Answers, from_nothing}
-use Rattle.pb_place.specs.declared.child_in_flight.ChildInFlight.{ChildInFlight}
-use Rattle.pb_place.specs.declared.place.PlaceFault.{PlaceFault}
 use Rattle.pb_place.specs.declared.place.PlaceFault.TheVariants as place
 use Rattle.pb_package.specs.declared.options.Options.{Options}
 use Rattle.pb_project.specs.declared.project.Project.{Project}
-use Rattle.pb_record.specs.Parts.{IsReading}
-use Rattle.pb_run.specs.Causes.{HasCause, FailedLast}
-use Rattle.pb_run.specs.Halves.{Footing, basis, records_in}
+use Rattle.pb_run.specs.Causes.{HasCause}
 use Rattle.pb_run.specs.Standing.{records_folder}
 use Rattle.pb_soundness.specs.Numbers.{IsAhead}
-use Rattle.pb_soundness.specs.Records.{Reading, record_at}
-use Rattle.pb_store.specs.Causes.{TakesOpen, FailsToOpen}
+use Rattle.pb_soundness.specs.Records.{record_at}
+use Rattle.pb_store.specs.Causes.{FailsToOpen}
 use Rattle.pb_store.specs.declared.fault.OpenFault.{OpenFault}
 use Rattle.pb_store.specs.declared.fault.OpenFault.TheVariants as open_fault
-use Rattle.pb_turns.proofs.Counting.{cause_from}
 use Rattle.pb_workspace.proofs.Accepted.{target_kept}
 use Rattle.pb_build.specs.Causes.{MayPlan, MayAsk, MayReady}
-use Rattle.pb_build.specs.Ending.{FailsBefore, IsSilent, IsPrepared, Prepares}
+use Rattle.pb_build.specs.Ending.{FailsBefore, IsSilent, IsPrepared}
 use Rattle.pb_build.specs.Environment.{environment_of}
-use Rattle.pb_build.specs.Planning.{IsProject, IsRefused, IsToldRefusal}
+use Rattle.pb_build.specs.Planning.{IsProject, IsToldRefusal}
 use Rattle.pb_build.specs.Private.{Names, IsReadyFor, IsSilentFault, IsUnrefused, unopened}
 use Rattle.pb_build.specs.Result.{toolchain_of, setup_of}
 use Rattle.pb_build.specs.declared.builder.Prepared.{Prepared}
@@ -116,8 +111,8 @@ pub prepared_of : (child : Answers) (options : Options) (environment : Environme
 prepared_of child options environment project v w prepared same is of_world ready =
     let target : project.workspace.target ≡ environment.target = target_kept options.manifest environment.target w project.workspace of_world.selected.read in
     let says : toolchain_of child environment prepared.project (from_nothing environment.target w) ≡ Some ready.toolchain =
-        subst (λ (p : Project). toolchain_of child environment p (from_nothing environment.target w) ≡ Some ready.toolchain) (sym ready.project_is)
-        (subst (λ (x : World). toolchain_of child environment project (from_nothing environment.target x) ≡ Some ready.toolchain) same (subst (λ t. toolchain_of child environment project (from_nothing t v) ≡ Some ready.toolchain) target ready.says)) in
+    subst (λ (p : Project). toolchain_of child environment p (from_nothing environment.target w) ≡ Some ready.toolchain) (sym ready.project_is)
+    (subst (λ (x : World). toolchain_of child environment project (from_nothing environment.target x) ≡ Some ready.toolchain) same (subst (λ t. toolchain_of child environment project (from_nothing t v) ≡ Some ready.toolchain) target ready.says)) in
     let at : IsProject options environment.target w prepared.project = subst (λ (p : Project). IsProject options environment.target w p) (sym ready.project_is) of_world in
     record {
       toolchain = ready.toolchain;

@@ -1,18 +1,15 @@
 -- A build that rests on true records, or on no record, gives its result.
-use Rattle.std.proofs.Common.{◌≡◌, ◌∙◌, ◌≢◌, Bool, true, false, List, [], ◌∷◌, ℕ, zero, suc, map, length, Option, Some, None, Result, Ok, Err, inl, inr, refl, sym, ap, subst, slice_get}
-use Rattle.std.specs.Prelude.{IsTrue}
+use Rattle.std.proofs.Common.{◌≡◌, ◌∙◌, true, List, [], ◌∷◌, ℕ, zero, suc, map, length, Option, Result, Ok, Err, inl, inr, refl, sym, ap, subst, slice_get}
 use Rattle.std.proofs.lemmas.List.{length-map}
 use Rattle.pb_answer.specs.declared.fault.BuildFault.{BuildFault}
 use Rattle.pb_answer.specs.declared.fault.BuildFault.TheVariants.{Plan, Toolchain, Child, Device, Sink, OutOfMemory}
 use Rattle.pb_answer.specs.declared.summary.Summary.{Summary}
-use Rattle.pb_flight.specs.declared.flight.State.{State}
 use Rattle.pb_flight.specs.declared.flight.State.TheVariants.{Untouched}
 use Rattle.pb_flight.specs.declared.turn.Step.{Step}
 use Rattle.pb_flight.specs.Table.{is_good_at}
 use Rattle.pb_package.specs.declared.options.Options.{Options}
 use Rattle.pb_place.specs.World.{World, Answers, from_nothing}
 use Rattle.pb_project.specs.declared.fault.UnitFault.{UnitFault}
-use Rattle.pb_project.specs.declared.project.Project.{Project}
 use Rattle.pb_project.specs.declared.project.Setup.{Setup}
 use Rattle.pb_record.specs.Parts.{IsReading}
 use Rattle.pb_run.specs.Halves.{Footing, OnRecords, OnNothing, Basis, basis, records_in, Keeps, HoldsBy}

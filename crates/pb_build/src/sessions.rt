@@ -11,9 +11,9 @@ ghost use Rattle.pb_turns.specs.Moments.{moment};
 use crate::builder::{build, build_with};
 use pb_answer::{BuildFault, Summary};
 use pb_data::Items;
+use pb_flight::Last;
 use pb_package::Options;
 use pb_place::{Child, Memory, Out};
-use pb_flight::Last;
 use pb_session::{PickBy, SessionStep};
 use std::alloc::{AllocError, Global};
 

@@ -1,4 +1,4 @@
-use Rattle.std.proofs.Common.{◌≡◌, ◌∙◌, ◌+◌, List, max, length, ap, subst}
+use Rattle.std.proofs.Common.{◌∙◌, ◌+◌, List, max, length, ap, subst}
 use Rattle.pb_place.specs.Counts.{Starts, up_starts}
 use Rattle.pb_place.specs.World.{World}
 use Rattle.pb_place.specs.declared.child_in_flight.ChildInFlight.{ChildInFlight}
