@@ -1,6 +1,7 @@
-pub mod Rows
-pub mod Loops
-pub mod Works
+pub mod Asking
+pub mod Preparing
+pub mod Staying
+pub mod Resting
 pub mod InOrder
 pub mod StepsTaken
 pub mod Refusals

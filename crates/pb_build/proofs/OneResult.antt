@@ -34,7 +34,8 @@ use Rattle.pb_build.specs.Laws.{IsSame, HasOneResult}
 use Rattle.pb_build.specs.Planning as planning
 use Rattle.pb_build.specs.Planning.{IsFeatured, IsProject, IsRefused}
 use Rattle.pb_build.specs.Private.{HasNoProject, by_selection, by_feature, by_plan}
-use Rattle.pb_build.specs.Result.{BuildResult, Comes, refused, no_toolchain, finished, toolchain_of, setup_of, rows_of}
+use Rattle.pb_build.specs.Result.{BuildResult, Comes, refused, no_toolchain, finished, toolchain_of, setup_of}
+use Rattle.pb_turns.specs.Rows.{rows_of}
 use Rattle.pb_build.specs.declared.environment.Environment.{Environment}
 use Rattle.pb_workspace.proofs.Accepted.{names_apart}
 use Rattle.pb_build.proofs.Naming.{one_package}

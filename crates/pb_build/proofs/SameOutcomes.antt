@@ -29,7 +29,7 @@ use Rattle.pb_unit.specs.declared.unit.What.{What}
 use Rattle.pb_unit.specs.declared.unit.What.TheVariants.{Lib, Bin, Script, Run}
 use Rattle.pb_package.specs.declared.package.Package.{Package}
 use Rattle.pb_package.specs.declared.package.Side.{Side}
-use Rattle.pb_build.specs.Result.{rows_of, to_first_bad}
+use Rattle.pb_turns.specs.Rows.{rows_of, to_first_bad}
 use Rattle.pb_build.proofs.Reasons.{placed_same}
 
 -- a table by two steps that give the same

@@ -1,61 +1,35 @@
 -- What private functions of the build promise to one another. Nothing here is needed to read what a build gives.
-use Rattle.std.specs.Prelude.{◌≡◌, ℕ, true, List, Some, take, slice_get, Result, Ok, Err, MatchResult}
-use Rattle.std.specs.FinMap as finite
-use Rattle.std.specs.Io.KnownBytes.{Appends}
-use Rattle.pb_place.specs.Counts.{Counts, Starts, up, up_starts}
-use Rattle.pb_project.specs.declared.project.Project.{Project}
+use Rattle.std.specs.Prelude.{◌≡◌, ℕ, List, Some, None, Result, Ok, Err, MatchResult}
 use Rattle.pb_answer.specs.declared.fault.BuildFault.{BuildFault}
-use Rattle.pb_answer.specs.declared.fault.DeviceFault.TheVariants as device
 use Rattle.pb_answer.specs.declared.fault.BuildFault.TheVariants.{Plan, Toolchain, Child, Device, Sink, OutOfMemory}
-use Rattle.pb_run.specs.Telling.{unit_lines}
-use Rattle.pb_run.specs.declared.ran.Ran.{Ran}
-use Rattle.pb_unit.specs.declared.plan.Planned.{Planned}
-use Rattle.pb_package.specs.declared.fault.LoadFault.{LoadFault}
-use Rattle.pb_package.specs.declared.fault.LoadFault.TheVariants as load
-use Rattle.pb_package.specs.declared.options.Options.{Options}
-use Rattle.pb_project.specs.declared.project.Setup.{Setup}
-use Rattle.pb_place.specs.Folders.{files_in}
-use Rattle.pb_place.specs.World.{World, Answers, from_nothing}
-use Rattle.pb_run.specs.Outcome.{outcomes, outcome_by, directives_in}
+use Rattle.pb_answer.specs.declared.fault.DeviceFault.TheVariants as device
+use Rattle.pb_answer.specs.declared.fault.Refusal.{Refusal}
 use Rattle.pb_answer.specs.declared.fault.Refusal.TheVariants as refusal
-use Rattle.pb_build.specs.Causes.{SomeStarts}
-use Rattle.pb_build.specs.Ending.{Heard}
-use Rattle.pb_build.specs.Planning.{IsFeatured}
 use Rattle.pb_feature.specs.Faults as feature
 use Rattle.pb_feature.specs.declared.fault.FeatureFault.{FeatureFault}
 use Rattle.pb_feature.specs.declared.resolved.Features.{Features}
-use Rattle.pb_answer.specs.declared.fault.Refusal.{Refusal}
+use Rattle.pb_package.specs.declared.fault.LoadFault.{LoadFault}
+use Rattle.pb_package.specs.declared.fault.LoadFault.TheVariants as load
+use Rattle.pb_package.specs.declared.options.Options.{Options}
+use Rattle.pb_package.specs.declared.options.Selection.{Selection}
+use Rattle.pb_package.specs.declared.workspace.Workspace.{Workspace}
+use Rattle.pb_place.specs.Counts.{Counts}
+use Rattle.pb_place.specs.World.{World, Answers, from_nothing}
+use Rattle.pb_project.specs.declared.project.Project.{Project}
+use Rattle.pb_record.specs.Parts.{IsReading}
+use Rattle.pb_run.specs.Causes.{device_fault}
+use Rattle.pb_run.specs.Standing.{records_folder}
+use Rattle.pb_soundness.specs.Numbers.{IsAhead}
+use Rattle.pb_soundness.specs.Records.{Reading, record_at}
+use Rattle.pb_store.specs.declared.fault.OpenFault.{OpenFault}
+use Rattle.pb_store.specs.declared.fault.OpenFault.TheVariants as open_fault
 use Rattle.pb_unit.specs.Plan as plan
 use Rattle.pb_unit.specs.declared.fault.PlanFault.{PlanFault}
 use Rattle.pb_workspace.specs.Selected.{selected}
-use Rattle.pb_package.specs.declared.options.Selection.{Selection}
-use Rattle.pb_package.specs.declared.workspace.Workspace.{Workspace}
-
--- all of these bytes, the first of them where the sink failed, none where memory was refused
-abbrev pub Says : {T : Type 0} → List ℕ → Result T BuildFault → Heard → Heard → Type 0
-Says bytes (Ok x) old new = Appends old.taken new.taken bytes × (new.faults ≡ old.faults)
-Says bytes (Err Sink) old new = ((n : ℕ) × Appends old.taken new.taken (take n bytes)) × (new.faults ≡ up old.faults)
-Says bytes (Err OutOfMemory) old new = new ≡ old
-Says bytes (Err (Plan why)) old new = ⊥
-Says bytes (Err Toolchain) old new = ⊥
-Says bytes (Err (Child unit fault)) old new = ⊥
-Says bytes (Err (Device unit fault)) old new = ⊥
-
--- what a unit gave that was run to its end: its outcome, with these files; where it is bad it has no directives
-pub record GivesAt (child : Answers) (setup : Setup) (project : Project) (old : World) (i : ℕ) (u : Planned) (new : World) (ran : Ran) : Type 0 where
-  pub started : ran.started ≡ true
-  pub outcome : slice_get (outcomes child setup project (from_nothing project.workspace.target old)) i ≡ Some (outcome_by (files_in u.out new.files) ran)
-  pub directives : directives_in (outcome_by finite.empty ran) ≡ ran.directives
-
--- a unit that was run: its lines, after what it gave; nothing where it was not run to its end
-abbrev pub UnitSays : Project → Planned → (Ran → Type 0) → Result Ran BuildFault → Heard → Heard → Type 0
-UnitSays project u Gives (Ok ran) old new = Gives ran × Appends old.taken new.taken (unit_lines project u ran.started ran.messages) × (new.faults ≡ old.faults)
-UnitSays project u Gives (Err Sink) old new = (ran : Ran) × Gives ran × ((n : ℕ) × Appends old.taken new.taken (take n (unit_lines project u ran.started ran.messages))) × (new.faults ≡ up old.faults)
-UnitSays project u Gives (Err OutOfMemory) old new = new ≡ old
-UnitSays project u Gives (Err (Plan why)) old new = new ≡ old
-UnitSays project u Gives (Err Toolchain) old new = new ≡ old
-UnitSays project u Gives (Err (Child unit fault)) old new = new ≡ old
-UnitSays project u Gives (Err (Device unit fault)) old new = new ≡ old
+use Rattle.pb_build.specs.Planning.{IsFeatured}
+use Rattle.pb_build.specs.Result.{toolchain_of, setup_of}
+use Rattle.pb_build.specs.declared.builder.Prepared.{Prepared}
+use Rattle.pb_build.specs.declared.environment.Environment.{Environment}
 
 -- a fault of a call on this path or variable names it
 abbrev pub Names : BuildFault → Counts → Type 0
@@ -109,11 +83,24 @@ IsRefusedOf options ws (Device name fault) = ⊥
 IsRefusedOf options ws Sink = ⊥
 IsRefusedOf options ws OutOfMemory = Unit {0}
 
--- the faults of a build after its planning
-abbrev pub MayEnd : BuildFault → Starts → Starts → Type 0
-MayEnd (Plan why) old new = ⊥
-MayEnd Toolchain old new = new ≡ up_starts old
-MayEnd (Child unit fault) old new = SomeStarts 1 old new
-MayEnd (Device unit fault) old new = SomeStarts 0 old new
-MayEnd Sink old new = SomeStarts 2 old new
-MayEnd OutOfMemory old new = SomeStarts 0 old new
+-- the fault of a store that cannot be opened
+abbrev pub unopened : OpenFault → BuildFault
+unopened (open_fault.Place path fault) = device_fault path fault
+unopened open_fault.OutOfMemory = OutOfMemory
+
+-- the compiler said its version, and the records' next number is above all that they have or name
+pub record IsReadyFor (child : Answers) (options : Options) (environment : Environment) (project : Project) (w : World) (prepared : Prepared) : Type 0 where
+  pub toolchain : List ℕ
+  pub says : toolchain_of child environment project (from_nothing project.workspace.target w) ≡ Some toolchain
+  pub setup : prepared.setup ≡ setup_of options environment toolchain
+  pub project_is : prepared.project ≡ project
+  pub ahead : (read : Reading) → IsReading read → IsAhead (record_at read (records_folder project) w.files) prepared.store.next
+
+-- where the compiler does not say it
+abbrev pub IsSilentFault : Answers → Environment → Project → World → BuildFault → Type 0
+IsSilentFault child environment project w (Plan why) = Unit {0}
+IsSilentFault child environment project w Toolchain = toolchain_of child environment project (from_nothing project.workspace.target w) ≡ None
+IsSilentFault child environment project w (Child unit fault) = Unit {0}
+IsSilentFault child environment project w (Device name fault) = Unit {0}
+IsSilentFault child environment project w Sink = Unit {0}
+IsSilentFault child environment project w OutOfMemory = Unit {0}

@@ -1,5 +1,5 @@
 -- What a build gives, from the child and the sources alone.
-use Rattle.std.specs.Prelude.{◌≡◌, ℕ, Bool, true, false, ◌&&◌, nat_lt, nat_eq, codes, if◌then◌else◌, List, [], ◌∷◌, length, Option, Some, None, is_some, is_none}
+use Rattle.std.specs.Prelude.{◌≡◌, ℕ, Bool, ◌&&◌, nat_lt, nat_eq, codes, if◌then◌else◌, List, length, Option, Some, None, is_some, is_none}
 use Rattle.std.specs.List.{list_any, starts_with}
 use Rattle.pb_directive.specs.Lines.{lines_of, text_of}
 use Rattle.pb_place.specs.World.{World, Answers, from_nothing}
@@ -9,9 +9,8 @@ use Rattle.pb_command.specs.Command.{query_of}
 use Rattle.pb_project.specs.declared.project.Project.{Project}
 use Rattle.pb_project.specs.declared.project.Setup.{Setup}
 use Rattle.pb_answer.specs.declared.fault.Refusal.{Refusal}
-use Rattle.pb_run.specs.Outcome.{Outcome, Waiting, Good, Bad, outcomes}
+use Rattle.pb_turns.specs.Rows.{Row, rows_of}
 use Rattle.pb_command.specs.Judge.{ended_by}
-use Rattle.pb_unit.specs.declared.plan.Planned.{Planned}
 use Rattle.pb_package.specs.declared.options.Options.{Options}
 use Rattle.pb_build.specs.Environment.{environment_of}
 use Rattle.pb_build.specs.Planning.{IsProject, IsRefused}
@@ -38,27 +37,6 @@ toolchain_of child environment project sources = toolchain_in (ended_by (child (
 -- how things are compiled
 abbrev pub setup_of : Options → Environment → List ℕ → Setup
 setup_of options environment toolchain = record { tool = options.tool; rustc = environment.rustc; flags = environment.flags; runner = options.runner; toolchain = toolchain }
-
--- The units.
-
--- a unit of the build and what it gave
-pub record Row : Type 0 where
-  pub unit : Planned
-  pub outcome : Outcome
-
-abbrev pub is_bad : Outcome → Bool
-is_bad Waiting = false
-is_bad (Good files directives messages) = false
-is_bad (Bad fault messages) = true
-
--- the units in plan order up to and with the first bad one
-abbrev pub to_first_bad : List Planned → List Outcome → List Row
-to_first_bad [] os = []
-to_first_bad (u ∷ us) [] = []
-to_first_bad (u ∷ us) (o ∷ os) = record { unit = u; outcome = o } ∷ (if is_bad o then [] else to_first_bad us os)
-
-abbrev pub rows_of : Answers → Setup → Project → World → List Row
-rows_of child setup project sources = to_first_bad project.plan.planned (outcomes child setup project sources)
 
 -- The result.
 

@@ -1,11 +1,16 @@
 -- A session: edits and builds, one after another. Each build's end and its cause are handed on.
-use Rattle.std.specs.Prelude.{◌≡◌, ◌↔◌, ⊤, ℕ, true, List, [], ◌∷◌, ◌++◌, Option}
+use Rattle.std.specs.Prelude.{◌≡◌, ◌↔◌, ⊤, ℕ, true, List, [], ◌∷◌, ◌++◌, Option, Result}
 use Rattle.pb_place.specs.World.{World, Answers, written, removed}
 use Rattle.pb_place.specs.Memory.{Held, counts_in, set, unset}
+use Rattle.pb_answer.specs.declared.fault.BuildFault.{BuildFault}
+use Rattle.pb_answer.specs.declared.summary.Summary.{Summary}
+use Rattle.pb_session.specs.declared.pick.PickBy.{PickBy}
+use Rattle.pb_session.specs.declared.pick.PickBy.TheVariants.{First, Last}
 use Rattle.pb_session.specs.declared.step.SessionStep.{SessionStep}
 use Rattle.pb_session.specs.declared.step.SessionStep.TheVariants.{Write, Remove, Set, Unset, Build, Die, Fuse}
 use Rattle.pb_build.specs.declared.sessions.Answer.{Answer}
-use Rattle.pb_build.specs.Ending.{Moment, moment, Builds}
+use Rattle.pb_build.specs.Ending.{BuildsFirst, BuildsLast}
+use Rattle.pb_turns.specs.Moments.{Moment, moment}
 use Rattle.pb_build.specs.Environment.{environment_of}
 use Rattle.pb_build.specs.Kept.{SourcesStay}
 use Rattle.pb_build.specs.Result.{BuildResult, IsResult}
@@ -18,13 +23,18 @@ pub record Point : Type 0 where
 
 -- with a place in memory
 abbrev pub point : Held → Option (List ℕ) → ℕ → List Answer → Point
-point memory taken faults answers = record { moment = moment memory.world (counts_in memory) taken faults; answers = answers }
+point memory taken faults answers = record { moment = moment memory.world (counts_in memory) memory.most taken faults; answers = answers }
 
 -- an edit makes this of the world, and nothing else happens
 abbrev pub Edits : World → Point → Point → Type 0
 Edits w before after = (after.moment ≡ record before.moment { world = w }) × (after.answers ≡ before.answers)
 
--- a step: an edit; a failure that is prepared, of which nothing is seen yet; or a build, which adds its answer. Which unit is picked has no effect on what a build gives
+-- a build, of which those units begin that the session picks
+abbrev pub Picked : Answers → Options → PickBy → Result Summary BuildFault → Moment → Moment → Type 0
+Picked child options First result old new = BuildsFirst true child options result old new
+Picked child options Last result old new = BuildsLast true child options result old new
+
+-- a step: an edit; a failure that is prepared, of which nothing is seen yet; or a build, which adds its answer
 abbrev pub Takes : Answers → SessionStep → Point → Point → Type 0
 Takes child (Write path text) before after = Edits (written path text before.moment.world) before after
 Takes child (Remove path) before after = Edits (removed path before.moment.world) before after
@@ -33,7 +43,7 @@ Takes child (Unset name) before after = Edits (unset name before.moment.world) b
 Takes child (Die key death) before after = after ≡ before
 Takes child (Fuse number) before after = after ≡ before
 Takes child (Build options pick) before after =
-    (answer : Answer) × Builds true child options answer.result before.moment after.moment
+    (answer : Answer) × Picked child options pick answer.result before.moment after.moment
     × SourcesStay (environment_of options before.moment.world.variables).target before.moment.world after.moment.world × (after.answers ≡ before.answers ++ answer ∷ [])
 
 -- the steps were taken in turn

@@ -1,29 +1,47 @@
 //! A whole build.
 
-ghost use Rattle.std.specs.Prelude.{◌≡◌, IsTrue, IfOk, IfErr, Ok, Err};
-ghost use Rattle.pb_place.specs.World.{World, from_nothing};
-ghost use Rattle.pb_build.specs.Causes.{BuildStarts, MayPlan, MayBuild};
-ghost use Rattle.pb_build.specs.Ending.{moment, ProjectEnds, Works, WorksWith, Closes, Builds};
+ghost use Rattle.std.specs.Prelude.{◌≡◌, ◌+◌, [], max, length, IsTrue, IfOk, IfErr};
+ghost use Rattle.pb_record.specs.Parts.{IsReading};
+ghost use Rattle.pb_build.specs.Causes.{MayPlan, MayReady};
+ghost use Rattle.pb_build.specs.Ending.{FailsBefore, Prepares, Works, Closes, Builds, BuildsBy, BuildsFirst};
 ghost use Rattle.pb_build.specs.Environment.{environment_of};
 ghost use Rattle.pb_build.specs.Kept.{SourcesStay};
 ghost use Rattle.pb_build.specs.Planning.{IsProject, IsToldRefusal};
-ghost use Rattle.pb_build.specs.Private.{MayEnd};
+ghost use Rattle.pb_build.specs.Private.{NamesCall, IsReadyFor, IsSilentFault, IsUnrefused, unopened};
 ghost use Rattle.pb_build.specs.Result.{setup_of};
-ghost use Rattle.pb_run.specs.Causes.{Takes, NoStart};
+ghost use Rattle.pb_run.specs.Causes.{Takes, NoStart, OneStart};
+ghost use Rattle.pb_run.specs.Standing.{IsInOrder, records_folder};
 ghost use Rattle.pb_project.specs.declared.project.Project.{Project};
-ghost use Rattle.pb_run.specs.Standing.{IsInOrder};
+ghost use Rattle.pb_soundness.specs.Numbers.{IsAhead};
+ghost use Rattle.pb_soundness.specs.Records.{Reading, record_at};
+ghost use Rattle.pb_turns.specs.Moments.{moment};
 
 use crate::environment::{Environment, environment_of};
 use crate::planning::planned;
 use crate::toolchain::ask;
-use crate::units::run_units;
 use pb_answer::{BuildFault, Summary};
 use pb_data::{Bytes, Items, Text, TryCopy};
+use pb_flight::{First, Jobs, Pick, Turn};
 use pb_message::{finish_line, write_lines};
 use pb_package::Options;
-use pb_place::{Out, Place};
+use pb_place::{Out, PathText, Place, RelativePath};
+use pb_profile::folder_of;
 use pb_project::{Project, Setup};
+use pb_run::deviceless;
+use pb_store::{OpenFault, Store};
+use pb_turns::run_turns;
 use std::alloc::{AllocError, Global};
+
+/// What a build's units start from.
+#[derive(Drop)]
+pub struct Prepared {
+    /// How things are compiled.
+    pub setup: Setup,
+    /// What is built.
+    pub project: Project,
+    /// The records of the profile's folder.
+    pub store: Store,
+}
 
 /// How things are compiled.
 fn setup_of(
@@ -45,22 +63,71 @@ fn setup_of(
     })
 }
 
-/// Builds a project: asks the compiler for its version, and runs the units in order.
-fn build_project<P: Place, O: Out>(
-    place: &mut P,
-    out: &mut O,
+/// The folder of the records of a project that is in order: the profile's, in the target folder.
+fn records_folder(alloc: Global, project: &Project) -> Result<PathText, AllocError>
+    requires order { IsInOrder project.now }
+    ensures { IfOk result (λ folder. folder ≡ records_folder project.now) }
+{
+    let name = Text::from_str(alloc, folder_of(project.profile.as_str()))?;
+    match RelativePath::of(name) {
+        Some(name) => {
+            let folder = project.workspace.target.below(alloc, &name)?;
+            Ok(folder)
+        }
+        None => unreachable!(),
+    }
+}
+
+/// The fault of a store that cannot be opened: Device, with the path of the call that failed.
+fn unopened(fault: OpenFault) -> BuildFault
+    ensures { result ≡ unopened fault }
+{
+    match fault {
+        OpenFault::Place(path, fault) => deviceless(path.into_text(), fault),
+        OpenFault::OutOfMemory => BuildFault::OutOfMemory,
+    }
+}
+
+/// Opens the store of a project's records.
+fn opened<P: Place>(alloc: Global, place: &mut P, project: &Project) -> Result<Store, BuildFault>
+    requires order { IsInOrder project.now }
+    ensures folder { IfOk result (λ store. store.folder ≡ records_folder project.now) }
+    ensures ahead { (read : Reading) → IsReading read → IsTrue P.tells → IfOk result (λ store. IsAhead (record_at read (records_folder project.now) (P.world place.old).files) store.next) }
+    ensures same { IsTrue P.tells → P.world place.new ≡ P.world place.old }
+    ensures most { P.most place.new ≡ P.most place.old }
+    ensures takes { Takes NoStart MayPlan result (P.counts place.old) (P.counts place.new) }
+    ensures names { NamesCall result (P.counts place.new) }
+    ensures unrefused { IfErr result IsUnrefused }
+{
+    let folder = match records_folder(alloc, project) {
+        Ok(folder) => folder,
+        Err(_) => return Err(BuildFault::OutOfMemory),
+    };
+    match Store::open(alloc, place, folder) {
+        Ok(store) => Ok(store),
+        Err(fault) => Err(unopened(fault)),
+    }
+}
+
+/// Makes ready what the units of a project start from: asks the compiler for its version, and opens the records.
+fn ready<P: Place>(
     alloc: Global,
+    place: &mut P,
     options: &Options,
     environment: Environment,
-    project: &Project,
-) -> Result<Summary, BuildFault>
-    requires order { IsInOrder project.now }
-    ensures ends { IsTrue P.tells → ProjectEnds P.child options.now environment (from_nothing project.now.workspace.target (P.world place.old)) project.now result
-        (moment (P.world place.old) (P.counts place.old) (O.taken out.old) (O.faults out.old)) (moment (P.world place.new) (P.counts place.new) (O.taken out.new) (O.faults out.new)) }
-    ensures takes { Takes BuildStarts MayEnd result (P.counts place.old) (P.counts place.new) }
-    ensures kept { IsTrue P.tells → SourcesStay project.now.workspace.target (P.world place.old) (P.world place.new) }
+    project: Project,
+) -> Result<Prepared, BuildFault>
+    requires order { IsInOrder project }
+    ensures order { IfOk result (λ prepared. IsInOrder prepared.project) }
+    ensures folder { IfOk result (λ prepared. prepared.store.folder ≡ records_folder prepared.project) }
+    ensures ready { IsTrue P.tells → IfOk result (IsReadyFor P.child options.now environment project (P.world place.old)) }
+    ensures silent { IsTrue P.tells → IfErr result (IsSilentFault P.child environment project (P.world place.old)) }
+    ensures same { IsTrue P.tells → P.world place.new ≡ P.world place.old }
+    ensures most { IfOk result (λ prepared. P.most place.new ≡ max (P.most place.old) (length (P.counts place.old).starts.flying + 1)) }
+    ensures takes { Takes OneStart MayReady result (P.counts place.old) (P.counts place.new) }
+    ensures names { NamesCall result (P.counts place.new) }
 {
-    let toolchain = match ask(alloc, place, &environment, project) {
+    let toolchain = match ask(alloc, place, &environment, &project) {
         Ok(toolchain) => toolchain,
         Err(fault) => return Err(fault),
     };
@@ -68,47 +135,66 @@ fn build_project<P: Place, O: Out>(
         Ok(setup) => setup,
         Err(_) => return Err(BuildFault::OutOfMemory),
     };
-    run_units(place, out, alloc, &setup, project)
+    match opened(alloc, place, &project) {
+        Ok(store) => Ok(Prepared {
+            setup,
+            project,
+            store,
+        }),
+        Err(fault) => Err(fault),
+    }
 }
 
-/// Plans a build with this environment, and builds its project.
-fn work_with<P: Place, O: Out>(
-    place: &mut P,
-    out: &mut O,
+/// Makes ready what the units of a build start from. In this order: the variables, the workspace, what is selected of
+/// it, its features, the plan, the query of the compiler's version, and the records of the profile's folder.
+fn prepare<P: Place>(
     alloc: Global,
-    options: &Options,
-    environment: Environment,
-) -> Result<Summary, BuildFault>
-    requires environment { IsTrue P.tells → environment ≡ environment_of options.now (P.world place.old).variables }
-    ensures works { IsTrue P.tells → WorksWith P.child options.now environment (P.world place.old) result
-        (moment (P.world place.old) (P.counts place.old) (O.taken out.old) (O.faults out.old)) (moment (P.world place.new) (P.counts place.new) (O.taken out.new) (O.faults out.new)) }
-    ensures takes { Takes BuildStarts MayBuild result (P.counts place.old) (P.counts place.new) }
-    ensures kept { IsTrue P.tells → SourcesStay environment.target (P.world place.old) (P.world place.new) }
-{
-    let project = match planned(alloc, place, options, &environment.target) {
-        Ok(project) => project,
-        Err(fault) => return Err(fault),
-    };
-    build_project(place, out, alloc, options, environment, &project)
-}
-
-/// Works through a build up to its finish line.
-fn work<P: Place, O: Out>(
     place: &mut P,
-    out: &mut O,
-    alloc: Global,
     options: &Options,
-) -> Result<Summary, BuildFault>
-    ensures works { IsTrue P.tells → Works P.child options.now result
-        (moment (P.world place.old) (P.counts place.old) (O.taken out.old) (O.faults out.old)) (moment (P.world place.new) (P.counts place.new) (O.taken out.new) (O.faults out.new)) }
-    ensures takes { Takes BuildStarts MayBuild result (P.counts place.old) (P.counts place.new) }
-    ensures kept { IsTrue P.tells → SourcesStay (environment_of options.now (P.world place.old).variables).target (P.world place.old) (P.world place.new) }
+) -> Result<Prepared, BuildFault>
+    requires none { (P.counts place.old).starts.flying ≡ [] }
+    ensures order { IfOk result (λ prepared. IsInOrder prepared.project) }
+    ensures folder { IfOk result (λ prepared. prepared.store.folder ≡ records_folder prepared.project) }
+    ensures prepares { IfOk result (λ prepared. Prepares P.tells P.child options.now prepared (P.world place.old) (P.world place.new) (P.counts place.old) (P.counts place.new) (P.most place.old) (P.most place.new)) }
+    ensures fails { IfErr result (λ e. FailsBefore P.tells P.child options.now e (P.world place.old) (P.counts place.old) (P.counts place.new)) }
+    ensures same { IsTrue P.tells → P.world place.new ≡ P.world place.old }
 {
     let environment = match environment_of(alloc, place, options) {
         Ok(environment) => environment,
         Err(fault) => return Err(fault),
     };
-    work_with(place, out, alloc, options, environment)
+    let project = match planned(alloc, place, options, &environment.target) {
+        Ok(project) => project,
+        Err(fault) => return Err(fault),
+    };
+    match ready(alloc, place, options, environment, project) {
+        Ok(prepared) => Ok(prepared),
+        Err(fault) => Err(fault),
+    }
+}
+
+/// Works through a build up to its finish line.
+fn work<P: Place, O: Out, T: Turn>(
+    alloc: Global,
+    place: &mut P,
+    out: &mut O,
+    options: &Options,
+    turn: &mut T,
+) -> Result<Summary, BuildFault>
+    requires none { (P.counts place.old).starts.flying ≡ [] }
+    ensures { Works P.tells P.child T.turns options.now turn.old turn.new result
+        (moment (P.world place.old) (P.counts place.old) (P.most place.old) (O.taken out.old) (O.faults out.old)) (moment (P.world place.new) (P.counts place.new) (P.most place.new) (O.taken out.new) (O.faults out.new)) }
+{
+    let prepared = match prepare(alloc, place, options) {
+        Ok(prepared) => prepared,
+        Err(fault) => return Err(fault),
+    };
+    let Prepared {
+        setup,
+        project,
+        store,
+    } = prepared;
+    run_turns(alloc, place, out, setup, project, store, turn)
 }
 
 /// Writes the finish line, but where the build is refused or the sink has failed.
@@ -129,32 +215,73 @@ fn close<O: Out>(out: &mut O, inner: Result<Summary, BuildFault>) -> Result<Summ
     }
 }
 
-/// Builds the workspace of a root manifest, as `cargo build` does.
+/// Builds the workspace of a root manifest, as `cargo build` does, by the steps that a turn says.
 ///
 /// In this order: the variables `RUSTC`, `RUSTFLAGS` and `CARGO_TARGET_DIR`; the workspace; what is selected of it; its
-/// features; the plan; the query `-vV`; the units of the plan in order, up to and with the first bad one, whose
-/// output folders are emptied and whose children are started; the finish line. Message lines are written as units
-/// end.
+/// features; the plan; the query `-vV`; the records of the profile's folder; the units of the plan, of which those
+/// are begun and answered that the turn says, until all have answered, or all up to and with the first bad one; the
+/// finish line. A unit's child is started only where something differs from its record. Message lines are handed out
+/// in plan order, as units answer. Children that are in flight at the end, or after a fault, are asked for their ends
+/// in order of beginning, and their answers dropped.
 ///
 /// Faults: Plan, before a child is started, a line is written or a file is changed; Toolchain, where the compiler does
-/// not say its host; Child, where a child gave no answer, and Device, where a call on files or variables failed, after
-/// which no further call of the place is made; Sink; OutOfMemory. All but Plan and Sink write the failing finish
-/// line. A unit that is bad is no fault: the summary names it.
-///
-/// What it gives is a function of the child, the variables and the files outside the target folder alone. However it
-/// ends, these stay as they were.
+/// not say its host; Child, where a child gave no answer, and Device, where a call on files or variables failed or no
+/// run number is left, after which no further call of the place is made but the ends of children in flight; Sink;
+/// OutOfMemory. All but Plan and Sink write the failing finish line. A unit that is bad is no fault: the summary names
+/// it. However it ends, the files outside the target folder and the variables stay, and no child is in flight.
+pub fn build_turns<P: Place, O: Out, T: Turn>(
+    alloc: Global,
+    place: &mut P,
+    out: &mut O,
+    options: &Options,
+    turn: &mut T,
+) -> Result<Summary, BuildFault>
+    requires none { (P.counts place.old).starts.flying ≡ [] }
+    ensures builds { Builds P.tells P.child T.turns options.now turn.old turn.new result
+        (moment (P.world place.old) (P.counts place.old) (P.most place.old) (O.taken out.old) (O.faults out.old)) (moment (P.world place.new) (P.counts place.new) (P.most place.new) (O.taken out.new) (O.faults out.new)) }
+    ensures kept { IsTrue P.tells → SourcesStay (environment_of options.now (P.world place.old).variables).target (P.world place.old) (P.world place.new) }
+    ensures landed { (P.counts place.new).starts.flying ≡ [] }
+{
+    let inner = work(alloc, place, out, options, turn);
+    close(out, inner)
+}
+
+/// Builds with as many units in flight at one time as the options say; who picks says which of those that may begin
+/// does. While fewer fly and one may begin, it begins; else the one that was begun first is answered.
+pub fn build_with<P: Place, O: Out, K: Pick + Drop>(
+    alloc: Global,
+    place: &mut P,
+    out: &mut O,
+    options: &Options,
+    pick: K,
+) -> Result<Summary, BuildFault>
+    requires none { (P.counts place.old).starts.flying ≡ [] }
+    ensures builds { BuildsBy P.tells P.child K.picks options.now pick result
+        (moment (P.world place.old) (P.counts place.old) (P.most place.old) (O.taken out.old) (O.faults out.old)) (moment (P.world place.new) (P.counts place.new) (P.most place.new) (O.taken out.new) (O.faults out.new)) }
+    ensures kept { IsTrue P.tells → SourcesStay (environment_of options.now (P.world place.old).variables).target (P.world place.old) (P.world place.new) }
+    ensures landed { (P.counts place.new).starts.flying ≡ [] }
+{
+    let mut jobs = Jobs {
+        pick,
+        jobs: options.jobs,
+    };
+    build_turns(alloc, place, out, options, &mut jobs)
+}
+
+/// Builds, and begins those units first that come first in plan order.
 pub fn build<P: Place, O: Out>(
     alloc: Global,
     place: &mut P,
     out: &mut O,
     options: &Options,
 ) -> Result<Summary, BuildFault>
-    ensures builds { Builds P.tells P.child options.now result
-        (moment (P.world place.old) (P.counts place.old) (O.taken out.old) (O.faults out.old)) (moment (P.world place.new) (P.counts place.new) (O.taken out.new) (O.faults out.new)) }
+    requires none { (P.counts place.old).starts.flying ≡ [] }
+    ensures builds { BuildsFirst P.tells P.child options.now result
+        (moment (P.world place.old) (P.counts place.old) (P.most place.old) (O.taken out.old) (O.faults out.old)) (moment (P.world place.new) (P.counts place.new) (P.most place.new) (O.taken out.new) (O.faults out.new)) }
     ensures kept { IsTrue P.tells → SourcesStay (environment_of options.now (P.world place.old).variables).target (P.world place.old) (P.world place.new) }
+    ensures landed { (P.counts place.new).starts.flying ≡ [] }
 {
-    let inner = work(place, out, alloc, options);
-    close(out, inner)
+    build_with(alloc, place, out, options, First {})
 }
 
 /// The names of the packages of a project to which enabled dependencies lead and that have no library.
@@ -174,6 +301,7 @@ pub fn missing_libraries<P: Place>(
 ) -> Result<Items<Text>, BuildFault>
     ensures names { IsTrue P.tells → IfOk result (λ names. (project : Project) × IsProject options.now (environment_of options.now (P.world place.old).variables).target (P.world place.old) project × (names ≡ project.plan.without_library)) }
     ensures same { IsTrue P.tells → P.world place.new ≡ P.world place.old }
+    ensures most { P.most place.new ≡ P.most place.old }
     ensures refused { IsTrue P.tells → IfErr result (IsToldRefusal options.now (environment_of options.now (P.world place.old).variables).target (P.world place.old)) }
     ensures takes { Takes NoStart MayPlan result (P.counts place.old) (P.counts place.new) }
 {

@@ -49,6 +49,7 @@ fn filled(found: Option<Text>) -> Option<Text>
 fn variable<P: Place>(alloc: Global, place: &mut P, name: &str) -> Result<Option<Text>, BuildFault>
     ensures ok { IsTrue P.tells → IfOk result (λ found. found ≡ set_text (finite.get (P.world place.old).variables name.now)) }
     ensures same { IsTrue P.tells → P.world place.new ≡ P.world place.old }
+    ensures most { P.most place.new ≡ P.most place.old }
     ensures takes { Takes NoStart MayPlan result (P.counts place.old) (P.counts place.new) }
     ensures names { NamesCall result (P.counts place.new) }
     ensures unrefused { IfErr result IsUnrefused }
@@ -166,6 +167,7 @@ pub(crate) fn environment_of<P: Place>(
 ) -> Result<Environment, BuildFault>
     ensures ok { IsTrue P.tells → IfOk result (λ environment. environment ≡ environment_of options.now (P.world place.old).variables) }
     ensures same { IsTrue P.tells → P.world place.new ≡ P.world place.old }
+    ensures most { P.most place.new ≡ P.most place.old }
     ensures takes { Takes NoStart MayPlan result (P.counts place.old) (P.counts place.new) }
     ensures names { NamesCall result (P.counts place.new) }
     ensures unrefused { IfErr result IsUnrefused }

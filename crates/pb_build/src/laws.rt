@@ -1,6 +1,6 @@
 //! Laws of what a build gives. Each function does nothing; its contract is the law.
 
-ghost use Rattle.pb_build.specs.Laws.{LooksAtSources, GivesFromNothing, HasOneResult};
+ghost use Rattle.pb_build.specs.Laws.{LooksAtSources, GivesFromNothing, GivesItsResult, HasOneResult};
 ghost use Rattle.pb_build.specs.Session.{Unaffected};
 
 /// What stands in the target folder is not seen: two worlds with the same variables and the same files outside it give
@@ -20,4 +20,10 @@ pub fn earlier_builds_change_nothing()
 /// units of the same plan have ended with the same outcomes.
 pub fn worlds_have_one_result()
     ensures { HasOneResult }
+{}
+
+/// A build that no fault has ended gives its result, where the records are true and the child is honest, or where no
+/// unit has a record.
+pub fn builds_give_their_result()
+    ensures { GivesItsResult }
 {}

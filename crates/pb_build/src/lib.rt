@@ -8,11 +8,10 @@ pub mod laws;
 pub mod planning;
 pub mod sessions;
 pub mod toolchain;
-pub mod units;
 
-pub use builder::{build, missing_libraries};
+pub use builder::{Prepared, build, build_turns, build_with, missing_libraries};
 pub use environment::Environment;
-pub use laws::{builds_look_at_sources, earlier_builds_change_nothing};
+pub use laws::{builds_give_their_result, builds_look_at_sources, earlier_builds_change_nothing};
 pub use pb_answer::{BuildFault, Refusal, Summary, result_line};
 pub use pb_package::Options;
 pub use pb_project::UnitFault;

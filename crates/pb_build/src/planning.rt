@@ -54,6 +54,7 @@ fn read<P: Place>(
     ensures ok { IsTrue P.tells → IfOk result (λ ws. workspace_of options.now.manifest target.now (P.world place.old) ≡ Ok ws) }
     ensures settled { IfOk result IsSettled }
     ensures same { IsTrue P.tells → P.world place.new ≡ P.world place.old }
+    ensures most { P.most place.new ≡ P.most place.old }
     ensures refused { IsTrue P.tells → IfErr result (IsToldRefusal options.now target.now (P.world place.old)) }
     ensures takes { Takes NoStart MayPlan result (P.counts place.old) (P.counts place.new) }
     ensures names { NamesCall result (P.counts place.new) }
@@ -162,6 +163,7 @@ pub(crate) fn planned<P: Place>(
     ensures project { IsTrue P.tells → IfOk result (IsProject options.now target.now (P.world place.old)) }
     ensures order { IfOk result IsInOrder }
     ensures same { IsTrue P.tells → P.world place.new ≡ P.world place.old }
+    ensures most { P.most place.new ≡ P.most place.old }
     ensures refused { IsTrue P.tells → IfErr result (IsToldRefusal options.now target.now (P.world place.old)) }
     ensures takes { Takes NoStart MayPlan result (P.counts place.old) (P.counts place.new) }
     ensures names { NamesCall result (P.counts place.new) }

@@ -1,16 +1,20 @@
 //! Sessions in memory: edits and builds, one after another.
 
 ghost use Rattle.std.specs.Prelude.{◌≡◌, [], IfOk, OnOk};
-ghost use Rattle.pb_session.specs.declared.pick.PickBy.{PickBy};
 ghost use Rattle.pb_session.specs.declared.step.SessionStep.TheVariants.{Build};
-ghost use Rattle.pb_build.specs.Session.{Takes, Course, point};
+ghost use Rattle.pb_build.specs.Environment.{environment_of};
+ghost use Rattle.pb_build.specs.Kept.{SourcesStay};
+ghost use Rattle.pb_build.specs.Session.{Picked, Takes, Course, point};
+ghost use Rattle.pb_place.specs.Memory.{counts_in};
+ghost use Rattle.pb_turns.specs.Moments.{moment};
 
-use crate::builder::build;
+use crate::builder::{build, build_with};
 use pb_answer::{BuildFault, Summary};
 use pb_data::Items;
+use pb_flight::Last;
 use pb_package::Options;
 use pb_place::{Child, Memory, Out};
-use pb_session::SessionStep;
+use pb_session::{PickBy, SessionStep};
 use std::alloc::{AllocError, Global};
 
 /// What one build of a session answered.
@@ -20,17 +24,40 @@ pub struct Answer {
     pub result: Result<Summary, BuildFault>,
 }
 
+/// Builds, and begins those units first that the session picks.
+fn built<C: Child, O: Out>(
+    alloc: Global,
+    memory: &mut Memory<C>,
+    out: &mut O,
+    options: &Options,
+    pick: PickBy,
+) -> Result<Summary, BuildFault>
+    requires none { (counts_in memory.old).starts.flying ≡ [] }
+    ensures picked { Picked C.answers options.now pick result
+        (moment memory.old.world (counts_in memory.old) memory.old.most (O.taken out.old) (O.faults out.old)) (moment memory.new.world (counts_in memory.new) memory.new.most (O.taken out.new) (O.faults out.new)) }
+    ensures kept { SourcesStay (environment_of options.now memory.old.world.variables).target memory.old.world memory.new.world }
+    ensures landed { (counts_in memory.new).starts.flying ≡ [] }
+{
+    match pick {
+        PickBy::First => build(alloc, memory, out, options),
+        PickBy::Last => build_with(alloc, memory, out, options, Last {}),
+    }
+}
+
 /// Builds, and adds the answer to those of the builds before it. A fuse that the build did not reach is gone then.
 fn add_build<C: Child, O: Out>(
     alloc: Global,
     memory: &mut Memory<C>,
     out: &mut O,
     options: &Options,
+    pick: PickBy,
     answers: &mut Items<Answer>,
 ) -> Result<(), AllocError>
-    ensures { (pick : PickBy) → OnOk result (Takes C.answers (Build options.now pick) (point memory.old (O.taken out.old) (O.faults out.old) answers.old) (point memory.new (O.taken out.new) (O.faults out.new) answers.new)) }
+    requires none { (counts_in memory.old).starts.flying ≡ [] }
+    ensures taken { OnOk result (Takes C.answers (Build options.now pick) (point memory.old (O.taken out.old) (O.faults out.old) answers.old) (point memory.new (O.taken out.new) (O.faults out.new) answers.new)) }
+    ensures none { OnOk result ((counts_in memory.new).starts.flying ≡ []) }
 {
-    let result = build(alloc, memory, out, options);
+    let result = built(alloc, memory, out, options, pick);
     memory.fuse(0);
     answers.push(Answer { result })?;
     Ok(())
@@ -44,14 +71,16 @@ fn take_step<C: Child, O: Out>(
     step: &SessionStep,
     answers: &mut Items<Answer>,
 ) -> Result<(), AllocError>
-    ensures { OnOk result (Takes C.answers step.now (point memory.old (O.taken out.old) (O.faults out.old) answers.old) (point memory.new (O.taken out.new) (O.faults out.new) answers.new)) }
+    requires none { (counts_in memory.old).starts.flying ≡ [] }
+    ensures taken { OnOk result (Takes C.answers step.now (point memory.old (O.taken out.old) (O.faults out.old) answers.old) (point memory.new (O.taken out.new) (O.faults out.new) answers.new)) }
+    ensures none { OnOk result ((counts_in memory.new).starts.flying ≡ []) }
 {
     match step {
         SessionStep::Write(path, text) => memory.put(alloc, path, text.as_bytes()),
         SessionStep::Remove(path) => memory.remove(alloc, path),
         SessionStep::Set(name, value) => memory.set(alloc, name.as_str(), value.as_str()),
         SessionStep::Unset(name) => memory.unset(alloc, name.as_str()),
-        SessionStep::Build(options, _) => add_build(alloc, memory, out, options, answers),
+        SessionStep::Build(options, pick) => add_build(alloc, memory, out, options, *pick, answers),
         SessionStep::Die(name, death) => memory.die(alloc, name.as_str(), death.fault()),
         SessionStep::Fuse(number) => light(memory, *number),
     }
@@ -65,7 +94,7 @@ fn light<C: Child>(memory: &mut Memory<C>, number: u64) -> Result<(), AllocError
     Ok(())
 }
 
-/// Takes steps in turn over a place in memory, and gives an answer for each build. The message lines of all builds go
+/// Takes steps in turn over a place in memory where no child is in flight, and gives an answer for each build. The message lines of all builds go
 /// to one sink. The one fault is want of memory outside a build; within one it is that build's answer.
 ///
 /// Each build ends as `build` says, in the world that the steps before it have left, and its cause is told with it.
@@ -75,6 +104,7 @@ pub fn session<C: Child, O: Out>(
     out: &mut O,
     steps: &[SessionStep],
 ) -> Result<Items<Answer>, AllocError>
+    requires none { (counts_in memory.old).starts.flying ≡ [] }
     ensures { IfOk result (λ answers. Course C.answers steps.now (point memory.old (O.taken out.old) (O.faults out.old) []) (point memory.new (O.taken out.new) (O.faults out.new) answers)) }
 {
     let mut answers = Items::new(alloc);

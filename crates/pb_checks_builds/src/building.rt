@@ -1,5 +1,7 @@
 //! Builds of the workspace at `/w`, with the small compiler.
 
+ghost use Rattle.std.specs.Prelude.{◌≡◌, []};
+
 use pb_answer::result_line;
 use pb_build::build;
 use pb_checks_files::no_options;
@@ -30,13 +32,19 @@ fn result_of<P: Place>(
     place: &mut P,
     out: &mut Vec<u8>,
     options: &Options,
-) -> Result<String, AllocError> {
+) -> Result<String, AllocError>
+    requires none { (P.counts place.old).starts.flying ≡ [] }
+    ensures landed { (P.counts place.new).starts.flying ≡ [] }
+{
     let mut sink = Over::new(out);
     result_line(alloc, &build(alloc, place, &mut sink, options))
 }
 
 /// What a build writes, and then its result line.
-pub fn built<P: Place>(alloc: Global, place: &mut P) -> Result<String, Fail> {
+pub fn built<P: Place>(alloc: Global, place: &mut P) -> Result<String, Fail>
+    requires none { (P.counts place.old).starts.flying ≡ [] }
+    ensures landed { (P.counts place.new).starts.flying ≡ [] }
+{
     let options = options(alloc)?;
     let mut out = Vec::new(alloc);
     let line = result_of(alloc, place, &mut out, &options)?;

@@ -1,5 +1,8 @@
 //! Builds of which one call of the place fails, each call in turn, and the builds after them.
 
+ghost use Rattle.std.specs.Prelude.{◌≡◌, []};
+ghost use Rattle.pb_place.specs.Memory.{counts_in};
+
 use crate::building::{built, last_line};
 use pb_checks_files::put_files;
 use pb_mini::Mini;
@@ -33,7 +36,10 @@ fn prepare(
     place: &mut Memory<Mini>,
     files: &str,
     is_built: bool,
-) -> Result<(), Fail> {
+) -> Result<(), Fail>
+    requires none { (counts_in place.old).starts.flying ≡ [] }
+    ensures landed { (counts_in place.new).starts.flying ≡ [] }
+{
     put_files(alloc, place, files)?;
     if is_built {
         built(alloc, place)?;
@@ -96,7 +102,10 @@ fn fail_at(
     number: u64,
     whole: &str,
     told: &mut String,
-) -> Result<bool, Fail> {
+) -> Result<bool, Fail>
+    requires none { (counts_in place.old).starts.flying ≡ [] }
+    ensures landed { (counts_in place.new).starts.flying ≡ [] }
+{
     place.fuse(number);
     let said = built(alloc, place)?;
     place.fuse(0);
@@ -113,7 +122,10 @@ fn build_again(
     place: &mut Memory<Mini>,
     whole: &str,
     told: &mut String,
-) -> Result<(), Fail> {
+) -> Result<(), Fail>
+    requires none { (counts_in place.old).starts.flying ≡ [] }
+    ensures landed { (counts_in place.new).starts.flying ≡ [] }
+{
     let again = built(alloc, place)?;
     if again.as_str() != whole {
         told.push_str("wrong afterwards, ")?;
@@ -129,7 +141,10 @@ fn try_at(
     number: u64,
     whole: &str,
     told: &mut String,
-) -> Result<bool, Fail> {
+) -> Result<bool, Fail>
+    requires none { (counts_in place.old).starts.flying ≡ [] }
+    ensures landed { (counts_in place.new).starts.flying ≡ [] }
+{
     prepare(alloc, place, trial.files, trial.is_built)?;
     let is_failed = fail_at(alloc, place, number, whole, told)?;
     build_again(alloc, place, whole, told)?;
@@ -137,7 +152,10 @@ fn try_at(
 }
 
 /// What a build from nothing says in a fresh place.
-fn whole_of(alloc: Global, place: &mut Memory<Mini>, files: &str) -> Result<String, Fail> {
+fn whole_of(alloc: Global, place: &mut Memory<Mini>, files: &str) -> Result<String, Fail>
+    requires none { (counts_in place.old).starts.flying ≡ [] }
+    ensures landed { (counts_in place.new).starts.flying ≡ [] }
+{
     prepare(alloc, place, files, false)?;
     built(alloc, place)
 }

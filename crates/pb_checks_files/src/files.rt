@@ -1,6 +1,6 @@
 //! Files in memory, and the workspace of them.
 
-ghost use Rattle.std.specs.Prelude.{IfOk};
+ghost use Rattle.std.specs.Prelude.{◌≡◌, IfOk};
 ghost use Rattle.pb_package.specs.Settled.{IsSettled};
 
 use pb_package::{LoadFault, Workspace};
@@ -13,7 +13,9 @@ pub fn put_files<C: Child>(
     alloc: Global,
     memory: &mut Memory<C>,
     files: &str,
-) -> Result<(), PathFault> {
+) -> Result<(), PathFault>
+    ensures flying { memory.new.flying ≡ memory.old.flying }
+{
     for file in files.split("@ ") {
         if let Some((path, text)) = file.split_once('\n') {
             let path = PathText::parse(alloc, path)?;

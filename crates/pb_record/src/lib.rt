@@ -14,6 +14,7 @@ pub mod pairs;
 pub mod part;
 pub mod read;
 pub mod record;
+mod room;
 pub mod write;
 
 pub use asked::Asked;

@@ -10,6 +10,7 @@ ghost use Rattle.pb_record.specs.declared.record.Record.{Record};
 
 use crate::part::Part;
 use crate::record::{Needed, Record};
+use crate::room::room_for;
 use pb_data::{Bytes, Items, Text};
 use pb_place::RelativePath;
 use std::alloc::{AllocError, Global};
@@ -88,11 +89,11 @@ fn push_record(out: &mut Vec<u8>, kept: &Record) -> Result<(), AllocError>
     }
 }
 
-/// The text of a record.
+/// The text of a record, for which room is made once.
 fn text_of(alloc: Global, kept: &Record) -> Result<Bytes, AllocError>
     ensures { IfOk result (λ text. Says text kept.now) }
 {
-    let mut out = Vec::new(alloc);
+    let mut out = Vec::with_capacity(alloc, room_for(kept))?;
     push_record(&mut out, kept)?;
     Ok(Bytes::new(out))
 }

@@ -9,9 +9,10 @@ use Rattle.pb_answer.specs.declared.fault.BuildFault.{BuildFault}
 use Rattle.pb_answer.specs.declared.fault.BuildFault.TheVariants.{OutOfMemory}
 use Rattle.pb_answer.specs.declared.summary.Summary.{Summary}
 use Rattle.pb_package.specs.declared.options.Options.{Options}
-use Rattle.pb_build.specs.Ending.{Heard, Moment, Builds}
+use Rattle.pb_build.specs.Ending.{BuildsFirst}
 use Rattle.pb_build.specs.Environment.{environment_of}
 use Rattle.pb_build.specs.Planning.{IsProject}
+use Rattle.pb_turns.specs.Moments.{Heard, Moment}
 
 abbrev pub success_status : Bool → ℕ
 success_status true = 0
@@ -58,9 +59,10 @@ pub record BuildsTold (tells : Bool) (child : Answers) (options : Options) (stat
   pub begun : Moment
   pub same : IsTrue tells → begun.world ≡ old.world
   pub silent : begun.heard ≡ old.heard
+  pub most : begun.most ≡ old.most
   pub unstarted : begun.counts.starts ≡ old.counts.starts
   pub answer : Result Summary BuildFault
-  pub builds : Builds tells child options answer begun new
+  pub builds : BuildsFirst tells child options answer begun new
   pub told : status ≡ status_of answer
   pub noted : Heard
   pub notes : Notes tells options old.world said_before noted

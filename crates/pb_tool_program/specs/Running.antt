@@ -11,7 +11,7 @@ use Rattle.pb_arguments.specs.declared.asked.Unasked.{Unasked}
 use Rattle.pb_arguments.specs.declared.asked.Unasked.TheVariants.{Help, Wrong, OutOfMemory}
 use Rattle.pb_session.specs.Sessions.{session_of}
 use Rattle.pb_session.specs.declared.fault.BadSession.TheVariants.{BadForm}
-use Rattle.pb_build.specs.Ending.{Heard, Moment}
+use Rattle.pb_turns.specs.Moments.{Heard, Moment}
 use Rattle.pb_tool_program.specs.Building.{Writes, Tells, BuildsTold}
 use Rattle.pb_tool_program.specs.Session.{Refused, SessionWritten}
 
@@ -38,6 +38,7 @@ RunsFound (Err fault) status old new said_before said_after = IsBad status old n
 -- the session of a file was run: the file was read, once, and the place was asked for nothing else
 pub record RunsFile (tells : Bool) (path : List ℕ) (status : ℕ) (old new : Moment) (said_before said_after : Heard) : Type 0 where
   pub same : IsTrue tells → new.world ≡ old.world
+  pub most : new.most ≡ old.most
   pub found : Result (Option (List ℕ)) PlaceFault
   pub once : new.counts ≡ counted path found old.counts
   pub is_file : IsTrue tells → IfOk found (λ bytes. bytes ≡ map.get old.world.files path)

@@ -5,7 +5,7 @@ use Rattle.std.specs.FinMap as map
 use Rattle.pb_mini.specs.Answer.{answered}
 use Rattle.pb_place.specs.Counts.{up, no_calls}
 use Rattle.pb_place.specs.World.{Answers}
-use Rattle.pb_build.specs.Ending.{Heard}
+use Rattle.pb_turns.specs.Moments.{Heard}
 use Rattle.pb_build.specs.Session.{Point, Course}
 use Rattle.pb_build.specs.declared.sessions.Answer.{Answer}
 use Rattle.pb_answer.specs.ResultLine.{result_line}
@@ -27,7 +27,7 @@ small_compiler c w = answered c.words c.pairs w
 
 -- before the first step: no file, no variable, no call of the place and no answer
 abbrev pub at_first : Heard → Point
-at_first heard = record { moment = record { world = record { files = map.empty; variables = map.empty }; counts = no_calls; heard = heard }; answers = [] }
+at_first heard = record { moment = record { world = record { files = map.empty; variables = map.empty }; counts = no_calls; most = 0; heard = heard }; answers = [] }
 
 -- the message lines of the steps' builds, one build after another, and then a result line for each
 abbrev pub Written : List SessionStep → Heard → Option (List ℕ) → Type 0

@@ -1,8 +1,9 @@
 //! `pb_tool build` over any place.
 
-ghost use Rattle.std.specs.Prelude.{◌≡◌, ◌⊎◌, ◌++◌, IsTrue, IfOk, OnOk, Result, string_bytes, codes};
+ghost use Rattle.std.specs.Prelude.{◌≡◌, [], ◌⊎◌, ◌++◌, IsTrue, IfOk, OnOk, Result, string_bytes, codes};
 ghost use Rattle.std.specs.Io.KnownBytes.{Appends};
-ghost use Rattle.pb_build.specs.Ending.{Moment, moment, Builds};
+ghost use Rattle.pb_build.specs.Ending.{BuildsFirst};
+ghost use Rattle.pb_turns.specs.Moments.{Moment, moment};
 ghost use Rattle.pb_answer.specs.ResultLine.{result_line};
 ghost use Rattle.pb_answer.specs.declared.fault.BuildFault.{BuildFault};
 ghost use Rattle.pb_answer.specs.declared.summary.Summary.{Summary};
@@ -60,6 +61,7 @@ fn error_of(alloc: Global, answer: &Result<Summary, BuildFault>) -> Result<Strin
 /// nothing is told: the build then says why. No child is started.
 fn note<P: Place, E: Out>(alloc: Global, place: &mut P, err: &mut E, options: &Options)
     ensures same { IsTrue P.tells → P.world place.new ≡ P.world place.old }
+    ensures most { P.most place.new ≡ P.most place.old }
     ensures unstarted { (P.counts place.new).starts ≡ (P.counts place.old).starts }
     ensures notes { Notes P.tells options.now (P.world place.old) record { taken = E.taken err.old; faults = E.faults err.old } record { taken = E.taken err.new; faults = E.faults err.new } }
 {
@@ -98,8 +100,9 @@ pub fn build_options<P: Place, O: Out, E: Out>(
     err: &mut E,
     options: &Options,
 ) -> u8
+    requires none { (P.counts place.old).starts.flying ≡ [] }
     ensures { BuildsTold P.tells P.child options.now result
-        (moment (P.world place.old) (P.counts place.old) (O.taken out.old) (O.faults out.old)) (moment (P.world place.new) (P.counts place.new) (O.taken out.new) (O.faults out.new))
+        (moment (P.world place.old) (P.counts place.old) (P.most place.old) (O.taken out.old) (O.faults out.old)) (moment (P.world place.new) (P.counts place.new) (P.most place.new) (O.taken out.new) (O.faults out.new))
         record { taken = E.taken err.old; faults = E.faults err.old } record { taken = E.taken err.new; faults = E.faults err.new } }
 {
     note(alloc, place, err, options);

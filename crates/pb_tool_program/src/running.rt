@@ -1,7 +1,7 @@
 //! The whole program over any place.
 
-ghost use Rattle.std.specs.Prelude.{◌≡◌, map};
-ghost use Rattle.pb_build.specs.Ending.{moment};
+ghost use Rattle.std.specs.Prelude.{◌≡◌, [], map};
+ghost use Rattle.pb_turns.specs.Moments.{moment};
 ghost use Rattle.pb_tool_program.specs.Running.{RunsFile, Explains, Runs};
 
 use crate::building::build_options;
@@ -26,7 +26,7 @@ fn run_file<P: Place, O: Out, E: Out>(
     err: &mut E,
 ) -> u8
     ensures { RunsFile P.tells path.now result
-        (moment (P.world place.old) (P.counts place.old) (O.taken out.old) (O.faults out.old)) (moment (P.world place.new) (P.counts place.new) (O.taken out.new) (O.faults out.new))
+        (moment (P.world place.old) (P.counts place.old) (P.most place.old) (O.taken out.old) (O.faults out.old)) (moment (P.world place.new) (P.counts place.new) (P.most place.new) (O.taken out.new) (O.faults out.new))
         record { taken = E.taken err.old; faults = E.faults err.old } record { taken = E.taken err.new; faults = E.faults err.new } }
 {
     match place.read(alloc, path) {
@@ -70,8 +70,9 @@ pub fn run<S: AsStr, P: Place, O: Out, E: Out>(
     out: &mut O,
     err: &mut E,
 ) -> u8
+    requires none { (P.counts place.old).starts.flying ≡ [] }
     ensures { Runs P.tells P.child (map S.text words.now) folder.now result
-        (moment (P.world place.old) (P.counts place.old) (O.taken out.old) (O.faults out.old)) (moment (P.world place.new) (P.counts place.new) (O.taken out.new) (O.faults out.new))
+        (moment (P.world place.old) (P.counts place.old) (P.most place.old) (O.taken out.old) (O.faults out.old)) (moment (P.world place.new) (P.counts place.new) (P.most place.new) (O.taken out.new) (O.faults out.new))
         record { taken = E.taken err.old; faults = E.faults err.old } record { taken = E.taken err.new; faults = E.faults err.new } }
 {
     match read_command_line(alloc, words, folder) {

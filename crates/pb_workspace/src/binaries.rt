@@ -40,6 +40,7 @@ fn looked_in_bin<P: Place>(
     requires { is_name name.now ≡ true }
     ensures ok { IsTrue P.tells → IfOk result (λ path. path ≡ looked_in_bin folder.now (from_nothing target.now (P.world place.old)) name.now) }
     ensures same { IsTrue P.tells → P.world place.new ≡ P.world place.old }
+    ensures most { P.most place.new ≡ P.most place.old }
     ensures outside { IfErr result (λ e. is_outside e ≡ true) }
     ensures reads { Reads result (P.counts place.old) (P.counts place.new) }
 {
@@ -73,6 +74,7 @@ fn looked_for_other<P: Place>(
     requires { is_name name.now ≡ true }
     ensures ok { IsTrue P.tells → IfOk result (λ path. path ≡ looked_for folder.now (from_nothing target.now (P.world place.old)) false name.now) }
     ensures same { IsTrue P.tells → P.world place.new ≡ P.world place.old }
+    ensures most { P.most place.new ≡ P.most place.old }
     ensures outside { IfErr result (λ e. is_outside e ≡ true) }
     ensures reads { Reads result (P.counts place.old) (P.counts place.new) }
 {
@@ -94,6 +96,7 @@ fn looked_for_main<P: Place>(
     requires { is_name name.now ≡ true }
     ensures ok { IsTrue P.tells → IfOk result (λ path. path ≡ looked_for folder.now (from_nothing target.now (P.world place.old)) true name.now) }
     ensures same { IsTrue P.tells → P.world place.new ≡ P.world place.old }
+    ensures most { P.most place.new ≡ P.most place.old }
     ensures outside { IfErr result (λ e. is_outside e ≡ true) }
     ensures reads { Reads result (P.counts place.old) (P.counts place.new) }
 {
@@ -122,6 +125,7 @@ pub fn binary_source<P: Place>(
     requires { is_name name.now ≡ true }
     ensures ok { IsTrue P.tells → IfOk result (λ source. source ≡ binary_source folder.now (from_nothing target.now (P.world place.old)) package_name.now name.now path.now) }
     ensures same { IsTrue P.tells → P.world place.new ≡ P.world place.old }
+    ensures most { P.most place.new ≡ P.most place.old }
     ensures outside { IfErr result (λ e. is_outside e ≡ true) }
     ensures reads { Reads result (P.counts place.old) (P.counts place.new) }
 {
@@ -149,6 +153,7 @@ pub fn written_binary<P: Place>(
     ensures ok { IsTrue P.tells → IfOk result (λ binary. binary ≡ written_binary folder.now (from_nothing target.now (P.world place.old)) package_name.now written) }
     ensures named { IfOk result IsBinaryNamed }
     ensures same { IsTrue P.tells → P.world place.new ≡ P.world place.old }
+    ensures most { P.most place.new ≡ P.most place.old }
     ensures outside { IfErr result (λ e. is_outside e ≡ true) }
     ensures reads { Reads result (P.counts place.old) (P.counts place.new) }
 {
@@ -181,6 +186,7 @@ pub fn written_binaries<P: Place>(
     ensures ok { IsTrue P.tells → IfOk result (λ binaries. binaries ≡ map (written_binary folder.now (from_nothing target.now (P.world place.old)) package_name.now) written) }
     ensures named { IfOk result (AllByRecursion IsBinaryNamed) }
     ensures same { IsTrue P.tells → P.world place.new ≡ P.world place.old }
+    ensures most { P.most place.new ≡ P.most place.old }
     ensures outside { IfErr result (λ e. is_outside e ≡ true) }
     ensures reads { Reads result (P.counts place.old) (P.counts place.new) }
 {

@@ -164,6 +164,7 @@ fn draft_with<P: Place>(
     ensures draft { IfOk result IsDraft }
     ensures folder { IfOk result (λ draft. draft.folder ≡ at.folder) }
     ensures same { IsTrue P.tells → P.world place.new ≡ P.world place.old }
+    ensures most { P.most place.new ≡ P.most place.old }
     ensures reads { Reads result (P.counts place.old) (P.counts place.new) }
 {
     let Tables {
@@ -209,6 +210,7 @@ pub fn draft_of<P: Place>(
     ensures draft { IfOk result IsDraft }
     ensures folder { IfOk result (λ draft. draft.folder ≡ at.folder) }
     ensures same { IsTrue P.tells → P.world place.new ≡ P.world place.old }
+    ensures most { P.most place.new ≡ P.most place.old }
     ensures reads { Reads result (P.counts place.old) (P.counts place.new) }
 {
     let keys = keys_of(alloc, place, target, &at, &given.package, found)?;

@@ -25,6 +25,7 @@ pub fn found_readme<P: Place>(
 ) -> Result<Text, LoadFault>
     ensures ok { IsTrue P.tells → IfOk result (λ text. text ≡ found_readme folder.now (from_nothing target.now (P.world place.old))) }
     ensures same { IsTrue P.tells → P.world place.new ≡ P.world place.old }
+    ensures most { P.most place.new ≡ P.most place.old }
     ensures outside { IfErr result (λ e. is_outside e ≡ true) }
     ensures reads { Reads result (P.counts place.old) (P.counts place.new) }
 {
@@ -51,6 +52,7 @@ pub(crate) fn own_source<P: Place>(
     requires { is_relative name.now ≡ true }
     ensures ok { IsTrue P.tells → IfOk result (λ path. path ≡ own_source folder.now (from_nothing target.now (P.world place.old)) name.now) }
     ensures same { IsTrue P.tells → P.world place.new ≡ P.world place.old }
+    ensures most { P.most place.new ≡ P.most place.old }
     ensures outside { IfErr result (λ e. is_outside e ≡ true) }
     ensures reads { Reads result (P.counts place.old) (P.counts place.new) }
 {
@@ -72,6 +74,7 @@ pub fn script_of<P: Place>(
 ) -> Result<Option<PathText>, LoadFault>
     ensures ok { IsTrue P.tells → IfOk result (λ script. script ≡ script_of folder.now (from_nothing target.now (P.world place.old)) build.now) }
     ensures same { IsTrue P.tells → P.world place.new ≡ P.world place.old }
+    ensures most { P.most place.new ≡ P.most place.old }
     ensures outside { IfErr result (λ e. is_outside e ≡ true) }
     ensures reads { Reads result (P.counts place.old) (P.counts place.new) }
 {
@@ -155,6 +158,7 @@ fn found_library<P: Place>(
     ensures ok { IsTrue P.tells → IfOk result (λ library. library ≡ found_library folder.now (from_nothing target.now (P.world place.old)) name) }
     ensures named { IfOk result (λ library. IfSome library IsLibraryNamed) }
     ensures same { IsTrue P.tells → P.world place.new ≡ P.world place.old }
+    ensures most { P.most place.new ≡ P.most place.old }
     ensures outside { IfErr result (λ e. is_outside e ≡ true) }
     ensures reads { Reads result (P.counts place.old) (P.counts place.new) }
 {
@@ -186,6 +190,7 @@ pub fn library_of<P: Place>(
     ensures ok { IsTrue P.tells → IfOk result (λ library. library ≡ library_of folder.now (from_nothing target.now (P.world place.old)) package_name.now written) }
     ensures named { IfOk result (λ library. IfSome library IsLibraryNamed) }
     ensures same { IsTrue P.tells → P.world place.new ≡ P.world place.old }
+    ensures most { P.most place.new ≡ P.most place.old }
     ensures outside { IfErr result (λ e. is_outside e ≡ true) }
     ensures reads { Reads result (P.counts place.old) (P.counts place.new) }
 {

@@ -146,6 +146,7 @@ pub fn listed_sources<P: Place>(
 ) -> Result<Items<PathText>, LoadFault>
     ensures ok { IsTrue P.tells → IfOk result (λ paths. paths ≡ listed folder.now (from_nothing target.now (P.world place.old))) }
     ensures same { IsTrue P.tells → P.world place.new ≡ P.world place.old }
+    ensures most { P.most place.new ≡ P.most place.old }
     ensures outside { IfErr result (λ e. is_outside e ≡ true) }
     ensures bears { IfErr result (λ e. bears folder.now e ≡ true) }
     ensures reads { Reads result (P.counts place.old) (P.counts place.new) }
@@ -208,6 +209,7 @@ pub fn found_binaries<P: Place>(
     ensures ok { IsTrue P.tells → IfOk result (λ binaries. binaries ≡ found_binaries folder.now (from_nothing target.now (P.world place.old)) name.now) }
     ensures named { IfOk result (AllByRecursion IsBinaryNamed) }
     ensures same { IsTrue P.tells → P.world place.new ≡ P.world place.old }
+    ensures most { P.most place.new ≡ P.most place.old }
     ensures outside { IfErr result (λ e. is_outside e ≡ true) }
     ensures reads { Reads result (P.counts place.old) (P.counts place.new) }
 {

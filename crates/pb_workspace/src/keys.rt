@@ -113,6 +113,7 @@ pub fn keys_of<P: Place>(
     ensures ok { IsTrue P.tells → Told result (keys_of (from_nothing target.now (P.world place.old)) at.now given.now found.now) }
     ensures name { IfOk result (λ keys. keys.name ≡ found.now.name) }
     ensures same { IsTrue P.tells → P.world place.new ≡ P.world place.old }
+    ensures most { P.most place.new ≡ P.most place.old }
     ensures reads { Reads result (P.counts place.old) (P.counts place.new) }
 {
     let readme = readme_found(alloc, place, target, &at.folder, &found.readme)?;

@@ -45,6 +45,7 @@ fn root_parts<P: Place>(
     ensures names { IfOk result (λ parts. All (λ b. is_name b.name ≡ true) parts.tables.binaries) }
     ensures shared { IfOk result (λ parts. IfSome parts.workspace HasSharedInOrder) }
     ensures same { IsTrue P.tells → P.world place.new ≡ P.world place.old }
+    ensures most { P.most place.new ≡ P.most place.old }
     ensures reads { Reads result (P.counts place.old) (P.counts place.new) }
 {
     if !is_manifest(path) {
@@ -102,6 +103,7 @@ fn root_package_read<P: Place>(
     ensures ok { IsTrue P.tells → Told result (root_read (from_nothing target.now (P.world place.old)) frame.now tables (Some found.now)) }
     ensures kept { IfOk result IsReading }
     ensures same { IsTrue P.tells → P.world place.new ≡ P.world place.old }
+    ensures most { P.most place.new ≡ P.most place.old }
     ensures reads { Reads result (P.counts place.old) (P.counts place.new) }
 {
     let at = at_root(alloc, frame)?;
@@ -126,6 +128,7 @@ fn root_read<P: Place>(
     ensures ok { IsTrue P.tells → Told result (root_read (from_nothing target.now (P.world place.old)) frame.now tables found) }
     ensures kept { IfOk result IsReading }
     ensures same { IsTrue P.tells → P.world place.new ≡ P.world place.old }
+    ensures most { P.most place.new ≡ P.most place.old }
     ensures reads { Reads result (P.counts place.old) (P.counts place.new) }
 {
     match found {
@@ -147,6 +150,7 @@ fn others_read<P: Place>(
     ensures ok { IsTrue P.tells → Told result (others_read (from_nothing target.now (P.world place.old)) frame.now begun) }
     ensures kept { IfOk result IsReading }
     ensures same { IsTrue P.tells → P.world place.new ≡ P.world place.old }
+    ensures most { P.most place.new ≡ P.most place.old }
     ensures reads { Reads result (P.counts place.old) (P.counts place.new) }
 {
     let meant = member_folders(alloc, place, target, frame)?;
@@ -172,6 +176,7 @@ fn packages_read<P: Place>(
     ensures ok { IsTrue P.tells → Told result (packages_read (from_nothing target.now (P.world place.old)) frame.now tables found) }
     ensures kept { IfOk result IsReading }
     ensures same { IsTrue P.tells → P.world place.new ≡ P.world place.old }
+    ensures most { P.most place.new ≡ P.most place.old }
     ensures reads { Reads result (P.counts place.old) (P.counts place.new) }
 {
     let begun = root_read(alloc, place, target, frame, tables, found)?;
@@ -234,6 +239,7 @@ fn workspace_in<P: Place>(
     ensures ok { IsTrue P.tells → Told result (workspace_in (from_nothing target.now (P.world place.old)) target.now frame.now profiles tables found) }
     ensures settled { IfOk result IsSettled }
     ensures same { IsTrue P.tells → P.world place.new ≡ P.world place.old }
+    ensures most { P.most place.new ≡ P.most place.old }
     ensures reads { Reads result (P.counts place.old) (P.counts place.new) }
 {
     let read = packages_read(alloc, place, target, frame, tables, found)?;
@@ -262,6 +268,7 @@ pub fn load<P: Place>(
     ensures ok { IsTrue P.tells → Told result (workspace_of manifest.now target.now (P.world place.old)) }
     ensures settled { IfOk result IsSettled }
     ensures same { IsTrue P.tells → P.world place.new ≡ P.world place.old }
+    ensures most { P.most place.new ≡ P.most place.old }
     ensures reads { Reads result (P.counts place.old) (P.counts place.new) }
 {
     let root = manifest.folder(alloc)?;

@@ -118,6 +118,7 @@ fn folders_taken<P: Place>(
 ) -> Result<Items<PathText>, LoadFault>
     ensures ok { IsTrue P.tells → IfOk result (λ folders. folders ≡ folders_taken (from_nothing target.now (P.world place.old)) frame.now parts.now) }
     ensures same { IsTrue P.tells → P.world place.new ≡ P.world place.old }
+    ensures most { P.most place.new ≡ P.most place.old }
     ensures outside { IfErr result (λ e. is_outside e ≡ true) }
     ensures reads { Reads result (P.counts place.old) (P.counts place.new) }
 {
@@ -151,6 +152,7 @@ fn folders_meant<P: Place>(
 ) -> Result<Items<PathText>, LoadFault>
     ensures ok { IsTrue P.tells → IfOk result (λ folders. folders ≡ folders_meant (from_nothing target.now (P.world place.old)) frame.now text.now) }
     ensures same { IsTrue P.tells → P.world place.new ≡ P.world place.old }
+    ensures most { P.most place.new ≡ P.most place.old }
     ensures outside { IfErr result (λ e. is_outside e ≡ true) }
     ensures reads { Reads result (P.counts place.old) (P.counts place.new) }
 {
@@ -183,6 +185,7 @@ fn folders_of_texts<P: Place>(
 ) -> Result<Items<PathText>, LoadFault>
     ensures ok { IsTrue P.tells → IfOk result (λ folders. folders ≡ flat_map (folders_meant (from_nothing target.now (P.world place.old)) frame.now) texts.now) }
     ensures same { IsTrue P.tells → P.world place.new ≡ P.world place.old }
+    ensures most { P.most place.new ≡ P.most place.old }
     ensures outside { IfErr result (λ e. is_outside e ≡ true) }
     ensures reads { Reads result (P.counts place.old) (P.counts place.new) }
 {
@@ -205,6 +208,7 @@ pub fn member_folders<P: Place>(
 ) -> Result<ByFolder<()>, LoadFault>
     ensures ok { IsTrue P.tells → IfOk result (λ folders. folders ≡ member_folders (from_nothing target.now (P.world place.old)) frame.now) }
     ensures same { IsTrue P.tells → P.world place.new ≡ P.world place.old }
+    ensures most { P.most place.new ≡ P.most place.old }
     ensures outside { IfErr result (λ e. is_outside e ≡ true) }
     ensures reads { Reads result (P.counts place.old) (P.counts place.new) }
 {

@@ -89,6 +89,7 @@ fn manifest_at<P: Place>(
     ensures ok { IsTrue P.tells → Told result (manifest_at (from_nothing target.now (P.world place.old)) path.now) }
     ensures promised { IfOk result IsManifest }
     ensures same { IsTrue P.tells → P.world place.new ≡ P.world place.old }
+    ensures most { P.most place.new ≡ P.most place.old }
     ensures reads { Reads result (P.counts place.old) (P.counts place.new) }
 {
     let found = source(alloc, place, target, path)?;
@@ -123,6 +124,7 @@ pub fn draft_if<P: Place>(
     ensures draft { IfOk result IsDraft }
     ensures folder { IfOk result (λ draft. draft.folder ≡ at.folder) }
     ensures same { IsTrue P.tells → P.world place.new ≡ P.world place.old }
+    ensures most { P.most place.new ≡ P.most place.old }
     ensures reads { Reads result (P.counts place.old) (P.counts place.new) }
 {
     match found {
@@ -200,6 +202,7 @@ pub fn parts_at<P: Place>(
     ensures names { IfOk result (λ parts. All (λ b. is_name b.name ≡ true) parts.tables.binaries) }
     ensures shared { IfOk result (λ parts. IfSome parts.workspace HasSharedInOrder) }
     ensures same { IsTrue P.tells → P.world place.new ≡ P.world place.old }
+    ensures most { P.most place.new ≡ P.most place.old }
     ensures reads { Reads result (P.counts place.old) (P.counts place.new) }
 {
     let found = manifest_at(alloc, place, target, path)?;
@@ -220,6 +223,7 @@ fn draft_in_file<P: Place>(
     ensures draft { IfOk result IsDraft }
     ensures folder { IfOk result (λ draft. draft.folder ≡ at.folder) }
     ensures same { IsTrue P.tells → P.world place.new ≡ P.world place.old }
+    ensures most { P.most place.new ≡ P.most place.old }
     ensures reads { Reads result (P.counts place.old) (P.counts place.new) }
 {
     let parts = parts_at(alloc, place, target, &at.manifest)?;
@@ -250,6 +254,7 @@ fn draft_at<P: Place>(
     ensures draft { IfOk result IsDraft }
     ensures folder { IfOk result (λ draft. draft.folder ≡ folder.now) }
     ensures same { IsTrue P.tells → P.world place.new ≡ P.world place.old }
+    ensures most { P.most place.new ≡ P.most place.old }
     ensures reads { Reads result (P.counts place.old) (P.counts place.new) }
 {
     if *folder == frame.root {
@@ -323,6 +328,7 @@ fn one_read<P: Place>(
     ensures ok { IsTrue P.tells → Told result (one_read (draft_at (from_nothing target.now (P.world place.old)) frame.now meant.now) reading folder) }
     ensures kept { IfOk result IsReading }
     ensures same { IsTrue P.tells → P.world place.new ≡ P.world place.old }
+    ensures most { P.most place.new ≡ P.most place.old }
     ensures reads { Reads result (P.counts place.old) (P.counts place.new) }
 {
     if reading.found.contains(&folder) {
@@ -350,6 +356,7 @@ pub fn all_read<P: Place>(
     ensures ok { IsTrue P.tells → Told result (all_read (draft_at (from_nothing target.now (P.world place.old)) frame.now meant.now) reading folders) }
     ensures kept { IfOk result IsReading }
     ensures same { IsTrue P.tells → P.world place.new ≡ P.world place.old }
+    ensures most { P.most place.new ≡ P.most place.old }
     ensures reads { Reads result (P.counts place.old) (P.counts place.new) }
 {
     let mut reading = reading;
@@ -372,6 +379,7 @@ fn round<P: Place>(
     ensures ok { IsTrue P.tells → Told result (round (draft_at (from_nothing target.now (P.world place.old)) frame.now meant.now) reading) }
     ensures kept { IfOk result IsReading }
     ensures same { IsTrue P.tells → P.world place.new ≡ P.world place.old }
+    ensures most { P.most place.new ≡ P.most place.old }
     ensures reads { Reads result (P.counts place.old) (P.counts place.new) }
 {
     let Reading { found, ahead } = reading;
@@ -399,6 +407,7 @@ pub fn rounds<P: Place>(
     ensures ok { IsTrue P.tells → Told result (rounds count (draft_at (from_nothing target.now (P.world place.old)) frame.now meant.now) reading) }
     ensures kept { IfOk result IsReading }
     ensures same { IsTrue P.tells → P.world place.new ≡ P.world place.old }
+    ensures most { P.most place.new ≡ P.most place.old }
     ensures reads { Reads result (P.counts place.old) (P.counts place.new) }
 {
     let mut reading = reading;

@@ -54,6 +54,7 @@ pub fn readme_found<P: Place>(
 ) -> Result<Text, LoadFault>
     ensures ok { IsTrue P.tells → IfOk result (λ text. text ≡ readme_found folder.now (from_nothing target.now (P.world place.old)) readme.now) }
     ensures same { IsTrue P.tells → P.world place.new ≡ P.world place.old }
+    ensures most { P.most place.new ≡ P.most place.old }
     ensures outside { IfErr result (λ e. is_outside e ≡ true) }
     ensures reads { Reads result (P.counts place.old) (P.counts place.new) }
 {
@@ -114,6 +115,7 @@ fn discovered<P: Place>(
     ensures ok { IsTrue P.tells → IfOk result (λ binaries. binaries ≡ discovered folder.now (from_nothing target.now (P.world place.old)) name.now autobins) }
     ensures named { IfOk result (AllByRecursion IsBinaryNamed) }
     ensures same { IsTrue P.tells → P.world place.new ≡ P.world place.old }
+    ensures most { P.most place.new ≡ P.most place.old }
     ensures outside { IfErr result (λ e. is_outside e ≡ true) }
     ensures reads { Reads result (P.counts place.old) (P.counts place.new) }
 {
@@ -141,6 +143,7 @@ pub fn targets_of<P: Place>(
     ensures ok { IsTrue P.tells → IfOk result (λ targets. targets ≡ targets_of folder.now (from_nothing target.now (P.world place.old)) keys.now.name keys.now.autobins keys.now.build library binaries) }
     ensures targets { IfOk result AreTargets }
     ensures same { IsTrue P.tells → P.world place.new ≡ P.world place.old }
+    ensures most { P.most place.new ≡ P.most place.old }
     ensures outside { IfErr result (λ e. is_outside e ≡ true) }
     ensures reads { Reads result (P.counts place.old) (P.counts place.new) }
 {

@@ -33,6 +33,7 @@ pub fn source<P: Place>(
 ) -> Result<Option<Bytes>, LoadFault>
     ensures ok { IsTrue P.tells → IfOk result (λ found. found ≡ finite.get (from_nothing target.now (P.world place.old)).files path.now) }
     ensures same { IsTrue P.tells → P.world place.new ≡ P.world place.old }
+    ensures most { P.most place.new ≡ P.most place.old }
     ensures outside { IfErr result (λ e. is_outside e ≡ true) }
     ensures bears { IfErr result (λ e. bears path.now e ≡ true) }
     ensures reads { Reads result (P.counts place.old) (P.counts place.new) }
@@ -56,6 +57,7 @@ pub fn is_source<P: Place>(
 ) -> Result<bool, LoadFault>
     ensures ok { IsTrue P.tells → IfOk result (λ answer. answer ≡ has_file path.now (from_nothing target.now (P.world place.old))) }
     ensures same { IsTrue P.tells → P.world place.new ≡ P.world place.old }
+    ensures most { P.most place.new ≡ P.most place.old }
     ensures outside { IfErr result (λ e. is_outside e ≡ true) }
     ensures bears { IfErr result (λ e. bears path.now e ≡ true) }
     ensures reads { Reads result (P.counts place.old) (P.counts place.new) }
@@ -84,6 +86,7 @@ pub fn has_own_file<P: Place>(
     requires { is_relative name.now ≡ true }
     ensures ok { IsTrue P.tells → IfOk result (λ answer. answer ≡ has_own_file folder.now (from_nothing target.now (P.world place.old)) name.now) }
     ensures same { IsTrue P.tells → P.world place.new ≡ P.world place.old }
+    ensures most { P.most place.new ≡ P.most place.old }
     ensures outside { IfErr result (λ e. is_outside e ≡ true) }
     ensures bears { IfErr result (λ e. bears (below folder.now name.now) e ≡ true) }
     ensures reads { Reads result (P.counts place.old) (P.counts place.new) }

@@ -4,17 +4,23 @@ use Rattle.pb_build.proofs.StepsTaken.{none_taken, step_taken, steps_taken}
 use Rattle.pb_build.proofs.sessions.session.Goals as goal
 
 pub loop-step-init : goal.loop-step-init
-loop-step-init g c =
-    none_taken g.C.Child.answers c.args.steps.now (point c.args.memory.now (g.O.Out.taken c.args.out.now) (g.O.Out.faults c.args.out.now) []) _
-    (ap (point c.args.memory.now (g.O.Out.taken c.args.out.now) (g.O.Out.faults c.args.out.now)) c.new-answers.ensures)
+loop-step-init g c = record {
+  reaches =
+      none_taken g.C.Child.answers c.args.steps.now (point c.args.memory.now (g.O.Out.taken c.args.out.now) (g.O.Out.faults c.args.out.now) []) _
+      (ap (point c.args.memory.now (g.O.Out.taken c.args.out.now) (g.O.Out.faults c.args.out.now)) c.new-answers.ensures);
+  none = c.requires.none;
+}
 
 pub loop-step-preserved : goal.loop-step-preserved
-loop-step-preserved g c =
-    step_taken g.C.Child.answers c.args.steps.now c.loop-step.step-index c.step-item.result (point c.args.memory.now (g.O.Out.taken c.args.out.now) (g.O.Out.faults c.args.out.now) [])
-    (point c.loop-step.memory (g.O.Out.taken c.loop-step.out) (g.O.Out.faults c.loop-step.out) c.loop-step.answers) (point c.take_step.new.memory (g.O.Out.taken c.take_step.new.out) (g.O.Out.faults c.take_step.new.out) c.take_step.new.answers)
-    c.loop-step-test.true c.step-item.is c.loop-step.invariant c.in_ok-take_step.ensures
+loop-step-preserved g c = record {
+  reaches =
+      step_taken g.C.Child.answers c.args.steps.now c.loop-step.step-index c.step-item.result (point c.args.memory.now (g.O.Out.taken c.args.out.now) (g.O.Out.faults c.args.out.now) [])
+      (point c.loop-step.memory (g.O.Out.taken c.loop-step.out) (g.O.Out.faults c.loop-step.out) c.loop-step.answers) (point c.take_step.new.memory (g.O.Out.taken c.take_step.new.out) (g.O.Out.faults c.take_step.new.out) c.take_step.new.answers)
+      c.loop-step-test.true c.step-item.is c.loop-step.invariant.reaches c.in_ok-take_step.ensures.taken;
+  none = c.in_ok-take_step.ensures.none;
+}
 
 pub returns : goal.returns
 returns g c =
     steps_taken g.C.Child.answers c.args.steps.now c.loop-step.step-index (point c.args.memory.now (g.O.Out.taken c.args.out.now) (g.O.Out.faults c.args.out.now) [])
-    (point c.loop-step.memory (g.O.Out.taken c.loop-step.out) (g.O.Out.faults c.loop-step.out) c.loop-step.answers) c.loop-step-test.false c.loop-step.invariant
+    (point c.loop-step.memory (g.O.Out.taken c.loop-step.out) (g.O.Out.faults c.loop-step.out) c.loop-step.answers) c.loop-step-test.false c.loop-step.invariant.reaches

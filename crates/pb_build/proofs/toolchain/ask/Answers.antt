@@ -1,5 +1,5 @@
 use Rattle.std.proofs.Common.{◌∙◌, sym}
-use Rattle.pb_build.proofs.Works.{asked}
+use Rattle.pb_build.proofs.Asking.{asked}
 use Rattle.pb_build.proofs.toolchain.ask.Goals as goal
 
 pub returns-in-Some-clause-answer : goal.returns-in-Some-clause-answer

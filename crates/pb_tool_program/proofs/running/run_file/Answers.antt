@@ -4,6 +4,7 @@ use Rattle.pb_tool_program.proofs.running.run_file.Goals as goal
 pub returns-in-Ok-Some : goal.returns-in-Ok-Some
 returns-in-Ok-Some g c = record {
   same = c.in-Ok-Some.ensures.same;
+  most = c.in-Ok-Some.ensures.most;
   found = Ok (Some c.as_slice.result.now);
   once = c.in-Ok-Some.ensures.counts;
   is_file = λ told. ap Some c.as_slice.ensures ∙ (sym c.in-Ok-Some.field-0-is ∙ c.in-Ok-Some.ensures.ok told);

@@ -29,4 +29,5 @@ loop-binary-preserved g c = record {
   same = λ told. c.in_ok-made.ensures.same told ∙ c.loop-binary.invariant.same told;
   failures = c.in_ok-made.ensures.reads.0 ∙ c.loop-binary.invariant.failures;
   starts = c.in_ok-made.ensures.reads.1 ∙ c.loop-binary.invariant.starts;
+  most = c.in_ok-made.ensures.most ∙ c.loop-binary.invariant.most;
 }

@@ -13,4 +13,5 @@ invariant-loop-folder g l = record {
   same : IsTrue g.P.Place.tells → g.P.Place.world l.place ≡ g.P.Place.world l.fn.place;
   failures : (g.P.Place.counts l.place).failures ≡ (g.P.Place.counts l.fn.place).failures;
   starts : (g.P.Place.counts l.place).starts ≡ (g.P.Place.counts l.fn.place).starts;
+  most : g.P.Place.most l.place ≡ g.P.Place.most l.fn.place;
 }

@@ -13,4 +13,5 @@ loop-done-preserved g c = record {
   same = λ told. c.in-Ok.ensures.same told ∙ c.loop-done.invariant.same told;
   failures = c.in-Ok.ensures.reads.0 ∙ c.loop-done.invariant.failures;
   starts = c.in-Ok.ensures.reads.1 ∙ c.loop-done.invariant.starts;
+  most = c.in-Ok.ensures.most ∙ c.loop-done.invariant.most;
 }

@@ -1,0 +1,69 @@
+-- A build leaves its sources as they were, and no child in flight.
+use Rattle.std.proofs.Common.{◌≡◌, ◌∙◌, ◌||◌, Bool, true, false, List, [], ℕ, Option, Result, Ok, Err, inl, inr, ap, subst}
+use Rattle.std.specs.Prelude.{IsTrue}
+use Rattle.pb_answer.specs.declared.fault.BuildFault.{BuildFault}
+use Rattle.pb_answer.specs.declared.summary.Summary.{Summary}
+use Rattle.pb_flight.specs.Events.{Event}
+use Rattle.pb_flight.specs.declared.turn.Step.{Step}
+use Rattle.pb_package.specs.declared.options.Options.{Options}
+use Rattle.pb_place.specs.Paths.{is_at_or_below}
+use Rattle.pb_place.specs.World.{World, Answers, from_nothing}
+use Rattle.pb_place.proofs.Folders.{sources_alike}
+use Rattle.pb_place.proofs.Within.{at_below, at_then_below, outside_within}
+use Rattle.pb_project.specs.declared.fault.UnitFault.{UnitFault}
+use Rattle.pb_project.specs.declared.project.Project.{Project}
+use Rattle.pb_project.specs.declared.project.Setup.{Setup}
+use Rattle.pb_run.specs.Standing.{IsInOrder, records_folder}
+use Rattle.pb_soundness.specs.Apart.{is_of}
+use Rattle.pb_soundness.specs.Records.{is_key, out_of, place_of}
+use Rattle.pb_soundness.proofs.Places.{out_in, place_in}
+use Rattle.pb_turns.specs.Ends.{TurnsEnd}
+use Rattle.pb_turns.specs.Moments.{Moment}
+use Rattle.pb_turns.specs.Story.{OnlyOf}
+use Rattle.pb_workspace.proofs.Accepted.{target_kept}
+use Rattle.pb_build.specs.Ending.{Works, Builds}
+use Rattle.pb_build.specs.Environment.{environment_of}
+use Rattle.pb_build.specs.Kept.{SourcesStay}
+
+-- what lies outside the target folder is no path of a unit
+none_of : (target folder key q : List ℕ) → is_at_or_below target folder ≡ true → is_key key ≡ true → is_at_or_below target q ≡ false → is_of folder key q ≡ false
+none_of target folder key q above is outside =
+    ap (λ b. b || is_at_or_below (place_of folder key) q) (outside_within target (out_of folder key) q (at_below target (out_of folder key) (at_then_below target folder (out_of folder key) above (out_in folder key is))) outside)
+    ∙ outside_within target (place_of folder key) q (at_below target (place_of folder key) (at_then_below target folder (place_of folder key) above (place_in folder key is))) outside
+
+-- the folders and records of units are none of the sources
+only_stay : (project : Project) (es : List (Event UnitFault)) (old new : World) → IsInOrder project → OnlyOf project es old new → SourcesStay project.workspace.target old new
+only_stay project es old new order only =
+    sources_alike project.workspace.target old new
+    (λ q outside. only.files q (λ place u begun there. none_of project.workspace.target (records_folder project) u.key q order.target (order.keys place u there) outside)) only.variables
+
+module _ {S : Type 0} (tells : Bool) (child : Answers) (Turns : S → List ℕ → List ℕ → Step → S → Type 0) (options : Options) (from last : S) where
+  turns_stay : (setup : Setup) (project : Project) (next : Option ℕ) (result : Result Summary BuildFault) (old new : Moment) → IsTrue tells → IsInOrder project → TurnsEnd tells child Turns setup project next from last result old new
+      → SourcesStay project.workspace.target old.world new.world
+  turns_stay setup project next (Ok summary) old new told order ends = only_stay project ends.es old.world new.world order (ends.only told)
+  turns_stay setup project next (Err fault) old new told order ends = only_stay project ends.es old.world new.world order (ends.only told)
+
+  works_stay : (result : Result Summary BuildFault) (old new : Moment) → IsTrue tells → Works tells child Turns options from last result old new → SourcesStay (environment_of options old.world.variables).target old.world new.world
+  works_stay result old new told (inl none) = ap (from_nothing (environment_of options old.world.variables).target) (none.stays told)
+  works_stay result old new told (inr units) =
+      let project = units.prepared.project in
+      let at = environment_of options old.world.variables in
+      let is = units.prepares.is told in
+      let same : project.workspace.target ≡ at.target = target_kept options.manifest at.target old.world project.workspace is.project.selected.read in
+      let after = turns_stay units.prepared.setup project units.prepared.store.next result units.mid new told units.prepares.order units.ends in
+      let before = ap (from_nothing project.workspace.target) (units.prepares.stays told) in
+      subst (λ (t : List ℕ). SourcesStay t old.world new.world) same (after ∙ before)
+
+  pub builds_stay : (result : Result Summary BuildFault) (old new : Moment) → IsTrue tells → Builds tells child Turns options from last result old new → SourcesStay (environment_of options old.world.variables).target old.world new.world
+  builds_stay result old new told builds = works_stay builds.inner old record new { heard = builds.heard } told builds.works
+
+  turns_landed : (setup : Setup) (project : Project) (next : Option ℕ) (result : Result Summary BuildFault) (old new : Moment) → TurnsEnd tells child Turns setup project next from last result old new → new.counts.starts.flying ≡ []
+  turns_landed setup project next (Ok summary) old new ends = ends.landed
+  turns_landed setup project next (Err fault) old new ends = ends.landed
+
+  works_landed : (result : Result Summary BuildFault) (old new : Moment) → Works tells child Turns options from last result old new → new.counts.starts.flying ≡ []
+  works_landed result old new (inl none) = none.landed
+  works_landed result old new (inr units) = turns_landed units.prepared.setup units.prepared.project units.prepared.store.next result units.mid new units.ends
+
+  pub builds_landed : (result : Result Summary BuildFault) (old new : Moment) → Builds tells child Turns options from last result old new → new.counts.starts.flying ≡ []
+  builds_landed result old new builds = works_landed builds.inner old record new { heard = builds.heard } builds.works

@@ -1,0 +1,20 @@
+use Rattle.std.proofs.Common.{sym, subst}
+use Rattle.pb_place.specs.Memory.{Held, counts_in}
+use Rattle.pb_turns.specs.Moments.{moment}
+use Rattle.pb_build.specs.Environment.{environment_of}
+use Rattle.pb_build.specs.Kept.{SourcesStay}
+use Rattle.pb_build.specs.Session.{Picked}
+use Rattle.pb_build.proofs.sessions.add_build.Goals as goal
+
+pub returns-clause-taken : goal.returns-clause-taken
+returns-clause-taken g c =
+    let options = c.args.options.now in
+    let before = c.args.memory.now in
+    let old = moment before.world (counts_in before) before.most (g.O.Out.taken c.args.out.now) (g.O.Out.faults c.args.out.now) in
+    let taken = g.O.Out.taken c.built-result.new.out in
+    let faults = g.O.Out.faults c.built-result.new.out in (
+      record { result = c.built-result.result },
+      subst (λ (m : Held). Picked g.C.Child.answers options c.args.pick c.built-result.result old (moment m.world (counts_in m) m.most taken faults)) (sym c.fuse.ensures) c.built-result.ensures.picked,
+      subst (λ (m : Held). SourcesStay (environment_of options before.world.variables).target before.world m.world) (sym c.fuse.ensures) c.built-result.ensures.kept,
+      c.in_ok-push.ensures.ok,
+    )

@@ -1,0 +1,130 @@
+//! How much room the text of a record takes at most, so that it is made once. Nothing rests on it: where it were less,
+//! the text would grow.
+
+use crate::asked::Asked;
+use crate::record::{Input, Needed, Record};
+use pb_data::{Bytes, Items, Text};
+use pb_place::{PathText, RelativePath};
+
+/// The room of a number and of the line feeds around it: 20 digits at most.
+const LINE: usize = 22;
+
+/// The room of a block with so many bytes.
+fn block(length: usize) -> usize {
+    length.saturating_add(LINE)
+}
+
+/// The room of texts.
+fn texts(texts: &[Text]) -> usize {
+    let mut room = LINE;
+    for text in texts {
+        room = room.saturating_add(block(text.as_bytes().len()));
+    }
+    room
+}
+
+/// The room of paths.
+fn paths(paths: &[PathText]) -> usize {
+    let mut room = LINE;
+    for path in paths {
+        room = room.saturating_add(block(path.as_str().len()));
+    }
+    room
+}
+
+/// The room of names with their values.
+fn pairs(pairs: &[(Text, Text)]) -> usize {
+    let mut room = LINE;
+    for pair in pairs {
+        room = room.saturating_add(block(pair.0.as_bytes().len()));
+        room = room.saturating_add(block(pair.1.as_bytes().len()));
+    }
+    room
+}
+
+/// The room of files.
+fn files(files: &[(RelativePath, Bytes)]) -> usize {
+    let mut room = LINE;
+    for file in files {
+        room = room.saturating_add(block(file.0.as_str().len()));
+        room = room.saturating_add(block(file.1.as_slice().len()));
+    }
+    room
+}
+
+/// The room of an input's value.
+fn value(input: &Input) -> usize {
+    match input {
+        Input::File(path, bytes) => {
+            block(path.as_str().len()).saturating_add(block(bytes.as_slice().len()))
+        }
+        Input::Tree(path, inside) => {
+            block(path.as_str().len()).saturating_add(files(inside.as_slice()))
+        }
+        Input::Value(name, Some(text)) => {
+            block(name.as_bytes().len()).saturating_add(block(text.as_bytes().len()))
+        }
+        Input::Value(name, None) => block(name.as_bytes().len()),
+    }
+}
+
+/// The room of inputs, each with a line for its kind and one that may say whether it is there.
+fn inputs(inputs: &[Input]) -> usize {
+    let mut room = LINE;
+    for input in inputs {
+        room = room.saturating_add(value(input)).saturating_add(LINE);
+    }
+    room
+}
+
+/// The room of needed units with their files.
+fn copies(copies: &[(Text, Items<(RelativePath, Bytes)>)]) -> usize {
+    let mut room = LINE;
+    for copy in copies {
+        room = room.saturating_add(block(copy.0.as_bytes().len()));
+        room = room.saturating_add(files(copy.1.as_slice()));
+    }
+    room
+}
+
+/// The room of needed units with their numbers, and of the record's own.
+fn numbers(needs: &[(Text, u64)]) -> usize {
+    let mut room = LINE + LINE;
+    for need in needs {
+        room = room
+            .saturating_add(block(need.0.as_bytes().len()))
+            .saturating_add(LINE);
+    }
+    room
+}
+
+/// The room of what was asked.
+fn asked(asked: &Asked) -> usize {
+    block(asked.program.as_bytes().len())
+        .saturating_add(texts(asked.words.as_slice()))
+        .saturating_add(block(asked.folder.as_str().len()))
+        .saturating_add(pairs(asked.pairs.as_slice()))
+        .saturating_add(block(asked.out.as_str().len()))
+        .saturating_add(block(asked.target.as_str().len()))
+        .saturating_add(block(asked.toolchain.as_slice().len()))
+        .saturating_add(paths(asked.reads.as_slice()))
+}
+
+/// The room of the needed units.
+fn needed(needed: &Needed) -> usize {
+    match needed {
+        Needed::Copies(those) => copies(those.as_slice()),
+        Needed::Numbers(_, needs) => numbers(needs.as_slice()),
+    }
+}
+
+/// The room of a record, with its first line and its last.
+pub(crate) fn room_for(kept: &Record) -> usize {
+    block(kept.key.as_bytes().len())
+        .saturating_add(asked(&kept.asked))
+        .saturating_add(inputs(kept.inputs.as_slice()))
+        .saturating_add(needed(&kept.needed))
+        .saturating_add(block(kept.stdout.as_slice().len()))
+        .saturating_add(block(kept.stderr.as_slice().len()))
+        .saturating_add(LINE)
+}
