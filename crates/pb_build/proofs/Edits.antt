@@ -74,7 +74,7 @@ sources_edited child target (Die key death ∷ steps) v before after stay one (m
     sources_edited child target steps v mid after (ap (λ (p : Point). from_nothing target p.moment.world) same ∙ stay) one.1 rest
 sources_edited child target (Fuse number ∷ steps) v before after stay one (mid, same, rest) =
     sources_edited child target steps v mid after (ap (λ (p : Point). from_nothing target p.moment.world) same ∙ stay) one.1 rest
-sources_edited child target (Build o pick ∷ steps) v before after stay one (mid, (answer, builds, kept, answers), rest) =
+sources_edited child target (Build o pick ∷ steps) v before after stay one (mid, (answer, builds, kept, headline, answers), rest) =
     let is : (environment_of o before.moment.world.variables).target ≡ target = ap (λ (m : Map). (environment_of o m).target) (same_variables target v before.moment.world stay) ∙ one.0 in
     let stays : SourcesStay target before.moment.world mid.moment.world = subst (λ (t : List ℕ). SourcesStay t before.moment.world mid.moment.world) is kept in
     sources_edited child target steps v mid after (stays ∙ stay) one.1 rest

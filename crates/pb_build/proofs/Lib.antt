@@ -1,7 +1,8 @@
 pub mod Asking
 pub mod Preparing
 pub mod Staying
-pub mod Resting
+pub mod Headline
+pub mod Sparing
 pub mod InOrder
 pub mod StepsTaken
 pub mod Refusals

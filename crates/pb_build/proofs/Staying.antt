@@ -26,7 +26,7 @@ use Rattle.pb_build.specs.Environment.{environment_of}
 use Rattle.pb_build.specs.Kept.{SourcesStay}
 
 -- what lies outside the target folder is no path of a unit
-none_of : (target folder key q : List ℕ) → is_at_or_below target folder ≡ true → is_key key ≡ true → is_at_or_below target q ≡ false → is_of folder key q ≡ false
+pub none_of : (target folder key q : List ℕ) → is_at_or_below target folder ≡ true → is_key key ≡ true → is_at_or_below target q ≡ false → is_of folder key q ≡ false
 none_of target folder key q above is outside =
     ap (λ b. b || is_at_or_below (place_of folder key) q) (outside_within target (out_of folder key) q (at_below target (out_of folder key) (at_then_below target folder (out_of folder key) above (out_in folder key is))) outside)
     ∙ outside_within target (place_of folder key) q (at_below target (place_of folder key) (at_then_below target folder (place_of folder key) above (place_in folder key is))) outside

@@ -5,7 +5,6 @@ use Rattle.pb_answer.specs.declared.fault.BuildFault.{BuildFault}
 use Rattle.pb_answer.specs.declared.fault.BuildFault.TheVariants.{Plan, Toolchain, Child, Device, Sink, OutOfMemory}
 use Rattle.pb_answer.specs.declared.fault.DeviceFault.TheVariants as device
 use Rattle.pb_answer.specs.declared.summary.Summary.{Summary}
-use Rattle.pb_command.specs.Judge.{judge}
 use Rattle.pb_flight.specs.Steps.{PicksFirst, PicksLast, TurnsOfJobs}
 use Rattle.pb_flight.specs.declared.turn.First.{First}
 use Rattle.pb_flight.specs.declared.turn.Jobs.{Jobs}
@@ -16,18 +15,15 @@ use Rattle.pb_package.specs.declared.options.Options.{Options}
 use Rattle.pb_place.specs.Counts.{Counts, up, up_starts}
 use Rattle.pb_place.specs.World.{World, Answers, from_nothing}
 use Rattle.pb_place.specs.declared.place.Failure.TheVariants.{Called, Started}
-use Rattle.pb_project.specs.Targets.{unit_at}
 use Rattle.pb_project.specs.declared.project.Project.{Project}
 use Rattle.pb_record.specs.Parts.{IsReading}
 use Rattle.pb_run.specs.Causes.{FailedLast}
-use Rattle.pb_run.specs.Halves.{Footing, OnRecords, OnNothing, Basis, basis, IsHonestOnUnits, records_in}
-use Rattle.pb_run.specs.Standing.{IsInOrder, records_folder}
+use Rattle.pb_run.specs.Halves.{Footing, basis, records_in}
+use Rattle.pb_run.specs.Standing.{IsInOrder}
 use Rattle.pb_soundness.specs.Numbers.{IsAhead}
 use Rattle.pb_soundness.specs.Records.{Reading}
-use Rattle.pb_soundness.specs.Sound.{Sound}
 use Rattle.pb_turns.specs.Ends.{TurnsEnd}
 use Rattle.pb_turns.specs.Moments.{Heard, Moment}
-use Rattle.pb_unit.specs.declared.plan.Planned.{Planned}
 use Rattle.pb_build.specs.Environment.{environment_of}
 use Rattle.pb_build.specs.Planning.{IsProject, IsRefused}
 use Rattle.pb_build.specs.Result.{toolchain_of, setup_of}
@@ -72,11 +68,6 @@ pub record Prepares (tells : Bool) (child : Answers) (options : Options) (prepar
   pub at_most : after ≡ max most 1
 
 -- The units.
-
--- what a build rests on in a world: records that are true and a child that is honest; or no record of any unit
-abbrev pub RestsBy : Footing → Basis → World → Type 0
-RestsBy OnRecords b w = Sound b.read judge b.child (records_folder b.project) w.files × IsHonestOnUnits b
-RestsBy OnNothing b w = (place : ℕ) (u : Planned) → unit_at b.project place ≡ Some u → records_in b w u.key ≡ None
 
 -- after such a start the units ended so
 pub record UnitsEnd {S : Type 0} (tells : Bool) (child : Answers) (Turns : S → List ℕ → List ℕ → Step → S → Type 0) (options : Options) (from last : S) (result : Result Summary BuildFault) (old new : Moment) : Type 0 where

@@ -4,6 +4,8 @@ pub mod Result
 pub mod Causes
 pub mod Ending
 pub mod Kept
+pub mod Headline
 pub mod Session
 pub mod Laws
+pub mod Lasting
 pub mod Private

@@ -12,6 +12,7 @@ use Rattle.pb_build.specs.declared.sessions.Answer.{Answer}
 use Rattle.pb_build.specs.Ending.{BuildsFirst, BuildsLast}
 use Rattle.pb_turns.specs.Moments.{Moment, moment}
 use Rattle.pb_build.specs.Environment.{environment_of}
+use Rattle.pb_build.specs.Headline.{Headline}
 use Rattle.pb_build.specs.Kept.{SourcesStay}
 use Rattle.pb_build.specs.Result.{BuildResult, IsResult}
 use Rattle.pb_package.specs.declared.options.Options.{Options}
@@ -34,7 +35,7 @@ abbrev pub Picked : Answers → Options → PickBy → Result Summary BuildFault
 Picked child options First result old new = BuildsFirst true child options result old new
 Picked child options Last result old new = BuildsLast true child options result old new
 
--- a step: an edit; a failure that is prepared, of which nothing is seen yet; or a build, which adds its answer
+-- a step: an edit; a failure that is prepared, of which nothing is seen yet; or a build, which keeps the headline and adds its answer
 abbrev pub Takes : Answers → SessionStep → Point → Point → Type 0
 Takes child (Write path text) before after = Edits (written path text before.moment.world) before after
 Takes child (Remove path) before after = Edits (removed path before.moment.world) before after
@@ -44,7 +45,8 @@ Takes child (Die key death) before after = after ≡ before
 Takes child (Fuse number) before after = after ≡ before
 Takes child (Build options pick) before after =
     (answer : Answer) × Picked child options pick answer.result before.moment after.moment
-    × SourcesStay (environment_of options before.moment.world.variables).target before.moment.world after.moment.world × (after.answers ≡ before.answers ++ answer ∷ [])
+    × SourcesStay (environment_of options before.moment.world.variables).target before.moment.world after.moment.world
+    × Headline true child options answer.result before.moment after.moment × (after.answers ≡ before.answers ++ answer ∷ [])
 
 -- the steps were taken in turn
 abbrev pub Course : Answers → List SessionStep → Point → Point → Type 0

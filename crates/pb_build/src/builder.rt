@@ -5,6 +5,7 @@ ghost use Rattle.pb_record.specs.Parts.{IsReading};
 ghost use Rattle.pb_build.specs.Causes.{MayPlan, MayReady};
 ghost use Rattle.pb_build.specs.Ending.{FailsBefore, Prepares, Works, Closes, Builds, BuildsBy, BuildsFirst};
 ghost use Rattle.pb_build.specs.Environment.{environment_of};
+ghost use Rattle.pb_build.specs.Headline.{Headline};
 ghost use Rattle.pb_build.specs.Kept.{SourcesStay};
 ghost use Rattle.pb_build.specs.Planning.{IsProject, IsToldRefusal};
 ghost use Rattle.pb_build.specs.Private.{NamesCall, IsReadyFor, IsSilentFault, IsUnrefused, unopened};
@@ -239,6 +240,8 @@ pub fn build_turns<P: Place, O: Out, T: Turn>(
     requires none { (P.counts place.old).starts.flying ≡ [] }
     ensures builds { Builds P.tells P.child T.turns options.now turn.old turn.new result
         (moment (P.world place.old) (P.counts place.old) (P.most place.old) (O.taken out.old) (O.faults out.old)) (moment (P.world place.new) (P.counts place.new) (P.most place.new) (O.taken out.new) (O.faults out.new)) }
+    ensures headline { Headline P.tells P.child options.now result
+        (moment (P.world place.old) (P.counts place.old) (P.most place.old) (O.taken out.old) (O.faults out.old)) (moment (P.world place.new) (P.counts place.new) (P.most place.new) (O.taken out.new) (O.faults out.new)) }
     ensures kept { IsTrue P.tells → SourcesStay (environment_of options.now (P.world place.old).variables).target (P.world place.old) (P.world place.new) }
     ensures landed { (P.counts place.new).starts.flying ≡ [] }
 {
@@ -257,6 +260,8 @@ pub fn build_with<P: Place, O: Out, K: Pick + Drop>(
 ) -> Result<Summary, BuildFault>
     requires none { (P.counts place.old).starts.flying ≡ [] }
     ensures builds { BuildsBy P.tells P.child K.picks options.now pick result
+        (moment (P.world place.old) (P.counts place.old) (P.most place.old) (O.taken out.old) (O.faults out.old)) (moment (P.world place.new) (P.counts place.new) (P.most place.new) (O.taken out.new) (O.faults out.new)) }
+    ensures headline { Headline P.tells P.child options.now result
         (moment (P.world place.old) (P.counts place.old) (P.most place.old) (O.taken out.old) (O.faults out.old)) (moment (P.world place.new) (P.counts place.new) (P.most place.new) (O.taken out.new) (O.faults out.new)) }
     ensures kept { IsTrue P.tells → SourcesStay (environment_of options.now (P.world place.old).variables).target (P.world place.old) (P.world place.new) }
     ensures landed { (P.counts place.new).starts.flying ≡ [] }
@@ -277,6 +282,8 @@ pub fn build<P: Place, O: Out>(
 ) -> Result<Summary, BuildFault>
     requires none { (P.counts place.old).starts.flying ≡ [] }
     ensures builds { BuildsFirst P.tells P.child options.now result
+        (moment (P.world place.old) (P.counts place.old) (P.most place.old) (O.taken out.old) (O.faults out.old)) (moment (P.world place.new) (P.counts place.new) (P.most place.new) (O.taken out.new) (O.faults out.new)) }
+    ensures headline { Headline P.tells P.child options.now result
         (moment (P.world place.old) (P.counts place.old) (P.most place.old) (O.taken out.old) (O.faults out.old)) (moment (P.world place.new) (P.counts place.new) (P.most place.new) (O.taken out.new) (O.faults out.new)) }
     ensures kept { IsTrue P.tells → SourcesStay (environment_of options.now (P.world place.old).variables).target (P.world place.old) (P.world place.new) }
     ensures landed { (P.counts place.new).starts.flying ≡ [] }

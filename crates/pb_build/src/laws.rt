@@ -1,6 +1,7 @@
 //! Laws of what a build gives. Each function does nothing; its contract is the law.
 
-ghost use Rattle.pb_build.specs.Laws.{LooksAtSources, GivesFromNothing, GivesItsResult, HasOneResult};
+ghost use Rattle.pb_build.specs.Lasting.{AnyBuildGives, NothingIsSound, RecordsStayTrue};
+ghost use Rattle.pb_build.specs.Laws.{LooksAtSources, GivesFromNothing, HasOneResult, UnitsAreOfResult};
 ghost use Rattle.pb_build.specs.Session.{Unaffected};
 
 /// What stands in the target folder is not seen: two worlds with the same variables and the same files outside it give
@@ -22,8 +23,21 @@ pub fn worlds_have_one_result()
     ensures { HasOneResult }
 {}
 
-/// A build that no fault has ended gives its result, where the records are true and the child is honest, or where no
-/// unit has a record.
-pub fn builds_give_their_result()
-    ensures { GivesItsResult }
+/// The units that a build has given are those of the result of its world.
+pub fn units_are_of_the_result()
+    ensures { UnitsAreOfResult }
+{}
+
+/// Whatever edits and builds of a session came, and however the builds ended, the records of a folder are true that were
+/// true at first, as are those of a folder without records: where edits stay out of the folder, and builds keep their
+/// records in it, with an honest child, or apart from it.
+pub fn records_stay_true()
+    ensures empty { NothingIsSound }
+    ensures stay { RecordsStayTrue }
+{}
+
+/// Any edits, any builds between: a build of a session gives what the present workspace gives from nothing, or a fault
+/// with the first of its lines, whatever came before it.
+pub fn any_build_gives()
+    ensures { AnyBuildGives }
 {}

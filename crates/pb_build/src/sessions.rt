@@ -1,8 +1,9 @@
 //! Sessions in memory: edits and builds, one after another.
 
-ghost use Rattle.std.specs.Prelude.{◌≡◌, [], IfOk, OnOk};
+ghost use Rattle.std.specs.Prelude.{◌≡◌, [], true, IfOk, OnOk};
 ghost use Rattle.pb_session.specs.declared.step.SessionStep.TheVariants.{Build};
 ghost use Rattle.pb_build.specs.Environment.{environment_of};
+ghost use Rattle.pb_build.specs.Headline.{Headline};
 ghost use Rattle.pb_build.specs.Kept.{SourcesStay};
 ghost use Rattle.pb_build.specs.Session.{Picked, Takes, Course, point};
 ghost use Rattle.pb_place.specs.Memory.{counts_in};
@@ -34,6 +35,8 @@ fn built<C: Child, O: Out>(
 ) -> Result<Summary, BuildFault>
     requires none { (counts_in memory.old).starts.flying ≡ [] }
     ensures picked { Picked C.answers options.now pick result
+        (moment memory.old.world (counts_in memory.old) memory.old.most (O.taken out.old) (O.faults out.old)) (moment memory.new.world (counts_in memory.new) memory.new.most (O.taken out.new) (O.faults out.new)) }
+    ensures headline { Headline true C.answers options.now result
         (moment memory.old.world (counts_in memory.old) memory.old.most (O.taken out.old) (O.faults out.old)) (moment memory.new.world (counts_in memory.new) memory.new.most (O.taken out.new) (O.faults out.new)) }
     ensures kept { SourcesStay (environment_of options.now memory.old.world.variables).target memory.old.world memory.new.world }
     ensures landed { (counts_in memory.new).starts.flying ≡ [] }

@@ -40,7 +40,7 @@ use Rattle.pb_turns.specs.declared.crew.UnitCrew.{UnitCrew}
 use Rattle.pb_turns.proofs.Changing.{changes_first}
 use Rattle.pb_turns.proofs.Counting.{appends_none, stops_refused}
 use Rattle.pb_turns.proofs.States.{due_all}
-use Rattle.pb_turns.proofs.Telling.{AllTold, Ended, due_told, ended_of, success_of}
+use Rattle.pb_turns.proofs.Telling.{AllTold, Ended, due_told, first_told, ended_of, success_of}
 use Rattle.pb_unit.specs.declared.plan.Planned.{Planned}
 
 -- Needs come earlier in plan order.
@@ -117,7 +117,14 @@ module _ (b : Basis) (done : List (Option (List Directive))) (aloft : List Aloft
       }
 
   pub stands : Stands b es w
-  stands = record { done = done; next = next; keeps = h.keeps; lines = due_told b.project es 0 b.project.plan.planned (outcomes_in b) done (states_in b.project es) all_told }
+  stands = record {
+    done = done;
+    next = next;
+    keeps = h.keeps;
+    gave = h.gave;
+    lines = due_told b.project es 0 b.project.plan.planned (outcomes_in b) done (states_in b.project es) all_told;
+    first_lines = λ n. first_told b.project es n 0 b.project.plan.planned (outcomes_in b) done (states_in b.project es) all_told;
+  }
 
   module _ (finished : is_finished (states_in b.project es) ≡ true) (long : length (states_in b.project es) ≡ length b.project.plan.planned) (first : World) (began : AllBeganFor b es first) where
     ended : Ended b.project es b.project.plan.planned (outcomes_in b) done (states_in b.project es)

@@ -1,5 +1,5 @@
 -- What is told of units that have answered is what their rows say.
-use Rattle.std.proofs.Common.{◌≡◌, ◌∙◌, ◌++◌, ◌+◌, ◌<◌, Bool, true, false, List, [], ◌∷◌, ℕ, suc, Option, Some, None, if◌then◌else◌, refl, sym, ap, subst, arith, slice_get, take, length, is_none}
+use Rattle.std.proofs.Common.{◌≡◌, ◌∙◌, ◌++◌, ◌+◌, ◌<◌, Bool, true, false, List, [], ◌∷◌, ℕ, zero, suc, Option, Some, None, if◌then◌else◌, refl, sym, ap, subst, arith, slice_get, take, length, is_none}
 use Rattle.std.proofs.lemmas.Bool.{false≢true}
 use Rattle.std.specs.Option.{option_map}
 use Rattle.std.specs.Prelude.{IfSome}
@@ -8,7 +8,7 @@ use Rattle.pb_flight.specs.declared.flight.Answer.{Answer}
 use Rattle.pb_flight.specs.declared.flight.State.{State}
 use Rattle.pb_flight.specs.declared.flight.State.TheVariants.{Untouched, Begun, Answered}
 use Rattle.pb_flight.specs.Events.{Event}
-use Rattle.pb_flight.specs.Table.{due, count_due, is_finished, first_bad_from, first_bad}
+use Rattle.pb_flight.specs.Table.{due, due_first, count_due, is_finished, first_bad_from, first_bad}
 use Rattle.pb_flight.proofs.Lists.{injective, clash}
 use Rattle.pb_project.specs.declared.fault.UnitFault.{UnitFault}
 use Rattle.pb_project.specs.declared.project.Project.{Project}
@@ -87,6 +87,33 @@ module _ (project : Project) (es : List (Event UnitFault)) where
           (ap (λ l. l ++ due ss) lines ∙ ap (λ l. unit_lines project u (is_started es i) messages ++ l) more)
       by (Bad fault messages) none lines more = subst (λ b. a.lines ++ (if b then due ss else []) ≡ said_from project es i (take (suc (if b then count_due ss else 0)) (record { unit = u; outcome = Bad fault messages } ∷ []))) (sym none)
           (ap (λ l. l ++ []) lines)
+
+  -- and so are the first so many of them
+  pub first_told : (n i : ℕ) (us : List Planned) (os : List Outcome) (ds : List (Option (List Directive))) (ss : List (State UnitFault)) → AllTold i us os ds ss → due_first n ss ≡ said_from project es i (take n (take (count_due ss) (to_first_bad us os)))
+  first_told zero i us os ds ss told = refl
+  first_told (suc n) i us os ds [] told = refl
+  first_told (suc n) i us os ds (Untouched ∷ ss) told = refl
+  first_told (suc n) i us os ds (Begun ∷ ss) told = refl
+  first_told (suc n) i [] os ds (Answered a ∷ ss) told = absurd (clash (told 0 a refl).there)
+  first_told (suc n) i (u ∷ us) [] ds (Answered a ∷ ss) told = absurd (clash (told 0 a refl).is)
+  first_told (suc n) i (u ∷ us) (o ∷ os) [] (Answered a ∷ ss) told = absurd (clash (told 0 a refl).noted)
+  first_told (suc n) i (u ∷ us) (o ∷ os) (d ∷ ds) (Answered a ∷ ss) told =
+      let h = head_of i u us o os d ds a ss told in
+      by o (ap is_none h.fault) h.lines (first_told n (suc i) us os ds ss (told_on i u us o os d ds (Answered a) ss told))
+    where
+      none_more : (m : ℕ) (j : ℕ) → said_from project es j (take m []) ≡ []
+      none_more zero j = refl
+      none_more (suc m) j = refl
+
+      by : (o : Outcome) → is_none a.fault ≡ is_none (fault_in o) → a.lines ≡ unit_lines project u (is_started es i) (messages_in o) → due_first n ss ≡ said_from project es (suc i) (take n (take (count_due ss) (to_first_bad us os)))
+          → a.lines ++ (if is_none a.fault then due_first n ss else [])
+          ≡ said_from project es i (take (suc n) (take (suc (if is_none a.fault then count_due ss else 0)) (record { unit = u; outcome = o } ∷ (if is_bad o then [] else to_first_bad us os))))
+      by Waiting none lines more = subst (λ b. a.lines ++ (if b then due_first n ss else []) ≡ said_from project es i (take (suc n) (take (suc (if b then count_due ss else 0)) (record { unit = u; outcome = Waiting } ∷ to_first_bad us os)))) (sym none)
+          (ap (λ l. l ++ due_first n ss) lines ∙ ap (λ l. unit_lines project u (is_started es i) [] ++ l) more)
+      by (Good files directives messages) none lines more = subst (λ b. a.lines ++ (if b then due_first n ss else []) ≡ said_from project es i (take (suc n) (take (suc (if b then count_due ss else 0)) (record { unit = u; outcome = Good files directives messages } ∷ to_first_bad us os)))) (sym none)
+          (ap (λ l. l ++ due_first n ss) lines ∙ ap (λ l. unit_lines project u (is_started es i) messages ++ l) more)
+      by (Bad fault messages) none lines more = subst (λ b. a.lines ++ (if b then due_first n ss else []) ≡ said_from project es i (take (suc n) (take (suc (if b then count_due ss else 0)) (record { unit = u; outcome = Bad fault messages } ∷ [])))) (sym none)
+          (ap (λ l. l ++ []) lines ∙ ap (λ l. unit_lines project u (is_started es i) messages ++ l) (sym (none_more n (suc i))))
 
   -- where units came to their end: all rows, their directives, and the first bad one
   pub record Ended (us : List Planned) (os : List Outcome) (ds : List (Option (List Directive))) (ss : List (State UnitFault)) : Type 0 where

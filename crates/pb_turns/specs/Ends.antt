@@ -1,5 +1,5 @@
 -- How the units of a project end.
-use Rattle.std.specs.Prelude.{Bool, ◌≡◌, ◌≢◌, ◌⊎◌, ◌∷◌, [], ℕ, max, true, List, map, length, take, Option, None, IsTrue, IfErr, Result, Ok, Err}
+use Rattle.std.specs.Prelude.{Bool, ◌≡◌, ◌≢◌, ◌⊎◌, ◌∷◌, [], ℕ, max, true, List, map, length, take, slice_get, Option, Some, None, IsTrue, IfErr, Result, Ok, Err}
 use Rattle.std.specs.Io.KnownBytes.{Appends}
 use Rattle.pb_answer.specs.declared.fault.BuildFault.{BuildFault}
 use Rattle.pb_answer.specs.declared.summary.Summary.{Summary}
@@ -7,7 +7,9 @@ use Rattle.pb_directive.specs.declared.directive.Directive.{Directive}
 use Rattle.pb_flight.specs.declared.turn.Step.{Step}
 use Rattle.pb_flight.specs.Events.{Event, Anything, started_by, peak}
 use Rattle.pb_flight.specs.Steps.{Flies, Anyhow}
-use Rattle.pb_flight.specs.Table.{due, count_due, is_finished}
+use Rattle.pb_flight.specs.Table.{due, due_first, count_due, is_finished}
+use Rattle.pb_flight.specs.declared.flight.Answer.{Answer}
+use Rattle.pb_flight.specs.declared.flight.State.TheVariants.{Answered}
 use Rattle.pb_place.specs.Counts.{Counts, counted_finish}
 use Rattle.pb_place.specs.World.{World, Answers}
 use Rattle.pb_place.specs.declared.command.Ended.{Ended}
@@ -22,7 +24,7 @@ use Rattle.pb_soundness.specs.Records.{Reading}
 use Rattle.pb_turns.specs.Crew.{needs_of, ticket_of_child}
 use Rattle.pb_turns.specs.Moments.{Moment}
 use Rattle.pb_turns.specs.Rows.{Row, rows_of, said_from, started_keys, summary_of}
-use Rattle.pb_turns.specs.Story.{states_in, untouched, upped, Stops, OnlyOf, AllBeganFor, IsBeginning}
+use Rattle.pb_turns.specs.Story.{states_in, untouched, upped, Stops, OnlyOf, AllBeganFor, HasGiven, IsBeginning}
 use Rattle.pb_unit.specs.declared.plan.Planned.{Planned}
 
 -- the children of these tickets were asked for their ends, in this order, their answers were dropped, and nothing else was called
@@ -47,12 +49,14 @@ abbrev pub Grounding : Answers → Setup → Project → Option ℕ → World �
 Grounding child setup project next w Since = (footing : Footing) (read : Reading) (sources : World) → IsReading read
     → Keeps (basis footing read child setup project sources) (untouched project) (nothing_said project) next w → Since (basis footing read child setup project sources)
 
--- what stands after some events: what the halves of units keep; and the lines that are due are those of the first rows
+-- what stands after some events: what the halves of units keep; each unit that has answered gave its outcome from nothing; the lines that are due are those of the first rows, and so are the first of them
 pub record Stands (b : Basis) (es : List (Event UnitFault)) (new : World) : Type 0 where
   pub done : List (Option (List Directive))
   pub next : Option ℕ
   pub keeps : Keeps b (states_in b.project es) done next new
+  pub gave : (place : ℕ) (answer : Answer UnitFault) → slice_get (states_in b.project es) place ≡ Some (Answered answer) → HasGiven b es done place answer
   pub lines : due (states_in b.project es) ≡ said_from b.project es 0 (take (count_due (states_in b.project es)) (rows_in b))
+  pub first_lines : (n : ℕ) → due_first n (states_in b.project es) ≡ said_from b.project es 0 (take n (take (count_due (states_in b.project es)) (rows_in b)))
 
 -- all units have answered, or all up to and with the first bad one: the summary is that of the rows, all of which are told, and each unit that began did so for what differed of it
 pub record StandsWhole (b : Basis) (es : List (Event UnitFault)) (summary : Summary) (old new : World) : Type 0 where

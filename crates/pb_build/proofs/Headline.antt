@@ -1,0 +1,240 @@
+-- A build that rests on true records and an honest child, or on no record, gives what its units give from nothing, and leaves true records.
+use Rattle.std.proofs.Common.{◌≡◌, ◌∙◌, ◌⊎◌, ◌<◌, ◌+◌, true, false, Bool, List, [], ◌∷◌, ℕ, zero, suc, map, length, take, is_none, if◌then◌else◌, Option, Some, None, Result, Ok, Err, inl, inr, refl, sym, ap, ap₂, subst, arith, slice_get}
+use Rattle.std.proofs.lemmas.List.{length-map}
+use Rattle.std.proofs.Math.Seq.{take-length}
+use Rattle.std.specs.Io.KnownBytes.{Appends}
+use Rattle.std.specs.Prelude.{IsTrue}
+use Rattle.pb_answer.specs.declared.fault.BuildFault.{BuildFault}
+use Rattle.pb_answer.specs.declared.fault.BuildFault.TheVariants.{Plan, Toolchain, Child, Device, Sink, OutOfMemory}
+use Rattle.pb_answer.specs.declared.summary.Summary.{Summary}
+use Rattle.pb_command.specs.Judge.{judge}
+use Rattle.pb_directive.specs.declared.directive.Directive.{Directive}
+use Rattle.pb_flight.specs.Events.{Event}
+use Rattle.pb_flight.specs.Table.{due, due_first, count_due, is_good_at}
+use Rattle.pb_flight.specs.declared.flight.Answer.{Answer}
+use Rattle.pb_flight.specs.declared.flight.State.{State}
+use Rattle.pb_flight.specs.declared.flight.State.TheVariants.{Untouched, Begun, Answered}
+use Rattle.pb_flight.specs.declared.turn.Step.{Step}
+use Rattle.pb_message.specs.declared.message.Message.{Message}
+use Rattle.pb_package.specs.declared.options.Options.{Options}
+use Rattle.pb_place.specs.Folders.{files_in}
+use Rattle.pb_place.specs.Paths.{below}
+use Rattle.pb_place.specs.World.{World, Map, Answers, from_nothing}
+use Rattle.pb_profile.specs.Line.{folder_of}
+use Rattle.pb_project.specs.declared.fault.UnitFault.{UnitFault}
+use Rattle.pb_project.specs.declared.project.Project.{Project}
+use Rattle.pb_project.specs.declared.project.Setup.{Setup}
+use Rattle.pb_record.specs.Parts.{IsReading}
+use Rattle.pb_run.specs.Halves.{Footing, OnRecords, OnNothing, Basis, basis, records_in, outcomes_in, Keeps, HoldsBy}
+use Rattle.pb_run.specs.Outcome.{Outcome, Waiting, Good, Bad}
+use Rattle.pb_run.specs.Standing.{records_folder}
+use Rattle.pb_soundness.specs.Numbers.{IsAhead}
+use Rattle.pb_soundness.specs.Records.{Reading, record_at}
+use Rattle.pb_soundness.specs.Sound.{Sound}
+use Rattle.pb_turns.specs.Crew.{needs_of}
+use Rattle.pb_turns.specs.Ends.{TurnsEnd, EndsWhole, EndsCut, StandsWhole, StandsCut, Stands, nothing_said, rows_in}
+use Rattle.pb_turns.specs.Moments.{Heard, Moment}
+use Rattle.pb_turns.specs.Rows.{Row, rows_of, to_first_bad, is_bad, fault_in, said_from}
+use Rattle.pb_turns.specs.Story.{states_in, untouched, Stops, AllBeganFor}
+use Rattle.pb_unit.specs.declared.plan.Planned.{Planned}
+use Rattle.pb_workspace.proofs.Accepted.{target_kept}
+use Rattle.pb_build.specs.Ending.{Works, Builds, NoneBegan}
+use Rattle.pb_build.specs.Environment.{environment_of}
+use Rattle.pb_build.specs.Headline.{records_of, RestsOn, UnitsOf, GivesAll, GivesFirst, LinesBefore, GivesUnits, LeavesRecords, Gives, Headline}
+use Rattle.pb_build.specs.Planning.{IsProject}
+use Rattle.pb_build.specs.Result.{toolchain_of, setup_of}
+
+injective : {A : Type 0} {x y : A} → Some x ≡ Some y → x ≡ y
+injective e = cc
+
+-- before a unit has begun none is good
+none_good : (needs : List (List ℕ)) (place : ℕ) → is_good_at {F = UnitFault} (slice_get (map (λ _. Untouched) needs) place) ≡ true → ⊥
+none_good [] place good = cc
+none_good (n ∷ needs) zero good = cc
+none_good (n ∷ needs) (suc place) good = none_good needs place good
+
+-- what the halves of units keep then
+first_kept : (b : Basis) (next : Option ℕ) (w : World) → from_nothing b.project.workspace.target w ≡ b.sources → HoldsBy b.footing b (untouched b.project) next w → Keeps b (untouched b.project) (nothing_said b.project) next w
+first_kept b next w sources holds = record {
+  long = length-map b.project.plan.planned _ ∙ sym (length-map (needs_of b.project) _ ∙ length-map b.project.plan.planned _);
+  sources_stay = sources;
+  good = λ place good. absurd (none_good (needs_of b.project) place good);
+  closed = λ place u good there. absurd (none_good (needs_of b.project) place good);
+  records = holds;
+}
+
+-- The rows of units that have answered.
+
+inside : {A : Type 0} (xs : List A) (i : ℕ) (x : A) → slice_get xs i ≡ Some x → i < length xs
+inside [] i x at = cc
+inside (y ∷ ys) zero x at = omega arith
+inside (y ∷ ys) (suc i) x at = let less : i < length ys = inside ys i x at in omega (arith, less)
+
+-- a row of the result is of a unit and its outcome
+record RowAt (us : List Planned) (os : List Outcome) (place : ℕ) (row : Row) : Type 0 where
+  pub unit : slice_get us place ≡ Some row.unit
+  pub outcome : slice_get os place ≡ Some row.outcome
+
+row_at : (us : List Planned) (os : List Outcome) (place : ℕ) (row : Row) → slice_get (to_first_bad us os) place ≡ Some row → RowAt us os place row
+row_at [] os place row at = cc
+row_at (u ∷ us) [] place row at = cc
+row_at (u ∷ us) (o ∷ os) zero row at =
+    let same : record { unit = u; outcome = o } ≡ row = injective at in
+    record { unit = ap (λ (r : Row). Some r.unit) same; outcome = ap (λ (r : Row). Some r.outcome) same }
+row_at (u ∷ us) (o ∷ os) (suc place) row at = let r = by (is_bad o) at in record { unit = r.unit; outcome = r.outcome }
+  where
+    by : (b : Bool) → slice_get (if b then [] else to_first_bad us os) place ≡ Some row → RowAt us os place row
+    by true none = cc
+    by false more = row_at us os place row more
+
+-- a unit whose lines are due has answered
+answered_due : {F : Type 0} (ss : List (State F)) (place : ℕ) → place < count_due ss → (answer : Answer F) × (slice_get ss place ≡ Some (Answered answer))
+answered_due [] place less = absurd (omega (arith, less))
+answered_due (Untouched ∷ ss) place less = absurd (omega (arith, less))
+answered_due (Begun ∷ ss) place less = absurd (omega (arith, less))
+answered_due (Answered a ∷ ss) zero less = (a, refl)
+answered_due (Answered a ∷ ss) (suc place) less = by (is_none a.fault) less
+  where
+    by : (b : Bool) → suc place < suc (if b then count_due ss else 0) → (answer : _) × (slice_get ss place ≡ Some (Answered answer))
+    by true more = answered_due ss place (omega (arith, more))
+    by false more = absurd (omega (arith, more))
+
+module _ (footing : Footing) (read : Reading) (reading : IsReading read) (child : Answers) (options : Options) where
+  -- the folder of the records
+  pub same_folder : (w : World) (project : Project) → IsProject options (environment_of options w.variables).target w project → records_folder project ≡ records_of options w.variables
+  same_folder w project is = ap₂ (λ (t n : List ℕ). below t (folder_of n)) (target_kept options.manifest (environment_of options w.variables).target w project.workspace is.selected.read) is.profile
+
+  -- before the units nothing was changed
+  stay_true : (f : Footing) (old new : World) → RestsOn f read child options old → new ≡ old → LeavesRecords f read child options old new
+  stay_true OnRecords old new (sound, honest) same = subst (λ (w : World). Sound read judge child (records_of options old.variables) w.files) (sym same) sound
+  stay_true OnNothing old new none same = tt
+
+  module _ {S : Type 0} (Turns : S → List ℕ → List ℕ → Step → S → Type 0) (from last : S) where
+    none_gives : (result : Result Summary BuildFault) (old new : Moment) → NoneBegan true child options result old new → GivesUnits footing read child options result old new
+    none_gives (Ok summary) old new none = let no : Ok summary ≡ Err none.fault = none.answer in cc
+    none_gives (Err fault) old new none = inl none
+
+    module _ (project : Project) (toolchain : List ℕ) (old mid new : Moment) (is : IsProject options (environment_of options old.world.variables).target old.world project)
+        (says : toolchain_of child (environment_of options old.world.variables) project (from_nothing (environment_of options old.world.variables).target old.world) ≡ Some toolchain) (next : Option ℕ)
+        (ahead : IsAhead (record_at read (records_folder project) old.world.files) next) (stays : mid.world ≡ old.world) (heard : mid.heard ≡ old.heard) (rests : RestsOn footing read child options old.world) where
+      abbrev setup : Setup
+      setup = setup_of options (environment_of options old.world.variables) toolchain
+
+      abbrev sources : World
+      sources = from_nothing (environment_of options old.world.variables).target old.world
+
+      abbrev b : Basis
+      b = basis footing read child setup project sources
+
+      holds : (f : Footing) → RestsOn f read child options old.world → HoldsBy f (basis f read child setup project sources) (untouched project) next old.world
+      holds OnRecords (sound, honest) = record {
+        honest = honest read project toolchain is says;
+        sound = subst (λ (f : List ℕ). Sound read judge child f old.world.files) (sym (same_folder old.world project is)) sound;
+        ahead = ahead;
+        recorded = λ place good. absurd (none_good (needs_of project) place good);
+      }
+      holds OnNothing none = λ place u there state. subst (λ (f : List ℕ). record_at read f old.world.files u.key ≡ None) (sym (same_folder old.world project is)) (none u.key)
+
+      kept_first : (f : Footing) → RestsOn f read child options old.world → Keeps (basis f read child setup project sources) (untouched project) (nothing_said project) next mid.world
+      kept_first f on =
+          subst (λ (w : World). Keeps (basis f read child setup project sources) (untouched project) (nothing_said project) next w) (sym stays)
+          (first_kept (basis f read child setup project sources) next old.world
+          (ap (λ (t : List ℕ). from_nothing t old.world) (target_kept options.manifest (environment_of options old.world.variables).target old.world project.workspace is.selected.read)) (holds f on))
+
+      abbrev units_by : List (Event UnitFault) → UnitsOf child options old.world
+      units_by es = record { project = project; toolchain = toolchain; is = is; says = says; es = es }
+
+      leaves : (f : Footing) (es : List (Event UnitFault)) → Stands (basis f read child setup project sources) es new.world → LeavesRecords f read child options old.world new.world
+      leaves OnRecords es stands = subst (λ (f : List ℕ). Sound read judge child f new.world.files) (same_folder old.world project is) stands.keeps.records.sound
+      leaves OnNothing es stands = tt
+
+      -- the bytes that were handed out since the start
+      since : (es : List (Event UnitFault)) (bytes told : List ℕ) → bytes ≡ told → Appends mid.heard.taken new.heard.taken bytes → Appends old.heard.taken new.heard.taken told
+      since es bytes told same taken = subst (λ (h : Heard). Appends h.taken new.heard.taken told) heard (subst (Appends mid.heard.taken new.heard.taken) same taken)
+
+      module _ (es : List (Event UnitFault)) (stands : Stands b es new.world) where
+        -- the folder of a good unit among those that were told
+        file_holds : count_due (states_in project es) ≡ length (rows_in b) → (place : ℕ) (u : Planned) (made : Map) (directives : Option (List Directive)) (messages : List Message)
+            → slice_get (rows_in b) place ≡ Some record { unit = u; outcome = Good made directives messages } → files_in u.out new.world.files ≡ made
+        file_holds all place u made directives messages row =
+            let at = row_at project.plan.planned (outcomes_in b) place record { unit = u; outcome = Good made directives messages } row in
+            let less : place < length (rows_in b) = inside (rows_in b) place record { unit = u; outcome = Good made directives messages } row in
+            let due_now : place < count_due (states_in project es) = subst (λ (n : ℕ). place < n) (sym all) less in
+            let (answer, here) = answered_due (states_in project es) place due_now in
+            let gave = stands.gave place answer here in
+            let outcome_is : gave.outcome ≡ Good made directives messages = injective (sym gave.is ∙ at.outcome) in
+            let no_fault : answer.fault ≡ None = gave.fault ∙ ap fault_in outcome_is in
+            let good : is_good_at (slice_get (states_in project es) place) ≡ true = ap is_good_at here ∙ ap is_none no_fault in
+            let s = stands.keeps.good place good in
+            let same_unit : s.unit ≡ u = injective (sym s.there ∙ at.unit) in
+            let same_good : Good s.files s.directives s.messages ≡ Good made directives messages = injective (sym s.good ∙ at.outcome) in
+            let same_files : s.files ≡ made = good_files same_good in
+            ap (λ (x : Planned). files_in x.out new.world.files) (sym same_unit) ∙ (s.holds ∙ same_files)
+          where
+            good_files : {f g : Map} {d e : Option (List Directive)} {m n : List Message} → Good f d m ≡ Good g e n → f ≡ g
+            good_files e = cc
+
+        all_lines : count_due (states_in project es) ≡ length (rows_in b) → due (states_in project es) ≡ said_from project es 0 (rows_in b)
+        all_lines all = stands.lines ∙ (ap (λ (n : ℕ). said_from project es 0 (take n (rows_in b))) all ∙ ap (said_from project es 0) (take-length (rows_in b)))
+
+      -- the lines before a fault
+      module _ (es : List (Event UnitFault)) (stands : Stands b es new.world) (stop : Moment) (after : new.heard ≡ stop.heard) where
+        first_lines : (bytes told : List ℕ) → bytes ≡ told → Appends mid.heard.taken stop.heard.taken bytes → Appends old.heard.taken new.heard.taken told
+        first_lines bytes told same taken = since es bytes told same (subst (λ (h : Heard). Appends mid.heard.taken h.taken bytes) (sym after) taken)
+
+        lines_before : (fault : BuildFault) → Stops fault project mid stop es → LinesBefore fault project es (rows_in b) old.heard.taken new.heard.taken
+        lines_before (Plan why) stops = stops.by
+        lines_before Toolchain stops = stops.by
+        lines_before (Child key fault) stops = first_lines (due (states_in project es)) _ stands.lines stops.by.lines
+        lines_before (Device key fault) stops = first_lines (due (states_in project es)) _ stands.lines stops.by.lines
+        lines_before Sink stops = let ((n, taken), faults) = stops.by in (n, first_lines (take n (due (states_in project es))) _ (ap (take n) stands.lines) taken)
+        lines_before OutOfMemory stops = let ((n, taken), faults) = stops.by in (n, first_lines (due_first n (states_in project es)) _ (stands.first_lines n) taken)
+
+      turns_give : (result : Result Summary BuildFault) → TurnsEnd true child Turns setup project next from last result mid new
+          → GivesUnits footing read child options result old new × LeavesRecords footing read child options old.world new.world
+      turns_give (Ok summary) ends =
+          let whole : StandsWhole b ends.es summary mid.world new.world = ends.told refl footing read sources reading (kept_first footing rests) in (
+            record {
+              units = units_by ends.es;
+              answer = whole.answer;
+              lines = since ends.es (due (states_in project ends.es)) _ (all_lines ends.es whole.stands whole.all) ends.lines;
+              files = file_holds ends.es whole.stands whole.all;
+              began = subst (λ (w : World). AllBeganFor b ends.es w) stays whole.began;
+            },
+            leaves footing ends.es whole.stands,
+          )
+      turns_give (Err fault) ends =
+          let cut : StandsCut b ends.es mid.world new.world = ends.told refl footing read sources reading (kept_first footing rests) in (
+            inr record {
+              units = units_by ends.es;
+              lines = lines_before ends.es cut.stands ends.mid ends.heard fault ends.stops;
+              before = cut.before;
+              begins = cut.begins;
+              began = subst (λ (w : World). AllBeganFor b cut.before w) stays cut.began;
+            },
+            leaves footing ends.es cut.stands,
+          )
+
+    works_give : (result : Result Summary BuildFault) (old new : Moment) → RestsOn footing read child options old.world → Works true child Turns options from last result old new
+        → GivesUnits footing read child options result old new × LeavesRecords footing read child options old.world new.world
+    works_give result old new rests (inl none) = (none_gives result old new none, stay_true footing old.world new.world rests (none.stays refl))
+    works_give result old new rests (inr units) =
+        let project = units.prepared.project in
+        let is = units.prepares.is refl in
+        turns_give project is.toolchain old units.mid new is.project is.says units.prepared.store.next
+        (is.ahead footing read (from_nothing (environment_of options old.world.variables).target old.world) reading) (units.prepares.stays refl) units.heard rests result
+        (subst (λ (s : Setup). TurnsEnd true child Turns s project units.prepared.store.next from last result units.mid new) is.setup units.ends)
+
+    builds_give : (result : Result Summary BuildFault) (old new : Moment) → RestsOn footing read child options old.world → Builds true child Turns options from last result old new → Gives footing read child options result old new
+    builds_give result old new rests builds =
+        let (units, records) = works_give builds.inner old record new { heard = builds.heard } rests builds.works in
+        record { inner = builds.inner; heard = builds.heard; units = units; closes = builds.closes; records = records }
+
+-- the headline, of every build
+pub headline : {S : Type 0} (tells : Bool) (child : Answers) (Turns : S → List ℕ → List ℕ → Step → S → Type 0) (options : Options) (from last : S) (result : Result Summary BuildFault) (old new : Moment)
+    → Builds tells child Turns options from last result old new → Headline tells child options result old new
+headline true child Turns options from last result old new builds told footing read reading rests = builds_give footing read reading child options Turns from last result old new rests builds
+headline false child Turns options from last result old new builds told footing read reading rests = absurd (told_false told)
+  where
+    told_false : IsTrue false → ⊥
+    told_false e = cc

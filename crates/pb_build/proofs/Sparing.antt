@@ -1,0 +1,121 @@
+-- The records of a folder stay true over a session's steps.
+use Rattle.std.proofs.Common.{◌≡◌, ◌∙◌, ◌⊎◌, ℕ, Bool, true, false, not, cond, List, [], ◌∷◌, ◌++◌, Option, Some, None, Result, Ok, Err, inl, inr, refl, sym, ap, subst}
+use Rattle.std.specs.Prelude.{IsTrue}
+use Rattle.std.proofs.lemmas.Bool.{cases_Bool, false≢true}
+use Rattle.std.proofs.lemmas.Slice.Eq.{bytes_eq-Decides}
+use Rattle.std.specs.FinMap.{get, get-insert}
+use Rattle.std.specs.Cmp.Lexicographic.{nat_list_cmp_total}
+use Rattle.pb_answer.specs.declared.fault.BuildFault.{BuildFault}
+use Rattle.pb_answer.specs.declared.summary.Summary.{Summary}
+use Rattle.pb_command.specs.Judge.{judge}
+use Rattle.pb_flight.specs.Events.{Event}
+use Rattle.pb_flight.specs.declared.turn.Step.{Step}
+use Rattle.pb_package.specs.declared.options.Options.{Options}
+use Rattle.pb_place.specs.Paths.{is_at_or_below}
+use Rattle.pb_place.specs.World.{World, Map, Answers, AgreeBut, written, removed, is_same_path}
+use Rattle.pb_place.proofs.MapLemmas.{get-kept, same_bytes}
+use Rattle.pb_place.proofs.Within.{at_itself}
+use Rattle.pb_project.specs.declared.fault.UnitFault.{UnitFault}
+use Rattle.pb_project.specs.declared.project.Project.{Project}
+use Rattle.pb_project.specs.declared.project.Setup.{Setup}
+use Rattle.pb_record.specs.Parts.{IsReading}
+use Rattle.pb_run.specs.Halves.{OnRecords}
+use Rattle.pb_run.specs.Standing.{IsInOrder, records_folder}
+use Rattle.pb_session.specs.declared.pick.PickBy.{PickBy}
+use Rattle.pb_session.specs.declared.pick.PickBy.TheVariants.{First, Last}
+use Rattle.pb_session.specs.declared.step.SessionStep.{SessionStep}
+use Rattle.pb_session.specs.declared.step.SessionStep.TheVariants.{Write, Remove, Set, Unset, Build, Die, Fuse}
+use Rattle.pb_soundness.specs.Records.{Reading, record_at}
+use Rattle.pb_soundness.specs.Sound.{Sound}
+use Rattle.pb_soundness.proofs.Four.{outside}
+use Rattle.pb_turns.specs.Ends.{TurnsEnd}
+use Rattle.pb_turns.specs.Moments.{Moment}
+use Rattle.pb_turns.specs.Story.{OnlyOf}
+use Rattle.pb_build.specs.Ending.{Works, Builds}
+use Rattle.pb_build.specs.Headline.{records_of, RestsOn, Gives}
+use Rattle.pb_build.specs.Lasting.{ShareNoPath, Spares, SparingCourse, NothingIsSound, RecordsStayTrue, AnyBuildGives}
+use Rattle.pb_build.specs.Session.{Point, Takes, Picked}
+use Rattle.pb_build.proofs.Headline.{same_folder}
+use Rattle.pb_build.proofs.Staying.{none_of}
+
+-- A build changes files in the folder of its records alone.
+
+only_within : (project : Project) (es : List (Event UnitFault)) (old new : World) → IsInOrder project → OnlyOf project es old new → AgreeBut (is_at_or_below (records_folder project)) old.files new.files
+only_within project es old new order only q outside_it =
+    only.files q (λ place u begun there. none_of (records_folder project) (records_folder project) u.key q (at_itself (records_folder project) (records_folder project) refl) (order.keys place u there) outside_it)
+
+module _ {S : Type 0} (child : Answers) (Turns : S → List ℕ → List ℕ → Step → S → Type 0) (options : Options) (from last : S) where
+  turns_within : (setup : Setup) (project : Project) (next : Option ℕ) (result : Result Summary BuildFault) (old new : Moment) → IsInOrder project → TurnsEnd true child Turns setup project next from last result old new
+      → AgreeBut (is_at_or_below (records_folder project)) old.world.files new.world.files
+  turns_within setup project next (Ok summary) old new order ends = only_within project ends.es old.world new.world order (ends.only refl)
+  turns_within setup project next (Err fault) old new order ends = only_within project ends.es old.world new.world order (ends.only refl)
+
+  works_within : (result : Result Summary BuildFault) (old new : Moment) → Works true child Turns options from last result old new → AgreeBut (is_at_or_below (records_of options old.world.variables)) old.world.files new.world.files
+  works_within result old new (inl none) q outside_it = ap (λ (w : World). get w.files q) (none.stays refl)
+  works_within result old new (inr units) q outside_it =
+      let project = units.prepared.project in
+      let is = units.prepares.is refl in
+      let same : records_folder project ≡ records_of options old.world.variables = same_folder child options old.world project is.project in
+      turns_within units.prepared.setup project units.prepared.store.next result units.mid new units.prepares.order units.ends q (subst (λ (f : List ℕ). is_at_or_below f q ≡ false) (sym same) outside_it)
+      ∙ ap (λ (w : World). get w.files q) (units.prepares.stays refl)
+
+  pub builds_within : (result : Result Summary BuildFault) (old new : Moment) → Builds true child Turns options from last result old new → AgreeBut (is_at_or_below (records_of options old.world.variables)) old.world.files new.world.files
+  builds_within result old new builds = works_within builds.inner old record new { heard = builds.heard } builds.works
+
+picked_within : (child : Answers) (options : Options) (pick : PickBy) (result : Result Summary BuildFault) (old new : Moment) → Picked child options pick result old new
+    → AgreeBut (is_at_or_below (records_of options old.world.variables)) old.world.files new.world.files
+picked_within child options First result old new (pick, (last, builds)) = builds_within child _ options _ last result old new builds
+picked_within child options Last result old new (pick, (last, builds)) = builds_within child _ options _ last result old new builds
+
+-- A step.
+
+module _ (read : Reading) (reading : IsReading read) (child : Answers) (folder : List ℕ) where
+  abbrev IsSound : World → Type 0
+  IsSound w = Sound read judge child folder w.files
+
+  other_path : (path q : List ℕ) → is_at_or_below folder path ≡ false → is_at_or_below folder q ≡ true → is_same_path path q ≡ false
+  other_path path q out within = elim (cases_Bool (is_same_path path q)) [
+    | inl same ↦ absurd (false≢true (sym out ∙ ap (is_at_or_below folder) (sym ((bytes_eq-Decides q path).0 (same_bytes q path ∙ same))) ∙ within))
+    | inr other ↦ other
+  ]
+
+  written_sound : (path text : List ℕ) (w : World) → is_at_or_below folder path ≡ false → IsSound w → IsSound (written path text w)
+  written_sound path text w out = outside read judge child folder w.files (written path text w).files
+      (λ q within. get-insert nat_list_cmp_total w.files path text q ∙ ap (λ (b : Bool). cond b (Some text) (get w.files q)) (other_path path q out within))
+
+  removed_sound : (path : List ℕ) (w : World) → ShareNoPath folder path → IsSound w → IsSound (removed path w)
+  removed_sound path w apart = outside read judge child folder w.files (removed path w).files
+      (λ q within. get-kept w.files (λ p. not (is_at_or_below path p)) q ∙ ap (λ (b : Bool). cond (not b) (get w.files q) None) (apart q within))
+
+  step_sound : (step : SessionStep) (before after : Point) → Spares child folder step before.moment.world → Takes child step before after → IsSound before.moment.world → IsSound after.moment.world
+  step_sound (Write path text) before after out (e, same) sound = subst (λ (m : Moment). IsSound m.world) (sym e) (written_sound path text before.moment.world out sound)
+  step_sound (Remove path) before after apart (e, same) sound = subst (λ (m : Moment). IsSound m.world) (sym e) (removed_sound path before.moment.world apart sound)
+  step_sound (Set name value) before after out (e, same) sound = subst (λ (m : Moment). IsSound m.world) (sym e) sound
+  step_sound (Unset name) before after out (e, same) sound = subst (λ (m : Moment). IsSound m.world) (sym e) sound
+  step_sound (Die key death) before after out same sound = subst (λ (p : Point). IsSound p.moment.world) (sym same) sound
+  step_sound (Fuse number) before after out same sound = subst (λ (p : Point). IsSound p.moment.world) (sym same) sound
+  step_sound (Build options pick) before after (inl (same, honest)) (answer, builds, kept, headline, answers) sound =
+      let there : RestsOn OnRecords read child options before.moment.world = (subst (λ (f : List ℕ). Sound read judge child f before.moment.world.files) (sym same) sound, honest) in
+      subst (λ (f : List ℕ). Sound read judge child f after.moment.world.files) same (headline refl OnRecords read reading there).records
+  step_sound (Build options pick) before after (inr apart) (answer, builds, kept, headline, answers) sound =
+      outside read judge child folder before.moment.world.files after.moment.world.files
+      (λ q within. picked_within child options pick answer.result before.moment after.moment builds q (apart q within)) sound
+
+  course_sound : (steps : List SessionStep) (before after : Point) → SparingCourse child folder steps before after → IsSound before.moment.world → IsSound after.moment.world
+  course_sound [] before after same sound = subst (λ (p : Point). IsSound p.moment.world) (sym same) sound
+  course_sound (step ∷ steps) before after (spares, (mid, taken, rest)) sound = course_sound steps mid after rest (step_sound step before mid spares taken sound)
+
+-- The laws.
+
+pub nothing_is_sound : NothingIsSound
+nothing_is_sound read child folder files none = record { each = λ key r at. absurd (clash (sym (none key) ∙ at)) }
+  where
+    clash : {A : Type 0} {x : A} → None ≡ Some x → ⊥
+    clash e = cc
+
+pub records_stay_true : RecordsStayTrue
+records_stay_true read child folder steps before after reading course sound = course_sound read reading child folder steps before after course sound
+
+pub any_build_gives : AnyBuildGives
+any_build_gives read child options pick steps before mid after reading course sound honest (answer, builds, kept, headline, answers) =
+    (answer, answers, headline refl OnRecords read reading (course_sound read reading child (records_of options mid.moment.world.variables) steps before mid course sound, honest))

@@ -1,0 +1,114 @@
+-- The headline: what a build gives that rests on true records and an honest child, or on no record.
+use Rattle.std.specs.Prelude.{◌≡◌, ◌⊎◌, ℕ, Bool, true, List, take, Option, Some, None, IsTrue, Result, Ok, Err, slice_get}
+use Rattle.std.specs.Io.KnownBytes.{Appends}
+use Rattle.pb_answer.specs.declared.fault.BuildFault.{BuildFault}
+use Rattle.pb_answer.specs.declared.fault.BuildFault.TheVariants.{Plan, Toolchain, Child, Device, Sink, OutOfMemory}
+use Rattle.pb_answer.specs.declared.summary.Summary.{Summary}
+use Rattle.pb_command.specs.Judge.{judge}
+use Rattle.pb_directive.specs.declared.directive.Directive.{Directive}
+use Rattle.pb_flight.specs.Events.{Event}
+use Rattle.pb_flight.specs.Table.{count_due}
+use Rattle.pb_message.specs.declared.message.Message.{Message}
+use Rattle.pb_package.specs.declared.options.Options.{Options}
+use Rattle.pb_place.specs.Folders.{files_in}
+use Rattle.pb_place.specs.Paths.{below}
+use Rattle.pb_place.specs.World.{World, Map, Answers, from_nothing}
+use Rattle.pb_profile.specs.Line.{folder_of}
+use Rattle.pb_project.specs.declared.fault.UnitFault.{UnitFault}
+use Rattle.pb_project.specs.declared.project.Project.{Project}
+use Rattle.pb_record.specs.Parts.{IsReading}
+use Rattle.pb_run.specs.Halves.{Footing, OnRecords, OnNothing, Basis, basis, IsHonestOnUnits}
+use Rattle.pb_run.specs.Outcome.{Good}
+use Rattle.pb_soundness.specs.Records.{Reading, record_at}
+use Rattle.pb_soundness.specs.Sound.{Sound}
+use Rattle.pb_turns.specs.Moments.{Heard, Moment}
+use Rattle.pb_turns.specs.Rows.{Row, rows_of, said_from, summary_of}
+use Rattle.pb_turns.specs.Story.{states_in, AllBeganFor, IsBeginning}
+use Rattle.pb_unit.specs.declared.plan.Planned.{Planned}
+use Rattle.pb_build.specs.Ending.{NoneBegan, Closes}
+use Rattle.pb_build.specs.Environment.{environment_of}
+use Rattle.pb_build.specs.Planning.{IsProject}
+use Rattle.pb_build.specs.Result.{toolchain_of, setup_of}
+
+-- What a build rests on.
+
+-- the folder in which a build keeps its records: the profile's, in the target folder
+abbrev pub records_of : Options → Map → List ℕ
+records_of options variables = below (environment_of options variables).target (folder_of options.profile)
+
+-- whatever project and version of the compiler a build finds in a world, the child is honest on the project's units
+abbrev pub IsHonestBuild : Answers → Options → World → Type 0
+IsHonestBuild child options w = (read : Reading) (project : Project) (toolchain : List ℕ) → IsProject options (environment_of options w.variables).target w project
+    → toolchain_of child (environment_of options w.variables) project (from_nothing (environment_of options w.variables).target w) ≡ Some toolchain
+    → IsHonestOnUnits (basis OnRecords read child (setup_of options (environment_of options w.variables) toolchain) project (from_nothing (environment_of options w.variables).target w))
+
+-- the records in its folder are true and its child is honest; or no text there counts as a record
+abbrev pub RestsOn : Footing → Reading → Answers → Options → World → Type 0
+RestsOn OnRecords read child options w = Sound read judge child (records_of options w.variables) w.files × IsHonestBuild child options w
+RestsOn OnNothing read child options w = (key : List ℕ) → record_at read (records_of options w.variables) w.files key ≡ None
+
+-- What it gives.
+
+-- the units of a build: those of the project that it finds, with the version that the compiler says; and the events in which they began and answered
+pub record UnitsOf (child : Answers) (options : Options) (w : World) : Type 0 where
+  pub project : Project
+  pub toolchain : List ℕ
+  pub is : IsProject options (environment_of options w.variables).target w project
+  pub says : toolchain_of child (environment_of options w.variables) project (from_nothing (environment_of options w.variables).target w) ≡ Some toolchain
+  pub es : List (Event UnitFault)
+
+abbrev pub basis_of : (footing : Footing) (read : Reading) (child : Answers) (options : Options) (w : World) → UnitsOf child options w → Basis
+basis_of footing read child options w units =
+    basis footing read child (setup_of options (environment_of options w.variables) units.toolchain) units.project (from_nothing (environment_of options w.variables).target w)
+
+-- what they give from nothing, in plan order, up to and with the first bad one
+abbrev pub rows_for : (child : Answers) (options : Options) (w : World) → UnitsOf child options w → List Row
+rows_for child options w units = rows_of child (setup_of options (environment_of options w.variables) units.toolchain) units.project (from_nothing (environment_of options w.variables).target w)
+
+-- all these have answered: the summary and the lines are those of what they give from nothing, and say of each whether a child was started for it; the folder of each good one holds exactly its files; and for each unit that began a child was started exactly where something differed from its record
+pub record GivesAll (footing : Footing) (read : Reading) (child : Answers) (options : Options) (summary : Summary) (old new : Moment) : Type 0 where
+  pub units : UnitsOf child options old.world
+  pub answer : summary ≡ summary_of units.project units.es (rows_for child options old.world units)
+  pub lines : Appends old.heard.taken new.heard.taken (said_from units.project units.es 0 (rows_for child options old.world units))
+  pub files : (place : ℕ) (u : Planned) (made : Map) (directives : Option (List Directive)) (messages : List Message)
+      → slice_get (rows_for child options old.world units) place ≡ Some record { unit = u; outcome = Good made directives messages } → files_in u.out new.world.files ≡ made
+  pub began : AllBeganFor (basis_of footing read child options old.world units) units.es old.world
+
+-- the lines that were handed out before a fault came: those of the longest row of units that had answered; of these bytes the first so many, where the sink failed; of these units the first so many, where memory was refused
+abbrev pub LinesBefore : BuildFault → Project → List (Event UnitFault) → List Row → Option (List ℕ) → Option (List ℕ) → Type 0
+LinesBefore (Plan why) project es rows old new = ⊥
+LinesBefore Toolchain project es rows old new = ⊥
+LinesBefore (Child key fault) project es rows old new = Appends old new (said_from project es 0 (take (count_due (states_in project es)) rows))
+LinesBefore (Device key fault) project es rows old new = Appends old new (said_from project es 0 (take (count_due (states_in project es)) rows))
+LinesBefore Sink project es rows old new = (n : ℕ) × Appends old new (take n (said_from project es 0 (take (count_due (states_in project es)) rows)))
+LinesBefore OutOfMemory project es rows old new = (n : ℕ) × Appends old new (said_from project es 0 (take n (take (count_due (states_in project es)) rows)))
+
+-- a fault came at a unit, at the sink, or for want of memory; of a unit that failed to begin it is not said what differed
+pub record GivesFirst (footing : Footing) (read : Reading) (child : Answers) (options : Options) (fault : BuildFault) (old new : Moment) : Type 0 where
+  pub units : UnitsOf child options old.world
+  pub lines : LinesBefore fault units.project units.es (rows_for child options old.world units) old.heard.taken new.heard.taken
+  pub before : List (Event UnitFault)
+  pub begins : IsBeginning before units.es
+  pub began : AllBeganFor (basis_of footing read child options old.world units) before old.world
+
+-- what was given when the finish line was due
+abbrev pub GivesUnits : Footing → Reading → Answers → Options → Result Summary BuildFault → Moment → Moment → Type 0
+GivesUnits footing read child options (Ok summary) old new = GivesAll footing read child options summary old new
+GivesUnits footing read child options (Err fault) old new = NoneBegan true child options (Err fault) old new ⊎ GivesFirst footing read child options fault old new
+
+-- the records are true again
+abbrev pub LeavesRecords : Footing → Reading → Answers → Options → World → World → Type 0
+LeavesRecords OnRecords read child options old new = Sound read judge child (records_of options old.variables) new.files
+LeavesRecords OnNothing read child options old new = Unit {0}
+
+-- what a build gives, however it ends: its units, the finish line, and true records
+pub record Gives (footing : Footing) (read : Reading) (child : Answers) (options : Options) (result : Result Summary BuildFault) (old new : Moment) : Type 0 where
+  pub inner : Result Summary BuildFault
+  pub heard : Heard
+  pub units : GivesUnits footing read child options inner old record new { heard = heard }
+  pub closes : Closes inner result heard new.heard
+  pub records : LeavesRecords footing read child options old.world new.world
+
+-- The headline: whatever a build rests on, over a place that tells its maps, it gives what the present workspace gives from nothing.
+abbrev pub Headline : Bool → Answers → Options → Result Summary BuildFault → Moment → Moment → Type 0
+Headline tells child options result old new = IsTrue tells → (footing : Footing) (read : Reading) → IsReading read → RestsOn footing read child options old.world → Gives footing read child options result old new
