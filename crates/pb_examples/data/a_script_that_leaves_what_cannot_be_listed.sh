@@ -1,5 +1,5 @@
-# A build script leaves a link to its own folder, and a name that is no text. Neither the members' pattern nor the search
-# for binaries looks into the target folder, but the records in it cannot be looked for; without it the build is as ever.
+# A build script leaves a link to its own folder, and a name that is no text. Neither the members' pattern nor what looks
+# for binaries sees the target folder, but the records in it cannot be looked for; without it all is as ever.
 file Cargo.toml '[workspace]' 'members = ["m*"]' 'resolver = "2"'
 package m m
 file m/src/lib.rs

@@ -1,5 +1,5 @@
-# A compiler that leaves no dep-info, and one that leaves these, each from nothing: rules, none, and names of files in the
-# target folder.
+# A compiler that leaves no dep-info, and one that leaves these, each from nothing: rules, none, and names of files in
+# the target folder.
 package . a
 file src/lib.rs
 program leaves.sh '#!/bin/sh' '[ "$1" = -vV ] && echo host: h && exit' \
