@@ -7,7 +7,7 @@ for name in a b; do
 done
 program compiles.sh '#!/bin/sh' '[ "$2" != "$(cat dies)" ] || kill -9 $$' 'sleep 0.02' "exec $RUSTC \"\$@\""
 file dies a
-build_by "$PWD/compiles.sh" --jobs 2
+build_by "$PWD/compiles.sh" -j 2
 ls target/debug target/debug/b.target.lib
 file dies b
 build_by "$PWD/compiles.sh" --jobs 2
