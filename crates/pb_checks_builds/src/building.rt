@@ -19,11 +19,15 @@ fn runner(alloc: Global) -> Result<Items<Text>, AllocError> {
     Ok(runner)
 }
 
-/// A build of the workspace at `/w`.
-fn options(alloc: Global) -> Result<Options, Fail> {
+/// A build of the workspace at `/w` with so many jobs.
+fn options(alloc: Global, jobs: u64) -> Result<Options, Fail> {
     let runner = runner(alloc)?;
     let options = no_options(alloc)?;
-    Ok(Options { runner, ..options })
+    Ok(Options {
+        runner,
+        jobs,
+        ..options
+    })
 }
 
 /// The result line of a build that writes to `out`.
@@ -40,12 +44,12 @@ fn result_of<P: Place>(
     result_line(alloc, &build(alloc, place, &mut sink, options))
 }
 
-/// What a build writes, and then its result line.
-pub fn built<P: Place>(alloc: Global, place: &mut P) -> Result<String, Fail>
+/// What a build with so many jobs writes, and then its result line.
+pub fn built<P: Place>(alloc: Global, place: &mut P, jobs: u64) -> Result<String, Fail>
     requires none { (P.counts place.old).starts.flying ≡ [] }
     ensures landed { (P.counts place.new).starts.flying ≡ [] }
 {
-    let options = options(alloc)?;
+    let options = options(alloc, jobs)?;
     let mut out = Vec::new(alloc);
     let line = result_of(alloc, place, &mut out, &options)?;
     let mut said = String::from_str(alloc, str::from_utf8(out.as_slice()).unwrap_or(""))?;
@@ -59,4 +63,17 @@ pub fn last_line(said: &str) -> &str {
         Some((_, last)) => last,
         None => said,
     }
+}
+
+/// The lines of a text but the last.
+pub fn lines_but_last(said: &str) -> &str {
+    match said.rsplit_once('\n') {
+        Some((lines, _)) => lines,
+        None => "",
+    }
+}
+
+/// What a build said, as if no unit had been fresh.
+pub fn afresh(alloc: Global, said: &str) -> Result<String, AllocError> {
+    said.replace(alloc, "\"fresh\":true", "\"fresh\":false")
 }

@@ -7,4 +7,6 @@ mod building;
 #[cfg(test)]
 mod failing;
 #[cfg(test)]
+mod old;
+#[cfg(test)]
 mod sinks;

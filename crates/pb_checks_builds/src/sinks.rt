@@ -169,3 +169,38 @@ fn sinks_at_each_byte(rt: HostRuntime) -> Result<(), Fail> {
     }
     Ok(())
 }
+
+/// A library, which is built twice.
+const TWICE: &str =
+    r#"[{"write":["/w/Cargo.toml","[package]\nname = \"a\"\nversion = \"0.1.0\"\nedition = \"2021\"\n"]},{"write":["/w/src/lib.rs",""]},{"build":{}},{"build":{}}]"#;
+
+/// The message lines of its second build.
+const FRESH_LINES: &str =
+    "{\"reason\":\"compiler-artifact\",\"package_id\":\"path+file:///w#a@0.1.0\",\"manifest_path\":\"/w/Cargo.toml\",\"target\":{\"kind\":[\"lib\"],\"crate_types\":[\"lib\"],\"name\":\"a\",\"src_path\":\"/w/src/lib.rs\",\"edition\":\"2021\"},\"profile\":{\"opt_level\":\"0\",\"debuginfo\":2,\"debug_assertions\":true,\"overflow_checks\":true,\"test\":false},\"features\":[],\"filenames\":[\"/w/target/debug/a.target.lib/liba.rlib\"],\"executable\":null,\"fresh\":true}\n{\"reason\":\"build-finished\",\"success\":true}\n";
+
+/// Whether of two builds, the first of whose sinks fails once after these message bytes, the second starts nothing and
+/// says all.
+fn is_mended(alloc: Global, first: &[u8]) -> Result<bool, Fail> {
+    let mut bytes = Vec::from_slice(alloc, first)?;
+    bytes.extend_from_slice(FRESH_LINES.as_bytes())?;
+    bytes.extend_from_slice(b"fault sink Sink\nok started=-\n")?;
+    let writer = writer_of(alloc, usize::MAX, first.len(), true);
+    Ok(gives(alloc, TWICE, writer, 0, bytes.as_slice()))
+}
+
+/// The first number of message bytes after which a sink that fails once is not followed by a build that is right.
+fn wrong_after(alloc: Global, messages: &[u8]) -> Result<Option<usize>, Fail> {
+    for room in 0..messages.len() {
+        if !is_mended(alloc, &messages[..room])? {
+            return Ok(Some(room));
+        }
+    }
+    Ok(None)
+}
+
+#[test]
+fn builds_after_sinks_that_fail(rt: HostRuntime) -> Result<(), Fail> {
+    let wrong = wrong_after(rt.alloc(), LIBRARY_LINES.as_bytes())?;
+    assert!(rt; wrong.is_none(), "at {wrong:?}");
+    Ok(())
+}

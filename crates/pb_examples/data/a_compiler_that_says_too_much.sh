@@ -1,9 +1,11 @@
-# A compile whose output, diagnostics or dep-info have 4,194,304 bytes, and one more; a query that is answered with more.
+# A compile whose output, diagnostics or dep-info have 4,194,304 bytes, and one more, each from nothing; a query that is
+# answered with more.
 package . a
 file src/lib.rs
 fill_by() {
     program fills.sh '#!/bin/sh' "[ \"\$1\" = -vV ] && exec $RUSTC -vV" "$RUSTC \"\$@\"" \
         "head -c $1 /dev/zero | tr '\\0' '#' $2"
+    rm -rf target
     build_by "$PWD/fills.sh"
 }
 fill_by 4194304 ''

@@ -1,4 +1,4 @@
-# The device takes no name of 300 letters: a manifest that cannot be read, and an output folder that cannot be emptied.
+# The device takes no name of 300 letters: a folder of records that cannot be listed, a manifest that cannot be read.
 long=$(printf '%0300d' 0 | tr 0 x)
 package . a
 file src/lib.rs

@@ -1,4 +1,5 @@
-# A build script whose runner dies; then one that runs it, which gives what a build from nothing gives.
+# A build script whose runner dies; then one that runs it, which gives what a build from nothing gives, but that the
+# script is compiled already.
 package . a
 file src/lib.rs
 file build.rs 'print hello'
@@ -8,4 +9,4 @@ build --runner "$RUSTC --run" > first
 cat first
 rm -r target
 build --runner "$RUSTC --run" > second
-cmp first second && echo same
+sed 's/"fresh":true/"fresh":false/' first | cmp - second && echo same

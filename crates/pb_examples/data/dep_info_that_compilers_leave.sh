@@ -1,4 +1,5 @@
-# A compiler that leaves no dep-info, and one that leaves these: rules, none, and names of files in the target folder.
+# A compiler that leaves no dep-info, and one that leaves these, each from nothing: rules, none, and names of files in
+# the target folder.
 package . a
 file src/lib.rs
 program leaves.sh '#!/bin/sh' '[ "$1" = -vV ] && echo host: h && exit' \
@@ -6,6 +7,7 @@ program leaves.sh '#!/bin/sh' '[ "$1" = -vV ] && echo host: h && exit' \
 leaves() (
     DEP_INFO=$1
     export DEP_INFO
+    rm -rf target
     build_by "$PWD/leaves.sh"
 )
 build_by "$PWD/leaves.sh"
