@@ -11,6 +11,7 @@ pub mod RecordedKeeps
 pub mod RecordedLanding
 pub mod RecordedOthers
 pub mod RecordedReplay
+pub mod RecordedSame
 pub mod Reusing
 pub mod Settling
 pub mod Shown

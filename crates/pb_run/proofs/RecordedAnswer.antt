@@ -155,7 +155,7 @@ module _ (b : Basis) (order : IsInOrder b.project) (place : ℕ) (u : Planned) (
         record {
           stands = λ good. absurd (false≢true (sym begun_bad ∙ good));
           reaches = λ good. absurd (false≢true (sym begun_bad ∙ good));
-          recorded = never_by b.footing (is_good_at (slice_get states place) ≡ true) (HasRecord b.project (records_in b w') place) (λ good. false≢true (sym begun_bad ∙ good));
+          recorded = never_by b.footing (is_good_at (slice_get states place) ≡ true) (HasRecord b w' place) (λ good. false≢true (sym begun_bad ∙ good));
           begun = λ untouched. begun_untouched begun_state refl (sym can.state ∙ untouched);
         } sound ahead
       where
@@ -165,7 +165,7 @@ module _ (b : Basis) (order : IsInOrder b.project) (place : ℕ) (u : Planned) (
     -- after its answer, good or bad: a good one stands, and has its record
     pub keeps_answered : (w' : World) (next' : Option ℕ) (ran : Ran) (lines : List ℕ) → ChangesOnly (is_of Folder u.key) w w'
         → slice_get (outcomes_in b) place ≡ Some (outcome_by (files_in u.out w'.files) ran)
-        → IfRecords b.footing (Sound b.read judge b.child Folder w'.files) → IfRecords b.footing (IsAhead (records_in b w') next') → IfRecords b.footing (ran.fault ≡ None → HasRecord b.project (records_in b w') place)
+        → IfRecords b.footing (Sound b.read judge b.child Folder w'.files) → IfRecords b.footing (IsAhead (records_in b w') next') → IfRecords b.footing (ran.fault ≡ None → HasRecord b w' place)
         → Keeps b (slice_set states place (Answered record { fault = ran.fault; lines = lines })) (slice_set done place ran.directives) next' w'
     keeps_answered w' next' ran lines only outcome sound ahead recorded =
         keeps_over b order states done place u there begun_bad next w w' can.keeps only (slice_set states place (Answered answer)) (slice_set done place ran.directives) next'
@@ -211,7 +211,7 @@ module _ (b : Basis) (order : IsInOrder b.project) (place : ℕ) (u : Planned) (
         noted_at (y ∷ xs) zero x less = refl
         noted_at (y ∷ xs) (suc i) x less = noted_at xs i x (omega (arith, less))
 
-        recorded_by : (footing : Footing) → IfRecords footing (ran.fault ≡ None → HasRecord b.project (records_in b w') place)
-            → IfRecords footing (is_good_at (slice_get (slice_set states place (Answered answer)) place) ≡ true → HasRecord b.project (records_in b w') place)
+        recorded_by : (footing : Footing) → IfRecords footing (ran.fault ≡ None → HasRecord b w' place)
+            → IfRecords footing (is_good_at (slice_get (slice_set states place (Answered answer)) place) ≡ true → HasRecord b w' place)
         recorded_by OnRecords has = λ good. has (well good)
         recorded_by OnNothing has = tt

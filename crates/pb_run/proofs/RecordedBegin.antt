@@ -71,7 +71,7 @@ module _ (b : Basis) (order : IsInOrder b.project) (states : List (State UnitFau
         record {
           stands = λ good. absurd (not_good good);
           reaches = λ good. absurd (not_good good);
-          recorded = never_by b.footing (is_good_at (slice_get (slice_set states place begun_state) place) ≡ true) (HasRecord b.project (records_in b w') place) not_good;
+          recorded = never_by b.footing (is_good_at (slice_get (slice_set states place begun_state) place) ≡ true) (HasRecord b w' place) not_good;
           begun = λ untouched. untouched_begun begun_state refl (sym now_begun ∙ untouched);
         }
         (by_footing b.footing b states next w (Sound b.read judge b.child (records_folder b.project) w'.files) can.keeps.records (λ was more. sound was))

@@ -13,10 +13,10 @@ use Rattle.pb_project.specs.declared.fault.UnitFault.{UnitFault}
 use Rattle.pb_record.specs.declared.record.Needed.{Needed}
 use Rattle.pb_record.specs.declared.record.Needed.TheVariants.{Copies, Numbers}
 use Rattle.pb_record.specs.declared.record.Record.{Record}
-use Rattle.pb_run.specs.Halves.{Footing, OnRecords, OnNothing, Basis, StandsGood, HasRecord, HoldsRecords, HoldsBy, Keeps, needed_keys, records_in}
+use Rattle.pb_run.specs.Halves.{Footing, OnRecords, OnNothing, Basis, StandsGood, HasRecord, HoldsRecords, HoldsBy, Keeps, command_in, needed_keys, records_in}
 use Rattle.pb_run.specs.Standing.{IsInOrder, IsReadByNeed, records_folder}
-use Rattle.pb_run.proofs.Recorded.{all_at, all_of, read_reached, key_needed, needed_key, key_by_folder, keys_differ, sources_still, files_still, record_still}
-use Rattle.pb_run.proofs.RecordedOthers.{IfRecords, far_of}
+use Rattle.pb_run.proofs.Recorded.{all_at, all_of, command_for, read_reached, key_needed, needed_key, key_by_folder, keys_differ, sources_still, files_still, record_still}
+use Rattle.pb_run.proofs.RecordedOthers.{IfRecords, far_of, same_still}
 use Rattle.pb_soundness.specs.Apart.{is_of}
 use Rattle.pb_soundness.specs.Grounded.{Standing, Grounded, Reaches}
 use Rattle.pb_soundness.specs.Inputs.{Judge}
@@ -100,7 +100,7 @@ module _ (b : Basis) (order : IsInOrder b.project) (states : List (State UnitFau
 pub record IsAfter (b : Basis) (states states' : List (State UnitFault)) (done' : List (Option (List Directive))) (place : ℕ) (u : Planned) (w' : World) : Type 0 where
   pub stands : is_good_at (slice_get states' place) ≡ true → StandsGood b done' w' place
   pub reaches : is_good_at (slice_get states' place) ≡ true → are_good states u.reaches ≡ true
-  pub recorded : IfRecords b.footing (is_good_at (slice_get states' place) ≡ true → HasRecord b.project (records_in b w') place)
+  pub recorded : IfRecords b.footing (is_good_at (slice_get states' place) ≡ true → HasRecord b w' place)
   pub begun : slice_get states' place ≡ Some Untouched → ⊥
 
 module _ (b : Basis) (order : IsInOrder b.project) (states : List (State UnitFault)) (done : List (Option (List Directive))) (place : ℕ) (u : Planned) (there : unit_at b.project place ≡ Some u) (bad : is_good_at (slice_get states place) ≡ false)
@@ -123,7 +123,7 @@ module _ (b : Basis) (order : IsInOrder b.project) (states : List (State UnitFau
       }
 
   -- a good unit does not reach this one by what records name
-  not_reached : (holds : HoldsRecords b states next w) (p : ℕ) (good : is_good_at (slice_get states p) ≡ true) (h : HasRecord b.project (records_in b w) p) → Reaches (records_in b w) h.unit.key u.key → ⊥
+  not_reached : (holds : HoldsRecords b states next w) (p : ℕ) (good : is_good_at (slice_get states p) ≡ true) (h : HasRecord b w p) → Reaches (records_in b w) h.unit.key u.key → ⊥
   not_reached holds p good h reaches =
       let rests = rests_by judge b.child (records_folder b.project) (records_in b w) w.files h.unit.key h.kept h.number h.kept.needed (holds.sound.each h.unit.key h.kept h.here).says
       (grounded_number (records_in b w) h.unit.key h.number h.kept h.grounded h.here) h.grounded in
@@ -133,7 +133,7 @@ module _ (b : Basis) (order : IsInOrder b.project) (states : List (State UnitFau
       (far_of states place h.unit.reaches bad (keeps.closed p h.unit good h.there) where'.place where'.among)
       (sym (key_by_folder b.project order x where'.place u.key where'.there is))
 
-  has_still : (holds : HoldsRecords b states next w) (p : ℕ) → is_good_at (slice_get states p) ≡ true → HasRecord b.project (records_in b w') p
+  has_still : (holds : HoldsRecords b states next w) (p : ℕ) → is_good_at (slice_get states p) ≡ true → HasRecord b w' p
   has_still holds p good =
       let h = holds.recorded p good in
       record {
@@ -142,10 +142,13 @@ module _ (b : Basis) (order : IsInOrder b.project) (states : List (State UnitFau
         kept = h.kept;
         here = record_still b.project order place u there w w' only b.read p h.unit h.there (good_apart p good) ∙ h.here;
         number = h.number;
+        numbered = h.numbered;
         grounded = spares (records_in b w) (records_in b w') u.key h.unit.key h.number
             (λ l ne. unit_record (records_folder b.project) u.key w w' order.folder (order.keys place u there) only b.read l ne) h.grounded
             (keys_differ b.project order p place h.unit u h.there there (good_apart p good)) (not_reached holds p good h);
         reads = h.reads;
+        same = same_still b order place u there w w' only p h.unit h.there (far_of states place h.unit.reaches bad (keeps.closed p h.unit good h.there)) (good_apart p good)
+            (command_in b p h.unit) h.kept (command_for b.project order b p h.unit (command_in b p h.unit) refl h.there refl) holds.sound h.same;
       }
 
   module _ (states' : List (State UnitFault)) (done' : List (Option (List Directive))) (next' : Option ℕ)
@@ -158,14 +161,14 @@ module _ (b : Basis) (order : IsInOrder b.project) (states : List (State UnitFau
     still_good places good = all_of (λ p. is_good_at (slice_get states' p)) places
         (λ p has. let it = all_at (λ q. is_good_at (slice_get states q)) places p good has in ap is_good_at (others p (good_apart p it)) ∙ it)
 
-    holds_over : (footing : Footing) → HoldsBy footing b states next w → IfRecords footing (is_good_at (slice_get states' place) ≡ true → HasRecord b.project (records_in b w') place)
+    holds_over : (footing : Footing) → HoldsBy footing b states next w → IfRecords footing (is_good_at (slice_get states' place) ≡ true → HasRecord b w' place)
         → IfRecords footing (Sound b.read judge b.child (records_folder b.project) w'.files) → IfRecords footing (IsAhead (records_in b w') next') → HoldsBy footing b states' next' w'
     holds_over OnRecords holds its sound ahead = record {
       honest = holds.honest;
       sound = sound;
       ahead = ahead;
       recorded = λ p good. elim (cases_eq p place) [
-        | inl e ↦ subst (λ q. HasRecord b.project (records_in b w') q) (sym e) (its (subst (λ q. is_good_at (slice_get states' q) ≡ true) e good))
+        | inl e ↦ subst (λ q. HasRecord b w' q) (sym e) (its (subst (λ q. is_good_at (slice_get states' q) ≡ true) e good))
         | inr apart ↦ has_still holds p (was_good p apart good)
       ];
     }

@@ -1,11 +1,11 @@
 -- The record of a unit whose child has landed: what makes it true, and what stands once it is kept.
-use Rattle.std.proofs.Common.{◌≡◌, ◌≢◌, ◌∙◌, ℕ, List, Option, Some, refl, sym, ap, subst, inl, inr}
+use Rattle.std.proofs.Common.{◌≡◌, ◌≢◌, ◌∙◌, ℕ, List, Option, Some, map, refl, sym, ap, subst, inl, inr}
 use Rattle.pb_command.specs.Judge.{judge, ended_by, replied_files}
 use Rattle.pb_directive.specs.declared.directive.Directive.{Directive}
 use Rattle.pb_flight.specs.declared.flight.State.{State}
 use Rattle.pb_place.specs.Folders.{files_in}
 use Rattle.pb_place.specs.Paths.{is_at_or_below}
-use Rattle.pb_place.specs.World.{World, ChangesOnly, seen_by}
+use Rattle.pb_place.specs.World.{World, ChangesOnly, from_nothing, seen_by}
 use Rattle.pb_place.specs.declared.child.Reply.{Reply}
 use Rattle.pb_place.specs.declared.child_in_flight.ChildInFlight.{ChildInFlight}
 use Rattle.pb_place.specs.declared.command.Command.{Command}
@@ -15,22 +15,23 @@ use Rattle.pb_project.specs.declared.answer.InputName.{InputName}
 use Rattle.pb_project.specs.declared.fault.UnitFault.{UnitFault}
 use Rattle.pb_record.specs.declared.record.Input.{Input}
 use Rattle.pb_record.specs.declared.record.Record.{Record}
-use Rattle.pb_run.specs.Halves.{Footing, OnRecords, OnNothing, Basis, HasRecord, HoldsRecords, HoldsBy, AwaitsRecord, AwaitsBy, CanAnswer, needed_keys, records_in, view_in}
+use Rattle.pb_run.specs.Halves.{Footing, OnRecords, OnNothing, Basis, HasRecord, HoldsRecords, HoldsBy, AwaitsRecord, AwaitsBy, CanAnswer, command_in, needed_keys, records_in, view_in}
 use Rattle.pb_run.specs.Standing.{IsInOrder, records_folder}
 use Rattle.pb_run.specs.declared.begun.Begun.{Begun}
 use Rattle.pb_run.proofs.Recorded.{sources_still}
 use Rattle.pb_run.proofs.RecordedAnswer.{good_status, grounded_alike, ahead_alike, only_out, only_place, records_out, sound_out, its_command, its_for, begun_bad, own_places}
 use Rattle.pb_run.proofs.RecordedBegin.{own_seen}
 use Rattle.pb_run.proofs.RecordedKeeps.{reads_grounded}
-use Rattle.pb_run.proofs.RecordedOthers.{IfRecords, Left, vanished, as_before, put_anew, needs_still, others_at}
+use Rattle.pb_run.proofs.RecordedOthers.{IfRecords, Left, agrees_still, vanished, as_before, put_anew, needs_still, others_at}
+use Rattle.pb_run.proofs.RecordedSame.{command_back, named_now, present_agree}
 use Rattle.pb_run.proofs.Views.{IsFor}
 use Rattle.pb_soundness.specs.Grounded.{Standing, Grounded}
-use Rattle.pb_soundness.specs.Inputs.{IsHonest, reply_in}
+use Rattle.pb_soundness.specs.Inputs.{IsHonest, input_in, reply_in}
 use Rattle.pb_soundness.specs.Numbers.{NoneNames, IsAhead, IsBefore}
 use Rattle.pb_soundness.specs.Records.{out_of, place_of, number_of}
-use Rattle.pb_soundness.specs.Reuse.{AreGrounded, NamesNeeds, own}
+use Rattle.pb_soundness.specs.Reuse.{AreGrounded, IsSame, NamesNeeds, own}
 use Rattle.pb_soundness.specs.Sound.{Sound}
-use Rattle.pb_soundness.proofs.Becoming.{one, grounded_number, grounded_stands}
+use Rattle.pb_soundness.proofs.Becoming.{one, none_some, grounded_number, grounded_stands}
 use Rattle.pb_soundness.proofs.Renewing.{put_grounds}
 use Rattle.pb_store.specs.Keeping.{Leaves, HasNeeds, IsKept, kept_of, numbered}
 use Rattle.pb_store.proofs.Earned.{names_stand}
@@ -125,10 +126,27 @@ module _ (b : Basis) (order : IsInOrder b.project) (place : ℕ) (u : Planned) (
         → NamesNeeds (records_in b w1) Folder (kept_of Folder u.key begun.command inputs number (numbered (records_in b w1) (needed_keys b.project u)) ended) number
     kept_names number inputs ended waits = names_stand (records_in b w1) Folder (needed_keys b.project u) (kept_of Folder u.key begun.command inputs number (numbered (records_in b w1) (needed_keys b.project u)) ended) number (landed_needs number waits) refl
 
+    -- nothing differs from it
+    kept_same : (number : ℕ) (names : List InputName) (ended : Ended) → AwaitsRecord b u number next w
+        → records_in b w2 u.key ≡ Some (kept_of Folder u.key begun.command (map (input_in begun.command.target w1) names) number (numbered (records_in b w1) (needed_keys b.project u)) ended)
+        → IsSame b.read Folder u.key (command_in b place u) w2 (kept_of Folder u.key begun.command (map (input_in begun.command.target w1) names) number (numbered (records_in b w1) (needed_keys b.project u)) ended)
+    kept_same number names ended waits stands =
+        let inputs = map (input_in begun.command.target w1) names in
+        let r = kept_of Folder u.key begun.command inputs number (numbered (records_in b w1) (needed_keys b.project u)) ended in
+        let only = only_place b order place u there w1 w2 kept in
+        subst (λ (c : Command). IsSame b.read Folder u.key c w2 r) (its_command b order place u there states done begun next w flying still can) record {
+          stands = stands;
+          asked = command_back begun.command (out_of Folder u.key) (for.out ∙ ap Some (order.folders place u there));
+          inputs = agrees_still begun.command.target inputs w1 w2 (subst (λ t. from_nothing t w2 ≡ from_nothing t w1) (sym for.target) (sources_still b.project order place u there w1 w2 only)) (present_agree begun.command.target w1 names);
+          needed = named_now Folder (records_in b w1) (records_in b w2) w2.files u.key number (numbered (records_in b w1) (needed_keys b.project u)) (others_at b order place u there w1 w2 only)
+              (λ s n at numbered_s. none_some s (sym (alike u.key ∙ waits.gone) ∙ at)) (kept_names number inputs ended waits).stand;
+        }
+
     -- the unit has its record
-    pub kept_record : (footing : Footing) (number : ℕ) (inputs : List Input) (ended : Ended) → HoldsBy footing b states next w → AwaitsBy footing b u number next w
-        → records_in b w2 u.key ≡ Some (kept_of Folder u.key begun.command inputs number (numbered (records_in b w1) (needed_keys b.project u)) ended) → IfRecords footing (HasRecord b.project (records_in b w2) place)
-    kept_record OnRecords number inputs ended holds waits stands =
+    pub kept_record : (footing : Footing) (number : ℕ) (names : List InputName) (ended : Ended) → HoldsBy footing b states next w → AwaitsBy footing b u number next w
+        → records_in b w2 u.key ≡ Some (kept_of Folder u.key begun.command (map (input_in begun.command.target w1) names) number (numbered (records_in b w1) (needed_keys b.project u)) ended) → IfRecords footing (HasRecord b w2 place)
+    kept_record OnRecords number names ended holds waits stands =
+        let inputs = map (input_in begun.command.target w1) names in
         let r = kept_of Folder u.key begun.command inputs number (numbered (records_in b w1) (needed_keys b.project u)) ended in
         let grounds = reads_grounded b order states next w holds u begun.command.reads for.reads can.reaches in
         record {
@@ -137,12 +155,14 @@ module _ (b : Basis) (order : IsInOrder b.project) (place : ℕ) (u : Planned) (
           kept = r;
           here = stands;
           number = number;
+          numbered = refl;
           grounded = put_over (records_in b w1) (records_in b w2) Folder u.key r number (others_at b order place u there w1 w2 (only_place b order place u there w1 w2 kept)) stands refl
               (λ n ground. grounded_stands (records_in b w1) u.key n ground (alike u.key ∙ waits.gone)) (kept_names number inputs ended waits)
               (λ key has. let (n, ground) = grounds key has in (n, grounded_alike (records_in b w) (records_in b w1) key n alike ground));
           reads = for.reads;
+          same = kept_same number names ended waits stands;
         }
-    kept_record OnNothing number inputs ended holds waits stands = tt
+    kept_record OnNothing number names ended holds waits stands = tt
 
     -- what others find in its place
     pub left_kept : (footing : Footing) (number : ℕ) (inputs : List Input) (ended : Ended) → AwaitsBy footing b u number next w

@@ -7,23 +7,26 @@ use Rattle.pb_directive.specs.declared.directive.Directive.{Directive}
 use Rattle.pb_flight.specs.declared.flight.State.{State}
 use Rattle.pb_place.specs.Folders.{files_in}
 use Rattle.pb_place.specs.Paths.{is_at_or_below}
-use Rattle.pb_place.specs.World.{World, ChangesOnly, seen_by}
+use Rattle.pb_place.specs.World.{World, ChangesOnly, from_nothing, seen_by}
 use Rattle.pb_place.specs.declared.child.Reply.{Reply}
 use Rattle.pb_place.specs.declared.child_in_flight.ChildInFlight.{ChildInFlight}
 use Rattle.pb_place.specs.declared.command.Command.{Command}
 use Rattle.pb_project.specs.Targets.{unit_at}
 use Rattle.pb_project.specs.declared.fault.UnitFault.{UnitFault}
+use Rattle.pb_record.specs.declared.record.Input.{Input}
 use Rattle.pb_record.specs.declared.record.Record.{Record}
-use Rattle.pb_run.specs.Halves.{Footing, OnRecords, OnNothing, Basis, HasRecord, HoldsRecords, HoldsBy, AwaitsBy, IsUnchanged, WaitsBy, CanAnswer, BeginsApart, needed_keys, records_in, view_in}
+use Rattle.pb_run.specs.Halves.{Footing, OnRecords, OnNothing, Basis, HasRecord, HoldsRecords, HoldsBy, AwaitsBy, IsUnchanged, WaitsBy, CanAnswer, BeginsApart, command_in, needed_keys, records_in, view_in}
 use Rattle.pb_run.specs.Standing.{IsInOrder, records_folder}
 use Rattle.pb_run.specs.declared.begun.Begun.{Begun}
 use Rattle.pb_run.specs.declared.begun.Launched.{Launched}
+use Rattle.pb_run.proofs.Recorded.{sources_still}
 use Rattle.pb_run.proofs.RecordedAnswer.{grounded_alike, only_place, its_command, its_for}
 use Rattle.pb_run.proofs.RecordedKeeps.{has_needs, reads_grounded}
 use Rattle.pb_run.proofs.RecordedLanding.{put_over}
-use Rattle.pb_run.proofs.RecordedOthers.{IfRecords, Left, vanished, as_before, put_anew, others_at}
+use Rattle.pb_run.proofs.RecordedOthers.{IfRecords, Left, agrees_still, vanished, as_before, put_anew, others_at}
+use Rattle.pb_run.proofs.RecordedSame.{named_now, needed_alike}
 use Rattle.pb_run.proofs.Views.{IsFor}
-use Rattle.pb_soundness.specs.Inputs.{IsHonest}
+use Rattle.pb_soundness.specs.Inputs.{Agrees, IsHonest}
 use Rattle.pb_soundness.specs.Numbers.{IsAhead, IsBefore}
 use Rattle.pb_soundness.specs.Records.{out_of, place_of, number_of}
 use Rattle.pb_soundness.specs.Reuse.{IsSame, AreGrounded, NamesNeeds}
@@ -107,20 +110,37 @@ module _ (b : Basis) (order : IsInOrder b.project) (place : ℕ) (u : Planned) (
     its_reads : (r : Record) → IsSame b.read Folder u.key begun.command w r → r.asked.reads ≡ reads_of b.project u
     its_reads r same = ap (λ (c : Command). c.reads) same.asked ∙ for.reads
 
-    -- one with a number stays
-    record_kept : HoldsRecords b states next w → (r : Record) → IsSame b.read Folder u.key begun.command w r → (n : ℕ) → number_of r ≡ Some n → records_in b w' u.key ≡ Some r → HasRecord b.project (records_in b w') place
+    -- the inputs have the values that they had
+    inputs_now : (inputs : List Input) → Agrees begun.command.target inputs w → Agrees begun.command.target inputs w'
+    inputs_now inputs agree = agrees_still begun.command.target inputs w w'
+        (subst (λ t. from_nothing t w' ≡ from_nothing t w) (sym for.target) (sources_still b.project order place u there w w' (only_place b order place u there w w' only))) agree
+
+    -- one with a number stays, with all others
+    all_stand : (r : Record) → IsSame b.read Folder u.key begun.command w r → records_in b w' u.key ≡ Some r → (l : List ℕ) → records_in b w' l ≡ records_in b w l
+    all_stand r same stands l = elim (is_same l u.key) [
+      | inl this ↦ ap (records_in b w') this ∙ stands ∙ sym same.stands ∙ ap (records_in b w) (sym this)
+      | inr apart ↦ others_stand l apart
+    ]
+
+    same_kept : (r : Record) → IsSame b.read Folder u.key begun.command w r → (n : ℕ) → number_of r ≡ Some n → records_in b w' u.key ≡ Some r → IsSame b.read Folder u.key (command_in b place u) w' r
+    same_kept r same n is stands = subst (λ (c : Command). IsSame b.read Folder u.key c w' r) (its_command b order place u there states done begun next w flying still can) record {
+      stands = stands;
+      asked = same.asked;
+      inputs = inputs_now r.inputs same.inputs;
+      needed = needed_alike Folder (records_in b w) (records_in b w') w.files w'.files r.needed n is (all_stand r same stands) same.needed;
+    }
+
+    record_kept : HoldsRecords b states next w → (r : Record) → IsSame b.read Folder u.key begun.command w r → (n : ℕ) → number_of r ≡ Some n → records_in b w' u.key ≡ Some r → HasRecord b w' place
     record_kept holds r same n is stands = record {
       unit = u;
       there = there;
       kept = r;
       here = stands;
       number = n;
-      grounded = grounded_alike (records_in b w) (records_in b w') u.key n
-          (λ l. elim (is_same l u.key) [
-            | inl this ↦ ap (records_in b w') this ∙ stands ∙ sym same.stands ∙ ap (records_in b w) (sym this)
-            | inr apart ↦ others_stand l apart
-          ]) (grounds b.read judge b.child Folder u.key begun.command w r n holds.sound same (all_grounded holds) is);
+      numbered = is;
+      grounded = grounded_alike (records_in b w) (records_in b w') u.key n (all_stand r same stands) (grounds b.read judge b.child Folder u.key begun.command w r n holds.sound same (all_grounded holds) is);
       reads = its_reads r same;
+      same = same_kept r same n is stands;
     }
 
     new_names : HoldsRecords b states next w → (r : Record) → IsSame b.read Folder u.key begun.command w r → (number : ℕ) → next ≡ Some number
@@ -132,8 +152,21 @@ module _ (b : Basis) (order : IsInOrder b.project) (place : ℕ) (u : Planned) (
         (has_needs b order states next w holds place u number there can.reaches new.1)) refl
 
     -- one without gets the next
+    same_made : HoldsRecords b states next w → (r : Record) → IsSame b.read Folder u.key begun.command w r → number_of r ≡ None → (number : ℕ) → next ≡ Some number
+        → records_in b w' u.key ≡ Some (numbered_record r number (numbered (records_in b w) (needed_keys b.project u)))
+        → IsSame b.read Folder u.key (command_in b place u) w' (numbered_record r number (numbered (records_in b w) (needed_keys b.project u)))
+    same_made holds r same is number given stands =
+        let made = numbered_record r number (numbered (records_in b w) (needed_keys b.project u)) in
+        subst (λ (c : Command). IsSame b.read Folder u.key c w' made) (its_command b order place u there states done begun next w flying still can) record {
+          stands = stands;
+          asked = same.asked;
+          inputs = inputs_now r.inputs same.inputs;
+          needed = named_now Folder (records_in b w) (records_in b w') w'.files u.key number (numbered (records_in b w) (needed_keys b.project u)) others_stand
+              (λ s n at numbered_s. none_some n (sym is ∙ ap number_of (one r s (sym same.stands ∙ at)) ∙ numbered_s)) (new_names holds r same number given).stand;
+        }
+
     record_made : HoldsRecords b states next w → (r : Record) → IsSame b.read Folder u.key begun.command w r → number_of r ≡ None → (number : ℕ) → next ≡ Some number
-        → records_in b w' u.key ≡ Some (numbered_record r number (numbered (records_in b w) (needed_keys b.project u))) → HasRecord b.project (records_in b w') place
+        → records_in b w' u.key ≡ Some (numbered_record r number (numbered (records_in b w) (needed_keys b.project u))) → HasRecord b w' place
     record_made holds r same is number given stands =
         let made = numbered_record r number (numbered (records_in b w) (needed_keys b.project u)) in
         record {
@@ -142,15 +175,17 @@ module _ (b : Basis) (order : IsInOrder b.project) (place : ℕ) (u : Planned) (
           kept = made;
           here = stands;
           number = number;
+          numbered = refl;
           grounded = put_over (records_in b w) (records_in b w') Folder u.key made number others_stand stands refl
               (λ n ground. none_some n (sym is ∙ grounded_number (records_in b w) u.key n r ground same.stands)) (new_names holds r same number given)
               (subst (λ (reads : List (List ℕ)). AreGrounded (records_in b w) Folder reads) (ap (λ (c : Command). c.reads) (sym same.asked)) (all_grounded holds));
           reads = its_reads r same;
+          same = same_made holds r same is number given stands;
         }
 
     record_by : HoldsRecords b states next w → (r : Record) → IsSame b.read Folder u.key begun.command w r → (has : Option ℕ) → number_of r ≡ has → (given : Option ℕ) → next ≡ given
         → records_in b w' u.key ≡ migrated_by has given (numbered (records_in b w) (needed_keys b.project u)) r
-        → ((s : Record) → records_in b w' u.key ≡ Some s → is_some (number_of s) ≡ true) → HasRecord b.project (records_in b w') place
+        → ((s : Record) → records_in b w' u.key ≡ Some s → is_some (number_of s) ≡ true) → HasRecord b w' place
     record_by holds r same (Some n) is given next_is stands numbered_now = record_kept holds r same n is stands
     record_by holds r same None is (Some number) next_is stands numbered_now = record_made holds r same is number next_is stands
     record_by holds r same None is None next_is stands numbered_now = absurd (false≢true (sym (ap is_some is) ∙ numbered_now r stands))
@@ -158,7 +193,7 @@ module _ (b : Basis) (order : IsInOrder b.project) (place : ℕ) (u : Planned) (
     -- the unit has its record
     pub migrated_record : (footing : Footing) → HoldsBy footing b states next w → IsUnchanged footing b u begun.command w
         → records_in b w' u.key ≡ migrated next (numbered (records_in b w) (needed_keys b.project u)) (records_in b w u.key)
-        → ((s : Record) → records_in b w' u.key ≡ Some s → is_some (number_of s) ≡ true) → IfRecords footing (HasRecord b.project (records_in b w') place)
+        → ((s : Record) → records_in b w' u.key ≡ Some s → is_some (number_of s) ≡ true) → IfRecords footing (HasRecord b w' place)
     migrated_record OnRecords holds (r, same) stands numbered_now =
         record_by holds r same (number_of r) refl next refl (stands ∙ ap (migrated next (numbered (records_in b w) (needed_keys b.project u))) same.stands) numbered_now
     migrated_record OnNothing holds same stands numbered_now = tt

@@ -1,5 +1,5 @@
 -- A unit that answers by its record: what is kept of a build, and what another unit finds.
-use Rattle.std.proofs.Common.{◌≡◌, ◌∙◌, ℕ, true, List, Option, Some, None, All, refl, sym, ap, subst, inl, slice_get, slice_index_or, slice_set}
+use Rattle.std.proofs.Common.{◌≡◌, ◌∙◌, ℕ, true, false, List, Option, Some, None, All, refl, sym, ap, subst, inl, slice_get, slice_index_or, slice_set}
 use Rattle.std.proofs.lemmas.List.Elements.{Contains-get_or}
 use Rattle.std.specs.Option.{is_some, option_map}
 use Rattle.pb_answer.specs.declared.fault.BuildFault.{BuildFault}
@@ -44,11 +44,11 @@ use Rattle.pb_run.proofs.Shown.{AllStand, sees_view}
 use Rattle.pb_run.proofs.Spawning.{place_within, still_widen, widen}
 use Rattle.pb_soundness.specs.Apart.{KeepsStill, KeepsStillOutside, is_of}
 use Rattle.pb_soundness.specs.Numbers.{IsAhead}
-use Rattle.pb_soundness.specs.Records.{is_key, number_of, place_of, record_at}
+use Rattle.pb_soundness.specs.Records.{Reading, is_key, number_of, place_of, record_at}
 use Rattle.pb_soundness.specs.Sound.{Backs, Sound}
 use Rattle.pb_soundness.proofs.Becoming.{one}
 use Rattle.pb_store.specs.Keeping.{Leaves, numbered}
-use Rattle.pb_store.specs.Migrating.{IsMigrated, TakesNumber, migrated}
+use Rattle.pb_store.specs.Migrating.{IsMigrated, TakesNumber, lacks_number, migrated}
 use Rattle.pb_store.specs.Replaying.{replayed}
 use Rattle.pb_store.specs.declared.replaying.Replayed.{Replayed}
 
@@ -101,6 +101,17 @@ reused_still folder root key flying between still still1 still2 still3 is_folder
     subst (λ f. KeepsStillOutside (is_of f key) flying still still3) is_folder
     (still_after (is_of folder key) flying between still still2 still3 (λ t stood. second t (first t stood)) same
     (still_widen (is_at_or_below (place_of folder key)) (is_of folder key) between still2 still3 (place_within folder key) last))
+
+-- nothing does where the record has a number
+pub reused_same : (read : Reading) (folder root key : List ℕ) (w w2 w3 : World) → folder ≡ root → w2 ≡ w → (lacks_number (record_at read folder w2.files key) ≡ false → w3 ≡ w2) → lacks_number (record_at read root w.files key) ≡ false → w3 ≡ w
+reused_same read folder root key w w2 w3 is_folder same gives has =
+    gives (ap (λ f. lacks_number (record_at read f w2.files key)) is_folder ∙ ap (λ (v : World). lacks_number (record_at read root v.files key)) same ∙ has) ∙ same
+
+pub no_child : (l : Launched) (o : Option Launched) (Fact : Type 0) → o ≡ Some l → o ≡ None → Fact
+no_child l o Fact is none = absurd (some_none (sym is ∙ none))
+  where
+    some_none : Some l ≡ None → ⊥
+    some_none e = cc
 
 pub bad_unstarted : (ran its : Ran) → ran ≡ unstarted its → is_some its.fault ≡ true → is_some ran.fault ≡ true
 bad_unstarted ran its is bad = ap (λ (r : Ran). is_some r.fault) is ∙ bad
@@ -179,7 +190,7 @@ module _ (b : Basis) (order : IsInOrder b.project) (i : ℕ) (u : Planned) (at :
       → Keeps b (slice_set states i (Answered record { fault = ran.fault; lines = lines })) (slice_set done i ran.directives) next w
   keeps_bad_here ran lines bad outcome = keeps_answered b order i u at states done begun next w flying still can w next ran lines (only_same _ w) outcome
       (sound_of b.footing can.keeps.records) (ahead_of b.footing can.keeps.records)
-      (if_records b.footing (ran.fault ≡ None → HasRecord b.project (records_in b w) i) (λ good. absurd (not_none ran.fault bad good)))
+      (if_records b.footing (ran.fault ≡ None → HasRecord b w i) (λ good. absurd (not_none ran.fault bad good)))
 
   pub keeps_bad_again : (w' : World) (ran : Ran) (lines : List ℕ) → w' ≡ w → is_some ran.fault ≡ true → slice_get (outcomes_in b) i ≡ Some (outcome_by (files_in u.out w'.files) ran)
       → Keeps b (slice_set states i (Answered record { fault = ran.fault; lines = lines })) (slice_set done i ran.directives) next w'
@@ -203,7 +214,7 @@ module _ (b : Basis) (order : IsInOrder b.project) (i : ℕ) (u : Planned) (at :
     pub keeps_renewed : (ran : Ran) (lines : List ℕ) → Renewed b (records_folder b.project) u next w w' → slice_get (outcomes_in b) i ≡ Some (outcome_by (files_in u.out w'.files) ran)
         → Keeps b (slice_set states i (Answered record { fault = ran.fault; lines = lines })) (slice_set done i ran.directives) next' w'
     keeps_renewed ran lines renewed outcome = keeps_answered b order i u at states done begun next w flying still can w' next' ran lines only_new outcome sound_new ahead_new
-        (on_good b.footing (ran.fault ≡ None) (HasRecord b.project (records_in b w') i)
+        (on_good b.footing (ran.fault ≡ None) (HasRecord b w' i)
         (migrated_record b order i u at states done begun next w flying still can w' next' renews.only b.footing can.keeps.records same_now renewed.stands renewed.numbered_now))
 
     -- another unit that has begun

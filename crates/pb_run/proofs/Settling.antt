@@ -102,7 +102,7 @@ module _ (b : Basis) (order : IsInOrder b.project) (i : ℕ) (u : Planned) (at :
   keeps_bad_now : (ran : Ran) (lines : List ℕ) → is_some ran.fault ≡ true → slice_get (outcomes_in b) i ≡ Some (outcome_by (files_in u.out w1.files) ran)
       → Keeps b (slice_set states i (Answered record { fault = ran.fault; lines = lines })) (slice_set done i ran.directives) next w1
   keeps_bad_now ran lines bad outcome = keeps_answered b order i u at states done begun next w flying still can w1 next ran lines only_now outcome sound_now ahead_now
-      (if_records b.footing (ran.fault ≡ None → HasRecord b.project (records_in b w1) i) (λ good. absurd (not_none ran.fault bad good)))
+      (if_records b.footing (ran.fault ≡ None → HasRecord b w1 i) (λ good. absurd (not_none ran.fault bad good)))
 
   pub keeps_bad : (w' : World) (ran : Ran) (lines : List ℕ) → w' ≡ w1 → is_some ran.fault ≡ true → slice_get (outcomes_in b) i ≡ Some (outcome_by (files_in u.out w'.files) ran)
       → Keeps b (slice_set states i (Answered record { fault = ran.fault; lines = lines })) (slice_set done i ran.directives) next w'
@@ -166,8 +166,8 @@ module _ (b : Basis) (order : IsInOrder b.project) (i : ℕ) (u : Planned) (at :
       pub keeps_good : (lines : List ℕ) → Stands b (records_folder b.project) u c l.number j.names ended w1 w2 → slice_get (outcomes_in b) i ≡ Some (outcome_by (files_in u.out w2.files) j.ran)
           → Keeps b (slice_set states i (Answered record { fault = j.ran.fault; lines = lines })) (slice_set done i j.ran.directives) next w2
       keeps_good lines stands outcome = keeps_answered b order i u at states done begun next w flying still can w2 next j.ran lines only_kept outcome sound_kept ahead_kept
-          (on_good b.footing (j.ran.fault ≡ None) (HasRecord b.project (records_in b w2) i)
-          (kept_record b order i u at states done begun next w flying still can w1 landed w2 kept.only b.footing l.number (map (input_in c.target w1) j.names) ended can.keeps.records waits stands))
+          (on_good b.footing (j.ran.fault ≡ None) (HasRecord b w2 i)
+          (kept_record b order i u at states done begun next w flying still can w1 landed w2 kept.only b.footing l.number j.names ended can.keeps.records waits stands))
 
   -- Another unit that has begun.
   pub others_landed : (other : ℕ) (its : Begun) (w' : World) (flying' : List ChildInFlight) (still' : ℕ → Type 0) → BeginsApart b states i (Some l) other its next w flying still

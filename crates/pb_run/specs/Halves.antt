@@ -26,7 +26,7 @@ use Rattle.pb_run.specs.declared.begun.Launched.{Launched}
 use Rattle.pb_soundness.specs.Grounded.{Standing, Grounded}
 use Rattle.pb_soundness.specs.Inputs.{IsHonest}
 use Rattle.pb_soundness.specs.Numbers.{IsAhead, IsBefore, NoneNames}
-use Rattle.pb_soundness.specs.Records.{Reading, record_at}
+use Rattle.pb_soundness.specs.Records.{Reading, record_at, number_of}
 use Rattle.pb_soundness.specs.Reuse.{IsSame}
 use Rattle.pb_soundness.specs.Sound.{Sound}
 use Rattle.pb_store.specs.Keeping.{HasNeeds}
@@ -77,15 +77,17 @@ pub record StandsGood (b : Basis) (done : List (Option (List Directive))) (w : W
   pub noted : slice_get done place ≡ Some directives
   pub holds : files_in unit.out w.files ≡ files
 
--- the unit at a place has a grounded record, of what its command reads
-pub record HasRecord (project : Project) (at : Standing) (place : ℕ) : Type 0 where
+-- the unit at a place has a grounded record with a number, of what its command reads, and nothing differs from it
+pub record HasRecord (b : Basis) (w : World) (place : ℕ) : Type 0 where
   pub unit : Planned
-  pub there : unit_at project place ≡ Some unit
+  pub there : unit_at b.project place ≡ Some unit
   pub kept : Record
-  pub here : at unit.key ≡ Some kept
+  pub here : records_in b w unit.key ≡ Some kept
   pub number : ℕ
-  pub grounded : Grounded at unit.key number
-  pub reads : kept.asked.reads ≡ reads_of project unit
+  pub numbered : number_of kept ≡ Some number
+  pub grounded : Grounded (records_in b w) unit.key number
+  pub reads : kept.asked.reads ≡ reads_of b.project unit
+  pub same : IsSame b.read (records_folder b.project) unit.key (command_in b place unit) w kept
 
 -- What is kept while units begin and answer.
 
@@ -99,7 +101,7 @@ pub record HoldsRecords (b : Basis) (states : List (State UnitFault)) (next : Op
   pub honest : IsHonestOnUnits b
   pub sound : Sound b.read judge b.child (records_folder b.project) w.files
   pub ahead : IsAhead (records_in b w) next
-  pub recorded : (place : ℕ) → is_good_at (slice_get states place) ≡ true → HasRecord b.project (records_in b w) place
+  pub recorded : (place : ℕ) → is_good_at (slice_get states place) ≡ true → HasRecord b w place
 
 -- no unit that has not begun has a record
 abbrev pub HoldsNoRecord : Basis → List (State UnitFault) → World → Type 0

@@ -1,6 +1,6 @@
 //! The halves of a unit's run: it begins, with a child or without; it answers, or its answer is dropped.
 
-ghost use Rattle.std.specs.Prelude.{◌≡◌, ◌≢◌, ◌+◌, ℕ, true, List, Option, IsTrue, IfOk, IfSome, MatchOption, MatchResult, Some, None, max, length, is_some, option_map, slice_get, slice_set};
+ghost use Rattle.std.specs.Prelude.{◌≡◌, ◌≢◌, ◌+◌, ℕ, true, false, List, Option, IsTrue, IfOk, IfSome, MatchOption, MatchResult, Some, None, max, length, is_some, option_map, slice_get, slice_set};
 ghost use Rattle.std.specs.FinMap as finite;
 ghost use Rattle.pb_command.specs.Command.{command_of};
 ghost use Rattle.pb_directive.specs.declared.directive.Directive.{Directive};
@@ -22,9 +22,9 @@ ghost use Rattle.pb_run.specs.declared.begun.Begun.{Begun};
 ghost use Rattle.pb_unit.specs.declared.plan.Planned.{Planned};
 ghost use Rattle.pb_soundness.specs.Apart.{is_of};
 ghost use Rattle.pb_soundness.specs.Numbers.{after};
-ghost use Rattle.pb_soundness.specs.Records.{Reading};
+ghost use Rattle.pb_soundness.specs.Records.{Reading, record_at};
 ghost use Rattle.pb_store.specs.Differences.{FirstDifference};
-ghost use Rattle.pb_store.specs.Migrating.{TakesNumber};
+ghost use Rattle.pb_store.specs.Migrating.{TakesNumber, lacks_number};
 
 use crate::begun::Begun;
 use crate::landing::{land, reuse};
@@ -125,7 +125,8 @@ pub fn begin_unit<P: Place>(
 /// record cannot be written, or no run number is left; OutOfMemory. Each has the unit's key, and no call of the place
 /// comes after one that failed. Whatever it answers, the child is in flight no more, and the others fly on. Where the
 /// child writes into the unit's folder, only that folder and the unit's record change, whatever the records hold and the
-/// child leaves. A unit that is bad is no fault.
+/// child leaves. Where the unit has no child in flight and its record has a number, nothing is changed. A unit that is
+/// bad is no fault.
 pub fn answer_unit<P: Place>(
     alloc: Global,
     place: &mut P,
@@ -154,6 +155,7 @@ pub fn answer_unit<P: Place>(
         → BeginsApart (basis footing read P.child setup project.now sources) states index begun.launched other its store.old.next (P.world place.old) (P.counts place.old).starts.flying (P.still place.old)
         → IsBegun (basis footing read P.child setup project.now sources) other its store.new.next (P.world place.new) (P.counts place.new).starts.flying (P.still place.new) }
     ensures only { IsTrue P.tells → WritesTo unit.now.out begun.launched (P.counts place.old).starts.flying → ChangesOnly (is_of (records_folder project.now) unit.now.key) (P.world place.old) (P.world place.new) }
+    ensures same { (read : Reading) → IsReading read → IsTrue P.tells → begun.launched ≡ None → lacks_number (record_at read (records_folder project.now) (P.world place.old).files unit.now.key) ≡ false → P.world place.new ≡ P.world place.old }
     ensures stay { (ticket : ℕ) (its : ChildInFlight) → IfSome begun.launched (λ launched. ticket ≢ launched.ticket) → child_at ticket (P.counts place.old).starts.flying ≡ Some its → child_at ticket (P.counts place.new).starts.flying ≡ Some its }
     ensures started { IfOk result (λ ran. ran.started ≡ is_some begun.launched) }
     ensures directives { IfOk result (λ ran. directives_in (outcome_by finite.empty ran) ≡ ran.directives) }

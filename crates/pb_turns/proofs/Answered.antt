@@ -179,4 +179,5 @@ module _ (b : Basis) (done : List (Option (List Directive))) (aloft : List Aloft
             difference = f.difference;
             named = f.named;
             started = f.started;
+            unstarted = f.unstarted;
           }

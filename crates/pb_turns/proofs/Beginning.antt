@@ -21,7 +21,7 @@ use Rattle.pb_soundness.specs.Records.{Reading}
 use Rattle.pb_store.specs.Differences.{FirstDifference}
 use Rattle.pb_turns.specs.Crew.{needs_of}
 use Rattle.pb_turns.specs.Moments.{Moment}
-use Rattle.pb_turns.specs.Story.{states_in, Goes, Happened, AllBeganFor, FromFirst, Story}
+use Rattle.pb_turns.specs.Story.{states_in, Goes, Happened, AllBeganFor, FromFirst, IsQuiet, Story}
 use Rattle.pb_turns.specs.declared.crew.Aloft.{Aloft}
 use Rattle.pb_turns.specs.declared.crew.UnitCrew.{UnitCrew}
 use Rattle.pb_turns.proofs.Happening as happening
@@ -78,7 +78,8 @@ module _ (tells : Bool) (child : Answers) (first old : UnitCrew) (at now new : M
 
       module _ (begun : unit_begun)
           (begins : (footing : Footing) (read : Reading) (sources : World) (states : List (State UnitFault)) → IsReading read → IsTrue tells → CanBegin (Of footing read sources) states done unit u old.store.next now.world → IsBegun (Of footing read sources) unit begun next' new.world new.counts.starts.flying still')
-          (differs : (read : Reading) → IsReading read → IsTrue tells → FirstDifference read (records_folder old.project) u.key begun.command now.world (option_map (λ (l : Launched). l.difference) begun.launched)) where
+          (differs : (read : Reading) → IsReading read → IsTrue tells → FirstDifference read (records_folder old.project) u.key begun.command now.world (option_map (λ (l : Launched). l.difference) begun.launched))
+          (quiet : IsQuiet (Of f r s) es at.world now.world) where
         well : Happened (Of f r s) old.done.items (old.aloft.items ++ record { unit = unit; begun = begun } ∷ []) next' (Began unit (is_some begun.launched) ∷ es) new.world new.counts.starts.flying still'
         well =
             happening.happened_more (Of f r s) order at.world old.done.items old.aloft.items old.store.next next' es now.world new.world now.counts.starts.flying new.counts.starts.flying still still' h began (story.changes t).only unit u there may (is_some begun.launched)
@@ -90,7 +91,7 @@ module _ (tells : Bool) (child : Answers) (first old : UnitCrew) (at now new : M
             happening.began_more (Of f r s) order at.world old.done.items old.aloft.items old.store.next next' es now.world new.world now.counts.starts.flying new.counts.starts.flying still still' h began (story.changes t).only unit u there may (is_some begun.launched)
             keeps_now (λ other its apart. others f r s (states_in old.project es) other its reading t could apart)
             record { unit = unit; begun = begun } refl refl (begins f r s (states_in old.project es) reading t could)
-            (option_map (λ (l : Launched). l.difference) begun.launched) (differs r reading t) (flag_of begun.launched)
+            (option_map (λ (l : Launched). l.difference) begun.launched) (differs r reading t) (flag_of begun.launched) quiet
 
     -- a fault came
     pub failed_happened : (spawned : Bool) (aloft' : List Aloft) → aloft' ≡ old.aloft.items → IsTrue tells
@@ -105,7 +106,8 @@ module _ (tells : Bool) (child : Answers) (first old : UnitCrew) (at now new : M
         → ((read : Reading) → IsReading read → IsTrue tells → FirstDifference read (records_folder old.project) u.key begun.command now.world (option_map (λ (l : Launched). l.difference) begun.launched)) → IsTrue tells
         → FromFirst child first at old (λ b. Happened b old.done.items aloft' next' (Began unit (is_some begun.launched) ∷ es) new.world new.counts.starts.flying still' × AllBeganFor b (Began unit (is_some begun.launched) ∷ es) at.world)
     begun_happened begun aloft' more begins differs t f r s reading k =
-        let (h, began) = story.happened t f r s reading k in (
-          subst (λ (items : List Aloft). Happened (Of f r s) old.done.items items next' (Began unit (is_some begun.launched) ∷ es) new.world new.counts.starts.flying still') (sym more) (well t f r s reading h began begun begins differs),
-          well_began t f r s reading h began begun begins differs,
+        let (h, began) = story.happened t f r s reading k in
+        let quiet = story.quiet t f r s reading k in (
+          subst (λ (items : List Aloft). Happened (Of f r s) old.done.items items next' (Began unit (is_some begun.launched) ∷ es) new.world new.counts.starts.flying still') (sym more) (well t f r s reading h began begun begins differs quiet),
+          well_began t f r s reading h began begun begins differs quiet,
         )

@@ -16,10 +16,11 @@ use Rattle.pb_flight.specs.Driving.{IsFlown}
 use Rattle.pb_flight.specs.Events.{Event, Began, Gave, Anything, started_by, states_after}
 use Rattle.pb_flight.specs.Steps.{Flies, nothing, Anyhow}
 use Rattle.pb_flight.specs.Laws.{HasBegun, IsInPlanOrder}
-use Rattle.pb_flight.specs.Table.{Table, is_untouched, due, count_due, is_finished, first_bad}
+use Rattle.pb_flight.specs.Table.{Table, is_untouched, is_good_at, due, count_due, is_finished, first_bad}
 use Rattle.pb_flight.proofs.Lists.{injective, clash, length_set}
 use Rattle.pb_place.specs.World.{World, Answers}
 use Rattle.pb_place.specs.declared.child_in_flight.ChildInFlight.{ChildInFlight}
+use Rattle.pb_project.specs.Targets.{unit_at}
 use Rattle.pb_project.specs.declared.fault.UnitFault.{UnitFault}
 use Rattle.pb_project.specs.declared.project.Project.{Project}
 use Rattle.pb_project.specs.declared.project.Setup.{Setup}
@@ -40,7 +41,7 @@ use Rattle.pb_turns.specs.declared.crew.UnitCrew.{UnitCrew}
 use Rattle.pb_turns.proofs.Changing.{changes_first}
 use Rattle.pb_turns.proofs.Counting.{appends_none, stops_refused}
 use Rattle.pb_turns.proofs.States.{due_all}
-use Rattle.pb_turns.proofs.Telling.{AllTold, Ended, due_told, first_told, ended_of, success_of}
+use Rattle.pb_turns.proofs.Telling.{AllTold, Ended, all_good_at, due_told, first_told, ended_of, success_of}
 use Rattle.pb_unit.specs.declared.plan.Planned.{Planned}
 
 -- Needs come earlier in plan order.
@@ -98,6 +99,7 @@ story_first tells child c at still aloft started = record {
     },
     λ place has. absurd (none_begun c.project place has),
   );
+  quiet = λ t f r s reading keeps none numbered. refl;
 }
 
 -- What stands.
@@ -238,6 +240,9 @@ module _ {S : Type 0} (tells : Bool) (child : Answers) (Turns : S → List ℕ �
       es = es;
       flies = flown.flies;
       finished = ap is_finished (sym flown.states_are) ∙ finished;
+      good = λ success. subst (λ (p : Project). (place : ℕ) (u : Planned) → unit_at p place ≡ Some u → is_good_at (slice_get (states_in p es) place) ≡ true) story.project
+          (all_good_at c.project es c.project.plan.planned (states_in c.project es) (length_states (needs_of c.project) es ∙ length-map c.project.plan.planned (λ (u : Planned). u.needs))
+          (ap is_finished (sym states_are) ∙ finished) (sym (ap (λ (s : Summary). s.success) now_is) ∙ success));
       started = keys_are;
       lines = lines_are;
       faults = ap (λ (x : Heard). x.faults) heard ∙ story.goes.faults;

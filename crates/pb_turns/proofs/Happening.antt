@@ -5,7 +5,7 @@ use Rattle.std.specs.FinMap as finite
 use Rattle.pb_directive.specs.declared.directive.Directive.{Directive}
 use Rattle.pb_flight.specs.declared.flight.Answer.{Answer}
 use Rattle.pb_flight.specs.declared.flight.State.TheVariants.{Untouched, Begun}
-use Rattle.pb_flight.specs.Events.{Event, Began, MayBegin}
+use Rattle.pb_flight.specs.Events.{Event, Began, MayBegin, started_by}
 use Rattle.pb_flight.specs.Laws.{HasBegun}
 use Rattle.pb_flight.specs.Table.{are_good}
 use Rattle.pb_flight.proofs.Lists.{injective, get_set_same, get_set_other}
@@ -23,7 +23,7 @@ use Rattle.pb_store.specs.Differences.{FirstDifference}
 use Rattle.pb_store.specs.declared.difference.Difference.{Difference}
 use Rattle.pb_turns.specs.Crew.{needs_of}
 use Rattle.pb_turns.specs.Rows.{is_started, messages_in}
-use Rattle.pb_turns.specs.Story.{states_in, Happened, HasGiven, FliesSo, AllBeganFor, BeganFor, OnlyOf}
+use Rattle.pb_turns.specs.Story.{states_in, Happened, HasGiven, FliesSo, AllBeganFor, BeganFor, IsQuiet, OnlyOf, started_before}
 use Rattle.pb_turns.specs.declared.crew.Aloft.{Aloft}
 use Rattle.pb_turns.proofs.Lists.{all_more, all_as}
 use Rattle.pb_turns.proofs.Reaching.{can_begin, place_outside_other}
@@ -36,6 +36,13 @@ started_other es unit place spawned ne = ap (λ b. if b then spawned else is_sta
 
 pub started_now : (es : List (Event UnitFault)) (unit : ℕ) (spawned : Bool) → is_started (Began unit spawned ∷ es) unit ≡ spawned
 started_now es unit spawned = ap (λ b. if b then spawned else is_started es unit) (eq-eqb unit unit refl)
+
+-- and for which one was started before it began
+pub before_other : (es : List (Event UnitFault)) (unit place : ℕ) (spawned : Bool) → unit ≢ place → started_before (Began unit spawned ∷ es) place ≡ started_before es place
+before_other es unit place spawned ne = ap (λ b. if b then started_by es else started_before es place) (ne_eqb unit place ne)
+
+pub before_now : (es : List (Event UnitFault)) (unit : ℕ) (spawned : Bool) → started_before (Began unit spawned ∷ es) unit ≡ started_by es
+before_now es unit spawned = ap (λ b. if b then started_by es else started_before es unit) (eq-eqb unit unit refl)
 
 one_unit : (project : Project) (place : ℕ) (u v : Planned) → unit_at project place ≡ Some u → unit_at project place ≡ Some v → u ≡ v
 one_unit project place u v at there = injective (sym at ∙ there)
@@ -114,7 +121,7 @@ module _ (b : Basis) (order : IsInOrder b.project) (first : World) (done : List 
         gave = happened_begun.gave;
       }
 
-      module _ (difference : Option Difference) (named : FirstDifference b.read (records_folder b.project) u.key a.begun.command w difference) (differs : is_some a.begun.launched ≡ is_some difference) where
+      module _ (difference : Option Difference) (named : FirstDifference b.read (records_folder b.project) u.key a.begun.command w difference) (differs : is_some a.begun.launched ≡ is_some difference) (quiet : IsQuiet b es first w) where
         stays : finite.get w.files (place_of (records_folder b.project) u.key) ≡ finite.get first.files (place_of (records_folder b.project) u.key)
         stays = only_first.files (place_of (records_folder b.project) u.key) (λ place v has at. place_outside_other b.project order place unit v u at there (λ e. another (states_in b.project es) unit place may.untouched has (sym e)))
 
@@ -131,6 +138,7 @@ module _ (b : Basis) (order : IsInOrder b.project) (first : World) (done : List 
           difference = difference;
           named = subst (λ c. FirstDifference b.read (records_folder b.project) u.key c w difference) its_command named;
           started = started_now es unit spawned ∙ flag ∙ differs;
+          unstarted = λ none. quiet (sym (before_now es unit spawned) ∙ none);
         }
 
         old_began : (place : ℕ) → HasBegun (states_in b.project es) place → BeganFor b (Began unit spawned ∷ es) first place
@@ -143,6 +151,7 @@ module _ (b : Basis) (order : IsInOrder b.project) (first : World) (done : List 
           difference = f.difference;
           named = f.named;
           started = started_other es unit place spawned (another (states_in b.project es) unit place may.untouched has) ∙ f.started;
+          unstarted = λ none. f.unstarted (sym (before_other es unit place spawned (another (states_in b.project es) unit place may.untouched has)) ∙ none);
         }
 
         pub began_more : AllBeganFor b (Began unit spawned ∷ es) first

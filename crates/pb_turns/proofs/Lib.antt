@@ -1,6 +1,7 @@
 pub mod Lists
 pub mod Manning
 pub mod States
+pub mod Quiet
 pub mod Reaching
 pub mod Happening
 pub mod Answered
@@ -12,3 +13,4 @@ pub mod Landing
 pub mod Noting
 pub mod Telling
 pub mod Finishing
+pub mod Repeating

@@ -8,7 +8,7 @@ use Rattle.pb_flight.specs.declared.flight.Answer.{Answer}
 use Rattle.pb_flight.specs.declared.flight.State.{State}
 use Rattle.pb_flight.specs.declared.flight.State.TheVariants.{Untouched, Begun, Answered}
 use Rattle.pb_flight.specs.Events.{Event}
-use Rattle.pb_flight.specs.Table.{due, due_first, count_due, is_finished, first_bad_from, first_bad}
+use Rattle.pb_flight.specs.Table.{due, due_first, count_due, is_finished, is_good_at, first_bad_from, first_bad}
 use Rattle.pb_flight.proofs.Lists.{injective, clash}
 use Rattle.pb_project.specs.declared.fault.UnitFault.{UnitFault}
 use Rattle.pb_project.specs.declared.project.Project.{Project}
@@ -139,6 +139,23 @@ module _ (project : Project) (es : List (Event UnitFault)) where
   count_past : (n : ℕ) (o : Option ℕ) → count_told (suc n) (option_map suc o) ≡ suc (count_told n o)
   count_past n None = refl
   count_past n (Some place) = omega arith
+
+  -- where none is bad at the end, each is good
+  pub all_good_at : (us : List Planned) (ss : List (State UnitFault)) → length ss ≡ length us → is_finished ss ≡ true → is_none (bad_told us ss (first_bad ss)) ≡ true
+      → (place : ℕ) (u : Planned) → slice_get us place ≡ Some u → is_good_at (slice_get ss place) ≡ true
+  all_good_at [] ss long finished none place u at = absurd (clash at)
+  all_good_at (v ∷ us) [] long finished none place u at = absurd (omega (arith, long))
+  all_good_at (v ∷ us) (Untouched ∷ ss) long finished none place u at = absurd (false≢true finished)
+  all_good_at (v ∷ us) (Begun ∷ ss) long finished none place u at = absurd (false≢true finished)
+  all_good_at (v ∷ us) (Answered a ∷ ss) long finished none place u at = by a.fault refl place at (λ more well k there. all_good_at us ss (omega (arith, long)) more well k u there)
+    where
+      by : (f : Option UnitFault) → a.fault ≡ f → (k : ℕ) → slice_get (v ∷ us) k ≡ Some u
+          → (is_finished ss ≡ true → is_none (bad_told us ss (first_bad ss)) ≡ true → (n : ℕ) → slice_get us n ≡ Some u → is_good_at (slice_get ss n) ≡ true) → is_good_at (slice_get (Answered a ∷ ss) k) ≡ true
+      by (Some e) fault k there rest = absurd (false≢true (sym (ap (λ f. is_none (with_key v.key f)) fault) ∙ subst (λ f. is_none (bad_told (v ∷ us) (Answered a ∷ ss) (if is_none f then first_bad_from 1 ss else Some 0)) ≡ true) fault none))
+      by None fault zero there rest = ap is_none fault
+      by None fault (suc n) there rest = rest (subst (λ f. (if is_none f then is_finished ss else true) ≡ true) fault finished)
+          (sym (ap is_none (ap (bad_told (v ∷ us) (Answered a ∷ ss)) (shift 0 ss) ∙ bad_past v us (Answered a) ss (first_bad ss)))
+          ∙ subst (λ f. is_none (bad_told (v ∷ us) (Answered a ∷ ss) (if is_none f then first_bad_from 1 ss else Some 0)) ≡ true) fault none) n there
 
   pub ended_of : (i : ℕ) (us : List Planned) (os : List Outcome) (ds : List (Option (List Directive))) (ss : List (State UnitFault)) → length ss ≡ length us → is_finished ss ≡ true → AllTold i us os ds ss → Ended us os ds ss
   ended_of i [] os ds [] long finished told = record { all = refl; count = refl; noted = refl; bad = refl }

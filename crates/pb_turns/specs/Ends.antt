@@ -1,5 +1,5 @@
 -- How the units of a project end.
-use Rattle.std.specs.Prelude.{Bool, ◌≡◌, ◌≢◌, ◌⊎◌, ◌∷◌, [], ℕ, max, true, List, map, length, take, slice_get, Option, Some, None, IsTrue, IfErr, Result, Ok, Err}
+use Rattle.std.specs.Prelude.{Bool, ◌≡◌, ◌≢◌, ◌⊎◌, ◌∷◌, [], ℕ, max, true, List, map, length, take, Option, Some, None, IsTrue, IfErr, Result, Ok, Err, slice_get}
 use Rattle.std.specs.Io.KnownBytes.{Appends}
 use Rattle.pb_answer.specs.declared.fault.BuildFault.{BuildFault}
 use Rattle.pb_answer.specs.declared.summary.Summary.{Summary}
@@ -7,7 +7,7 @@ use Rattle.pb_directive.specs.declared.directive.Directive.{Directive}
 use Rattle.pb_flight.specs.declared.turn.Step.{Step}
 use Rattle.pb_flight.specs.Events.{Event, Anything, started_by, peak}
 use Rattle.pb_flight.specs.Steps.{Flies, Anyhow}
-use Rattle.pb_flight.specs.Table.{due, due_first, count_due, is_finished}
+use Rattle.pb_flight.specs.Table.{due, due_first, count_due, is_finished, is_good_at}
 use Rattle.pb_flight.specs.declared.flight.Answer.{Answer}
 use Rattle.pb_flight.specs.declared.flight.State.TheVariants.{Answered}
 use Rattle.pb_place.specs.Counts.{Counts, counted_finish}
@@ -15,6 +15,7 @@ use Rattle.pb_place.specs.World.{World, Answers}
 use Rattle.pb_place.specs.declared.command.Ended.{Ended}
 use Rattle.pb_place.specs.declared.place.StartFault.{StartFault}
 use Rattle.pb_place.specs.declared.place.StartFault.TheVariants as start
+use Rattle.pb_project.specs.Targets.{unit_at}
 use Rattle.pb_project.specs.declared.fault.UnitFault.{UnitFault}
 use Rattle.pb_project.specs.declared.project.Project.{Project}
 use Rattle.pb_project.specs.declared.project.Setup.{Setup}
@@ -72,11 +73,12 @@ pub record StandsCut (b : Basis) (es : List (Event UnitFault)) (old new : World)
   pub begins : IsBeginning before es
   pub began : AllBeganFor b before old
 
--- the units came to their end
+-- the units came to their end; where it is a success each of them has answered and is good
 pub record EndsWhole {S : Type 0} (tells : Bool) (child : Answers) (Turns : S → List ℕ → List ℕ → Step → S → Type 0) (setup : Setup) (project : Project) (next : Option ℕ) (from last : S) (summary : Summary) (old new : Moment) : Type 0 where
   pub es : List (Event UnitFault)
   pub flies : Flies Turns (needs_of project) Anyhow Anything from es last
   pub finished : is_finished (states_in project es) ≡ true
+  pub good : summary.success ≡ true → (place : ℕ) (u : Planned) → unit_at project place ≡ Some u → is_good_at (slice_get (states_in project es) place) ≡ true
   pub started : summary.started ≡ started_keys project es
   pub lines : Appends old.heard.taken new.heard.taken (due (states_in project es))
   pub faults : new.heard.faults ≡ old.heard.faults

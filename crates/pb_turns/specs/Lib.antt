@@ -4,3 +4,4 @@ pub mod Crew
 pub mod Story
 pub mod Ends
 pub mod Summing
+pub mod Laws

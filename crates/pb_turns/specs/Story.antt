@@ -1,5 +1,5 @@
 -- What has happened while the units of a build began and answered.
-use Rattle.std.specs.Prelude.{◌≡◌, ◌⊎◌, ◌∷◌, [], ℕ, zero, suc, max, Bool, true, false, List, length, take, Option, Some, is_some, IsTrue, slice_get}
+use Rattle.std.specs.Prelude.{◌≡◌, ◌⊎◌, ◌==◌, ◌∷◌, [], ℕ, zero, suc, max, Bool, true, false, if◌then◌else◌, List, length, take, Option, Some, is_some, IsTrue, slice_get}
 use Rattle.std.specs.FinMap as finite
 use Rattle.std.specs.Io.KnownBytes.{Appends}
 use Rattle.std.specs.List.{AllByRecursion}
@@ -9,7 +9,7 @@ use Rattle.pb_directive.specs.declared.directive.Directive.{Directive}
 use Rattle.pb_flight.specs.declared.flight.Answer.{Answer}
 use Rattle.pb_flight.specs.declared.flight.State.{State}
 use Rattle.pb_flight.specs.declared.flight.State.TheVariants.{Begun, Answered}
-use Rattle.pb_flight.specs.Events.{Event, Began, started_by, launched_after, states_after, peak}
+use Rattle.pb_flight.specs.Events.{Event, Began, Gave, started_by, launched_after, states_after, peak}
 use Rattle.pb_flight.specs.Laws.{HasBegun}
 use Rattle.pb_flight.specs.Table.{due_first, due, are_good}
 use Rattle.pb_place.specs.Counts.{up}
@@ -20,13 +20,14 @@ use Rattle.pb_project.specs.declared.fault.UnitFault.{UnitFault}
 use Rattle.pb_project.specs.declared.project.Project.{Project}
 use Rattle.pb_record.specs.Parts.{IsReading}
 use Rattle.pb_run.specs.Causes.{HasCause}
-use Rattle.pb_run.specs.Halves.{Footing, Basis, basis, outcomes_in, command_in, Keeps, IsBegun, WritesTo}
+use Rattle.pb_run.specs.Halves.{Footing, Basis, basis, outcomes_in, command_in, records_in, Keeps, IsBegun, WritesTo}
 use Rattle.pb_run.specs.Outcome.{Outcome, directives_in}
 use Rattle.pb_run.specs.Standing.{records_folder}
 use Rattle.pb_run.specs.Telling.{unit_lines}
 use Rattle.pb_soundness.specs.Apart.{is_of}
 use Rattle.pb_soundness.specs.Records.{Reading, place_of}
 use Rattle.pb_store.specs.Differences.{FirstDifference}
+use Rattle.pb_store.specs.Migrating.{lacks_number}
 use Rattle.pb_store.specs.declared.difference.Difference.{Difference}
 use Rattle.pb_turns.specs.Crew.{needs_of, launched_of}
 use Rattle.pb_turns.specs.Moments.{Moment}
@@ -93,7 +94,17 @@ pub record HasGiven (b : Basis) (es : List (Event UnitFault)) (done : List (Opti
   pub lines : answer.lines ≡ unit_lines b.project unit (is_started es place) (messages_in outcome)
   pub noted : slice_get done place ≡ Some (directives_in outcome)
 
--- what differed first of the unit at a place when it began, in a world with the same sources in which its record's text was as at first; a child was started for it exactly where something differed
+-- the units for which a child was started before the unit at a place began
+abbrev pub started_before : List (Event UnitFault) → ℕ → List ℕ
+started_before [] place = []
+started_before (Began unit spawned ∷ es) place = if unit == place then started_by es else started_before es place
+started_before (Gave unit answer ∷ es) place = started_before es place
+
+-- no unit has a record without a number
+abbrev pub NoneLacksNumber : Basis → World → Type 0
+NoneLacksNumber b w = (place : ℕ) (u : Planned) → unit_at b.project place ≡ Some u → lacks_number (records_in b w u.key) ≡ false
+
+-- what differed first of the unit at a place when it began, in a world with the same sources in which its record's text was as at first; a child was started for it exactly where something differed. That world was the first one, where no child had been started yet and no record lacked a number at first
 pub record BeganFor (b : Basis) (es : List (Event UnitFault)) (first : World) (place : ℕ) : Type 0 where
   pub unit : Planned
   pub there : unit_at b.project place ≡ Some unit
@@ -103,6 +114,7 @@ pub record BeganFor (b : Basis) (es : List (Event UnitFault)) (first : World) (p
   pub difference : Option Difference
   pub named : FirstDifference b.read (records_folder b.project) unit.key (command_in b place unit) world difference
   pub started : is_started es place ≡ is_some difference
+  pub unstarted : started_before es place ≡ [] → NoneLacksNumber b first → world ≡ first
 
 -- each unit that has begun did so for what differed of it
 abbrev pub AllBeganFor : Basis → List (Event UnitFault) → World → Type 0
@@ -140,6 +152,10 @@ pub record Happened (b : Basis) (done : List (Option (List Directive))) (aloft :
   pub begun : AllByRecursion (FliesSo b es next world flying still) aloft
   pub gave : (place : ℕ) (answer : Answer UnitFault) → slice_get (states_in b.project es) place ≡ Some (Answered answer) → HasGiven b es done place answer
 
+-- as long as no child is started the world is as at first, where no record lacked a number then
+abbrev pub IsQuiet : Basis → List (Event UnitFault) → World → World → Type 0
+IsQuiet b es first now = started_by es ≡ [] → NoneLacksNumber b first → now ≡ first
+
 -- The story.
 
 -- where no unit has begun
@@ -160,6 +176,7 @@ pub record Story (tells : Bool) (child : Answers) (first : UnitCrew) (at : Momen
   pub changes : IsTrue tells → Changes c.project at.world c.aloft.items es now.world now.counts.starts.flying
   pub happened : IsTrue tells
       → FromFirst child first at c (λ b. Happened b c.done.items c.aloft.items c.store.next es now.world now.counts.starts.flying still × AllBeganFor b es at.world)
+  pub quiet : IsTrue tells → FromFirst child first at c (λ b. IsQuiet b es at.world now.world)
 
 -- the events before a beginning that failed
 abbrev pub IsBeginning : List (Event UnitFault) → List (Event UnitFault) → Type 0

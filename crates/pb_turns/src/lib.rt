@@ -3,6 +3,7 @@
 
 pub mod crew;
 mod dropping;
+pub mod laws;
 mod summing;
 mod turns;
 

@@ -4,7 +4,7 @@ use Rattle.pb_place.specs.Counts.{Starts}
 use Rattle.pb_run.specs.Halves.{WritesTo, basis}
 use Rattle.pb_run.specs.declared.begun.Launched.{Launched}
 use Rattle.pb_run.proofs.Kept.{flying_answer}
-use Rattle.pb_run.proofs.Reusing.{can_by_parts, flying_alone}
+use Rattle.pb_run.proofs.Reusing.{can_by_parts, flying_alone, no_child}
 use Rattle.pb_run.proofs.Writes.{stays_apart}
 use Rattle.pb_run.proofs.halves.answer_unit.Goals as goal
 
@@ -47,3 +47,15 @@ returns-in-Ok-reuse-clause-stay g c ticket its apart there = ap (child_at ticket
 pub returns-clause-stay : goal.returns-clause-stay
 returns-clause-stay g c ticket its apart there =
     ap (child_at ticket) (flying_alone c.args.store.now.next c.args.unit.now.key _ (g.P.Place.counts c.args.place.now).starts (g.P.Place.counts c.reuse.new.place).starts c.in-Err-reuse.ensures.takes.0) ∙ there
+
+pub returns-in-Ok-clause-same : goal.returns-in-Ok-clause-same
+returns-in-Ok-clause-same g c read is told none has = no_child c.in-Some.launched c.args.begun.launched _ c.in-Some.is none
+
+pub returns-in-Some-clause-same : goal.returns-in-Some-clause-same
+returns-in-Some-clause-same g c read is told none has = no_child c.in-Some.launched c.args.begun.launched _ c.in-Some.is none
+
+pub returns-in-Ok-reuse-clause-same : goal.returns-in-Ok-reuse-clause-same
+returns-in-Ok-reuse-clause-same g c read is told none has = c.reuse.ensures.same read is told has
+
+pub returns-clause-same : goal.returns-clause-same
+returns-clause-same g c read is told none has = c.reuse.ensures.same read is told has

@@ -3,7 +3,7 @@ use Rattle.pb_command.specs.Judge.{judge}
 use Rattle.pb_place.specs.Counts.{Starts}
 use Rattle.pb_run.specs.Halves.{basis}
 use Rattle.pb_run.specs.Standing.{records_folder}
-use Rattle.pb_run.proofs.Reusing.{bad_unstarted, flying_alone, flying_follow, keeps_bad_again, keeps_renewed, keeps_unrenewed, keys_needed, others_renewed, others_unchanged, renewed_outcome, renewed_so, renewing_so, replay_outcome, reused_only, reused_still}
+use Rattle.pb_run.proofs.Reusing.{bad_unstarted, flying_alone, flying_follow, keeps_bad_again, keeps_renewed, keeps_unrenewed, keys_needed, others_renewed, others_unchanged, renewed_outcome, renewed_so, renewing_so, replay_outcome, reused_only, reused_same, reused_still}
 use Rattle.pb_run.proofs.landing.reuse.Goals as goal
 
 pub returns-in-Err-clause-others : goal.returns-in-Err-clause-others
@@ -96,3 +96,20 @@ returns-clause-others g c footing read setup sources states done other its is to
 pub returns-clause-only : goal.returns-clause-only
 returns-clause-only g c told =
     reused_only c.args.store.now.folder (records_folder c.args.project.now) c.args.unit.now.key (g.P.Place.world c.args.place.now) (g.P.Place.world c.judged_now.new.place) (g.P.Place.world c.migrate.new.place) c.requires.folder (c.in-Ok-judged_now.ensures.same told ∙ c.in-Ok.ensures.same told) (c.in-Err-migrate.ensures.only told)
+
+pub returns-in-Err-clause-same : goal.returns-in-Err-clause-same
+returns-in-Err-clause-same g c read is told has = c.in-Err.ensures.same told
+
+pub returns-in-Err-judged_now-clause-same : goal.returns-in-Err-judged_now-clause-same
+returns-in-Err-judged_now-clause-same g c read is told has = c.in-Err-judged_now.ensures.same told ∙ c.in-Ok.ensures.same told
+
+pub returns-then-is_some-clause-same : goal.returns-then-is_some-clause-same
+returns-then-is_some-clause-same g c read is told has = c.in-Ok-judged_now.ensures.same told ∙ c.in-Ok.ensures.same told
+
+pub returns-in-Ok-migrate-clause-same : goal.returns-in-Ok-migrate-clause-same
+returns-in-Ok-migrate-clause-same g c read is told has =
+    reused_same read c.args.store.now.folder (records_folder c.args.project.now) c.args.unit.now.key (g.P.Place.world c.args.place.now) (g.P.Place.world c.judged_now.new.place) (g.P.Place.world c.migrate.new.place) c.requires.folder (c.in-Ok-judged_now.ensures.same told ∙ c.in-Ok.ensures.same told) (c.migrate.ensures.same read is told) has
+
+pub returns-clause-same : goal.returns-clause-same
+returns-clause-same g c read is told has =
+    reused_same read c.args.store.now.folder (records_folder c.args.project.now) c.args.unit.now.key (g.P.Place.world c.args.place.now) (g.P.Place.world c.judged_now.new.place) (g.P.Place.world c.migrate.new.place) c.requires.folder (c.in-Ok-judged_now.ensures.same told ∙ c.in-Ok.ensures.same told) (c.migrate.ensures.same read is told) has

@@ -18,6 +18,7 @@ use Rattle.pb_turns.proofs.Changing.{its_writes, changes_less, changes_after}
 use Rattle.pb_turns.proofs.Counting.{goes_answered, stops_answered, stops_untold}
 use Rattle.pb_turns.proofs.Lists.{all_get, get_map, map_removed}
 use Rattle.pb_turns.proofs.Manning.{answer_fault_lands, flying_of, manned_answered}
+use Rattle.pb_turns.proofs.Quiet.{answered_quiet}
 use Rattle.pb_turns.proofs.Reaching.{there_of}
 use Rattle.pb_turns.proofs.crew.answer_at.Goals as goal
 
@@ -150,4 +151,5 @@ returns-clause-story g c = λ first at taken faults es given unit s flying lawfu
           c.requires.manned.units_apart c.requires.manned.tickets_apart c.requires.manned.numbers_apart c.answer_unit.new.store.next c.answer_unit.ensures.others
           c.in-Ok.ran c.in-Ok.ensures.outcome c.in-Ok.ensures.keeps c.in-Ok.ensures.directives c.in-Ok-lines_of_unit.lines c.remove-unit.new.self.items c.note_answer.new.done.items c.remove-unit.ensures.items c.note_answer.ensures.done
           c.in-Ok.ensures.started (c.in-Ok-lines_of_unit.ensures ∙ ap (λ ms. unit_lines c.args.crew.now.project c.index-as_slice-unit.result c.in-Ok.ran.started ms) c.as_slice-2.ensures);
+      quiet = answered_quiet g.P.Place.tells g.P.Place.child first c.args.crew.now at now new (g.P.Place.still c.args.place.now) es given s c.args.index c.remove-unit.result c.index-as_slice-unit.result there at_index answer c.answer_unit.ensures.same;
     })

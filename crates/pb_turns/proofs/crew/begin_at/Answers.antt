@@ -8,6 +8,7 @@ use Rattle.pb_turns.proofs.Beginning.{goes_lists, refused_happened, failed_happe
 use Rattle.pb_turns.proofs.Changing.{changes_begun, changes_more}
 use Rattle.pb_turns.proofs.Counting.{goes_begun, stops_begun, stops_refused_begun, children_are}
 use Rattle.pb_turns.proofs.Manning.{manned_same, manned_begun, begin_fault_flies, flying_of}
+use Rattle.pb_turns.proofs.Quiet.{begun_quiet}
 use Rattle.pb_turns.proofs.Reaching.{there_at, there_some}
 use Rattle.pb_turns.proofs.crew.begin_at.Goals as goal
 
@@ -89,4 +90,5 @@ returns-clause-story g c = λ first at taken faults es given s flying lawful is_
       happened = begun_happened g.P.Place.tells g.P.Place.child first c.args.crew.now at now new (g.P.Place.still c.args.place.now) (g.P.Place.still c.begin_unit.new.place)
           es given c.args.unit c.index-as_slice-unit.result c.requires.manned.order there s may c.begin_unit.new.store.next c.as_slice-2.result.now c.as_slice-2.ensures.value
           c.begin_unit.ensures.keeps c.begin_unit.ensures.others c.in-Ok-begin_unit.begun c.note_begun.new.aloft.items more c.in-Ok-begin_unit.ensures.begun c.in-Ok-begin_unit.ensures.differs;
+      quiet = begun_quiet g.P.Place.tells g.P.Place.child first c.args.crew.now at now new (g.P.Place.still c.args.place.now) es given c.args.unit s c.in-Ok-begin_unit.begun c.in-Ok-begin_unit.ensures.same;
     }

@@ -1,0 +1,73 @@
+-- As long as no child is started, the world is as at first.
+use Rattle.std.proofs.Common.{◌≡◌, ◌∙◌, ◌++◌, Bool, true, false, List, [], ◌∷◌, ℕ, Option, Some, None, IsTrue, if◌then◌else◌, ◌==◌, refl, sym, ap, is_some, slice_get}
+use Rattle.std.proofs.lemmas.Bool.{false≢true}
+use Rattle.pb_flight.specs.declared.flight.Answer.{Answer}
+use Rattle.pb_flight.specs.Events.{Event, Began, Gave, started_by}
+use Rattle.pb_flight.specs.Table.{if_so}
+use Rattle.pb_place.specs.World.{World, Answers}
+use Rattle.pb_project.specs.Targets.{unit_at}
+use Rattle.pb_project.specs.declared.fault.UnitFault.{UnitFault}
+use Rattle.pb_record.specs.Parts.{IsReading}
+use Rattle.pb_run.specs.Halves.{Basis, basis, records_in}
+use Rattle.pb_run.specs.Standing.{records_folder}
+use Rattle.pb_run.specs.declared.begun.Begun.{Begun as unit_begun}
+use Rattle.pb_run.specs.declared.begun.Launched.{Launched}
+use Rattle.pb_soundness.specs.Records.{Reading, record_at}
+use Rattle.pb_store.specs.Migrating.{lacks_number}
+use Rattle.pb_turns.specs.Moments.{Moment}
+use Rattle.pb_turns.specs.Rows.{is_started}
+use Rattle.pb_turns.specs.Story.{FliesSo, FromFirst, IsQuiet, NoneLacksNumber, Story}
+use Rattle.pb_turns.specs.declared.crew.Aloft.{Aloft}
+use Rattle.pb_turns.specs.declared.crew.UnitCrew.{UnitCrew}
+use Rattle.pb_turns.proofs.Lists.{all_get}
+use Rattle.pb_unit.specs.declared.plan.Planned.{Planned}
+
+-- Lists that are empty.
+
+left_none : {A : Type 0} (xs ys : List A) → xs ++ ys ≡ [] → xs ≡ []
+left_none [] ys none = refl
+left_none (x ∷ xs) ys none = cc
+
+some_last : {A : Type 0} (xs : List A) (x : A) → xs ++ x ∷ [] ≡ [] → ⊥
+some_last [] x none = cc
+some_last (y ∷ xs) x none = cc
+
+-- where no child was started, none was for any unit
+pub none_started : (es : List (Event UnitFault)) (place : ℕ) → started_by es ≡ [] → is_started es place ≡ false
+none_started [] place none = refl
+none_started (Began unit true ∷ es) place none = absurd (some_last (started_by es) unit none)
+none_started (Began unit false ∷ es) place none = both (unit == place) (is_started es place) (none_started es place (left_none (started_by es) [] none))
+  where
+    both : (b c : Bool) → c ≡ false → (if b then false else c) ≡ false
+    both true c is = refl
+    both false c is = is
+none_started (Gave unit answer ∷ es) place none = none_started es place none
+
+-- A unit begins.
+
+quiet_begun : (b : Basis) (es : List (Event UnitFault)) (first w w' : World) (unit : ℕ) (o : Option Launched) → (o ≡ None → w' ≡ w) → IsQuiet b es first w → IsQuiet b (Began unit (is_some o) ∷ es) first w'
+quiet_begun b es first w w' unit None same quiet = λ none numbered. same refl ∙ quiet (left_none (started_by es) [] none) numbered
+quiet_begun b es first w w' unit (Some l) same quiet = λ none numbered. absurd (some_last (started_by es) unit none)
+
+pub begun_quiet : (tells : Bool) (child : Answers) (first old : UnitCrew) (at now new : Moment) (still : ℕ → Type 0) (es : List (Event UnitFault)) (given unit : ℕ) → Story tells child first at old now still es given
+    → (begun : unit_begun) → (IsTrue tells → begun.launched ≡ None → new.world ≡ now.world) → IsTrue tells → FromFirst child first at old (λ b. IsQuiet b (Began unit (is_some begun.launched) ∷ es) at.world new.world)
+begun_quiet tells child first old at now new still es given unit story begun same t = λ f r s reading k.
+    quiet_begun (basis f r child old.setup old.project s) es at.world now.world new.world unit begun.launched (same t) (story.quiet t f r s reading k)
+
+-- A unit answers.
+
+module _ (b : Basis) (es : List (Event UnitFault)) (first w w' : World) (place : ℕ) (u : Planned) (there : unit_at b.project place ≡ Some u) where
+  quiet_answered : (o : Option Launched) → is_started es place ≡ is_some o → (o ≡ None → lacks_number (records_in b w u.key) ≡ false → w' ≡ w) → IsQuiet b es first w → IsQuiet b es first w'
+  quiet_answered None started same quiet = λ none numbered.
+      let as_first = quiet none numbered in
+      same refl (ap (λ (v : World). lacks_number (records_in b v u.key)) as_first ∙ numbered place u there) ∙ as_first
+  quiet_answered (Some l) started same quiet = λ none numbered. absurd (false≢true (sym (none_started es place none) ∙ started))
+
+pub answered_quiet : (tells : Bool) (child : Answers) (first old : UnitCrew) (at now new : Moment) (still : ℕ → Type 0) (es : List (Event UnitFault)) (given : ℕ) → Story tells child first at old now still es given
+    → (index : ℕ) (a : Aloft) (u : Planned) → unit_at old.project a.unit ≡ Some u → slice_get old.aloft.items index ≡ Some a → (answer : Answer UnitFault)
+    → ((read : Reading) → IsReading read → IsTrue tells → a.begun.launched ≡ None → lacks_number (record_at read (records_folder old.project) now.world.files u.key) ≡ false → new.world ≡ now.world)
+    → IsTrue tells → FromFirst child first at old (λ b. IsQuiet b (Gave a.unit answer ∷ es) at.world new.world)
+answered_quiet tells child first old at now new still es given story index a u there at_index answer same t = λ f r s reading k.
+    let (h, began) = story.happened t f r s reading k in
+    let so = all_get (FliesSo (basis f r child old.setup old.project s) es old.store.next now.world now.counts.starts.flying still) old.aloft.items index a h.begun at_index in
+    quiet_answered (basis f r child old.setup old.project s) es at.world now.world new.world a.unit u there a.begun.launched so.started (same r reading t) (story.quiet t f r s reading k)
