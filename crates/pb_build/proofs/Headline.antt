@@ -47,6 +47,9 @@ use Rattle.pb_build.specs.Result.{toolchain_of, setup_of}
 injective : {A : Type 0} {x y : A} → Some x ≡ Some y → x ≡ y
 injective e = cc
 
+no_fault : {summary : Summary} {fault : BuildFault} → Ok summary ≡ Err fault → ⊥
+no_fault e = cc
+
 -- before a unit has begun none is good
 none_good : (needs : List (List ℕ)) (place : ℕ) → is_good_at {F = UnitFault} (slice_get (map (λ _. Untouched) needs) place) ≡ true → ⊥
 none_good [] place good = cc
@@ -81,11 +84,11 @@ row_at (u ∷ us) [] place row at = cc
 row_at (u ∷ us) (o ∷ os) zero row at =
     let same : record { unit = u; outcome = o } ≡ row = injective at in
     record { unit = ap (λ (r : Row). Some r.unit) same; outcome = ap (λ (r : Row). Some r.outcome) same }
-row_at (u ∷ us) (o ∷ os) (suc place) row at = let r = by (is_bad o) at in record { unit = r.unit; outcome = r.outcome }
+row_at (u ∷ us) (o ∷ os) (suc place) row at = let r = by (is_bad o) at (λ more. row_at us os place row more) in record { unit = r.unit; outcome = r.outcome }
   where
-    by : (b : Bool) → slice_get (if b then [] else to_first_bad us os) place ≡ Some row → RowAt us os place row
-    by true none = cc
-    by false more = row_at us os place row more
+    by : (b : Bool) → slice_get (if b then [] else to_first_bad us os) place ≡ Some row → (slice_get (to_first_bad us os) place ≡ Some row → RowAt us os place row) → RowAt us os place row
+    by true none rest = cc
+    by false more rest = rest more
 
 -- a unit whose lines are due has answered
 answered_due : {F : Type 0} (ss : List (State F)) (place : ℕ) → place < count_due ss → (answer : Answer F) × (slice_get ss place ≡ Some (Answered answer))
@@ -93,17 +96,37 @@ answered_due [] place less = absurd (omega (arith, less))
 answered_due (Untouched ∷ ss) place less = absurd (omega (arith, less))
 answered_due (Begun ∷ ss) place less = absurd (omega (arith, less))
 answered_due (Answered a ∷ ss) zero less = (a, refl)
-answered_due (Answered a ∷ ss) (suc place) less = by (is_none a.fault) less
+answered_due (Answered a ∷ ss) (suc place) less = by (is_none a.fault) less (λ more. answered_due ss place more)
   where
-    by : (b : Bool) → suc place < suc (if b then count_due ss else 0) → (answer : _) × (slice_get ss place ≡ Some (Answered answer))
-    by true more = answered_due ss place (omega (arith, more))
-    by false more = absurd (omega (arith, more))
+    by : (b : Bool) → suc place < suc (if b then count_due ss else 0) → (place < count_due ss → (answer : Answer _) × (slice_get ss place ≡ Some (Answered answer))) → (answer : Answer _) × (slice_get ss place ≡ Some (Answered answer))
+    by true more rest = rest (omega (arith, more))
+    by false more rest = absurd (omega (arith, more))
+
+-- the folder of the records
+pub same_folder : (options : Options) (w : World) (project : Project) → IsProject options (environment_of options w.variables).target w project → records_folder project ≡ records_of options w.variables
+same_folder options w project is = ap₂ (λ (t n : List ℕ). below t (folder_of n)) (target_kept options.manifest (environment_of options w.variables).target w project.workspace is.selected.read) is.profile
+
+-- what a build rests on is what the halves of units keep at first
+module _ (read : Reading) (child : Answers) (options : Options) (w : World) (project : Project) (toolchain : List ℕ) (is : IsProject options (environment_of options w.variables).target w project)
+    (says : toolchain_of child (environment_of options w.variables) project (from_nothing (environment_of options w.variables).target w) ≡ Some toolchain) (next : Option ℕ)
+    (ahead : IsAhead (record_at read (records_folder project) w.files) next) where
+  abbrev its_basis : Footing → Basis
+  its_basis f = basis f read child (setup_of options (environment_of options w.variables) toolchain) project (from_nothing (environment_of options w.variables).target w)
+
+  holds : (f : Footing) → RestsOn f read child options w → HoldsBy f (its_basis f) (untouched project) next w
+  holds OnRecords (sound, honest) = record {
+    honest = honest read project toolchain is says;
+    sound = subst (λ (f : List ℕ). Sound read judge child f w.files) (sym (same_folder options w project is)) sound;
+    ahead = ahead;
+    recorded = λ place good. absurd (none_good (needs_of project) place good);
+  }
+  holds OnNothing none = λ place u there state. subst (λ (f : List ℕ). record_at read f w.files u.key ≡ None) (sym (same_folder options w project is)) (none u.key)
+
+  pub rests_first : (f : Footing) → RestsOn f read child options w → Keeps (its_basis f) (untouched project) (nothing_said project) next w
+  rests_first f on =
+      first_kept (its_basis f) next w (ap (λ (t : List ℕ). from_nothing t w) (target_kept options.manifest (environment_of options w.variables).target w project.workspace is.selected.read)) (holds f on)
 
 module _ (footing : Footing) (read : Reading) (reading : IsReading read) (child : Answers) (options : Options) where
-  -- the folder of the records
-  pub same_folder : (w : World) (project : Project) → IsProject options (environment_of options w.variables).target w project → records_folder project ≡ records_of options w.variables
-  same_folder w project is = ap₂ (λ (t n : List ℕ). below t (folder_of n)) (target_kept options.manifest (environment_of options w.variables).target w project.workspace is.selected.read) is.profile
-
   -- before the units nothing was changed
   stay_true : (f : Footing) (old new : World) → RestsOn f read child options old → new ≡ old → LeavesRecords f read child options old new
   stay_true OnRecords old new (sound, honest) same = subst (λ (w : World). Sound read judge child (records_of options old.variables) w.files) (sym same) sound
@@ -111,7 +134,7 @@ module _ (footing : Footing) (read : Reading) (reading : IsReading read) (child 
 
   module _ {S : Type 0} (Turns : S → List ℕ → List ℕ → Step → S → Type 0) (from last : S) where
     none_gives : (result : Result Summary BuildFault) (old new : Moment) → NoneBegan true child options result old new → GivesUnits footing read child options result old new
-    none_gives (Ok summary) old new none = let no : Ok summary ≡ Err none.fault = none.answer in cc
+    none_gives (Ok summary) old new none = absurd (no_fault none.answer)
     none_gives (Err fault) old new none = inl none
 
     module _ (project : Project) (toolchain : List ℕ) (old mid new : Moment) (is : IsProject options (environment_of options old.world.variables).target old.world project)
@@ -126,26 +149,14 @@ module _ (footing : Footing) (read : Reading) (reading : IsReading read) (child 
       abbrev b : Basis
       b = basis footing read child setup project sources
 
-      holds : (f : Footing) → RestsOn f read child options old.world → HoldsBy f (basis f read child setup project sources) (untouched project) next old.world
-      holds OnRecords (sound, honest) = record {
-        honest = honest read project toolchain is says;
-        sound = subst (λ (f : List ℕ). Sound read judge child f old.world.files) (sym (same_folder old.world project is)) sound;
-        ahead = ahead;
-        recorded = λ place good. absurd (none_good (needs_of project) place good);
-      }
-      holds OnNothing none = λ place u there state. subst (λ (f : List ℕ). record_at read f old.world.files u.key ≡ None) (sym (same_folder old.world project is)) (none u.key)
-
       kept_first : (f : Footing) → RestsOn f read child options old.world → Keeps (basis f read child setup project sources) (untouched project) (nothing_said project) next mid.world
-      kept_first f on =
-          subst (λ (w : World). Keeps (basis f read child setup project sources) (untouched project) (nothing_said project) next w) (sym stays)
-          (first_kept (basis f read child setup project sources) next old.world
-          (ap (λ (t : List ℕ). from_nothing t old.world) (target_kept options.manifest (environment_of options old.world.variables).target old.world project.workspace is.selected.read)) (holds f on))
+      kept_first f on = subst (λ (w : World). Keeps (basis f read child setup project sources) (untouched project) (nothing_said project) next w) (sym stays) (rests_first read child options old.world project toolchain is says next ahead f on)
 
       abbrev units_by : List (Event UnitFault) → UnitsOf child options old.world
       units_by es = record { project = project; toolchain = toolchain; is = is; says = says; es = es }
 
       leaves : (f : Footing) (es : List (Event UnitFault)) → Stands (basis f read child setup project sources) es new.world → LeavesRecords f read child options old.world new.world
-      leaves OnRecords es stands = subst (λ (f : List ℕ). Sound read judge child f new.world.files) (same_folder old.world project is) stands.keeps.records.sound
+      leaves OnRecords es stands = subst (λ (f : List ℕ). Sound read judge child f new.world.files) (same_folder options old.world project is) stands.keeps.records.sound
       leaves OnNothing es stands = tt
 
       -- the bytes that were handed out since the start
@@ -163,8 +174,8 @@ module _ (footing : Footing) (read : Reading) (reading : IsReading read) (child 
             let (answer, here) = answered_due (states_in project es) place due_now in
             let gave = stands.gave place answer here in
             let outcome_is : gave.outcome ≡ Good made directives messages = injective (sym gave.is ∙ at.outcome) in
-            let no_fault : answer.fault ≡ None = gave.fault ∙ ap fault_in outcome_is in
-            let good : is_good_at (slice_get (states_in project es) place) ≡ true = ap is_good_at here ∙ ap is_none no_fault in
+            let well : answer.fault ≡ None = gave.fault ∙ ap fault_in outcome_is in
+            let good : is_good_at (slice_get (states_in project es) place) ≡ true = ap is_good_at here ∙ ap is_none well in
             let s = stands.keeps.good place good in
             let same_unit : s.unit ≡ u = injective (sym s.there ∙ at.unit) in
             let same_good : Good s.files s.directives s.messages ≡ Good made directives messages = injective (sym s.good ∙ at.outcome) in

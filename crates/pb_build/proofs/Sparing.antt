@@ -55,7 +55,7 @@ module _ {S : Type 0} (child : Answers) (Turns : S → List ℕ → List ℕ →
   works_within result old new (inr units) q outside_it =
       let project = units.prepared.project in
       let is = units.prepares.is refl in
-      let same : records_folder project ≡ records_of options old.world.variables = same_folder child options old.world project is.project in
+      let same : records_folder project ≡ records_of options old.world.variables = same_folder options old.world project is.project in
       turns_within units.prepared.setup project units.prepared.store.next result units.mid new units.prepares.order units.ends q (subst (λ (f : List ℕ). is_at_or_below f q ≡ false) (sym same) outside_it)
       ∙ ap (λ (w : World). get w.files q) (units.prepares.stays refl)
 
