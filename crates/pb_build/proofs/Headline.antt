@@ -47,7 +47,7 @@ use Rattle.pb_build.specs.Result.{toolchain_of, setup_of}
 injective : {A : Type 0} {x y : A} → Some x ≡ Some y → x ≡ y
 injective e = cc
 
-no_fault : {summary : Summary} {fault : BuildFault} → Ok summary ≡ Err fault → ⊥
+pub no_fault : {summary : Summary} {fault : BuildFault} → Ok summary ≡ Err fault → ⊥
 no_fault e = cc
 
 -- before a unit has begun none is good

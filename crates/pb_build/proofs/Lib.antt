@@ -3,6 +3,7 @@ pub mod Preparing
 pub mod Staying
 pub mod Headline
 pub mod Sparing
+pub mod Again
 pub mod InOrder
 pub mod StepsTaken
 pub mod Refusals

@@ -21,7 +21,7 @@ same_refusal options target v w _ alike (by_feature fault ws selection is told) 
 same_refusal options target v w _ alike (by_plan fault ws selection features is featured told) =
     by_plan fault ws selection features record { read = sym (same_read options.manifest target v w alike) ∙ is.read; chosen = is.chosen } featured told
 
-same_project : (options : Options) (target : List ℕ) (v w : World) (project : Project) → from_nothing target v ≡ from_nothing target w → IsProject options target v project → IsProject options target w project
+pub same_project : (options : Options) (target : List ℕ) (v w : World) (project : Project) → from_nothing target v ≡ from_nothing target w → IsProject options target v project → IsProject options target w project
 same_project options target v w project alike is = record {
   selection = is.selection;
   selected = record { read = sym (same_read options.manifest target v w alike) ∙ is.selected.read; chosen = is.selected.chosen };

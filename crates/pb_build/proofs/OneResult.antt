@@ -172,7 +172,7 @@ alike options ws ws' a b f g d e profile profile' same chosen profiles one other
       flags = enabled_same ws a f g one other';
     }
 
-projects_alike : (options : Options) (target : List ℕ) (w : World) (p q : Project) → IsProject options target w p → IsProject options target w q → AreAlike p q
+pub projects_alike : (options : Options) (target : List ℕ) (w : World) (p q : Project) → IsProject options target w p → IsProject options target w q → AreAlike p q
 projects_alike options target w p q is is' =
     let both : Ok p.workspace ≡ Ok q.workspace = sym is.selected.read ∙ is'.selected.read in
     let same : p.workspace ≡ q.workspace = cc in
@@ -181,7 +181,7 @@ projects_alike options target w p q is is' =
     (is.profile ∙ sym is'.profile) is.featured.resolved is'.featured.resolved is.planned is'.planned
 
 -- the other project is this one with other features
-other_is : (p q : Project) → AreAlike p q → record p { features = q.features } ≡ q
+pub other_is : (p q : Project) → AreAlike p q → record p { features = q.features } ≡ q
 other_is p q is =
     ap (λ x. record p { workspace = x; features = q.features }) is.workspace ∙ (ap (λ x. record p { workspace = q.workspace; features = q.features; plan = x }) is.plan
     ∙ ap (λ x. record { workspace = q.workspace; features = q.features; plan = q.plan; profile = x }) is.profile)
@@ -195,7 +195,7 @@ module _ (child : Answers) (options : Options) (environment : Environment) (w : 
   sources : World
   sources = from_nothing environment.target w
 
-  same_toolchain : (p q : Project) → AreAlike p q → toolchain_of child environment p (from_nothing environment.target w) ≡ toolchain_of child environment q (from_nothing environment.target w)
+  pub same_toolchain : (p q : Project) → AreAlike p q → toolchain_of child environment p (from_nothing environment.target w) ≡ toolchain_of child environment q (from_nothing environment.target w)
   same_toolchain p q is = ap (λ (ws : Workspace). toolchain_of child environment record p { workspace = ws } (from_nothing environment.target w)) is.workspace
 
   finished_once : (p q : Project) (t u : List ℕ) → AreAlike p q → toolchain_of child environment p (from_nothing environment.target w) ≡ Some t → toolchain_of child environment q (from_nothing environment.target w) ≡ Some u

@@ -20,7 +20,7 @@ use Rattle.pb_message.specs.declared.message.Message.TheVariants.{CompilerArtifa
 use Rattle.pb_place.specs.World.{World, Answers}
 use Rattle.pb_place.specs.declared.child.Reply.{Reply}
 use Rattle.pb_place.specs.declared.command.Command.{Command}
-use Rattle.pb_run.specs.Outcome.{Outcome, Waiting, directives_of, tabled_from, is_good_at, view_of, ran_by, outcome_by, judged, command_after, outcome_of}
+use Rattle.pb_run.specs.Outcome.{Outcome, Waiting, directives_of, tabled_from, is_good_at, view_of, ran_by, outcome_by, judged, command_after, outcome_of, outcomes}
 use Rattle.pb_command.specs.Judge.{ended_by, file_at, replied_files}
 use Rattle.pb_run.specs.Telling.{artifacts, compiler_messages, good_messages, is_binary}
 use Rattle.pb_place.specs.declared.command.Ended.{Ended}
@@ -113,5 +113,8 @@ module _ (p : Project) (g : Features) (names : (o : ℕ) (s : Side) → features
       (judged_same u (command_after setup p done u) (child (command_after setup p done u) (view_of done sources u))
       ∙ ap (λ (c : Command). judged other u c (child c (view_of done sources u))) (command_same setup u (directives_of done)))
 
+  pub outcomes_same : (child : Answers) (setup : Setup) (sources : World) → outcomes child setup p sources ≡ outcomes child setup other sources
+  outcomes_same child setup sources = tabled_same (outcome_of child setup p sources) (outcome_of child setup other sources) (outcome_same child setup sources) [] p.plan.planned
+
   pub rows_same : (child : Answers) (setup : Setup) (sources : World) → rows_of child setup p sources ≡ rows_of child setup other sources
-  rows_same child setup sources = ap (to_first_bad p.plan.planned) (tabled_same (outcome_of child setup p sources) (outcome_of child setup other sources) (outcome_same child setup sources) [] p.plan.planned)
+  rows_same child setup sources = ap (to_first_bad p.plan.planned) (outcomes_same child setup sources)

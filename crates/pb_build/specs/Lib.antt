@@ -8,4 +8,5 @@ pub mod Headline
 pub mod Session
 pub mod Laws
 pub mod Lasting
+pub mod Again
 pub mod Private

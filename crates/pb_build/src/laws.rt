@@ -1,8 +1,11 @@
 //! Laws of what a build gives. Each function does nothing; its contract is the law.
 
+ghost use Rattle.pb_build.specs.Again.{SameBuildStartsNone};
 ghost use Rattle.pb_build.specs.Lasting.{AnyBuildGives, NothingIsSound, RecordsStayTrue};
 ghost use Rattle.pb_build.specs.Laws.{LooksAtSources, GivesFromNothing, HasOneResult, UnitsAreOfResult};
 ghost use Rattle.pb_build.specs.Session.{Unaffected};
+
+use pb_flight::Turn;
 
 /// What stands in the target folder is not seen: two worlds with the same variables and the same files outside it give
 /// the same results; so a build gives what it gives where nothing stands there.
@@ -40,4 +43,10 @@ pub fn records_stay_true()
 /// with the first of its lines, whatever came before it.
 pub fn any_build_gives()
     ensures { AnyBuildGives }
+{}
+
+/// After a build that succeeded, over true records and an honest child, the same build again, by whatever turn, tells no
+/// unit as started.
+pub fn same_build_starts_none<T: Turn, U: Turn>()
+    ensures { SameBuildStartsNone T.turns U.turns }
 {}

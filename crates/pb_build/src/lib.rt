@@ -12,8 +12,8 @@ pub mod toolchain;
 pub use builder::{Prepared, build, build_turns, build_with, missing_libraries};
 pub use environment::Environment;
 pub use laws::{
-    any_build_gives, builds_look_at_sources, earlier_builds_change_nothing, records_stay_true, units_are_of_the_result,
-    worlds_have_one_result,
+    any_build_gives, builds_look_at_sources, earlier_builds_change_nothing, records_stay_true,
+    same_build_starts_none, units_are_of_the_result, worlds_have_one_result,
 };
 pub use pb_answer::{BuildFault, Refusal, Summary, result_line};
 pub use pb_package::Options;
