@@ -6,7 +6,7 @@ for name in a b; do
     file w/$name/build.rs
 done
 file meet.sh ": > $PWD/met/\$CARGO_PKG_NAME" 'for i in 1 2 3 4 5 6 7 8 9 10; do for j in 1 2 3 4 5; do' \
-    "    [ -e $PWD/met/a ] && [ -e $PWD/met/b ] && exit 0" '    sleep 0.02' 'done done' 'exit 3'
+    "    [ -e $PWD/met/a ] && [ -e $PWD/met/b ] && exit 0" '    sleep 0.06' 'done done' 'exit 3'
 meet() {
     rm -rf met w/target
     mkdir met
