@@ -1,5 +1,5 @@
 -- What people are told of a build that came to its end, beside its message lines (our own choice of words).
-use Rattle.std.specs.Prelude.{ℕ, ◌==◌, ◌-◌, Bool, true, if◌then◌else◌, codes, length, slice_get, List, [], ◌∷◌, ◌++◌, Option, Some, None}
+use Rattle.std.specs.Prelude.{ℕ, ◌==◌, ◌-◌, Bool, true, if◌then◌else◌, codes, length, slice_get, drop, List, [], ◌∷◌, ◌++◌, Option, Some, None}
 use Rattle.std.specs.Fmt.{decimal}
 use Rattle.std.specs.List.{concat}
 use Rattle.pb_answer.specs.declared.summary.Summary.{Summary}
@@ -32,14 +32,17 @@ reason (Dependency key) = concat (key ∷ codes " was built again" ∷ [])
 abbrev pub started_line : List ℕ → Difference → List ℕ
 started_line key difference = concat (key ∷ codes ": started, since " ∷ reason difference ∷ codes "\n" ∷ [])
 
+abbrev pub line_if : List ℕ → Option Difference → List ℕ
+line_if key None = []
+line_if key (Some difference) = started_line key difference
+
 -- a line for each unit whose child was started
 abbrev pub started_lines : List (List ℕ) → List Difference → List ℕ
 started_lines [] differences = []
-started_lines (key ∷ keys) [] = []
-started_lines (key ∷ keys) (difference ∷ differences) = started_line key difference ++ started_lines keys differences
+started_lines (key ∷ keys) differences = line_if key (slice_get differences 0) ++ started_lines keys (drop 1 differences)
 
 abbrev pub counts_line : ℕ → ℕ → List ℕ
-counts_line started kept = decimal started ++ codes " started, " ++ decimal kept ++ codes " kept\n"
+counts_line started kept = concat (decimal started ∷ codes " started, " ∷ decimal kept ∷ codes " kept\n" ∷ [])
 
 -- why a build started what it started; and how many were started, and of how many what is kept was given again
 abbrev pub explanation : Summary → List ℕ

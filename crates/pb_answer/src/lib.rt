@@ -2,13 +2,13 @@
 #![tactic(auto)]
 
 pub mod bad_unit;
-pub mod explanation;
 pub mod fault;
 pub mod line;
 pub mod summary;
+pub mod telling;
 
 pub use bad_unit::BadUnit;
-pub use explanation::{explanation, said};
 pub use fault::{BuildFault, DeviceFault, Refusal};
 pub use line::result_line;
 pub use summary::Summary;
+pub use telling::{explanation, said};

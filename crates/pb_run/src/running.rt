@@ -1,29 +1,18 @@
 //! Single calls of the place, with the faults that a build tells of them.
 
-ghost use Rattle.std.specs.Prelude.{◌≡◌, ◌+◌, ℕ, true, max, length, IsTrue, IfOk, OnOk, Some, slice_get, take};
-ghost use Rattle.std.specs.FinMap as finite;
-ghost use Rattle.std.specs.List.{list_all};
+ghost use Rattle.std.specs.Prelude.{◌≡◌, ◌+◌, max, length, IsTrue, IfOk, OnOk, Some};
 ghost use Rattle.pb_place.specs.Paths.{is_at_or_below};
-ghost use Rattle.pb_place.specs.World.{World, Ends, ChangesOnly, ChangesOnlyInSome, removed, from_nothing};
-ghost use Rattle.pb_command.specs.Answers.{answered_of};
-ghost use Rattle.pb_project.specs.Targets.{dep_info_of};
+ghost use Rattle.pb_place.specs.World.{Ends, ChangesOnly, ChangesOnlyInSome, removed};
 ghost use Rattle.pb_place.specs.declared.command.Ended.{Ended};
-ghost use Rattle.pb_run.specs.Causes.{Takes, NoStart, OneStart, MayStart, MayRemove, MayBegin, MayRead, MayRun};
-ghost use Rattle.pb_place.specs.Folders.{files_in};
-ghost use Rattle.pb_run.specs.Outcome.{outcomes, ran_by, outcome_by, directives_in, directives_of, is_good};
+ghost use Rattle.pb_run.specs.Causes.{Takes, NoStart, OneStart, MayStart, MayRemove, MayRead};
 ghost use Rattle.pb_command.specs.Judge.{file_at};
-ghost use Rattle.pb_run.specs.Standing.{IsInOrder, IsStanding};
 ghost use Rattle.pb_soundness.specs.Apart.{KeepsStill, KeepsStillOutside};
 
 use crate::faults::{childless, deviceless};
-use crate::ran::{Ran, judged};
 use pb_answer::BuildFault;
 use pb_command::command;
 use pb_data::{Bytes, Text};
-use pb_directive::Directives;
 use pb_place::{Command, Ended, PathText, Place};
-use pb_project::{Project, Setup, dep_info_path};
-use pb_unit::Planned;
 use std::alloc::Global;
 
 /// Starts a child. Its faults have this name: `-vV` for the query of the compiler's version, else a unit's key.

@@ -1,7 +1,8 @@
 //! What people are told of a build that came to its end, beside its message lines.
 
 ghost use Rattle.std.specs.Prelude.{◌≡◌, ◌++◌, IfOk, OnOk, string_bytes};
-ghost use Rattle.pb_answer.specs.Explanation.{part, reason, started_line, started_lines, counts_line, explanation, ended, said_by_bad};
+ghost use Rattle.std.specs.Option.{option_copied};
+ghost use Rattle.pb_answer.specs.Explanation.{part, reason, started_line, line_if, started_lines, counts_line, explanation, ended, said_by_bad};
 
 use crate::line::joined;
 use crate::summary::Summary;
@@ -66,6 +67,21 @@ fn push_started(
     Ok(())
 }
 
+/// Adds the line of a unit whose child was started, where it is known what differed.
+fn push_line(
+    alloc: Global,
+    text: &mut String,
+    key: &Text,
+    difference: Option<&Difference>,
+) -> Result<(), AllocError>
+    ensures { OnOk result (string_bytes text.new ≡ string_bytes text.old ++ line_if key.now (option_copied difference.entry)) }
+{
+    match difference {
+        Some(difference) => push_started(alloc, text, key, difference),
+        None => Ok(()),
+    }
+}
+
 /// A line for each unit whose child was started.
 fn started_lines(
     alloc: Global,
@@ -75,12 +91,8 @@ fn started_lines(
     ensures { IfOk result (λ text. string_bytes text ≡ started_lines keys.now differences.now) }
 {
     let mut text = String::new(alloc);
-    let mut keys = keys;
-    let mut differences = differences;
-    while let ([key, more @ ..], [difference, others @ ..]) = (keys, differences) {
-        push_started(alloc, &mut text, key, difference)?;
-        keys = more;
-        differences = others;
+    for index in 0..keys.len() {
+        push_line(alloc, &mut text, &keys[index], differences.get(index))?;
     }
     Ok(text)
 }
@@ -89,7 +101,12 @@ fn started_lines(
 fn counts_line(alloc: Global, started: usize, kept: usize) -> Result<String, AllocError>
     ensures { IfOk result (λ text. string_bytes text ≡ counts_line started kept) }
 {
-    format!(in alloc; "{started} started, {kept} kept\n")
+    let started = format!(in alloc; "{started}")?;
+    let kept = format!(in alloc; "{kept}")?;
+    joined(
+        alloc,
+        &[started.as_str(), " started, ", kept.as_str(), " kept\n"],
+    )
 }
 
 /// Why a build started what it started: for each unit whose child was started, in order of starting, its key and what
