@@ -1,0 +1,5 @@
+pub mod Rising
+pub mod PathsSaid
+pub mod SourcesFound
+pub mod Wanting
+pub mod Drafting

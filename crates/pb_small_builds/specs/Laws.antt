@@ -1,0 +1,52 @@
+-- What builds with the small compiler give, with no premise on the child.
+use Rattle.std.specs.Prelude.{◌≡◌, ◌∷◌, ◌++◌, [], ℕ, true, List, Result, Ok}
+use Rattle.std.specs.FinMap as finite
+use Rattle.pb_answer.specs.declared.fault.BuildFault.{BuildFault}
+use Rattle.pb_answer.specs.declared.summary.Summary.{Summary}
+use Rattle.pb_command.specs.Judge.{judge}
+use Rattle.pb_honesty.specs.Honest.{small_compiler}
+use Rattle.pb_package.specs.Settled.{IsSettled}
+use Rattle.pb_package.specs.declared.options.Options.{Options}
+use Rattle.pb_package.specs.declared.workspace.Workspace.{Workspace}
+use Rattle.pb_place.specs.Paths.{is_path}
+use Rattle.pb_place.specs.World.{World}
+use Rattle.pb_record.specs.Parts.{IsReading}
+use Rattle.pb_run.specs.Halves.{OnRecords}
+use Rattle.pb_session.specs.declared.pick.PickBy.{PickBy}
+use Rattle.pb_session.specs.declared.step.SessionStep.{SessionStep}
+use Rattle.pb_session.specs.declared.step.SessionStep.TheVariants.{Build}
+use Rattle.pb_soundness.specs.Records.{Reading}
+use Rattle.pb_soundness.specs.Sound.{Sound}
+use Rattle.pb_turns.specs.Moments.{Moment}
+use Rattle.pb_workspace.specs.Loaded.{workspace_of}
+use Rattle.pb_build.specs.Headline.{records_of, IsHonestBuild, Gives, Headline}
+use Rattle.pb_build.specs.Session.{Point, Takes}
+use Rattle.pb_build.specs.declared.sessions.Answer.{Answer}
+use Rattle.pb_small_builds.specs.Small.{IsSmallBuild, SmallCourse}
+
+-- A workspace that is accepted is settled.
+abbrev pub WorkspacesAreSettled : Type 0
+WorkspacesAreSettled = (manifest target : List ℕ) (w : World) (ws : Workspace) → is_path manifest ≡ true → workspace_of manifest target w ≡ Ok ws → IsSettled ws
+
+-- The small compiler is an honest child of each build with these words.
+abbrev pub SmallBuildsAreHonest : Type 0
+SmallBuildsAreHonest = (options : Options) (w : World) → IsSmallBuild options w → IsHonestBuild small_compiler options w
+
+-- Over a place that tells its maps and whose child is the small compiler, a build with these words that rests on true records gives what the present workspace gives from nothing, however it ends.
+abbrev pub SmallBuildsGive : Type 0
+SmallBuildsGive = (read : Reading) (options : Options) (result : Result Summary BuildFault) (old new : Moment) → IsReading read → Headline true small_compiler options result old new
+    → IsSmallBuild options old.world → Sound read judge small_compiler (records_of options old.world.variables) old.world.files → Gives OnRecords read small_compiler options result old new
+
+-- Any edits, any builds between: a build of a session with the small compiler gives it too, where the records of its folder were true before the steps.
+abbrev pub SmallSessionsGive : Type 0
+SmallSessionsGive = (read : Reading) (options : Options) (pick : PickBy) (steps : List SessionStep) (before mid after : Point) → IsReading read
+    → Sound read judge small_compiler (records_of options mid.moment.world.variables) before.moment.world.files → SmallCourse (records_of options mid.moment.world.variables) steps before mid
+    → IsSmallBuild options mid.moment.world → Takes small_compiler (Build options pick) mid after
+    → (answer : Answer) × (after.answers ≡ mid.answers ++ answer ∷ []) × Gives OnRecords read small_compiler options answer.result mid.moment after.moment
+
+-- So does each build of a session that began without files.
+abbrev pub SessionsFromNothingGive : Type 0
+SessionsFromNothingGive = (read : Reading) (options : Options) (pick : PickBy) (steps : List SessionStep) (before mid after : Point) → IsReading read
+    → before.moment.world.files ≡ finite.empty → SmallCourse (records_of options mid.moment.world.variables) steps before mid
+    → IsSmallBuild options mid.moment.world → Takes small_compiler (Build options pick) mid after
+    → (answer : Answer) × (after.answers ≡ mid.answers ++ answer ∷ []) × Gives OnRecords read small_compiler options answer.result mid.moment after.moment

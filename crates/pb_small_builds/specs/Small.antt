@@ -1,0 +1,61 @@
+-- Builds whose child is the small compiler: what has to hold of their words, and nothing of the child.
+use Rattle.std.specs.Prelude.{◌≡◌, ◌⊎◌, ◌∷◌, [], ℕ, true, List, take, Some}
+use Rattle.std.specs.FinMap as finite
+use Rattle.pb_honesty.specs.Honest.{small_compiler, CanTell, IsSmall}
+use Rattle.pb_package.specs.declared.options.Options.{Options}
+use Rattle.pb_place.specs.Paths.{is_path}
+use Rattle.pb_place.specs.World.{World, from_nothing}
+use Rattle.pb_project.specs.Targets.{unit_at}
+use Rattle.pb_project.specs.declared.project.Project.{Project}
+use Rattle.pb_project.specs.declared.project.Setup.{Setup}
+use Rattle.pb_run.specs.Outcome.{outcomes, command_after, view_of}
+use Rattle.pb_session.specs.declared.step.SessionStep.{SessionStep}
+use Rattle.pb_session.specs.declared.step.SessionStep.TheVariants.{Write, Remove, Set, Unset, Build, Die, Fuse}
+use Rattle.pb_unit.specs.declared.plan.Planned.{Planned}
+use Rattle.pb_build.specs.Environment.{environment_of}
+use Rattle.pb_build.specs.Headline.{records_of}
+use Rattle.pb_build.specs.Lasting.{ShareNoPath, Spares}
+use Rattle.pb_build.specs.Planning.{IsProject}
+use Rattle.pb_build.specs.Result.{toolchain_of, setup_of}
+use Rattle.pb_build.specs.Session.{Point, Takes}
+
+-- One build.
+
+-- each file has a normalised absolute path
+abbrev pub HasPaths : World → Type 0
+HasPaths w = (path text : List ℕ) → finite.get w.files path ≡ Some text → is_path path ≡ true
+
+-- of each unit of a project the small compiler can tell what it reads: on the unit's command, in the unit's view
+abbrev pub CanTellUnits : Setup → Project → World → Type 0
+CanTellUnits setup project sources = (place : ℕ) (u : Planned) → unit_at project place ≡ Some u
+    → CanTell (command_after setup project (take place (outcomes small_compiler setup project sources)) u) (view_of (take place (outcomes small_compiler setup project sources)) sources u)
+
+-- the same of whatever project and version of the compiler a build finds in a world
+abbrev pub CanTellBuild : Options → World → Type 0
+CanTellBuild options w = (project : Project) (toolchain : List ℕ) → IsProject options (environment_of options w.variables).target w project
+    → toolchain_of small_compiler (environment_of options w.variables) project (from_nothing (environment_of options w.variables).target w) ≡ Some toolchain
+    → CanTellUnits (setup_of options (environment_of options w.variables) toolchain) project (from_nothing (environment_of options w.variables).target w)
+
+-- the words of a build with the small compiler: the manifest and the files of the sources have normalised absolute paths; the user's flags give no libraries, and scripts are run by the small compiler; and what is read can be told
+pub record IsSmallBuild (options : Options) (w : World) : Type 0 where
+  pub manifest : is_path options.manifest ≡ true
+  pub files : HasPaths (from_nothing (environment_of options w.variables).target w)
+  pub setup : (toolchain : List ℕ) → IsSmall (setup_of options (environment_of options w.variables) toolchain)
+  pub tells : CanTellBuild options w
+
+-- Sessions.
+
+-- a step spares the records of a folder: an edit outside of it; a build that keeps its records there, with these words; or one that keeps them apart from it
+abbrev pub SparesBySmall : List ℕ → SessionStep → World → Type 0
+SparesBySmall folder (Write path text) w = Spares small_compiler folder (Write path text) w
+SparesBySmall folder (Remove path) w = Spares small_compiler folder (Remove path) w
+SparesBySmall folder (Set name value) w = Spares small_compiler folder (Set name value) w
+SparesBySmall folder (Unset name) w = Spares small_compiler folder (Unset name) w
+SparesBySmall folder (Die key death) w = Spares small_compiler folder (Die key death) w
+SparesBySmall folder (Fuse number) w = Spares small_compiler folder (Fuse number) w
+SparesBySmall folder (Build options pick) w = ((records_of options w.variables ≡ folder) × IsSmallBuild options w) ⊎ ShareNoPath folder (records_of options w.variables)
+
+-- the steps were taken in turn, and each spares the records of a folder
+abbrev pub SmallCourse : List ℕ → List SessionStep → Point → Point → Type 0
+SmallCourse folder [] before after = after ≡ before
+SmallCourse folder (step ∷ steps) before after = SparesBySmall folder step before.moment.world × ((mid : Point) × Takes small_compiler step before mid × SmallCourse folder steps mid after)

@@ -1,0 +1,29 @@
+//! Builds whose child is the small compiler have the headline with no premise on the child.
+#![tactic(auto)]
+
+ghost use Rattle.pb_small_builds.specs.Laws.{WorkspacesAreSettled, SmallBuildsAreHonest, SmallBuildsGive, SmallSessionsGive, SessionsFromNothingGive};
+
+/// A law: a workspace that is accepted is settled, whatever its files say.
+pub fn workspaces_are_settled()
+    ensures { WorkspacesAreSettled }
+{}
+
+/// A law: the small compiler is an honest child of each build whose words are as follows. The manifest and the files of
+/// the sources have normalised absolute paths; `RUSTFLAGS` gives no `--extern`; the runner is `--run` behind a name; and
+/// whatever a unit reads has a name that can be told on one line.
+pub fn small_builds_are_honest()
+    ensures { SmallBuildsAreHonest }
+{}
+
+/// A law: with the small compiler as the child, a build of these words that rests on true records gives what the present
+/// workspace gives from nothing, however it ends, and leaves true records.
+pub fn small_builds_give()
+    ensures { SmallBuildsGive }
+{}
+
+/// A law: any edits, any builds between, a build of a session with the small compiler gives what the present workspace
+/// gives from nothing, or a fault with the first of its lines; from true records, or from a place without files.
+pub fn small_sessions_give()
+    ensures records { SmallSessionsGive }
+    ensures nothing { SessionsFromNothingGive }
+{}
