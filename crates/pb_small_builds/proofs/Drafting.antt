@@ -52,7 +52,7 @@ use Rattle.pb_workspace.specs.declared.wanted.Wanted.{Wanted}
 use Rattle.pb_manifest.specs.Library.{library_name}
 use Rattle.pb_manifest.specs.declared.target.Library.{Library as WrittenLibrary}
 use Rattle.pb_package.specs.declared.package.Library.{Library}
-use Rattle.pb_small_builds.specs.Small.{HasPaths}
+use Rattle.pb_small_builds.specs.Small.{FilesHavePaths}
 use Rattle.pb_small_builds.proofs.Rising.{placed_rises}
 use Rattle.pb_small_builds.proofs.SourcesFound.{At, IsSourced, binaries_at, library_at, script_at}
 use Rattle.pb_small_builds.proofs.Wanting.{IsLed, all_led}
@@ -65,7 +65,7 @@ lifted_so : (path bytes : List ℕ) (m : Manifest) (r : Result Manifest Manifest
 lifted_so path bytes m (Ok x) at is = subst IsManifest (same_ok {E = LoadFault} x m is) (is_promised bytes x at)
 lifted_so path bytes m (Err e) at is = cc
 
-promised_at : (sources : World) (path : List ℕ) (m : Manifest) → manifest_at sources path ≡ Ok m → IsManifest m
+pub promised_at : (sources : World) (path : List ℕ) (m : Manifest) → manifest_at sources path ≡ Ok m → IsManifest m
 promised_at sources path m is = by (get sources.files path) is
   where
     by : (found : Option (List ℕ)) → read_found path found ≡ Ok m → IsManifest m
@@ -129,7 +129,7 @@ pub record IsWhole (folder : List ℕ) (d : Draft) : Type 0 where
   pub binaries : AllByRecursion IsSourced d.binaries
   pub script : IfSome d.script At
 
-module _ (sources : World) (files : HasPaths sources) (f : Frame) (above : is_path f.root ≡ true) (shared : AllByRecursion IsSharedDependency f.given.dependencies) where
+module _ (sources : World) (files : FilesHavePaths sources) (f : Frame) (above : is_path f.root ≡ true) (shared : AllByRecursion IsSharedDependency f.given.dependencies) where
   -- what a member may take, and another package may not
   given_so : (b : Bool) → AllByRecursion IsSharedDependency (given_to f b).dependencies
   given_so true = shared

@@ -26,7 +26,7 @@ use Rattle.pb_workspace.specs.Sources.{has_own_file, library_of, library_source,
 use Rattle.pb_workspace.proofs.BinPaths.{flat_is_relative, nested_is_relative}
 use Rattle.pb_workspace.proofs.Naming.{both_all}
 use Rattle.pb_workspace.proofs.Puttings.{all_map, placed_all}
-use Rattle.pb_small_builds.specs.Small.{HasPaths}
+use Rattle.pb_small_builds.specs.Small.{FilesHavePaths}
 use Rattle.pb_small_builds.proofs.PathsSaid.{below_is, resolved_is}
 
 abbrev pub At : List ℕ → Type 0
@@ -41,7 +41,7 @@ all_among P [] each = tt
 all_among P (x ∷ xs) each = (each x (ap (λ b. b || list_any (is_same_path x) xs) (sym (same_bytes x x) ∙ (bytes_eq-Decides x x).1 refl)), all_among P xs (λ q there. each q (or_second _ _ there)))
 
 -- the files that are listed are files
-pub listed_at : (sources : World) (base : List ℕ) → HasPaths sources → AllByRecursion At (listed base sources)
+pub listed_at : (sources : World) (base : List ℕ) → FilesHavePaths sources → AllByRecursion At (listed base sources)
 listed_at sources base files = all_among At (listed base sources) (λ q among.
     by q (is_below base q) (get sources.files q) refl (ap is_some (sym (get-kept sources.files (is_below base) q)) ∙ sym (among_keys (retain_keys sources.files (is_below base)) q) ∙ among))
   where
@@ -67,7 +67,7 @@ or_is : (a : Option (List ℕ)) (x : List ℕ) → IfSome a At → At x → At (
 or_is None x one two = two
 or_is (Some y) x one two = one
 
-module _ (folder : List ℕ) (sources : World) (is : is_path folder ≡ true) (files : HasPaths sources) where
+module _ (folder : List ℕ) (sources : World) (is : is_path folder ≡ true) (files : FilesHavePaths sources) where
   own_is : (name : List ℕ) → is_relative name ≡ true → IfSome (own_source folder sources name) At
   own_is name named = by (has_own_file folder sources name)
     where

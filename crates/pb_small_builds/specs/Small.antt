@@ -22,8 +22,8 @@ use Rattle.pb_build.specs.Session.{Point, Takes}
 -- One build.
 
 -- each file has a normalised absolute path
-abbrev pub HasPaths : World → Type 0
-HasPaths w = (path text : List ℕ) → finite.get w.files path ≡ Some text → is_path path ≡ true
+abbrev pub FilesHavePaths : World → Type 0
+FilesHavePaths w = (path text : List ℕ) → finite.get w.files path ≡ Some text → is_path path ≡ true
 
 -- of each unit of a project the small compiler can tell what it reads: on the unit's command, in the unit's view
 abbrev pub CanTellUnits : Setup → Project → World → Type 0
@@ -39,7 +39,7 @@ CanTellBuild options w = (project : Project) (toolchain : List ℕ) → IsProjec
 -- the words of a build with the small compiler: the manifest and the files of the sources have normalised absolute paths; the user's flags give no libraries, and scripts are run by the small compiler; and what is read can be told
 pub record IsSmallBuild (options : Options) (w : World) : Type 0 where
   pub manifest : is_path options.manifest ≡ true
-  pub files : HasPaths (from_nothing (environment_of options w.variables).target w)
+  pub files : FilesHavePaths (from_nothing (environment_of options w.variables).target w)
   pub setup : (toolchain : List ℕ) → IsSmall (setup_of options (environment_of options w.variables) toolchain)
   pub tells : CanTellBuild options w
 
