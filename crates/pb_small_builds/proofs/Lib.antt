@@ -5,3 +5,5 @@ pub mod Wanting
 pub mod Drafting
 pub mod Loading
 pub mod Sourcing
+pub mod Placing
+pub mod Honest

@@ -1,14 +1,11 @@
 -- What builds with the small compiler give, with no premise on the child.
-use Rattle.std.specs.Prelude.{◌≡◌, ◌∷◌, ◌++◌, [], ℕ, true, List, Result, Ok}
+use Rattle.std.specs.Prelude.{◌≡◌, ◌∷◌, ◌++◌, [], ℕ, true, List, Result}
 use Rattle.std.specs.FinMap as finite
 use Rattle.pb_answer.specs.declared.fault.BuildFault.{BuildFault}
 use Rattle.pb_answer.specs.declared.summary.Summary.{Summary}
 use Rattle.pb_command.specs.Judge.{judge}
 use Rattle.pb_honesty.specs.Honest.{small_compiler}
-use Rattle.pb_package.specs.Settled.{IsSettled}
 use Rattle.pb_package.specs.declared.options.Options.{Options}
-use Rattle.pb_package.specs.declared.workspace.Workspace.{Workspace}
-use Rattle.pb_place.specs.Paths.{is_path}
 use Rattle.pb_place.specs.World.{World}
 use Rattle.pb_record.specs.Parts.{IsReading}
 use Rattle.pb_run.specs.Halves.{OnRecords}
@@ -18,15 +15,10 @@ use Rattle.pb_session.specs.declared.step.SessionStep.TheVariants.{Build}
 use Rattle.pb_soundness.specs.Records.{Reading}
 use Rattle.pb_soundness.specs.Sound.{Sound}
 use Rattle.pb_turns.specs.Moments.{Moment}
-use Rattle.pb_workspace.specs.Loaded.{workspace_of}
 use Rattle.pb_build.specs.Headline.{records_of, IsHonestBuild, Gives, Headline}
 use Rattle.pb_build.specs.Session.{Point, Takes}
 use Rattle.pb_build.specs.declared.sessions.Answer.{Answer}
 use Rattle.pb_small_builds.specs.Small.{IsSmallBuild, SmallCourse}
-
--- A workspace that is accepted is settled.
-abbrev pub WorkspacesAreSettled : Type 0
-WorkspacesAreSettled = (manifest target : List ℕ) (w : World) (ws : Workspace) → is_path manifest ≡ true → workspace_of manifest target w ≡ Ok ws → IsSettled ws
 
 -- The small compiler is an honest child of each build with these words.
 abbrev pub SmallBuildsAreHonest : Type 0

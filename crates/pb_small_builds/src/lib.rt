@@ -1,12 +1,7 @@
 //! Builds whose child is the small compiler have the headline with no premise on the child.
 #![tactic(auto)]
 
-ghost use Rattle.pb_small_builds.specs.Laws.{WorkspacesAreSettled, SmallBuildsAreHonest, SmallBuildsGive, SmallSessionsGive, SessionsFromNothingGive};
-
-/// A law: a workspace that is accepted is settled, whatever its files say.
-pub fn workspaces_are_settled()
-    ensures { WorkspacesAreSettled }
-{}
+ghost use Rattle.pb_small_builds.specs.Laws.{SmallBuildsAreHonest, SmallBuildsGive, SmallSessionsGive, SessionsFromNothingGive};
 
 /// A law: the small compiler is an honest child of each build whose words are as follows. The manifest and the files of
 /// the sources have normalised absolute paths; `RUSTFLAGS` gives no `--extern`; the runner is `--run` behind a name; and
