@@ -1,6 +1,5 @@
 -- The small compiler is an honest child of a build with these words; so the headline has no premise on the child.
-use Rattle.std.proofs.Common.{◌≡◌, ◌⊎◌, ◌∙◌, ◌++◌, inl, inr, ℕ, true, List, [], ◌∷◌, Some, None, take, refl, sym, ap, subst}
-use Rattle.std.specs.FinMap as finite
+use Rattle.std.proofs.Common.{◌≡◌, inl, inr, ℕ, true, List, [], ◌∷◌, Some, take, refl, sym, subst}
 use Rattle.pb_honesty.specs.Honest.{CanTell, IsOfProject, SmallCompilerIsHonest, small_compiler}
 use Rattle.pb_honesty.proofs.Viewing.{small_compiler_is_honest}
 use Rattle.pb_package.specs.declared.options.Options.{Options}
@@ -11,18 +10,17 @@ use Rattle.pb_run.specs.Halves.{OnRecords, command_in, basis}
 use Rattle.pb_run.specs.Outcome.{directives_of, outcomes}
 use Rattle.pb_session.specs.declared.step.SessionStep.{SessionStep}
 use Rattle.pb_session.specs.declared.step.SessionStep.TheVariants.{Write, Remove, Set, Unset, Build, Die, Fuse}
-use Rattle.pb_soundness.specs.Records.{record_at}
 use Rattle.pb_unit.specs.Plan.{IsPlan}
 use Rattle.pb_unit.specs.declared.plan.Planned.{Planned}
 use Rattle.pb_workspace.proofs.Accepted.{target_kept}
 use Rattle.pb_build.specs.Environment.{environment_of}
 use Rattle.pb_build.specs.Headline.{records_of}
-use Rattle.pb_build.specs.Lasting.{AnyBuildGives, NothingIsSound, ShareNoPath, SparingCourse, Spares}
+use Rattle.pb_build.specs.Lasting.{AnyBuildGives, SparingCourse, Spares}
 use Rattle.pb_build.specs.Planning.{IsProject}
 use Rattle.pb_build.specs.Result.{setup_of}
 use Rattle.pb_build.specs.Session.{Point}
-use Rattle.pb_small_builds.specs.Laws.{SmallBuildsAreHonest, SmallBuildsGive, SmallSessionsGive, SessionsFromNothingGive}
-use Rattle.pb_small_builds.specs.Small.{IsSmallBuild, SmallCourse, SparesBySmall}
+use Rattle.pb_small_builds.specs.Laws.{SmallBuildsAreHonest, SmallBuildsGive, SmallSessionsGive}
+use Rattle.pb_small_builds.specs.Small.{CourseWith, IsSmallBuild, SparesWith}
 use Rattle.pb_small_builds.proofs.Loading.{IsLaid, workspace_laid}
 use Rattle.pb_small_builds.proofs.Placing.{project_paths, target_at}
 use Rattle.pb_small_builds.proofs.SourcesFound.{At}
@@ -62,27 +60,22 @@ pub small_builds_give : SmallBuildsGive
 small_builds_give read options result old new reading headline small sound = headline refl OnRecords read reading (sound, small_builds_are_honest options old.world small)
 
 -- sessions
-spares : (folder : List ℕ) (step : SessionStep) (w : World) → SparesBySmall folder step w → Spares small_compiler folder step w
+spares : (folder : List ℕ) (step : SessionStep) (w : World) → SparesWith IsSmallBuild folder step w → Spares small_compiler folder step w
 spares folder (Write path text) w is = is
 spares folder (Remove path) w is = is
 spares folder (Set name value) w is = is
 spares folder (Unset name) w is = is
 spares folder (Die key death) w is = is
 spares folder (Fuse number) w is = is
-spares folder (Build options pick) w (inl (own, small)) = inl (own, small_builds_are_honest options w small)
-spares folder (Build options pick) w (inr apart) = inr apart
+spares folder (Build options pick) w (small, inl own) = inl (own, small_builds_are_honest options w small)
+spares folder (Build options pick) w (small, inr apart) = inr apart
 
-course : (folder : List ℕ) (steps : List SessionStep) (before after : Point) → SmallCourse folder steps before after → SparingCourse small_compiler folder steps before after
+course : (folder : List ℕ) (steps : List SessionStep) (before after : Point) → CourseWith IsSmallBuild folder steps before after → SparingCourse small_compiler folder steps before after
 course folder [] before after is = is
 course folder (step ∷ steps) before after (spared, (mid, takes, rest)) = (spares folder step before.moment.world spared, (mid, takes, course folder steps mid after rest))
 
-module _ (any_build_gives : AnyBuildGives) (nothing_is_sound : NothingIsSound) where
+-- over the law of sessions with any child
+module _ (any_build_gives : AnyBuildGives) where
   pub small_sessions_give : SmallSessionsGive
   small_sessions_give read options pick steps before mid after reading sound taken small takes =
       any_build_gives read small_compiler options pick steps before mid after reading (course (records_of options mid.moment.world.variables) steps before mid taken) sound (small_builds_are_honest options mid.moment.world small) takes
-
-  pub sessions_from_nothing_give : SessionsFromNothingGive
-  sessions_from_nothing_give read options pick steps before mid after reading empty taken small takes =
-      small_sessions_give read options pick steps before mid after reading
-      (nothing_is_sound read small_compiler (records_of options mid.moment.world.variables) before.moment.world.files (λ key.
-          ap (λ files. record_at read (records_of options mid.moment.world.variables) files key) empty)) taken small takes

@@ -7,3 +7,4 @@ pub mod Loading
 pub mod Sourcing
 pub mod Placing
 pub mod Honest
+pub mod SessionFiles

@@ -1,6 +1,7 @@
 -- Builds whose child is the small compiler: what has to hold of their words, and nothing of the child.
-use Rattle.std.specs.Prelude.{◌≡◌, ◌⊎◌, ◌∷◌, [], ℕ, true, List, take, Some}
+use Rattle.std.specs.Prelude.{◌≡◌, ◌⊎◌, ◌∷◌, [], ℕ, true, false, codes, List, take, Some}
 use Rattle.std.specs.FinMap as finite
+use Rattle.pb_data.specs.Mentions.{is_mentioned}
 use Rattle.pb_honesty.specs.Honest.{small_compiler, CanTell, IsSmall}
 use Rattle.pb_package.specs.declared.options.Options.{Options}
 use Rattle.pb_place.specs.Paths.{is_path}
@@ -10,7 +11,7 @@ use Rattle.pb_project.specs.declared.project.Project.{Project}
 use Rattle.pb_project.specs.declared.project.Setup.{Setup}
 use Rattle.pb_run.specs.Outcome.{outcomes, command_after, view_of}
 use Rattle.pb_session.specs.declared.step.SessionStep.{SessionStep}
-use Rattle.pb_session.specs.declared.step.SessionStep.TheVariants.{Write, Remove, Set, Unset, Build, Die, Fuse}
+use Rattle.pb_session.specs.declared.step.SessionStep.TheVariants.{Build}
 use Rattle.pb_unit.specs.declared.plan.Planned.{Planned}
 use Rattle.pb_build.specs.Environment.{environment_of}
 use Rattle.pb_build.specs.Headline.{records_of}
@@ -45,17 +46,18 @@ pub record IsSmallBuild (options : Options) (w : World) : Type 0 where
 
 -- Sessions.
 
--- a step spares the records of a folder: an edit outside of it; a build that keeps its records there, with these words; or one that keeps them apart from it
-abbrev pub SparesBySmall : List ℕ → SessionStep → World → Type 0
-SparesBySmall folder (Write path text) w = Spares small_compiler folder (Write path text) w
-SparesBySmall folder (Remove path) w = Spares small_compiler folder (Remove path) w
-SparesBySmall folder (Set name value) w = Spares small_compiler folder (Set name value) w
-SparesBySmall folder (Unset name) w = Spares small_compiler folder (Unset name) w
-SparesBySmall folder (Die key death) w = Spares small_compiler folder (Die key death) w
-SparesBySmall folder (Fuse number) w = Spares small_compiler folder (Fuse number) w
-SparesBySmall folder (Build options pick) w = ((records_of options w.variables ≡ folder) × IsSmallBuild options w) ⊎ ShareNoPath folder (records_of options w.variables)
+-- a step spares the records of a folder: an edit outside of it; or a build of which this holds, that keeps its records there or apart from it
+abbrev pub SparesWith : (Options → World → Type 0) → List ℕ → SessionStep → World → Type 0
+SparesWith Is folder (Build options pick) w = Is options w × ((records_of options w.variables ≡ folder) ⊎ ShareNoPath folder (records_of options w.variables))
+SparesWith Is folder step w = Spares small_compiler folder step w
 
 -- the steps were taken in turn, and each spares the records of a folder
-abbrev pub SmallCourse : List ℕ → List SessionStep → Point → Point → Type 0
-SmallCourse folder [] before after = after ≡ before
-SmallCourse folder (step ∷ steps) before after = SparesBySmall folder step before.moment.world × ((mid : Point) × Takes small_compiler step before mid × SmallCourse folder steps mid after)
+abbrev pub CourseWith : (Options → World → Type 0) → List ℕ → List SessionStep → Point → Point → Type 0
+CourseWith Is folder [] before after = after ≡ before
+CourseWith Is folder (step ∷ steps) before after = SparesWith Is folder step before.moment.world × ((mid : Point) × Takes small_compiler step before mid × CourseWith Is folder steps mid after)
+
+-- what a session file leaves open of the words of a build: all builds have one target folder, the user's flags give no libraries, and what is read can be told
+pub record IsToldBuild (target : List ℕ) (options : Options) (w : World) : Type 0 where
+  pub one_target : (environment_of options w.variables).target ≡ target
+  pub flags : is_mentioned (environment_of options w.variables).flags (codes "--extern") ≡ false
+  pub tells : CanTellBuild options w

@@ -1,7 +1,7 @@
 //! Builds whose child is the small compiler have the headline with no premise on the child.
 #![tactic(auto)]
 
-ghost use Rattle.pb_small_builds.specs.Laws.{SmallBuildsAreHonest, SmallBuildsGive, SmallSessionsGive, SessionsFromNothingGive};
+ghost use Rattle.pb_small_builds.specs.Laws.{SmallBuildsAreHonest, SmallBuildsGive, SmallSessionsGive, SessionFilesGive};
 
 /// A law: the small compiler is an honest child of each build whose words are as follows. The manifest and the files of
 /// the sources have normalised absolute paths; `RUSTFLAGS` gives no `--extern`; the runner is `--run` behind a name; and
@@ -17,8 +17,11 @@ pub fn small_builds_give()
 {}
 
 /// A law: any edits, any builds between, a build of a session with the small compiler gives what the present workspace
-/// gives from nothing, or a fault with the first of its lines; from true records, or from a place without files.
+/// gives from nothing, or a fault with the first of its lines.
+///
+/// Where the session is one of a file and begins without files, no more is asked of its builds than that they have one
+/// target folder, that `RUSTFLAGS` gives no `--extern`, and that what is read can be told.
 pub fn small_sessions_give()
     ensures records { SmallSessionsGive }
-    ensures nothing { SessionsFromNothingGive }
+    ensures files { SessionFilesGive }
 {}
