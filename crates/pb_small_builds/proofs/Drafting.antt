@@ -3,10 +3,10 @@ use Rattle.std.proofs.Common.{◌≡◌, ◌∙◌, ℕ, Bool, true, false, if�
 use Rattle.std.specs.FinMap.{get}
 use Rattle.std.specs.List.{AllByRecursion}
 use Rattle.std.specs.List.Sorted.{IsStrictlySortedBy}
-use Rattle.pb_data.specs.Gives.{◌>>=◌, lifted}
+use Rattle.pb_data.specs.Gives.{lifted}
 use Rattle.pb_manifest.specs.Document.{manifest_of}
 use Rattle.pb_manifest.specs.Letters.{is_name}
-use Rattle.pb_manifest.specs.Promises.{IsBinary, IsBuild, IsManifest, IsPackage, IsSharedDependency, IsWorkspaceTable}
+use Rattle.pb_manifest.specs.Promises.{IsBinary, IsBuild, IsManifest, IsPackage, IsSharedDependency}
 use Rattle.pb_manifest.specs.declared.dependency.Dependency.{Dependency}
 use Rattle.pb_manifest.specs.declared.fault.ManifestFault.{ManifestFault}
 use Rattle.pb_manifest.specs.declared.feature.Feature.{Feature}
@@ -31,13 +31,13 @@ use Rattle.pb_workspace.proofs.Puttings.{all_map}
 use Rattle.pb_workspace.proofs.WantedOrder.{wanted_named}
 use Rattle.pb_workspace.specs.Binaries.{binaries_of, main_source, with_binaries, written_binary}
 use Rattle.pb_workspace.specs.Drafted.{AreBinaries, AreFeatures, IsBinaryNamed, IsDraft, IsLibraryNamed, IsWantedKeyed, IsWrittenLibrary}
-use Rattle.pb_workspace.specs.Drafts.{draft_from, draft_of, draft_with, lists_of}
+use Rattle.pb_workspace.specs.Drafts.{draft_of, draft_with, lists_of}
 use Rattle.pb_workspace.specs.Features.{features_of, makes_feature, with_made, with_written}
 use Rattle.pb_workspace.specs.FoundBinaries.{bin_folder, found_binaries}
-use Rattle.pb_workspace.specs.Frames.{given_to, nothing}
-use Rattle.pb_workspace.specs.Keys.{keys_from, keys_of}
+use Rattle.pb_workspace.specs.Frames.{given_to}
+use Rattle.pb_workspace.specs.Keys.{keys_of}
 use Rattle.pb_workspace.specs.Rounds.{draft_if, draft_in_file, manifest_at, parts_at, parts_in, read_found, tables_in}
-use Rattle.pb_workspace.specs.Settling.{discovered, has_same_binaries, readme_found, targets_of, wanted_in}
+use Rattle.pb_workspace.specs.Settling.{discovered, readme_found, wanted_in}
 use Rattle.pb_workspace.specs.Sorted.{placed}
 use Rattle.pb_workspace.specs.Sources.{has_own_file, library_of, own_source}
 use Rattle.pb_workspace.specs.Taken.{about_of, own_or_given}

@@ -1,6 +1,6 @@
 -- The small compiler is an honest child of a build with these words; so the headline has no premise on the child.
-use Rattle.std.proofs.Common.{◌≡◌, inl, inr, ℕ, true, List, [], ◌∷◌, Some, take, refl, sym, subst}
-use Rattle.pb_honesty.specs.Honest.{CanTell, IsOfProject, SmallCompilerIsHonest, small_compiler}
+use Rattle.std.proofs.Common.{◌≡◌, inl, inr, ℕ, List, [], ◌∷◌, Some, take, refl, sym, subst}
+use Rattle.pb_honesty.specs.Honest.{CanTell, IsOfProject, small_compiler}
 use Rattle.pb_honesty.proofs.Viewing.{small_compiler_is_honest}
 use Rattle.pb_package.specs.declared.options.Options.{Options}
 use Rattle.pb_place.specs.World.{World, from_nothing}

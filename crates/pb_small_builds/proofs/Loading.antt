@@ -1,12 +1,10 @@
 -- A workspace that is read: it is settled, and its root, the folders of its packages and their sources have normalised absolute paths.
-use Rattle.std.proofs.Common.{◌≡◌, ◌∙◌, ◌≤◌, inl, inr, ℕ, Bool, true, false, codes, if◌then◌else◌, List, [], ◌∷◌, length, map, Contains, Option, Some, None, IfSome, Result, Ok, Err, refl, sym, ap, subst}
+use Rattle.std.proofs.Common.{◌≡◌, ◌∙◌, ◌≤◌, inl, inr, ℕ, Bool, true, false, codes, if◌then◌else◌, List, [], ◌∷◌, length, map, Contains, Option, Some, None, IfSome, Result, Ok, refl, sym, ap, subst}
 use Rattle.std.specs.Prelude.{filter}
 use Rattle.std.specs.List.{AllByRecursion}
 use Rattle.std.specs.List.Sorted.{IsStrictlySortedBy}
 use Rattle.pb_closure.specs.Closure.{start, onward}
-use Rattle.pb_data.specs.Gives.{◌>>=◌}
-use Rattle.pb_manifest.specs.Promises.{IsManifest, IsPath, IsSharedDependency, IsWorkspaceTable}
-use Rattle.pb_manifest.specs.declared.manifest.Manifest.{Manifest}
+use Rattle.pb_manifest.specs.Promises.{IsPath, IsSharedDependency, IsWorkspaceTable}
 use Rattle.pb_manifest.specs.declared.manifest.WorkspaceTable.{WorkspaceTable}
 use Rattle.pb_manifest.specs.declared.package.Package.{Package as WrittenPackage}
 use Rattle.pb_order.proofs.Elements.{contains_cases, contains_map, contains_head, contains_none, contains_tail, filter_contains, map_contains}
@@ -33,7 +31,6 @@ use Rattle.pb_workspace.specs.declared.draft.Draft.{Draft}
 use Rattle.pb_workspace.specs.declared.frame.Frame.{Frame}
 use Rattle.pb_workspace.specs.declared.rounds.Parts.{Parts}
 use Rattle.pb_workspace.specs.declared.rounds.Reading.{Reading}
-use Rattle.pb_workspace.specs.declared.wanted.Wanted.{Wanted}
 use Rattle.pb_workspace.proofs.Accepted.{root_kept}
 use Rattle.pb_workspace.proofs.FoldersPut.{opened}
 use Rattle.pb_workspace.proofs.Fuel.{all_grow, ends_or_grows}
@@ -42,7 +39,7 @@ use Rattle.pb_workspace.proofs.WholeWorkspace.{all_found, begun, least, manifest
 use Rattle.pb_small_builds.specs.Small.{FilesHavePaths}
 use Rattle.pb_small_builds.proofs.Drafting.{IsWhole, promised_at, whole_in_file}
 use Rattle.pb_small_builds.proofs.PathsSaid.{resolved_is}
-use Rattle.pb_small_builds.proofs.Rising.{all_rise, placed_rises, rounds_rise}
+use Rattle.pb_small_builds.proofs.Rising.{all_rise, rounds_rise}
 use Rattle.pb_small_builds.proofs.SourcesFound.{At, IsSourced, listed_at}
 use Rattle.pb_small_builds.proofs.Wanting.{IsLed}
 

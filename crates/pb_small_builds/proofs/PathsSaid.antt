@@ -1,7 +1,6 @@
 -- The paths that texts of a manifest say, from a folder with a normalised absolute path.
 use Rattle.std.proofs.Common.{◌≡◌, ◌∙◌, ◌||◌, ◌==◌, ℕ, Bool, true, false, if◌then◌else◌, List, ◌∷◌, ◌++◌, refl, ap}
 use Rattle.std.proofs.lemmas.List.Folds.{list_any-append}
-use Rattle.std.specs.List.{list_any}
 use Rattle.pb_manifest.specs.Letters.{has_zero}
 use Rattle.pb_place.specs.Paths.{below, has_byte_0, is_absolute, is_path, is_relative}
 use Rattle.pb_place.proofs.PathLemmas.{below_is_path, parsed_is_path, path_clean}

@@ -1,17 +1,16 @@
 -- The target folder and the folders of a project have normalised absolute paths.
-use Rattle.std.proofs.Common.{◌≡◌, ◌∙◌, ℕ, Bool, true, false, cond, if◌then◌else◌, codes, List, ◌∷◌, ◌++◌, Option, Some, None, Result, Ok, Err, refl, sym, ap, subst, slice_get, All, Contains}
+use Rattle.std.proofs.Common.{◌≡◌, ℕ, Bool, true, false, cond, if◌then◌else◌, codes, List, ◌∷◌, ◌++◌, Option, Some, None, Result, Ok, Err, refl, sym, subst}
 use Rattle.std.specs.FinMap.{get}
 use Rattle.pb_command.specs.Laws.{HasPaths}
 use Rattle.pb_data.specs.Gives.{◌>>=◌}
 use Rattle.pb_feature.specs.declared.resolved.Features.{Features}
 use Rattle.pb_honesty.proofs.Named.{parsed_path_is}
 use Rattle.pb_order.proofs.Elements.{all_at, all_from_at, contains_from_at}
-use Rattle.pb_package.specs.Settled.{IsSettled}
 use Rattle.pb_package.specs.declared.options.Options.{Options}
 use Rattle.pb_package.specs.declared.options.Selection.{Selection}
 use Rattle.pb_package.specs.declared.package.Package.{Package}
 use Rattle.pb_package.specs.declared.workspace.Workspace.{Workspace}
-use Rattle.pb_place.specs.Paths.{below, folder_of, is_absolute, is_path, is_relative, joined, parsed}
+use Rattle.pb_place.specs.Paths.{below, folder_of, is_absolute, is_path, is_relative, parsed}
 use Rattle.pb_place.specs.World.{Map}
 use Rattle.pb_place.specs.declared.path.PathFault.{PathFault}
 use Rattle.pb_place.proofs.PathLemmas.{folder_is_path}
@@ -25,7 +24,7 @@ use Rattle.pb_unit.specs.Laws.{TellsWhat}
 use Rattle.pb_unit.specs.Plan.{IsPlan, profile_folder}
 use Rattle.pb_unit.specs.declared.plan.Planned.{Planned}
 use Rattle.pb_build.specs.Environment.{environment_of, path_or, set_text, told_or}
-use Rattle.pb_small_builds.proofs.Loading.{HasSources, IsLaid}
+use Rattle.pb_small_builds.proofs.Loading.{IsLaid}
 use Rattle.pb_small_builds.proofs.PathsSaid.{below_is}
 use Rattle.pb_small_builds.proofs.Sourcing.{key_relative}
 use Rattle.pb_small_builds.proofs.SourcesFound.{At}

@@ -6,13 +6,13 @@ use Rattle.std.specs.FinMap.{get, get-empty, get-insert}
 use Rattle.std.specs.List.{AllByRecursion}
 use Rattle.std.specs.Ordering.{nat_cmp}
 use Rattle.std.specs.Str.{bytes_eq}
-use Rattle.serde_json.specs.Data.{Data, Items, no_items, item, Members}
+use Rattle.serde_json.specs.Data.{Data, Items, no_items, item}
 use Rattle.serde_json.specs.Find as find
 use Rattle.pb_data.specs.Gives.{◌>>=◌, lifted, some_or}
 use Rattle.pb_honesty.proofs.Named.{parsed_path_is}
 use Rattle.pb_honesty.specs.Honest.{RunsAlone, small_compiler}
 use Rattle.pb_package.specs.declared.options.Options.{Options}
-use Rattle.pb_place.specs.Paths.{is_at_or_below, is_path, parsed}
+use Rattle.pb_place.specs.Paths.{is_at_or_below, parsed}
 use Rattle.pb_place.specs.World.{World, from_nothing, is_same_path, removed, written}
 use Rattle.pb_place.specs.declared.path.PathFault.{PathFault}
 use Rattle.pb_place.proofs.MapLemmas.{get-kept, same_bytes, symm}
@@ -22,9 +22,7 @@ use Rattle.pb_session.specs.Deaths.{death_named}
 use Rattle.pb_session.specs.Options.{are_known, default_manifest, manifest_or_default, number_or, options_in, options_of, pick_or_first, text_or, texts_at, truth_at}
 use Rattle.pb_session.specs.Sessions.{build_of, die_of, document_in, session_of, set_of, step_named, step_of, steps_of, write_of}
 use Rattle.pb_session.specs.Values.{array_of, number_of, only_member, pair_of, path_in, path_of, text_of}
-use Rattle.pb_session.specs.declared.fault.BadSession.{BadSession}
 use Rattle.pb_session.specs.declared.fault.BadSession.TheVariants.{BadForm}
-use Rattle.pb_session.specs.declared.pick.PickBy.{PickBy}
 use Rattle.pb_session.specs.declared.step.SessionStep.{SessionStep}
 use Rattle.pb_session.specs.declared.step.SessionStep.TheVariants.{Write, Remove, Set, Unset, Build, Die, Fuse}
 use Rattle.pb_soundness.specs.Records.{Reading, if_of_key, is_key, place_of, read_text, record_at}

@@ -1,6 +1,6 @@
 -- The sources of a package have normalised absolute paths, where its folder and the files of the world have them.
-use Rattle.std.proofs.Common.{◌≡◌, ◌∙◌, ◌||◌, ℕ, Bool, true, false, cond, if◌then◌else◌, codes, is_some, List, [], ◌∷◌, ◌++◌, map, Option, Some, None, IfSome, unwrap_or, refl, sym, ap}
-use Rattle.std.specs.FinMap.{get, keys, retain_keys}
+use Rattle.std.proofs.Common.{◌≡◌, ◌∙◌, ◌||◌, ℕ, Bool, true, false, cond, if◌then◌else◌, codes, is_some, List, [], ◌∷◌, map, Option, Some, None, IfSome, unwrap_or, refl, sym, ap}
+use Rattle.std.specs.FinMap.{get, retain_keys}
 use Rattle.std.specs.List.{AllByRecursion, filter_map, cons_option, list_any}
 use Rattle.std.specs.Str.{bytes_eq}
 use Rattle.std.proofs.lemmas.Slice.Eq.{bytes_eq-Decides}
@@ -15,14 +15,14 @@ use Rattle.pb_manifest.specs.declared.target.Library.{Library as WrittenLibrary}
 use Rattle.pb_package.specs.declared.package.Binary.{Binary}
 use Rattle.pb_package.specs.declared.package.Library.{Library}
 use Rattle.pb_place.specs.Paths.{below, inside, is_below, is_path, is_relative}
-use Rattle.pb_place.specs.World.{World, Map, is_same_path, listed}
+use Rattle.pb_place.specs.World.{World, is_same_path, listed}
 use Rattle.pb_place.proofs.MapLemmas.{among_keys, get-kept, same_bytes}
 use Rattle.pb_place.proofs.Within.{or_second}
 use Rattle.pb_workspace.specs.Binaries.{binaries_of, binary_of, binary_source, first_some, flat_source, looked_for, looked_in_bin, main_source, nested_source, with_binaries, written_binary}
 use Rattle.pb_workspace.specs.FoundBinaries.{bin_folder, binary_at, found_at, found_binaries, main_binary, name_inside}
 use Rattle.pb_workspace.specs.Settling.{discovered}
 use Rattle.pb_workspace.specs.Sorted.{placed}
-use Rattle.pb_workspace.specs.Sources.{has_own_file, library_of, library_source, own_source, resolved, script_of}
+use Rattle.pb_workspace.specs.Sources.{has_own_file, library_of, library_source, own_source, script_of}
 use Rattle.pb_workspace.proofs.BinPaths.{flat_is_relative, nested_is_relative}
 use Rattle.pb_workspace.proofs.Naming.{both_all}
 use Rattle.pb_workspace.proofs.Puttings.{all_map, placed_all}

@@ -1,5 +1,5 @@
 -- The source of a unit that is compiled has a normalised absolute path, and so has the output folder of each unit.
-use Rattle.std.proofs.Common.{◌≡◌, ◌∙◌, ◌&&◌, ◌⊎◌, inl, inr, ℕ, Bool, true, false, not, cond, if◌then◌else◌, is_some, codes, List, [], ◌∷◌, ◌++◌, map, Contains, Option, Some, None, IfSome, refl, sym, ap, subst, slice_get}
+use Rattle.std.proofs.Common.{◌≡◌, ◌∙◌, ◌&&◌, ◌⊎◌, inl, inr, ℕ, Bool, true, false, cond, if◌then◌else◌, is_some, List, [], ◌∷◌, ◌++◌, Contains, Option, Some, None, IfSome, refl, sym, ap, subst, slice_get}
 use Rattle.std.specs.List.{AllByRecursion, find, list_all}
 use Rattle.std.proofs.lemmas.Bool.{false≢true}
 use Rattle.std.specs.Str.{bytes_eq}
@@ -9,7 +9,7 @@ use Rattle.pb_closure.proofs.Membership.{none, single, cases}
 use Rattle.pb_closure.proofs.Placed.{placed_from, where_true}
 use Rattle.pb_feature.specs.Resolved.{is_enabled}
 use Rattle.pb_feature.specs.declared.resolved.Features.{Features}
-use Rattle.pb_order.proofs.Elements.{all_at, contains_from_at, contains_map}
+use Rattle.pb_order.proofs.Elements.{contains_from_at, contains_map}
 use Rattle.pb_package.specs.declared.options.Selection.{Selection}
 use Rattle.pb_package.specs.declared.package.Binary.{Binary}
 use Rattle.pb_package.specs.declared.package.Library.{Library}
@@ -17,22 +17,18 @@ use Rattle.pb_package.specs.declared.package.Package.{Package}
 use Rattle.pb_package.specs.declared.package.Side.{Side}
 use Rattle.pb_package.specs.declared.package.Side.TheVariants.{Host}
 use Rattle.pb_package.specs.declared.workspace.Workspace.{Workspace}
-use Rattle.pb_place.specs.Paths.{below, is_name, is_path, is_relative, parts_of}
-use Rattle.pb_place.proofs.PathLemmas.{below_is_path}
+use Rattle.pb_place.specs.Paths.{is_name, is_relative}
 use Rattle.pb_place.proofs.TakenApart.{parts_lone}
 use Rattle.pb_project.specs.Targets.{binary_named, binary_source, is_run, library_source, package_of, script_source, source_by}
 use Rattle.pb_project.specs.declared.project.Project.{Project}
-use Rattle.pb_unit.proofs.Telling.{keys_tell_what}
 use Rattle.pb_unit.specs.Laws.{TellsWhat}
-use Rattle.pb_unit.specs.Plan.{IsPlan, profile_folder}
-use Rattle.pb_unit.specs.Units.{binary, direct, has_library, has_script, hands_on, is_build, is_normal, IsPlanned, IsRoot, libraries, library, library_by, needs, needs_of, onward, own_library, own_run, Reaches, run_by, runs, tool_by, tools, unit}
-use Rattle.pb_unit.specs.declared.plan.Plan.{Plan}
+use Rattle.pb_unit.specs.Plan.{IsPlan}
+use Rattle.pb_unit.specs.Units.{binary, direct, has_library, has_script, hands_on, is_build, is_normal, IsPlanned, IsRoot, libraries, library, library_by, needs_of, onward, own_library, own_run, Reaches, run_by, runs, tool_by, tools, unit}
 use Rattle.pb_unit.specs.declared.plan.Planned.{Planned}
 use Rattle.pb_unit.specs.declared.unit.Unit.{Unit}
 use Rattle.pb_unit.specs.declared.unit.What.{What}
 use Rattle.pb_unit.specs.declared.unit.What.TheVariants.{Lib, Bin, Script, Run}
 use Rattle.pb_small_builds.proofs.Loading.{HasSources}
-use Rattle.pb_small_builds.proofs.PathsSaid.{below_is}
 use Rattle.pb_small_builds.proofs.SourcesFound.{At, IsSourced}
 
 -- the binary of a name is among those of a package

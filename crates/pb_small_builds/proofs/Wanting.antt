@@ -1,5 +1,5 @@
 -- The folders to which the entries of a package lead have normalised absolute paths.
-use Rattle.std.proofs.Common.{◌≡◌, Bool, true, false, cond, List, [], ◌∷◌, ◌++◌, Option, Some, None, IfSome, Result, Ok, Err, ℕ, sym, subst}
+use Rattle.std.proofs.Common.{◌≡◌, Bool, true, false, cond, List, [], ◌∷◌, Option, Some, None, IfSome, Result, Ok, ℕ, subst}
 use Rattle.std.specs.List.{AllByRecursion, find}
 use Rattle.std.specs.Str.{bytes_eq}
 use Rattle.pb_data.specs.Gives.{◌>>=◌, some_or}
@@ -13,12 +13,10 @@ use Rattle.pb_manifest.specs.declared.dependency.WorkspaceSource.TheVariants as 
 use Rattle.pb_package.specs.declared.fault.LoadFault.{LoadFault}
 use Rattle.pb_package.specs.declared.fault.LoadFault.TheVariants.{NoInherited}
 use Rattle.pb_package.specs.declared.package.DependencyKind.{DependencyKind}
-use Rattle.pb_package.specs.declared.package.DependencyKind.TheVariants.{Normal, Build}
 use Rattle.pb_place.specs.Paths.{is_path}
 use Rattle.pb_workspace.specs.Wanted.{each_wanted, shared_at, taken_from, wanted_by, wanted_of}
 use Rattle.pb_workspace.specs.declared.wanted.Wanted.{Wanted}
 use Rattle.pb_workspace.proofs.FoldersPut.{opened}
-use Rattle.pb_workspace.proofs.Naming.{both_all}
 use Rattle.pb_small_builds.proofs.PathsSaid.{resolved_is}
 
 abbrev pub IsLed : Wanted → Type 0
