@@ -20,7 +20,7 @@ use Rattle.pb_build.specs.Planning.{IsProject}
 use Rattle.pb_build.specs.Result.{setup_of}
 use Rattle.pb_build.specs.Session.{Point}
 use Rattle.pb_small_builds.specs.Laws.{SmallBuildsAreHonest, SmallBuildsGive, SmallSessionsGive}
-use Rattle.pb_small_builds.specs.Small.{CourseWith, IsSmallBuild, SparesWith}
+use Rattle.pb_small_builds.specs.Small.{IsSmallBuild, SmallCourse, SparesBySmall}
 use Rattle.pb_small_builds.proofs.Loading.{IsLaid, workspace_laid}
 use Rattle.pb_small_builds.proofs.Placing.{project_paths, target_at}
 use Rattle.pb_small_builds.proofs.SourcesFound.{At}
@@ -60,7 +60,7 @@ pub small_builds_give : SmallBuildsGive
 small_builds_give read options result old new reading headline small sound = headline refl OnRecords read reading (sound, small_builds_are_honest options old.world small)
 
 -- sessions
-spares : (folder : List ℕ) (step : SessionStep) (w : World) → SparesWith IsSmallBuild folder step w → Spares small_compiler folder step w
+spares : (folder : List ℕ) (step : SessionStep) (w : World) → SparesBySmall folder step w → Spares small_compiler folder step w
 spares folder (Write path text) w is = is
 spares folder (Remove path) w is = is
 spares folder (Set name value) w is = is
@@ -70,7 +70,7 @@ spares folder (Fuse number) w is = is
 spares folder (Build options pick) w (small, inl own) = inl (own, small_builds_are_honest options w small)
 spares folder (Build options pick) w (small, inr apart) = inr apart
 
-course : (folder : List ℕ) (steps : List SessionStep) (before after : Point) → CourseWith IsSmallBuild folder steps before after → SparingCourse small_compiler folder steps before after
+course : (folder : List ℕ) (steps : List SessionStep) (before after : Point) → SmallCourse folder steps before after → SparingCourse small_compiler folder steps before after
 course folder [] before after is = is
 course folder (step ∷ steps) before after (spared, (mid, takes, rest)) = (spares folder step before.moment.world spared, (mid, takes, course folder steps mid after rest))
 

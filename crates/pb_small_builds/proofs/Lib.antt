@@ -7,4 +7,5 @@ pub mod Loading
 pub mod Sourcing
 pub mod Placing
 pub mod Honest
+pub mod Folders
 pub mod SessionFiles

@@ -1,5 +1,5 @@
 -- Builds of a session file that begins without files: what the file says of their words, and that all files of their sources have paths.
-use Rattle.std.proofs.Common.{◌≡◌, ◌∙◌, ◌++◌, ℕ, Bool, true, false, not, cond, if◌then◌else◌, codes, List, [], ◌∷◌, Option, Some, None, Result, Ok, Err, refl, sym, ap, subst}
+use Rattle.std.proofs.Common.{◌≡◌, ◌∙◌, ◌⊎◌, inl, inr, ℕ, Bool, true, false, not, cond, if◌then◌else◌, codes, List, [], ◌∷◌, Option, Some, None, Result, Ok, Err, refl, sym, ap, subst}
 use Rattle.std.specs.Cmp.Lexicographic.{nat_list_cmp_total, slice_cmp}
 use Rattle.std.specs.FinMap as finite
 use Rattle.std.specs.FinMap.{get, get-empty, get-insert}
@@ -12,9 +12,10 @@ use Rattle.pb_data.specs.Gives.{◌>>=◌, lifted, some_or}
 use Rattle.pb_honesty.proofs.Named.{parsed_path_is}
 use Rattle.pb_honesty.specs.Honest.{RunsAlone, small_compiler}
 use Rattle.pb_package.specs.declared.options.Options.{Options}
-use Rattle.pb_place.specs.Paths.{is_at_or_below, parsed}
+use Rattle.pb_place.specs.Paths.{below, is_at_or_below, parsed}
 use Rattle.pb_place.specs.World.{World, from_nothing, is_same_path, removed, written}
 use Rattle.pb_place.specs.declared.path.PathFault.{PathFault}
+use Rattle.pb_place.proofs.Within.{at_or_below_on, outside_within}
 use Rattle.pb_place.proofs.MapLemmas.{get-kept, same_bytes, symm}
 use Rattle.std.proofs.lemmas.Slice.Eq.{bytes_eq-Decides}
 use Rattle.pb_session.specs.Faults.{Read, of_path_fault}
@@ -25,16 +26,22 @@ use Rattle.pb_session.specs.Values.{array_of, number_of, only_member, pair_of, p
 use Rattle.pb_session.specs.declared.fault.BadSession.TheVariants.{BadForm}
 use Rattle.pb_session.specs.declared.step.SessionStep.{SessionStep}
 use Rattle.pb_session.specs.declared.step.SessionStep.TheVariants.{Write, Remove, Set, Unset, Build, Die, Fuse}
+use Rattle.pb_soundness.specs.Sound.{Sound}
+use Rattle.pb_record.specs.Parts.{IsReading}
+use Rattle.pb_profile.specs.Line.{folder_of}
+use Rattle.pb_command.specs.Judge.{judge}
+use Rattle.std.proofs.lemmas.Bool.{false≢true}
 use Rattle.pb_soundness.specs.Records.{Reading, if_of_key, is_key, place_of, read_text, record_at}
 use Rattle.pb_turns.specs.Moments.{Moment}
 use Rattle.pb_workspace.proofs.FoldersPut.{opened}
-use Rattle.pb_build.specs.Environment.{environment_of}
-use Rattle.pb_build.specs.Headline.{records_of}
-use Rattle.pb_build.specs.Lasting.{AnyBuildGives, NothingIsSound}
-use Rattle.pb_build.specs.Session.{Point, Takes}
+use Rattle.pb_build.specs.Headline.{IsHonestBuild, records_of}
+use Rattle.pb_build.specs.Lasting.{NothingIsSound, RecordsStayTrue, ShareNoPath, Spares}
+use Rattle.pb_build.specs.Session.{Course, Point, Takes}
 use Rattle.pb_small_builds.specs.Laws.{SessionFilesGive}
-use Rattle.pb_small_builds.specs.Small.{CourseWith, FilesHavePaths, IsSmallBuild, IsToldBuild, SparesWith}
-use Rattle.pb_small_builds.proofs.Honest.{small_sessions_give}
+use Rattle.pb_small_builds.specs.Small.{AllGive, AllTold, FilesHavePaths, IsSmallBuild, IsToldBuild, IsToldStep, StepGives}
+use Rattle.pb_small_builds.proofs.Folders.{Named, lie_apart, lies_within, profile_named}
+use Rattle.pb_small_builds.proofs.Honest.{small_builds_are_honest, small_builds_give}
+use Rattle.pb_small_builds.proofs.Placing.{target_at}
 use Rattle.pb_small_builds.proofs.SourcesFound.{At}
 
 same_ok : {A : Type 0} (x y : A) → ◌≡◌ {A = Read A} (Ok x) (Ok y) → x ≡ y
@@ -140,14 +147,6 @@ session_has bytes steps is =
     let (ds, list, end) = opened (array_of d) steps_of steps rest in
     steps_have ds steps end
 
-first_have : (steps more : List SessionStep) → AllByRecursion HasWords (steps ++ more) → AllByRecursion HasWords steps
-first_have [] more all = tt
-first_have (step ∷ steps) more all = (all.0, first_have steps more all.1)
-
-one_has : (steps : List SessionStep) (step : SessionStep) (more : List SessionStep) → AllByRecursion HasWords (steps ++ step ∷ more) → HasWords step
-one_has [] step more all = all.0
-one_has (other ∷ steps) step more all = one_has steps step more all.1
-
 -- Files of the sources.
 
 module _ (target : List ℕ) where
@@ -183,14 +182,14 @@ module _ (target : List ℕ) where
       by q found false left o old h = cc
 
   -- one step
-  step_at : (folder : List ℕ) (step : SessionStep) (before after : Point) → HasWords step → SparesWith (IsToldBuild target) folder step before.moment.world → Takes small_compiler step before after → SourcesAt before.moment.world → SourcesAt after.moment.world
-  step_at folder (Write path text) before after at spared (moment, answers) files = subst (λ (m : Moment). SourcesAt m.world) (sym moment) (written_at path text before.moment.world at files)
-  step_at folder (Remove path) before after words spared (moment, answers) files = subst (λ (m : Moment). SourcesAt m.world) (sym moment) (removed_at path before.moment.world files)
-  step_at folder (Set name value) before after words spared (moment, answers) files = subst (λ (m : Moment). SourcesAt m.world) (sym moment) files
-  step_at folder (Unset name) before after words spared (moment, answers) files = subst (λ (m : Moment). SourcesAt m.world) (sym moment) files
-  step_at folder (Die key death) before after words spared same files = subst (λ (p : Point). SourcesAt p.moment.world) (sym same) files
-  step_at folder (Fuse number) before after words spared same files = subst (λ (p : Point). SourcesAt p.moment.world) (sym same) files
-  step_at folder (Build options pick) before after words (told, kept_there) (answer, picked, stays, headline, answers) files =
+  step_at : (step : SessionStep) (before after : Point) → HasWords step → IsToldStep target step before.moment.world → Takes small_compiler step before after → SourcesAt before.moment.world → SourcesAt after.moment.world
+  step_at (Write path text) before after at told (moment, answers) files = subst (λ (m : Moment). SourcesAt m.world) (sym moment) (written_at path text before.moment.world at files)
+  step_at (Remove path) before after words told (moment, answers) files = subst (λ (m : Moment). SourcesAt m.world) (sym moment) (removed_at path before.moment.world files)
+  step_at (Set name value) before after words told (moment, answers) files = subst (λ (m : Moment). SourcesAt m.world) (sym moment) files
+  step_at (Unset name) before after words told (moment, answers) files = subst (λ (m : Moment). SourcesAt m.world) (sym moment) files
+  step_at (Die key death) before after words told same files = subst (λ (p : Point). SourcesAt p.moment.world) (sym same) files
+  step_at (Fuse number) before after words told same files = subst (λ (p : Point). SourcesAt p.moment.world) (sym same) files
+  step_at (Build options pick) before after words told (answer, picked, stays, headline, answers) files =
       subst FilesHavePaths (sym (subst (λ t. from_nothing t after.moment.world ≡ from_nothing t before.moment.world) told.one_target stays)) files
 
   -- such a build has its words
@@ -202,21 +201,55 @@ module _ (target : List ℕ) where
     tells = told.tells;
   }
 
-  spares_so : (folder : List ℕ) (step : SessionStep) (w : World) → HasWords step → SourcesAt w → SparesWith (IsToldBuild target) folder step w → SparesWith IsSmallBuild folder step w
-  spares_so folder (Write path text) w words files is = is
-  spares_so folder (Remove path) w words files is = is
-  spares_so folder (Set name value) w words files is = is
-  spares_so folder (Unset name) w words files is = is
-  spares_so folder (Die key death) w words files is = is
-  spares_so folder (Fuse number) w words files is = is
-  spares_so folder (Build options pick) w words files (told, kept_there) = (small_of options w words.0 words.1 files told, kept_there)
+  -- the folder of the records of such a build
+  folder_is : (options : Options) (w : World) → IsToldBuild target options w → records_of options w.variables ≡ below target (folder_of options.profile)
+  folder_is options w told = ap (λ t. below t (folder_of options.profile)) told.one_target
 
-  course_so : (folder : List ℕ) (steps : List SessionStep) (before after : Point) → AllByRecursion HasWords steps → SourcesAt before.moment.world → CourseWith (IsToldBuild target) folder steps before after
-      → CourseWith IsSmallBuild folder steps before after × SourcesAt after.moment.world
-  course_so folder [] before after words files is = (is, subst (λ (p : Point). SourcesAt p.moment.world) (sym is) files)
-  course_so folder (step ∷ steps) before after words files (spared, (mid, takes, rest)) =
-      let later = course_so folder steps mid after words.1 (step_at folder step before mid words.0 spared takes files) rest in
-      ((spares_so folder step before.moment.world words.0 files spared, (mid, takes, later.0)), later.1)
+  module _ (read : Reading) (reading : IsReading read) (records_stay_true : RecordsStayTrue) where
+    -- the records of every profile are true
+    abbrev AllSound : World → Type 0
+    AllSound w = (name : List ℕ) → Named name → Sound read judge small_compiler (below target name) w.files
+
+    spares_so : (name : List ℕ) (step : SessionStep) (w : World) → Named name → HasWords step → SourcesAt w → IsToldStep target step w → Spares small_compiler (below target name) step w
+    spares_so name (Write path text) w named words files told = outside_within target (below target name) path (lies_within target name named) told
+    spares_so name (Remove path) w named words files told = λ q inside. told q (at_or_below_on target (below target name) q (lies_within target name named) inside)
+    spares_so name (Set n value) w named words files told = tt
+    spares_so name (Unset n) w named words files told = tt
+    spares_so name (Die key death) w named words files told = tt
+    spares_so name (Fuse number) w named words files told = tt
+    spares_so name (Build options pick) w named words files told = by (bytes_eq (folder_of options.profile) name) refl
+      where
+        by : (b : Bool) → bytes_eq (folder_of options.profile) name ≡ b → ((records_of options w.variables ≡ below target name) × IsHonestBuild small_compiler options w) ⊎ ShareNoPath (below target name) (records_of options w.variables)
+        by true same = inl (folder_is options w told ∙ ap (below target) ((bytes_eq-Decides (folder_of options.profile) name).0 same), small_builds_are_honest options w (small_of options w words.0 words.1 files told))
+        by false other = inr (subst (ShareNoPath (below target name)) (sym (folder_is options w told))
+            (lie_apart target name (folder_of options.profile) (subst At told.one_target (target_at options w.variables words.0)) named (profile_named options.profile told.profile)
+            (λ same. false≢true (sym other ∙ (bytes_eq-Decides (folder_of options.profile) name).1 (sym same)))))
+
+    all_sound : (step : SessionStep) (before after : Point) → HasWords step → SourcesAt before.moment.world → IsToldStep target step before.moment.world → Takes small_compiler step before after → AllSound before.moment.world → AllSound after.moment.world
+    all_sound step before after words files told takes sound name named =
+        records_stay_true read small_compiler (below target name) (step ∷ []) before after reading (spares_so name step before.moment.world named words files told, (after, takes, refl)) (sound name named)
+
+    step_gives : (step : SessionStep) (before after : Point) → HasWords step → SourcesAt before.moment.world → IsToldStep target step before.moment.world → Takes small_compiler step before after → AllSound before.moment.world → StepGives read step before after
+    step_gives (Write path text) before after words files told takes sound = tt
+    step_gives (Remove path) before after words files told takes sound = tt
+    step_gives (Set name value) before after words files told takes sound = tt
+    step_gives (Unset name) before after words files told takes sound = tt
+    step_gives (Die key death) before after words files told takes sound = tt
+    step_gives (Fuse number) before after words files told takes sound = tt
+    step_gives (Build options pick) before after words files told (answer, picked, stays, headline, answers) sound = (
+      answer,
+      answers,
+      small_builds_give read options answer.result before.moment after.moment reading headline (small_of options before.moment.world words.0 words.1 files told)
+          (subst (λ folder. Sound read judge small_compiler folder before.moment.world.files) (sym (folder_is options before.moment.world told)) (sound (folder_of options.profile) (profile_named options.profile told.profile))),
+    )
+
+    all_give : (steps : List SessionStep) (before after : Point) (course : Course small_compiler steps before after) → AllByRecursion HasWords steps → SourcesAt before.moment.world → AllSound before.moment.world
+        → AllTold target steps before after course → AllGive read steps before after course
+    all_give [] before after course words files sound told = tt
+    all_give (step ∷ steps) before after course words files sound told = (
+      step_gives step before course.0 words.0 files told.0 course.1 sound,
+      all_give steps course.0 after course.2 words.1 (step_at step before course.0 words.0 told.0 course.1 files) (all_sound step before course.0 words.0 files told.0 course.1 sound) told.1,
+    )
 
 -- where no file is, no text counts as a record, and all files have paths
 none_at : (read : Reading) (folder key : List ℕ) → record_at read folder finite.empty key ≡ None
@@ -236,14 +269,8 @@ no_files target w empty path text is =
     by true (Some other) at h = cc
     by false o at h = cc
 
-module _ (any_build_gives : AnyBuildGives) (nothing_is_sound : NothingIsSound) where
+module _ (records_stay_true : RecordsStayTrue) (nothing_is_sound : NothingIsSound) where
   pub session_files_give : SessionFilesGive
-  session_files_give read bytes options pick steps more before mid after reading said empty taken told takes =
-      let target : List ℕ = (environment_of options mid.moment.world.variables).target in
-      let folder : List ℕ = records_of options mid.moment.world.variables in
-      let words = session_has bytes (steps ++ Build options pick ∷ more) said in
-      let own = one_has steps (Build options pick) more words in
-      let so = course_so target folder steps before mid (first_have steps (Build options pick ∷ more) words) (no_files target before.moment.world empty) taken in
-      small_sessions_give any_build_gives read options pick steps before mid after reading
-      (nothing_is_sound read small_compiler folder before.moment.world.files (λ key. ap (λ files. record_at read folder files key) empty ∙ none_at read folder key)) so.0
-      (small_of target options mid.moment.world own.0 own.1 so.1 told) takes
+  session_files_give read bytes target steps before after reading said empty course told =
+      all_give target read reading records_stay_true steps before after course (session_has bytes steps said) (no_files target before.moment.world empty)
+      (λ name named. nothing_is_sound read small_compiler (below target name) before.moment.world.files (λ key. ap (λ files. record_at read (below target name) files key) empty ∙ none_at read (below target name) key)) told

@@ -16,11 +16,10 @@ use Rattle.pb_session.specs.declared.step.SessionStep.TheVariants.{Build}
 use Rattle.pb_soundness.specs.Records.{Reading}
 use Rattle.pb_soundness.specs.Sound.{Sound}
 use Rattle.pb_turns.specs.Moments.{Moment}
-use Rattle.pb_build.specs.Environment.{environment_of}
 use Rattle.pb_build.specs.Headline.{records_of, IsHonestBuild, Gives, Headline}
-use Rattle.pb_build.specs.Session.{Point, Takes}
+use Rattle.pb_build.specs.Session.{Point, Takes, Course}
 use Rattle.pb_build.specs.declared.sessions.Answer.{Answer}
-use Rattle.pb_small_builds.specs.Small.{CourseWith, IsSmallBuild, IsToldBuild}
+use Rattle.pb_small_builds.specs.Small.{AllGive, AllTold, IsSmallBuild, SmallCourse}
 
 -- The small compiler is an honest child of each build with these words.
 abbrev pub SmallBuildsAreHonest : Type 0
@@ -34,14 +33,11 @@ SmallBuildsGive = (read : Reading) (options : Options) (result : Result Summary 
 -- Any edits, any such builds between: a build of a session with the small compiler gives it too, where the records of its folder were true before the steps.
 abbrev pub SmallSessionsGive : Type 0
 SmallSessionsGive = (read : Reading) (options : Options) (pick : PickBy) (steps : List SessionStep) (before mid after : Point) → IsReading read
-    → Sound read judge small_compiler (records_of options mid.moment.world.variables) before.moment.world.files → CourseWith IsSmallBuild (records_of options mid.moment.world.variables) steps before mid
+    → Sound read judge small_compiler (records_of options mid.moment.world.variables) before.moment.world.files → SmallCourse (records_of options mid.moment.world.variables) steps before mid
     → IsSmallBuild options mid.moment.world → Takes small_compiler (Build options pick) mid after
     → (answer : Answer) × (after.answers ≡ mid.answers ++ answer ∷ []) × Gives OnRecords read small_compiler options answer.result mid.moment after.moment
 
 -- So does each build of a session file that begins without files, of which no more is asked than the file leaves open.
 abbrev pub SessionFilesGive : Type 0
-SessionFilesGive = (read : Reading) (bytes : List ℕ) (options : Options) (pick : PickBy) (steps more : List SessionStep) (before mid after : Point) → IsReading read
-    → session_of bytes ≡ Ok (steps ++ Build options pick ∷ more) → before.moment.world.files ≡ finite.empty
-    → CourseWith (IsToldBuild (environment_of options mid.moment.world.variables).target) (records_of options mid.moment.world.variables) steps before mid
-    → IsToldBuild (environment_of options mid.moment.world.variables).target options mid.moment.world → Takes small_compiler (Build options pick) mid after
-    → (answer : Answer) × (after.answers ≡ mid.answers ++ answer ∷ []) × Gives OnRecords read small_compiler options answer.result mid.moment after.moment
+SessionFilesGive = (read : Reading) (bytes target : List ℕ) (steps : List SessionStep) (before after : Point) → IsReading read → session_of bytes ≡ Ok steps → before.moment.world.files ≡ finite.empty
+    → (course : Course small_compiler steps before after) → AllTold target steps before after course → AllGive read steps before after course
