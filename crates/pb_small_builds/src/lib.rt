@@ -19,8 +19,9 @@ pub fn small_builds_give()
 /// A law: any edits, any builds between, a build of a session with the small compiler gives what the present workspace
 /// gives from nothing, or a fault with the first of its lines.
 ///
-/// Where the session is one of a file and begins without files, no more is asked of its builds than that they have one
-/// target folder, that `RUSTFLAGS` gives no `--extern`, and that what is read can be told.
+/// Where the session is one of a file and begins without files, each of its builds does, and less is asked: edits stay
+/// out of the target folder, which all builds share; a profile has the letters of names; `RUSTFLAGS` gives no `--extern`;
+/// and what is read can be told. The file itself says the rest.
 pub fn small_sessions_give()
     ensures records { SmallSessionsGive }
     ensures files { SessionFilesGive }
