@@ -30,7 +30,7 @@ abbrev pub SmallBuildsGive : Type 0
 SmallBuildsGive = (read : Reading) (options : Options) (result : Result Summary BuildFault) (old new : Moment) → IsReading read → Headline true small_compiler options result old new
     → IsSmallBuild options old.world → Sound read judge small_compiler (records_of options old.world.variables) old.world.files → Gives OnRecords read small_compiler options result old new
 
--- Any edits, any such builds between: a build of a session with the small compiler gives it too, where the records of its folder were true before the steps.
+-- Any edits outside of the folder of its records, any such builds between: a build of a session with the small compiler gives it too, where the records of that folder were true before the steps.
 abbrev pub SmallSessionsGive : Type 0
 SmallSessionsGive = (read : Reading) (options : Options) (pick : PickBy) (steps : List SessionStep) (before mid after : Point) → IsReading read
     → Sound read judge small_compiler (records_of options mid.moment.world.variables) before.moment.world.files → SmallCourse (records_of options mid.moment.world.variables) steps before mid

@@ -16,8 +16,8 @@ pub fn small_builds_give()
     ensures { SmallBuildsGive }
 {}
 
-/// A law: any edits, any builds between, a build of a session with the small compiler gives what the present workspace
-/// gives from nothing, or a fault with the first of its lines.
+/// A law: after any edits outside of the folder of its records, and any builds of these words, a build of a session with
+/// the small compiler gives what the present workspace gives from nothing, or a fault with the first of its lines.
 ///
 /// Where the session is one of a file and begins without files, each of its builds does, and less is asked: edits stay
 /// out of the target folder, which all builds share; a profile has the letters of names; `RUSTFLAGS` gives no `--extern`;
