@@ -12,7 +12,7 @@ run() {
 }
 run
 run
-file b/src/lib.rs 'fn more'
+file b/src/lib.rs 'warn more'
 run
 file words 'two'
 run
