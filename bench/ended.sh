@@ -123,8 +123,8 @@ def built(kind, jobs):
     begun = time.perf_counter()
     ran = subprocess.run(command(kind, jobs), stdin=subprocess.DEVNULL, capture_output=True, text=True, env=kind.environment)
     clock = time.perf_counter() - begun
-    lines = [plain(line) for line in ran.stdout.splitlines()]
-    return Built(ran.returncode, lines, ran.stderr, files_of(lines), clock)
+    lines = ran.stdout.splitlines()
+    return Built(ran.returncode, [plain(line) for line in lines], ran.stderr, files_of(lines), clock)
 
 
 def clean(kind):

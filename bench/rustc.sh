@@ -78,8 +78,13 @@ def spoken(message):
     return kept | {"is a program": message["executable"] is not None}
 
 
+def is_sum(message):
+    """Whether the compiler sums up: cargo leaves these lines out, pb_tool hands them on."""
+    return message["reason"] == "compiler-message" and re.match(r"\d+ warnings? emitted|aborting due to ", message["message"]["message"])
+
+
 def counted(built):
-    return collections.Counter(json.dumps(spoken(message), sort_keys=True) for message in built.messages)
+    return collections.Counter(json.dumps(spoken(message), sort_keys=True) for message in built.messages if not is_sum(message))
 
 
 def differences(ours, theirs):
@@ -174,7 +179,13 @@ EDITS = [
 
 # What the rules of the two builders want otherwise: for an edit the units that pb_tool alone builds again, those that
 # cargo alone does, and why.
+EACH = ["almanac bin-almanac", "almanac lib", "math-sys lib", "math-sys run", "math-sys script", "planets lib", "planets run", "planets script"]
+ABOVE_TEXT = ["almanac bin-almanac", "almanac lib", "planets lib", "planets run", "planets script"]
 WANTED = {
+    "a source, written again as it is": ([], ABOVE_TEXT + ["text lib, 2 times"], "pb_tool compares what a file holds, cargo the time of its last change"),
+    "RUSTFLAGS taken away": (EACH + ["stats lib", "text lib, 2 times"], [], "cargo keeps what it built with other flags beside it; a unit of pb_tool has one folder and one record"),
+    "the feature no longer asked for": (["almanac bin-almanac", "almanac lib"], [], "the same: cargo keeps a unit for each set of features, pb_tool one"),
+    "a description that a member inherits": (ABOVE_TEXT, [], "CARGO_PKG_DESCRIPTION is a variable of each command of a package, used or not; cargo looks whether a source reads it"),
 }
 
 
