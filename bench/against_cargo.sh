@@ -10,6 +10,7 @@
 #            the greatest memory of the builder itself, seen every few milliseconds; compiles, as `"fresh":false` counts
 #            them. Each figure is the least of ROUNDS rounds (5), of which each has three builds with nothing changed;
 #            the builders take turns. After LIMIT minutes (none) no other round is begun
+#   nothing  builds with nothing changed alone, twenty of each builder, by turns
 #   calls    the calls of the system in a build with nothing changed, by strace where it is there
 #   growth   a build with nothing changed of 64, 256 and 1,024 units side by side, and of chains of 64, 128 and 256, made
 #            with the small compiler: instructions outside the kernel by valgrind, memory, and the exponents
@@ -28,7 +29,7 @@ trap 'rm -rf "$folder"' EXIT
 . "$top/bench/program.sh"
 program="${PROGRAM:-$(make_program "$top" "$folder")}"
 compiler="${COMPILER:-$(make_compiler "$top" "$folder")}"
-python3 - "$program" "$compiler" "$folder" "$top" "${PARTS:-side calls growth dear wide}" "${SHAPES:-chain side scripts files example}" "${ROUNDS:-5}" "${LIMIT:-0}" "${RESULTS:-}" <<'PYTHON'
+python3 - "$program" "$compiler" "$folder" "$top" "${PARTS:-side nothing calls growth dear wide}" "${SHAPES:-chain side scripts files example}" "${ROUNDS:-5}" "${LIMIT:-0}" "${RESULTS:-}" <<'PYTHON'
 import collections, json, math, os, re, shutil, subprocess, sys, threading, time
 
 program, compiler, folder, top, parts, wanted, rounds, limit, results = sys.argv[1:]
@@ -265,6 +266,27 @@ def part_side():
     print("\nRounds: " + ", ".join(f"{name} {count}" for name, count in rounds_of.items()))
 
 
+def part_nothing():
+    """Twenty builds with nothing changed of each builder, by turns."""
+    print("| workspace | `pb_tool` clock, ms | processor, ms | `cargo` clock, ms | processor, ms | clock, ratio | processor, ratio |\n|---|---|---|---|---|---|---|")
+    environment = ENVIRONMENT | {"RUSTC": RUSTC, VARIABLE: "0"}
+    for shape in chosen():
+        there, runs = f"{folder}/{shape.name}", collections.defaultdict(list)
+        shape.write(there)
+        builders = {builder: words_of(builder, there, PROCESSORS) for builder in ("pb_tool", "cargo")}
+        for words in builders.values():
+            measured(words, environment)
+        for _ in range(20):
+            for builder, words in builders.items():
+                runs[builder].append(measured(words, environment, 0.05))
+        ours, theirs = least(runs["pb_tool"]), least(runs["cargo"])
+        spent = [min(run.own + run.children for run in runs[builder]) for builder in builders]
+        if any(run.compiles for some in runs.values() for run in some):
+            failures.append(f"something is compiled in {shape.name} though nothing has changed")
+        figures = f"{ours.clock * 1000:.0f} | {spent[0] * 1000:.0f} | {theirs.clock * 1000:.0f} | {spent[1] * 1000:.0f}"
+        print(f"| {shape.title} | {figures} | {ours.clock / theirs.clock:.2f} | {spent[0] / spent[1]:.2f} |", flush=True)
+
+
 def chosen():
     return [shape for shape in SHAPES if shape.name in wanted]
 
@@ -391,7 +413,7 @@ if not shutil.which("valgrind"):
     print("There is no valgrind on this machine: instructions are not counted.")
     parts = [part for part in parts if part not in ("growth", "dear")]
 print(f"{PROCESSORS} processors, {os.getloadavg()[0]:.1f} processes at work at the start, {time.strftime('%d %B %Y')}", flush=True)
-for name, part in (("side", part_side), ("calls", part_calls), ("growth", part_growth), ("dear", part_dear), ("wide", part_wide)):
+for name, part in (("side", part_side), ("nothing", part_nothing), ("calls", part_calls), ("growth", part_growth), ("dear", part_dear), ("wide", part_wide)):
     if name in parts:
         print(f"\n{name}\n")
         part()
