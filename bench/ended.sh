@@ -211,9 +211,10 @@ def compare(now, wanted):
     if now.lines != wanted.lines:
         other = [line for line in now.lines if line not in wanted.lines] + [line for line in wanted.lines if line not in now.lines]
         said.append(f"other lines: {other[:2]}")
-    if now.files != wanted.files:
-        paths = sorted(path for path in now.files.keys() | wanted.files.keys() if now.files.get(path) != wanted.files.get(path))
-        said.append(f"other files: {paths[:3]}")
+    other = sorted(path for path in wanted.files if now.files.get(path) != wanted.files[path])
+    beside = sorted(path for path in now.files if path not in wanted.files)
+    said += [f"files are missing or have other bytes: {other[:3]}"] if other else []
+    said += [f"{len(beside)} files lie beside those that a build from nothing makes: {beside[:3]}"] if beside else []
     return said
 
 
@@ -273,7 +274,7 @@ def reason(status, said):
 
 def pairs(kind, wanted):
     """Two builds at once in one target folder, from nothing and after an edit, by turns."""
-    wrong, told, bad = 0, collections.Counter(), []
+    wrong, told, bad = 0, collections.Counter(), []  # pairs after which something is wrong, what they said, what is wrong
     for number in range(moments):
         jobs, other = r.choice([(1, 1), (4, 4), (1, 4), (2, 3)])
         edit = bool(number % 2)
@@ -294,8 +295,10 @@ def pairs(kind, wanted):
         for it in outs:
             it.close()
         told[" and ".join(sorted(both))] += 1
-        bad += compare(built(kind, jobs), wanted[1, edit])
-    print(f"{kind.name:8} {moments} pairs of builds at once: after {len(bad)} of them the next build was wrong; the pairs said:")
+        found = compare(built(kind, jobs), wanted[1, edit])
+        wrong += bool(found)
+        bad += found
+    print(f"{kind.name:8} {moments} pairs of builds at once: after {wrong} of them the next build was wrong; the pairs said:")
     for line, count in told.most_common():
         print(f"    {count:3} times {line}")
     for line in bad:
