@@ -1,10 +1,14 @@
 //! What a build answers: its summary, or the fault that ended it, and the line that says it.
 #![tactic(auto)]
 
+pub mod bad_unit;
 pub mod fault;
 pub mod line;
 pub mod summary;
+pub mod telling;
 
+pub use bad_unit::BadUnit;
 pub use fault::{BuildFault, DeviceFault, Refusal};
 pub use line::result_line;
 pub use summary::Summary;
+pub use telling::{explanation, said};

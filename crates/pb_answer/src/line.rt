@@ -18,7 +18,7 @@ use pb_unit::PlanFault;
 use std::alloc::{AllocError, Global};
 
 /// Texts one after another.
-fn joined(alloc: Global, parts: &[&str]) -> Result<String, AllocError>
+pub(crate) fn joined(alloc: Global, parts: &[&str]) -> Result<String, AllocError>
     ensures { IfOk result (λ text. string_bytes text ≡ concat (map (λ part. part.now) parts.now)) }
 {
     let mut text = String::new(alloc);

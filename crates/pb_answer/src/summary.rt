@@ -1,8 +1,9 @@
 //! What a build that came to its end says.
 
-use pb_data::{Items, Text};
+use pb_data::{Bytes, Items, Text};
 use pb_directive::Directives;
 use pb_project::UnitFault;
+use pb_store::Difference;
 
 /// What a build that came to its end says.
 #[derive(Debug, Drop)]
@@ -11,8 +12,14 @@ pub struct Summary {
     pub success: bool,
     /// The key and the fault of the first bad unit in plan order, if there is one.
     pub bad: Option<(Text, UnitFault)>,
+    /// What that unit's child wrote that no message line holds; nothing where all units are good.
+    pub said: Bytes,
     /// The keys of the units whose child was started, in order of starting.
     pub started: Items<Text>,
+    /// What differed first of each of these, in the same order: why it was started.
+    pub differences: Items<Difference>,
+    /// The keys of the units of which nothing differed, in plan order: what is kept of them was given again.
+    pub kept: Items<Text>,
     /// The keys and the directives of the build scripts' runs that ended well before the first bad unit, in
     /// plan order.
     pub directives: Items<(Text, Directives)>,

@@ -81,7 +81,7 @@ pub record IsOptions (called folder : Text) (rows : List Row) (options : Options
 
 -- what a subcommand with these values asks for
 abbrev pub AsksBy : Text → Text → Option (Text × List Row) → Asked → Type 0
-AsksBy tool folder given (Build options) = (rows : List Row) × (given ≡ Some (codes "build", rows)) × IsOptions tool folder rows options
+AsksBy tool folder given (Build options explain) = (rows : List Row) × (given ≡ Some (codes "build", rows)) × IsOptions tool folder rows options × IsFlag (codes "explain") rows explain
 AsksBy tool folder given (Session path) = (rows : List Row) × (given ≡ Some (codes "session", rows)) × (joined folder (file_of rows) ≡ Ok path)
 
 -- the first word

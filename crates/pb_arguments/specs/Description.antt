@@ -35,6 +35,10 @@ features =
 abbrev pub at_one_time : List Rule
 at_one_time = record (option (codes "jobs")) { short = Some 106 } ∷ []
 
+-- what is told beside the messages
+abbrev pub telling : List Rule
+telling = flag (codes "explain") ∷ []
+
 -- where it is read from and written to, and in which of these forms
 abbrev pub places : ValueParser → List Rule
 places formats =
@@ -53,7 +57,7 @@ with_rules (rule ∷ rules) app = with_rules rules (with_rule app rule)
 
 -- `pb_tool build`
 abbrev pub build : ValueParser → App
-build formats = with_rules (places formats) (with_rules at_one_time (with_rules features (with_rules selection (new_app (codes "build")))))
+build formats = with_rules (places formats) (with_rules telling (with_rules at_one_time (with_rules features (with_rules selection (new_app (codes "build"))))))
 
 -- `pb_tool session FILE`
 abbrev pub session : App

@@ -18,8 +18,8 @@ use std::alloc::{AllocError, Global};
 pub enum Asked {
     /// The session of the file at this path.
     Session(PathText),
-    /// A build.
-    Build(Options),
+    /// A build, and whether it is to be told why each child was started.
+    Build { options: Options, explain: bool },
 }
 
 /// Why a command line asks for nothing that is done.

@@ -4,7 +4,7 @@ ghost use Rattle.std.specs.Prelude.{◌≡◌, IfOk, false};
 ghost use Rattle.clap.specs.Walk.{rule_of};
 ghost use Rattle.clap.specs.Simple.{app_of};
 ghost use Rattle.clap.specs.declared.builder.value_parser.ValueParser.{ValueParser};
-ghost use Rattle.pb_arguments.specs.Description.{flag, option, options, selection, features, at_one_time, places, with_rules, IsJson, build, session, program};
+ghost use Rattle.pb_arguments.specs.Description.{flag, option, options, selection, features, at_one_time, telling, places, with_rules, IsJson, build, session, program};
 
 use clap::{Arg, ArgAction, Command};
 use std::alloc::{AllocError, Global};
@@ -120,6 +120,19 @@ fn with_jobs<'a>(alloc: Global, command: Command<'a>) -> Result<Command<'a>, All
     Ok(command)
 }
 
+/// What is told beside the messages.
+fn with_telling<'a>(alloc: Global, command: Command<'a>) -> Result<Command<'a>, AllocError>
+    ensures { IfOk result (λ new. app_of new ≡ with_rules telling (app_of command.entry)) }
+{
+    let explain = flag(
+        alloc,
+        "explain",
+        "Say on standard error why each child was started",
+    );
+    let command = command.arg(explain)?;
+    Ok(command)
+}
+
 /// Where it is read from and written to.
 fn with_places<'a>(alloc: Global, command: Command<'a>) -> Result<Command<'a>, AllocError>
     ensures { IfOk result (λ new. (formats : ValueParser) × IsJson formats × (app_of new ≡ with_rules (places formats) (app_of command.entry))) }
@@ -166,6 +179,7 @@ fn build_command<'a>(alloc: Global) -> Result<Command<'a>, AllocError>
     let command = with_selection(alloc, command)?;
     let command = with_features(alloc, command)?;
     let command = with_jobs(alloc, command)?;
+    let command = with_telling(alloc, command)?;
     with_places(alloc, command)
 }
 

@@ -193,7 +193,10 @@ fn asked_by(
 {
     if let Some(build) = matches.subcommand_matches("build") {
         return match options_of(alloc, tool, folder, build) {
-            Ok(options) => Ok(Asked::Build(options)),
+            Ok(options) => Ok(Asked::Build {
+                options,
+                explain: is_given(build, "explain"),
+            }),
             Err(unasked) => Err(unasked),
         };
     }

@@ -21,7 +21,7 @@ use Rattle.pb_place.specs.Folders.{files_in}
 use Rattle.pb_place.specs.Paths.{below}
 use Rattle.pb_place.specs.World.{World, Map, Answers, from_nothing}
 use Rattle.pb_profile.specs.Line.{folder_of}
-use Rattle.pb_project.specs.declared.fault.UnitFault.{UnitFault}
+use Rattle.pb_answer.specs.declared.bad_unit.BadUnit.{BadUnit}
 use Rattle.pb_project.specs.declared.project.Project.{Project}
 use Rattle.pb_project.specs.declared.project.Setup.{Setup}
 use Rattle.pb_record.specs.Parts.{IsReading}
@@ -51,7 +51,7 @@ pub no_fault : {summary : Summary} {fault : BuildFault} → Ok summary ≡ Err f
 no_fault e = cc
 
 -- before a unit has begun none is good
-none_good : (needs : List (List ℕ)) (place : ℕ) → is_good_at {F = UnitFault} (slice_get (map (λ _. Untouched) needs) place) ≡ true → ⊥
+none_good : (needs : List (List ℕ)) (place : ℕ) → is_good_at {F = BadUnit} (slice_get (map (λ _. Untouched) needs) place) ≡ true → ⊥
 none_good [] place good = cc
 none_good (n ∷ needs) zero good = cc
 none_good (n ∷ needs) (suc place) good = none_good needs place good
@@ -152,18 +152,18 @@ module _ (footing : Footing) (read : Reading) (reading : IsReading read) (child 
       kept_first : (f : Footing) → RestsOn f read child options old.world → Keeps (basis f read child setup project sources) (untouched project) (nothing_said project) next mid.world
       kept_first f on = subst (λ (w : World). Keeps (basis f read child setup project sources) (untouched project) (nothing_said project) next w) (sym stays) (rests_first read child options old.world project toolchain is says next ahead f on)
 
-      abbrev units_by : List (Event UnitFault) → UnitsOf child options old.world
+      abbrev units_by : List (Event BadUnit) → UnitsOf child options old.world
       units_by es = record { project = project; toolchain = toolchain; is = is; says = says; es = es }
 
-      leaves : (f : Footing) (es : List (Event UnitFault)) → Stands (basis f read child setup project sources) es new.world → LeavesRecords f read child options old.world new.world
+      leaves : (f : Footing) (es : List (Event BadUnit)) → Stands (basis f read child setup project sources) es new.world → LeavesRecords f read child options old.world new.world
       leaves OnRecords es stands = subst (λ (f : List ℕ). Sound read judge child f new.world.files) (same_folder options old.world project is) stands.keeps.records.sound
       leaves OnNothing es stands = tt
 
       -- the bytes that were handed out since the start
-      since : (es : List (Event UnitFault)) (bytes told : List ℕ) → bytes ≡ told → Appends mid.heard.taken new.heard.taken bytes → Appends old.heard.taken new.heard.taken told
+      since : (es : List (Event BadUnit)) (bytes told : List ℕ) → bytes ≡ told → Appends mid.heard.taken new.heard.taken bytes → Appends old.heard.taken new.heard.taken told
       since es bytes told same taken = subst (λ (h : Heard). Appends h.taken new.heard.taken told) heard (subst (Appends mid.heard.taken new.heard.taken) same taken)
 
-      module _ (es : List (Event UnitFault)) (stands : Stands b es new.world) where
+      module _ (es : List (Event BadUnit)) (stands : Stands b es new.world) where
         -- the folder of a good unit among those that were told
         file_holds : count_due (states_in project es) ≡ length (rows_in b) → (place : ℕ) (u : Planned) (made : Map) (directives : Option (List Directive)) (messages : List Message)
             → slice_get (rows_in b) place ≡ Some record { unit = u; outcome = Good made directives messages } → files_in u.out new.world.files ≡ made
@@ -189,7 +189,7 @@ module _ (footing : Footing) (read : Reading) (reading : IsReading read) (child 
         all_lines all = stands.lines ∙ (ap (λ (n : ℕ). said_from project es 0 (take n (rows_in b))) all ∙ ap (said_from project es 0) (take-length (rows_in b)))
 
       -- the lines before a fault
-      module _ (es : List (Event UnitFault)) (stands : Stands b es new.world) (stop : Moment) (after : new.heard ≡ stop.heard) where
+      module _ (es : List (Event BadUnit)) (stands : Stands b es new.world) (stop : Moment) (after : new.heard ≡ stop.heard) where
         first_lines : (bytes told : List ℕ) → bytes ≡ told → Appends mid.heard.taken stop.heard.taken bytes → Appends old.heard.taken new.heard.taken told
         first_lines bytes told same taken = since es bytes told same (subst (λ (h : Heard). Appends mid.heard.taken h.taken bytes) (sym after) taken)
 
@@ -207,10 +207,11 @@ module _ (footing : Footing) (read : Reading) (reading : IsReading read) (child 
           let whole : StandsWhole b ends.es summary mid.world new.world = ends.told refl footing read sources reading (kept_first footing rests) in (
             record {
               units = units_by ends.es;
+              reasons = ends.reasons;
               answer = whole.answer;
               lines = since ends.es (due (states_in project ends.es)) _ (all_lines ends.es whole.stands whole.all) ends.lines;
               files = file_holds ends.es whole.stands whole.all;
-              began = subst (λ (w : World). AllBeganFor b ends.es w) stays whole.began;
+              began = subst (λ (w : World). AllBeganFor b ends.es ends.reasons w) stays whole.began;
             },
             leaves footing ends.es whole.stands,
           )
@@ -221,7 +222,8 @@ module _ (footing : Footing) (read : Reading) (reading : IsReading read) (child 
               lines = lines_before ends.es cut.stands ends.mid ends.heard fault ends.stops;
               before = cut.before;
               begins = cut.begins;
-              began = subst (λ (w : World). AllBeganFor b cut.before w) stays cut.began;
+              reasons = cut.reasons;
+              began = subst (λ (w : World). AllBeganFor b cut.before cut.reasons w) stays cut.began;
             },
             leaves footing ends.es cut.stands,
           )

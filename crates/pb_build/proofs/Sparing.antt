@@ -15,7 +15,7 @@ use Rattle.pb_place.specs.Paths.{is_at_or_below}
 use Rattle.pb_place.specs.World.{World, Map, Answers, AgreeBut, written, removed, is_same_path}
 use Rattle.pb_place.proofs.MapLemmas.{get-kept, same_bytes}
 use Rattle.pb_place.proofs.Within.{at_itself}
-use Rattle.pb_project.specs.declared.fault.UnitFault.{UnitFault}
+use Rattle.pb_answer.specs.declared.bad_unit.BadUnit.{BadUnit}
 use Rattle.pb_project.specs.declared.project.Project.{Project}
 use Rattle.pb_project.specs.declared.project.Setup.{Setup}
 use Rattle.pb_record.specs.Parts.{IsReading}
@@ -40,7 +40,7 @@ use Rattle.pb_build.proofs.Staying.{none_of}
 
 -- A build changes files in the folder of its records alone.
 
-only_within : (project : Project) (es : List (Event UnitFault)) (old new : World) → IsInOrder project → OnlyOf project es old new → AgreeBut (is_at_or_below (records_folder project)) old.files new.files
+only_within : (project : Project) (es : List (Event BadUnit)) (old new : World) → IsInOrder project → OnlyOf project es old new → AgreeBut (is_at_or_below (records_folder project)) old.files new.files
 only_within project es old new order only q outside_it =
     only.files q (λ place u begun there. none_of (records_folder project) (records_folder project) u.key q (at_itself (records_folder project) (records_folder project) refl) (order.keys place u there) outside_it)
 

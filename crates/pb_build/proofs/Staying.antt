@@ -10,7 +10,7 @@ use Rattle.pb_place.specs.Paths.{is_at_or_below}
 use Rattle.pb_place.specs.World.{World, Answers, from_nothing}
 use Rattle.pb_place.proofs.Folders.{sources_alike}
 use Rattle.pb_place.proofs.Within.{at_below, at_then_below, outside_within}
-use Rattle.pb_project.specs.declared.fault.UnitFault.{UnitFault}
+use Rattle.pb_answer.specs.declared.bad_unit.BadUnit.{BadUnit}
 use Rattle.pb_project.specs.declared.project.Project.{Project}
 use Rattle.pb_project.specs.declared.project.Setup.{Setup}
 use Rattle.pb_run.specs.Standing.{IsInOrder, records_folder}
@@ -32,7 +32,7 @@ none_of target folder key q above is outside =
     ∙ outside_within target (place_of folder key) q (at_below target (place_of folder key) (at_then_below target folder (place_of folder key) above (place_in folder key is))) outside
 
 -- the folders and records of units are none of the sources
-only_stay : (project : Project) (es : List (Event UnitFault)) (old new : World) → IsInOrder project → OnlyOf project es old new → SourcesStay project.workspace.target old new
+only_stay : (project : Project) (es : List (Event BadUnit)) (old new : World) → IsInOrder project → OnlyOf project es old new → SourcesStay project.workspace.target old new
 only_stay project es old new order only =
     sources_alike project.workspace.target old new
     (λ q outside. only.files q (λ place u begun there. none_of project.workspace.target (records_folder project) u.key q order.target (order.keys place u there) outside)) only.variables

@@ -14,7 +14,7 @@ use Rattle.pb_place.specs.Folders.{files_in}
 use Rattle.pb_place.specs.Paths.{below}
 use Rattle.pb_place.specs.World.{World, Map, Answers, from_nothing}
 use Rattle.pb_profile.specs.Line.{folder_of}
-use Rattle.pb_project.specs.declared.fault.UnitFault.{UnitFault}
+use Rattle.pb_answer.specs.declared.bad_unit.BadUnit.{BadUnit}
 use Rattle.pb_project.specs.declared.project.Project.{Project}
 use Rattle.pb_record.specs.Parts.{IsReading}
 use Rattle.pb_run.specs.Halves.{Footing, OnRecords, OnNothing, Basis, basis, IsHonestOnUnits}
@@ -22,7 +22,7 @@ use Rattle.pb_run.specs.Outcome.{Good}
 use Rattle.pb_soundness.specs.Records.{Reading, record_at}
 use Rattle.pb_soundness.specs.Sound.{Sound}
 use Rattle.pb_turns.specs.Moments.{Heard, Moment}
-use Rattle.pb_turns.specs.Rows.{Row, rows_of, said_from, summary_of}
+use Rattle.pb_turns.specs.Rows.{Row, Reasons, rows_of, said_from, summary_of}
 use Rattle.pb_turns.specs.Story.{states_in, AllBeganFor, IsBeginning}
 use Rattle.pb_unit.specs.declared.plan.Planned.{Planned}
 use Rattle.pb_build.specs.Ending.{NoneBegan, Closes}
@@ -55,7 +55,7 @@ pub record UnitsOf (child : Answers) (options : Options) (w : World) : Type 0 wh
   pub toolchain : List ℕ
   pub is : IsProject options (environment_of options w.variables).target w project
   pub says : toolchain_of child (environment_of options w.variables) project (from_nothing (environment_of options w.variables).target w) ≡ Some toolchain
-  pub es : List (Event UnitFault)
+  pub es : List (Event BadUnit)
 
 abbrev pub basis_of : (footing : Footing) (read : Reading) (child : Answers) (options : Options) (w : World) → UnitsOf child options w → Basis
 basis_of footing read child options w units =
@@ -65,17 +65,18 @@ basis_of footing read child options w units =
 abbrev pub rows_for : (child : Answers) (options : Options) (w : World) → UnitsOf child options w → List Row
 rows_for child options w units = rows_of child (setup_of options (environment_of options w.variables) units.toolchain) units.project (from_nothing (environment_of options w.variables).target w)
 
--- all these have answered: the summary and the lines are those of what they give from nothing, and say of each whether a child was started for it; the folder of each good one holds exactly its files; and for each unit that began a child was started exactly where something differed from its record
+-- all these have answered: the summary and the lines are those of what they give from nothing, and say of each whether a child was started for it; the folder of each good one holds exactly its files; and for each unit that began a child was started exactly where something differed from its record, which the summary names
 pub record GivesAll (footing : Footing) (read : Reading) (child : Answers) (options : Options) (summary : Summary) (old new : Moment) : Type 0 where
   pub units : UnitsOf child options old.world
-  pub answer : summary ≡ summary_of units.project units.es (rows_for child options old.world units)
+  pub reasons : Reasons
+  pub answer : summary ≡ summary_of units.project units.es reasons (rows_for child options old.world units)
   pub lines : Appends old.heard.taken new.heard.taken (said_from units.project units.es 0 (rows_for child options old.world units))
   pub files : (place : ℕ) (u : Planned) (made : Map) (directives : Option (List Directive)) (messages : List Message)
       → slice_get (rows_for child options old.world units) place ≡ Some record { unit = u; outcome = Good made directives messages } → files_in u.out new.world.files ≡ made
-  pub began : AllBeganFor (basis_of footing read child options old.world units) units.es old.world
+  pub began : AllBeganFor (basis_of footing read child options old.world units) units.es reasons old.world
 
 -- the lines that were handed out before a fault came: those of the longest row of units that had answered; of these bytes the first so many, where the sink failed; of these units the first so many, where memory was refused
-abbrev pub LinesBefore : BuildFault → Project → List (Event UnitFault) → List Row → Option (List ℕ) → Option (List ℕ) → Type 0
+abbrev pub LinesBefore : BuildFault → Project → List (Event BadUnit) → List Row → Option (List ℕ) → Option (List ℕ) → Type 0
 LinesBefore (Plan why) project es rows old new = ⊥
 LinesBefore Toolchain project es rows old new = ⊥
 LinesBefore (Child key fault) project es rows old new = Appends old new (said_from project es 0 (take (count_due (states_in project es)) rows))
@@ -87,9 +88,10 @@ LinesBefore OutOfMemory project es rows old new = (n : ℕ) × Appends old new (
 pub record GivesFirst (footing : Footing) (read : Reading) (child : Answers) (options : Options) (fault : BuildFault) (old new : Moment) : Type 0 where
   pub units : UnitsOf child options old.world
   pub lines : LinesBefore fault units.project units.es (rows_for child options old.world units) old.heard.taken new.heard.taken
-  pub before : List (Event UnitFault)
+  pub before : List (Event BadUnit)
   pub begins : IsBeginning before units.es
-  pub began : AllBeganFor (basis_of footing read child options old.world units) before old.world
+  pub reasons : Reasons
+  pub began : AllBeganFor (basis_of footing read child options old.world units) before reasons old.world
 
 -- what was given when the finish line was due
 abbrev pub GivesUnits : Footing → Reading → Answers → Options → Result Summary BuildFault → Moment → Moment → Type 0

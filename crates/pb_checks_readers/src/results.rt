@@ -8,7 +8,7 @@ use crate::faults::{
     refused_workspace, unit_fault,
 };
 use pb_answer::{BuildFault, Refusal, Summary, result_line};
-use pb_data::{Items, Text};
+use pb_data::{Bytes, Items, Text};
 use pb_directive::LineFault;
 use pb_feature::FeatureFault;
 use pb_manifest::{Key, ManifestFault};
@@ -39,7 +39,10 @@ fn ends_with(
     let summary = Summary {
         success: bad.is_none(),
         bad,
+        said: Bytes::new(Vec::new(alloc)),
         started: keys(alloc, started)?,
+        differences: Items::new(alloc),
+        kept: Items::new(alloc),
         directives: Items::new(alloc),
     };
     says(alloc, &Ok(summary), wanted)

@@ -1,5 +1,5 @@
 -- The diagnostics of a compiler (The Cargo Book, External Tools): the lines of its standard error that read as JSON objects, byte for byte.
-use Rattle.std.specs.Prelude.{ℕ, Bool, true, false, if◌then◌else◌, List, [], ◌∷◌, Option, Some, None}
+use Rattle.std.specs.Prelude.{ℕ, Bool, true, false, if◌then◌else◌, List, [], ◌∷◌, ◌++◌, Option, Some, None}
 use Rattle.serde_json.specs.Data as json
 use Rattle.serde_json.specs.Read.{read}
 use Rattle.pb_directive.specs.Lines.{lines_of, trimmed, text_of}
@@ -33,3 +33,20 @@ diagnostics_in (line ∷ lines) = and_more (diagnostic_in line) (diagnostics_in 
 -- the diagnostics of a standard error
 abbrev pub diagnostics_of : List ℕ → List (List ℕ)
 diagnostics_of stderr = diagnostics_in (lines_of stderr)
+
+-- a line with a line feed behind it, where it is neither blank nor a diagnostic
+abbrev pub plain_by : List ℕ → Option (List ℕ) → List ℕ → List ℕ
+plain_by [] found line = []
+plain_by (b ∷ bytes) (Some text) line = []
+plain_by (b ∷ bytes) None line = line ++ 10 ∷ []
+
+abbrev pub plain_in : List ℕ → List ℕ
+plain_in line = plain_by (trimmed line) (diagnostic_in line) line
+
+abbrev pub plain_lines_in : List (List ℕ) → List ℕ
+plain_lines_in [] = []
+plain_lines_in (line ∷ lines) = plain_in line ++ plain_lines_in lines
+
+-- what a standard error says that is no diagnostic
+abbrev pub plain_lines_of : List ℕ → List ℕ
+plain_lines_of stderr = plain_lines_in (lines_of stderr)

@@ -3,9 +3,9 @@
 ghost use Rattle.std.specs.Prelude.{◌≡◌, ◌++◌, [], IfOk, OnOk};
 ghost use Rattle.std.specs.Option.{option_map};
 ghost use Rattle.serde_json.specs.Read.{read};
-ghost use Rattle.pb_message.specs.Diagnostics.{reads_as_object, diagnostic_in, and_more, diagnostics_of};
+ghost use Rattle.pb_message.specs.Diagnostics.{reads_as_object, diagnostic_in, and_more, diagnostics_of, plain_in, plain_lines_of};
 
-use pb_data::{Items, Text};
+use pb_data::{Bytes, Items, Text};
 use pb_directive::lines::{lines_of, trimmed};
 use pb_directive::texts::text_of;
 use serde_json::Value;
@@ -67,4 +67,34 @@ pub fn diagnostics(alloc: Global, stderr: &[u8]) -> Result<Items<Text>, AllocErr
         add_diagnostic(alloc, &mut found, line)?;
     }
     Ok(found)
+}
+
+/// Adds a line with a line feed behind it, where it is neither blank nor a diagnostic.
+fn add_plain(alloc: Global, plain: &mut Vec<u8>, line: &[u8]) -> Result<(), AllocError>
+    ensures { OnOk result (plain.new.items ≡ plain.old.items ++ plain_in line.now) }
+{
+    match trimmed(line) {
+        [] => return Ok(()),
+        [_, ..] => {}
+    }
+    match diagnostic_in(alloc, line)? {
+        Some(_) => Ok(()),
+        None => {
+            plain.extend_from_slice(line)?;
+            plain.push(b'\n')?;
+            Ok(())
+        }
+    }
+}
+
+/// What a compiler's standard error says beside its diagnostics: the lines that are neither blank nor diagnostics, each
+/// with a line feed behind it. The one fault is want of memory.
+pub fn plain_lines(alloc: Global, stderr: &[u8]) -> Result<Bytes, AllocError>
+    ensures { IfOk result (λ plain. plain ≡ plain_lines_of stderr.now) }
+{
+    let mut plain = Vec::new(alloc);
+    for line in lines_of(stderr) {
+        add_plain(alloc, &mut plain, line)?;
+    }
+    Ok(Bytes::new(plain))
 }

@@ -8,7 +8,7 @@ pub mod message;
 pub mod subject;
 pub mod writing;
 
-pub use diagnostic::diagnostics;
+pub use diagnostic::{diagnostics, plain_lines};
 pub use line::{finish_line, line_of, lines_of};
 pub use message::{Artifact, Executed, Level, Message};
 pub use subject::{Subject, Target};

@@ -20,7 +20,7 @@ use Rattle.pb_place.specs.declared.command.Ended.{Ended}
 use Rattle.pb_place.proofs.Folders.{files_alike, get-files_in, get-over, only_started}
 use Rattle.pb_place.proofs.MapLemmas.{get-kept}
 use Rattle.pb_project.specs.Targets.{crate_name_of, dep_info_of, unit_at}
-use Rattle.pb_project.specs.declared.fault.UnitFault.{UnitFault}
+use Rattle.pb_answer.specs.declared.bad_unit.BadUnit.{BadUnit}
 use Rattle.pb_unit.specs.declared.plan.Planned.{Planned}
 use Rattle.pb_run.specs.Halves.{Basis, CanAnswer, IsBegun, IsInFlight, Keeps, WaitsBy, begun_with, command_in, outcomes_in, view_in}
 use Rattle.pb_run.specs.Outcome.{Waiting, directives_of, judged, judgement_by, outcome_by, outcome_of, ran_by, ran_of}
@@ -72,7 +72,7 @@ module _ (b : Basis) (order : IsInOrder b.project) (i : ℕ) (u : Planned) (at :
   begun_as begun next w flying still is =
       subst (λ (v : Planned). (begun.command ≡ command_in b i v) × WaitsBy b v begun.command (view_in b i v) begun.launched next w flying still) (one is.unit u (sym is.there ∙ at)) (is.command, is.waits)
 
-  pub reached_stand : (states : List (State UnitFault)) (done : List (Option (List Directive))) (next : Option ℕ) (w : World) → Keeps b states done next w → are_good states u.reaches ≡ true → AllStand b done w u.reaches
+  pub reached_stand : (states : List (State BadUnit)) (done : List (Option (List Directive))) (next : Option ℕ) (w : World) → Keeps b states done next w → are_good states u.reaches ≡ true → AllStand b done w u.reaches
   reached_stand states done next w keeps reaches place has = keeps.good place (all_at (λ p. is_good_at (slice_get states p)) u.reaches place reaches has)
 
   -- the outcome, by the reply of the child in the unit's view
@@ -116,7 +116,7 @@ module _ (b : Basis) (order : IsInOrder b.project) (i : ℕ) (u : Planned) (at :
         let inside : ChangesOnlyInSome c.out old new = subst (λ (o : Option ChildInFlight). IfSome o (λ s. ChangesOnlyInSome s.command.out old new)) flight.flies only in
         only_started u.out c.out old new (ap (λ (d : Command). d.out) command ∙ command_out) inside
 
-    pub landed_gives : (states : List (State UnitFault)) (done : List (Option (List Directive))) (old new : World) (ended : Ended) (j : Judgement) → CanAnswer b states done i u (begun_with key c (Some l)) next old flying still
+    pub landed_gives : (states : List (State BadUnit)) (done : List (Option (List Directive))) (old new : World) (ended : Ended) (j : Judgement) → CanAnswer b states done i u (begun_with key c (Some l)) next old flying still
         → (still l.ticket → IfSome (child_at l.ticket flying) (λ s. LandsAs s old ended new)) → j ≡ judgement_by b.project u ended (answered_of b.project u c ended (file_at (dep_info_of b.project u) new.files))
         → slice_get (outcomes_in b) i ≡ Some (outcome_by (files_in u.out new.files) j.ran)
     landed_gives states done old new ended j can lands is_judged =

@@ -16,7 +16,7 @@ use Rattle.pb_place.specs.declared.child_in_flight.ChildInFlight.{ChildInFlight}
 use Rattle.pb_place.specs.declared.command.Command.{Command}
 use Rattle.pb_place.proofs.Folders.{only_same}
 use Rattle.pb_project.specs.Targets.{unit_at}
-use Rattle.pb_project.specs.declared.fault.UnitFault.{UnitFault}
+use Rattle.pb_answer.specs.declared.bad_unit.BadUnit.{BadUnit}
 use Rattle.pb_project.specs.declared.project.Project.{Project}
 use Rattle.pb_project.specs.declared.project.Setup.{Setup}
 use Rattle.pb_record.specs.declared.record.Record.{Record}
@@ -50,7 +50,7 @@ lies_at project i u folder order at is = order.folders i u at ∙ sym (ap (λ f.
 pub out_lies : (project : Project) (i : ℕ) (u : Planned) (folder : List ℕ) (c : Command) → IsInOrder project → slice_get project.plan.planned i ≡ Some u → folder ≡ records_folder project → IsCommandOf project u c → c.out ≡ Some (out_of folder u.key)
 out_lies project i u folder c order at is (setup, done, asks) = out_asked project setup i u done c order at asks ∙ ap Some (lies_at project i u folder order at is)
 
-module _ (b : Basis) (order : IsInOrder b.project) (i : ℕ) (u : Planned) (at : unit_at b.project i ≡ Some u) (states : List (State UnitFault)) (done : List (Option (List Directive))) (next : Option ℕ) (w : World) (can : CanBegin b states done i u next w) where
+module _ (b : Basis) (order : IsInOrder b.project) (i : ℕ) (u : Planned) (at : unit_at b.project i ≡ Some u) (states : List (State BadUnit)) (done : List (Option (List Directive))) (next : Option ℕ) (w : World) (can : CanBegin b states done i u next w) where
   stand : AllStand b done w u.reaches
   stand = reached_stand b order i u at states done next w can.keeps can.reaches
 
@@ -109,7 +109,7 @@ flying_begun next key OutOfMemory old new may = elim may [
 pub flies_lifted : (ticket t : ℕ) (old new : Starts) (f : ChildInFlight) → IsLifted ticket old new → child_at t old.flying ≡ Some f → child_at t new.flying ≡ Some f
 flies_lifted ticket t old new f lifted there = ap (λ (s : Starts). child_at t s.flying) lifted.lifted ∙ flies_beside t old.flying (lifted.child ∷ []) f there
 
-module _ (b : Basis) (order : IsInOrder b.project) (i : ℕ) (u : Planned) (at : unit_at b.project i ≡ Some u) (states : List (State UnitFault)) (done : List (Option (List Directive))) (next : Option ℕ) (w : World) (can : CanBegin b states done i u next w)
+module _ (b : Basis) (order : IsInOrder b.project) (i : ℕ) (u : Planned) (at : unit_at b.project i ≡ Some u) (states : List (State BadUnit)) (done : List (Option (List Directive))) (next : Option ℕ) (w : World) (can : CanBegin b states done i u next w)
     (other : ℕ) (its : Begun) (flying : List ChildInFlight) (still : ℕ → Type 0) (apart : BeginsApart b states i None other its next w flying still) where
   bad : is_good_at (slice_get states i) ≡ false
   bad = ap is_good_at can.untouched

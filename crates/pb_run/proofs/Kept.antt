@@ -29,7 +29,7 @@ use Rattle.pb_place.specs.declared.command.Command.{Command}
 use Rattle.pb_place.specs.declared.command.Ended.{Ended}
 use Rattle.pb_project.specs.Targets.{dep_info_of, unit_at}
 use Rattle.pb_project.specs.declared.answer.InputName.{InputName}
-use Rattle.pb_project.specs.declared.fault.UnitFault.{UnitFault}
+use Rattle.pb_answer.specs.declared.bad_unit.BadUnit.{BadUnit}
 use Rattle.pb_project.specs.declared.project.Project.{Project}
 use Rattle.pb_record.specs.Sorted.{are_sorted, leads}
 use Rattle.pb_unit.specs.declared.plan.Planned.{Planned}
@@ -110,7 +110,7 @@ flying_follow key OutOfMemory old new may = ap (λ (s : Starts). s.flying) may
 -- The child has landed.
 
 module _ (b : Basis) (order : IsInOrder b.project) (i : ℕ) (u : Planned) (at : unit_at b.project i ≡ Some u) (c : Command) (l : Launched) (next : Option ℕ) (w : World)
-    (flying : List ChildInFlight) (still : ℕ → Type 0) (states : List (State UnitFault)) (done : List (Option (List Directive))) (can : CanAnswer b states done i u (begun_with u.key c (Some l)) next w flying still)
+    (flying : List ChildInFlight) (still : ℕ → Type 0) (states : List (State BadUnit)) (done : List (Option (List Directive))) (can : CanAnswer b states done i u (begun_with u.key c (Some l)) next w flying still)
     (w1 : World) (ends : IfSome (child_at l.ticket flying) (λ s. ChangesOnlyInSome s.command.out w w1)) where
   landed_so : ChangesOnly (is_at_or_below u.out) w w1
   landed_so = landed_only b order i u at u.key c l next flying still w w1 can.begun_so ends
@@ -174,7 +174,7 @@ module _ (b : Basis) (order : IsInOrder b.project) (i : ℕ) (u : Planned) (at :
             (sym (files_kept folder u.key u.out v v2 (subst (λ f. is_path f ≡ true) (sym is_folder) order.folder) (order.keys i u at) (lies_at b.project i u folder order at is_folder) only)) outcome_v
 
         -- what is kept of the build
-        module _ (good : is_some j.ran.fault ≡ false) (names : List InputName) (are : names ≡ j.names) (keeping : Keeping b folder u c l.number names ended next v v2) where
+        module _ (good : is_some j.ran.bad ≡ false) (names : List InputName) (are : names ≡ j.names) (keeping : Keeping b folder u c l.number names ended next v v2) where
           keeping_here : Keeping b (records_folder b.project) u c l.number j.names ended next v v2
           keeping_here = subst (λ f. Keeping b f u c l.number j.names ended next v v2) is_folder (subst (λ ns. Keeping b folder u c l.number ns ended next v v2) are keeping)
 
@@ -182,6 +182,6 @@ module _ (b : Basis) (order : IsInOrder b.project) (i : ℕ) (u : Planned) (at :
           keeps_over = keeps_unkept b order i u at u.key c l next w flying still states done can v landed_v ended j reply_so.0 made_v judged_v good v2 keeping_here
 
           pub keeps_kept : (lines : List ℕ) → Stands b folder u c l.number names ended v v2
-              → Keeps b (slice_set states i (Answered record { fault = j.ran.fault; lines = lines })) (slice_set done i j.ran.directives) next v2
+              → Keeps b (slice_set states i (Answered record { fault = j.ran.bad; lines = lines })) (slice_set done i j.ran.directives) next v2
           keeps_kept lines stands = keeps_good b order i u at u.key c l next w flying still states done can v landed_v ended j reply_so.0 made_v judged_v good v2 keeping_here lines
               (subst (λ f. Stands b f u c l.number j.names ended v v2) is_folder (subst (λ ns. Stands b folder u c l.number ns ended v v2) are stands)) (outcome_kept keeping.only)

@@ -3,6 +3,7 @@ pub mod Causing
 pub mod Commands
 pub mod Ending
 pub mod Halving
+pub mod InTurn
 pub mod Kept
 pub mod Recorded
 pub mod RecordedAnswer

@@ -24,6 +24,7 @@ use Rattle.pb_project.specs.Targets.{unit_at}
 use Rattle.pb_project.specs.declared.answer.Answered.{Answered as answer_type}
 use Rattle.pb_project.specs.declared.answer.InputName.{InputName}
 use Rattle.pb_project.specs.declared.fault.UnitFault.{UnitFault}
+use Rattle.pb_answer.specs.declared.bad_unit.BadUnit.{BadUnit}
 use Rattle.pb_project.specs.declared.fault.UnitFault.TheVariants as unit_fault
 use Rattle.pb_run.specs.Halves.{Footing, OnRecords, OnNothing, Basis, HasRecord, Keeps, IsInFlight, AwaitsBy, IsUnchanged, WaitsBy, CanAnswer, outcomes_in, records_in, command_in, view_in}
 use Rattle.pb_run.specs.Outcome.{outcome_by, outcome_from}
@@ -117,7 +118,7 @@ module _ (b : Basis) (order : IsInOrder b.project) (place : ℕ) (u : Planned) (
 
   -- What a unit that can answer waits for.
 
-  module _ (states : List (State UnitFault)) (done : List (Option (List Directive))) (begun : Begun) (next : Option ℕ) (w : World) (flying : List ChildInFlight) (still : ℕ → Type 0)
+  module _ (states : List (State BadUnit)) (done : List (Option (List Directive))) (begun : Begun) (next : Option ℕ) (w : World) (flying : List ChildInFlight) (still : ℕ → Type 0)
       (can : CanAnswer b states done place u begun next w flying still) where
     its_unit : can.begun_so.unit ≡ u
     its_unit = one can.begun_so.unit u (sym can.begun_so.there ∙ there)
@@ -159,14 +160,14 @@ module _ (b : Basis) (order : IsInOrder b.project) (place : ℕ) (u : Planned) (
           begun = λ untouched. begun_untouched begun_state refl (sym can.state ∙ untouched);
         } sound ahead
       where
-        begun_untouched : (s : State UnitFault) → s ≡ begun_state → Some s ≡ Some Untouched → ⊥
+        begun_untouched : (s : State BadUnit) → s ≡ begun_state → Some s ≡ Some Untouched → ⊥
         begun_untouched s is e = cc
 
     -- after its answer, good or bad: a good one stands, and has its record
     pub keeps_answered : (w' : World) (next' : Option ℕ) (ran : Ran) (lines : List ℕ) → ChangesOnly (is_of Folder u.key) w w'
         → slice_get (outcomes_in b) place ≡ Some (outcome_by (files_in u.out w'.files) ran)
-        → IfRecords b.footing (Sound b.read judge b.child Folder w'.files) → IfRecords b.footing (IsAhead (records_in b w') next') → IfRecords b.footing (ran.fault ≡ None → HasRecord b w' place)
-        → Keeps b (slice_set states place (Answered record { fault = ran.fault; lines = lines })) (slice_set done place ran.directives) next' w'
+        → IfRecords b.footing (Sound b.read judge b.child Folder w'.files) → IfRecords b.footing (IsAhead (records_in b w') next') → IfRecords b.footing (ran.bad ≡ None → HasRecord b w' place)
+        → Keeps b (slice_set states place (Answered record { fault = ran.bad; lines = lines })) (slice_set done place ran.directives) next' w'
     keeps_answered w' next' ran lines only outcome sound ahead recorded =
         keeps_over b order states done place u there begun_bad next w w' can.keeps only (slice_set states place (Answered answer)) (slice_set done place ran.directives) next'
         (λ p apart. get_set_other states place p (Answered answer) (λ e. apart (sym e))) (λ p apart. get_set_other done place p ran.directives (λ e. apart (sym e)))
@@ -187,20 +188,20 @@ module _ (b : Basis) (order : IsInOrder b.project) (place : ℕ) (u : Planned) (
           begun = λ untouched. answered_untouched (Answered answer) refl (sym now ∙ untouched);
         } sound ahead
       where
-        answer : Answer UnitFault
-        answer = record { fault = ran.fault; lines = lines }
+        answer : Answer BadUnit
+        answer = record { fault = ran.bad; lines = lines }
 
         now : slice_get (slice_set states place (Answered answer)) place ≡ Some (Answered answer)
         now = get_set_same states place begun_state (Answered answer) can.state
 
-        none_of : (o : Option UnitFault) → is_none o ≡ true → o ≡ None
+        none_of : (o : Option BadUnit) → is_none o ≡ true → o ≡ None
         none_of None is = refl
-        none_of (Some fault) is = absurd (false≢true is)
+        none_of (Some bad) is = absurd (false≢true is)
 
-        well : is_good_at (slice_get (slice_set states place (Answered answer)) place) ≡ true → ran.fault ≡ None
-        well good = none_of ran.fault (sym (ap is_good_at now) ∙ good)
+        well : is_good_at (slice_get (slice_set states place (Answered answer)) place) ≡ true → ran.bad ≡ None
+        well good = none_of ran.bad (sym (ap is_good_at now) ∙ good)
 
-        answered_untouched : (s : State UnitFault) → s ≡ Answered answer → Some s ≡ Some Untouched → ⊥
+        answered_untouched : (s : State BadUnit) → s ≡ Answered answer → Some s ≡ Some Untouched → ⊥
         answered_untouched s is e = cc
 
         long_enough : place < length states → place < length done
@@ -211,7 +212,7 @@ module _ (b : Basis) (order : IsInOrder b.project) (place : ℕ) (u : Planned) (
         noted_at (y ∷ xs) zero x less = refl
         noted_at (y ∷ xs) (suc i) x less = noted_at xs i x (omega (arith, less))
 
-        recorded_by : (footing : Footing) → IfRecords footing (ran.fault ≡ None → HasRecord b w' place)
+        recorded_by : (footing : Footing) → IfRecords footing (ran.bad ≡ None → HasRecord b w' place)
             → IfRecords footing (is_good_at (slice_get (slice_set states place (Answered answer)) place) ≡ true → HasRecord b w' place)
         recorded_by OnRecords has = λ good. has (well good)
         recorded_by OnNothing has = tt

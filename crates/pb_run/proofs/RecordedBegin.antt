@@ -13,7 +13,7 @@ use Rattle.pb_place.specs.Children.{child_spawned, child_at, inside_out}
 use Rattle.pb_place.specs.World.{World, ChangesOnly, seen_by}
 use Rattle.pb_place.specs.declared.child_in_flight.ChildInFlight.{ChildInFlight}
 use Rattle.pb_project.specs.Targets.{unit_at}
-use Rattle.pb_project.specs.declared.fault.UnitFault.{UnitFault}
+use Rattle.pb_answer.specs.declared.bad_unit.BadUnit.{BadUnit}
 use Rattle.pb_record.specs.declared.record.Record.{Record}
 use Rattle.pb_run.specs.Halves.{Footing, OnRecords, OnNothing, Basis, HasRecord, HoldsBy, Keeps, IsBegun, AwaitsBy, IsUnchanged, WaitsBy, CanBegin, records_in, command_in, view_in}
 use Rattle.pb_run.specs.Standing.{IsInOrder, records_folder}
@@ -30,11 +30,11 @@ use Rattle.pb_soundness.proofs.Ahead.{given_ahead, next_is_new}
 use Rattle.pb_soundness.proofs.Becoming.{none_some}
 use Rattle.pb_unit.specs.declared.plan.Planned.{Planned}
 
-untouched_begun : (s : State UnitFault) → s ≡ begun_state → Some s ≡ Some Untouched → ⊥
+untouched_begun : (s : State BadUnit) → s ≡ begun_state → Some s ≡ Some Untouched → ⊥
 untouched_begun s is e = cc
 
 -- by what a build rests on
-pub by_footing : (footing : Footing) (b : Basis) (states : List (State UnitFault)) (next : Option ℕ) (w : World) (Fact : Type 0) → HoldsBy footing b states next w
+pub by_footing : (footing : Footing) (b : Basis) (states : List (State BadUnit)) (next : Option ℕ) (w : World) (Fact : Type 0) → HoldsBy footing b states next w
     → (Sound b.read judge b.child (records_folder b.project) w.files → IsAhead (records_in b w) next → Fact) → IfRecords footing Fact
 by_footing OnRecords b states next w Fact holds gives = gives holds.sound holds.ahead
 by_footing OnNothing b states next w Fact holds gives = tt
@@ -43,7 +43,7 @@ pub never_by : (footing : Footing) (Given Fact : Type 0) → (Given → ⊥) →
 never_by OnRecords Given Fact never = λ given. absurd (never given)
 never_by OnNothing Given Fact never = tt
 
-module _ (b : Basis) (order : IsInOrder b.project) (states : List (State UnitFault)) (done : List (Option (List Directive))) (place : ℕ) (u : Planned) (there : unit_at b.project place ≡ Some u)
+module _ (b : Basis) (order : IsInOrder b.project) (states : List (State BadUnit)) (done : List (Option (List Directive))) (place : ℕ) (u : Planned) (there : unit_at b.project place ≡ Some u)
     (next : Option ℕ) (w w' : World) (only : ChangesOnly (is_of (records_folder b.project) u.key) w w') where
   -- a unit that is not good is not reached by itself
   pub own_far : is_good_at (slice_get states place) ≡ false → are_good states u.reaches ≡ true → (p : ℕ) → Contains u.reaches p → p ≢ place

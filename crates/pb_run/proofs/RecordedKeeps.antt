@@ -9,7 +9,7 @@ use Rattle.pb_flight.specs.declared.flight.State.TheVariants.{Untouched}
 use Rattle.pb_flight.specs.Table.{is_good_at, are_good}
 use Rattle.pb_place.specs.World.{World, Map, Answers, ChangesOnly}
 use Rattle.pb_project.specs.Targets.{unit_at}
-use Rattle.pb_project.specs.declared.fault.UnitFault.{UnitFault}
+use Rattle.pb_answer.specs.declared.bad_unit.BadUnit.{BadUnit}
 use Rattle.pb_record.specs.declared.record.Needed.{Needed}
 use Rattle.pb_record.specs.declared.record.Needed.TheVariants.{Copies, Numbers}
 use Rattle.pb_record.specs.declared.record.Record.{Record}
@@ -37,7 +37,7 @@ rests_by judge child folder at files key r n (Numbers m needs) says is ground = 
 
 -- Of the records of good units.
 
-module _ (b : Basis) (order : IsInOrder b.project) (states : List (State UnitFault)) (next : Option ℕ) (w : World) (holds : HoldsRecords b states next w) where
+module _ (b : Basis) (order : IsInOrder b.project) (states : List (State BadUnit)) (next : Option ℕ) (w : World) (holds : HoldsRecords b states next w) where
   abbrev At : Standing
   At = records_in b w
 
@@ -97,13 +97,13 @@ module _ (b : Basis) (order : IsInOrder b.project) (states : List (State UnitFau
 -- What is asked of the unit itself afterwards.
 
 -- where it is good: it stands, what it reaches is good, and it has its record; and it has begun
-pub record IsAfter (b : Basis) (states states' : List (State UnitFault)) (done' : List (Option (List Directive))) (place : ℕ) (u : Planned) (w' : World) : Type 0 where
+pub record IsAfter (b : Basis) (states states' : List (State BadUnit)) (done' : List (Option (List Directive))) (place : ℕ) (u : Planned) (w' : World) : Type 0 where
   pub stands : is_good_at (slice_get states' place) ≡ true → StandsGood b done' w' place
   pub reaches : is_good_at (slice_get states' place) ≡ true → are_good states u.reaches ≡ true
   pub recorded : IfRecords b.footing (is_good_at (slice_get states' place) ≡ true → HasRecord b w' place)
   pub begun : slice_get states' place ≡ Some Untouched → ⊥
 
-module _ (b : Basis) (order : IsInOrder b.project) (states : List (State UnitFault)) (done : List (Option (List Directive))) (place : ℕ) (u : Planned) (there : unit_at b.project place ≡ Some u) (bad : is_good_at (slice_get states place) ≡ false)
+module _ (b : Basis) (order : IsInOrder b.project) (states : List (State BadUnit)) (done : List (Option (List Directive))) (place : ℕ) (u : Planned) (there : unit_at b.project place ≡ Some u) (bad : is_good_at (slice_get states place) ≡ false)
     (next : Option ℕ) (w w' : World) (keeps : Keeps b states done next w) (only : ChangesOnly (is_of (records_folder b.project) u.key) w w') where
   good_apart : (p : ℕ) → is_good_at (slice_get states p) ≡ true → p ≢ place
   good_apart p good e = false≢true (sym bad ∙ ap (λ q. is_good_at (slice_get states q)) (sym e) ∙ good)
@@ -151,7 +151,7 @@ module _ (b : Basis) (order : IsInOrder b.project) (states : List (State UnitFau
             (command_in b p h.unit) h.kept (command_for b.project order b p h.unit (command_in b p h.unit) refl h.there refl) holds.sound h.same;
       }
 
-  module _ (states' : List (State UnitFault)) (done' : List (Option (List Directive))) (next' : Option ℕ)
+  module _ (states' : List (State BadUnit)) (done' : List (Option (List Directive))) (next' : Option ℕ)
       (others : (p : ℕ) → p ≢ place → slice_get states' p ≡ slice_get states p) (noted : (p : ℕ) → p ≢ place → slice_get done' p ≡ slice_get done p) (long : length done' ≡ length states')
       (this : IsAfter b states states' done' place u w') where
     was_good : (p : ℕ) → p ≢ place → is_good_at (slice_get states' p) ≡ true → is_good_at (slice_get states p) ≡ true

@@ -12,7 +12,7 @@ use Rattle.pb_place.specs.declared.command.Command.{Command}
 use Rattle.pb_place.specs.declared.command.Ended.{Ended}
 use Rattle.pb_project.specs.Targets.{unit_at}
 use Rattle.pb_project.specs.declared.answer.InputName.{InputName}
-use Rattle.pb_project.specs.declared.fault.UnitFault.{UnitFault}
+use Rattle.pb_answer.specs.declared.bad_unit.BadUnit.{BadUnit}
 use Rattle.pb_record.specs.declared.record.Input.{Input}
 use Rattle.pb_record.specs.declared.record.Record.{Record}
 use Rattle.pb_run.specs.Halves.{Footing, OnRecords, OnNothing, Basis, HasRecord, HoldsRecords, HoldsBy, AwaitsRecord, AwaitsBy, CanAnswer, command_in, needed_keys, records_in, view_in}
@@ -48,7 +48,7 @@ put_over old new folder key r number others here numbered_r ungrounded names gro
     (names.less need n has, subst (Grounded old need) (one m n (sym (grounded_number old need m s ground stands) ∙ numbered_s)) ground))
 
 module _ (b : Basis) (order : IsInOrder b.project) (place : ℕ) (u : Planned) (there : unit_at b.project place ≡ Some u)
-    (states : List (State UnitFault)) (done : List (Option (List Directive))) (begun : Begun) (next : Option ℕ) (w : World) (flying : List ChildInFlight) (still : ℕ → Type 0)
+    (states : List (State BadUnit)) (done : List (Option (List Directive))) (begun : Begun) (next : Option ℕ) (w : World) (flying : List ChildInFlight) (still : ℕ → Type 0)
     (can : CanAnswer b states done place u begun next w flying still) (w1 : World) (landed : ChangesOnly (is_at_or_below u.out) w w1) where
   abbrev Folder : List ℕ
   Folder = records_folder b.project

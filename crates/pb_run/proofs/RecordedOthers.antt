@@ -19,7 +19,7 @@ use Rattle.pb_place.specs.declared.command.Command.{Command}
 use Rattle.pb_project.specs.Targets.{unit_at}
 use Rattle.pb_project.specs.declared.answer.InputName.{InputName}
 use Rattle.pb_project.specs.declared.answer.InputName.TheVariants.{Path, Variable}
-use Rattle.pb_project.specs.declared.fault.UnitFault.{UnitFault}
+use Rattle.pb_answer.specs.declared.bad_unit.BadUnit.{BadUnit}
 use Rattle.pb_record.specs.declared.record.Input.{Input}
 use Rattle.pb_record.specs.declared.record.Needed.{Needed}
 use Rattle.pb_record.specs.declared.record.Needed.TheVariants.{Copies, Numbers}
@@ -200,7 +200,7 @@ module _ (b : Basis) (order : IsInOrder b.project) (place : ℕ) (u : Planned) (
       needed = needed_still c for r r.needed (sound.each v.key r is.stands).says (sym (ap (λ (d : Command). d.reads) is.asked)) is.needed;
     }
 
-    pub unchanged_by : (footing : Footing) (states : List (State UnitFault)) (next : Option ℕ) (c : Command) → IsFor b.project v c → HoldsBy footing b states next w → IsUnchanged footing b v c w → IsUnchanged footing b v c w'
+    pub unchanged_by : (footing : Footing) (states : List (State BadUnit)) (next : Option ℕ) (c : Command) → IsFor b.project v c → HoldsBy footing b states next w → IsUnchanged footing b v c w → IsUnchanged footing b v c w'
     unchanged_by OnRecords states next c for holds (r, is) = (r, same_still c r for holds.sound is)
     unchanged_by OnNothing states next c for holds is = is
 
@@ -225,7 +225,7 @@ module _ (b : Basis) (order : IsInOrder b.project) (place : ℕ) (u : Planned) (
       stands = stands_on (flight_still c t flying is.spawned for is.flies) is.stands;
     }
 
-    pub waits_still : (c : Command) (view : World) (launched : Option Launched) (states : List (State UnitFault)) (next next' given : Option ℕ) (flying flying' : List ChildInFlight) (still still' : ℕ → Type 0)
+    pub waits_still : (c : Command) (view : World) (launched : Option Launched) (states : List (State BadUnit)) (next next' given : Option ℕ) (flying flying' : List ChildInFlight) (still still' : ℕ → Type 0)
         → IsFor b.project v c → HoldsBy b.footing b states next w → TakesNumber next next' → IfRecords b.footing (Left At At' u.key given)
         → ((theirs : Launched) → launched ≡ Some theirs → given ≢ Some theirs.number)
         → ((theirs : Launched) → launched ≡ Some theirs → (its : ChildInFlight) → child_at theirs.ticket flying ≡ Some its → child_at theirs.ticket flying' ≡ Some its)
@@ -238,11 +238,11 @@ module _ (b : Basis) (order : IsInOrder b.project) (place : ℕ) (u : Planned) (
     )
 
 -- a good unit is not this one, which is not good
-pub far_of : (states : List (State UnitFault)) (place : ℕ) (places : List ℕ) → is_good_at (slice_get states place) ≡ false → are_good states places ≡ true → (p : ℕ) → Contains places p → p ≢ place
+pub far_of : (states : List (State BadUnit)) (place : ℕ) (places : List ℕ) → is_good_at (slice_get states place) ≡ false → are_good states places ≡ true → (p : ℕ) → Contains places p → p ≢ place
 far_of states place places bad good p has e = false≢true (sym bad ∙ ap (λ q. is_good_at (slice_get states q)) (sym e) ∙ all_at (λ q. is_good_at (slice_get states q)) places p good has)
 
 -- another unit that has begun stays so
-pub stays_begun : (b : Basis) (order : IsInOrder b.project) (states : List (State UnitFault)) (done : List (Option (List Directive))) (place : ℕ) (u : Planned) (launched : Option Launched) (other : ℕ) (its : Begun)
+pub stays_begun : (b : Basis) (order : IsInOrder b.project) (states : List (State BadUnit)) (done : List (Option (List Directive))) (place : ℕ) (u : Planned) (launched : Option Launched) (other : ℕ) (its : Begun)
     (next next' given : Option ℕ) (w w' : World) (flying flying' : List ChildInFlight) (still still' : ℕ → Type 0)
     → unit_at b.project place ≡ Some u → is_good_at (slice_get states place) ≡ false → Keeps b states done next w
     → BeginsApart b states place launched other its next w flying still

@@ -12,7 +12,7 @@ use Rattle.pb_place.specs.declared.child.Reply.{Reply}
 use Rattle.pb_place.specs.declared.child_in_flight.ChildInFlight.{ChildInFlight}
 use Rattle.pb_place.specs.declared.command.Command.{Command}
 use Rattle.pb_project.specs.Targets.{unit_at}
-use Rattle.pb_project.specs.declared.fault.UnitFault.{UnitFault}
+use Rattle.pb_answer.specs.declared.bad_unit.BadUnit.{BadUnit}
 use Rattle.pb_record.specs.declared.record.Input.{Input}
 use Rattle.pb_record.specs.declared.record.Record.{Record}
 use Rattle.pb_run.specs.Halves.{Footing, OnRecords, OnNothing, Basis, HasRecord, HoldsRecords, HoldsBy, AwaitsBy, IsUnchanged, WaitsBy, CanAnswer, BeginsApart, command_in, needed_keys, records_in, view_in}
@@ -49,7 +49,7 @@ next_apart (Some n) number before e = not_less n number before (one n number e)
     not_less m k less is = omega (arith, less, is)
 
 module _ (b : Basis) (order : IsInOrder b.project) (place : ℕ) (u : Planned) (there : unit_at b.project place ≡ Some u)
-    (states : List (State UnitFault)) (done : List (Option (List Directive))) (begun : Begun) (next : Option ℕ) (w : World) (flying : List ChildInFlight) (still : ℕ → Type 0)
+    (states : List (State BadUnit)) (done : List (Option (List Directive))) (begun : Begun) (next : Option ℕ) (w : World) (flying : List ChildInFlight) (still : ℕ → Type 0)
     (can : CanAnswer b states done place u begun next w flying still) where
   abbrev Folder : List ℕ
   Folder = records_folder b.project
@@ -219,7 +219,7 @@ module _ (b : Basis) (order : IsInOrder b.project) (place : ℕ) (u : Planned) (
     left_migrated OnNothing holds same left = tt
 
 -- where a unit has no child, the number that its record may get is none that another has
-pub numbers_apart : (b : Basis) (u : Planned) (c : Command) (states : List (State UnitFault)) (place : ℕ) (launched : Option Launched) (other : ℕ) (its : Begun) (next : Option ℕ) (w : World) (flying : List ChildInFlight) (still : ℕ → Type 0)
+pub numbers_apart : (b : Basis) (u : Planned) (c : Command) (states : List (State BadUnit)) (place : ℕ) (launched : Option Launched) (other : ℕ) (its : Begun) (next : Option ℕ) (w : World) (flying : List ChildInFlight) (still : ℕ → Type 0)
     → IsUnchanged b.footing b u c w → BeginsApart b states place launched other its next w flying still → (theirs : Launched) → its.launched ≡ Some theirs → next ≢ Some theirs.number
 numbers_apart b u c states place launched other its next w flying still same apart theirs is =
     by_footing b.footing same (subst (λ (o : Option Launched). WaitsBy b apart.begun_so.unit its.command (view_in b other apart.begun_so.unit) o next w flying still) is apart.begun_so.waits).1

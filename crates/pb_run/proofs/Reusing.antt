@@ -21,7 +21,7 @@ use Rattle.pb_place.specs.declared.command.Command.{Command}
 use Rattle.pb_place.specs.declared.command.Ended.{Ended}
 use Rattle.pb_place.proofs.Folders.{only_same}
 use Rattle.pb_project.specs.Targets.{dep_info_of, unit_at}
-use Rattle.pb_project.specs.declared.fault.UnitFault.{UnitFault}
+use Rattle.pb_answer.specs.declared.bad_unit.BadUnit.{BadUnit}
 use Rattle.pb_project.specs.declared.project.Project.{Project}
 use Rattle.pb_record.specs.declared.record.Record.{Record}
 use Rattle.pb_unit.specs.declared.plan.Planned.{Planned}
@@ -113,11 +113,11 @@ no_child l o Fact is none = absurd (some_none (sym is ∙ none))
     some_none : Some l ≡ None → ⊥
     some_none e = cc
 
-pub bad_unstarted : (ran its : Ran) → ran ≡ unstarted its → is_some its.fault ≡ true → is_some ran.fault ≡ true
-bad_unstarted ran its is bad = ap (λ (r : Ran). is_some r.fault) is ∙ bad
+pub bad_unstarted : (ran its : Ran) → ran ≡ unstarted its → is_some its.bad ≡ true → is_some ran.bad ≡ true
+bad_unstarted ran its is bad = ap (λ (r : Ran). is_some r.bad) is ∙ bad
 
 module _ (b : Basis) (order : IsInOrder b.project) (i : ℕ) (u : Planned) (at : unit_at b.project i ≡ Some u) (key : List ℕ) (c : Command) (next : Option ℕ) (w : World)
-    (flying : List ChildInFlight) (still : ℕ → Type 0) (states : List (State UnitFault)) (done : List (Option (List Directive))) (can : CanAnswer b states done i u (begun_with key c None) next w flying still) where
+    (flying : List ChildInFlight) (still : ℕ → Type 0) (states : List (State BadUnit)) (done : List (Option (List Directive))) (can : CanAnswer b states done i u (begun_with key c None) next w flying still) where
   abbrev begun : Begun
   begun = begun_with key c None
 
@@ -186,16 +186,16 @@ module _ (b : Basis) (order : IsInOrder b.project) (i : ℕ) (u : Planned) (at :
   ahead_of OnRecords holds = holds.ahead
   ahead_of OnNothing holds = tt
 
-  keeps_bad_here : (ran : Ran) (lines : List ℕ) → is_some ran.fault ≡ true → slice_get (outcomes_in b) i ≡ Some (outcome_by (files_in u.out w.files) ran)
-      → Keeps b (slice_set states i (Answered record { fault = ran.fault; lines = lines })) (slice_set done i ran.directives) next w
+  keeps_bad_here : (ran : Ran) (lines : List ℕ) → is_some ran.bad ≡ true → slice_get (outcomes_in b) i ≡ Some (outcome_by (files_in u.out w.files) ran)
+      → Keeps b (slice_set states i (Answered record { fault = ran.bad; lines = lines })) (slice_set done i ran.directives) next w
   keeps_bad_here ran lines bad outcome = keeps_answered b order i u at states done begun next w flying still can w next ran lines (only_same _ w) outcome
       (sound_of b.footing can.keeps.records) (ahead_of b.footing can.keeps.records)
-      (if_records b.footing (ran.fault ≡ None → HasRecord b w i) (λ good. absurd (not_none ran.fault bad good)))
+      (if_records b.footing (ran.bad ≡ None → HasRecord b w i) (λ good. absurd (not_none ran.bad bad good)))
 
-  pub keeps_bad_again : (w' : World) (ran : Ran) (lines : List ℕ) → w' ≡ w → is_some ran.fault ≡ true → slice_get (outcomes_in b) i ≡ Some (outcome_by (files_in u.out w'.files) ran)
-      → Keeps b (slice_set states i (Answered record { fault = ran.fault; lines = lines })) (slice_set done i ran.directives) next w'
+  pub keeps_bad_again : (w' : World) (ran : Ran) (lines : List ℕ) → w' ≡ w → is_some ran.bad ≡ true → slice_get (outcomes_in b) i ≡ Some (outcome_by (files_in u.out w'.files) ran)
+      → Keeps b (slice_set states i (Answered record { fault = ran.bad; lines = lines })) (slice_set done i ran.directives) next w'
   keeps_bad_again w' ran lines same bad outcome =
-      subst (Keeps b (slice_set states i (Answered record { fault = ran.fault; lines = lines })) (slice_set done i ran.directives) next) (sym same)
+      subst (Keeps b (slice_set states i (Answered record { fault = ran.bad; lines = lines })) (slice_set done i ran.directives) next) (sym same)
       (keeps_bad_here ran lines bad (subst (λ (v : World). slice_get (outcomes_in b) i ≡ Some (outcome_by (files_in u.out v.files) ran)) same outcome))
 
   module _ (w' : World) (next' : Option ℕ) (renews : Renewing b (records_folder b.project) u c next next' w w') where
@@ -212,9 +212,9 @@ module _ (b : Basis) (order : IsInOrder b.project) (i : ℕ) (u : Planned) (at :
     keeps_unrenewed = keeps_fault b order i u at states done begun next w flying still can w' next' only_new sound_new ahead_new
 
     pub keeps_renewed : (ran : Ran) (lines : List ℕ) → Renewed b (records_folder b.project) u next w w' → slice_get (outcomes_in b) i ≡ Some (outcome_by (files_in u.out w'.files) ran)
-        → Keeps b (slice_set states i (Answered record { fault = ran.fault; lines = lines })) (slice_set done i ran.directives) next' w'
+        → Keeps b (slice_set states i (Answered record { fault = ran.bad; lines = lines })) (slice_set done i ran.directives) next' w'
     keeps_renewed ran lines renewed outcome = keeps_answered b order i u at states done begun next w flying still can w' next' ran lines only_new outcome sound_new ahead_new
-        (on_good b.footing (ran.fault ≡ None) (HasRecord b w' i)
+        (on_good b.footing (ran.bad ≡ None) (HasRecord b w' i)
         (migrated_record b order i u at states done begun next w flying still can w' next' renews.only b.footing can.keeps.records same_now renewed.stands renewed.numbered_now))
 
     -- another unit that has begun
@@ -242,6 +242,6 @@ begun_parts begun key launched named is = ap (λ (k : List ℕ). begun_with k be
 
 module _ (b : Basis) (i : ℕ) (begun : Begun) (next : Option ℕ) (w : World) (flying : List ChildInFlight) (still : ℕ → Type 0) (key : List ℕ) (launched : Option Launched)
     (named : begun.unit ≡ key) (is : begun.launched ≡ launched) where
-  pub can_by_parts : (states : List (State UnitFault)) (done : List (Option (List Directive))) (u : Planned) → CanAnswer b states done i u begun next w flying still
+  pub can_by_parts : (states : List (State BadUnit)) (done : List (Option (List Directive))) (u : Planned) → CanAnswer b states done i u begun next w flying still
       → CanAnswer b states done i u (begun_with key begun.command launched) next w flying still
   can_by_parts states done u can = subst (λ (x : Begun). CanAnswer b states done i u x next w flying still) (begun_parts begun key launched named is) can

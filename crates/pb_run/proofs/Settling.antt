@@ -24,6 +24,7 @@ use Rattle.pb_project.specs.Targets.{crate_name_of, dep_info_of, unit_at}
 use Rattle.pb_project.specs.declared.answer.Answered as answers
 use Rattle.pb_project.specs.declared.answer.InputName.{InputName}
 use Rattle.pb_project.specs.declared.fault.UnitFault.{UnitFault}
+use Rattle.pb_answer.specs.declared.bad_unit.BadUnit.{BadUnit}
 use Rattle.pb_project.specs.declared.project.Project.{Project}
 use Rattle.pb_unit.specs.declared.plan.Planned.{Planned}
 use Rattle.pb_run.specs.Halves.{Footing, OnRecords, OnNothing, Basis, AwaitsBy, BeginsApart, CanAnswer, HasRecord, IsBegun, Keeps, begun_with, command_in, needed_keys, outcomes_in, records_in, view_in}
@@ -47,7 +48,7 @@ use Rattle.pb_soundness.specs.Sound.{Sound}
 use Rattle.pb_store.specs.Keeping.{HasNeeds, IsKept, kept_of, numbered}
 
 -- a good judgement has the names of its inputs
-good_names : (project : Project) (u : Planned) (e : Ended) (a : Result answers.Answered UnitFault) → (ran_by project u e a).fault ≡ None → inputs_if a ≡ Some (names_in a)
+good_names : (project : Project) (u : Planned) (e : Ended) (a : Result answers.Answered UnitFault) → (ran_by project u e a).bad ≡ None → inputs_if a ≡ Some (names_in a)
 good_names project u e (Ok answered) good = refl
 good_names project u e (Err fault) good = cc
 
@@ -74,7 +75,7 @@ Stands b folder u c number names ended w1 w2 =
     record_at b.read folder w2.files u.key ≡ Some (kept_of folder u.key c (map (input_in c.target w1) names) number (numbered (record_at b.read folder w1.files) (needed_keys b.project u)) ended)
 
 module _ (b : Basis) (order : IsInOrder b.project) (i : ℕ) (u : Planned) (at : unit_at b.project i ≡ Some u) (key : List ℕ) (c : Command) (l : Launched) (next : Option ℕ) (w : World)
-    (flying : List ChildInFlight) (still : ℕ → Type 0) (states : List (State UnitFault)) (done : List (Option (List Directive))) (can : CanAnswer b states done i u (begun_with key c (Some l)) next w flying still)
+    (flying : List ChildInFlight) (still : ℕ → Type 0) (states : List (State BadUnit)) (done : List (Option (List Directive))) (can : CanAnswer b states done i u (begun_with key c (Some l)) next w flying still)
     (w1 : World) (landed : ChangesOnly (is_at_or_below u.out) w w1) where
   abbrev begun : Begun
   begun = begun_with key c (Some l)
@@ -99,15 +100,15 @@ module _ (b : Basis) (order : IsInOrder b.project) (i : ℕ) (u : Planned) (at :
   keeps_landed w' same = subst (Keeps b states done next) (sym same) (keeps_fault b order i u at states done begun next w flying still can w1 next only_now sound_now ahead_now)
 
   -- a bad answer
-  keeps_bad_now : (ran : Ran) (lines : List ℕ) → is_some ran.fault ≡ true → slice_get (outcomes_in b) i ≡ Some (outcome_by (files_in u.out w1.files) ran)
-      → Keeps b (slice_set states i (Answered record { fault = ran.fault; lines = lines })) (slice_set done i ran.directives) next w1
+  keeps_bad_now : (ran : Ran) (lines : List ℕ) → is_some ran.bad ≡ true → slice_get (outcomes_in b) i ≡ Some (outcome_by (files_in u.out w1.files) ran)
+      → Keeps b (slice_set states i (Answered record { fault = ran.bad; lines = lines })) (slice_set done i ran.directives) next w1
   keeps_bad_now ran lines bad outcome = keeps_answered b order i u at states done begun next w flying still can w1 next ran lines only_now outcome sound_now ahead_now
-      (if_records b.footing (ran.fault ≡ None → HasRecord b w1 i) (λ good. absurd (not_none ran.fault bad good)))
+      (if_records b.footing (ran.bad ≡ None → HasRecord b w1 i) (λ good. absurd (not_none ran.bad bad good)))
 
-  pub keeps_bad : (w' : World) (ran : Ran) (lines : List ℕ) → w' ≡ w1 → is_some ran.fault ≡ true → slice_get (outcomes_in b) i ≡ Some (outcome_by (files_in u.out w'.files) ran)
-      → Keeps b (slice_set states i (Answered record { fault = ran.fault; lines = lines })) (slice_set done i ran.directives) next w'
+  pub keeps_bad : (w' : World) (ran : Ran) (lines : List ℕ) → w' ≡ w1 → is_some ran.bad ≡ true → slice_get (outcomes_in b) i ≡ Some (outcome_by (files_in u.out w'.files) ran)
+      → Keeps b (slice_set states i (Answered record { fault = ran.bad; lines = lines })) (slice_set done i ran.directives) next w'
   keeps_bad w' ran lines same bad outcome =
-      subst (Keeps b (slice_set states i (Answered record { fault = ran.fault; lines = lines })) (slice_set done i ran.directives) next) (sym same)
+      subst (Keeps b (slice_set states i (Answered record { fault = ran.bad; lines = lines })) (slice_set done i ran.directives) next) (sym same)
       (keeps_bad_now ran lines bad (subst (λ (v : World). slice_get (outcomes_in b) i ≡ Some (outcome_by (files_in u.out v.files) ran)) same outcome))
 
   -- its answer is that of the unit's view
@@ -121,7 +122,7 @@ module _ (b : Basis) (order : IsInOrder b.project) (i : ℕ) (u : Planned) (at :
   reply = b.child (command_in b i u) (view_in b i u)
 
   module _ (ended : Ended) (j : Judgement) (is_ended : ended ≡ ended_by reply) (made : files_in u.out w1.files ≡ replied_files u.out reply)
-      (is_judged : j ≡ judgement_by b.project u ended (answered_of b.project u c ended (file_at (dep_info_of b.project u) w1.files))) (good : is_some j.ran.fault ≡ false) where
+      (is_judged : j ≡ judgement_by b.project u ended (answered_of b.project u c ended (file_at (dep_info_of b.project u) w1.files))) (good : is_some j.ran.bad ≡ false) where
     answered_so : answered_of b.project u c ended (file_at (dep_info_of b.project u) w1.files) ≡ answered_of b.project u (command_in b i u) (ended_by reply) (file_at (dep_info_of b.project u) (replied_files u.out reply))
     answered_so =
         ap (λ (d : Command). answered_of b.project u d ended (file_at (dep_info_of b.project u) w1.files)) is_command
@@ -133,7 +134,7 @@ module _ (b : Basis) (order : IsInOrder b.project) (i : ℕ) (u : Planned) (at :
     its_names =
         judges_as_answered b.setup b.project u (directives_of (take i (outcomes_in b))) order.selection i reply order.settled order.planned at
         ∙ sym (ap inputs_if answered_so)
-        ∙ good_names b.project u ended (answered_of b.project u c ended (file_at (dep_info_of b.project u) w1.files)) (sym (ap (λ (x : Judgement). x.ran.fault) is_judged) ∙ no_some j.ran.fault good)
+        ∙ good_names b.project u ended (answered_of b.project u c ended (file_at (dep_info_of b.project u) w1.files)) (sym (ap (λ (x : Judgement). x.ran.bad) is_judged) ∙ no_some j.ran.bad good)
         ∙ sym (ap (λ (x : Judgement). Some x.names) is_judged)
 
     replies : b.child c (view_in b i u) ≡ reply
@@ -164,9 +165,9 @@ module _ (b : Basis) (order : IsInOrder b.project) (i : ℕ) (u : Planned) (at :
 
       -- a good answer
       pub keeps_good : (lines : List ℕ) → Stands b (records_folder b.project) u c l.number j.names ended w1 w2 → slice_get (outcomes_in b) i ≡ Some (outcome_by (files_in u.out w2.files) j.ran)
-          → Keeps b (slice_set states i (Answered record { fault = j.ran.fault; lines = lines })) (slice_set done i j.ran.directives) next w2
+          → Keeps b (slice_set states i (Answered record { fault = j.ran.bad; lines = lines })) (slice_set done i j.ran.directives) next w2
       keeps_good lines stands outcome = keeps_answered b order i u at states done begun next w flying still can w2 next j.ran lines only_kept outcome sound_kept ahead_kept
-          (on_good b.footing (j.ran.fault ≡ None) (HasRecord b w2 i)
+          (on_good b.footing (j.ran.bad ≡ None) (HasRecord b w2 i)
           (kept_record b order i u at states done begun next w flying still can w1 landed w2 kept.only b.footing l.number j.names ended can.keeps.records waits stands))
 
   -- Another unit that has begun.
@@ -214,7 +215,7 @@ module _ (b : Basis) (order : IsInOrder b.project) (i : ℕ) (u : Planned) (at :
   dropped_only : IsBegun b i begun next w flying still → IfSome (child_at l.ticket flying) (λ s. ChangesOnlyInSome s.command.out w w1) → ChangesOnly (is_at_or_below u.out) w w1
   dropped_only is_begun only = landed_only b order i u at begun.unit begun.command l next flying still w w1 (subst (λ (x : Begun). IsBegun b i x next w flying still) as_parts is_begun) only
 
-  module _ (states : List (State UnitFault)) (done : List (Option (List Directive))) (can : CanAnswer b states done i u begun next w flying still) (only : IfSome (child_at l.ticket flying) (λ s. ChangesOnlyInSome s.command.out w w1)) where
+  module _ (states : List (State BadUnit)) (done : List (Option (List Directive))) (can : CanAnswer b states done i u begun next w flying still) (only : IfSome (child_at l.ticket flying) (λ s. ChangesOnlyInSome s.command.out w w1)) where
     can_parts : CanAnswer b states done i u (begun_with begun.unit begun.command (Some l)) next w flying still
     can_parts = subst (λ (x : Begun). CanAnswer b states done i u x next w flying still) as_parts can
 

@@ -1,5 +1,5 @@
 -- Why a step of a build ends with a fault: which call failed, with which fault, after how many starts.
-use Rattle.std.specs.Prelude.{◌≡◌, ◌≢◌, ◌⊎◌, ◌++◌, ◌∷◌, [], ℕ, false, IsSome, List, Option, Some, None, IfErr, Result, MatchResult}
+use Rattle.std.specs.Prelude.{◌≡◌, ◌≢◌, ◌⊎◌, ◌++◌, ◌∷◌, [], ℕ, Bool, true, false, IsSome, List, Option, Some, None, IfErr, Result, MatchResult}
 use Rattle.pb_place.specs.Children.{is_flying}
 use Rattle.pb_place.specs.Counts.{Counts, Starts, up, up_starts, without, counted_finish}
 use Rattle.pb_place.specs.declared.child_in_flight.ChildInFlight.{ChildInFlight}
@@ -11,8 +11,9 @@ use Rattle.pb_place.specs.declared.place.PlaceFault.TheVariants as place
 use Rattle.pb_place.specs.declared.place.StartFault.{StartFault}
 use Rattle.pb_place.specs.declared.place.StartFault.TheVariants as start
 use Rattle.pb_answer.specs.declared.fault.BuildFault.{BuildFault}
-use Rattle.pb_run.specs.declared.begun.Begun.{Begun}
+use Rattle.pb_run.specs.declared.begun.Beginning.{Beginning}
 use Rattle.pb_run.specs.declared.begun.Launched.{Launched}
+use Rattle.pb_run.specs.declared.halves.Run.{Run}
 use Rattle.pb_store.specs.declared.fault.StoreFault.{StoreFault}
 use Rattle.pb_store.specs.declared.fault.StoreFault.TheVariants as store
 use Rattle.pb_answer.specs.declared.fault.DeviceFault.TheVariants.{Place, NumbersSpent}
@@ -94,24 +95,6 @@ MayRead key (Device unit fault) old new = (unit ≡ key) × (fault ≡ Place pla
 MayRead key Sink old new = ⊥
 MayRead key OutOfMemory old new = new ≡ old
 
--- of one that removes them, and then starts the unit's child
-abbrev pub MayBegin : List ℕ → BuildFault → Starts → Starts → Type 0
-MayBegin key (Plan refusal) old new = ⊥
-MayBegin key Toolchain old new = ⊥
-MayBegin key (Child unit fault) old new = (unit ≡ key) × (new ≡ up_starts old)
-MayBegin key (Device unit fault) old new = (unit ≡ key) × (fault ≡ Place place.Remove) × (new ≡ old)
-MayBegin key Sink old new = ⊥
-MayBegin key OutOfMemory old new = (new ≡ old) ⊎ (new ≡ up_starts old)
-
--- and of a unit's run: its files are removed, its child is started, its dep-info is read
-abbrev pub MayRun : List ℕ → BuildFault → Starts → Starts → Type 0
-MayRun key (Plan refusal) old new = ⊥
-MayRun key Toolchain old new = ⊥
-MayRun key (Child unit fault) old new = (unit ≡ key) × (new ≡ up_starts old)
-MayRun key (Device unit fault) old new = (unit ≡ key) × (((fault ≡ Place place.Remove) × (new ≡ old)) ⊎ ((fault ≡ Place place.Read) × (new ≡ up_starts old)))
-MayRun key Sink old new = ⊥
-MayRun key OutOfMemory old new = (new ≡ old) ⊎ (new ≡ up_starts old)
-
 -- The halves of a unit's run.
 
 -- a child of this ticket flies beside those that flew
@@ -130,8 +113,8 @@ abbrev pub LandsBy : Option Launched → Starts → Starts → Type 0
 LandsBy None old new = new ≡ old
 LandsBy (Some launched) old new = new ≡ record old { flying = without launched.ticket old.flying }
 
-abbrev pub Begins : Begun → Starts → Starts → Type 0
-Begins begun old new = BeginsBy begun.launched old new
+abbrev pub Begins : Beginning → Starts → Starts → Type 0
+Begins made old new = BeginsBy made.begun.launched old new
 
 abbrev pub Lands : {T : Type 0} → Option Launched → T → Starts → Starts → Type 0
 Lands launched x old new = LandsBy launched old new
@@ -170,3 +153,23 @@ MayAnswerUnit next key launched (Device unit (Place fault)) old new = (unit ≡ 
 MayAnswerUnit next key launched (Device unit NumbersSpent) old new = (unit ≡ key) × (next ≡ None) × (launched ≡ None) × (new ≡ old)
 MayAnswerUnit next key launched Sink old new = ⊥
 MayAnswerUnit next key launched OutOfMemory old new = LandsBy launched old new
+
+-- Both halves in turn.
+
+-- one child more was started, or none
+abbrev pub RunsBy : Bool → Starts → Starts → Type 0
+RunsBy true old new = new ≡ up_starts old
+RunsBy false old new = new ≡ old
+
+abbrev pub Runs : Run → Starts → Starts → Type 0
+Runs run old new = RunsBy run.ran.started old new
+
+-- the faults of both: where a call on files or variables failed, a child may have been started before
+abbrev pub MayRunUnit : Option ℕ → List ℕ → BuildFault → Starts → Starts → Type 0
+MayRunUnit next key (Plan refusal) old new = ⊥
+MayRunUnit next key Toolchain old new = ⊥
+MayRunUnit next key (Child unit fault) old new = (unit ≡ key) × (new ≡ up_starts old)
+MayRunUnit next key (Device unit (Place fault)) old new = (unit ≡ key) × ((new ≡ old) ⊎ (new ≡ up_starts old))
+MayRunUnit next key (Device unit NumbersSpent) old new = (unit ≡ key) × (next ≡ None) × (new ≡ old)
+MayRunUnit next key Sink old new = ⊥
+MayRunUnit next key OutOfMemory old new = (new ≡ old) ⊎ (new ≡ up_starts old)

@@ -15,7 +15,7 @@ use Rattle.pb_place.specs.World.{World, Map, Answers, from_nothing, seen_by}
 use Rattle.pb_place.specs.declared.child_in_flight.ChildInFlight.{ChildInFlight}
 use Rattle.pb_place.specs.declared.command.Command.{Command}
 use Rattle.pb_project.specs.Targets.{unit_at}
-use Rattle.pb_project.specs.declared.fault.UnitFault.{UnitFault}
+use Rattle.pb_answer.specs.declared.bad_unit.BadUnit.{BadUnit}
 use Rattle.pb_project.specs.declared.project.Project.{Project}
 use Rattle.pb_project.specs.declared.project.Setup.{Setup}
 use Rattle.pb_record.specs.declared.record.Record.{Record}
@@ -97,22 +97,22 @@ IsHonestOnUnits b = (place : ℕ) (u : Planned) (w : World) → unit_at b.projec
     → seen_by (command_in b place u) w ≡ view_in b place u → IsHonest judge b.child (command_in b place u) w
 
 -- the folder of records is sound, its records have and name only numbers below the next one, and each unit that has answered and is good has its record
-pub record HoldsRecords (b : Basis) (states : List (State UnitFault)) (next : Option ℕ) (w : World) : Type 0 where
+pub record HoldsRecords (b : Basis) (states : List (State BadUnit)) (next : Option ℕ) (w : World) : Type 0 where
   pub honest : IsHonestOnUnits b
   pub sound : Sound b.read judge b.child (records_folder b.project) w.files
   pub ahead : IsAhead (records_in b w) next
   pub recorded : (place : ℕ) → is_good_at (slice_get states place) ≡ true → HasRecord b w place
 
 -- no unit that has not begun has a record
-abbrev pub HoldsNoRecord : Basis → List (State UnitFault) → World → Type 0
+abbrev pub HoldsNoRecord : Basis → List (State BadUnit) → World → Type 0
 HoldsNoRecord b states w = (place : ℕ) (u : Planned) → unit_at b.project place ≡ Some u → slice_get states place ≡ Some Untouched → records_in b w u.key ≡ None
 
-abbrev pub HoldsBy : Footing → Basis → List (State UnitFault) → Option ℕ → World → Type 0
+abbrev pub HoldsBy : Footing → Basis → List (State BadUnit) → Option ℕ → World → Type 0
 HoldsBy OnRecords b states next w = HoldsRecords b states next w
 HoldsBy OnNothing b states next w = HoldsNoRecord b states w
 
 -- while units are in these states: as many are noted as there are units; the sources are as they were; each unit that has answered and is good stands, and so does all that it reaches; and the records are as the footing says
-pub record Keeps (b : Basis) (states : List (State UnitFault)) (done : List (Option (List Directive))) (next : Option ℕ) (w : World) : Type 0 where
+pub record Keeps (b : Basis) (states : List (State BadUnit)) (done : List (Option (List Directive))) (next : Option ℕ) (w : World) : Type 0 where
   pub long : length done ≡ length states
   pub sources_stay : from_nothing b.project.workspace.target w ≡ b.sources
   pub good : (place : ℕ) → is_good_at (slice_get states place) ≡ true → StandsGood b done w place
@@ -180,20 +180,20 @@ WritesTo out (Some launched) flying = IfSome (child_at launched.ticket flying) (
 -- What the halves start from.
 
 -- the unit at a place can begin: it has not, and all that it reaches has answered and is good
-pub record CanBegin (b : Basis) (states : List (State UnitFault)) (done : List (Option (List Directive))) (place : ℕ) (u : Planned) (next : Option ℕ) (w : World) : Type 0 where
+pub record CanBegin (b : Basis) (states : List (State BadUnit)) (done : List (Option (List Directive))) (place : ℕ) (u : Planned) (next : Option ℕ) (w : World) : Type 0 where
   pub keeps : Keeps b states done next w
   pub untouched : slice_get states place ≡ Some Untouched
   pub reaches : are_good states u.reaches ≡ true
 
 -- it can answer: it has begun so
-pub record CanAnswer (b : Basis) (states : List (State UnitFault)) (done : List (Option (List Directive))) (place : ℕ) (u : Planned) (begun : Begun) (next : Option ℕ) (w : World) (flying : List ChildInFlight) (still : ℕ → Type 0) : Type 0 where
+pub record CanAnswer (b : Basis) (states : List (State BadUnit)) (done : List (Option (List Directive))) (place : ℕ) (u : Planned) (begun : Begun) (next : Option ℕ) (w : World) (flying : List ChildInFlight) (still : ℕ → Type 0) : Type 0 where
   pub keeps : Keeps b states done next w
   pub state : slice_get states place ≡ Some begun_state
   pub reaches : are_good states u.reaches ≡ true
   pub begun_so : IsBegun b place begun next w flying still
 
 -- another unit has begun, with another ticket and another number than this one has
-pub record BeginsApart (b : Basis) (states : List (State UnitFault)) (place : ℕ) (launched : Option Launched) (other : ℕ) (its : Begun) (next : Option ℕ) (w : World) (flying : List ChildInFlight) (still : ℕ → Type 0) : Type 0 where
+pub record BeginsApart (b : Basis) (states : List (State BadUnit)) (place : ℕ) (launched : Option Launched) (other : ℕ) (its : Begun) (next : Option ℕ) (w : World) (flying : List ChildInFlight) (still : ℕ → Type 0) : Type 0 where
   pub another : other ≢ place
   pub unit : Planned
   pub there : unit_at b.project other ≡ Some unit

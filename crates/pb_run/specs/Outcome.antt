@@ -14,11 +14,12 @@ use Rattle.pb_project.specs.declared.project.Project.{Project}
 use Rattle.pb_project.specs.declared.project.Setup.{Setup}
 use Rattle.pb_project.specs.declared.answer.Answered.{Answered}
 use Rattle.pb_project.specs.declared.fault.UnitFault.{UnitFault}
+use Rattle.pb_answer.specs.declared.bad_unit.BadUnit.{BadUnit}
 use Rattle.pb_command.specs.Command.{command_of}
 use Rattle.pb_project.specs.Targets.{dep_info_of}
 use Rattle.pb_command.specs.Answers.{answered_of}
 use Rattle.pb_command.specs.Judge.{ended_by, replied_files, file_at}
-use Rattle.pb_run.specs.Telling.{good_messages, bad_messages}
+use Rattle.pb_run.specs.Telling.{good_messages, bad_messages, said_by}
 use Rattle.pb_project.specs.declared.answer.InputName.{InputName}
 use Rattle.pb_run.specs.declared.ran.Judgement.{Judgement}
 use Rattle.pb_run.specs.declared.ran.Ran.{Ran}
@@ -27,12 +28,12 @@ use Rattle.pb_run.specs.declared.ran.Ran.{Ran}
 pub data Outcome : Type 0 where
   Waiting : Outcome
   Good : (files : Map) (directives : Option (List Directive)) (messages : List Message) → Outcome
-  Bad : (fault : UnitFault) (messages : List Message) → Outcome
+  Bad : (bad : BadUnit) (messages : List Message) → Outcome
 
 abbrev pub is_good : Outcome → Bool
 is_good Waiting = false
 is_good (Good files directives messages) = true
-is_good (Bad fault messages) = false
+is_good (Bad bad messages) = false
 
 abbrev pub is_good_at : Option Outcome → Bool
 is_good_at None = false
@@ -65,8 +66,8 @@ view_of done sources u = record sources { files = with_made done u.reaches sourc
 
 -- what comes of a unit whose child gave this answer
 abbrev pub ran_by : Project → Planned → Ended → Result Answered UnitFault → Ran
-ran_by project u e (Ok a) = record { started = true; fault = None; directives = a.directives; messages = good_messages project u e.stderr a.directives }
-ran_by project u e (Err fault) = record { started = true; fault = Some fault; directives = None; messages = bad_messages u.unit.what fault e }
+ran_by project u e (Ok a) = record { started = true; bad = None; directives = a.directives; messages = good_messages project u e.stderr a.directives }
+ran_by project u e (Err fault) = record { started = true; bad = Some record { fault = fault; said = said_by u.unit.what fault e }; directives = None; messages = bad_messages u.unit.what fault e }
 
 -- the inputs found in an answer; none where it is bad
 abbrev pub names_in : Result Answered UnitFault → List InputName
@@ -79,15 +80,15 @@ judgement_by project u e a = record { ran = ran_by project u e a; names = names_
 
 -- what came of a unit for which no child was started
 abbrev pub unstarted : Ran → Ran
-unstarted ran = record { started = false; fault = ran.fault; directives = ran.directives; messages = ran.messages }
+unstarted ran = record { started = false; bad = ran.bad; directives = ran.directives; messages = ran.messages }
 
-abbrev pub outcome_from : Option UnitFault → Map → Option (List Directive) → List Message → Outcome
+abbrev pub outcome_from : Option BadUnit → Map → Option (List Directive) → List Message → Outcome
 outcome_from None files directives messages = Good files directives messages
-outcome_from (Some fault) files directives messages = Bad fault messages
+outcome_from (Some bad) files directives messages = Bad bad messages
 
 -- what a unit gave that came to this and has these files
 abbrev pub outcome_by : Map → Ran → Outcome
-outcome_by files ran = outcome_from ran.fault files ran.directives ran.messages
+outcome_by files ran = outcome_from ran.bad files ran.directives ran.messages
 
 -- what comes of a unit whose child ended so and left these files
 abbrev pub ran_of : Project → Planned → Command → Ended → Map → Ran
@@ -102,7 +103,7 @@ judged project u c r = outcome_by (replied_files u.out r) (ran_of project u c (e
 abbrev pub directives_in : Outcome → Option (List Directive)
 directives_in Waiting = None
 directives_in (Good files directives messages) = directives
-directives_in (Bad fault messages) = None
+directives_in (Bad bad messages) = None
 
 -- the directives of the units so far
 abbrev pub directives_of : List Outcome → List (Option (List Directive))

@@ -1,8 +1,7 @@
--- Where a place stands for the outcomes of the units that have ended.
+-- What a build asks of a project.
 use Rattle.std.specs.Prelude.{◌≡◌, ◌≢◌, ◌<◌, ◌⊎◌, ◌↔◌, ℕ, true, false, List, Option, Some, Contains, slice_get}
-use Rattle.std.specs.List.{list_all, AllByRecursion}
+use Rattle.std.specs.List.{AllByRecursion}
 use Rattle.pb_directive.specs.declared.directive.Directive.{Directive}
-use Rattle.pb_place.specs.Folders.{files_in}
 use Rattle.pb_command.specs.Command.{command_of}
 use Rattle.pb_command.specs.Externs.{reads_of}
 use Rattle.pb_place.specs.declared.command.Command.{Command}
@@ -11,13 +10,10 @@ use Rattle.pb_package.specs.declared.options.Selection.{Selection}
 use Rattle.pb_place.specs.Paths.{is_path, is_below, is_at_or_below}
 use Rattle.pb_soundness.specs.Records.{is_key, out_of}
 use Rattle.pb_unit.specs.Plan.{IsPlan, profile_folder}
-use Rattle.pb_place.specs.World.{World, Map, from_nothing, seen_by}
-use Rattle.pb_message.specs.declared.message.Message.{Message}
 use Rattle.pb_unit.specs.declared.plan.Planned.{Planned}
 use Rattle.pb_package.specs.declared.package.Package.{Package}
 use Rattle.pb_project.specs.declared.project.Project.{Project}
 use Rattle.pb_project.specs.declared.project.Setup.{Setup}
-use Rattle.pb_run.specs.Outcome.{Outcome, Good, is_good_at, view_of, command_after}
 
 -- the package of a unit is there
 abbrev pub HasPackage : Project → Planned → Type 0
@@ -56,14 +52,3 @@ pub record IsInOrder (project : Project) : Type 0 where
       → (q : List ℕ) → is_at_or_below u.out q ≡ true → is_at_or_below v.out q ≡ false
   pub needs : (i : ℕ) (u : Planned) → slice_get project.plan.planned i ≡ Some u → AllByRecursion (λ place. place < i) u.needs
   pub reaches : (i : ℕ) (u : Planned) → slice_get project.plan.planned i ≡ Some u → AllByRecursion (λ place. place < i) u.reaches
-
--- the sources are as they were, and the output folder of each unit that gave something good holds exactly its files
-pub record IsStanding (project : Project) (sources : World) (done : List Outcome) (w : World) : Type 0 where
-  pub sources_stay : from_nothing project.workspace.target w ≡ sources
-  pub folders : (i : ℕ) (files : Map) (directives : Option (List Directive)) (messages : List Message) → slice_get done i ≡ Some (Good files directives messages)
-      → (u : Planned) × (slice_get project.plan.planned i ≡ Some u) × (files_in u.out w.files ≡ files)
-
--- where the world stands so, and all that a unit reaches is good, its child is shown its view
-abbrev pub ShowsView : Type 0
-ShowsView = (setup : Setup) (project : Project) (sources w : World) (done : List Outcome) (u : Planned) → HasPackage project u → IsStanding project sources done w
-    → list_all (λ place. is_good_at (slice_get done place)) u.reaches ≡ true → seen_by (command_after setup project done u) w ≡ view_of done sources u

@@ -6,7 +6,7 @@ use Rattle.pb_directive.specs.declared.directive.Directive.{Directive}
 use Rattle.pb_directive.specs.declared.directive.Directive.TheVariants as says
 use Rattle.pb_directive.specs.declared.fault.LineFault.{LineFault}
 use Rattle.pb_directive.specs.Directives.{directives_of}
-use Rattle.pb_message.specs.Diagnostics.{diagnostics_of}
+use Rattle.pb_message.specs.Diagnostics.{diagnostics_of, plain_lines_of}
 use Rattle.pb_message.specs.Message.{lines_of}
 use Rattle.pb_message.specs.Targets.{library_target, binary_target, script_target}
 use Rattle.pb_message.specs.declared.message.Level.TheVariants.{Warning, Error}
@@ -136,6 +136,13 @@ abbrev pub bad_messages : What → UnitFault → Ended → List Message
 bad_messages w e ended =
     if is_script_error e then notes_in (directives_of ended.stdout)
     else (if gives_diagnostics w e then compiler_messages ended.stderr else [])
+
+-- what its child wrote that no message holds: nothing of streams that are too long; the standard error of a script that told of an error, and both streams of another script; what a compile says beside its diagnostics
+abbrev pub said_by : What → UnitFault → Ended → List ℕ
+said_by w fault.OutputTooLong ended = []
+said_by w fault.ScriptError ended = ended.stderr
+said_by Run e ended = ended.stdout ++ ended.stderr
+said_by w e ended = plain_lines_of ended.stderr
 
 -- Lines.
 

@@ -11,8 +11,6 @@ pub struct Launched {
     pub ticket: u64,
     /// The run number of the record that is kept of the unit where its answer is good.
     pub number: u64,
-    /// What differs: why it was spawned.
-    pub difference: Difference,
 }
 
 /// A unit that has begun.
@@ -24,4 +22,13 @@ pub struct Begun {
     pub command: Command,
     /// Its child; none where nothing differs from its record, which then gives its answer again.
     pub launched: Option<Launched>,
+}
+
+/// How a unit has begun.
+#[derive(Drop)]
+pub struct Beginning {
+    /// What its answer is asked for by.
+    pub begun: Begun,
+    /// What differs first from its record: why its child was spawned; none where nothing does, and it has no child.
+    pub difference: Option<Difference>,
 }

@@ -1,6 +1,6 @@
-//! The halves of a unit's run: it begins, with a child or without; it answers, or its answer is dropped.
+//! A unit's run, in halves: it begins, with a child or without; it answers, or its answer is dropped. And both in turn.
 
-ghost use Rattle.std.specs.Prelude.{◌≡◌, ◌≢◌, ◌+◌, ℕ, true, false, List, Option, IsTrue, IfOk, IfSome, MatchOption, MatchResult, Some, None, max, length, is_some, option_map, slice_get, slice_set};
+ghost use Rattle.std.specs.Prelude.{◌≡◌, ◌≢◌, ◌+◌, ℕ, true, false, List, Option, IsTrue, IfOk, IfSome, MatchOption, MatchResult, Some, None, max, length, is_some, slice_get, slice_set};
 ghost use Rattle.std.specs.FinMap as finite;
 ghost use Rattle.pb_command.specs.Command.{command_of};
 ghost use Rattle.pb_directive.specs.declared.directive.Directive.{Directive};
@@ -12,9 +12,9 @@ ghost use Rattle.pb_place.specs.Paths.{is_at_or_below};
 ghost use Rattle.pb_place.specs.World.{World, ChangesOnly};
 ghost use Rattle.pb_place.specs.declared.child_in_flight.ChildInFlight.{ChildInFlight};
 ghost use Rattle.pb_project.specs.Targets.{unit_at};
-ghost use Rattle.pb_project.specs.declared.fault.UnitFault.{UnitFault};
+ghost use Rattle.pb_answer.specs.declared.bad_unit.BadUnit.{BadUnit};
 ghost use Rattle.pb_record.specs.Parts.{IsReading};
-ghost use Rattle.pb_run.specs.Causes.{Takes, Begins, Lands, Drops, MayBeginUnit, MayAnswerUnit};
+ghost use Rattle.pb_run.specs.Causes.{Takes, Begins, Lands, Drops, Runs, MayBeginUnit, MayAnswerUnit, MayRunUnit};
 ghost use Rattle.pb_run.specs.Halves.{Footing, Basis, basis, outcomes_in, Keeps, IsBegun, CanBegin, CanAnswer, BeginsApart, WritesTo};
 ghost use Rattle.pb_run.specs.Outcome.{outcome_by, directives_in};
 ghost use Rattle.pb_run.specs.Standing.{IsCommandOf, IsInOrder, records_folder};
@@ -26,7 +26,7 @@ ghost use Rattle.pb_soundness.specs.Records.{Reading, record_at};
 ghost use Rattle.pb_store.specs.Differences.{FirstDifference};
 ghost use Rattle.pb_store.specs.Migrating.{TakesNumber, lacks_number};
 
-use crate::begun::Begun;
+use crate::begun::{Beginning, Begun};
 use crate::landing::{land, reuse};
 use crate::launching::{difference_of, launch};
 use crate::ran::Ran;
@@ -36,7 +36,7 @@ use pb_data::TryCopy;
 use pb_directive::Directives;
 use pb_place::Place;
 use pb_project::{Project, Setup};
-use pb_store::Store;
+use pb_store::{Difference, Store};
 use pb_unit::Planned;
 use std::alloc::Global;
 
@@ -58,31 +58,32 @@ pub fn begin_unit<P: Place>(
     done: &[Option<Directives>],
     index: usize,
     unit: &Planned,
-) -> Result<Begun, BuildFault>
+) -> Result<Beginning, BuildFault>
     requires order { IsInOrder project.now }
     requires unit { slice_get project.now.plan.planned index ≡ Some unit.now }
     requires folder { store.old.folder ≡ records_folder project.now }
-    ensures unit { IfOk result (λ begun. begun.unit ≡ unit.now.key) }
-    ensures asks { IfOk result (λ begun. begun.command ≡ command_of setup.now project.now unit.now done.now) }
-    ensures begun { (footing : Footing) (read : Reading) (sources : World) (states : List (State UnitFault)) → IsReading read → IsTrue P.tells
+    ensures unit { IfOk result (λ made. made.begun.unit ≡ unit.now.key) }
+    ensures asks { IfOk result (λ made. made.begun.command ≡ command_of setup.now project.now unit.now done.now) }
+    ensures begun { (footing : Footing) (read : Reading) (sources : World) (states : List (State BadUnit)) → IsReading read → IsTrue P.tells
         → CanBegin (basis footing read P.child setup.now project.now sources) states done.now index unit.now store.old.next (P.world place.old)
-        → IfOk result (λ begun. IsBegun (basis footing read P.child setup.now project.now sources) index begun store.new.next (P.world place.new) (P.counts place.new).starts.flying (P.still place.new)) }
-    ensures keeps { (footing : Footing) (read : Reading) (sources : World) (states : List (State UnitFault)) → IsReading read → IsTrue P.tells
+        → IfOk result (λ made. IsBegun (basis footing read P.child setup.now project.now sources) index made.begun store.new.next (P.world place.new) (P.counts place.new).starts.flying (P.still place.new)) }
+    ensures keeps { (footing : Footing) (read : Reading) (sources : World) (states : List (State BadUnit)) → IsReading read → IsTrue P.tells
         → CanBegin (basis footing read P.child setup.now project.now sources) states done.now index unit.now store.old.next (P.world place.old)
         → Keeps (basis footing read P.child setup.now project.now sources) (slice_set states index state.Begun) done.now store.new.next (P.world place.new) }
-    ensures others { (footing : Footing) (read : Reading) (sources : World) (states : List (State UnitFault)) (other : ℕ) (its : Begun) → IsReading read → IsTrue P.tells
+    ensures others { (footing : Footing) (read : Reading) (sources : World) (states : List (State BadUnit)) (other : ℕ) (its : Begun) → IsReading read → IsTrue P.tells
         → CanBegin (basis footing read P.child setup.now project.now sources) states done.now index unit.now store.old.next (P.world place.old)
         → BeginsApart (basis footing read P.child setup.now project.now sources) states index None other its store.old.next (P.world place.old) (P.counts place.old).starts.flying (P.still place.old)
         → IsBegun (basis footing read P.child setup.now project.now sources) other its store.new.next (P.world place.new) (P.counts place.new).starts.flying (P.still place.new) }
-    ensures differs { (read : Reading) → IsReading read → IsTrue P.tells → IfOk result (λ begun. FirstDifference read (records_folder project.now) unit.now.key begun.command (P.world place.old) (option_map (λ launched. launched.difference) begun.launched)) }
+    ensures differs { (read : Reading) → IsReading read → IsTrue P.tells → IfOk result (λ made. FirstDifference read (records_folder project.now) unit.now.key made.begun.command (P.world place.old) made.difference) }
+    ensures spawned { IfOk result (λ made. is_some made.begun.launched ≡ is_some made.difference) }
     ensures only { IsTrue P.tells → ChangesOnly (is_of (records_folder project.now) unit.now.key) (P.world place.old) (P.world place.new) }
-    ensures same { IsTrue P.tells → IfOk result (λ begun. begun.launched ≡ None → P.world place.new ≡ P.world place.old) }
-    ensures writes { IsTrue P.tells → IfOk result (λ begun. WritesTo unit.now.out begun.launched (P.counts place.new).starts.flying) }
+    ensures same { IsTrue P.tells → IfOk result (λ made. made.begun.launched ≡ None → P.world place.new ≡ P.world place.old) }
+    ensures writes { IsTrue P.tells → IfOk result (λ made. WritesTo unit.now.out made.begun.launched (P.counts place.new).starts.flying) }
     ensures stay { (ticket : ℕ) (its : ChildInFlight) → child_at ticket (P.counts place.old).starts.flying ≡ Some its → child_at ticket (P.counts place.new).starts.flying ≡ Some its }
     ensures folder { store.new.folder ≡ store.old.folder }
     ensures next { TakesNumber store.old.next store.new.next }
-    ensures number { IfOk result (λ begun. IfSome begun.launched (λ launched. (store.old.next ≡ Some launched.number) × (store.new.next ≡ after launched.number))) }
-    ensures most { MatchResult result (λ begun. MatchOption begun.launched (P.most place.new ≡ P.most place.old) (λ launched. P.most place.new ≡ max (P.most place.old) (length (P.counts place.old).starts.flying + 1))) (λ e. P.most place.new ≡ P.most place.old) }
+    ensures number { IfOk result (λ made. MatchOption made.begun.launched (store.new.next ≡ store.old.next) (λ launched. (store.old.next ≡ Some launched.number) × (store.new.next ≡ after launched.number))) }
+    ensures most { MatchResult result (λ made. MatchOption made.begun.launched (P.most place.new ≡ P.most place.old) (λ launched. P.most place.new ≡ max (P.most place.old) (length (P.counts place.old).starts.flying + 1))) (λ e. P.most place.new ≡ P.most place.old) }
     ensures takes { Takes Begins (MayBeginUnit store.old.next unit.now.key) result (P.counts place.old) (P.counts place.new) }
 {
     let name = match unit.key.copy(alloc) {
@@ -100,18 +101,24 @@ pub fn begin_unit<P: Place>(
     let difference = match found {
         Some(difference) => difference,
         None => {
-            return Ok(Begun {
-                unit: name,
-                command,
-                launched: None,
+            return Ok(Beginning {
+                begun: Begun {
+                    unit: name,
+                    command,
+                    launched: None,
+                },
+                difference: None,
             });
         }
     };
-    match launch(alloc, place, store, unit, &command, difference) {
-        Ok(launched) => Ok(Begun {
-            unit: name,
-            command,
-            launched: Some(launched),
+    match launch(alloc, place, store, unit, &command) {
+        Ok(launched) => Ok(Beginning {
+            begun: Begun {
+                unit: name,
+                command,
+                launched: Some(launched),
+            },
+            difference: Some(difference),
         }),
         Err(fault) => Err(fault),
     }
@@ -142,15 +149,15 @@ pub fn answer_unit<P: Place>(
     requires named { begun.unit ≡ unit.now.key }
     requires asks { IsCommandOf project.now unit.now begun.command }
     requires flies { IfSome begun.launched (λ launched. is_flying launched.ticket (P.counts place.old).starts.flying ≡ true) }
-    ensures outcome { (footing : Footing) (read : Reading) (setup : Setup) (sources : World) (states : List (State UnitFault)) (done : List (Option (List Directive))) → IsReading read → IsTrue P.tells
+    ensures outcome { (footing : Footing) (read : Reading) (setup : Setup) (sources : World) (states : List (State BadUnit)) (done : List (Option (List Directive))) → IsReading read → IsTrue P.tells
         → CanAnswer (basis footing read P.child setup project.now sources) states done index unit.now begun store.old.next (P.world place.old) (P.counts place.old).starts.flying (P.still place.old)
         → IfOk result (λ ran. slice_get (outcomes_in (basis footing read P.child setup project.now sources)) index ≡ Some (outcome_by (files_in unit.now.out (P.world place.new).files) ran)) }
-    ensures keeps { (footing : Footing) (read : Reading) (setup : Setup) (sources : World) (states : List (State UnitFault)) (done : List (Option (List Directive))) → IsReading read → IsTrue P.tells
+    ensures keeps { (footing : Footing) (read : Reading) (setup : Setup) (sources : World) (states : List (State BadUnit)) (done : List (Option (List Directive))) → IsReading read → IsTrue P.tells
         → CanAnswer (basis footing read P.child setup project.now sources) states done index unit.now begun store.old.next (P.world place.old) (P.counts place.old).starts.flying (P.still place.old)
         → MatchResult result
-        (λ ran. (lines : List ℕ) → Keeps (basis footing read P.child setup project.now sources) (slice_set states index (state.Answered record { fault = ran.fault; lines = lines })) (slice_set done index ran.directives) store.new.next (P.world place.new))
+        (λ ran. (lines : List ℕ) → Keeps (basis footing read P.child setup project.now sources) (slice_set states index (state.Answered record { fault = ran.bad; lines = lines })) (slice_set done index ran.directives) store.new.next (P.world place.new))
         (λ e. Keeps (basis footing read P.child setup project.now sources) states done store.new.next (P.world place.new)) }
-    ensures others { (footing : Footing) (read : Reading) (setup : Setup) (sources : World) (states : List (State UnitFault)) (done : List (Option (List Directive))) (other : ℕ) (its : Begun) → IsReading read → IsTrue P.tells
+    ensures others { (footing : Footing) (read : Reading) (setup : Setup) (sources : World) (states : List (State BadUnit)) (done : List (Option (List Directive))) (other : ℕ) (its : Begun) → IsReading read → IsTrue P.tells
         → CanAnswer (basis footing read P.child setup project.now sources) states done index unit.now begun store.old.next (P.world place.old) (P.counts place.old).starts.flying (P.still place.old)
         → BeginsApart (basis footing read P.child setup project.now sources) states index begun.launched other its store.old.next (P.world place.old) (P.counts place.old).starts.flying (P.still place.old)
         → IsBegun (basis footing read P.child setup project.now sources) other its store.new.next (P.world place.new) (P.counts place.new).starts.flying (P.still place.new) }
@@ -188,10 +195,10 @@ pub fn answer_unit<P: Place>(
 /// call that fails counts.
 pub fn drop_unit<P: Place>(alloc: Global, place: &mut P, begun: &Begun)
     requires flies { IfSome begun.now.launched (λ launched. is_flying launched.ticket (P.counts place.old).starts.flying ≡ true) }
-    ensures keeps { (b : Basis) (states : List (State UnitFault)) (done : List (Option (List Directive))) (index : ℕ) (unit : Planned) (next : Option ℕ) → IsInOrder b.project → unit_at b.project index ≡ Some unit → IsTrue P.tells
+    ensures keeps { (b : Basis) (states : List (State BadUnit)) (done : List (Option (List Directive))) (index : ℕ) (unit : Planned) (next : Option ℕ) → IsInOrder b.project → unit_at b.project index ≡ Some unit → IsTrue P.tells
         → CanAnswer b states done index unit begun.now next (P.world place.old) (P.counts place.old).starts.flying (P.still place.old)
         → Keeps b states done next (P.world place.new) }
-    ensures others { (b : Basis) (states : List (State UnitFault)) (done : List (Option (List Directive))) (index : ℕ) (unit : Planned) (next : Option ℕ) (other : ℕ) (its : Begun) → IsInOrder b.project → unit_at b.project index ≡ Some unit → IsTrue P.tells
+    ensures others { (b : Basis) (states : List (State BadUnit)) (done : List (Option (List Directive))) (index : ℕ) (unit : Planned) (next : Option ℕ) (other : ℕ) (its : Begun) → IsInOrder b.project → unit_at b.project index ≡ Some unit → IsTrue P.tells
         → CanAnswer b states done index unit begun.now next (P.world place.old) (P.counts place.old).starts.flying (P.still place.old)
         → BeginsApart b states index begun.now.launched other its next (P.world place.old) (P.counts place.old).starts.flying (P.still place.old)
         → IsBegun b other its next (P.world place.new) (P.counts place.new).starts.flying (P.still place.new) }
@@ -205,4 +212,55 @@ pub fn drop_unit<P: Place>(alloc: Global, place: &mut P, begun: &Begun)
         None => return,
     };
     let _ = place.finish(alloc, launched.ticket);
+}
+
+/// What came of a unit, and why a child was started for it.
+#[derive(Drop)]
+pub struct Run {
+    /// What came of it.
+    pub ran: Ran,
+    /// What differed first from its record; none where nothing did, and what was kept was given again.
+    pub difference: Option<Difference>,
+}
+
+/// Runs the unit at a place of a plan: begins it, and takes its answer.
+///
+/// Faults: those of `begin_unit` and `answer_unit`. Each has the unit's key, no call of the place comes after one that
+/// failed, and no child is in flight for the unit then. A unit that is bad is no fault.
+pub fn run_unit<P: Place>(
+    alloc: Global,
+    place: &mut P,
+    store: &mut Store,
+    setup: &Setup,
+    project: &Project,
+    done: &[Option<Directives>],
+    index: usize,
+    unit: &Planned,
+) -> Result<Run, BuildFault>
+    requires order { IsInOrder project.now }
+    requires unit { slice_get project.now.plan.planned index ≡ Some unit.now }
+    requires folder { store.old.folder ≡ records_folder project.now }
+    ensures outcome { (footing : Footing) (read : Reading) (sources : World) (states : List (State BadUnit)) → IsReading read → IsTrue P.tells
+        → CanBegin (basis footing read P.child setup.now project.now sources) states done.now index unit.now store.old.next (P.world place.old)
+        → IfOk result (λ run. slice_get (outcomes_in (basis footing read P.child setup.now project.now sources)) index ≡ Some (outcome_by (files_in unit.now.out (P.world place.new).files) run.ran)) }
+    ensures keeps { (footing : Footing) (read : Reading) (sources : World) (states : List (State BadUnit)) → IsReading read → IsTrue P.tells
+        → CanBegin (basis footing read P.child setup.now project.now sources) states done.now index unit.now store.old.next (P.world place.old)
+        → MatchResult result
+        (λ run. (lines : List ℕ) → Keeps (basis footing read P.child setup.now project.now sources) (slice_set states index (state.Answered record { fault = run.ran.bad; lines = lines })) (slice_set done.now index run.ran.directives) store.new.next (P.world place.new))
+        (λ e. Keeps (basis footing read P.child setup.now project.now sources) (slice_set states index state.Begun) done.now store.new.next (P.world place.new)) }
+    ensures differs { (read : Reading) → IsReading read → IsTrue P.tells → IfOk result (λ run. FirstDifference read (records_folder project.now) unit.now.key (command_of setup.now project.now unit.now done.now) (P.world place.old) run.difference) }
+    ensures started { IfOk result (λ run. run.ran.started ≡ is_some run.difference) }
+    ensures only { IsTrue P.tells → ChangesOnly (is_of (records_folder project.now) unit.now.key) (P.world place.old) (P.world place.new) }
+    ensures folder { store.new.folder ≡ store.old.folder }
+    ensures takes { Takes Runs (MayRunUnit store.old.next unit.now.key) result (P.counts place.old) (P.counts place.new) }
+{
+    let made = match begin_unit(alloc, place, store, setup, project, done, index, unit) {
+        Ok(made) => made,
+        Err(fault) => return Err(fault),
+    };
+    let Beginning { begun, difference } = made;
+    match answer_unit(alloc, place, store, project, index, unit, begun) {
+        Ok(ran) => Ok(Run { ran, difference }),
+        Err(fault) => Err(fault),
+    }
 }

@@ -16,7 +16,7 @@ ghost use Rattle.pb_directive.specs.declared.directive.Directive.{Directive};
 ghost use Rattle.pb_flight.specs.declared.flight.State.{State};
 ghost use Rattle.pb_flight.specs.declared.flight.State.TheVariants as state;
 ghost use Rattle.pb_place.specs.Folders.{files_in};
-ghost use Rattle.pb_project.specs.declared.fault.UnitFault.{UnitFault};
+ghost use Rattle.pb_answer.specs.declared.bad_unit.BadUnit.{BadUnit};
 ghost use Rattle.pb_project.specs.declared.project.Setup.{Setup};
 ghost use Rattle.pb_run.specs.Halves.{Footing, basis, begun_with, outcomes_in, key_at, needed_keys, Keeps, IsBegun, CanAnswer, BeginsApart, WritesTo};
 ghost use Rattle.pb_run.specs.Standing.{IsCommandOf, IsInOrder, records_folder};
@@ -255,7 +255,7 @@ fn unstarted(ran: Ran) -> Ran
 {
     Ran {
         started: false,
-        fault: ran.fault,
+        bad: ran.bad,
         directives: ran.directives,
         messages: ran.messages,
     }
@@ -279,15 +279,15 @@ pub(crate) fn land<P: Place>(
     requires named { name ≡ unit.now.key }
     requires asks { IsCommandOf project.now unit.now command.now }
     requires flies { is_flying launched.now.ticket (P.counts place.old).starts.flying ≡ true }
-    ensures outcome { (footing : Footing) (read : Reading) (setup : Setup) (sources : World) (states : List (State UnitFault)) (done : List (Option (List Directive))) → IsReading read → IsTrue P.tells
+    ensures outcome { (footing : Footing) (read : Reading) (setup : Setup) (sources : World) (states : List (State BadUnit)) (done : List (Option (List Directive))) → IsReading read → IsTrue P.tells
         → CanAnswer (basis footing read P.child setup project.now sources) states done index unit.now (begun_with unit.now.key command.now (Some launched.now)) store.now.next (P.world place.old) (P.counts place.old).starts.flying (P.still place.old)
         → IfOk result (λ ran. slice_get (outcomes_in (basis footing read P.child setup project.now sources)) index ≡ Some (outcome_by (files_in unit.now.out (P.world place.new).files) ran)) }
-    ensures keeps { (footing : Footing) (read : Reading) (setup : Setup) (sources : World) (states : List (State UnitFault)) (done : List (Option (List Directive))) → IsReading read → IsTrue P.tells
+    ensures keeps { (footing : Footing) (read : Reading) (setup : Setup) (sources : World) (states : List (State BadUnit)) (done : List (Option (List Directive))) → IsReading read → IsTrue P.tells
         → CanAnswer (basis footing read P.child setup project.now sources) states done index unit.now (begun_with unit.now.key command.now (Some launched.now)) store.now.next (P.world place.old) (P.counts place.old).starts.flying (P.still place.old)
         → MatchResult result
-        (λ ran. (lines : List ℕ) → Keeps (basis footing read P.child setup project.now sources) (slice_set states index (state.Answered record { fault = ran.fault; lines = lines })) (slice_set done index ran.directives) store.now.next (P.world place.new))
+        (λ ran. (lines : List ℕ) → Keeps (basis footing read P.child setup project.now sources) (slice_set states index (state.Answered record { fault = ran.bad; lines = lines })) (slice_set done index ran.directives) store.now.next (P.world place.new))
         (λ e. Keeps (basis footing read P.child setup project.now sources) states done store.now.next (P.world place.new)) }
-    ensures others { (footing : Footing) (read : Reading) (setup : Setup) (sources : World) (states : List (State UnitFault)) (done : List (Option (List Directive))) (other : ℕ) (its : Begun) → IsReading read → IsTrue P.tells
+    ensures others { (footing : Footing) (read : Reading) (setup : Setup) (sources : World) (states : List (State BadUnit)) (done : List (Option (List Directive))) (other : ℕ) (its : Begun) → IsReading read → IsTrue P.tells
         → CanAnswer (basis footing read P.child setup project.now sources) states done index unit.now (begun_with unit.now.key command.now (Some launched.now)) store.now.next (P.world place.old) (P.counts place.old).starts.flying (P.still place.old)
         → BeginsApart (basis footing read P.child setup project.now sources) states index (Some launched.now) other its store.now.next (P.world place.old) (P.counts place.old).starts.flying (P.still place.old)
         → IsBegun (basis footing read P.child setup project.now sources) other its store.now.next (P.world place.new) (P.counts place.new).starts.flying (P.still place.new) }
@@ -305,7 +305,7 @@ pub(crate) fn land<P: Place>(
         Ok(judgement) => judgement,
         Err(fault) => return Err(fault),
     };
-    if judgement.ran.fault.is_some() {
+    if judgement.ran.bad.is_some() {
         return Ok(judgement.ran);
     }
     match keep(
@@ -339,15 +339,15 @@ pub(crate) fn reuse<P: Place>(
     requires unit { slice_get project.now.plan.planned index ≡ Some unit.now }
     requires folder { store.old.folder ≡ records_folder project.now }
     requires asks { IsCommandOf project.now unit.now command.now }
-    ensures outcome { (footing : Footing) (read : Reading) (setup : Setup) (sources : World) (states : List (State UnitFault)) (done : List (Option (List Directive))) → IsReading read → IsTrue P.tells
+    ensures outcome { (footing : Footing) (read : Reading) (setup : Setup) (sources : World) (states : List (State BadUnit)) (done : List (Option (List Directive))) → IsReading read → IsTrue P.tells
         → CanAnswer (basis footing read P.child setup project.now sources) states done index unit.now (begun_with unit.now.key command.now None) store.old.next (P.world place.old) (P.counts place.old).starts.flying (P.still place.old)
         → IfOk result (λ ran. slice_get (outcomes_in (basis footing read P.child setup project.now sources)) index ≡ Some (outcome_by (files_in unit.now.out (P.world place.new).files) ran)) }
-    ensures keeps { (footing : Footing) (read : Reading) (setup : Setup) (sources : World) (states : List (State UnitFault)) (done : List (Option (List Directive))) → IsReading read → IsTrue P.tells
+    ensures keeps { (footing : Footing) (read : Reading) (setup : Setup) (sources : World) (states : List (State BadUnit)) (done : List (Option (List Directive))) → IsReading read → IsTrue P.tells
         → CanAnswer (basis footing read P.child setup project.now sources) states done index unit.now (begun_with unit.now.key command.now None) store.old.next (P.world place.old) (P.counts place.old).starts.flying (P.still place.old)
         → MatchResult result
-        (λ ran. (lines : List ℕ) → Keeps (basis footing read P.child setup project.now sources) (slice_set states index (state.Answered record { fault = ran.fault; lines = lines })) (slice_set done index ran.directives) store.new.next (P.world place.new))
+        (λ ran. (lines : List ℕ) → Keeps (basis footing read P.child setup project.now sources) (slice_set states index (state.Answered record { fault = ran.bad; lines = lines })) (slice_set done index ran.directives) store.new.next (P.world place.new))
         (λ e. Keeps (basis footing read P.child setup project.now sources) states done store.new.next (P.world place.new)) }
-    ensures others { (footing : Footing) (read : Reading) (setup : Setup) (sources : World) (states : List (State UnitFault)) (done : List (Option (List Directive))) (other : ℕ) (its : Begun) → IsReading read → IsTrue P.tells
+    ensures others { (footing : Footing) (read : Reading) (setup : Setup) (sources : World) (states : List (State BadUnit)) (done : List (Option (List Directive))) (other : ℕ) (its : Begun) → IsReading read → IsTrue P.tells
         → CanAnswer (basis footing read P.child setup project.now sources) states done index unit.now (begun_with unit.now.key command.now None) store.old.next (P.world place.old) (P.counts place.old).starts.flying (P.still place.old)
         → BeginsApart (basis footing read P.child setup project.now sources) states index None other its store.old.next (P.world place.old) (P.counts place.old).starts.flying (P.still place.old)
         → IsBegun (basis footing read P.child setup project.now sources) other its store.new.next (P.world place.new) (P.counts place.new).starts.flying (P.still place.new) }
@@ -368,7 +368,7 @@ pub(crate) fn reuse<P: Place>(
         Ok(judgement) => judgement,
         Err(fault) => return Err(fault),
     };
-    if judgement.ran.fault.is_some() {
+    if judgement.ran.bad.is_some() {
         return Ok(unstarted(judgement.ran));
     }
     match migrate(alloc, place, store, project, unit) {

@@ -145,13 +145,11 @@ pub(crate) fn launch<P: Place>(
     store: &mut Store,
     unit: &Planned,
     command: &Command,
-    difference: Difference,
 ) -> Result<Launched, BuildFault>
     requires out { command.now.out ≡ Some unit.now.out }
     requires lies { unit.now.out ≡ out_of store.old.folder unit.now.key }
     requires key { is_key unit.now.key ≡ true }
     requires path { is_path store.old.folder ≡ true }
-    ensures difference { IfOk result (λ launched. launched.difference ≡ difference) }
     ensures number { IfOk result (λ launched. (store.old.next ≡ Some launched.number) × (store.new.next ≡ after launched.number)) }
     ensures next { TakesNumber store.old.next store.new.next }
     ensures folder { store.new.folder ≡ store.old.folder }
@@ -170,11 +168,7 @@ pub(crate) fn launch<P: Place>(
         Err(fault) => return Err(fault),
     };
     match spawn_anew(alloc, place, unit, command) {
-        Ok(ticket) => Ok(Launched {
-            ticket,
-            number,
-            difference,
-        }),
+        Ok(ticket) => Ok(Launched { ticket, number }),
         Err(fault) => Err(fault),
     }
 }

@@ -13,11 +13,11 @@ pub mod ran;
 pub mod running;
 pub mod subjects;
 
-pub use begun::{Begun, Launched};
+pub use begun::{Beginning, Begun, Launched};
 pub use faults::{childless, deviceless, storeless};
-pub use halves::{answer_unit, begin_unit, drop_unit};
-pub use laws::{outcomes_unfold, views_are_shown};
+pub use halves::{Run, answer_unit, begin_unit, drop_unit, run_unit};
+pub use laws::outcomes_unfold;
 pub use pb_flight::{First, Flight, Jobs, Last, Pick, Step, Turn};
 pub use ran::{Judgement, Ran};
-pub use running::{run_unit, start};
+pub use running::start;
 pub use subjects::lines_of_unit;

@@ -4,11 +4,11 @@ ghost use Rattle.std.specs.Prelude.{◌≡◌, ◌++◌, ◌∷◌, [], if◌the
 ghost use Rattle.pb_directive.specs.Directives.{directives_of};
 ghost use Rattle.std.specs.List.{filter_map};
 ghost use Rattle.pb_project.specs.Targets.{made_file_of};
-ghost use Rattle.pb_run.specs.Telling.{artifacts, compiler_messages, note_in, notes_in, library_in, search_in, condition_in, variable_in, executed, good_messages, gives_diagnostics, bad_messages, is_binary};
+ghost use Rattle.pb_run.specs.Telling.{artifacts, compiler_messages, note_in, notes_in, library_in, search_in, condition_in, variable_in, executed, good_messages, gives_diagnostics, bad_messages, said_by, is_binary};
 
 use pb_data::{Bytes, Items, Text, TryCopy};
 use pb_directive::{Directive, Directives, LineFault, read_directives};
-use pb_message::{Artifact, Executed, Level, Message, diagnostics};
+use pb_message::{Artifact, Executed, Level, Message, diagnostics, plain_lines};
 use pb_place::Ended;
 use pb_project::{Project, UnitFault, made_file};
 use pb_unit::{Planned, What};
@@ -293,5 +293,36 @@ pub fn bad_messages(
     match fault {
         UnitFault::ScriptError => notes_of(alloc, &ended.stdout),
         _ => diagnostics_by(alloc, what, fault, &ended.stderr),
+    }
+}
+
+/// Two streams, one after the other.
+fn both(alloc: Global, ended: &Ended) -> Result<Bytes, AllocError>
+    ensures { IfOk result (λ said. said ≡ ended.now.stdout ++ ended.now.stderr) }
+{
+    let mut said = Vec::new(alloc);
+    said.extend_from_slice(ended.stdout.as_slice())?;
+    said.extend_from_slice(ended.stderr.as_slice())?;
+    Ok(Bytes::new(said))
+}
+
+/// What the child of a bad unit wrote that no message holds: nothing of streams that are too long; the standard error of
+/// a script that told of an error, and both streams of another script; what a compile says beside its diagnostics. Our
+/// own choice. The one fault is want of memory.
+pub fn said_by(
+    alloc: Global,
+    what: &What,
+    fault: &UnitFault,
+    ended: &Ended,
+) -> Result<Bytes, AllocError>
+    ensures { IfOk result (λ said. said ≡ said_by what.now fault.now ended.now) }
+{
+    match fault {
+        UnitFault::OutputTooLong => Ok(Bytes::new(Vec::new(alloc))),
+        UnitFault::ScriptError => ended.stderr.copy(alloc),
+        _ => match what {
+            What::Run => both(alloc, ended),
+            _ => plain_lines(alloc, ended.stderr.as_slice()),
+        },
     }
 }

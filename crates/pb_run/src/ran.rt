@@ -3,12 +3,12 @@
 ghost use Rattle.std.specs.Prelude.{◌≡◌, ◌≢◌, IfOk, Result, Ok, Err, true};
 ghost use Rattle.pb_command.specs.Answers.{answered_of};
 ghost use Rattle.pb_project.specs.declared.answer.Answered.{Answered};
-ghost use Rattle.pb_project.specs.declared.fault.UnitFault.{UnitFault};
 ghost use Rattle.pb_project.specs.declared.fault.UnitFault.TheVariants as unit_fault;
 ghost use Rattle.std.specs.FinMap as finite;
 ghost use Rattle.pb_run.specs.Outcome.{judgement_by, outcome_by, directives_in};
 
-use crate::messages::{bad_messages, good_messages};
+use crate::messages::{bad_messages, good_messages, said_by};
+use pb_answer::BadUnit;
 use pb_command::answered;
 use pb_data::{Bytes, Items};
 use pb_directive::Directives;
@@ -23,8 +23,8 @@ use std::alloc::{AllocError, Global};
 pub struct Ran {
     /// Whether a child was started for it.
     pub started: bool,
-    /// Why it is bad, if it is.
-    pub fault: Option<UnitFault>,
+    /// Why it is bad, and what its child said, if it is.
+    pub bad: Option<BadUnit>,
     /// The directives of a build script's run that ended well.
     pub directives: Option<Directives>,
     /// What it tells.
@@ -55,7 +55,7 @@ fn good(
     Ok(Judgement {
         ran: Ran {
             started: true,
-            fault: None,
+            bad: None,
             directives,
             messages,
         },
@@ -74,10 +74,11 @@ fn bad(
     ensures judged { IfOk result (λ judgement. judgement ≡ judgement_by project.now unit.now ended.now (Err fault)) }
 {
     let messages = bad_messages(alloc, &unit.unit.what, &fault, ended)?;
+    let said = said_by(alloc, &unit.unit.what, &fault, ended)?;
     Ok(Judgement {
         ran: Ran {
             started: true,
-            fault: Some(fault),
+            bad: Some(BadUnit { fault, said }),
             directives: None,
             messages,
         },

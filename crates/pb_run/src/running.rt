@@ -1,29 +1,18 @@
-//! One unit: its folder is emptied, its child started, its answer judged.
+//! Single calls of the place, with the faults that a build tells of them.
 
-ghost use Rattle.std.specs.Prelude.{◌≡◌, ◌+◌, ℕ, true, max, length, IsTrue, IfOk, OnOk, Some, slice_get, take};
-ghost use Rattle.std.specs.FinMap as finite;
-ghost use Rattle.std.specs.List.{list_all};
+ghost use Rattle.std.specs.Prelude.{◌≡◌, ◌+◌, max, length, IsTrue, IfOk, OnOk, Some};
 ghost use Rattle.pb_place.specs.Paths.{is_at_or_below};
-ghost use Rattle.pb_place.specs.World.{World, Ends, ChangesOnly, ChangesOnlyInSome, removed, from_nothing};
-ghost use Rattle.pb_command.specs.Answers.{answered_of};
-ghost use Rattle.pb_project.specs.Targets.{dep_info_of};
+ghost use Rattle.pb_place.specs.World.{Ends, ChangesOnly, ChangesOnlyInSome, removed};
 ghost use Rattle.pb_place.specs.declared.command.Ended.{Ended};
-ghost use Rattle.pb_run.specs.Causes.{Takes, NoStart, OneStart, MayStart, MayRemove, MayBegin, MayRead, MayRun};
-ghost use Rattle.pb_place.specs.Folders.{files_in};
-ghost use Rattle.pb_run.specs.Outcome.{outcomes, ran_by, outcome_by, directives_in, directives_of, is_good};
+ghost use Rattle.pb_run.specs.Causes.{Takes, NoStart, OneStart, MayStart, MayRemove, MayRead};
 ghost use Rattle.pb_command.specs.Judge.{file_at};
-ghost use Rattle.pb_run.specs.Standing.{IsInOrder, IsStanding};
 ghost use Rattle.pb_soundness.specs.Apart.{KeepsStill, KeepsStillOutside};
 
 use crate::faults::{childless, deviceless};
-use crate::ran::{Ran, judged};
 use pb_answer::BuildFault;
 use pb_command::command;
 use pb_data::{Bytes, Text};
-use pb_directive::Directives;
 use pb_place::{Command, Ended, PathText, Place};
-use pb_project::{Project, Setup, dep_info_path};
-use pb_unit::Planned;
 use std::alloc::Global;
 
 /// Starts a child. Its faults have this name: `-vV` for the query of the compiler's version, else a unit's key.
@@ -72,30 +61,6 @@ pub(crate) fn empty<P: Place>(
     }
 }
 
-/// Empties the output folder of the unit of this key, and starts its child.
-#[tactic(auto, using(pb_place::proofs::Folders::change_laws))]
-fn begin<P: Place>(
-    alloc: Global,
-    place: &mut P,
-    key: &str,
-    folder: &PathText,
-    command: &Command,
-) -> Result<Ended, BuildFault>
-    requires out { command.now.out ≡ Some folder.now }
-    ensures ok { IsTrue P.tells → IfOk result (λ ended. Ends (P.child command.now) command.now (removed folder.now (P.world place.old)) ended (P.world place.new)) }
-    ensures only { IsTrue P.tells → ChangesOnly (is_at_or_below folder.now) (P.world place.old) (P.world place.new) }
-    ensures takes { Takes OneStart (MayBegin key.now) result (P.counts place.old) (P.counts place.new) }
-{
-    match empty(alloc, place, key, folder) {
-        Ok(()) => {}
-        Err(fault) => return Err(fault),
-    }
-    match start(alloc, place, key, command) {
-        Ok(ended) => Ok(ended),
-        Err(fault) => Err(fault),
-    }
-}
-
 /// Reads a file of the unit of this key, where one is named.
 #[tactic(auto, using(pb_store::proofs::Still::stands_same))]
 pub(crate) fn read_at<P: Place>(
@@ -121,75 +86,5 @@ pub(crate) fn read_at<P: Place>(
     match place.read(alloc, path) {
         Ok(found) => Ok(found),
         Err(fault) => Err(deviceless(unit, fault)),
-    }
-}
-
-/// Empties the unit's output folder, starts this command and judges the answer.
-fn carry_out<P: Place>(
-    alloc: Global,
-    place: &mut P,
-    project: &Project,
-    unit: &Planned,
-    command: &Command,
-) -> Result<Ran, BuildFault>
-    requires out { command.now.out ≡ Some unit.now.out }
-    ensures ran { IsTrue P.tells → IfOk result (λ ran. (ended : Ended) × Ends (P.child command.now) command.now (removed unit.now.out (P.world place.old)) ended (P.world place.new)
-        × (ran ≡ ran_by project.now unit.now ended (answered_of project.now unit.now command.now ended (file_at (dep_info_of project.now unit.now) (P.world place.new).files)))) }
-    ensures started { IfOk result (λ ran. ran.started ≡ true) }
-    ensures directives { IfOk result (λ ran. directives_in (outcome_by finite.empty ran) ≡ ran.directives) }
-    ensures only { IsTrue P.tells → ChangesOnly (is_at_or_below unit.now.out) (P.world place.old) (P.world place.new) }
-    ensures takes { Takes OneStart (MayRun unit.now.key) result (P.counts place.old) (P.counts place.new) }
-{
-    let path = match dep_info_path(alloc, project, unit) {
-        Ok(path) => path,
-        Err(_) => return Err(BuildFault::OutOfMemory),
-    };
-    let ended = match begin(alloc, place, unit.key.as_str(), &unit.out, command) {
-        Ok(ended) => ended,
-        Err(fault) => return Err(fault),
-    };
-    let dep_info = match read_at(alloc, place, unit.key.as_str(), &path) {
-        Ok(dep_info) => dep_info,
-        Err(fault) => return Err(fault),
-    };
-    match judged(alloc, project, unit, command, &ended, &dep_info) {
-        Ok(judgement) => Ok(judgement.ran),
-        Err(_) => Err(BuildFault::OutOfMemory),
-    }
-}
-
-/// Runs the unit at a place of a plan: empties its output folder, starts its child and judges the answer. All units
-/// before it are good, `done` holds their directives, and the place stands for them.
-///
-/// Faults: Child, where its child gave no answer; Device, where its files cannot be removed or its dep-info cannot be
-/// read; OutOfMemory. Each has the unit's key, and no call of the place comes after one that failed. A unit that is
-/// bad is no fault.
-pub fn run_unit<P: Place>(
-    alloc: Global,
-    place: &mut P,
-    setup: &Setup,
-    project: &Project,
-    done: &[Option<Directives>],
-    index: usize,
-    unit: &Planned,
-) -> Result<Ran, BuildFault>
-    requires order { IsInOrder project.now }
-    requires unit { slice_get project.now.plan.planned index ≡ Some unit.now }
-    requires done { IsTrue P.tells → done.now ≡ directives_of (take index (outcomes P.child setup.now project.now (from_nothing project.now.workspace.target (P.world place.old)))) }
-    requires good { IsTrue P.tells → list_all is_good (take index (outcomes P.child setup.now project.now (from_nothing project.now.workspace.target (P.world place.old)))) ≡ true }
-    requires standing { IsTrue P.tells → IsStanding project.now (from_nothing project.now.workspace.target (P.world place.old)) (take index (outcomes P.child setup.now project.now (from_nothing project.now.workspace.target (P.world place.old)))) (P.world place.old) }
-    ensures outcome { IsTrue P.tells → IfOk result (λ ran. slice_get (outcomes P.child setup.now project.now (from_nothing project.now.workspace.target (P.world place.old))) index ≡ Some (outcome_by (files_in unit.now.out (P.world place.new).files) ran)) }
-    ensures only { IsTrue P.tells → ChangesOnly (is_at_or_below unit.now.out) (P.world place.old) (P.world place.new) }
-    ensures started { IfOk result (λ ran. ran.started ≡ true) }
-    ensures directives { IfOk result (λ ran. directives_in (outcome_by finite.empty ran) ≡ ran.directives) }
-    ensures takes { Takes OneStart (MayRun unit.now.key) result (P.counts place.old) (P.counts place.new) }
-{
-    let command = match command(alloc, setup, project, unit, done) {
-        Ok(command) => command,
-        Err(_) => return Err(BuildFault::OutOfMemory),
-    };
-    match carry_out(alloc, place, project, unit, &command) {
-        Ok(ran) => Ok(ran),
-        Err(fault) => Err(fault),
     }
 }

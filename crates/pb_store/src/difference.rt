@@ -1,7 +1,8 @@
 //! What differs between a unit's record and the present.
 
-use pb_data::Text;
+use pb_data::{Text, TryCopy};
 use pb_project::InputName;
+use std::alloc::{AllocError, Global};
 use thiserror::Error;
 
 /// A part of a command, its variables apart, that has changed.
@@ -57,5 +58,17 @@ fn name_text(name: &InputName) -> &str {
     match name {
         InputName::Path(path) => path.as_str(),
         InputName::Variable(name) => name.as_str(),
+    }
+}
+
+impl TryCopy for Difference {
+    fn copy(&self, alloc: Global) -> Result<Difference, AllocError> {
+        match self {
+            Difference::NoRecord => Ok(Difference::NoRecord),
+            Difference::Command(part) => Ok(Difference::Command(*part)),
+            Difference::Pair(name) => Ok(Difference::Pair(name.copy(alloc)?)),
+            Difference::Input(name) => Ok(Difference::Input(name.copy(alloc)?)),
+            Difference::Dependency(key) => Ok(Difference::Dependency(key.copy(alloc)?)),
+        }
     }
 }

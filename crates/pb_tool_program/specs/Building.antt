@@ -4,6 +4,7 @@ use Rattle.std.specs.Io.KnownBytes.{Appends}
 use Rattle.pb_project.specs.declared.project.Project.{Project}
 use Rattle.pb_place.specs.Counts.{up}
 use Rattle.pb_place.specs.World.{World, Answers}
+use Rattle.pb_answer.specs.Explanation.{explanation, said_by_bad}
 use Rattle.pb_answer.specs.ResultLine.{result_line}
 use Rattle.pb_answer.specs.declared.fault.BuildFault.{BuildFault}
 use Rattle.pb_answer.specs.declared.fault.BuildFault.TheVariants.{OutOfMemory}
@@ -46,6 +47,17 @@ abbrev pub TellsWhy : ℕ → Result Summary BuildFault → Heard → Heard → 
 TellsWhy zero answer old new = new ≡ old
 TellsWhy (suc status) answer old new = Tells (error_of answer) old new ⊎ Tells (error_of (Err OutOfMemory)) old new
 
+-- where a build came to its end and it is asked for: why it started what it started, or nothing, where memory is refused for that; else nothing
+abbrev pub TellsReasons : Bool → Result Summary BuildFault → Heard → Heard → Type 0
+TellsReasons false answer old new = new ≡ old
+TellsReasons true (Err fault) old new = new ≡ old
+TellsReasons true (Ok summary) old new = Tells (explanation summary) old new ⊎ (new ≡ old)
+
+-- where a build came to its end: what its bad unit's child wrote that no message line holds, or nothing, where memory is refused for that; else nothing
+abbrev pub TellsSaid : Result Summary BuildFault → Heard → Heard → Type 0
+TellsSaid (Err fault) old new = new ≡ old
+TellsSaid (Ok summary) old new = Tells (said_by_bad summary.bad summary.said) old new ⊎ (new ≡ old)
+
 -- packages of this workspace to which enabled dependencies lead and that have no library
 abbrev pub AreMissing : Options → World → List (List ℕ) → Type 0
 AreMissing options w names = (project : Project) × IsProject options (environment_of options w.variables).target w project × (names ≡ project.plan.without_library)
@@ -54,8 +66,8 @@ AreMissing options w names = (project : Project) × IsProject options (environme
 abbrev pub Notes : Bool → Options → World → Heard → Heard → Type 0
 Notes tells options w old new = (new ≡ old) ⊎ ((names : List (List ℕ)) × (IsTrue tells → AreMissing options w names) × Tells (notes_of names) old new)
 
--- A build was carried out, after reads that started no child, changed nothing and wrote nothing to the output. The status says how it ended, and what is written beside the output, before it and behind it, are the notes and the reason.
-pub record BuildsTold (tells : Bool) (child : Answers) (options : Options) (status : ℕ) (old new : Moment) (said_before said_after : Heard) : Type 0 where
+-- A build was carried out, after reads that started no child, changed nothing and wrote nothing to the output. The status says how it ended. What is written beside the output are the notes before it; and behind it why children were started, where that is asked for, what a failing child said, and why the build failed.
+pub record BuildsTold (tells : Bool) (child : Answers) (options : Options) (explain : Bool) (status : ℕ) (old new : Moment) (said_before said_after : Heard) : Type 0 where
   pub begun : Moment
   pub same : IsTrue tells → begun.world ≡ old.world
   pub silent : begun.heard ≡ old.heard
@@ -66,4 +78,8 @@ pub record BuildsTold (tells : Bool) (child : Answers) (options : Options) (stat
   pub told : status ≡ status_of answer
   pub noted : Heard
   pub notes : Notes tells options old.world said_before noted
-  pub reason : TellsWhy status answer noted said_after
+  pub explained : Heard
+  pub reasons : TellsReasons explain answer noted explained
+  pub repeated : Heard
+  pub said : TellsSaid answer explained repeated
+  pub reason : TellsWhy status answer repeated said_after

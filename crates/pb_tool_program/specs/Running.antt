@@ -61,7 +61,7 @@ Means words folder (Err unasked) = Unasks words folder unasked
 
 -- what comes of that: the build that is asked for, or the session; else the place is not touched
 abbrev pub Does : Bool → Answers → Result Asked Unasked → ℕ → Moment → Moment → Heard → Heard → Type 0
-Does tells child (Ok (Build options)) status old new said_before said_after = BuildsTold tells child options status old new said_before said_after
+Does tells child (Ok (Build options explain)) status old new said_before said_after = BuildsTold tells child options explain status old new said_before said_after
 Does tells child (Ok (Session path)) status old new said_before said_after = RunsFile tells path status old new said_before said_after
 Does tells child (Err unasked) status old new said_before said_after = (new ≡ record old { heard = new.heard }) × Explains unasked status old.heard new.heard said_before said_after
 

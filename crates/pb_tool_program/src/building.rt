@@ -7,9 +7,9 @@ ghost use Rattle.pb_turns.specs.Moments.{Moment, moment};
 ghost use Rattle.pb_answer.specs.ResultLine.{result_line};
 ghost use Rattle.pb_answer.specs.declared.fault.BuildFault.{BuildFault};
 ghost use Rattle.pb_answer.specs.declared.summary.Summary.{Summary};
-ghost use Rattle.pb_tool_program.specs.Building.{status_of, notes_of, error_of, Notes, TellsWhy, BuildsTold};
+ghost use Rattle.pb_tool_program.specs.Building.{status_of, notes_of, error_of, Notes, TellsReasons, TellsSaid, TellsWhy, BuildsTold};
 
-use pb_answer::{BuildFault, Summary, result_line};
+use pb_answer::{BuildFault, Summary, explanation, result_line, said};
 use pb_build::{build, missing_libraries};
 use pb_data::Text;
 use pb_package::Options;
@@ -90,24 +90,70 @@ fn tell<E: Out>(alloc: Global, err: &mut E, status: u8, answer: &Result<Summary,
     };
 }
 
+/// Tells why a build started what it started, where it came to its end and that is asked for. Where memory is refused
+/// for that, nothing is told.
+fn explain_to<E: Out>(
+    alloc: Global,
+    err: &mut E,
+    explain: bool,
+    answer: &Result<Summary, BuildFault>,
+)
+    ensures { TellsReasons explain answer.now record { taken = E.taken err.old; faults = E.faults err.old } record { taken = E.taken err.new; faults = E.faults err.new } }
+{
+    if !explain {
+        return;
+    }
+    let summary = match answer {
+        Ok(summary) => summary,
+        Err(_) => return,
+    };
+    match explanation(alloc, summary) {
+        Ok(text) => {
+            let _ = write_all(err, text.as_bytes());
+        }
+        Err(_) => {}
+    }
+}
+
+/// Tells what the child of a build's bad unit wrote that no message line holds. Where memory is refused for that,
+/// nothing is told.
+fn repeat_to<E: Out>(alloc: Global, err: &mut E, answer: &Result<Summary, BuildFault>)
+    ensures { TellsSaid answer.now record { taken = E.taken err.old; faults = E.faults err.old } record { taken = E.taken err.new; faults = E.faults err.new } }
+{
+    let summary = match answer {
+        Ok(summary) => summary,
+        Err(_) => return,
+    };
+    match said(alloc, summary) {
+        Ok(text) => {
+            let _ = write_all(err, text.as_slice());
+        }
+        Err(_) => {}
+    }
+}
+
 /// Builds, and gives the status: 0 for success, 101 for a build that failed or was refused, with `error: ` and its
 /// result line on `err`. Message lines go to `out` as units end. Before the build a line `note: NAME has no library`
-/// goes to `err` for each package to which an enabled dependency leads and that has no library.
+/// goes to `err` for each package to which an enabled dependency leads and that has no library; behind it, where that
+/// is asked for, why each child was started; and what the child of a bad unit wrote that no message line holds.
 pub fn build_options<P: Place, O: Out, E: Out>(
     alloc: Global,
     place: &mut P,
     out: &mut O,
     err: &mut E,
     options: &Options,
+    explain: bool,
 ) -> u8
     requires none { (P.counts place.old).starts.flying ≡ [] }
-    ensures { BuildsTold P.tells P.child options.now result
+    ensures { BuildsTold P.tells P.child options.now explain result
         (moment (P.world place.old) (P.counts place.old) (P.most place.old) (O.taken out.old) (O.faults out.old)) (moment (P.world place.new) (P.counts place.new) (P.most place.new) (O.taken out.new) (O.faults out.new))
         record { taken = E.taken err.old; faults = E.faults err.old } record { taken = E.taken err.new; faults = E.faults err.new } }
 {
     note(alloc, place, err, options);
     let answer = build(alloc, place, out, options);
     let status = status_of(&answer);
+    explain_to(alloc, err, explain, &answer);
+    repeat_to(alloc, err, &answer);
     tell(alloc, err, status, &answer);
     status
 }

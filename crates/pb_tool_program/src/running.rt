@@ -76,7 +76,9 @@ pub fn run<S: AsStr, P: Place, O: Out, E: Out>(
         record { taken = E.taken err.old; faults = E.faults err.old } record { taken = E.taken err.new; faults = E.faults err.new } }
 {
     match read_command_line(alloc, words, folder) {
-        Ok(Asked::Build(options)) => build_options(alloc, place, out, err, &options),
+        Ok(Asked::Build { options, explain }) => {
+            build_options(alloc, place, out, err, &options, explain)
+        }
         Ok(Asked::Session(path)) => run_file(alloc, place, &path, out, err),
         Err(unasked) => explain(&unasked, out, err),
     }

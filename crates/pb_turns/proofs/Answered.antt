@@ -13,27 +13,27 @@ use Rattle.pb_flight.proofs.Lists.{injective, get_set_other}
 use Rattle.pb_place.specs.World.{World}
 use Rattle.pb_place.specs.declared.child_in_flight.ChildInFlight.{ChildInFlight}
 use Rattle.pb_project.specs.Targets.{unit_at}
-use Rattle.pb_project.specs.declared.fault.UnitFault.{UnitFault}
+use Rattle.pb_answer.specs.declared.bad_unit.BadUnit.{BadUnit}
 use Rattle.pb_run.specs.Halves.{Footing, OnRecords, OnNothing, Basis, HoldsBy, Keeps, StandsGood, IsBegun, CanAnswer, BeginsApart, outcomes_in}
 use Rattle.pb_run.specs.Outcome.{Outcome, directives_in}
 use Rattle.pb_run.specs.Telling.{unit_lines}
 use Rattle.pb_run.specs.declared.begun.Begun.{Begun as unit_begun}
 use Rattle.pb_turns.specs.Crew.{places_of, place_of_unit, ticket_in, number_in, tickets_of, numbers_of, AreApart}
-use Rattle.pb_turns.specs.Rows.{is_started, fault_in, messages_in}
+use Rattle.pb_turns.specs.Rows.{is_started, fault_in, messages_in, Reasons}
 use Rattle.pb_turns.specs.Story.{states_in, Happened, HasGiven, FliesSo, AllBeganFor, BeganFor}
 use Rattle.pb_turns.specs.declared.crew.Aloft.{Aloft}
 use Rattle.pb_turns.proofs.Lists.{all_left, all_get, apart_places, flat_apart, get_map, get_set_within}
 use Rattle.pb_turns.proofs.States.{good_set, begun_cases, answered_cases}
 use Rattle.pb_unit.specs.declared.plan.Planned.{Planned}
 
-not_begun : (s : State UnitFault) → s ≡ Begun → s ≡ Untouched → ⊥
+not_begun : (s : State BadUnit) → s ≡ Begun → s ≡ Untouched → ⊥
 not_begun Untouched e f = cc
 not_begun Begun e f = cc
 not_begun (Answered a) e f = cc
 
 -- What is kept, where the answer of a unit is not told.
 
-module _ (b : Basis) (ss : List (State UnitFault)) (done : List (Option (List Directive))) (next next' : Option ℕ) (w w' : World) (i : ℕ) (answer : Answer UnitFault) (d : Option (List Directive))
+module _ (b : Basis) (ss : List (State BadUnit)) (done : List (Option (List Directive))) (next next' : Option ℕ) (w w' : World) (i : ℕ) (answer : Answer BadUnit) (d : Option (List Directive))
     (old : Keeps b ss done next w) (new : Keeps b (slice_set ss i (Answered answer)) (slice_set done i d) next' w') (at : slice_get ss i ≡ Some Begun) where
   good_other : (place : ℕ) → is_good_at (slice_get ss place) ≡ true → i ≢ place
   good_other place good same = false≢true (ap is_good_at (sym at ∙ ap (slice_get ss) same) ∙ good)
@@ -69,7 +69,7 @@ module _ (b : Basis) (ss : List (State UnitFault)) (done : List (Option (List Di
     records = records_back b.footing new.records;
   }
 
-module _ (b : Basis) (done : List (Option (List Directive))) (aloft : List Aloft) (next next' : Option ℕ) (es : List (Event UnitFault)) (w w' : World)
+module _ (b : Basis) (done : List (Option (List Directive))) (aloft : List Aloft) (next next' : Option ℕ) (es : List (Event BadUnit)) (w w' : World)
     (flying flying' : List ChildInFlight) (still still' : ℕ → Type 0) (h : Happened b done aloft next es w flying still)
     (index : ℕ) (a : Aloft) (at : slice_get aloft index ≡ Some a) (u : Planned) (there : unit_at b.project a.unit ≡ Some u) where
   so : FliesSo b es next w flying still a
@@ -114,7 +114,7 @@ module _ (b : Basis) (done : List (Option (List Directive))) (aloft : List Aloft
 
     -- The answer is noted.
 
-    module _ (answer : Answer UnitFault) (d : Option (List Directive)) (keeps : Keeps b (slice_set (states_in b.project es) a.unit (Answered answer)) (slice_set done a.unit d) next' w')
+    module _ (answer : Answer BadUnit) (d : Option (List Directive)) (keeps : Keeps b (slice_set (states_in b.project es) a.unit (Answered answer)) (slice_set done a.unit d) next' w')
         (outcome : Outcome) (is : slice_get (outcomes_in b) a.unit ≡ Some outcome) (fault : answer.fault ≡ fault_in outcome) (noted : d ≡ directives_in outcome)
         (lines : answer.lines ≡ unit_lines b.project u (is_some a.begun.launched) (messages_in outcome)) where
       flies_after : (j : ℕ) (y : Aloft) → slice_get aloft j ≡ Some y → j ≢ index → FliesSo b es next w flying still y → FliesSo b (Gave a.unit answer ∷ es) next' w' flying' still' y
@@ -139,7 +139,7 @@ module _ (b : Basis) (done : List (Option (List Directive))) (aloft : List Aloft
         noted = get_set_within done a.unit d within ∙ ap Some noted;
       }
 
-      old_given : (place : ℕ) (other : Answer UnitFault) → a.unit ≢ place → HasGiven b es done place other → HasGiven b (Gave a.unit answer ∷ es) (slice_set done a.unit d) place other
+      old_given : (place : ℕ) (other : Answer BadUnit) → a.unit ≢ place → HasGiven b es done place other → HasGiven b (Gave a.unit answer ∷ es) (slice_set done a.unit d) place other
       old_given place other ne g = record {
         unit = g.unit;
         there = g.there;
@@ -150,7 +150,7 @@ module _ (b : Basis) (done : List (Option (List Directive))) (aloft : List Aloft
         noted = get_set_other done a.unit place d ne ∙ g.noted;
       }
 
-      given_after : (place : ℕ) (other : Answer UnitFault) → slice_get (slice_set (states_in b.project es) a.unit (Answered answer)) place ≡ Some (Answered other) → HasGiven b (Gave a.unit answer ∷ es) (slice_set done a.unit d) place other
+      given_after : (place : ℕ) (other : Answer BadUnit) → slice_get (slice_set (states_in b.project es) a.unit (Answered answer)) place ≡ Some (Answered other) → HasGiven b (Gave a.unit answer ∷ es) (slice_set done a.unit d) place other
       given_after place other at_place = elim (answered_cases (states_in b.project es) a.unit place other answer Begun so.state at_place) [
         | inl (same, is_other) ↦ subst (λ n. HasGiven b (Gave a.unit answer ∷ es) (slice_set done a.unit d) n other) same (subst (HasGiven b (Gave a.unit answer ∷ es) (slice_set done a.unit d) a.unit) is_other own_given)
         | inr (ne, before) ↦ old_given place other ne (h.gave place other before)
@@ -163,13 +163,13 @@ module _ (b : Basis) (done : List (Option (List Directive))) (aloft : List Aloft
         gave = given_after;
       }
 
-      pub began_after : (first : World) → AllBeganFor b es first → AllBeganFor b (Gave a.unit answer ∷ es) first
-      began_after first began place has = elim (begun_cases (states_in b.project es) a.unit place (Answered answer) has) [
+      pub began_after : (reasons : Reasons) (first : World) → AllBeganFor b es reasons first → AllBeganFor b (Gave a.unit answer ∷ es) reasons first
+      began_after reasons first began place has = elim (begun_cases (states_in b.project es) a.unit place (Answered answer) has) [
         | inl same ↦ went place (began place (Begun, subst (λ n. slice_get (states_in b.project es) n ≡ Some Begun) same so.state, refl))
         | inr before ↦ went place (began place before)
       ]
         where
-          went : (n : ℕ) → BeganFor b es first n → BeganFor b (Gave a.unit answer ∷ es) first n
+          went : (n : ℕ) → BeganFor b es reasons first n → BeganFor b (Gave a.unit answer ∷ es) reasons first n
           went n f = record {
             unit = f.unit;
             there = f.there;
@@ -179,5 +179,6 @@ module _ (b : Basis) (done : List (Option (List Directive))) (aloft : List Aloft
             difference = f.difference;
             named = f.named;
             started = f.started;
+            noted = f.noted;
             unstarted = f.unstarted;
           }

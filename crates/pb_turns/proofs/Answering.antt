@@ -10,7 +10,7 @@ use Rattle.pb_message.specs.declared.message.Message.{Message}
 use Rattle.pb_place.specs.Folders.{files_in}
 use Rattle.pb_place.specs.World.{World, Map, Answers}
 use Rattle.pb_project.specs.Targets.{unit_at}
-use Rattle.pb_project.specs.declared.fault.UnitFault.{UnitFault}
+use Rattle.pb_answer.specs.declared.bad_unit.BadUnit.{BadUnit}
 use Rattle.pb_project.specs.declared.project.Setup.{Setup}
 use Rattle.pb_record.specs.Parts.{IsReading}
 use Rattle.pb_run.specs.Halves.{Footing, Basis, basis, Keeps, IsBegun, CanAnswer, BeginsApart, outcomes_in}
@@ -30,22 +30,22 @@ use Rattle.pb_unit.specs.declared.plan.Planned.{Planned}
 
 -- What an outcome says of a run.
 
-fault_of : (fault : Option UnitFault) (files : Map) (directives : Option (List Directive)) (messages : List Message) → fault ≡ fault_in (outcome_from fault files directives messages)
+fault_of : (fault : Option BadUnit) (files : Map) (directives : Option (List Directive)) (messages : List Message) → fault ≡ fault_in (outcome_from fault files directives messages)
 fault_of None files directives messages = refl
 fault_of (Some e) files directives messages = refl
 
-messages_of : (fault : Option UnitFault) (files : Map) (directives : Option (List Directive)) (messages : List Message) → messages ≡ messages_in (outcome_from fault files directives messages)
+messages_of : (fault : Option BadUnit) (files : Map) (directives : Option (List Directive)) (messages : List Message) → messages ≡ messages_in (outcome_from fault files directives messages)
 messages_of None files directives messages = refl
 messages_of (Some e) files directives messages = refl
 
-directives_any : (fault : Option UnitFault) (files other : Map) (directives : Option (List Directive)) (messages : List Message) → directives_in (outcome_from fault files directives messages) ≡ directives_in (outcome_from fault other directives messages)
+directives_any : (fault : Option BadUnit) (files other : Map) (directives : Option (List Directive)) (messages : List Message) → directives_in (outcome_from fault files directives messages) ≡ directives_in (outcome_from fault other directives messages)
 directives_any None files other directives messages = refl
 directives_any (Some e) files other directives messages = refl
 
-module _ (tells : Bool) (child : Answers) (first old : UnitCrew) (at now new : Moment) (still still' : ℕ → Type 0) (es : List (Event UnitFault)) (given index : ℕ) (a : Aloft) (u : Planned)
+module _ (tells : Bool) (child : Answers) (first old : UnitCrew) (at now new : Moment) (still still' : ℕ → Type 0) (es : List (Event BadUnit)) (given index : ℕ) (a : Aloft) (u : Planned)
     (there : unit_at old.project a.unit ≡ Some u) (story : Story tells child first at old now still es given) (at_index : slice_get old.aloft.items index ≡ Some a)
     (places : AreApart (places_of old.aloft.items)) (tickets : AreApart (tickets_of old.aloft.items)) (numbers : AreApart (numbers_of old.aloft.items)) (next' : Option ℕ)
-    (others : (footing : Footing) (read : Reading) (setup : Setup) (sources : World) (states : List (State UnitFault)) (done : List (Option (List Directive))) (other : ℕ) (its : unit_begun) → IsReading read → IsTrue tells
+    (others : (footing : Footing) (read : Reading) (setup : Setup) (sources : World) (states : List (State BadUnit)) (done : List (Option (List Directive))) (other : ℕ) (its : unit_begun) → IsReading read → IsTrue tells
     → CanAnswer (basis footing read child setup old.project sources) states done a.unit u a.begun old.store.next now.world now.counts.starts.flying still
     → BeginsApart (basis footing read child setup old.project sources) states a.unit a.begun.launched other its old.store.next now.world now.counts.starts.flying still
     → IsBegun (basis footing read child setup old.project sources) other its next' new.world new.counts.starts.flying still') where
@@ -66,37 +66,37 @@ module _ (tells : Bool) (child : Answers) (first old : UnitCrew) (at now new : M
         places tickets numbers others_now keeps
 
     module _ (ran : Ran) (lines : List ℕ) (outcome : slice_get (outcomes_in (Of f r s)) a.unit ≡ Some (outcome_by (files_in u.out new.world.files) ran))
-        (keeps : Keeps (Of f r s) (slice_set (states_in old.project es) a.unit (Answered record { fault = ran.fault; lines = lines })) (slice_set old.done.items a.unit ran.directives) next' new.world)
+        (keeps : Keeps (Of f r s) (slice_set (states_in old.project es) a.unit (Answered record { fault = ran.bad; lines = lines })) (slice_set old.done.items a.unit ran.directives) next' new.world)
         (noted : directives_in (outcome_by finite.empty ran) ≡ ran.directives) where
       -- memory is refused for its lines
       untold : Happened (Of f r s) old.done.items (remove old.aloft.items index) next' es new.world new.counts.starts.flying still'
-      untold = less (answered.keeps_back (Of f r s) (states_in old.project es) old.done.items old.store.next next' now.world new.world a.unit record { fault = ran.fault; lines = lines } ran.directives h.keeps keeps could.state)
+      untold = less (answered.keeps_back (Of f r s) (states_in old.project es) old.done.items old.store.next next' now.world new.world a.unit record { fault = ran.bad; lines = lines } ran.directives h.keeps keeps could.state)
 
       module _ (started : ran.started ≡ is_some a.begun.launched) (told : lines ≡ unit_lines old.project u ran.started ran.messages) where
         lines_are : lines ≡ unit_lines old.project u (is_some a.begun.launched) (messages_in (outcome_by (files_in u.out new.world.files) ran))
         lines_are = told ∙ ap (λ b. unit_lines old.project u b ran.messages) started
-            ∙ ap (λ ms. unit_lines old.project u (is_some a.begun.launched) ms) (messages_of ran.fault (files_in u.out new.world.files) ran.directives ran.messages)
+            ∙ ap (λ ms. unit_lines old.project u (is_some a.begun.launched) ms) (messages_of ran.bad (files_in u.out new.world.files) ran.directives ran.messages)
 
         noted_is : ran.directives ≡ directives_in (outcome_by (files_in u.out new.world.files) ran)
-        noted_is = sym noted ∙ directives_any ran.fault finite.empty (files_in u.out new.world.files) ran.directives ran.messages
+        noted_is = sym noted ∙ directives_any ran.bad finite.empty (files_in u.out new.world.files) ran.directives ran.messages
 
-        after : Happened (Of f r s) (slice_set old.done.items a.unit ran.directives) (remove old.aloft.items index) next' (Gave a.unit record { fault = ran.fault; lines = lines } ∷ es) new.world new.counts.starts.flying still'
+        after : Happened (Of f r s) (slice_set old.done.items a.unit ran.directives) (remove old.aloft.items index) next' (Gave a.unit record { fault = ran.bad; lines = lines } ∷ es) new.world new.counts.starts.flying still'
         after =
             answered.happened_after (Of f r s) old.done.items old.aloft.items old.store.next next' es now.world new.world now.counts.starts.flying new.counts.starts.flying still still' h index a at_index u there
-            places tickets numbers others_now record { fault = ran.fault; lines = lines } ran.directives keeps (outcome_by (files_in u.out new.world.files) ran) outcome
-            (fault_of ran.fault (files_in u.out new.world.files) ran.directives ran.messages) noted_is lines_are
+            places tickets numbers others_now record { fault = ran.bad; lines = lines } ran.directives keeps (outcome_by (files_in u.out new.world.files) ran) outcome
+            (fault_of ran.bad (files_in u.out new.world.files) ran.directives ran.messages) noted_is lines_are
 
-        after_began : AllBeganFor (Of f r s) es at.world → AllBeganFor (Of f r s) (Gave a.unit record { fault = ran.fault; lines = lines } ∷ es) at.world
+        after_began : AllBeganFor (Of f r s) es old.reasons.items at.world → AllBeganFor (Of f r s) (Gave a.unit record { fault = ran.bad; lines = lines } ∷ es) old.reasons.items at.world
         after_began =
             answered.began_after (Of f r s) old.done.items old.aloft.items old.store.next next' es now.world new.world now.counts.starts.flying new.counts.starts.flying still still' h index a at_index u there
-            places tickets numbers others_now record { fault = ran.fault; lines = lines } ran.directives keeps (outcome_by (files_in u.out new.world.files) ran) outcome
-            (fault_of ran.fault (files_in u.out new.world.files) ran.directives ran.messages) noted_is lines_are at.world
+            places tickets numbers others_now record { fault = ran.bad; lines = lines } ran.directives keeps (outcome_by (files_in u.out new.world.files) ran) outcome
+            (fault_of ran.bad (files_in u.out new.world.files) ran.directives ran.messages) noted_is lines_are old.reasons.items at.world
 
   -- a fault came in its place
   pub failed_happened : (aloft' : List Aloft) → aloft' ≡ remove old.aloft.items index
-      → ((footing : Footing) (read : Reading) (setup : Setup) (sources : World) (states : List (State UnitFault)) (done : List (Option (List Directive))) → IsReading read → IsTrue tells
+      → ((footing : Footing) (read : Reading) (setup : Setup) (sources : World) (states : List (State BadUnit)) (done : List (Option (List Directive))) → IsReading read → IsTrue tells
       → CanAnswer (basis footing read child setup old.project sources) states done a.unit u a.begun old.store.next now.world now.counts.starts.flying still → Keeps (basis footing read child setup old.project sources) states done next' new.world)
-      → IsTrue tells → FromFirst child first at old (λ b. Happened b old.done.items aloft' next' es new.world new.counts.starts.flying still' × AllBeganFor b es at.world)
+      → IsTrue tells → FromFirst child first at old (λ b. Happened b old.done.items aloft' next' es new.world new.counts.starts.flying still' × AllBeganFor b es old.reasons.items at.world)
   failed_happened aloft' same keeps t f r s reading k =
       let (h, began) = story.happened t f r s reading k in (
         subst (λ (items : List Aloft). Happened (Of f r s) old.done.items items next' es new.world new.counts.starts.flying still') (sym same)
@@ -105,15 +105,15 @@ module _ (tells : Bool) (child : Answers) (first old : UnitCrew) (at now new : M
       )
 
   module _ (ran : Ran)
-      (outcome : (footing : Footing) (read : Reading) (setup : Setup) (sources : World) (states : List (State UnitFault)) (done : List (Option (List Directive))) → IsReading read → IsTrue tells
+      (outcome : (footing : Footing) (read : Reading) (setup : Setup) (sources : World) (states : List (State BadUnit)) (done : List (Option (List Directive))) → IsReading read → IsTrue tells
       → CanAnswer (basis footing read child setup old.project sources) states done a.unit u a.begun old.store.next now.world now.counts.starts.flying still
       → slice_get (outcomes_in (basis footing read child setup old.project sources)) a.unit ≡ Some (outcome_by (files_in u.out new.world.files) ran))
-      (keeps : (footing : Footing) (read : Reading) (setup : Setup) (sources : World) (states : List (State UnitFault)) (done : List (Option (List Directive))) → IsReading read → IsTrue tells
+      (keeps : (footing : Footing) (read : Reading) (setup : Setup) (sources : World) (states : List (State BadUnit)) (done : List (Option (List Directive))) → IsReading read → IsTrue tells
       → CanAnswer (basis footing read child setup old.project sources) states done a.unit u a.begun old.store.next now.world now.counts.starts.flying still
-      → (lines : List ℕ) → Keeps (basis footing read child setup old.project sources) (slice_set states a.unit (Answered record { fault = ran.fault; lines = lines })) (slice_set done a.unit ran.directives) next' new.world)
+      → (lines : List ℕ) → Keeps (basis footing read child setup old.project sources) (slice_set states a.unit (Answered record { fault = ran.bad; lines = lines })) (slice_set done a.unit ran.directives) next' new.world)
       (noted : directives_in (outcome_by finite.empty ran) ≡ ran.directives) where
     -- memory is refused for its lines
-    pub untold_happened : (aloft' : List Aloft) → aloft' ≡ remove old.aloft.items index → IsTrue tells → FromFirst child first at old (λ b. Happened b old.done.items aloft' next' es new.world new.counts.starts.flying still' × AllBeganFor b es at.world)
+    pub untold_happened : (aloft' : List Aloft) → aloft' ≡ remove old.aloft.items index → IsTrue tells → FromFirst child first at old (λ b. Happened b old.done.items aloft' next' es new.world new.counts.starts.flying still' × AllBeganFor b es old.reasons.items at.world)
     untold_happened aloft' same t f r s reading k =
         let (h, began) = story.happened t f r s reading k in
         let can = could t f r s reading h in (
@@ -125,14 +125,14 @@ module _ (tells : Bool) (child : Answers) (first old : UnitCrew) (at now new : M
     -- it has answered
     pub answered_happened : (lines : List ℕ) (aloft' : List Aloft) (done' : List (Option (List Directive))) → aloft' ≡ remove old.aloft.items index → done' ≡ slice_set old.done.items a.unit ran.directives
         → ran.started ≡ is_some a.begun.launched → lines ≡ unit_lines old.project u ran.started ran.messages → IsTrue tells
-        → FromFirst child first at old (λ b. Happened b done' aloft' next' (Gave a.unit record { fault = ran.fault; lines = lines } ∷ es) new.world new.counts.starts.flying still' × AllBeganFor b (Gave a.unit record { fault = ran.fault; lines = lines } ∷ es) at.world)
+        → FromFirst child first at old (λ b. Happened b done' aloft' next' (Gave a.unit record { fault = ran.bad; lines = lines } ∷ es) new.world new.counts.starts.flying still' × AllBeganFor b (Gave a.unit record { fault = ran.bad; lines = lines } ∷ es) old.reasons.items at.world)
     answered_happened lines aloft' done' same set started told t f r s reading k =
         let (h, began) = story.happened t f r s reading k in
         let can = could t f r s reading h in
         let is = outcome f r old.setup s (states_in old.project es) old.done.items reading t can in
         let kept = keeps f r old.setup s (states_in old.project es) old.done.items reading t can lines in (
-          subst (λ ds. Happened (Of f r s) ds aloft' next' (Gave a.unit record { fault = ran.fault; lines = lines } ∷ es) new.world new.counts.starts.flying still') (sym set)
-              (subst (λ (items : List Aloft). Happened (Of f r s) (slice_set old.done.items a.unit ran.directives) items next' (Gave a.unit record { fault = ran.fault; lines = lines } ∷ es) new.world new.counts.starts.flying still') (sym same)
+          subst (λ ds. Happened (Of f r s) ds aloft' next' (Gave a.unit record { fault = ran.bad; lines = lines } ∷ es) new.world new.counts.starts.flying still') (sym set)
+              (subst (λ (items : List Aloft). Happened (Of f r s) (slice_set old.done.items a.unit ran.directives) items next' (Gave a.unit record { fault = ran.bad; lines = lines } ∷ es) new.world new.counts.starts.flying still') (sym same)
               (after t f r s reading h ran lines is kept noted started told)),
           after_began t f r s reading h ran lines is kept noted started told began,
         )

@@ -1,14 +1,13 @@
 -- The story of a crew, where a unit begins.
-use Rattle.std.proofs.Common.{◌≡◌, ◌++◌, Bool, false, List, [], ◌∷◌, ℕ, Option, Some, None, IsTrue, refl, sym, subst, slice_set, is_some}
-use Rattle.std.specs.Option.{option_map}
-use Rattle.std.specs.Prelude.{IfSome}
+use Rattle.std.proofs.Common.{◌≡◌, ◌++◌, Bool, false, List, [], ◌∷◌, ℕ, Option, Some, None, IsTrue, refl, sym, subst, slice_set, is_some, ◌<◌, length}
+use Rattle.std.specs.Prelude.{MatchOption}
 use Rattle.pb_directive.specs.declared.directive.Directive.{Directive}
 use Rattle.pb_flight.specs.declared.flight.State.{State}
 use Rattle.pb_flight.specs.declared.flight.State.TheVariants.{Begun}
 use Rattle.pb_flight.specs.Events.{Event, Began, MayBegin}
 use Rattle.pb_place.specs.World.{World, Answers}
 use Rattle.pb_project.specs.Targets.{unit_at}
-use Rattle.pb_project.specs.declared.fault.UnitFault.{UnitFault}
+use Rattle.pb_answer.specs.declared.bad_unit.BadUnit.{BadUnit}
 use Rattle.pb_project.specs.declared.project.Project.{Project}
 use Rattle.pb_record.specs.Parts.{IsReading}
 use Rattle.pb_run.specs.Halves.{Footing, Basis, basis, Keeps, IsBegun, CanBegin, BeginsApart}
@@ -26,88 +25,89 @@ use Rattle.pb_turns.specs.declared.crew.Aloft.{Aloft}
 use Rattle.pb_turns.specs.declared.crew.UnitCrew.{UnitCrew}
 use Rattle.pb_turns.proofs.Happening as happening
 use Rattle.pb_unit.specs.declared.plan.Planned.{Planned}
+use Rattle.pb_turns.specs.Rows.{Reasons}
+use Rattle.pb_store.specs.declared.difference.Difference.{Difference}
 
 -- the same lists
-pub goes_lists : (project : Project) (first now : Moment) (started started' : List ℕ) (aloft aloft' : List Aloft) (es : List (Event UnitFault)) (given : ℕ) → started' ≡ started → aloft' ≡ aloft → Goes project first now started aloft es given → Goes project first now started' aloft' es given
+pub goes_lists : (project : Project) (first now : Moment) (started started' : List ℕ) (aloft aloft' : List Aloft) (es : List (Event BadUnit)) (given : ℕ) → started' ≡ started → aloft' ≡ aloft → Goes project first now started aloft es given → Goes project first now started' aloft' es given
 goes_lists project first now started started' aloft aloft' es given s a goes =
     subst (λ xs. Goes project first now xs aloft' es given) (sym s) (subst (λ (xs : List Aloft). Goes project first now started xs es given) (sym a) goes)
 
 -- the run number of a child that was spawned
-pub by_number : (next next' : Option ℕ) (o : Option Launched) → IfSome o (λ launched. (next ≡ Some launched.number) × (next' ≡ after launched.number)) → (l : Launched) → o ≡ Some l → (next ≡ Some l.number) × (next' ≡ after l.number)
-by_number next next' o number l is = subst (λ o. IfSome o (λ launched. (next ≡ Some launched.number) × (next' ≡ after launched.number))) is number
+pub by_number : (next next' : Option ℕ) (o : Option Launched) → MatchOption o (next' ≡ next) (λ launched. (next ≡ Some launched.number) × (next' ≡ after launched.number)) → (l : Launched) → o ≡ Some l → (next ≡ Some l.number) × (next' ≡ after l.number)
+by_number next next' o number l is = subst (λ o. MatchOption o (next' ≡ next) (λ launched. (next ≡ Some launched.number) × (next' ≡ after launched.number))) is number
 
-flag_of : (o : Option Launched) → is_some o ≡ is_some (option_map (λ (l : Launched). l.difference) o)
-flag_of None = refl
-flag_of (Some l) = refl
-
-module _ (tells : Bool) (child : Answers) (first old : UnitCrew) (at now new : Moment) (still still' : ℕ → Type 0) (es : List (Event UnitFault)) (given unit : ℕ) (u : Planned)
+module _ (tells : Bool) (child : Answers) (first old : UnitCrew) (at now new : Moment) (still still' : ℕ → Type 0) (es : List (Event BadUnit)) (given unit : ℕ) (u : Planned)
     (order : IsInOrder old.project) (there : unit_at old.project unit ≡ Some u) (story : Story tells child first at old now still es given) (may : MayBegin (needs_of old.project) (states_in old.project es) unit) where
   abbrev Of : Footing → Reading → World → Basis
   Of footing read sources = basis footing read child old.setup old.project sources
 
   -- nothing has changed
   pub refused_happened : (aloft' : List Aloft) → aloft' ≡ old.aloft.items → IsTrue tells
-      → FromFirst child first at old (λ b. Happened b old.done.items aloft' old.store.next (Began unit false ∷ es) now.world now.counts.starts.flying still × AllBeganFor b es at.world)
+      → FromFirst child first at old (λ b. Happened b old.done.items aloft' old.store.next (Began unit false ∷ es) now.world now.counts.starts.flying still × AllBeganFor b es old.reasons.items at.world)
   refused_happened aloft' same t f r s reading k =
       let (h, began) = story.happened t f r s reading k in
-      let could = happening.can (Of f r s) order at.world old.done.items old.aloft.items old.store.next old.store.next es now.world now.world now.counts.starts.flying now.counts.starts.flying still still h began (story.changes t).only unit u there may in (
+      let could = happening.can (Of f r s) order at.world old.done.items old.aloft.items old.store.next old.store.next es now.world now.world now.counts.starts.flying now.counts.starts.flying still still old.reasons.items h began (story.changes t).only unit u there may in (
         subst (λ (items : List Aloft). Happened (Of f r s) old.done.items items old.store.next (Began unit false ∷ es) now.world now.counts.starts.flying still) (sym same)
-            (happening.happened_begun (Of f r s) order at.world old.done.items old.aloft.items old.store.next old.store.next es now.world now.world now.counts.starts.flying now.counts.starts.flying still still h began (story.changes t).only unit u there may false
+            (happening.happened_begun (Of f r s) order at.world old.done.items old.aloft.items old.store.next old.store.next es now.world now.world now.counts.starts.flying now.counts.starts.flying still still old.reasons.items h began (story.changes t).only unit u there may false
             (keeps_same (Of f r s) order unit u there (states_in old.project es) old.done.items old.store.next now.world could now.world refl) (λ other its apart. apart.begun_so)),
         began,
       )
 
   -- by what is said of the call
   module _ (next' : Option ℕ) (done : List (Option (List Directive))) (same_done : done ≡ old.done.items)
-      (keeps : (footing : Footing) (read : Reading) (sources : World) (states : List (State UnitFault)) → IsReading read → IsTrue tells → CanBegin (Of footing read sources) states done unit u old.store.next now.world → Keeps (Of footing read sources) (slice_set states unit Begun) done next' new.world)
-      (others : (footing : Footing) (read : Reading) (sources : World) (states : List (State UnitFault)) (other : ℕ) (its : unit_begun) → IsReading read → IsTrue tells → CanBegin (Of footing read sources) states done unit u old.store.next now.world
+      (keeps : (footing : Footing) (read : Reading) (sources : World) (states : List (State BadUnit)) → IsReading read → IsTrue tells → CanBegin (Of footing read sources) states done unit u old.store.next now.world → Keeps (Of footing read sources) (slice_set states unit Begun) done next' new.world)
+      (others : (footing : Footing) (read : Reading) (sources : World) (states : List (State BadUnit)) (other : ℕ) (its : unit_begun) → IsReading read → IsTrue tells → CanBegin (Of footing read sources) states done unit u old.store.next now.world
       → BeginsApart (Of footing read sources) states unit None other its old.store.next now.world now.counts.starts.flying still → IsBegun (Of footing read sources) other its next' new.world new.counts.starts.flying still') where
     module _ (t : IsTrue tells) (f : Footing) (r : Reading) (s : World) (reading : IsReading r)
-        (h : Happened (Of f r s) old.done.items old.aloft.items old.store.next es now.world now.counts.starts.flying still) (began : AllBeganFor (Of f r s) es at.world) where
+        (h : Happened (Of f r s) old.done.items old.aloft.items old.store.next es now.world now.counts.starts.flying still) (began : AllBeganFor (Of f r s) es old.reasons.items at.world) where
       could : CanBegin (Of f r s) (states_in old.project es) done unit u old.store.next now.world
       could = subst (λ d. CanBegin (Of f r s) (states_in old.project es) d unit u old.store.next now.world) (sym same_done)
-          (happening.can (Of f r s) order at.world old.done.items old.aloft.items old.store.next next' es now.world new.world now.counts.starts.flying new.counts.starts.flying still still' h began (story.changes t).only unit u there may)
+          (happening.can (Of f r s) order at.world old.done.items old.aloft.items old.store.next next' es now.world new.world now.counts.starts.flying new.counts.starts.flying still still' old.reasons.items h began (story.changes t).only unit u there may)
 
       keeps_now : Keeps (Of f r s) (slice_set (states_in old.project es) unit Begun) old.done.items next' new.world
       keeps_now = subst (λ d. Keeps (Of f r s) (slice_set (states_in old.project es) unit Begun) d next' new.world) same_done (keeps f r s (states_in old.project es) reading t could)
 
       failed : (spawned : Bool) → Happened (Of f r s) old.done.items old.aloft.items next' (Began unit spawned ∷ es) new.world new.counts.starts.flying still'
       failed spawned =
-          happening.happened_begun (Of f r s) order at.world old.done.items old.aloft.items old.store.next next' es now.world new.world now.counts.starts.flying new.counts.starts.flying still still' h began (story.changes t).only unit u there may spawned
+          happening.happened_begun (Of f r s) order at.world old.done.items old.aloft.items old.store.next next' es now.world new.world now.counts.starts.flying new.counts.starts.flying still still' old.reasons.items h began (story.changes t).only unit u there may spawned
           keeps_now (λ other its apart. others f r s (states_in old.project es) other its reading t could apart)
 
       module _ (begun : unit_begun)
-          (begins : (footing : Footing) (read : Reading) (sources : World) (states : List (State UnitFault)) → IsReading read → IsTrue tells → CanBegin (Of footing read sources) states done unit u old.store.next now.world → IsBegun (Of footing read sources) unit begun next' new.world new.counts.starts.flying still')
-          (differs : (read : Reading) → IsReading read → IsTrue tells → FirstDifference read (records_folder old.project) u.key begun.command now.world (option_map (λ (l : Launched). l.difference) begun.launched))
+          (begins : (footing : Footing) (read : Reading) (sources : World) (states : List (State BadUnit)) → IsReading read → IsTrue tells → CanBegin (Of footing read sources) states done unit u old.store.next now.world → IsBegun (Of footing read sources) unit begun next' new.world new.counts.starts.flying still')
+          (difference : Option Difference) (differs : (read : Reading) → IsReading read → IsTrue tells → FirstDifference read (records_folder old.project) u.key begun.command now.world difference)
+          (spawned : is_some begun.launched ≡ is_some difference) (within : unit < length old.reasons.items)
           (quiet : IsQuiet (Of f r s) es at.world now.world) where
         well : Happened (Of f r s) old.done.items (old.aloft.items ++ record { unit = unit; begun = begun } ∷ []) next' (Began unit (is_some begun.launched) ∷ es) new.world new.counts.starts.flying still'
         well =
-            happening.happened_more (Of f r s) order at.world old.done.items old.aloft.items old.store.next next' es now.world new.world now.counts.starts.flying new.counts.starts.flying still still' h began (story.changes t).only unit u there may (is_some begun.launched)
+            happening.happened_more (Of f r s) order at.world old.done.items old.aloft.items old.store.next next' es now.world new.world now.counts.starts.flying new.counts.starts.flying still still' old.reasons.items h began (story.changes t).only unit u there may (is_some begun.launched)
             keeps_now (λ other its apart. others f r s (states_in old.project es) other its reading t could apart)
             record { unit = unit; begun = begun } refl refl (begins f r s (states_in old.project es) reading t could)
 
-        well_began : AllBeganFor (Of f r s) (Began unit (is_some begun.launched) ∷ es) at.world
+        well_began : AllBeganFor (Of f r s) (Began unit (is_some begun.launched) ∷ es) (slice_set old.reasons.items unit (Some difference)) at.world
         well_began =
-            happening.began_more (Of f r s) order at.world old.done.items old.aloft.items old.store.next next' es now.world new.world now.counts.starts.flying new.counts.starts.flying still still' h began (story.changes t).only unit u there may (is_some begun.launched)
+            happening.began_more (Of f r s) order at.world old.done.items old.aloft.items old.store.next next' es now.world new.world now.counts.starts.flying new.counts.starts.flying still still' old.reasons.items h began (story.changes t).only unit u there may (is_some begun.launched)
             keeps_now (λ other its apart. others f r s (states_in old.project es) other its reading t could apart)
             record { unit = unit; begun = begun } refl refl (begins f r s (states_in old.project es) reading t could)
-            (option_map (λ (l : Launched). l.difference) begun.launched) (differs r reading t) (flag_of begun.launched) quiet
+            difference (differs r reading t) spawned within quiet
 
     -- a fault came
     pub failed_happened : (spawned : Bool) (aloft' : List Aloft) → aloft' ≡ old.aloft.items → IsTrue tells
-        → FromFirst child first at old (λ b. Happened b old.done.items aloft' next' (Began unit spawned ∷ es) new.world new.counts.starts.flying still' × AllBeganFor b es at.world)
+        → FromFirst child first at old (λ b. Happened b old.done.items aloft' next' (Began unit spawned ∷ es) new.world new.counts.starts.flying still' × AllBeganFor b es old.reasons.items at.world)
     failed_happened spawned aloft' same t f r s reading k =
         let (h, began) = story.happened t f r s reading k in
         (subst (λ (items : List Aloft). Happened (Of f r s) old.done.items items next' (Began unit spawned ∷ es) new.world new.counts.starts.flying still') (sym same) (failed t f r s reading h began spawned), began)
 
     -- it has begun
-    pub begun_happened : (begun : unit_begun) (aloft' : List Aloft) → aloft' ≡ old.aloft.items ++ record { unit = unit; begun = begun } ∷ []
-        → ((footing : Footing) (read : Reading) (sources : World) (states : List (State UnitFault)) → IsReading read → IsTrue tells → CanBegin (Of footing read sources) states done unit u old.store.next now.world → IsBegun (Of footing read sources) unit begun next' new.world new.counts.starts.flying still')
-        → ((read : Reading) → IsReading read → IsTrue tells → FirstDifference read (records_folder old.project) u.key begun.command now.world (option_map (λ (l : Launched). l.difference) begun.launched)) → IsTrue tells
-        → FromFirst child first at old (λ b. Happened b old.done.items aloft' next' (Began unit (is_some begun.launched) ∷ es) new.world new.counts.starts.flying still' × AllBeganFor b (Began unit (is_some begun.launched) ∷ es) at.world)
-    begun_happened begun aloft' more begins differs t f r s reading k =
+    pub begun_happened : (begun : unit_begun) (aloft' : List Aloft) (difference : Option Difference) (reasons' : Reasons) → aloft' ≡ old.aloft.items ++ record { unit = unit; begun = begun } ∷ []
+        → ((footing : Footing) (read : Reading) (sources : World) (states : List (State BadUnit)) → IsReading read → IsTrue tells → CanBegin (Of footing read sources) states done unit u old.store.next now.world → IsBegun (Of footing read sources) unit begun next' new.world new.counts.starts.flying still')
+        → ((read : Reading) → IsReading read → IsTrue tells → FirstDifference read (records_folder old.project) u.key begun.command now.world difference) → is_some begun.launched ≡ is_some difference → unit < length old.reasons.items
+        → reasons' ≡ slice_set old.reasons.items unit (Some difference) → IsTrue tells
+        → FromFirst child first at old (λ b. Happened b old.done.items aloft' next' (Began unit (is_some begun.launched) ∷ es) new.world new.counts.starts.flying still' × AllBeganFor b (Began unit (is_some begun.launched) ∷ es) reasons' at.world)
+    begun_happened begun aloft' difference reasons' more begins differs spawned within noted t f r s reading k =
         let (h, began) = story.happened t f r s reading k in
         let quiet = story.quiet t f r s reading k in (
-          subst (λ (items : List Aloft). Happened (Of f r s) old.done.items items next' (Began unit (is_some begun.launched) ∷ es) new.world new.counts.starts.flying still') (sym more) (well t f r s reading h began begun begins differs quiet),
-          well_began t f r s reading h began begun begins differs quiet,
+          subst (λ (items : List Aloft). Happened (Of f r s) old.done.items items next' (Began unit (is_some begun.launched) ∷ es) new.world new.counts.starts.flying still') (sym more) (well t f r s reading h began begun begins difference differs spawned within quiet),
+          subst (λ (items : Reasons). AllBeganFor (Of f r s) (Began unit (is_some begun.launched) ∷ es) items at.world) (sym noted)
+              (well_began t f r s reading h began begun begins difference differs spawned within quiet),
         )

@@ -11,7 +11,7 @@ use Rattle.pb_place.specs.Children.{child_at, is_flying}
 use Rattle.pb_place.specs.World.{World, ChangesOnly}
 use Rattle.pb_place.specs.declared.child_in_flight.ChildInFlight.{ChildInFlight}
 use Rattle.pb_project.specs.Targets.{unit_at}
-use Rattle.pb_project.specs.declared.fault.UnitFault.{UnitFault}
+use Rattle.pb_answer.specs.declared.bad_unit.BadUnit.{BadUnit}
 use Rattle.pb_project.specs.declared.project.Project.{Project}
 use Rattle.pb_run.specs.Halves.{WritesTo}
 use Rattle.pb_run.specs.Standing.{records_folder}
@@ -34,7 +34,7 @@ writes_on out (Some l) flying flying' flies stay writes =
     subst (λ (x : Option ChildInFlight). IfSome x (λ s. s.command.out ≡ Some out)) (at ∙ sym (stay l refl f at)) writes
 
 -- only what is of these units was changed, also where one more has begun
-only_more : (project : Project) (es : List (Event UnitFault)) (e : Event UnitFault) (first w w' : World) (unit : ℕ) (u : Planned) → unit_at project unit ≡ Some u
+only_more : (project : Project) (es : List (Event BadUnit)) (e : Event BadUnit) (first w w' : World) (unit : ℕ) (u : Planned) → unit_at project unit ≡ Some u
     → HasBegun (states_in project (e ∷ es)) unit → ((place : ℕ) → HasBegun (states_in project es) place → HasBegun (states_in project (e ∷ es)) place) → ChangesOnly (is_of (records_folder project) u.key) w w' → OnlyOf project es first w → OnlyOf project (e ∷ es) first w'
 only_more project es e first w w' unit u there now before only old = record {
   variables = only.variables ∙ old.variables;
@@ -49,7 +49,7 @@ changes_first project w aloft flying none = record {
   only = record { variables = refl; files = λ q outside. refl };
 }
 
-module _ (project : Project) (first : World) (aloft : List Aloft) (es : List (Event UnitFault)) (w w' : World) (flying flying' : List ChildInFlight) (old : Changes project first aloft es w flying)
+module _ (project : Project) (first : World) (aloft : List Aloft) (es : List (Event BadUnit)) (w w' : World) (flying flying' : List ChildInFlight) (old : Changes project first aloft es w flying)
     (flies : (index : ℕ) (a : Aloft) → slice_get aloft index ≡ Some a → IfSome a.begun.launched (λ l. is_flying l.ticket flying ≡ true)) where
   -- A unit begins.
 
@@ -117,7 +117,7 @@ module _ (project : Project) (first : World) (aloft : List Aloft) (es : List (Ev
       }
 
       -- it is
-      pub changes_after : (answer : Answer UnitFault) → Changes project first aloft' (Gave a.unit answer ∷ es) w' flying'
+      pub changes_after : (answer : Answer BadUnit) → Changes project first aloft' (Gave a.unit answer ∷ es) w' flying'
       changes_after answer = record {
         flies = subst (AllByRecursion (FliesIn project (Gave a.unit answer ∷ es) flying')) (sym is)
             (all_left (FliesIn project es flying) (FliesIn project (Gave a.unit answer ∷ es) flying') aloft index (λ j y at_j ne f. record {

@@ -17,7 +17,7 @@ use Rattle.pb_flight.proofs.Handing.{due_split}
 use Rattle.pb_flight.proofs.Lists.{injective, clash, get_set_same}
 use Rattle.pb_place.specs.Counts.{Counts, Starts, up, up_starts}
 use Rattle.pb_project.specs.Targets.{unit_at}
-use Rattle.pb_project.specs.declared.fault.UnitFault.{UnitFault}
+use Rattle.pb_answer.specs.declared.bad_unit.BadUnit.{BadUnit}
 use Rattle.pb_project.specs.declared.project.Project.{Project}
 use Rattle.pb_run.specs.Causes.{HasCause, MayBeginUnit, MayAnswerUnit, BeginsBy, LandsBy}
 use Rattle.pb_run.specs.declared.begun.Launched.{Launched}
@@ -104,7 +104,7 @@ upped_more n m xs unit is = ap up is ∙ ap (λ k. upped k m) (sym (length_push 
 
 -- A unit begins.
 
-module _ (project : Project) (first now new : Moment) (started : List ℕ) (aloft : List Aloft) (es : List (Event UnitFault)) (given unit : ℕ) (goes : Goes project first now started aloft es given)
+module _ (project : Project) (first now new : Moment) (started : List ℕ) (aloft : List Aloft) (es : List (Event BadUnit)) (given unit : ℕ) (goes : Goes project first now started aloft es given)
     (is_given : given ≡ count_due (states_in project es)) (untouched : slice_get (states_in project es) unit ≡ Some Untouched) (heard : new.heard ≡ now.heard) where
   lines_begun : Appends first.heard.taken new.heard.taken (due_first given (slice_set (states_in project es) unit Begun))
   lines_begun =
@@ -181,7 +181,7 @@ module _ (project : Project) (first now new : Moment) (started : List ℕ) (alof
 
 -- A unit answers.
 
-module _ (project : Project) (first now new : Moment) (started : List ℕ) (aloft : List Aloft) (es : List (Event UnitFault)) (given : ℕ) (goes : Goes project first now started aloft es given)
+module _ (project : Project) (first now new : Moment) (started : List ℕ) (aloft : List Aloft) (es : List (Event BadUnit)) (given : ℕ) (goes : Goes project first now started aloft es given)
     (is_given : given ≡ count_due (states_in project es)) (index : ℕ) (a : Aloft) (at : slice_get aloft index ≡ Some a) (begun : slice_get (states_in project es) a.unit ≡ Some Begun) (heard : new.heard ≡ now.heard) where
   lines_same : (n : ℕ) → Appends first.heard.taken now.heard.taken (due_first n (states_in project es)) → Appends first.heard.taken new.heard.taken (due_first n (states_in project es))
   lines_same n lines = subst (λ (x : Heard). Appends first.heard.taken x.taken (due_first n (states_in project es))) (sym heard) lines
@@ -193,7 +193,7 @@ module _ (project : Project) (first now new : Moment) (started : List ℕ) (alof
   starts_same None same = ap (λ (s : Starts). s.count) same ∙ goes.starts
   starts_same (Some l) landed = ap (λ (s : Starts). s.count) landed ∙ goes.starts
 
-  pub goes_answered : AreApart (places_of aloft) → (answer : Answer UnitFault) → new.counts.failures ≡ now.counts.failures → LandsBy a.begun.launched now.counts.starts new.counts.starts → new.most ≡ now.most
+  pub goes_answered : AreApart (places_of aloft) → (answer : Answer BadUnit) → new.counts.failures ≡ now.counts.failures → LandsBy a.begun.launched now.counts.starts new.counts.starts → new.most ≡ now.most
       → Goes project first new started (remove aloft index) (Gave a.unit answer ∷ es) given
   goes_answered apart answer failures lands most = record {
     started_are = goes.started_are;
@@ -239,7 +239,7 @@ module _ (project : Project) (first now new : Moment) (started : List ℕ) (alof
 
 -- Lines are handed out.
 
-module _ (project : Project) (first now new : Moment) (started : List ℕ) (aloft : List Aloft) (es : List (Event UnitFault)) (given : ℕ) (goes : Goes project first now started aloft es given)
+module _ (project : Project) (first now new : Moment) (started : List ℕ) (aloft : List Aloft) (es : List (Event BadUnit)) (given : ℕ) (goes : Goes project first now started aloft es given)
     (counts : new.counts ≡ now.counts) (most : new.most ≡ now.most) where
   pub goes_told : Appends now.heard.taken new.heard.taken (due_after given (states_in project es)) → new.heard.faults ≡ now.heard.faults → Goes project first new started aloft es (count_due (states_in project es))
   goes_told lines faults = record {

@@ -21,7 +21,7 @@ use Rattle.pb_flight.proofs.Lists.{injective, clash, length_set}
 use Rattle.pb_place.specs.World.{World, Answers}
 use Rattle.pb_place.specs.declared.child_in_flight.ChildInFlight.{ChildInFlight}
 use Rattle.pb_project.specs.Targets.{unit_at}
-use Rattle.pb_project.specs.declared.fault.UnitFault.{UnitFault}
+use Rattle.pb_answer.specs.declared.bad_unit.BadUnit.{BadUnit}
 use Rattle.pb_project.specs.declared.project.Project.{Project}
 use Rattle.pb_project.specs.declared.project.Setup.{Setup}
 use Rattle.pb_record.specs.Parts.{IsReading}
@@ -33,9 +33,9 @@ use Rattle.pb_soundness.specs.Records.{Reading}
 use Rattle.pb_turns.specs.Crew.{needs_of, launched_of, ticket_of_child}
 use Rattle.pb_turns.specs.Ends.{rows_in, nothing_said, Stands, StandsWhole, StandsCut, EndsWhole, EndsCut, Grounding, Dropped, Drained}
 use Rattle.pb_turns.specs.Moments.{Moment, Heard}
-use Rattle.pb_turns.specs.Rows.{summary_of, started_keys, is_started, messages_in, bad_of, directives_told}
+use Rattle.pb_turns.specs.Rows.{summary_of, started_keys, is_started, messages_in, bad_of, directives_told, Reasons, key_told, said_told, differences_of, kept_of}
 use Rattle.pb_turns.specs.Story.{states_in, untouched, Stops, Changes, Happened, AllBeganFor, Story, StoryEnds, OnlyOf}
-use Rattle.pb_turns.specs.Summing.{summary_by, bad_told, noted_of, count_told, keys_at}
+use Rattle.pb_turns.specs.Summing.{summary_by, bad_told, noted_of, count_told, keys_at, differences_at}
 use Rattle.pb_turns.specs.declared.crew.Aloft.{Aloft}
 use Rattle.pb_turns.specs.declared.crew.UnitCrew.{UnitCrew}
 use Rattle.pb_turns.proofs.Changing.{changes_first}
@@ -66,12 +66,12 @@ in_plan_order project order u v wanted at has =
 
 -- Nothing has begun.
 
-untouched_at : (needs : List (List ℕ)) (place : ℕ) (s : State UnitFault) → slice_get (map (λ _. Untouched) needs) place ≡ Some s → s ≡ Untouched
+untouched_at : (needs : List (List ℕ)) (place : ℕ) (s : State BadUnit) → slice_get (map (λ _. Untouched) needs) place ≡ Some s → s ≡ Untouched
 untouched_at [] place s at = absurd (clash at)
 untouched_at (n ∷ needs) zero s at = sym (injective at)
 untouched_at (n ∷ needs) (suc place) s at = untouched_at needs place s at
 
-no_answer : (answer : Answer UnitFault) → Answered answer ≡ Untouched → ⊥
+no_answer : (answer : Answer BadUnit) → Answered answer ≡ Untouched → ⊥
 no_answer answer e = cc
 
 none_begun : (project : Project) (place : ℕ) → HasBegun (untouched project) place → ⊥
@@ -104,7 +104,7 @@ story_first tells child c at still aloft started = record {
 
 -- What stands.
 
-module _ (b : Basis) (done : List (Option (List Directive))) (aloft : List Aloft) (next : Option ℕ) (es : List (Event UnitFault)) (w : World) (flying : List ChildInFlight) (still : ℕ → Type 0) (h : Happened b done aloft next es w flying still) where
+module _ (b : Basis) (done : List (Option (List Directive))) (aloft : List Aloft) (next : Option ℕ) (es : List (Event BadUnit)) (w : World) (flying : List ChildInFlight) (still : ℕ → Type 0) (h : Happened b done aloft next es w flying still) where
   all_told : AllTold b.project es 0 b.project.plan.planned (outcomes_in b) done (states_in b.project es)
   all_told k answer at =
       let g = h.gave k answer at in
@@ -128,7 +128,7 @@ module _ (b : Basis) (done : List (Option (List Directive))) (aloft : List Aloft
     first_lines = λ n. first_told b.project es n 0 b.project.plan.planned (outcomes_in b) done (states_in b.project es) all_told;
   }
 
-  module _ (finished : is_finished (states_in b.project es) ≡ true) (long : length (states_in b.project es) ≡ length b.project.plan.planned) (first : World) (began : AllBeganFor b es first) where
+  module _ (finished : is_finished (states_in b.project es) ≡ true) (long : length (states_in b.project es) ≡ length b.project.plan.planned) (reasons : Reasons) (first : World) (began : AllBeganFor b es reasons first) where
     ended : Ended b.project es b.project.plan.planned (outcomes_in b) done (states_in b.project es)
     ended = ended_of b.project es 0 b.project.plan.planned (outcomes_in b) done (states_in b.project es) long finished all_told
 
@@ -138,37 +138,45 @@ module _ (b : Basis) (done : List (Option (List Directive))) (aloft : List Aloft
     noted_is : noted_of (take (count_told (length b.project.plan.planned) (first_bad (states_in b.project es))) b.project.plan.planned) (take (count_told (length b.project.plan.planned) (first_bad (states_in b.project es))) done) ≡ directives_told (rows_in b)
     noted_is = ap (λ n. noted_of (take n b.project.plan.planned) (take n done)) ended.count ∙ ended.noted
 
-    summary_so : summary_by b.project.plan.planned (states_in b.project es) done (started_by es) (first_bad (states_in b.project es)) ≡ summary_of b.project es (rows_in b)
+    summary_so : summary_by b.project.plan.planned (states_in b.project es) done (started_by es) reasons (first_bad (states_in b.project es)) ≡ summary_of b.project es reasons (rows_in b)
     summary_so =
         ap (λ bad. with_bad bad (noted_of (take (count_told (length b.project.plan.planned) (first_bad (states_in b.project es))) b.project.plan.planned) (take (count_told (length b.project.plan.planned) (first_bad (states_in b.project es))) done))) bad_is
         ∙ ap (λ told. with_bad (bad_of (rows_in b)) told) noted_is
         ∙ ap (λ well. summary_with well (bad_of (rows_in b)) (directives_told (rows_in b))) (success_of (bad_of (rows_in b)))
       where
-        summary_with : Bool → Option (List ℕ × UnitFault) → List (List ℕ × List Directive) → Summary
-        summary_with well bad told = record { success = well; bad = bad; started = started_keys b.project es; directives = told }
+        summary_with : Bool → Option (List ℕ × BadUnit) → List (List ℕ × List Directive) → Summary
+        summary_with well bad told = record {
+          success = well;
+          bad = key_told bad;
+          said = said_told bad;
+          started = started_keys b.project es;
+          differences = differences_of es reasons;
+          kept = kept_of b.project.plan.planned reasons;
+          directives = told;
+        }
 
-        with_bad : Option (List ℕ × UnitFault) → List (List ℕ × List Directive) → Summary
-        with_bad bad told = record { success = is_none bad; bad = bad; started = started_keys b.project es; directives = told }
+        with_bad : Option (List ℕ × BadUnit) → List (List ℕ × List Directive) → Summary
+        with_bad bad told = summary_with (is_none bad) bad told
 
-    pub stands_whole : (started : List ℕ) → started ≡ started_by es → (summary : Summary) → summary ≡ summary_by b.project.plan.planned (states_in b.project es) done started (first_bad (states_in b.project es)) → StandsWhole b es summary first w
+    pub stands_whole : (started : List ℕ) → started ≡ started_by es → (summary : Summary) → summary ≡ summary_by b.project.plan.planned (states_in b.project es) done started reasons (first_bad (states_in b.project es)) → StandsWhole b es reasons summary first w
     stands_whole started same summary is = record {
       stands = stands;
       all = ended.all;
-      answer = is ∙ ap (λ places. summary_by b.project.plan.planned (states_in b.project es) done places (first_bad (states_in b.project es))) same ∙ summary_so;
+      answer = is ∙ ap (λ places. summary_by b.project.plan.planned (states_in b.project es) done places reasons (first_bad (states_in b.project es))) same ∙ summary_so;
       began = began;
     }
 
-length_states : (needs : List (List ℕ)) (es : List (Event UnitFault)) → length (states_after needs es) ≡ length needs
+length_states : (needs : List (List ℕ)) (es : List (Event BadUnit)) → length (states_after needs es) ≡ length needs
 length_states needs [] = length-map needs (λ _. Untouched)
 length_states needs (Began u spawned ∷ es) = length_set (states_after needs es) u Begun ∙ length_states needs es
 length_states needs (Gave u answer ∷ es) = length_set (states_after needs es) u (Answered answer) ∙ length_states needs es
 
 -- The ends.
 
-module _ {S : Type 0} (tells : Bool) (child : Answers) (Turns : S → List ℕ → List ℕ → Step → S → Type 0) (first c d : UnitCrew) (from last : S) (at mid new : Moment) (still still' : ℕ → Type 0) (es : List (Event UnitFault))
+module _ {S : Type 0} (tells : Bool) (child : Answers) (Turns : S → List ℕ → List ℕ → Step → S → Type 0) (first c d : UnitCrew) (from last : S) (at mid new : Moment) (still still' : ℕ → Type 0) (es : List (Event BadUnit))
     (said : first.done.items ≡ nothing_said first.project) (drained : Drained mid.counts new.counts) (landed : new.counts.starts.flying ≡ []) (heard : new.heard ≡ mid.heard) (same : d ≡ record c { aloft = d.aloft })
-    (changes : (fw : World) (events : List (Event UnitFault)) → IsTrue tells → Changes c.project fw c.aloft.items events mid.world mid.counts.starts.flying → Changes c.project fw d.aloft.items events new.world new.counts.starts.flying)
-    (happened : (b : Basis) (events : List (Event UnitFault)) → IsTrue tells → b.project ≡ c.project → Happened b c.done.items c.aloft.items c.store.next events mid.world mid.counts.starts.flying still
+    (changes : (fw : World) (events : List (Event BadUnit)) → IsTrue tells → Changes c.project fw c.aloft.items events mid.world mid.counts.starts.flying → Changes c.project fw d.aloft.items events new.world new.counts.starts.flying)
+    (happened : (b : Basis) (events : List (Event BadUnit)) → IsTrue tells → b.project ≡ c.project → Happened b c.done.items c.aloft.items c.store.next events mid.world mid.counts.starts.flying still
     → Happened b d.done.items d.aloft.items d.store.next events new.world new.counts.starts.flying still') where
   -- what a basis keeps at first
   abbrev Since : (Basis → Type 0) → Setup → Project → Type 0
@@ -196,6 +204,7 @@ module _ {S : Type 0} (tells : Bool) (child : Answers) (Turns : S → List ℕ �
           stands = stands (basis f r child c.setup c.project sources) d.done.items d.aloft.items d.store.next es new.world new.counts.starts.flying still' (happened (basis f r child c.setup c.project sources) es t refl h);
           before = ends.before;
           begins = ends.begins;
+          reasons = c.reasons.items;
           began = began;
         });
   }
@@ -212,8 +221,8 @@ module _ {S : Type 0} (tells : Bool) (child : Answers) (Turns : S → List ℕ �
     happened = s.happened;
   }
 
-  module _ (table : Table UnitFault) (flying : List ℕ) (flown : IsFlown Turns (needs_of first.project) from es last table flying) (story : Story tells child first at c mid still es table.given) (finished : is_finished table.states ≡ true)
-      (most : new.most ≡ mid.most) (summary : Summary) (is : summary ≡ summary_by d.project.plan.planned table.states d.done.items d.started.items (first_bad table.states)) where
+  module _ (table : Table BadUnit) (flying : List ℕ) (flown : IsFlown Turns (needs_of first.project) from es last table flying) (story : Story tells child first at c mid still es table.given) (finished : is_finished table.states ≡ true)
+      (most : new.most ≡ mid.most) (summary : Summary) (is : summary ≡ summary_by d.project.plan.planned table.states d.done.items d.started.items d.reasons.items (first_bad table.states)) where
     states_are : table.states ≡ states_in c.project es
     states_are = flown.states_are ∙ ap (λ (p : Project). states_in p es) (sym story.project)
 
@@ -223,9 +232,9 @@ module _ {S : Type 0} (tells : Bool) (child : Answers) (Turns : S → List ℕ �
     started_is : d.started.items ≡ started_by es
     started_is = ap (λ (x : UnitCrew). x.started.items) same ∙ story.goes.started_are
 
-    now_is : summary ≡ summary_by c.project.plan.planned (states_in c.project es) d.done.items d.started.items (first_bad (states_in c.project es))
-    now_is = is ∙ ap (λ (p : Project). summary_by p.plan.planned table.states d.done.items d.started.items (first_bad table.states)) project_is
-        ∙ ap (λ ss. summary_by c.project.plan.planned ss d.done.items d.started.items (first_bad ss)) states_are
+    now_is : summary ≡ summary_by c.project.plan.planned (states_in c.project es) d.done.items d.started.items d.reasons.items (first_bad (states_in c.project es))
+    now_is = is ∙ ap (λ (p : Project). summary_by p.plan.planned table.states d.done.items d.started.items d.reasons.items (first_bad table.states)) project_is
+        ∙ ap (λ ss. summary_by c.project.plan.planned ss d.done.items d.started.items d.reasons.items (first_bad ss)) states_are
 
     keys_are : summary.started ≡ started_keys first.project es
     keys_are = ap (λ (s : Summary). s.started) now_is ∙ ap (λ places. keys_at c.project.plan.planned places) started_is ∙ ap (λ (p : Project). started_keys p es) story.project
@@ -244,6 +253,9 @@ module _ {S : Type 0} (tells : Bool) (child : Answers) (Turns : S → List ℕ �
           (all_good_at c.project es c.project.plan.planned (states_in c.project es) (length_states (needs_of c.project) es ∙ length-map c.project.plan.planned (λ (u : Planned). u.needs))
           (ap is_finished (sym states_are) ∙ finished) (sym (ap (λ (s : Summary). s.success) now_is) ∙ success));
       started = keys_are;
+      reasons = d.reasons.items;
+      differences = ap (λ (s : Summary). s.differences) now_is ∙ ap (differences_at d.reasons.items) started_is;
+      kept = ap (λ (s : Summary). s.kept) now_is ∙ ap (λ (p : Project). kept_of p.plan.planned d.reasons.items) story.project;
       lines = lines_are;
       faults = ap (λ (x : Heard). x.faults) heard ∙ story.goes.faults;
       mid = mid.counts;
@@ -253,10 +265,11 @@ module _ {S : Type 0} (tells : Bool) (child : Answers) (Turns : S → List ℕ �
       landed = landed;
       most = most ∙ story.goes.most;
       only = λ t. subst (λ (p : Project). OnlyOf p es at.world new.world) story.project (changes at.world es t (story.changes t)).only;
-      told = since_first (λ b. StandsWhole b es summary at.world new.world) story.setup story.project (λ t f r sources reading keeps.
+      told = since_first (λ b. StandsWhole b es d.reasons.items summary at.world new.world) story.setup story.project (λ t f r sources reading keeps.
           let (h, began) = story.happened t f r sources reading keeps in
           stands_whole (basis f r child c.setup c.project sources) d.done.items d.aloft.items d.store.next es new.world new.counts.starts.flying still' (happened (basis f r child c.setup c.project sources) es t refl h)
-          (ap is_finished (sym states_are) ∙ finished) (length_states (needs_of c.project) es ∙ length-map c.project.plan.planned (λ (u : Planned). u.needs)) at.world began d.started.items started_is summary now_is);
+          (ap is_finished (sym states_are) ∙ finished) (length_states (needs_of c.project) es ∙ length-map c.project.plan.planned (λ (u : Planned). u.needs)) d.reasons.items at.world
+          (subst (λ (items : Reasons). AllBeganFor (basis f r child c.setup c.project sources) es items at.world) (sym (ap (λ (x : UnitCrew). x.reasons.items) same)) began) d.started.items started_is summary now_is);
     }
 
 -- memory is refused before a unit begins
@@ -280,11 +293,12 @@ ends_before tells child Turns setup project next from at none = record {
     };
     before = [];
     begins = inl refl;
+    reasons = [];
     began = λ place has. absurd (none_begun project place has);
   };
 }
 
-pub states_long : {S : Type 0} (Turns : S → List ℕ → List ℕ → Step → S → Type 0) (first c d : UnitCrew) (from last : S) (es : List (Event UnitFault)) (table : Table UnitFault) (flying : List ℕ) → IsFlown Turns (needs_of first.project) from es last table flying
+pub states_long : {S : Type 0} (Turns : S → List ℕ → List ℕ → Step → S → Type 0) (first c d : UnitCrew) (from last : S) (es : List (Event BadUnit)) (table : Table BadUnit) (flying : List ℕ) → IsFlown Turns (needs_of first.project) from es last table flying
     → needs_of c.project ≡ needs_of first.project → d ≡ record c { aloft = d.aloft } → length table.states ≡ length d.project.plan.planned
 states_long Turns first c d from last es table flying flown needs same =
     ap length flown.states_are ∙ length_states (needs_of first.project) es ∙ ap length (sym needs) ∙ length-map c.project.plan.planned (λ (u : Planned). u.needs) ∙ ap (λ (x : UnitCrew). length x.project.plan.planned) (sym same)

@@ -1,5 +1,5 @@
 -- What has happened, where nothing, a beginning or an answer comes next.
-use Rattle.std.proofs.Common.{◌≡◌, ◌≢◌, ◌∙◌, ◌++◌, inl, inr, Bool, true, List, [], ◌∷◌, ℕ, Option, Some, None, if◌then◌else◌, refl, sym, ap, subst, slice_get, slice_set, eq-eqb, is_some}
+use Rattle.std.proofs.Common.{◌≡◌, ◌≢◌, ◌∙◌, ◌++◌, inl, inr, Bool, true, List, [], ◌∷◌, ℕ, Option, Some, None, if◌then◌else◌, refl, sym, ap, subst, slice_get, slice_set, eq-eqb, is_some, ◌<◌, length}
 use Rattle.std.proofs.lemmas.Bool.{ne_eqb}
 use Rattle.std.specs.FinMap as finite
 use Rattle.pb_directive.specs.declared.directive.Directive.{Directive}
@@ -12,7 +12,7 @@ use Rattle.pb_flight.proofs.Lists.{injective, get_set_same, get_set_other}
 use Rattle.pb_place.specs.World.{World}
 use Rattle.pb_place.specs.declared.child_in_flight.ChildInFlight.{ChildInFlight}
 use Rattle.pb_project.specs.Targets.{unit_at}
-use Rattle.pb_project.specs.declared.fault.UnitFault.{UnitFault}
+use Rattle.pb_answer.specs.declared.bad_unit.BadUnit.{BadUnit}
 use Rattle.pb_project.specs.declared.project.Project.{Project}
 use Rattle.pb_run.specs.Halves.{Basis, Keeps, IsBegun, CanBegin, BeginsApart, command_in}
 use Rattle.pb_run.specs.Standing.{IsInOrder, records_folder}
@@ -22,26 +22,26 @@ use Rattle.pb_soundness.specs.Records.{place_of}
 use Rattle.pb_store.specs.Differences.{FirstDifference}
 use Rattle.pb_store.specs.declared.difference.Difference.{Difference}
 use Rattle.pb_turns.specs.Crew.{needs_of}
-use Rattle.pb_turns.specs.Rows.{is_started, messages_in}
+use Rattle.pb_turns.specs.Rows.{is_started, messages_in, Reasons}
 use Rattle.pb_turns.specs.Story.{states_in, Happened, HasGiven, FliesSo, AllBeganFor, BeganFor, IsQuiet, OnlyOf, started_before}
 use Rattle.pb_turns.specs.declared.crew.Aloft.{Aloft}
-use Rattle.pb_turns.proofs.Lists.{all_more, all_as}
+use Rattle.pb_turns.proofs.Lists.{all_more, all_as, get_put}
 use Rattle.pb_turns.proofs.Reaching.{can_begin, place_outside_other}
 use Rattle.pb_turns.proofs.States.{good_set, begun_cases, another, answered_before}
 use Rattle.pb_unit.specs.declared.plan.Planned.{Planned}
 
 -- whether a child was started for a unit, where another begins, or this one
-pub started_other : (es : List (Event UnitFault)) (unit place : ℕ) (spawned : Bool) → unit ≢ place → is_started (Began unit spawned ∷ es) place ≡ is_started es place
+pub started_other : (es : List (Event BadUnit)) (unit place : ℕ) (spawned : Bool) → unit ≢ place → is_started (Began unit spawned ∷ es) place ≡ is_started es place
 started_other es unit place spawned ne = ap (λ b. if b then spawned else is_started es place) (ne_eqb unit place ne)
 
-pub started_now : (es : List (Event UnitFault)) (unit : ℕ) (spawned : Bool) → is_started (Began unit spawned ∷ es) unit ≡ spawned
+pub started_now : (es : List (Event BadUnit)) (unit : ℕ) (spawned : Bool) → is_started (Began unit spawned ∷ es) unit ≡ spawned
 started_now es unit spawned = ap (λ b. if b then spawned else is_started es unit) (eq-eqb unit unit refl)
 
 -- and for which one was started before it began
-pub before_other : (es : List (Event UnitFault)) (unit place : ℕ) (spawned : Bool) → unit ≢ place → started_before (Began unit spawned ∷ es) place ≡ started_before es place
+pub before_other : (es : List (Event BadUnit)) (unit place : ℕ) (spawned : Bool) → unit ≢ place → started_before (Began unit spawned ∷ es) place ≡ started_before es place
 before_other es unit place spawned ne = ap (λ b. if b then started_by es else started_before es place) (ne_eqb unit place ne)
 
-pub before_now : (es : List (Event UnitFault)) (unit : ℕ) (spawned : Bool) → started_before (Began unit spawned ∷ es) unit ≡ started_by es
+pub before_now : (es : List (Event BadUnit)) (unit : ℕ) (spawned : Bool) → started_before (Began unit spawned ∷ es) unit ≡ started_by es
 before_now es unit spawned = ap (λ b. if b then started_by es else started_before es unit) (eq-eqb unit unit refl)
 
 one_unit : (project : Project) (place : ℕ) (u v : Planned) → unit_at project place ≡ Some u → unit_at project place ≡ Some v → u ≡ v
@@ -52,8 +52,8 @@ none_some x e = cc
 
 -- A unit begins.
 
-module _ (b : Basis) (order : IsInOrder b.project) (first : World) (done : List (Option (List Directive))) (aloft : List Aloft) (next next' : Option ℕ) (es : List (Event UnitFault)) (w w' : World)
-    (flying flying' : List ChildInFlight) (still still' : ℕ → Type 0) (h : Happened b done aloft next es w flying still) (began : AllBeganFor b es first) (only_first : OnlyOf b.project es first w)
+module _ (b : Basis) (order : IsInOrder b.project) (first : World) (done : List (Option (List Directive))) (aloft : List Aloft) (next next' : Option ℕ) (es : List (Event BadUnit)) (w w' : World)
+    (flying flying' : List ChildInFlight) (still still' : ℕ → Type 0) (reasons : Reasons) (h : Happened b done aloft next es w flying still) (began : AllBeganFor b es reasons first) (only_first : OnlyOf b.project es first w)
     (unit : ℕ) (u : Planned) (there : unit_at b.project unit ≡ Some u) (may : MayBegin (needs_of b.project) (states_in b.project es) unit) where
   pub can : CanBegin b (states_in b.project es) done unit u next w
   can = can_begin b order (states_in b.project es) done next w h.keeps unit u there may
@@ -83,7 +83,7 @@ module _ (b : Basis) (order : IsInOrder b.project) (first : World) (done : List 
       started = started_other es unit a.unit spawned (ne_flying a so) ∙ so.started;
     }
 
-    given_on : (place : ℕ) (answer : Answer UnitFault) → unit ≢ place → HasGiven b es done place answer → HasGiven b (Began unit spawned ∷ es) done place answer
+    given_on : (place : ℕ) (answer : Answer BadUnit) → unit ≢ place → HasGiven b es done place answer → HasGiven b (Began unit spawned ∷ es) done place answer
     given_on place answer ne g = record {
       unit = g.unit;
       there = g.there;
@@ -121,14 +121,14 @@ module _ (b : Basis) (order : IsInOrder b.project) (first : World) (done : List 
         gave = happened_begun.gave;
       }
 
-      module _ (difference : Option Difference) (named : FirstDifference b.read (records_folder b.project) u.key a.begun.command w difference) (differs : is_some a.begun.launched ≡ is_some difference) (quiet : IsQuiet b es first w) where
+      module _ (difference : Option Difference) (named : FirstDifference b.read (records_folder b.project) u.key a.begun.command w difference) (differs : is_some a.begun.launched ≡ is_some difference) (within : unit < length reasons) (quiet : IsQuiet b es first w) where
         stays : finite.get w.files (place_of (records_folder b.project) u.key) ≡ finite.get first.files (place_of (records_folder b.project) u.key)
         stays = only_first.files (place_of (records_folder b.project) u.key) (λ place v has at. place_outside_other b.project order place unit v u at there (λ e. another (states_in b.project es) unit place may.untouched has (sym e)))
 
         its_command : a.begun.command ≡ command_in b unit u
         its_command = begun_so.command ∙ ap (command_in b unit) (one_unit b.project unit begun_so.unit u begun_so.there there)
 
-        own_began : BeganFor b (Began unit spawned ∷ es) first unit
+        own_began : BeganFor b (Began unit spawned ∷ es) (slice_set reasons unit (Some difference)) first unit
         own_began = record {
           unit = u;
           there = there;
@@ -138,10 +138,11 @@ module _ (b : Basis) (order : IsInOrder b.project) (first : World) (done : List 
           difference = difference;
           named = subst (λ c. FirstDifference b.read (records_folder b.project) u.key c w difference) its_command named;
           started = started_now es unit spawned ∙ flag ∙ differs;
+          noted = get_put reasons unit (Some difference) within;
           unstarted = λ none. quiet (sym (before_now es unit spawned) ∙ none);
         }
 
-        old_began : (place : ℕ) → HasBegun (states_in b.project es) place → BeganFor b (Began unit spawned ∷ es) first place
+        old_began : (place : ℕ) → HasBegun (states_in b.project es) place → BeganFor b (Began unit spawned ∷ es) (slice_set reasons unit (Some difference)) first place
         old_began place has = let f = began place has in record {
           unit = f.unit;
           there = f.there;
@@ -151,11 +152,12 @@ module _ (b : Basis) (order : IsInOrder b.project) (first : World) (done : List 
           difference = f.difference;
           named = f.named;
           started = started_other es unit place spawned (another (states_in b.project es) unit place may.untouched has) ∙ f.started;
+          noted = get_set_other reasons unit place (Some difference) (another (states_in b.project es) unit place may.untouched has) ∙ f.noted;
           unstarted = λ none. f.unstarted (sym (before_other es unit place spawned (another (states_in b.project es) unit place may.untouched has)) ∙ none);
         }
 
-        pub began_more : AllBeganFor b (Began unit spawned ∷ es) first
+        pub began_more : AllBeganFor b (Began unit spawned ∷ es) (slice_set reasons unit (Some difference)) first
         began_more place has = elim (begun_cases (states_in b.project es) unit place Begun has) [
-          | inl same ↦ subst (BeganFor b (Began unit spawned ∷ es) first) same own_began
+          | inl same ↦ subst (BeganFor b (Began unit spawned ∷ es) (slice_set reasons unit (Some difference)) first) same own_began
           | inr before ↦ old_began place before
         ]

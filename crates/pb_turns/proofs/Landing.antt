@@ -14,7 +14,7 @@ use Rattle.pb_place.specs.declared.command.Ended.{Ended}
 use Rattle.pb_place.specs.declared.place.StartFault.{StartFault}
 use Rattle.pb_place.specs.declared.place.StartFault.TheVariants as start
 use Rattle.pb_project.specs.Targets.{unit_at}
-use Rattle.pb_project.specs.declared.fault.UnitFault.{UnitFault}
+use Rattle.pb_answer.specs.declared.bad_unit.BadUnit.{BadUnit}
 use Rattle.pb_project.specs.declared.project.Project.{Project}
 use Rattle.pb_run.specs.Causes.{Drops, LandsBy}
 use Rattle.pb_run.specs.Halves.{Basis, Keeps, IsBegun, CanAnswer, BeginsApart, WritesTo}
@@ -47,10 +47,10 @@ pub drops_land : (o : Option Launched) (old new : Counts) → Drops o old new �
 drops_land None old new same = ap (λ (c : Counts). c.starts) same
 drops_land (Some l) old new (result, is, fault) = ap (λ (c : Counts). c.starts) is ∙ starts_of l.ticket result old
 
-pub happened_dropped : (b : Basis) (c : UnitCrew) (counts : Counts) (manned : IsManned c counts) (project : b.project ≡ c.project) (es : List (Event UnitFault)) (w w' : World) (still : ℕ → Type 0) (flying' : List ChildInFlight) (still' : ℕ → Type 0)
+pub happened_dropped : (b : Basis) (c : UnitCrew) (counts : Counts) (manned : IsManned c counts) (project : b.project ≡ c.project) (es : List (Event BadUnit)) (w w' : World) (still : ℕ → Type 0) (flying' : List ChildInFlight) (still' : ℕ → Type 0)
     (index : ℕ) (a : Aloft) (at : slice_get c.aloft.items index ≡ Some a) (aloft' : List Aloft) (is : aloft' ≡ remove c.aloft.items index) (h : Happened b c.done.items c.aloft.items c.store.next es w counts.starts.flying still)
     → ((index : ℕ) (unit : Planned) (next : Option ℕ) → IsInOrder b.project → unit_at b.project index ≡ Some unit → CanAnswer b (states_in b.project es) c.done.items index unit a.begun next w counts.starts.flying still → Keeps b (states_in b.project es) c.done.items next w')
-    → ((states : List (State UnitFault)) (done : List (Option (List Directive))) (index : ℕ) (unit : Planned) (next : Option ℕ) (other : ℕ) (its : unit_begun) → IsInOrder b.project → unit_at b.project index ≡ Some unit → CanAnswer b states done index unit a.begun next w counts.starts.flying still
+    → ((states : List (State BadUnit)) (done : List (Option (List Directive))) (index : ℕ) (unit : Planned) (next : Option ℕ) (other : ℕ) (its : unit_begun) → IsInOrder b.project → unit_at b.project index ≡ Some unit → CanAnswer b states done index unit a.begun next w counts.starts.flying still
     → BeginsApart b states index a.begun.launched other its next w counts.starts.flying still → IsBegun b other its next w' flying' still')
     → Happened b c.done.items aloft' c.store.next es w' flying' still'
 happened_dropped b c counts manned project es w w' still flying' still' index a at aloft' is h keeps others =
@@ -64,7 +64,7 @@ happened_dropped b c counts manned project es w w' still flying' still' index a 
     manned.units_apart manned.tickets_apart manned.numbers_apart (λ other its apart. others (states_in b.project es) c.done.items a.unit of_plan.unit c.store.next other its order there can apart)
     (keeps a.unit of_plan.unit c.store.next order there can))
 
-pub changes_dropped : (c : UnitCrew) (counts : Counts) (manned : IsManned c counts) (first : World) (es : List (Event UnitFault)) (w w' : World) (flying' : List ChildInFlight) (index : ℕ) (a : Aloft) (at : slice_get c.aloft.items index ≡ Some a)
+pub changes_dropped : (c : UnitCrew) (counts : Counts) (manned : IsManned c counts) (first : World) (es : List (Event BadUnit)) (w w' : World) (flying' : List ChildInFlight) (index : ℕ) (a : Aloft) (at : slice_get c.aloft.items index ≡ Some a)
     (aloft' : List Aloft) (is : aloft' ≡ remove c.aloft.items index) (old : Changes c.project first c.aloft.items es w counts.starts.flying)
     → ((out : List ℕ) → WritesTo out a.begun.launched counts.starts.flying → ChangesOnly (is_at_or_below out) w w')
     → ((ticket : ℕ) (its : ChildInFlight) → IfSome a.begun.launched (λ l. ticket ≢ l.ticket) → child_at ticket counts.starts.flying ≡ Some its → child_at ticket flying' ≡ Some its)

@@ -1,5 +1,5 @@
 -- Lists: what is added at the end, taken out at a place, and said of each item.
-use Rattle.std.proofs.Common.{◌≡◌, ◌≢◌, ◌∙◌, ◌++◌, ◌<◌, inl, inr, List, [], ◌∷◌, ℕ, zero, suc, Some, Contains, if◌then◌else◌, refl, sym, ap, subst, arith, slice_get, map, length, append_assoc, eq-eqb}
+use Rattle.std.proofs.Common.{◌≡◌, ◌≢◌, ◌∙◌, ◌++◌, ◌<◌, inl, inr, List, [], ◌∷◌, ℕ, zero, suc, Some, Contains, if◌then◌else◌, refl, sym, ap, subst, arith, slice_get, map, length, append_assoc, eq-eqb, slice_set}
 use Rattle.std.proofs.lemmas.Bool.{ne_eqb}
 use Rattle.std.specs.List.{AllByRecursion, flat_map, remove}
 use Rattle.std.specs.Prelude.{slice_set}
@@ -176,3 +176,9 @@ get_set_within (x ∷ xs) (suc i) y less = get_set_within xs i y (omega (arith, 
 pub length_push : {A : Type 0} (xs : List A) (x : A) → length (xs ++ x ∷ []) ≡ suc (length xs)
 length_push [] x = refl
 length_push (y ∷ xs) x = ap suc (length_push xs x)
+
+-- an entry that was put there
+pub get_put : {X : Type 0} (xs : List X) (i : ℕ) (y : X) → i < length xs → slice_get (slice_set xs i y) i ≡ Some y
+get_put [] i y within = absurd (omega (arith, within))
+get_put (x ∷ xs) zero y within = refl
+get_put (x ∷ xs) (suc i) y within = get_put xs i y (omega (arith, within))

@@ -112,12 +112,13 @@ flying_of c counts index a manned at = by a.begun.launched refl
         flies_by l.ticket counts.starts.flying (subst (λ ts. Contains ts l.ticket) (sym manned.tickets) (has_given (λ (x : Aloft). ticket_in x.begun.launched) c.aloft.items index a l.ticket at (ap ticket_in is)))
 
 -- after a fault: the same units, and a next number that may have grown
-pub manned_same : (old new : UnitCrew) (before now : Counts) → IsManned old before → new.project ≡ old.project → new.store.folder ≡ old.store.folder → new.done.items ≡ old.done.items → new.aloft.items ≡ old.aloft.items → TakesNumber old.store.next new.store.next
+pub manned_same : (old new : UnitCrew) (before now : Counts) → IsManned old before → new.project ≡ old.project → new.store.folder ≡ old.store.folder → new.done.items ≡ old.done.items → length new.reasons.items ≡ length old.reasons.items → new.aloft.items ≡ old.aloft.items → TakesNumber old.store.next new.store.next
     → now.starts.flying ≡ before.starts.flying → IsManned new now
-manned_same old new before now manned project folder done aloft next flying = record {
+manned_same old new before now manned project folder done reasons aloft next flying = record {
   order = subst IsInOrder (sym project) manned.order;
   folder = folder ∙ manned.folder ∙ ap records_folder (sym project);
   long = ap length done ∙ manned.long ∙ ap (λ (p : Project). length p.plan.planned) (sym project);
+  reasoned = reasons ∙ manned.reasoned ∙ ap (λ (p : Project). length p.plan.planned) (sym project);
   units = subst (λ (p : Project). AllByRecursion (IsOfPlan p) new.aloft.items) (sym project) (subst (AllByRecursion (IsOfPlan old.project)) (sym aloft) manned.units);
   units_apart = subst (λ (items : List Aloft). AreApart (places_of items)) (sym aloft) manned.units_apart;
   tickets = ap (map ticket_of_child) flying ∙ manned.tickets ∙ ap tickets_of (sym aloft);
@@ -129,7 +130,7 @@ manned_same old new before now manned project folder done aloft next flying = re
 
 -- a unit more in flight
 module _ (old new : UnitCrew) (before now : Counts) (a : Aloft) (manned : IsManned old before) (free : Contains (places_of old.aloft.items) a.unit → ⊥) (of_plan : IsOfPlan old.project a)
-    (project : new.project ≡ old.project) (folder : new.store.folder ≡ old.store.folder) (done : new.done.items ≡ old.done.items) (aloft : new.aloft.items ≡ old.aloft.items ++ a ∷ [])
+    (project : new.project ≡ old.project) (folder : new.store.folder ≡ old.store.folder) (done : new.done.items ≡ old.done.items) (reasons : length new.reasons.items ≡ length old.reasons.items) (aloft : new.aloft.items ≡ old.aloft.items ++ a ∷ [])
     (next : TakesNumber old.store.next new.store.next) (begins : BeginsBy a.begun.launched before.starts now.starts)
     (number : (l : Launched) → a.begun.launched ≡ Some l → (old.store.next ≡ Some l.number) × (new.store.next ≡ after l.number)) where
   tickets_are : tickets_of new.aloft.items ≡ tickets_of old.aloft.items ++ ticket_in a.begun.launched
@@ -166,6 +167,7 @@ module _ (old new : UnitCrew) (before now : Counts) (a : Aloft) (manned : IsMann
     order = subst IsInOrder (sym project) manned.order;
     folder = folder ∙ manned.folder ∙ ap records_folder (sym project);
     long = ap length done ∙ manned.long ∙ ap (λ (p : Project). length p.plan.planned) (sym project);
+    reasoned = reasons ∙ manned.reasoned ∙ ap (λ (p : Project). length p.plan.planned) (sym project);
     units = subst (λ (p : Project). AllByRecursion (IsOfPlan p) new.aloft.items) (sym project) (subst (AllByRecursion (IsOfPlan old.project)) (sym aloft) (all_more (IsOfPlan old.project) old.aloft.items (a ∷ []) manned.units (of_plan, tt)));
     units_apart = subst AreApart (sym places_are) (apart_more (places_of old.aloft.items) a.unit manned.units_apart (none_among a.unit (places_of old.aloft.items) free));
     tickets = flies a.begun.launched begins ∙ sym tickets_are;
@@ -176,7 +178,7 @@ module _ (old new : UnitCrew) (before now : Counts) (a : Aloft) (manned : IsMann
 
 -- a unit less
 module _ (old new : UnitCrew) (before now : Counts) (index : ℕ) (a : Aloft) (manned : IsManned old before) (at : slice_get old.aloft.items index ≡ Some a)
-    (project : new.project ≡ old.project) (folder : new.store.folder ≡ old.store.folder) (done : length new.done.items ≡ length old.done.items) (aloft : new.aloft.items ≡ remove old.aloft.items index)
+    (project : new.project ≡ old.project) (folder : new.store.folder ≡ old.store.folder) (done : length new.done.items ≡ length old.done.items) (reasons : length new.reasons.items ≡ length old.reasons.items) (aloft : new.aloft.items ≡ remove old.aloft.items index)
     (next : TakesNumber old.store.next new.store.next) (lands : LandsBy a.begun.launched before.starts now.starts) where
   flies_less : (o : Option Launched) → a.begun.launched ≡ o → LandsBy o before.starts now.starts → map ticket_of_child now.starts.flying ≡ tickets_of (remove old.aloft.items index)
   flies_less None is same = ap (λ (s : Starts). map ticket_of_child s.flying) same ∙ manned.tickets ∙ sym (flat_stays (λ (x : Aloft). ticket_in x.begun.launched) old.aloft.items index a at (ap ticket_in is))
@@ -193,6 +195,7 @@ module _ (old new : UnitCrew) (before now : Counts) (index : ℕ) (a : Aloft) (m
     order = subst IsInOrder (sym project) manned.order;
     folder = folder ∙ manned.folder ∙ ap records_folder (sym project);
     long = done ∙ manned.long ∙ ap (λ (p : Project). length p.plan.planned) (sym project);
+    reasoned = reasons ∙ manned.reasoned ∙ ap (λ (p : Project). length p.plan.planned) (sym project);
     units = subst (λ (p : Project). AllByRecursion (IsOfPlan p) new.aloft.items) (sym project) (subst (AllByRecursion (IsOfPlan old.project)) (sym aloft) (all_removed (IsOfPlan old.project) old.aloft.items index manned.units));
     units_apart = subst (λ (items : List Aloft). AreApart (places_of items)) (sym aloft) places_apart;
     tickets = flies_less a.begun.launched refl lands ∙ ap tickets_of (sym aloft);

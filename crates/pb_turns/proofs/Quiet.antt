@@ -6,7 +6,7 @@ use Rattle.pb_flight.specs.Events.{Event, Began, Gave, started_by}
 use Rattle.pb_flight.specs.Table.{if_so}
 use Rattle.pb_place.specs.World.{World, Answers}
 use Rattle.pb_project.specs.Targets.{unit_at}
-use Rattle.pb_project.specs.declared.fault.UnitFault.{UnitFault}
+use Rattle.pb_answer.specs.declared.bad_unit.BadUnit.{BadUnit}
 use Rattle.pb_record.specs.Parts.{IsReading}
 use Rattle.pb_run.specs.Halves.{Basis, basis, records_in}
 use Rattle.pb_run.specs.Standing.{records_folder}
@@ -33,7 +33,7 @@ some_last [] x none = cc
 some_last (y ∷ xs) x none = cc
 
 -- where no child was started, none was for any unit
-pub none_started : (es : List (Event UnitFault)) (place : ℕ) → started_by es ≡ [] → is_started es place ≡ false
+pub none_started : (es : List (Event BadUnit)) (place : ℕ) → started_by es ≡ [] → is_started es place ≡ false
 none_started [] place none = refl
 none_started (Began unit true ∷ es) place none = absurd (some_last (started_by es) unit none)
 none_started (Began unit false ∷ es) place none = both (unit == place) (is_started es place) (none_started es place (left_none (started_by es) [] none))
@@ -45,26 +45,26 @@ none_started (Gave unit answer ∷ es) place none = none_started es place none
 
 -- A unit begins.
 
-quiet_begun : (b : Basis) (es : List (Event UnitFault)) (first w w' : World) (unit : ℕ) (o : Option Launched) → (o ≡ None → w' ≡ w) → IsQuiet b es first w → IsQuiet b (Began unit (is_some o) ∷ es) first w'
+quiet_begun : (b : Basis) (es : List (Event BadUnit)) (first w w' : World) (unit : ℕ) (o : Option Launched) → (o ≡ None → w' ≡ w) → IsQuiet b es first w → IsQuiet b (Began unit (is_some o) ∷ es) first w'
 quiet_begun b es first w w' unit None same quiet = λ none numbered. same refl ∙ quiet (left_none (started_by es) [] none) numbered
 quiet_begun b es first w w' unit (Some l) same quiet = λ none numbered. absurd (some_last (started_by es) unit none)
 
-pub begun_quiet : (tells : Bool) (child : Answers) (first old : UnitCrew) (at now new : Moment) (still : ℕ → Type 0) (es : List (Event UnitFault)) (given unit : ℕ) → Story tells child first at old now still es given
+pub begun_quiet : (tells : Bool) (child : Answers) (first old : UnitCrew) (at now new : Moment) (still : ℕ → Type 0) (es : List (Event BadUnit)) (given unit : ℕ) → Story tells child first at old now still es given
     → (begun : unit_begun) → (IsTrue tells → begun.launched ≡ None → new.world ≡ now.world) → IsTrue tells → FromFirst child first at old (λ b. IsQuiet b (Began unit (is_some begun.launched) ∷ es) at.world new.world)
 begun_quiet tells child first old at now new still es given unit story begun same t = λ f r s reading k.
     quiet_begun (basis f r child old.setup old.project s) es at.world now.world new.world unit begun.launched (same t) (story.quiet t f r s reading k)
 
 -- A unit answers.
 
-module _ (b : Basis) (es : List (Event UnitFault)) (first w w' : World) (place : ℕ) (u : Planned) (there : unit_at b.project place ≡ Some u) where
+module _ (b : Basis) (es : List (Event BadUnit)) (first w w' : World) (place : ℕ) (u : Planned) (there : unit_at b.project place ≡ Some u) where
   quiet_answered : (o : Option Launched) → is_started es place ≡ is_some o → (o ≡ None → lacks_number (records_in b w u.key) ≡ false → w' ≡ w) → IsQuiet b es first w → IsQuiet b es first w'
   quiet_answered None started same quiet = λ none numbered.
       let as_first = quiet none numbered in
       same refl (ap (λ (v : World). lacks_number (records_in b v u.key)) as_first ∙ numbered place u there) ∙ as_first
   quiet_answered (Some l) started same quiet = λ none numbered. absurd (false≢true (sym (none_started es place none) ∙ started))
 
-pub answered_quiet : (tells : Bool) (child : Answers) (first old : UnitCrew) (at now new : Moment) (still : ℕ → Type 0) (es : List (Event UnitFault)) (given : ℕ) → Story tells child first at old now still es given
-    → (index : ℕ) (a : Aloft) (u : Planned) → unit_at old.project a.unit ≡ Some u → slice_get old.aloft.items index ≡ Some a → (answer : Answer UnitFault)
+pub answered_quiet : (tells : Bool) (child : Answers) (first old : UnitCrew) (at now new : Moment) (still : ℕ → Type 0) (es : List (Event BadUnit)) (given : ℕ) → Story tells child first at old now still es given
+    → (index : ℕ) (a : Aloft) (u : Planned) → unit_at old.project a.unit ≡ Some u → slice_get old.aloft.items index ≡ Some a → (answer : Answer BadUnit)
     → ((read : Reading) → IsReading read → IsTrue tells → a.begun.launched ≡ None → lacks_number (record_at read (records_folder old.project) now.world.files u.key) ≡ false → new.world ≡ now.world)
     → IsTrue tells → FromFirst child first at old (λ b. IsQuiet b (Gave a.unit answer ∷ es) at.world new.world)
 answered_quiet tells child first old at now new still es given story index a u there at_index answer same t = λ f r s reading k.

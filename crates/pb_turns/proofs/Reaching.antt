@@ -11,7 +11,7 @@ use Rattle.pb_flight.proofs.Ready.{good_at, all_good}
 use Rattle.pb_place.specs.Paths.{is_at_or_below}
 use Rattle.pb_place.specs.World.{World}
 use Rattle.pb_project.specs.Targets.{unit_at}
-use Rattle.pb_project.specs.declared.fault.UnitFault.{UnitFault}
+use Rattle.pb_answer.specs.declared.bad_unit.BadUnit.{BadUnit}
 use Rattle.pb_project.specs.declared.project.Project.{Project}
 use Rattle.pb_run.specs.Halves.{Basis, Keeps, CanBegin}
 use Rattle.pb_run.specs.Standing.{IsInOrder, IsReadByNeed, records_folder}
@@ -22,6 +22,7 @@ use Rattle.pb_soundness.specs.Records.{out_of, place_of}
 use Rattle.pb_soundness.proofs.Places.{one_key, place_outside, places_differ}
 use Rattle.pb_turns.specs.Crew.{needs_of}
 use Rattle.pb_unit.specs.declared.plan.Planned.{Planned}
+use Rattle.pb_turns.specs.declared.crew.UnitCrew.{UnitCrew}
 
 -- a unit at a place before another of the list is there
 unit_before : (us : List Planned) (i j : ℕ) (u : Planned) → slice_get us i ≡ Some u → j < i → (v : Planned) × (slice_get us j ≡ Some v)
@@ -45,6 +46,10 @@ there_some [] place less = absurd (omega (arith, less))
 there_some (u ∷ us) zero less = (u, refl)
 there_some (u ∷ us) (suc place) less = there_some us place (omega (arith, less))
 
+-- a unit of the plan has its place among the reasons
+pub within_reasons : (c : UnitCrew) (unit : ℕ) → length c.reasons.items ≡ length c.project.plan.planned → unit < length (needs_of c.project) → unit < length c.reasons.items
+within_reasons c unit reasoned less = subst (λ n. unit < n) (length-map c.project.plan.planned (λ (u : Planned). u.needs) ∙ sym reasoned) less
+
 -- a unit that is there and is read
 pub there_of : (us seen : List Planned) (place : ℕ) (u v : Planned) → slice_get us place ≡ Some v → seen ≡ us → u ≡ get_or seen place u → slice_get us place ≡ Some u
 there_of us seen place u v there same is = slice_get_read us (length us) place u refl (slice_get_within us place v there) (subst (λ xs. u ≡ get_or xs place u) same is)
@@ -61,7 +66,7 @@ module _ (project : Project) (order : IsInOrder project) where
       ap (λ b. b || is_at_or_below (place_of (records_folder project) u.key) (place_of (records_folder project) v.key)) left
       ∙ places_differ (records_folder project) u.key v.key (order.keys i u at_i) (order.keys j v at_j) (keys_differ project order i j u v at_i at_j apart)
 
-module _ (b : Basis) (order : IsInOrder b.project) (states : List (State UnitFault)) (done : List (Option (List Directive))) (next : Option ℕ) (w : World) (keeps : Keeps b states done next w)
+module _ (b : Basis) (order : IsInOrder b.project) (states : List (State BadUnit)) (done : List (Option (List Directive))) (next : Option ℕ) (w : World) (keeps : Keeps b states done next w)
     (place : ℕ) (u : Planned) (there : unit_at b.project place ≡ Some u) (may : MayBegin (needs_of b.project) states place) where
   need_good : (p : ℕ) → Contains u.needs p → is_good_at (slice_get states p) ≡ true
   need_good p has = may.good p (subst (λ ns. Contains ns p) (injective (sym (needs_get b.project.plan.planned place u there) ∙ may.unit)) has)

@@ -17,7 +17,7 @@ use Rattle.pb_place.specs.declared.command.Ended.{Ended}
 use Rattle.pb_place.specs.declared.place.StartFault.{StartFault}
 use Rattle.pb_place.specs.declared.place.StartFault.TheVariants as start
 use Rattle.pb_project.specs.Targets.{unit_at}
-use Rattle.pb_project.specs.declared.fault.UnitFault.{UnitFault}
+use Rattle.pb_answer.specs.declared.bad_unit.BadUnit.{BadUnit}
 use Rattle.pb_record.specs.declared.record.Needed.{Needed}
 use Rattle.pb_record.specs.declared.record.Needed.TheVariants.{Copies, Numbers}
 use Rattle.pb_record.specs.declared.record.Record.{Record}
@@ -73,13 +73,13 @@ none_differs b w place u there h =
 
 -- Where a child was started, one was the first.
 
-record IsFirstStart (needs : List (List ℕ)) (es : List (Event UnitFault)) : Type 0 where
+record IsFirstStart (needs : List (List ℕ)) (es : List (Event BadUnit)) : Type 0 where
   pub place : ℕ
   pub begun : HasBegun (states_after needs es) place
   pub started : is_started es place ≡ true
   pub none : started_before es place ≡ []
 
-first_begun : (needs : List (List ℕ)) (es : List (Event UnitFault)) (u : ℕ) (spawned : Bool) → MayBegin needs (states_after needs es) u → (started_by es ≡ []) ⊎ IsFirstStart needs es
+first_begun : (needs : List (List ℕ)) (es : List (Event BadUnit)) (u : ℕ) (spawned : Bool) → MayBegin needs (states_after needs es) u → (started_by es ≡ []) ⊎ IsFirstStart needs es
     → (started_by (Began u spawned ∷ es) ≡ []) ⊎ IsFirstStart needs (Began u spawned ∷ es)
 first_begun needs es u true may (inl none) = inr record {
   place = u;
@@ -97,7 +97,7 @@ first_begun needs es u spawned may (inr f) =
       none = before_other es u f.place spawned ne ∙ f.none;
     }
 
-first_start : (needs : List (List ℕ)) (es : List (Event UnitFault)) → IsLawful needs es → (started_by es ≡ []) ⊎ IsFirstStart needs es
+first_start : (needs : List (List ℕ)) (es : List (Event BadUnit)) → IsLawful needs es → (started_by es ≡ []) ⊎ IsFirstStart needs es
 first_start needs _ nothing = inl refl
 first_start needs _ (begin es u spawned before may) = first_begun needs es u spawned may (first_start needs es before)
 first_start needs _ (answer es u given before flying gives) = elim (first_start needs es before) [
@@ -112,7 +112,7 @@ first_start needs _ (answer es u given before flying gives) = elim (first_start 
 
 -- the first one began in the first world, where nothing differed of its unit
 pub starts_nothing : StartsNothing
-starts_nothing b es first lawful began each = elim (first_start (needs_of b.project) es lawful) [
+starts_nothing b es reasons first lawful began each = elim (first_start (needs_of b.project) es lawful) [
   | inl none ↦ none
   | inr f ↦
       let g = began f.place f.begun in
@@ -146,7 +146,7 @@ leaves_records Turns child setup project next from last summary old new ends suc
 pub starts_none_again : {S : Type 0} (Turns : S → List ℕ → List ℕ → Step → S → Type 0) → StartsNoneAgain Turns
 starts_none_again Turns child setup project next from last summary old new ends footing read sources reading keeps each =
     let whole = ends.told refl footing read sources reading keeps in
-    let none : started_by ends.es ≡ [] = starts_nothing (basis footing read child setup project sources) ends.es old.world (steps_are_lawful Turns (needs_of project) Anyhow Anything from ends.es last ends.flies) whole.began each in (
+    let none : started_by ends.es ≡ [] = starts_nothing (basis footing read child setup project sources) ends.es ends.reasons old.world (steps_are_lawful Turns (needs_of project) Anyhow Anything from ends.es last ends.flies) whole.began each in (
       dropped_count (map ticket_of_child ends.mid.starts.flying) ends.mid new.counts ends.drained ∙ ends.starts ∙ ap (λ places. upped (length places) old.counts.starts.count) none,
       ends.started ∙ ap (λ places. flat_map (λ place. key_in (unit_at project place)) places) none,
     )

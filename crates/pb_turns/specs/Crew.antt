@@ -60,6 +60,7 @@ pub record IsManned (c : UnitCrew) (counts : Counts) : Type 0 where
   pub order : IsInOrder c.project
   pub folder : c.store.folder ≡ records_folder c.project
   pub long : length c.done.items ≡ length c.project.plan.planned
+  pub reasoned : length c.reasons.items ≡ length c.project.plan.planned
   pub units : AllByRecursion (IsOfPlan c.project) c.aloft.items
   pub units_apart : AreApart (places_of c.aloft.items)
   pub tickets : map ticket_of_child counts.starts.flying ≡ tickets_of c.aloft.items

@@ -16,7 +16,7 @@ use Rattle.pb_place.specs.declared.command.Ended.{Ended}
 use Rattle.pb_place.specs.declared.place.StartFault.{StartFault}
 use Rattle.pb_place.specs.declared.place.StartFault.TheVariants as start
 use Rattle.pb_project.specs.Targets.{unit_at}
-use Rattle.pb_project.specs.declared.fault.UnitFault.{UnitFault}
+use Rattle.pb_answer.specs.declared.bad_unit.BadUnit.{BadUnit}
 use Rattle.pb_project.specs.declared.project.Project.{Project}
 use Rattle.pb_project.specs.declared.project.Setup.{Setup}
 use Rattle.pb_record.specs.Parts.{IsReading}
@@ -24,7 +24,7 @@ use Rattle.pb_run.specs.Halves.{Footing, Basis, basis, Keeps}
 use Rattle.pb_soundness.specs.Records.{Reading}
 use Rattle.pb_turns.specs.Crew.{needs_of, ticket_of_child}
 use Rattle.pb_turns.specs.Moments.{Moment}
-use Rattle.pb_turns.specs.Rows.{Row, rows_of, said_from, started_keys, summary_of}
+use Rattle.pb_turns.specs.Rows.{Reasons, Row, rows_of, said_from, started_keys, differences_of, kept_of, summary_of}
 use Rattle.pb_turns.specs.Story.{states_in, untouched, upped, Stops, OnlyOf, AllBeganFor, HasGiven, IsBeginning}
 use Rattle.pb_unit.specs.declared.plan.Planned.{Planned}
 
@@ -51,35 +51,39 @@ Grounding child setup project next w Since = (footing : Footing) (read : Reading
     → Keeps (basis footing read child setup project sources) (untouched project) (nothing_said project) next w → Since (basis footing read child setup project sources)
 
 -- what stands after some events: what the halves of units keep; each unit that has answered gave its outcome from nothing; the lines that are due are those of the first rows, and so are the first of them
-pub record Stands (b : Basis) (es : List (Event UnitFault)) (new : World) : Type 0 where
+pub record Stands (b : Basis) (es : List (Event BadUnit)) (new : World) : Type 0 where
   pub done : List (Option (List Directive))
   pub next : Option ℕ
   pub keeps : Keeps b (states_in b.project es) done next new
-  pub gave : (place : ℕ) (answer : Answer UnitFault) → slice_get (states_in b.project es) place ≡ Some (Answered answer) → HasGiven b es done place answer
+  pub gave : (place : ℕ) (answer : Answer BadUnit) → slice_get (states_in b.project es) place ≡ Some (Answered answer) → HasGiven b es done place answer
   pub lines : due (states_in b.project es) ≡ said_from b.project es 0 (take (count_due (states_in b.project es)) (rows_in b))
   pub first_lines : (n : ℕ) → due_first n (states_in b.project es) ≡ said_from b.project es 0 (take n (take (count_due (states_in b.project es)) (rows_in b)))
 
 -- all units have answered, or all up to and with the first bad one: the summary is that of the rows, all of which are told, and each unit that began did so for what differed of it
-pub record StandsWhole (b : Basis) (es : List (Event UnitFault)) (summary : Summary) (old new : World) : Type 0 where
+pub record StandsWhole (b : Basis) (es : List (Event BadUnit)) (reasons : Reasons) (summary : Summary) (old new : World) : Type 0 where
   pub stands : Stands b es new
   pub all : count_due (states_in b.project es) ≡ length (rows_in b)
-  pub answer : summary ≡ summary_of b.project es (rows_in b)
-  pub began : AllBeganFor b es old
+  pub answer : summary ≡ summary_of b.project es reasons (rows_in b)
+  pub began : AllBeganFor b es reasons old
 
 -- a fault ended it
-pub record StandsCut (b : Basis) (es : List (Event UnitFault)) (old new : World) : Type 0 where
+pub record StandsCut (b : Basis) (es : List (Event BadUnit)) (old new : World) : Type 0 where
   pub stands : Stands b es new
-  pub before : List (Event UnitFault)
+  pub before : List (Event BadUnit)
   pub begins : IsBeginning before es
-  pub began : AllBeganFor b before old
+  pub reasons : Reasons
+  pub began : AllBeganFor b before reasons old
 
 -- the units came to their end; where it is a success each of them has answered and is good
 pub record EndsWhole {S : Type 0} (tells : Bool) (child : Answers) (Turns : S → List ℕ → List ℕ → Step → S → Type 0) (setup : Setup) (project : Project) (next : Option ℕ) (from last : S) (summary : Summary) (old new : Moment) : Type 0 where
-  pub es : List (Event UnitFault)
+  pub es : List (Event BadUnit)
   pub flies : Flies Turns (needs_of project) Anyhow Anything from es last
   pub finished : is_finished (states_in project es) ≡ true
   pub good : summary.success ≡ true → (place : ℕ) (u : Planned) → unit_at project place ≡ Some u → is_good_at (slice_get (states_in project es) place) ≡ true
   pub started : summary.started ≡ started_keys project es
+  pub reasons : Reasons
+  pub differences : summary.differences ≡ differences_of es reasons
+  pub kept : summary.kept ≡ kept_of project.plan.planned reasons
   pub lines : Appends old.heard.taken new.heard.taken (due (states_in project es))
   pub faults : new.heard.faults ≡ old.heard.faults
   pub mid : Counts
@@ -89,11 +93,11 @@ pub record EndsWhole {S : Type 0} (tells : Bool) (child : Answers) (Turns : S �
   pub landed : new.counts.starts.flying ≡ []
   pub most : new.most ≡ max old.most (peak es)
   pub only : IsTrue tells → OnlyOf project es old.world new.world
-  pub told : IsTrue tells → Grounding child setup project next old.world (λ b. StandsWhole b es summary old.world new.world)
+  pub told : IsTrue tells → Grounding child setup project next old.world (λ b. StandsWhole b es reasons summary old.world new.world)
 
 -- a fault ended them: its cause, and what the sink had heard, are those of the moment before the children in flight were dropped
 pub record EndsCut {S : Type 0} (tells : Bool) (child : Answers) (Turns : S → List ℕ → List ℕ → Step → S → Type 0) (setup : Setup) (project : Project) (next : Option ℕ) (from : S) (fault : BuildFault) (old new : Moment) : Type 0 where
-  pub es : List (Event UnitFault)
+  pub es : List (Event BadUnit)
   pub last : S
   pub flies : Flies Turns (needs_of project) Anyhow Anything from es last
   pub mid : Moment

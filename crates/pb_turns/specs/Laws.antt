@@ -5,7 +5,7 @@ use Rattle.pb_flight.specs.Events.{Event, IsLawful, started_by}
 use Rattle.pb_flight.specs.declared.turn.Step.{Step}
 use Rattle.pb_place.specs.World.{World, Answers}
 use Rattle.pb_project.specs.Targets.{unit_at}
-use Rattle.pb_project.specs.declared.fault.UnitFault.{UnitFault}
+use Rattle.pb_answer.specs.declared.bad_unit.BadUnit.{BadUnit}
 use Rattle.pb_project.specs.declared.project.Project.{Project}
 use Rattle.pb_project.specs.declared.project.Setup.{Setup}
 use Rattle.pb_record.specs.Parts.{IsReading}
@@ -14,6 +14,7 @@ use Rattle.pb_soundness.specs.Records.{Reading}
 use Rattle.pb_turns.specs.Crew.{needs_of}
 use Rattle.pb_turns.specs.Ends.{EndsWhole, nothing_said}
 use Rattle.pb_turns.specs.Moments.{Moment}
+use Rattle.pb_turns.specs.Rows.{Reasons}
 use Rattle.pb_turns.specs.Story.{AllBeganFor, untouched}
 use Rattle.pb_unit.specs.declared.plan.Planned.{Planned}
 
@@ -23,7 +24,7 @@ EachHasRecord b w = (place : ℕ) (u : Planned) → unit_at b.project place ≡ 
 
 -- where each unit has its record at first, no child is started
 abbrev pub StartsNothing : Type 0
-StartsNothing = (b : Basis) (es : List (Event UnitFault)) (first : World) → IsLawful (needs_of b.project) es → AllBeganFor b es first → EachHasRecord b first → started_by es ≡ []
+StartsNothing = (b : Basis) (es : List (Event BadUnit)) (reasons : Reasons) (first : World) → IsLawful (needs_of b.project) es → AllBeganFor b es reasons first → EachHasRecord b first → started_by es ≡ []
 
 -- units that came to a good end over records leave each its record
 abbrev pub LeavesRecords : {S : Type 0} → (S → List ℕ → List ℕ → Step → S → Type 0) → Type 0

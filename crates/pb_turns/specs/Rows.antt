@@ -1,5 +1,5 @@
 -- What the units of a build give, one after another in plan order, and what is told of them.
-use Rattle.std.specs.Prelude.{ℕ, suc, Bool, true, false, ◌==◌, List, [], ◌∷◌, ◌++◌, Option, Some, None, if◌then◌else◌}
+use Rattle.std.specs.Prelude.{ℕ, suc, Bool, true, false, ◌==◌, List, [], ◌∷◌, ◌++◌, Option, Some, None, if◌then◌else◌, slice_get}
 use Rattle.std.specs.List.{flat_map}
 use Rattle.pb_answer.specs.declared.summary.Summary.{Summary}
 use Rattle.pb_directive.specs.declared.directive.Directive.{Directive}
@@ -7,12 +7,14 @@ use Rattle.pb_flight.specs.Events.{Event, Began, Gave, started_by}
 use Rattle.pb_message.specs.declared.message.Message.{Message}
 use Rattle.pb_place.specs.World.{World, Answers}
 use Rattle.pb_project.specs.Targets.{unit_at}
-use Rattle.pb_project.specs.declared.fault.UnitFault.{UnitFault}
+use Rattle.pb_answer.specs.declared.bad_unit.BadUnit.{BadUnit}
 use Rattle.pb_project.specs.declared.project.Project.{Project}
 use Rattle.pb_project.specs.declared.project.Setup.{Setup}
+use Rattle.pb_project.specs.declared.fault.UnitFault.{UnitFault}
 use Rattle.pb_run.specs.Halves.{key_in}
 use Rattle.pb_run.specs.Outcome.{Outcome, Waiting, Good, Bad, outcomes, directives_in}
 use Rattle.pb_run.specs.Telling.{unit_lines}
+use Rattle.pb_store.specs.declared.difference.Difference.{Difference}
 use Rattle.pb_unit.specs.declared.plan.Planned.{Planned}
 
 -- a unit of the build and what it gave
@@ -23,7 +25,7 @@ pub record Row : Type 0 where
 abbrev pub is_bad : Outcome → Bool
 is_bad Waiting = false
 is_bad (Good files directives messages) = false
-is_bad (Bad fault messages) = true
+is_bad (Bad bad messages) = true
 
 -- the units in plan order up to and with the first bad one
 abbrev pub to_first_bad : List Planned → List Outcome → List Row
@@ -39,21 +41,21 @@ rows_of child setup project sources = to_first_bad project.plan.planned (outcome
 abbrev pub messages_in : Outcome → List Message
 messages_in Waiting = []
 messages_in (Good files directives messages) = messages
-messages_in (Bad fault messages) = messages
+messages_in (Bad bad messages) = messages
 
-abbrev pub fault_in : Outcome → Option UnitFault
+abbrev pub fault_in : Outcome → Option BadUnit
 fault_in Waiting = None
 fault_in (Good files directives messages) = None
-fault_in (Bad fault messages) = Some fault
+fault_in (Bad bad messages) = Some bad
 
 -- a child was started for the unit at a place, when it began
-abbrev pub is_started : List (Event UnitFault) → ℕ → Bool
+abbrev pub is_started : List (Event BadUnit) → ℕ → Bool
 is_started [] place = false
 is_started (Began unit spawned ∷ es) place = if unit == place then spawned else is_started es place
 is_started (Gave unit answer ∷ es) place = is_started es place
 
 -- their lines, from the i-th unit on; each says whether a child was started for its unit
-abbrev pub said_from : Project → List (Event UnitFault) → ℕ → List Row → List ℕ
+abbrev pub said_from : Project → List (Event BadUnit) → ℕ → List Row → List ℕ
 said_from project es i [] = []
 said_from project es i (row ∷ rows) = unit_lines project row.unit (is_started es i) (messages_in row.outcome) ++ said_from project es (suc i) rows
 
@@ -66,23 +68,66 @@ abbrev pub directives_told : List Row → List (List ℕ × List Directive)
 directives_told [] = []
 directives_told (row ∷ rows) = keyed row.unit.key (directives_in row.outcome) ++ directives_told rows
 
-abbrev pub bad_or : List ℕ → Outcome → Option (List ℕ × UnitFault) → Option (List ℕ × UnitFault)
+abbrev pub bad_or : List ℕ → Outcome → Option (List ℕ × BadUnit) → Option (List ℕ × BadUnit)
 bad_or key Waiting rest = rest
 bad_or key (Good files directives messages) rest = rest
-bad_or key (Bad fault messages) rest = Some (key, fault)
+bad_or key (Bad bad messages) rest = Some (key, bad)
 
 -- the first bad unit
-abbrev pub bad_of : List Row → Option (List ℕ × UnitFault)
+abbrev pub bad_of : List Row → Option (List ℕ × BadUnit)
 bad_of [] = None
 bad_of (row ∷ rows) = bad_or row.unit.key row.outcome (bad_of rows)
 
-abbrev pub is_success : Option (List ℕ × UnitFault) → Bool
+abbrev pub is_success : Option (List ℕ × BadUnit) → Bool
 is_success None = true
 is_success (Some bad) = false
 
 -- the keys of the units whose child was started, in order of starting
-abbrev pub started_keys : Project → List (Event UnitFault) → List (List ℕ)
+abbrev pub started_keys : Project → List (Event BadUnit) → List (List ℕ)
 started_keys project es = flat_map (λ place. key_in (unit_at project place)) (started_by es)
 
-abbrev pub summary_of : Project → List (Event UnitFault) → List Row → Summary
-summary_of project es rows = record { success = is_success (bad_of rows); bad = bad_of rows; started = started_keys project es; directives = directives_told rows }
+-- its key and its fault, and what its child said
+abbrev pub key_told : Option (List ℕ × BadUnit) → Option (List ℕ × UnitFault)
+key_told None = None
+key_told (Some bad) = Some (bad.0, bad.1.fault)
+
+abbrev pub said_told : Option (List ℕ × BadUnit) → List ℕ
+said_told None = []
+said_told (Some bad) = bad.1.said
+
+-- what differed first of each unit: none of one that has not begun; of one that has, none where nothing did
+abbrev pub Reasons : Type 0
+Reasons = List (Option (Option Difference))
+
+-- what differed first of a unit for which a child was started
+abbrev pub difference_in : Option (Option (Option Difference)) → List Difference
+difference_in None = []
+difference_in (Some None) = []
+difference_in (Some (Some None)) = []
+difference_in (Some (Some (Some difference))) = difference ∷ []
+
+-- of these units, in order of starting, by what differed first of each unit that has begun
+abbrev pub differences_of : List (Event BadUnit) → Reasons → List Difference
+differences_of es reasons = flat_map (λ place. difference_in (slice_get reasons place)) (started_by es)
+
+abbrev pub kept_key : List ℕ → Option (Option Difference) → List (List ℕ)
+kept_key key None = []
+kept_key key (Some None) = key ∷ []
+kept_key key (Some (Some difference)) = []
+
+-- the keys of the units that have begun and of which nothing differed, in plan order
+abbrev pub kept_of : List Planned → Reasons → List (List ℕ)
+kept_of [] reasons = []
+kept_of (u ∷ us) [] = []
+kept_of (u ∷ us) (reason ∷ reasons) = kept_key u.key reason ++ kept_of us reasons
+
+abbrev pub summary_of : Project → List (Event BadUnit) → Reasons → List Row → Summary
+summary_of project es reasons rows = record {
+  success = is_success (bad_of rows);
+  bad = key_told (bad_of rows);
+  said = said_told (bad_of rows);
+  started = started_keys project es;
+  differences = differences_of es reasons;
+  kept = kept_of project.plan.planned reasons;
+  directives = directives_told rows;
+}

@@ -16,7 +16,7 @@ use Rattle.pb_place.specs.Counts.{up}
 use Rattle.pb_place.specs.World.{World, Answers, from_nothing}
 use Rattle.pb_place.specs.declared.child_in_flight.ChildInFlight.{ChildInFlight}
 use Rattle.pb_project.specs.Targets.{unit_at}
-use Rattle.pb_project.specs.declared.fault.UnitFault.{UnitFault}
+use Rattle.pb_answer.specs.declared.bad_unit.BadUnit.{BadUnit}
 use Rattle.pb_project.specs.declared.project.Project.{Project}
 use Rattle.pb_record.specs.Parts.{IsReading}
 use Rattle.pb_run.specs.Causes.{HasCause}
@@ -31,13 +31,13 @@ use Rattle.pb_store.specs.Migrating.{lacks_number}
 use Rattle.pb_store.specs.declared.difference.Difference.{Difference}
 use Rattle.pb_turns.specs.Crew.{needs_of, launched_of}
 use Rattle.pb_turns.specs.Moments.{Moment}
-use Rattle.pb_turns.specs.Rows.{fault_in, messages_in, is_started}
+use Rattle.pb_turns.specs.Rows.{Reasons, fault_in, messages_in, is_started}
 use Rattle.pb_turns.specs.declared.crew.Aloft.{Aloft}
 use Rattle.pb_turns.specs.declared.crew.UnitCrew.{UnitCrew}
 use Rattle.pb_unit.specs.declared.plan.Planned.{Planned}
 
 -- where the units stand after some events
-abbrev pub states_in : Project → List (Event UnitFault) → List (State UnitFault)
+abbrev pub states_in : Project → List (Event BadUnit) → List (State BadUnit)
 states_in project es = states_after (needs_of project) es
 
 -- What the counters, the sink and the lists say, over every place.
@@ -48,7 +48,7 @@ upped zero n = n
 upped (suc k) n = up (upped k n)
 
 -- so far no call failed; the lines of the first so many units were handed out; one child was started for each unit that began with one, and no more flew at one time than by the events
-pub record Goes (project : Project) (first now : Moment) (started : List ℕ) (aloft : List Aloft) (es : List (Event UnitFault)) (given : ℕ) : Type 0 where
+pub record Goes (project : Project) (first now : Moment) (started : List ℕ) (aloft : List Aloft) (es : List (Event BadUnit)) (given : ℕ) : Type 0 where
   pub started_are : started ≡ started_by es
   pub launched_are : launched_of aloft ≡ launched_after es
   pub lines : Appends first.heard.taken now.heard.taken (due_first given (states_in project es))
@@ -58,7 +58,7 @@ pub record Goes (project : Project) (first now : Moment) (started : List ℕ) (a
   pub most : now.most ≡ max first.most (peak es)
 
 -- a call for the unit of this key failed, or no run number is left for it: it has begun and not answered, and all lines that were due have been handed out
-pub record StopsAt (project : Project) (first now : Moment) (key : List ℕ) (es : List (Event UnitFault)) : Type 0 where
+pub record StopsAt (project : Project) (first now : Moment) (key : List ℕ) (es : List (Event BadUnit)) : Type 0 where
   pub place : ℕ
   pub unit : Planned
   pub there : unit_at project place ≡ Some unit
@@ -68,7 +68,7 @@ pub record StopsAt (project : Project) (first now : Moment) (key : List ℕ) (es
   pub faults : now.heard.faults ≡ first.heard.faults
 
 -- how a fault ends it: at a unit; at the sink, which took the first of the lines that were due; or for want of memory, with the lines of the first units
-abbrev pub StopsBy : BuildFault → Project → Moment → Moment → List (Event UnitFault) → Type 0
+abbrev pub StopsBy : BuildFault → Project → Moment → Moment → List (Event BadUnit) → Type 0
 StopsBy (Plan why) project first now es = ⊥
 StopsBy Toolchain project first now es = ⊥
 StopsBy (Child key fault) project first now es = StopsAt project first now key es
@@ -77,7 +77,7 @@ StopsBy Sink project first now es = ((n : ℕ) × Appends first.heard.taken now.
 StopsBy OutOfMemory project first now es = ((n : ℕ) × Appends first.heard.taken now.heard.taken (due_first n (states_in project es))) × (now.heard.faults ≡ first.heard.faults)
 
 -- with its cause, and one child for each unit that began with one; of the last of them it may have been tried alone
-pub record Stops (fault : BuildFault) (project : Project) (first now : Moment) (es : List (Event UnitFault)) : Type 0 where
+pub record Stops (fault : BuildFault) (project : Project) (first now : Moment) (es : List (Event BadUnit)) : Type 0 where
   pub by : StopsBy fault project first now es
   pub cause : HasCause fault first.counts now.counts
   pub starts : now.counts.starts.count ≡ upped (length (started_by es)) first.counts.starts.count
@@ -85,7 +85,7 @@ pub record Stops (fault : BuildFault) (project : Project) (first now : Moment) (
 -- What the place says, where it tells its maps.
 
 -- the unit at a place gave its outcome from nothing: its fault, its lines, which say whether a child was started for it, and its directives, which are noted
-pub record HasGiven (b : Basis) (es : List (Event UnitFault)) (done : List (Option (List Directive))) (place : ℕ) (answer : Answer UnitFault) : Type 0 where
+pub record HasGiven (b : Basis) (es : List (Event BadUnit)) (done : List (Option (List Directive))) (place : ℕ) (answer : Answer BadUnit) : Type 0 where
   pub unit : Planned
   pub there : unit_at b.project place ≡ Some unit
   pub outcome : Outcome
@@ -95,7 +95,7 @@ pub record HasGiven (b : Basis) (es : List (Event UnitFault)) (done : List (Opti
   pub noted : slice_get done place ≡ Some (directives_in outcome)
 
 -- the units for which a child was started before the unit at a place began
-abbrev pub started_before : List (Event UnitFault) → ℕ → List ℕ
+abbrev pub started_before : List (Event BadUnit) → ℕ → List ℕ
 started_before [] place = []
 started_before (Began unit spawned ∷ es) place = if unit == place then started_by es else started_before es place
 started_before (Gave unit answer ∷ es) place = started_before es place
@@ -104,8 +104,8 @@ started_before (Gave unit answer ∷ es) place = started_before es place
 abbrev pub NoneLacksNumber : Basis → World → Type 0
 NoneLacksNumber b w = (place : ℕ) (u : Planned) → unit_at b.project place ≡ Some u → lacks_number (records_in b w u.key) ≡ false
 
--- what differed first of the unit at a place when it began, in a world with the same sources in which its record's text was as at first; a child was started for it exactly where something differed. That world was the first one, where no child had been started yet and no record lacked a number at first
-pub record BeganFor (b : Basis) (es : List (Event UnitFault)) (first : World) (place : ℕ) : Type 0 where
+-- what differed first of the unit at a place when it began, in a world with the same sources in which its record's text was as at first; a child was started for it exactly where something differed, and that is noted. That world was the first one, where no child had been started yet and no record lacked a number at first
+pub record BeganFor (b : Basis) (es : List (Event BadUnit)) (reasons : Reasons) (first : World) (place : ℕ) : Type 0 where
   pub unit : Planned
   pub there : unit_at b.project place ≡ Some unit
   pub world : World
@@ -114,52 +114,53 @@ pub record BeganFor (b : Basis) (es : List (Event UnitFault)) (first : World) (p
   pub difference : Option Difference
   pub named : FirstDifference b.read (records_folder b.project) unit.key (command_in b place unit) world difference
   pub started : is_started es place ≡ is_some difference
+  pub noted : slice_get reasons place ≡ Some (Some difference)
   pub unstarted : started_before es place ≡ [] → NoneLacksNumber b first → world ≡ first
 
 -- each unit that has begun did so for what differed of it
-abbrev pub AllBeganFor : Basis → List (Event UnitFault) → World → Type 0
-AllBeganFor b es first = (place : ℕ) → HasBegun (states_in b.project es) place → BeganFor b es first place
+abbrev pub AllBeganFor : Basis → List (Event BadUnit) → Reasons → World → Type 0
+AllBeganFor b es reasons first = (place : ℕ) → HasBegun (states_in b.project es) place → BeganFor b es reasons first place
 
 -- a path is in no folder and no record's place of the units that have begun
-abbrev pub IsOutside : Project → List (Event UnitFault) → List ℕ → Type 0
+abbrev pub IsOutside : Project → List (Event BadUnit) → List ℕ → Type 0
 IsOutside project es q = (place : ℕ) (u : Planned) → HasBegun (states_in project es) place → unit_at project place ≡ Some u → is_of (records_folder project) u.key q ≡ false
 
 -- only files in the folders and the records' places of these units were changed
-pub record OnlyOf (project : Project) (es : List (Event UnitFault)) (old new : World) : Type 0 where
+pub record OnlyOf (project : Project) (es : List (Event BadUnit)) (old new : World) : Type 0 where
   pub variables : new.variables ≡ old.variables
   pub files : (q : List ℕ) → IsOutside project es q → finite.get new.files q ≡ finite.get old.files q
 
 -- a unit in flight has begun, and its child, if it has one, writes into the unit's folder
-pub record FliesIn (project : Project) (es : List (Event UnitFault)) (flying : List ChildInFlight) (a : Aloft) : Type 0 where
+pub record FliesIn (project : Project) (es : List (Event BadUnit)) (flying : List ChildInFlight) (a : Aloft) : Type 0 where
   pub state : slice_get (states_in project es) a.unit ≡ Some Begun
   pub writes : (u : Planned) → unit_at project a.unit ≡ Some u → WritesTo u.out a.begun.launched flying
 
 -- whatever a build rests on: the units in flight, and what was changed
-pub record Changes (project : Project) (first : World) (aloft : List Aloft) (es : List (Event UnitFault)) (world : World) (flying : List ChildInFlight) : Type 0 where
+pub record Changes (project : Project) (first : World) (aloft : List Aloft) (es : List (Event BadUnit)) (world : World) (flying : List ChildInFlight) : Type 0 where
   pub flies : AllByRecursion (FliesIn project es flying) aloft
   pub only : OnlyOf project es first world
 
 -- a unit in flight has begun so; all that it reaches is good
-pub record FliesSo (b : Basis) (es : List (Event UnitFault)) (next : Option ℕ) (world : World) (flying : List ChildInFlight) (still : ℕ → Type 0) (a : Aloft) : Type 0 where
+pub record FliesSo (b : Basis) (es : List (Event BadUnit)) (next : Option ℕ) (world : World) (flying : List ChildInFlight) (still : ℕ → Type 0) (a : Aloft) : Type 0 where
   pub state : slice_get (states_in b.project es) a.unit ≡ Some Begun
   pub begun_so : IsBegun b a.unit a.begun next world flying still
   pub reaches : (u : Planned) → unit_at b.project a.unit ≡ Some u → are_good (states_in b.project es) u.reaches ≡ true
   pub started : is_started es a.unit ≡ is_some a.begun.launched
 
 -- what the halves of units keep; the units in flight; and what has answered
-pub record Happened (b : Basis) (done : List (Option (List Directive))) (aloft : List Aloft) (next : Option ℕ) (es : List (Event UnitFault)) (world : World) (flying : List ChildInFlight) (still : ℕ → Type 0) : Type 0 where
+pub record Happened (b : Basis) (done : List (Option (List Directive))) (aloft : List Aloft) (next : Option ℕ) (es : List (Event BadUnit)) (world : World) (flying : List ChildInFlight) (still : ℕ → Type 0) : Type 0 where
   pub keeps : Keeps b (states_in b.project es) done next world
   pub begun : AllByRecursion (FliesSo b es next world flying still) aloft
-  pub gave : (place : ℕ) (answer : Answer UnitFault) → slice_get (states_in b.project es) place ≡ Some (Answered answer) → HasGiven b es done place answer
+  pub gave : (place : ℕ) (answer : Answer BadUnit) → slice_get (states_in b.project es) place ≡ Some (Answered answer) → HasGiven b es done place answer
 
 -- as long as no child is started the world is as at first, where no record lacked a number then
-abbrev pub IsQuiet : Basis → List (Event UnitFault) → World → World → Type 0
+abbrev pub IsQuiet : Basis → List (Event BadUnit) → World → World → Type 0
 IsQuiet b es first now = started_by es ≡ [] → NoneLacksNumber b first → now ≡ first
 
 -- The story.
 
 -- where no unit has begun
-abbrev pub untouched : Project → List (State UnitFault)
+abbrev pub untouched : Project → List (State BadUnit)
 untouched project = states_in project []
 
 -- whatever a build rests on that kept at first what the halves of units keep: this has happened
@@ -169,26 +170,26 @@ FromFirst child first at c Since = (footing : Footing) (read : Reading) (sources
     → Since (basis footing read child c.setup c.project sources)
 
 -- the story of a crew between two moments
-pub record Story (tells : Bool) (child : Answers) (first : UnitCrew) (at : Moment) (c : UnitCrew) (now : Moment) (still : ℕ → Type 0) (es : List (Event UnitFault)) (given : ℕ) : Type 0 where
+pub record Story (tells : Bool) (child : Answers) (first : UnitCrew) (at : Moment) (c : UnitCrew) (now : Moment) (still : ℕ → Type 0) (es : List (Event BadUnit)) (given : ℕ) : Type 0 where
   pub setup : c.setup ≡ first.setup
   pub project : c.project ≡ first.project
   pub goes : Goes c.project at now c.started.items c.aloft.items es given
   pub changes : IsTrue tells → Changes c.project at.world c.aloft.items es now.world now.counts.starts.flying
   pub happened : IsTrue tells
-      → FromFirst child first at c (λ b. Happened b c.done.items c.aloft.items c.store.next es now.world now.counts.starts.flying still × AllBeganFor b es at.world)
+      → FromFirst child first at c (λ b. Happened b c.done.items c.aloft.items c.store.next es now.world now.counts.starts.flying still × AllBeganFor b es c.reasons.items at.world)
   pub quiet : IsTrue tells → FromFirst child first at c (λ b. IsQuiet b es at.world now.world)
 
 -- the events before a beginning that failed
-abbrev pub IsBeginning : List (Event UnitFault) → List (Event UnitFault) → Type 0
+abbrev pub IsBeginning : List (Event BadUnit) → List (Event BadUnit) → Type 0
 IsBeginning before es = (es ≡ before) ⊎ ((unit : ℕ) × (spawned : Bool) × (es ≡ Began unit spawned ∷ before))
 
 -- and where a fault has ended it; of a unit that failed to begin it is not said what differed
-pub record StoryEnds (tells : Bool) (child : Answers) (fault : BuildFault) (first : UnitCrew) (at : Moment) (c : UnitCrew) (now : Moment) (still : ℕ → Type 0) (es : List (Event UnitFault)) : Type 0 where
+pub record StoryEnds (tells : Bool) (child : Answers) (fault : BuildFault) (first : UnitCrew) (at : Moment) (c : UnitCrew) (now : Moment) (still : ℕ → Type 0) (es : List (Event BadUnit)) : Type 0 where
   pub setup : c.setup ≡ first.setup
   pub project : c.project ≡ first.project
   pub stops : Stops fault c.project at now es
-  pub before : List (Event UnitFault)
+  pub before : List (Event BadUnit)
   pub begins : IsBeginning before es
   pub changes : IsTrue tells → Changes c.project at.world c.aloft.items es now.world now.counts.starts.flying
   pub happened : IsTrue tells
-      → FromFirst child first at c (λ b. Happened b c.done.items c.aloft.items c.store.next es now.world now.counts.starts.flying still × AllBeganFor b before at.world)
+      → FromFirst child first at c (λ b. Happened b c.done.items c.aloft.items c.store.next es now.world now.counts.starts.flying still × AllBeganFor b before c.reasons.items at.world)

@@ -5,9 +5,10 @@ use Rattle.pb_answer.specs.declared.summary.Summary.{Summary}
 use Rattle.pb_directive.specs.declared.directive.Directive.{Directive}
 use Rattle.pb_flight.specs.declared.flight.State.{State}
 use Rattle.pb_flight.specs.declared.flight.State.TheVariants.{Untouched, Begun, Answered}
-use Rattle.pb_project.specs.declared.fault.UnitFault.{UnitFault}
+use Rattle.pb_answer.specs.declared.bad_unit.BadUnit.{BadUnit}
 use Rattle.pb_run.specs.Halves.{key_in}
-use Rattle.pb_turns.specs.Rows.{keyed}
+use Rattle.pb_store.specs.declared.difference.Difference.{Difference}
+use Rattle.pb_turns.specs.Rows.{Reasons, keyed, key_told, said_told, difference_in, kept_of}
 use Rattle.pb_unit.specs.declared.plan.Planned.{Planned}
 
 -- the keys of the units at these places
@@ -20,34 +21,41 @@ noted_of [] noted = []
 noted_of (u ∷ us) [] = []
 noted_of (u ∷ us) (d ∷ noted) = keyed u.key d ++ noted_of us noted
 
-abbrev pub fault_of : State UnitFault → Option UnitFault
+abbrev pub fault_of : State BadUnit → Option BadUnit
 fault_of Untouched = None
 fault_of Begun = None
 fault_of (Answered answer) = answer.fault
 
-abbrev pub with_key : List ℕ → Option UnitFault → Option (List ℕ × UnitFault)
+abbrev pub with_key : List ℕ → Option BadUnit → Option (List ℕ × BadUnit)
 with_key key None = None
 with_key key (Some fault) = Some (key, fault)
 
-abbrev pub bad_with : Option Planned → Option (State UnitFault) → Option (List ℕ × UnitFault)
+abbrev pub bad_with : Option Planned → Option (State BadUnit) → Option (List ℕ × BadUnit)
 bad_with None s = None
 bad_with (Some u) None = None
 bad_with (Some u) (Some s) = with_key u.key (fault_of s)
 
 -- the key and the fault of the unit at a place
-abbrev pub bad_told : List Planned → List (State UnitFault) → Option ℕ → Option (List ℕ × UnitFault)
+abbrev pub bad_told : List Planned → List (State BadUnit) → Option ℕ → Option (List ℕ × BadUnit)
 bad_told units states None = None
 bad_told units states (Some place) = bad_with (slice_get units place) (slice_get states place)
+
+-- what differed first of the units at these places
+abbrev pub differences_at : Reasons → List ℕ → List Difference
+differences_at reasons places = flat_map (λ place. difference_in (slice_get reasons place)) places
 
 -- how many units are told, by the place of the first bad one
 abbrev pub count_told : ℕ → Option ℕ → ℕ
 count_told units None = units
 count_told units (Some place) = place + 1
 
-abbrev pub summary_by : List Planned → List (State UnitFault) → List (Option (List Directive)) → List ℕ → Option ℕ → Summary
-summary_by units states noted started bad = record {
+abbrev pub summary_by : List Planned → List (State BadUnit) → List (Option (List Directive)) → List ℕ → Reasons → Option ℕ → Summary
+summary_by units states noted started reasons bad = record {
   success = is_none (bad_told units states bad);
-  bad = bad_told units states bad;
+  bad = key_told (bad_told units states bad);
+  said = said_told (bad_told units states bad);
   started = keys_at units started;
+  differences = differences_at reasons started;
+  kept = kept_of units reasons;
   directives = noted_of (take (count_told (length units) bad) units) (take (count_told (length units) bad) noted);
 }

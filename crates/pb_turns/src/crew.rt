@@ -7,19 +7,19 @@ ghost use Rattle.pb_flight.specs.Events.{Event, Began, Gave, MayBegin, IsLawful,
 ghost use Rattle.pb_flight.specs.Table.{due_after, count_due, if_so};
 ghost use Rattle.pb_flight.specs.declared.flight.State.TheVariants as state;
 ghost use Rattle.pb_place.specs.Counts.{up};
-ghost use Rattle.pb_project.specs.declared.fault.UnitFault.{UnitFault};
+ghost use Rattle.pb_answer.specs.declared.bad_unit.BadUnit.{BadUnit};
 ghost use Rattle.pb_turns.specs.Crew.{needs_of, places_of, IsManned};
 ghost use Rattle.pb_turns.specs.Moments.{Moment, moment};
 ghost use Rattle.pb_turns.specs.Story.{Story, StoryEnds, states_in};
 
-use pb_answer::BuildFault;
+use pb_answer::{BadUnit, BuildFault};
 use pb_data::{Bytes, Text};
 use pb_directive::Directives;
 use pb_flight::{Answer, Crew};
 use pb_place::{Out, Place, write_all};
-use pb_project::{Project, Setup, UnitFault};
-use pb_run::{Begun, Ran, answer_unit, begin_unit, lines_of_unit};
-use pb_store::Store;
+use pb_project::{Project, Setup};
+use pb_run::{Beginning, Begun, Ran, answer_unit, begin_unit, lines_of_unit};
+use pb_store::{Difference, Store};
 use std::alloc::{AllocError, Global};
 
 /// A unit in flight.
@@ -46,6 +46,8 @@ pub struct UnitCrew {
     pub aloft: Vec<Aloft>,
     /// The units for which a child was started, in order.
     pub started: Vec<usize>,
+    /// What differed first of each unit: none of a unit that has not begun; of one that has, none where nothing did.
+    pub reasons: Vec<Option<Option<Difference>>>,
 }
 
 /// Adds an item where there is room.
@@ -72,17 +74,27 @@ fn make_room(aloft: &mut Vec<Aloft>, started: &mut Vec<usize>) -> Result<(), All
 }
 
 /// Notes a unit that has begun.
-fn note_begun(aloft: &mut Vec<Aloft>, started: &mut Vec<usize>, unit: usize, begun: Begun)
+fn note_begun(
+    aloft: &mut Vec<Aloft>,
+    started: &mut Vec<usize>,
+    reasons: &mut Vec<Option<Option<Difference>>>,
+    unit: usize,
+    made: Beginning,
+)
     requires room { vec_len aloft.old < vec_capacity aloft.old }
     requires more { vec_len started.old < vec_capacity started.old }
-    ensures aloft { aloft.new.items ≡ aloft.old.items ++ record { unit = unit; begun = begun } ∷ [] }
-    ensures started { started.new.items ≡ started.old.items ++ if_so (is_some begun.launched) unit }
+    requires within { unit < length reasons.old.items }
+    ensures aloft { aloft.new.items ≡ aloft.old.items ++ record { unit = unit; begun = made.begun } ∷ [] }
+    ensures started { started.new.items ≡ started.old.items ++ if_so (is_some made.begun.launched) unit }
+    ensures reasons { reasons.new.items ≡ slice_set reasons.old.items unit (Some made.difference) }
 {
+    let Beginning { begun, difference } = made;
     let spawned = begun.launched.is_some();
     put(aloft, Aloft { unit, begun });
     if spawned {
         put(started, unit);
     }
+    reasons[unit] = Some(difference);
 }
 
 /// Begins a unit of the crew's project, which is not in flight. After a fault it is not in flight either.
@@ -98,7 +110,7 @@ fn begin_at<P: Place>(
     ensures manned { IsManned crew.new (P.counts place.new) }
     ensures project { crew.new.project ≡ crew.old.project }
     ensures flying { OnOk result (places_of crew.new.aloft.items ≡ places_of crew.old.aloft.items ++ unit ∷ []) }
-    ensures story { (first : UnitCrew) (at : Moment) (taken : Option (List ℕ)) (faults : ℕ) (es : List (Event UnitFault)) (given : ℕ)
+    ensures story { (first : UnitCrew) (at : Moment) (taken : Option (List ℕ)) (faults : ℕ) (es : List (Event BadUnit)) (given : ℕ)
         → Story P.tells P.child first at crew.old (moment (P.world place.old) (P.counts place.old) (P.most place.old) taken faults) (P.still place.old) es given
         → places_of crew.old.aloft.items ≡ flying_after es → IsLawful (needs_of crew.old.project) es → given ≡ count_due (states_in crew.old.project es) → MayBegin (needs_of crew.old.project) (states_in crew.old.project es) unit
         → MatchResult result
@@ -111,7 +123,7 @@ fn begin_at<P: Place>(
     }
     let project = &crew.project;
     let planned = &project.plan.planned.as_slice()[unit];
-    let begun = match begin_unit(
+    let made = match begin_unit(
         alloc,
         place,
         &mut crew.store,
@@ -121,11 +133,17 @@ fn begin_at<P: Place>(
         unit,
         planned,
     ) {
-        Ok(begun) => begun,
+        Ok(made) => made,
         Err(fault) => return Err(fault),
     };
-    let spawned = begun.launched.is_some();
-    note_begun(&mut crew.aloft, &mut crew.started, unit, begun);
+    let spawned = made.begun.launched.is_some();
+    note_begun(
+        &mut crew.aloft,
+        &mut crew.started,
+        &mut crew.reasons,
+        unit,
+        made,
+    );
     Ok(spawned)
 }
 
@@ -142,12 +160,12 @@ fn note_answer(
     unit: usize,
     ran: Ran,
     lines: Text,
-) -> Answer<UnitFault>
+) -> Answer<BadUnit>
     requires within { unit < length done.old.items }
     ensures done { done.new.items ≡ slice_set done.old.items unit ran.directives }
-    ensures answer { result ≡ record { fault = ran.fault; lines = lines } }
+    ensures answer { result ≡ record { fault = ran.bad; lines = lines } }
 {
-    let fault = ran.fault;
+    let fault = ran.bad;
     done[unit] = ran.directives;
     let lines = bytes_of(lines);
     Answer { fault, lines }
@@ -159,13 +177,13 @@ fn answer_at<P: Place>(
     crew: &mut UnitCrew,
     place: &mut P,
     index: usize,
-) -> Result<Answer<UnitFault>, BuildFault>
+) -> Result<Answer<BadUnit>, BuildFault>
     requires manned { IsManned crew.old (P.counts place.old) }
     requires within { index < length (places_of crew.old.aloft.items) }
     ensures manned { IsManned crew.new (P.counts place.new) }
     ensures project { crew.new.project ≡ crew.old.project }
     ensures flying { places_of crew.new.aloft.items ≡ remove (places_of crew.old.aloft.items) index }
-    ensures story { (first : UnitCrew) (at : Moment) (taken : Option (List ℕ)) (faults : ℕ) (es : List (Event UnitFault)) (given unit : ℕ)
+    ensures story { (first : UnitCrew) (at : Moment) (taken : Option (List ℕ)) (faults : ℕ) (es : List (Event BadUnit)) (given unit : ℕ)
         → Story P.tells P.child first at crew.old (moment (P.world place.old) (P.counts place.old) (P.most place.old) taken faults) (P.still place.old) es given
         → places_of crew.old.aloft.items ≡ flying_after es → IsLawful (needs_of crew.old.project) es → given ≡ count_due (states_in crew.old.project es)
         → slice_get (places_of crew.old.aloft.items) index ≡ Some unit → slice_get (states_in crew.old.project es) unit ≡ Some state.Begun
@@ -204,7 +222,7 @@ fn places_of(alloc: Global, aloft: &[Aloft]) -> Result<Vec<usize>, AllocError>
     Ok(places)
 }
 
-impl<P: Place, O: Out> Crew<P, O, UnitFault, BuildFault> for UnitCrew {
+impl<P: Place, O: Out> Crew<P, O, BadUnit, BuildFault> for UnitCrew {
     ghost needs = { λ crew. needs_of crew.project };
 
     ghost flying = { λ crew. places_of crew.aloft.items };
@@ -237,7 +255,7 @@ impl<P: Place, O: Out> Crew<P, O, UnitFault, BuildFault> for UnitCrew {
         place: &mut P,
         out: &mut O,
         index: usize,
-    ) -> Result<Answer<UnitFault>, BuildFault> {
+    ) -> Result<Answer<BadUnit>, BuildFault> {
         answer_at(alloc, self, place, index)
     }
 

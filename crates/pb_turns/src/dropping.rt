@@ -4,7 +4,7 @@ ghost use Rattle.std.specs.Prelude.{◌≡◌, ◌<◌, [], ℕ, List, length, I
 ghost use Rattle.pb_flight.specs.Events.{Event};
 ghost use Rattle.pb_place.specs.Counts.{Counts};
 ghost use Rattle.pb_place.specs.World.{World};
-ghost use Rattle.pb_project.specs.declared.fault.UnitFault.{UnitFault};
+ghost use Rattle.pb_answer.specs.declared.bad_unit.BadUnit.{BadUnit};
 ghost use Rattle.pb_run.specs.Halves.{Basis};
 ghost use Rattle.pb_turns.specs.Crew.{tickets_of, IsManned};
 ghost use Rattle.pb_turns.specs.Ends.{Dropped, Drained};
@@ -24,9 +24,9 @@ fn drop_first<P: Place>(alloc: Global, crew: &mut UnitCrew, place: &mut P)
     ensures same { crew.new ≡ record crew.old { aloft = crew.new.aloft } }
     ensures most { P.most place.new ≡ P.most place.old }
     ensures dropped { (new : Counts) → Dropped (tickets_of crew.new.aloft.items) (P.counts place.new) new → Dropped (tickets_of crew.old.aloft.items) (P.counts place.old) new }
-    ensures changes { (first : World) (es : List (Event UnitFault)) → IsTrue P.tells
+    ensures changes { (first : World) (es : List (Event BadUnit)) → IsTrue P.tells
         → Changes crew.old.project first crew.old.aloft.items es (P.world place.old) (P.counts place.old).starts.flying → Changes crew.old.project first crew.new.aloft.items es (P.world place.new) (P.counts place.new).starts.flying }
-    ensures happened { (b : Basis) (es : List (Event UnitFault)) → IsTrue P.tells → b.project ≡ crew.old.project
+    ensures happened { (b : Basis) (es : List (Event BadUnit)) → IsTrue P.tells → b.project ≡ crew.old.project
         → Happened b crew.old.done.items crew.old.aloft.items crew.old.store.next es (P.world place.old) (P.counts place.old).starts.flying (P.still place.old)
         → Happened b crew.new.done.items crew.new.aloft.items crew.new.store.next es (P.world place.new) (P.counts place.new).starts.flying (P.still place.new) }
 {
@@ -41,9 +41,9 @@ pub(crate) fn drain<P: Place>(alloc: Global, crew: &mut UnitCrew, place: &mut P)
     ensures landed { (P.counts place.new).starts.flying ≡ [] }
     ensures drained { Drained (P.counts place.old) (P.counts place.new) }
     ensures most { P.most place.new ≡ P.most place.old }
-    ensures changes { (first : World) (es : List (Event UnitFault)) → IsTrue P.tells
+    ensures changes { (first : World) (es : List (Event BadUnit)) → IsTrue P.tells
         → Changes crew.old.project first crew.old.aloft.items es (P.world place.old) (P.counts place.old).starts.flying → Changes crew.old.project first crew.new.aloft.items es (P.world place.new) (P.counts place.new).starts.flying }
-    ensures happened { (b : Basis) (es : List (Event UnitFault)) → IsTrue P.tells → b.project ≡ crew.old.project
+    ensures happened { (b : Basis) (es : List (Event BadUnit)) → IsTrue P.tells → b.project ≡ crew.old.project
         → Happened b crew.old.done.items crew.old.aloft.items crew.old.store.next es (P.world place.old) (P.counts place.old).starts.flying (P.still place.old)
         → Happened b crew.new.done.items crew.new.aloft.items crew.new.store.next es (P.world place.new) (P.counts place.new).starts.flying (P.still place.new) }
 {

@@ -2,14 +2,15 @@
 
 ghost use Rattle.std.specs.Prelude.{◌≡◌, ◌++◌, ◌≤◌, ◌<◌, ℕ, List, length, take, IfOk, IfSome, OnOk, Some, None, slice_get};
 ghost use Rattle.pb_run.specs.Halves.{key_in};
-ghost use Rattle.pb_turns.specs.Rows.{keyed};
-ghost use Rattle.pb_turns.specs.Summing.{noted_of, fault_of, with_key, bad_told, keys_at, count_told, summary_by};
+ghost use Rattle.pb_turns.specs.Rows.{keyed, key_told, said_told, difference_in, kept_key, kept_of};
+ghost use Rattle.pb_turns.specs.Summing.{noted_of, fault_of, with_key, bad_told, keys_at, count_told, differences_at, summary_by};
 
-use pb_answer::Summary;
-use pb_data::{Items, Text, TryCopy};
+use pb_answer::{BadUnit, Summary};
+use pb_data::{Bytes, Items, Text, TryCopy};
 use pb_directive::Directives;
 use pb_flight::State;
-use pb_project::{Project, UnitFault};
+use pb_project::UnitFault;
+use pb_store::Difference;
 use pb_unit::Planned;
 use std::alloc::{AllocError, Global};
 
@@ -76,8 +77,71 @@ fn noted_of(
     Ok(noted)
 }
 
+/// Adds what differed first of the unit at a place, where its child was started for it.
+fn note_difference(
+    alloc: Global,
+    found: &mut Items<Difference>,
+    reasons: &[Option<Option<Difference>>],
+    place: usize,
+) -> Result<(), AllocError>
+    ensures { OnOk result (found.new ≡ found.old ++ difference_in (slice_get reasons.now place)) }
+{
+    match reasons.get(place) {
+        Some(Some(Some(difference))) => found.push(difference.copy(alloc)?)?,
+        _ => {}
+    }
+    Ok(())
+}
+
+/// What differed first of the units at these places.
+fn differences_at(
+    alloc: Global,
+    reasons: &[Option<Option<Difference>>],
+    places: &[usize],
+) -> Result<Items<Difference>, AllocError>
+    ensures { IfOk result (λ found. found ≡ differences_at reasons.now places.now) }
+{
+    let mut found = Items::new(alloc);
+    for place in places {
+        note_difference(alloc, &mut found, reasons, *place)?;
+    }
+    Ok(found)
+}
+
+/// Adds the key of a unit that has begun and of which nothing differed.
+fn note_kept(
+    alloc: Global,
+    kept: &mut Items<Text>,
+    key: &Text,
+    reason: &Option<Option<Difference>>,
+) -> Result<(), AllocError>
+    ensures { OnOk result (kept.new ≡ kept.old ++ kept_key key.now reason.now) }
+{
+    match reason {
+        Some(None) => kept.push(key.copy(alloc)?)?,
+        _ => {}
+    }
+    Ok(())
+}
+
+/// The keys of the units that have begun and of which nothing differed.
+fn kept_of(
+    alloc: Global,
+    units: &[Planned],
+    reasons: &[Option<Option<Difference>>],
+) -> Result<Items<Text>, AllocError>
+    requires long { length units.now ≡ length reasons.now }
+    ensures { IfOk result (λ kept. kept ≡ kept_of units.now reasons.now) }
+{
+    let mut kept = Items::new(alloc);
+    for index in 0..units.len() {
+        note_kept(alloc, &mut kept, &units[index].key, &reasons[index])?;
+    }
+    Ok(kept)
+}
+
 /// The fault of a unit that has answered and is bad.
-fn fault_of(state: State<UnitFault>) -> Option<UnitFault>
+fn fault_of(state: State<BadUnit>) -> Option<BadUnit>
     ensures { result ≡ fault_of state }
 {
     match state {
@@ -91,8 +155,8 @@ fn fault_of(state: State<UnitFault>) -> Option<UnitFault>
 fn with_key(
     alloc: Global,
     key: &Text,
-    fault: Option<UnitFault>,
-) -> Result<Option<(Text, UnitFault)>, AllocError>
+    fault: Option<BadUnit>,
+) -> Result<Option<(Text, BadUnit)>, AllocError>
     ensures { IfOk result (λ bad. bad ≡ with_key key.now fault) }
 {
     match fault {
@@ -105,9 +169,9 @@ fn with_key(
 fn bad_at(
     alloc: Global,
     units: &[Planned],
-    states: Vec<State<UnitFault>>,
+    states: Vec<State<BadUnit>>,
     place: usize,
-) -> Result<Option<(Text, UnitFault)>, AllocError>
+) -> Result<Option<(Text, BadUnit)>, AllocError>
     requires long { length units.now ≡ length states.items }
     ensures { IfOk result (λ bad. bad ≡ bad_told units.now states.items (Some place)) }
 {
@@ -117,6 +181,17 @@ fn bad_at(
     let mut states = states;
     let state = states.swap_remove(place);
     with_key(alloc, &units[place].key, fault_of(state))
+}
+
+/// The key and the fault of a bad unit, and what its child said.
+fn told_apart(alloc: Global, bad: Option<(Text, BadUnit)>) -> (Option<(Text, UnitFault)>, Bytes)
+    ensures bad { result.0 ≡ key_told bad }
+    ensures said { result.1 ≡ said_told bad }
+{
+    match bad {
+        None => (None, Bytes::new(Vec::new(alloc))),
+        Some((key, BadUnit { fault, said })) => (Some((key, fault)), said),
+    }
 }
 
 /// How many units are told, from the start of plan order: all, or all up to and with the first bad one.
@@ -131,21 +206,26 @@ fn count_told(units: usize, bad: Option<usize>) -> usize
 }
 
 /// The summary of units that came to their end, by where each stands, what the runs among them have said, the places
-/// of those that were started and that of the first bad one. The one fault is want of memory.
+/// of those that were started, what differed of each, and the place of the first bad one. The one fault is want of
+/// memory.
 pub(crate) fn summary_of(
     alloc: Global,
     units: &[Planned],
-    states: Vec<State<UnitFault>>,
+    states: Vec<State<BadUnit>>,
     done: &[Option<Directives>],
     started: &[usize],
+    reasons: &[Option<Option<Difference>>],
     first_bad: Option<usize>,
 ) -> Result<Summary, AllocError>
     requires long { length units.now ≡ length states.items }
     requires noted { length units.now ≡ length done.now }
+    requires reasoned { length units.now ≡ length reasons.now }
     requires within { IfSome first_bad (λ place. place < length units.now) }
-    ensures { IfOk result (λ summary. summary ≡ summary_by units.now states.items done.now started.now first_bad) }
+    ensures { IfOk result (λ summary. summary ≡ summary_by units.now states.items done.now started.now reasons.now first_bad) }
 {
     let count = count_told(units.len(), first_bad);
+    let differences = differences_at(alloc, reasons, started)?;
+    let kept = kept_of(alloc, units, reasons)?;
     let started = keys_at(alloc, units, started)?;
     let directives = noted_of(alloc, units, done, count)?;
     let bad = match first_bad {
@@ -153,10 +233,14 @@ pub(crate) fn summary_of(
         Some(place) => bad_at(alloc, units, states, place)?,
     };
     let success = bad.is_none();
+    let (bad, said) = told_apart(alloc, bad);
     Ok(Summary {
         success,
         bad,
+        said,
         started,
+        differences,
+        kept,
         directives,
     })
 }

@@ -11,12 +11,12 @@ ghost use Rattle.pb_turns.specs.Summing.{summary_by};
 use crate::crew::UnitCrew;
 use crate::dropping::drain;
 use crate::summing::summary_of;
-use pb_answer::{BuildFault, Summary};
+use pb_answer::{BadUnit, BuildFault, Summary};
 use pb_data::Items;
 use pb_directive::Directives;
 use pb_flight::{Flight, Turn, drive};
 use pb_place::{Out, Place};
-use pb_project::{Project, Setup, UnitFault};
+use pb_project::{Project, Setup};
 use pb_store::Store;
 use pb_unit::Planned;
 use std::alloc::{AllocError, Global};
@@ -43,19 +43,19 @@ fn needs_of(alloc: Global, units: &[Planned]) -> Result<Items<Items<usize>>, All
     Ok(needs)
 }
 
-/// Nothing said yet, for each unit.
-fn nothing_said(alloc: Global, units: &[Planned]) -> Result<Vec<Option<Directives>>, AllocError>
-    ensures { IfOk result (λ done. done.items ≡ map (λ (u : Planned). None) units.now) }
+/// Nothing noted yet, for each unit.
+fn nothing_noted<T: Drop>(alloc: Global, units: &[Planned]) -> Result<Vec<Option<T>>, AllocError>
+    ensures { IfOk result (λ noted. noted.items ≡ map (λ (u : Planned). None) units.now) }
 {
-    let mut done = Vec::new(alloc);
+    let mut noted = Vec::new(alloc);
     for _ in units {
-        done.push(None)?;
+        noted.push(None)?;
     }
-    Ok(done)
+    Ok(noted)
 }
 
 /// A flight of a project's units on which nothing has begun.
-fn flight_of(alloc: Global, project: &Project) -> Result<Flight<UnitFault>, AllocError>
+fn flight_of(alloc: Global, project: &Project) -> Result<Flight<BadUnit>, AllocError>
     ensures { IfOk result (λ flight. flight ≡ fresh (needs_of project.now)) }
 {
     let needs = needs_of(alloc, project.plan.planned.as_slice())?;
@@ -63,10 +63,11 @@ fn flight_of(alloc: Global, project: &Project) -> Result<Flight<UnitFault>, Allo
 }
 
 /// The summary of the units of a crew that came to their end, by the flight. The one fault is want of memory.
-fn sum_up(alloc: Global, crew: &UnitCrew, flight: Flight<UnitFault>) -> Result<Summary, AllocError>
+fn sum_up(alloc: Global, crew: &UnitCrew, flight: Flight<BadUnit>) -> Result<Summary, AllocError>
     requires long { length flight.states ≡ length crew.now.project.plan.planned }
     requires noted { length crew.now.done.items ≡ length crew.now.project.plan.planned }
-    ensures { IfOk result (λ summary. summary ≡ summary_by crew.now.project.plan.planned flight.states crew.now.done.items crew.now.started.items (first_bad flight.states)) }
+    requires reasoned { length crew.now.reasons.items ≡ length crew.now.project.plan.planned }
+    ensures { IfOk result (λ summary. summary ≡ summary_by crew.now.project.plan.planned flight.states crew.now.done.items crew.now.started.items crew.now.reasons.items (first_bad flight.states)) }
 {
     let bad = flight.first_bad();
     let states = flight.into_states();
@@ -77,6 +78,7 @@ fn sum_up(alloc: Global, crew: &UnitCrew, flight: Flight<UnitFault>) -> Result<S
         states,
         crew.done.as_slice(),
         crew.started.as_slice(),
+        crew.reasons.as_slice(),
         bad,
     )
 }
@@ -106,8 +108,12 @@ pub fn run_turns<P: Place, O: Out, T: Turn>(
         Ok(flight) => flight,
         Err(_) => return Err(BuildFault::OutOfMemory),
     };
-    let done = match nothing_said(alloc, project.plan.planned.as_slice()) {
+    let done = match nothing_noted(alloc, project.plan.planned.as_slice()) {
         Ok(done) => done,
+        Err(_) => return Err(BuildFault::OutOfMemory),
+    };
+    let reasons = match nothing_noted(alloc, project.plan.planned.as_slice()) {
+        Ok(reasons) => reasons,
         Err(_) => return Err(BuildFault::OutOfMemory),
     };
     let mut crew = UnitCrew {
@@ -117,6 +123,7 @@ pub fn run_turns<P: Place, O: Out, T: Turn>(
         done,
         aloft: Vec::new(alloc),
         started: Vec::new(alloc),
+        reasons,
     };
     let driven = drive(alloc, &mut crew, place, out, &mut flight, turn);
     drain(alloc, &mut crew, place);

@@ -3,7 +3,7 @@ use Rattle.std.proofs.lemmas.List.{length-map}
 use Rattle.std.proofs.lemmas.Option.{slice_get_read, slice_get_within}
 use Rattle.pb_flight.specs.declared.flight.Answer.{Answer}
 use Rattle.pb_flight.specs.declared.flight.State.TheVariants.{Begun}
-use Rattle.pb_project.specs.declared.fault.UnitFault.{UnitFault}
+use Rattle.pb_answer.specs.declared.bad_unit.BadUnit.{BadUnit}
 use Rattle.pb_turns.specs.declared.crew.UnitCrew.{UnitCrew}
 use Rattle.pb_flight.specs.Events.{Gave}
 use Rattle.pb_flight.proofs.Lists.{injective, length_set}
@@ -48,21 +48,21 @@ pub returns-in-Err-clause-manned : goal.returns-in-Err-clause-manned
 returns-in-Err-clause-manned g c =
     let at_index = slice_get_read c.args.crew.now.aloft.items (length c.args.crew.now.aloft.items) c.args.index c.remove-unit.result refl
     (subst (λ n. c.args.index < n) (length-map c.args.crew.now.aloft.items place_of_unit) c.requires.within) c.remove-unit.ensures.value in
-    manned_answered c.args.crew.now _ (g.P.Place.counts c.args.place.now) (g.P.Place.counts c.answer_unit.new.place) c.args.index c.remove-unit.result c.requires.manned at_index refl c.answer_unit.ensures.folder refl c.remove-unit.ensures.items c.answer_unit.ensures.next
+    manned_answered c.args.crew.now _ (g.P.Place.counts c.args.place.now) (g.P.Place.counts c.answer_unit.new.place) c.args.index c.remove-unit.result c.requires.manned at_index refl c.answer_unit.ensures.folder refl refl c.remove-unit.ensures.items c.answer_unit.ensures.next
     (answer_fault_lands _ _ c.remove-unit.result.begun.launched c.in-Err.fault _ _ c.in-Err.ensures.takes.0)
 
 pub returns-in-Err-lines_of_unit-clause-manned : goal.returns-in-Err-lines_of_unit-clause-manned
 returns-in-Err-lines_of_unit-clause-manned g c =
     let at_index = slice_get_read c.args.crew.now.aloft.items (length c.args.crew.now.aloft.items) c.args.index c.remove-unit.result refl
     (subst (λ n. c.args.index < n) (length-map c.args.crew.now.aloft.items place_of_unit) c.requires.within) c.remove-unit.ensures.value in
-    manned_answered c.args.crew.now _ (g.P.Place.counts c.args.place.now) (g.P.Place.counts c.answer_unit.new.place) c.args.index c.remove-unit.result c.requires.manned at_index refl c.answer_unit.ensures.folder refl c.remove-unit.ensures.items c.answer_unit.ensures.next c.in-Ok.ensures.takes.1
+    manned_answered c.args.crew.now _ (g.P.Place.counts c.args.place.now) (g.P.Place.counts c.answer_unit.new.place) c.args.index c.remove-unit.result c.requires.manned at_index refl c.answer_unit.ensures.folder refl refl c.remove-unit.ensures.items c.answer_unit.ensures.next c.in-Ok.ensures.takes.1
 
 pub returns-clause-manned : goal.returns-clause-manned
 returns-clause-manned g c =
     let at_index = slice_get_read c.args.crew.now.aloft.items (length c.args.crew.now.aloft.items) c.args.index c.remove-unit.result refl
     (subst (λ n. c.args.index < n) (length-map c.args.crew.now.aloft.items place_of_unit) c.requires.within) c.remove-unit.ensures.value in
     manned_answered c.args.crew.now _ (g.P.Place.counts c.args.place.now) (g.P.Place.counts c.answer_unit.new.place) c.args.index c.remove-unit.result c.requires.manned at_index refl c.answer_unit.ensures.folder
-    (ap length c.note_answer.ensures.done ∙ length_set c.args.crew.now.done.items c.remove-unit.result.unit c.in-Ok.ran.directives) c.remove-unit.ensures.items c.answer_unit.ensures.next c.in-Ok.ensures.takes.1
+    (ap length c.note_answer.ensures.done ∙ length_set c.args.crew.now.done.items c.remove-unit.result.unit c.in-Ok.ran.directives) refl c.remove-unit.ensures.items c.answer_unit.ensures.next c.in-Ok.ensures.takes.1
 
 pub returns-in-Err-clause-flying : goal.returns-in-Err-clause-flying
 returns-in-Err-clause-flying g c = ap (λ items. map place_of_unit items) c.remove-unit.ensures.items ∙ map_removed place_of_unit c.args.crew.now.aloft.items c.args.index
@@ -134,8 +134,8 @@ returns-clause-story g c = λ first at taken faults es given unit s flying lawfu
     let new = moment (g.P.Place.world c.answer_unit.new.place) (g.P.Place.counts c.answer_unit.new.place) (g.P.Place.most c.answer_unit.new.place) taken faults in
     let its = injective (sym is_unit ∙ get_map place_of_unit c.args.crew.now.aloft.items c.args.index c.remove-unit.result at_index) in
     let begun = subst (λ n. slice_get (states_in c.args.crew.now.project es) n ≡ Some Begun) its flies in
-    let crew : UnitCrew = record { setup = c.args.crew.now.setup; project = c.args.crew.now.project; store = c.answer_unit.new.store; done = c.note_answer.new.done; aloft = c.remove-unit.new.self; started = c.args.crew.now.started } in
-    let answer : Answer UnitFault = record { fault = c.in-Ok.ran.fault; lines = c.in-Ok-lines_of_unit.lines } in
+    let crew : UnitCrew = record { setup = c.args.crew.now.setup; project = c.args.crew.now.project; store = c.answer_unit.new.store; done = c.note_answer.new.done; aloft = c.remove-unit.new.self; started = c.args.crew.now.started; reasons = c.args.crew.now.reasons } in
+    let answer : Answer BadUnit = record { fault = c.in-Ok.ran.bad; lines = c.in-Ok-lines_of_unit.lines } in
     subst (λ n. Story g.P.Place.tells g.P.Place.child first at crew new (g.P.Place.still c.answer_unit.new.place) (Gave n c.note_answer.result ∷ es) given) (sym its)
     (subst (λ given_answer. Story g.P.Place.tells g.P.Place.child first at crew new (g.P.Place.still c.answer_unit.new.place) (Gave c.remove-unit.result.unit given_answer ∷ es) given) (sym c.note_answer.ensures.answer) record {
       setup = s.setup;

@@ -2,7 +2,7 @@ use Rattle.std.proofs.Common.{◌≡◌, List, IsTrue, length}
 use Rattle.pb_flight.specs.Events.{Event}
 use Rattle.pb_place.specs.Counts.{Counts}
 use Rattle.pb_place.specs.World.{World}
-use Rattle.pb_project.specs.declared.fault.UnitFault.{UnitFault}
+use Rattle.pb_answer.specs.declared.bad_unit.BadUnit.{BadUnit}
 use Rattle.pb_run.specs.Halves.{Basis}
 use Rattle.pb_turns.specs.Crew.{tickets_of, IsManned}
 use Rattle.pb_turns.specs.Ends.{Dropped}
@@ -15,9 +15,9 @@ invariant-loop-alloc g l = record {
   same : l.crew ≡ record l.fn.crew { aloft = l.crew.aloft };
   most : g.P.Place.most l.place ≡ g.P.Place.most l.fn.place;
   dropped : (new : Counts) → Dropped (tickets_of l.crew.aloft.items) (g.P.Place.counts l.place) new → Dropped (tickets_of l.fn.crew.aloft.items) (g.P.Place.counts l.fn.place) new;
-  changes : (first : World) (es : List (Event UnitFault)) → IsTrue g.P.Place.tells
+  changes : (first : World) (es : List (Event BadUnit)) → IsTrue g.P.Place.tells
       → Changes l.fn.crew.project first l.fn.crew.aloft.items es (g.P.Place.world l.fn.place) (g.P.Place.counts l.fn.place).starts.flying → Changes l.fn.crew.project first l.crew.aloft.items es (g.P.Place.world l.place) (g.P.Place.counts l.place).starts.flying;
-  happened : (b : Basis) (es : List (Event UnitFault)) → IsTrue g.P.Place.tells → b.project ≡ l.fn.crew.project
+  happened : (b : Basis) (es : List (Event BadUnit)) → IsTrue g.P.Place.tells → b.project ≡ l.fn.crew.project
       → Happened b l.fn.crew.done.items l.fn.crew.aloft.items l.fn.crew.store.next es (g.P.Place.world l.fn.place) (g.P.Place.counts l.fn.place).starts.flying (g.P.Place.still l.fn.place)
       → Happened b l.crew.done.items l.crew.aloft.items l.crew.store.next es (g.P.Place.world l.place) (g.P.Place.counts l.place).starts.flying (g.P.Place.still l.place);
 }

@@ -12,7 +12,7 @@ drop_unit-requires g c =
 pub returns-clause-manned : goal.returns-clause-manned
 returns-clause-manned g c =
     let at = slice_get_read c.args.crew.now.aloft.items (length c.args.crew.now.aloft.items) 0 c.remove-aloft.result refl c.requires.some c.remove-aloft.ensures.value in
-    manned_answered c.args.crew.now _ (g.P.Place.counts c.args.place.now) (g.P.Place.counts c.drop_unit.new.place) 0 c.remove-aloft.result c.requires.manned at refl refl refl c.remove-aloft.ensures.items (inl refl)
+    manned_answered c.args.crew.now _ (g.P.Place.counts c.args.place.now) (g.P.Place.counts c.drop_unit.new.place) 0 c.remove-aloft.result c.requires.manned at refl refl refl refl c.remove-aloft.ensures.items (inl refl)
     (drops_land c.remove-aloft.result.begun.launched _ _ c.drop_unit.ensures.counts)
 
 pub returns-clause-happened : goal.returns-clause-happened

@@ -13,23 +13,27 @@ pub returns-in-Err : goal.returns-in-Err
 returns-in-Err g c = ends_before g.P.Place.tells g.P.Place.child g.T.Turn.turns c.args.setup c.args.project c.args.store.next c.args.turn.now
     (moment (g.P.Place.world c.args.place.now) (g.P.Place.counts c.args.place.now) (g.P.Place.most c.args.place.now) (g.O.Out.taken c.args.out.now) (g.O.Out.faults c.args.out.now)) c.requires.none
 
-pub returns-in-Err-nothing_said : goal.returns-in-Err-nothing_said
-returns-in-Err-nothing_said g c = ends_before g.P.Place.tells g.P.Place.child g.T.Turn.turns c.args.setup c.args.project c.args.store.next c.args.turn.now
+pub returns-in-Err-nothing_noted : goal.returns-in-Err-nothing_noted
+returns-in-Err-nothing_noted g c = ends_before g.P.Place.tells g.P.Place.child g.T.Turn.turns c.args.setup c.args.project c.args.store.next c.args.turn.now
+    (moment (g.P.Place.world c.args.place.now) (g.P.Place.counts c.args.place.now) (g.P.Place.most c.args.place.now) (g.O.Out.taken c.args.out.now) (g.O.Out.faults c.args.out.now)) c.requires.none
+
+pub returns-in-Err-nothing_noted-2 : goal.returns-in-Err-nothing_noted-2
+returns-in-Err-nothing_noted-2 g c = ends_before g.P.Place.tells g.P.Place.child g.T.Turn.turns c.args.setup c.args.project c.args.store.next c.args.turn.now
     (moment (g.P.Place.world c.args.place.now) (g.P.Place.counts c.args.place.now) (g.P.Place.most c.args.place.now) (g.O.Out.taken c.args.out.now) (g.O.Out.faults c.args.out.now)) c.requires.none
 
 pub sum_up-requires-clause-long : goal.sum_up-requires-clause-long
 sum_up-requires-clause-long g c =
-    let first : UnitCrew = record { setup = c.args.setup; project = c.args.project; store = c.args.store; done = c.in-Ok-nothing_said.done; aloft = c.new.result; started = c.new-2.result } in
+    let first : UnitCrew = record { setup = c.args.setup; project = c.args.project; store = c.args.store; done = c.in-Ok-nothing_noted.done; aloft = c.new.result; started = c.new-2.result; reasons = c.in-Ok-nothing_noted-2.reasons } in
     let (es, flown) = c.in-Ok-driven.ensures.flown in
     states_long g.T.Turn.turns first c.drive-driven.new.crew c.drain.new.crew c.args.turn.now c.drive-driven.new.turn es c.drive-driven.new.flight _ flown c.drive-driven.ensures.needs c.drain.ensures.same
 
 pub returns-in-Ok-sum_up : goal.returns-in-Ok-sum_up
 returns-in-Ok-sum_up g c =
-    let first : UnitCrew = record { setup = c.args.setup; project = c.args.project; store = c.args.store; done = c.in-Ok-nothing_said.done; aloft = c.new.result; started = c.new-2.result } in
+    let first : UnitCrew = record { setup = c.args.setup; project = c.args.project; store = c.args.store; done = c.in-Ok-nothing_noted.done; aloft = c.new.result; started = c.new-2.result; reasons = c.in-Ok-nothing_noted-2.reasons } in
     let at : Moment = moment (g.P.Place.world c.args.place.now) (g.P.Place.counts c.args.place.now) (g.P.Place.most c.args.place.now) (g.O.Out.taken c.args.out.now) (g.O.Out.faults c.args.out.now) in
     let mid : Moment = moment (g.P.Place.world c.drive-driven.new.place) (g.P.Place.counts c.drive-driven.new.place) (g.P.Place.most c.drive-driven.new.place) (g.O.Out.taken c.drive-driven.new.out) (g.O.Out.faults c.drive-driven.new.out) in
     let new : Moment = moment (g.P.Place.world c.drain.new.place) (g.P.Place.counts c.drain.new.place) (g.P.Place.most c.drain.new.place) (g.O.Out.taken c.drive-driven.new.out) (g.O.Out.faults c.drive-driven.new.out) in
-    let said : first.done.items ≡ nothing_said first.project = c.in-Ok-nothing_said.ensures ∙ ap (map (λ (u : Planned). None)) c.as_slice.ensures in
+    let said : first.done.items ≡ nothing_said first.project = c.in-Ok-nothing_noted.ensures ∙ ap (map (λ (u : Planned). None)) c.as_slice.ensures in
     let begins = story_first g.P.Place.tells g.P.Place.child first at (g.P.Place.still c.args.place.now) c.new.ensures.items c.new-2.ensures.items in
     let (es, flown, story) = c.in-Ok-driven.ensures.goes first c.args.place.now c.args.out.now begins in
     ends_whole g.P.Place.tells g.P.Place.child g.T.Turn.turns first c.drive-driven.new.crew c.drain.new.crew c.args.turn.now c.drive-driven.new.turn at mid new (g.P.Place.still c.drive-driven.new.place) (g.P.Place.still c.drain.new.place) es said
@@ -38,11 +42,11 @@ returns-in-Ok-sum_up g c =
 
 pub returns-in-Ok-driven : goal.returns-in-Ok-driven
 returns-in-Ok-driven g c =
-    let first : UnitCrew = record { setup = c.args.setup; project = c.args.project; store = c.args.store; done = c.in-Ok-nothing_said.done; aloft = c.new.result; started = c.new-2.result } in
+    let first : UnitCrew = record { setup = c.args.setup; project = c.args.project; store = c.args.store; done = c.in-Ok-nothing_noted.done; aloft = c.new.result; started = c.new-2.result; reasons = c.in-Ok-nothing_noted-2.reasons } in
     let at : Moment = moment (g.P.Place.world c.args.place.now) (g.P.Place.counts c.args.place.now) (g.P.Place.most c.args.place.now) (g.O.Out.taken c.args.out.now) (g.O.Out.faults c.args.out.now) in
     let mid : Moment = moment (g.P.Place.world c.drive-driven.new.place) (g.P.Place.counts c.drive-driven.new.place) (g.P.Place.most c.drive-driven.new.place) (g.O.Out.taken c.drive-driven.new.out) (g.O.Out.faults c.drive-driven.new.out) in
     let new : Moment = moment (g.P.Place.world c.drain.new.place) (g.P.Place.counts c.drain.new.place) (g.P.Place.most c.drain.new.place) (g.O.Out.taken c.drive-driven.new.out) (g.O.Out.faults c.drive-driven.new.out) in
-    let said : first.done.items ≡ nothing_said first.project = c.in-Ok-nothing_said.ensures ∙ ap (map (λ (u : Planned). None)) c.as_slice.ensures in
+    let said : first.done.items ≡ nothing_said first.project = c.in-Ok-nothing_noted.ensures ∙ ap (map (λ (u : Planned). None)) c.as_slice.ensures in
     let begins = story_first g.P.Place.tells g.P.Place.child first at (g.P.Place.still c.args.place.now) c.new.ensures.items c.new-2.ensures.items in
     let (es, flown, story) = c.in-Ok-driven.ensures.goes first c.args.place.now c.args.out.now begins in
     ends_cut g.P.Place.tells g.P.Place.child g.T.Turn.turns first c.drive-driven.new.crew c.drain.new.crew c.args.turn.now c.drive-driven.new.turn at mid new (g.P.Place.still c.drive-driven.new.place) (g.P.Place.still c.drain.new.place) es said
@@ -52,11 +56,11 @@ returns-in-Ok-driven g c =
 
 pub returns : goal.returns
 returns g c =
-    let first : UnitCrew = record { setup = c.args.setup; project = c.args.project; store = c.args.store; done = c.in-Ok-nothing_said.done; aloft = c.new.result; started = c.new-2.result } in
+    let first : UnitCrew = record { setup = c.args.setup; project = c.args.project; store = c.args.store; done = c.in-Ok-nothing_noted.done; aloft = c.new.result; started = c.new-2.result; reasons = c.in-Ok-nothing_noted-2.reasons } in
     let at : Moment = moment (g.P.Place.world c.args.place.now) (g.P.Place.counts c.args.place.now) (g.P.Place.most c.args.place.now) (g.O.Out.taken c.args.out.now) (g.O.Out.faults c.args.out.now) in
     let mid : Moment = moment (g.P.Place.world c.drive-driven.new.place) (g.P.Place.counts c.drive-driven.new.place) (g.P.Place.most c.drive-driven.new.place) (g.O.Out.taken c.drive-driven.new.out) (g.O.Out.faults c.drive-driven.new.out) in
     let new : Moment = moment (g.P.Place.world c.drain.new.place) (g.P.Place.counts c.drain.new.place) (g.P.Place.most c.drain.new.place) (g.O.Out.taken c.drive-driven.new.out) (g.O.Out.faults c.drive-driven.new.out) in
-    let said : first.done.items ≡ nothing_said first.project = c.in-Ok-nothing_said.ensures ∙ ap (map (λ (u : Planned). None)) c.as_slice.ensures in
+    let said : first.done.items ≡ nothing_said first.project = c.in-Ok-nothing_noted.ensures ∙ ap (map (λ (u : Planned). None)) c.as_slice.ensures in
     let begins = story_first g.P.Place.tells g.P.Place.child first at (g.P.Place.still c.args.place.now) c.new.ensures.items c.new-2.ensures.items in
     let (last, es, flies, ends) = c.in-Err-driven.ensures.goes first c.args.place.now c.args.out.now begins in
     ends_cut g.P.Place.tells g.P.Place.child g.T.Turn.turns first c.drive-driven.new.crew c.drain.new.crew c.args.turn.now last at mid new (g.P.Place.still c.drive-driven.new.place) (g.P.Place.still c.drain.new.place) es said

@@ -1,6 +1,6 @@
 use Rattle.std.proofs.Common.{◌≡◌, None, take, map}
 use Rattle.pb_unit.specs.declared.plan.Planned.{Planned}
-use Rattle.pb_turns.proofs.turns.nothing_said.Given as goal
+use Rattle.pb_turns.proofs.turns.nothing_noted.Given as goal
 
 abbrev pub invariant-loop : goal.invariant-loop
-invariant-loop l = l.done.items ≡ map (λ (u : Planned). None) (take l.index l.units)
+invariant-loop l = l.noted.items ≡ map (λ (u : Planned). None) (take l.index l.units)

@@ -1,7 +1,7 @@
 use Rattle.std.proofs.Common.{refl, inl, subst, take}
 use Rattle.std.specs.Io.KnownBytes.{Appends}
 use Rattle.pb_turns.proofs.Counting.{goes_told, stops_sink}
-use Rattle.pb_turns.proofs.crew.UnitCrewCrewUnitFaultBuildFault.tell.Goals as goal
+use Rattle.pb_turns.proofs.crew.UnitCrewCrewBadUnitBuildFault.tell.Goals as goal
 
 pub returns-then-write_all-clause-story : goal.returns-then-write_all-clause-story
 returns-then-write_all-clause-story g c = λ first first_place first_out es given s lawful lines. record {

@@ -1,6 +1,6 @@
 use Rattle.std.proofs.Common.{refl, inl}
 use Rattle.pb_turns.proofs.Counting.{stops_refused}
-use Rattle.pb_turns.proofs.crew.UnitCrewCrewUnitFaultBuildFault.refused.Goals as goal
+use Rattle.pb_turns.proofs.crew.UnitCrewCrewBadUnitBuildFault.refused.Goals as goal
 
 pub returns : goal.returns
 returns g c = λ first first_place last_place first_out last_out es given s. record {
