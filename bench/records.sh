@@ -188,7 +188,7 @@ for shape in file files words needs streams copies; do
             "$(($(instructions write "$at" 1) - $(instructions write "$at" 0)))" \
             "$(memory write "$at" 1)"
     done | awk '
-        { printf "%8s %6d %9d %6.2f %9d %6.2f %13d %13d %6.2f\n", $1, $2, $4, $4 * 1000 / $3, $5, $5 * 1000 / $3, $6, $7, $8 * 1024 / $3 }
+        { printf "%8s %6d %9d %6.2f %9d %6.2f %13.0f %13.0f %6.2f\n", $1, $2, $4, $4 * 1000 / $3, $5, $5 * 1000 / $3, $6, $7, $8 * 1024 / $3 }
         { for (i = 1; i <= 8; i++) { old[i] = now[i]; now[i] = $i } }
         END {
             by = log(now[3] / old[3])
