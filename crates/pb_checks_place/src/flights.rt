@@ -297,3 +297,125 @@ fn a_start_is_two_calls(rt: HostRuntime) -> Result<(), Fail> {
     }
     Ok(())
 }
+
+/// A child that is spawned for a folder of this name: its ticket, or the fault.
+fn launch(
+    alloc: Global,
+    memory: &mut Memory<Echo>,
+    name: &str,
+) -> Result<Result<u64, StartFault>, Fail> {
+    let command = say_into(alloc, name)?;
+    Ok(memory.spawn(alloc, &command))
+}
+
+/// The fault of a child that was not spawned, or did not answer.
+fn fault_of_child(
+    alloc: Global,
+    memory: &mut Memory<Echo>,
+    launched: Result<u64, StartFault>,
+) -> Option<StartFault> {
+    match launched {
+        Ok(ticket) if memory.flies(ticket) => memory.finish(alloc, ticket).err(),
+        Ok(_) => None,
+        Err(fault) => Some(fault),
+    }
+}
+
+/// Two children in flight, of which the second is asked for its end first, with a read between: the fault of each, if
+/// it has one, and whether the read is one.
+fn fly_two(
+    alloc: Global,
+    memory: &mut Memory<Echo>,
+) -> Result<(Option<StartFault>, Option<StartFault>, bool), Fail> {
+    let first = launch(alloc, memory, "a")?;
+    let second = launch(alloc, memory, "b")?;
+    let reads = fault_at(alloc, memory, "read", "/w/a")?.is_none();
+    let later = fault_of_child(alloc, memory, second);
+    let earlier = fault_of_child(alloc, memory, first);
+    Ok((earlier, later, reads))
+}
+
+/// Two children in flight under a fuse.
+struct Flight {
+    /// The fuse.
+    number: u64,
+    /// The fault of the child that is spawned first, of that which is spawned second, and whether the read between is
+    /// one.
+    ends: (Option<StartFault>, Option<StartFault>, bool),
+    /// How many calls failed, how many are late, and how many children ever flew at one moment.
+    counted: (u64, u64, u64),
+    /// How many files each child leaves.
+    left: (usize, usize),
+}
+
+/// What each number of a fuse makes of the five calls: two that spawn, one that reads, two that ask for ends.
+const FLIGHTS: &[Flight] = &[
+    Flight {
+        number: 0,
+        ends: (None, None, true),
+        counted: (0, 0, 2),
+        left: (2, 2),
+    },
+    Flight {
+        number: 1,
+        ends: (Some(StartFault::CannotStart), None, true),
+        counted: (1, 2, 1),
+        left: (0, 2),
+    },
+    Flight {
+        number: 2,
+        ends: (None, Some(StartFault::CannotStart), true),
+        counted: (1, 1, 1),
+        left: (2, 0),
+    },
+    Flight {
+        number: 3,
+        ends: (None, None, false),
+        counted: (1, 0, 2),
+        left: (2, 2),
+    },
+    Flight {
+        number: 4,
+        ends: (None, Some(StartFault::Died), true),
+        counted: (1, 0, 2),
+        left: (2, 1),
+    },
+    Flight {
+        number: 5,
+        ends: (Some(StartFault::Died), None, true),
+        counted: (1, 0, 2),
+        left: (1, 2),
+    },
+    Flight {
+        number: 6,
+        ends: (None, None, true),
+        counted: (0, 0, 2),
+        left: (2, 2),
+    },
+];
+
+/// How many files stand in the folders of the two.
+fn left_by_two(alloc: Global, memory: &mut Memory<Echo>) -> Result<(usize, usize), Fail> {
+    memory.fuse(0);
+    let first = files_in(alloc, memory, "a")?;
+    let second = files_in(alloc, memory, "b")?;
+    Ok((first, second))
+}
+
+/// Whether two children fly under a fuse as they are to.
+fn flies_so(alloc: Global, wanted: &Flight) -> Result<bool, Fail> {
+    let mut memory = Memory::new(alloc, Echo);
+    memory.fuse(wanted.number);
+    let ends = fly_two(alloc, &mut memory)?;
+    let counted = (memory.failures(), memory.late(), memory.most());
+    let left = left_by_two(alloc, &mut memory)?;
+    Ok(ends == wanted.ends && counted == wanted.counted && left == wanted.left)
+}
+
+#[test]
+fn fuses_beside_children(rt: HostRuntime) -> Result<(), Fail> {
+    for case in FLIGHTS {
+        assert!(rt; flies_so(rt.alloc(), case)?, "at {}", case.number);
+    }
+    Ok(())
+}

@@ -43,6 +43,19 @@ fn list<P: Place>(alloc: Global, place: &mut P, folder: &str) -> Result<Text, Fa
     spaced(alloc, paths.as_slice())
 }
 
+/// The paths of the files below a folder but those at or below another path, a space after each.
+fn list_outside<P: Place>(
+    alloc: Global,
+    place: &mut P,
+    folder: &str,
+    left_out: &str,
+) -> Result<Text, Fail> {
+    let folder = at(alloc, folder)?;
+    let left_out = at(alloc, left_out)?;
+    let paths = place.list_outside(alloc, &folder, &left_out)?;
+    spaced(alloc, paths.as_slice())
+}
+
 /// The value of a variable, or `none`.
 fn variable<P: Place>(alloc: Global, place: &mut P, name: &str) -> Result<Text, Fail> {
     match place.variable(alloc, name)? {
@@ -128,6 +141,7 @@ fn call<P: Place>(
     match call {
         "read" => read(alloc, place, name),
         "list" => list(alloc, place, name),
+        "list_outside" => list_outside(alloc, place, name, text),
         "write" => change(alloc, place, name, Some(text)),
         "remove_tree" => change(alloc, place, name, None),
         "variable" => variable(alloc, place, name),
@@ -227,6 +241,19 @@ fn lists_and_reads(rt: HostRuntime) -> Result<(), Fail> {
         read|/w||none\n\
         file|/w/ab||longer\n\
         file|/w/abc||none";
+    assert_eq!(rt; first_wrong(rt.alloc(), lines, 0)?, None);
+    Ok(())
+}
+
+#[test]
+fn lists_outside(rt: HostRuntime) -> Result<(), Fail> {
+    let lines = "list_outside|/|/w/target|/w/a /w/a/b /w/ab \n\
+        list_outside|/w|/w/a|/w/ab /w/target /w/target/dep /w/target/dep/lib /w/target/hidden \n\
+        list_outside|/w|/w/ab/c|/w/a /w/a/b /w/ab /w/target /w/target/dep /w/target/dep/lib /w/target/hidden \n\
+        list_outside|/w/target|/w/target/dep|/w/target/hidden \n\
+        list_outside|/w/target|/w/target|\n\
+        list_outside|/w/target|/w|\n\
+        list_outside|/x|/w|";
     assert_eq!(rt; first_wrong(rt.alloc(), lines, 0)?, None);
     Ok(())
 }
