@@ -204,7 +204,7 @@ module _ (footing : Footing) (read : Reading) (reading : IsReading read) (child 
       turns_give : (result : Result Summary BuildFault) → TurnsEnd true child Turns setup project next from last result mid new
           → GivesUnits footing read child options result old new × LeavesRecords footing read child options old.world new.world
       turns_give (Ok summary) ends =
-          let whole : StandsWhole b ends.es summary mid.world new.world = ends.told refl footing read sources reading (kept_first footing rests) in (
+          let whole : StandsWhole b ends.es ends.reasons summary mid.world new.world = ends.told refl footing read sources reading (kept_first footing rests) in (
             record {
               units = units_by ends.es;
               reasons = ends.reasons;

@@ -100,7 +100,7 @@ module _ (p : Project) (g : Features) (names : (o : ℕ) (s : Side) → features
   messages_same u stderr (Some directives) = refl
 
   ran_same : (u : Planned) (ended : Ended) (r : Result Answered UnitFault) → ran_by p u ended r ≡ ran_by other u ended r
-  ran_same u ended (Ok a) = ap (λ (ms : List Message). record { started = true; fault = None; directives = a.directives; messages = ms }) (messages_same u ended.stderr a.directives)
+  ran_same u ended (Ok a) = ap (λ (ms : List Message). record { started = true; bad = None; directives = a.directives; messages = ms }) (messages_same u ended.stderr a.directives)
   ran_same u ended (Err e) = refl
 
   judged_same : (u : Planned) (c : Command) (r : Reply) → judged p u c r ≡ judged other u c r

@@ -25,7 +25,7 @@ use Rattle.pb_package.specs.declared.package.Package.{Package}
 use Rattle.pb_command.specs.Answers.{ended_fault, path_or_none, path_said, paths_from, changed_path, changed_variable, is_error, unless_error, said_in, marked_inputs, rerun_inputs, said_inputs, run_answered, answered_by, answered_of}
 use Rattle.pb_command.specs.Command.{script_path, run_words, run_of, command_by, command_for}
 use Rattle.pb_command.specs.Pairs.{composed}
-use Rattle.pb_project.specs.Targets.{package_of, package_folder, folder_of, script_source, script_file, needed, is_script, dep_info_by, dep_info_of, source_by, crate_name_of}
+use Rattle.pb_project.specs.Targets.{package_of, package_folder, folder_of, script_source, script_file, needed, is_run, is_script, dep_info_by, dep_info_of, source_by, crate_name_of}
 use Rattle.pb_project.specs.declared.answer.Answered.{Answered}
 use Rattle.pb_project.specs.declared.fault.UnitFault.{UnitFault}
 use Rattle.pb_project.specs.declared.fault.UnitFault.TheVariants as unit_fault
@@ -177,13 +177,13 @@ module _ (setup : Setup) (project : Project) (u : Planned) (done : List (Option 
       → AllByRecursion (SameInput v other) a.inputs → SameAround (command_by w setup project u done p) v other
       → small_compiler (command_by w setup project u done p) other ≡ small_compiler (command_by w setup project u done p) v
   of_package p there what.Lib is tell other a found same folders =
-      on_compiles setup project u done p is_of small.flags (subst (λ o. IfSome o (λ q. is_path (source_by q u.unit.what) ≡ true)) there is_of.source)
+      on_compiles setup project u done p is_of small.flags (subst (λ o. IfSome o (λ q. is_path (source_by q u.unit.what) ≡ true)) there (is_of.source (ap is_run is)))
       (its_keys p there) v other a (ap (λ k. dep_info_by k u.out (crate_name_of project u)) is) found tell same folders
   of_package p there (what.Bin name) is tell other a found same folders =
-      on_compiles setup project u done p is_of small.flags (subst (λ o. IfSome o (λ q. is_path (source_by q u.unit.what) ≡ true)) there is_of.source)
+      on_compiles setup project u done p is_of small.flags (subst (λ o. IfSome o (λ q. is_path (source_by q u.unit.what) ≡ true)) there (is_of.source (ap is_run is)))
       (its_keys p there) v other a (ap (λ k. dep_info_by k u.out (crate_name_of project u)) is) found tell same folders
   of_package p there what.Script is tell other a found same folders =
-      on_compiles setup project u done p is_of small.flags (subst (λ o. IfSome o (λ q. is_path (source_by q u.unit.what) ≡ true)) there is_of.source)
+      on_compiles setup project u done p is_of small.flags (subst (λ o. IfSome o (λ q. is_path (source_by q u.unit.what) ≡ true)) there (is_of.source (ap is_run is)))
       (its_keys p there) v other a (ap (λ k. dep_info_by k u.out (crate_name_of project u)) is) found tell same folders
   of_package p there what.Run is tell other a found same folders =
       on_runs setup project u done p is_of is small.runner v other a (ap (λ folder. run_answered (run_of setup project u done p) folder (ended_by (small_compiler (run_of setup project u done p) v))) (sym (ap (package_folder project.workspace.root) there)) ∙ found) tell same folders

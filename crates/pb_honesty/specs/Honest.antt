@@ -14,7 +14,7 @@ use Rattle.pb_unit.specs.Plan.{IsPlan}
 use Rattle.pb_unit.specs.declared.plan.Planned.{Planned}
 use Rattle.pb_command.specs.Command.{command_of}
 use Rattle.pb_command.specs.Laws.{HasPaths}
-use Rattle.pb_project.specs.Targets.{package_of, source_by}
+use Rattle.pb_project.specs.Targets.{is_run, package_of, source_by}
 use Rattle.pb_project.specs.declared.project.Project.{Project}
 use Rattle.pb_project.specs.declared.project.Setup.{Setup}
 use Rattle.pb_command.specs.Judge.{judge}
@@ -61,11 +61,11 @@ pub record IsSmall (setup : Setup) : Type 0 where
   pub flags : is_mentioned setup.flags (codes "--extern") ≡ false
   pub runner : RunsAlone setup.runner
 
--- a unit of a project that was read and planned: as each that was read it is settled, it has its plan, and its paths are normalised absolute ones
+-- a unit of a project that was read and planned: as each that was read it is settled, it has its plan, and its paths are normalised absolute ones, as is that of the unit's source; a run has none
 pub record IsOfProject (project : Project) (u : Planned) : Type 0 where
   pub settled : IsSettled project.workspace
   pub paths : HasPaths project
-  pub source : IfSome (package_of project u) (λ p. is_path (source_by p u.unit.what) ≡ true)
+  pub source : is_run u.unit.what ≡ false → IfSome (package_of project u) (λ p. is_path (source_by p u.unit.what) ≡ true)
   pub selection : Selection
   pub planned : IsPlan project.workspace project.features selection project.profile project.plan
   pub place : ℕ

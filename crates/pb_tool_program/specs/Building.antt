@@ -59,6 +59,15 @@ abbrev pub TellsSaid : Result Summary BuildFault → Heard → Heard → Type 0
 TellsSaid (Err fault) old new = new ≡ old
 TellsSaid (Ok summary) old new = Tells (said_by_bad summary.bad summary.said) old new ⊎ (new ≡ old)
 
+-- what a build that gave this ends with: its status; and beside the output why children were started, where that is asked for, what a failing child said, and why the build failed
+pub record Concludes (explain : Bool) (answer : Result Summary BuildFault) (status : ℕ) (old new : Heard) : Type 0 where
+  pub told : status ≡ status_of answer
+  pub explained : Heard
+  pub reasons : TellsReasons explain answer old explained
+  pub repeated : Heard
+  pub said : TellsSaid answer explained repeated
+  pub reason : TellsWhy status answer repeated new
+
 -- packages of this workspace to which enabled dependencies lead and that have no library
 abbrev pub AreMissing : Options → World → List (List ℕ) → Type 0
 AreMissing options w names = (project : Project) × IsProject options (environment_of options w.variables).target w project × (names ≡ project.plan.without_library)
@@ -67,7 +76,7 @@ AreMissing options w names = (project : Project) × IsProject options (environme
 abbrev pub Notes : Bool → Options → World → Heard → Heard → Type 0
 Notes tells options w old new = (new ≡ old) ⊎ ((names : List (List ℕ)) × (IsTrue tells → AreMissing options w names) × Tells (notes_of names) old new)
 
--- A build was carried out, after reads that started no child, changed nothing and wrote nothing to the output. The status says how it ended. What is written beside the output are the notes before it; and behind it why children were started, where that is asked for, what a failing child said, and why the build failed.
+-- A build was carried out, after reads that started no child, changed nothing and wrote nothing to the output. What is written beside the output are the notes before it, and what is told behind it.
 pub record BuildsTold (tells : Bool) (child : Answers) (options : Options) (explain : Bool) (status : ℕ) (old new : Moment) (said_before said_after : Heard) : Type 0 where
   pub begun : Moment
   pub same : IsTrue tells → begun.world ≡ old.world
@@ -77,11 +86,6 @@ pub record BuildsTold (tells : Bool) (child : Answers) (options : Options) (expl
   pub looked : Looks old.counts begun.counts
   pub answer : Result Summary BuildFault
   pub builds : BuildsFirst tells child options answer begun new
-  pub told : status ≡ status_of answer
   pub noted : Heard
   pub notes : Notes tells options old.world said_before noted
-  pub explained : Heard
-  pub reasons : TellsReasons explain answer noted explained
-  pub repeated : Heard
-  pub said : TellsSaid answer explained repeated
-  pub reason : TellsWhy status answer repeated said_after
+  pub concluded : Concludes explain answer status noted said_after

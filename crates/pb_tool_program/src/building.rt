@@ -8,7 +8,7 @@ ghost use Rattle.pb_turns.specs.Moments.{Moment, moment};
 ghost use Rattle.pb_answer.specs.ResultLine.{result_line};
 ghost use Rattle.pb_answer.specs.declared.fault.BuildFault.{BuildFault};
 ghost use Rattle.pb_answer.specs.declared.summary.Summary.{Summary};
-ghost use Rattle.pb_tool_program.specs.Building.{status_of, notes_of, error_of, Notes, TellsReasons, TellsSaid, TellsWhy, BuildsTold};
+ghost use Rattle.pb_tool_program.specs.Building.{status_of, notes_of, error_of, Notes, TellsReasons, TellsSaid, TellsWhy, Concludes, BuildsTold};
 
 use pb_answer::{BuildFault, Summary, explanation, result_line, said};
 use pb_build::{build, missing_libraries};
@@ -134,6 +134,22 @@ fn repeat_to<E: Out>(alloc: Global, err: &mut E, answer: &Result<Summary, BuildF
     }
 }
 
+/// Tells what there is to tell behind a build, and gives its status.
+fn conclude<E: Out>(
+    alloc: Global,
+    err: &mut E,
+    explain: bool,
+    answer: &Result<Summary, BuildFault>,
+) -> u8
+    ensures { Concludes explain answer.now result record { taken = E.taken err.old; faults = E.faults err.old } record { taken = E.taken err.new; faults = E.faults err.new } }
+{
+    explain_to(alloc, err, explain, answer);
+    repeat_to(alloc, err, answer);
+    let status = status_of(answer);
+    tell(alloc, err, status, answer);
+    status
+}
+
 /// Builds, and gives the status: 0 for success, 101 for a build that failed or was refused, with `error: ` and its
 /// result line on `err`. Message lines go to `out` as units end. Before the build a line `note: NAME has no library`
 /// goes to `err` for each package to which an enabled dependency leads and that has no library; behind it, where that
@@ -153,9 +169,5 @@ pub fn build_options<P: Place, O: Out, E: Out>(
 {
     note(alloc, place, err, options);
     let answer = build(alloc, place, out, options);
-    let status = status_of(&answer);
-    explain_to(alloc, err, explain, &answer);
-    repeat_to(alloc, err, &answer);
-    tell(alloc, err, status, &answer);
-    status
+    conclude(alloc, err, explain, &answer)
 }

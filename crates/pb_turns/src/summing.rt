@@ -77,6 +77,21 @@ fn noted_of(
     Ok(noted)
 }
 
+/// Adds what differed first of a unit, where its child was started for it.
+fn note_reason(
+    alloc: Global,
+    found: &mut Items<Difference>,
+    reason: &Option<Option<Difference>>,
+) -> Result<(), AllocError>
+    ensures { OnOk result (found.new ≡ found.old ++ difference_in (Some reason.now)) }
+{
+    match reason {
+        Some(Some(difference)) => found.push(difference.copy(alloc)?)?,
+        _ => {}
+    }
+    Ok(())
+}
+
 /// Adds what differed first of the unit at a place, where its child was started for it.
 fn note_difference(
     alloc: Global,
@@ -86,10 +101,10 @@ fn note_difference(
 ) -> Result<(), AllocError>
     ensures { OnOk result (found.new ≡ found.old ++ difference_in (slice_get reasons.now place)) }
 {
-    match reasons.get(place) {
-        Some(Some(Some(difference))) => found.push(difference.copy(alloc)?)?,
-        _ => {}
+    if place >= reasons.len() {
+        return Ok(());
     }
+    note_reason(alloc, found, &reasons[place])?;
     Ok(())
 }
 

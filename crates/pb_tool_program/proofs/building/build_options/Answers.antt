@@ -12,12 +12,7 @@ returns g c = record {
   looked = c.note.ensures.looked;
   answer = c.build-answer.result;
   builds = c.build-answer.ensures.builds;
-  told = c.status_of-status.ensures;
   noted = record { taken = g.E.Out.taken c.note.new.err; faults = g.E.Out.faults c.note.new.err };
   notes = c.note.ensures.notes;
-  explained = record { taken = g.E.Out.taken c.explain_to.new.err; faults = g.E.Out.faults c.explain_to.new.err };
-  reasons = c.explain_to.ensures;
-  repeated = record { taken = g.E.Out.taken c.repeat_to.new.err; faults = g.E.Out.faults c.repeat_to.new.err };
-  said = c.repeat_to.ensures;
-  reason = c.tell.ensures;
+  concluded = c.conclude.ensures;
 }

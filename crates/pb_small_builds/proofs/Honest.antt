@@ -1,0 +1,81 @@
+-- The small compiler is an honest child of a build with these words; so the headline has no premise on the child.
+use Rattle.std.proofs.Common.{◌≡◌, inl, inr, ℕ, List, [], ◌∷◌, Some, take, refl, sym, subst}
+use Rattle.pb_honesty.specs.Honest.{CanTell, IsOfProject, small_compiler}
+use Rattle.pb_honesty.proofs.Viewing.{small_compiler_is_honest}
+use Rattle.pb_package.specs.declared.options.Options.{Options}
+use Rattle.pb_place.specs.World.{World, from_nothing}
+use Rattle.pb_project.specs.declared.project.Project.{Project}
+use Rattle.pb_project.specs.Targets.{unit_at}
+use Rattle.pb_run.specs.Halves.{OnRecords, command_in, basis}
+use Rattle.pb_run.specs.Outcome.{directives_of, outcomes}
+use Rattle.pb_session.specs.declared.step.SessionStep.{SessionStep}
+use Rattle.pb_session.specs.declared.step.SessionStep.TheVariants.{Write, Remove, Set, Unset, Build, Die, Fuse}
+use Rattle.pb_unit.specs.Plan.{IsPlan}
+use Rattle.pb_unit.specs.declared.plan.Planned.{Planned}
+use Rattle.pb_workspace.proofs.Accepted.{target_kept}
+use Rattle.pb_build.specs.Environment.{environment_of}
+use Rattle.pb_build.specs.Headline.{records_of}
+use Rattle.pb_build.specs.Lasting.{AnyBuildGives, SparingCourse, Spares}
+use Rattle.pb_build.specs.Planning.{IsProject}
+use Rattle.pb_build.specs.Result.{setup_of}
+use Rattle.pb_build.specs.Session.{Point}
+use Rattle.pb_small_builds.specs.Laws.{SmallBuildsAreHonest, SmallBuildsGive, SmallSessionsGive}
+use Rattle.pb_small_builds.specs.Small.{IsSmallBuild, SmallCourse, SparesBySmall}
+use Rattle.pb_small_builds.proofs.Loading.{IsLaid, workspace_laid}
+use Rattle.pb_small_builds.proofs.Placing.{project_paths, target_at}
+use Rattle.pb_small_builds.proofs.SourcesFound.{At}
+use Rattle.pb_small_builds.proofs.Sourcing.{unit_source}
+
+-- the project of such a build is as the law of honesty wants it
+module _ (options : Options) (w : World) (small : IsSmallBuild options w) (project : Project) (is : IsProject options (environment_of options w.variables).target w project) where
+  laid : IsLaid project.workspace
+  laid = workspace_laid options.manifest (environment_of options w.variables).target w project.workspace small.manifest small.files is.selected.read
+
+  target : At project.workspace.target
+  target = subst At (sym (target_kept options.manifest (environment_of options w.variables).target w project.workspace is.selected.read)) (target_at options w.variables small.manifest)
+
+  planned : IsPlan project.workspace project.features is.selection project.profile project.plan
+  planned = subst (λ profile. IsPlan project.workspace project.features is.selection profile project.plan) (sym is.profile) is.planned
+
+  of_project : (place : ℕ) (u : Planned) → unit_at project place ≡ Some u → IsOfProject project u
+  of_project place u at = record {
+    settled = laid.settled;
+    paths = project_paths project is.selection laid target planned;
+    source = unit_source project is.selection planned laid.packages place u at;
+    selection = is.selection;
+    planned = planned;
+    place = place;
+    there = at;
+  }
+
+pub small_builds_are_honest : SmallBuildsAreHonest
+small_builds_are_honest options w small read project toolchain is says place u v at alike seen =
+    small_compiler_is_honest (setup_of options (environment_of options w.variables) toolchain) project u
+    (directives_of (take place (outcomes small_compiler (setup_of options (environment_of options w.variables) toolchain) project (from_nothing (environment_of options w.variables).target w)))) v
+    (small.setup toolchain) (of_project options w small project is place u at)
+    (subst (CanTell (command_in (basis OnRecords read small_compiler (setup_of options (environment_of options w.variables) toolchain) project (from_nothing (environment_of options w.variables).target w)) place u)) (sym seen)
+    (small.tells project toolchain is says place u at))
+
+pub small_builds_give : SmallBuildsGive
+small_builds_give read options result old new reading headline small sound = headline refl OnRecords read reading (sound, small_builds_are_honest options old.world small)
+
+-- sessions
+spares : (folder : List ℕ) (step : SessionStep) (w : World) → SparesBySmall folder step w → Spares small_compiler folder step w
+spares folder (Write path text) w is = is
+spares folder (Remove path) w is = is
+spares folder (Set name value) w is = is
+spares folder (Unset name) w is = is
+spares folder (Die key death) w is = is
+spares folder (Fuse number) w is = is
+spares folder (Build options pick) w (small, inl own) = inl (own, small_builds_are_honest options w small)
+spares folder (Build options pick) w (small, inr apart) = inr apart
+
+course : (folder : List ℕ) (steps : List SessionStep) (before after : Point) → SmallCourse folder steps before after → SparingCourse small_compiler folder steps before after
+course folder [] before after is = is
+course folder (step ∷ steps) before after (spared, (mid, takes, rest)) = (spares folder step before.moment.world spared, (mid, takes, course folder steps mid after rest))
+
+-- over the law of sessions with any child
+module _ (any_build_gives : AnyBuildGives) where
+  pub small_sessions_give : SmallSessionsGive
+  small_sessions_give read options pick steps before mid after reading sound taken small takes =
+      any_build_gives read small_compiler options pick steps before mid after reading (course (records_of options mid.moment.world.variables) steps before mid taken) sound (small_builds_are_honest options mid.moment.world small) takes

@@ -1,0 +1,11 @@
+pub mod Rising
+pub mod PathsSaid
+pub mod SourcesFound
+pub mod Wanting
+pub mod Drafting
+pub mod Loading
+pub mod Sourcing
+pub mod Placing
+pub mod Honest
+pub mod Folders
+pub mod SessionFiles

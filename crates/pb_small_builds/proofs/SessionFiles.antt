@@ -1,0 +1,276 @@
+-- Builds of a session file that begins without files: what the file says of their words, and that all files of their sources have paths.
+use Rattle.std.proofs.Common.{◌≡◌, ◌∙◌, ◌⊎◌, inl, inr, ℕ, Bool, true, false, not, cond, if◌then◌else◌, codes, List, [], ◌∷◌, Option, Some, None, Result, Ok, Err, refl, sym, ap, subst}
+use Rattle.std.specs.Cmp.Lexicographic.{nat_list_cmp_total, slice_cmp}
+use Rattle.std.specs.FinMap as finite
+use Rattle.std.specs.FinMap.{get, get-empty, get-insert}
+use Rattle.std.specs.List.{AllByRecursion}
+use Rattle.std.specs.Ordering.{nat_cmp}
+use Rattle.std.specs.Str.{bytes_eq}
+use Rattle.serde_json.specs.Data.{Data, Items, no_items, item}
+use Rattle.serde_json.specs.Find as find
+use Rattle.pb_data.specs.Gives.{◌>>=◌, lifted, some_or}
+use Rattle.pb_honesty.proofs.Named.{parsed_path_is}
+use Rattle.pb_honesty.specs.Honest.{RunsAlone, small_compiler}
+use Rattle.pb_package.specs.declared.options.Options.{Options}
+use Rattle.pb_place.specs.Paths.{below, is_at_or_below, parsed}
+use Rattle.pb_place.specs.World.{World, from_nothing, is_same_path, removed, written}
+use Rattle.pb_place.specs.declared.path.PathFault.{PathFault}
+use Rattle.pb_place.proofs.Within.{at_or_below_on, outside_within}
+use Rattle.pb_place.proofs.MapLemmas.{get-kept, same_bytes, symm}
+use Rattle.std.proofs.lemmas.Slice.Eq.{bytes_eq-Decides}
+use Rattle.pb_session.specs.Faults.{Read, of_path_fault}
+use Rattle.pb_session.specs.Deaths.{death_named}
+use Rattle.pb_session.specs.Options.{are_known, default_manifest, manifest_or_default, number_or, options_in, options_of, pick_or_first, text_or, texts_at, truth_at}
+use Rattle.pb_session.specs.Sessions.{build_of, die_of, document_in, session_of, set_of, step_named, step_of, steps_of, write_of}
+use Rattle.pb_session.specs.Values.{array_of, number_of, only_member, pair_of, path_in, path_of, text_of}
+use Rattle.pb_session.specs.declared.fault.BadSession.TheVariants.{BadForm}
+use Rattle.pb_session.specs.declared.step.SessionStep.{SessionStep}
+use Rattle.pb_session.specs.declared.step.SessionStep.TheVariants.{Write, Remove, Set, Unset, Build, Die, Fuse}
+use Rattle.pb_soundness.specs.Sound.{Sound}
+use Rattle.pb_record.specs.Parts.{IsReading}
+use Rattle.pb_profile.specs.Line.{folder_of}
+use Rattle.pb_command.specs.Judge.{judge}
+use Rattle.std.proofs.lemmas.Bool.{false≢true}
+use Rattle.pb_soundness.specs.Records.{Reading, if_of_key, is_key, place_of, read_text, record_at}
+use Rattle.pb_turns.specs.Moments.{Moment}
+use Rattle.pb_workspace.proofs.FoldersPut.{opened}
+use Rattle.pb_build.specs.Headline.{IsHonestBuild, records_of}
+use Rattle.pb_build.specs.Lasting.{NothingIsSound, RecordsStayTrue, ShareNoPath, Spares}
+use Rattle.pb_build.specs.Session.{Course, Point, Takes}
+use Rattle.pb_small_builds.specs.Laws.{SessionFilesGive}
+use Rattle.pb_small_builds.specs.Small.{AllGive, AllTold, FilesHavePaths, IsSmallBuild, IsToldBuild, IsToldStep, StepGives}
+use Rattle.pb_small_builds.proofs.Folders.{Named, lie_apart, lies_within, profile_named}
+use Rattle.pb_small_builds.proofs.Honest.{small_builds_are_honest, small_builds_give}
+use Rattle.pb_small_builds.proofs.Placing.{target_at}
+use Rattle.pb_small_builds.proofs.SourcesFound.{At}
+
+same_ok : {A : Type 0} (x y : A) → ◌≡◌ {A = Read A} (Ok x) (Ok y) → x ≡ y
+same_ok x y e = cc
+
+-- What a session file says.
+
+-- a path that is written is normalised and absolute, and so is the manifest of a build, whose scripts the small compiler runs
+abbrev HasWords : SessionStep → Type 0
+HasWords (Write path text) = At path
+HasWords (Build options pick) = At options.manifest × RunsAlone options.runner
+HasWords step = Unit {0}
+
+path_in_is : (text path : List ℕ) → path_in text ≡ Ok path → At path
+path_in_is text path is = by (parsed text) refl is
+  where
+    by : (r : Result (List ℕ) PathFault) → parsed text ≡ r → lifted of_path_fault r ≡ Ok path → At path
+    by (Ok found) at h = subst At (same_ok found path h) (parsed_path_is text found at)
+    by (Err fault) at h = cc
+
+manifest_is : (o : Option Data) (path : List ℕ) → manifest_or_default o ≡ Ok path → At path
+manifest_is None path is = path_in_is default_manifest path is
+manifest_is (Some d) path is = let (text, said, rest) = opened (text_of d) path_in path is in path_in_is text path rest
+
+options_are : (d : Data) (options : Options) → options_in d ≡ Ok options → At options.manifest × RunsAlone options.runner
+options_are d options is =
+    let (manifest, first, is_1) = opened (manifest_or_default (find.get (codes "manifest") d)) _ options is in
+    let (packages, second, is_2) = opened (texts_at (codes "packages") d) _ options is_1 in
+    let (workspace, third, is_3) = opened (truth_at (codes "workspace") d) _ options is_2 in
+    let (features, fourth, is_4) = opened (texts_at (codes "features") d) _ options is_3 in
+    let (all_features, fifth, is_5) = opened (truth_at (codes "all_features") d) _ options is_4 in
+    let (no_default, sixth, is_6) = opened (truth_at (codes "no_default_features") d) _ options is_5 in
+    let (profile, seventh, is_7) = opened (text_or (codes "dev") (find.get (codes "profile") d)) _ options is_6 in
+    let (lib, eighth, is_8) = opened (truth_at (codes "lib") d) _ options is_7 in
+    let (bins, ninth, is_9) = opened (truth_at (codes "bins") d) _ options is_8 in
+    let (bin, tenth, is_10) = opened (texts_at (codes "bin") d) _ options is_9 in
+    let (jobs, last, end) = opened (number_or 1 (find.get (codes "jobs") d)) _ options is_10 in
+    let same = same_ok _ options end in
+    (subst (λ (o : Options). At o.manifest) same (manifest_is (find.get (codes "manifest") d) manifest first), subst (λ (o : Options). RunsAlone o.runner) same refl)
+
+build_has : (d : Data) (step : SessionStep) → build_of d ≡ Ok step → HasWords step
+build_has d step is =
+    let (options, said, rest) = opened (options_of d) (λ options. pick_or_first (find.get (codes "pick") d) >>= (λ pick. Ok (Build options pick))) step is in
+    let (pick, picked, end) = opened (pick_or_first (find.get (codes "pick") d)) (λ pick. Ok (Build options pick)) step rest in
+    let (ms, object, known) = opened (some_or BadForm (find.as_object d)) (λ ms. if are_known ms then options_in d else Err BadForm) options said in
+    subst HasWords (same_ok (Build options pick) step end) (by (are_known ms) options known)
+  where
+    by : (b : Bool) (options : Options) → (if b then options_in d else Err BadForm) ≡ Ok options → At options.manifest × RunsAlone options.runner
+    by true options h = options_are d options h
+    by false options h = cc
+
+write_has : (d : Data) (step : SessionStep) → write_of d ≡ Ok step → HasWords step
+write_has d step is =
+    let (p, said, rest) = opened (pair_of d) (λ (p : List ℕ × List ℕ). path_in p.0 >>= (λ path. Ok (Write path p.1))) step is in
+    let (path, parsed_so, end) = opened (path_in p.0) (λ path. Ok (Write path p.1)) step rest in
+    subst HasWords (same_ok (Write path p.1) step end) (path_in_is p.0 path parsed_so)
+
+remove_has : (d : Data) (step : SessionStep) → (path_of d >>= (λ path. Ok (Remove path))) ≡ Ok step → HasWords step
+remove_has d step is = let (path, said, end) = opened (path_of d) (λ path. Ok (Remove path)) step is in subst HasWords (same_ok (Remove path) step end) tt
+
+set_has : (d : Data) (step : SessionStep) → set_of d ≡ Ok step → HasWords step
+set_has d step is = let (p, said, end) = opened (pair_of d) (λ (p : List ℕ × List ℕ). Ok (Set p.0 p.1)) step is in subst HasWords (same_ok (Set p.0 p.1) step end) tt
+
+unset_has : (d : Data) (step : SessionStep) → (text_of d >>= (λ text. Ok (Unset text))) ≡ Ok step → HasWords step
+unset_has d step is = let (text, said, end) = opened (text_of d) (λ text. Ok (Unset text)) step is in subst HasWords (same_ok (Unset text) step end) tt
+
+die_has : (d : Data) (step : SessionStep) → die_of d ≡ Ok step → HasWords step
+die_has d step is =
+    let (p, said, rest) = opened (pair_of d) (λ (p : List ℕ × List ℕ). death_named p.1 >>= (λ death. Ok (Die p.0 death))) step is in
+    let (death, named, end) = opened (death_named p.1) (λ death. Ok (Die p.0 death)) step rest in
+    subst HasWords (same_ok (Die p.0 death) step end) tt
+
+fuse_has : (d : Data) (step : SessionStep) → (number_of d >>= (λ number. Ok (Fuse number))) ≡ Ok step → HasWords step
+fuse_has d step is = let (number, said, end) = opened (number_of d) (λ number. Ok (Fuse number)) step is in subst HasWords (same_ok (Fuse number) step end) tt
+
+-- one of two readings
+either_has : (b : Bool) (first second : Read SessionStep) (step : SessionStep) → (first ≡ Ok step → HasWords step) → (second ≡ Ok step → HasWords step) → (if b then first else second) ≡ Ok step → HasWords step
+either_has true first second step one two is = one is
+either_has false first second step one two is = two is
+
+step_named_has : (name : List ℕ) (d : Data) (step : SessionStep) → step_named name d ≡ Ok step → HasWords step
+step_named_has name d step =
+    either_has (bytes_eq name (codes "write")) _ _ step (write_has d step)
+    (either_has (bytes_eq name (codes "remove")) _ _ step (remove_has d step)
+    (either_has (bytes_eq name (codes "set")) _ _ step (set_has d step)
+    (either_has (bytes_eq name (codes "unset")) _ _ step (unset_has d step)
+    (either_has (bytes_eq name (codes "build")) _ _ step (build_has d step)
+    (either_has (bytes_eq name (codes "die")) _ _ step (die_has d step)
+    (either_has (bytes_eq name (codes "fuse")) _ _ step (fuse_has d step) (λ bad. cc)))))))
+
+steps_have : (ds : Items) (steps : List SessionStep) → steps_of ds ≡ Ok steps → AllByRecursion HasWords steps
+steps_have no_items steps is = subst (AllByRecursion HasWords) (same_ok [] steps is) tt
+steps_have (item d ds) steps is =
+    let (step, one, rest) = opened (step_of d) (λ step. steps_of ds >>= (λ steps. Ok (step ∷ steps))) steps is in
+    let (others, more, end) = opened (steps_of ds) (λ steps. Ok (step ∷ steps)) steps rest in
+    let (ms, object, is_1) = opened (some_or BadForm (find.as_object d)) (λ ms. some_or BadForm (only_member ms) >>= (λ m. step_named m.0 m.1)) step one in
+    let (m, alone, is_2) = opened (some_or BadForm (only_member ms)) (λ m. step_named m.0 m.1) step is_1 in
+    subst (AllByRecursion HasWords) (same_ok (step ∷ others) steps end) (step_named_has m.0 m.1 step is_2, steps_have ds others more)
+
+session_has : (bytes : List ℕ) (steps : List SessionStep) → session_of bytes ≡ Ok steps → AllByRecursion HasWords steps
+session_has bytes steps is =
+    let (d, read_so, rest) = opened (document_in bytes) (λ d. array_of d >>= steps_of) steps is in
+    let (ds, list, end) = opened (array_of d) steps_of steps rest in
+    steps_have ds steps end
+
+-- Files of the sources.
+
+module _ (target : List ℕ) where
+  abbrev SourcesAt : World → Type 0
+  SourcesAt w = FilesHavePaths (from_nothing target w)
+
+  -- a file of the sources, where nothing else is asked
+  kept_at : (v : World) → ((path text : List ℕ) → cond (not (is_at_or_below target path)) (get v.files path) None ≡ Some text → At path) → SourcesAt v
+  kept_at v each path text is = each path text (sym (get-kept v.files (λ q. not (is_at_or_below target q)) path) ∙ is)
+
+  still_at : (w : World) → SourcesAt w → (path text : List ℕ) → cond (not (is_at_or_below target path)) (get w.files path) None ≡ Some text → At path
+  still_at w files path text is = files path text (get-kept w.files (λ q. not (is_at_or_below target q)) path ∙ is)
+
+  written_at : (path text : List ℕ) (w : World) → At path → SourcesAt w → SourcesAt (written path text w)
+  written_at path text w at files = kept_at (written path text w) (λ q found is.
+      by q found (not (is_at_or_below target q)) (is_same_path path q) refl (still_at w files q found) (sym (ap (λ o. cond (not (is_at_or_below target q)) o None) (get-insert nat_list_cmp_total w.files path text q)) ∙ is))
+    where
+      the_same : (q : List ℕ) → is_same_path path q ≡ true → path ≡ q
+      the_same q own = (bytes_eq-Decides path q).0 (same_bytes path q ∙ symm path q ∙ own)
+
+      by : (q found : List ℕ) (keep here : Bool) → is_same_path path q ≡ here → (cond keep (get w.files q) None ≡ Some found → At q) → cond keep (cond here (Some text) (get w.files q)) None ≡ Some found → At q
+      by q found true true own old h = subst At (the_same q own) at
+      by q found true false own old h = old h
+      by q found false here own old h = cc
+
+  removed_at : (path : List ℕ) (w : World) → SourcesAt w → SourcesAt (removed path w)
+  removed_at path w files = kept_at (removed path w) (λ q found is.
+      by q found (not (is_at_or_below target q)) (not (is_at_or_below path q)) (get w.files q) (still_at w files q found) (sym (ap (λ o. cond (not (is_at_or_below target q)) o None) (get-kept w.files (λ p. not (is_at_or_below path p)) q)) ∙ is))
+    where
+      by : (q found : List ℕ) (keep left : Bool) (o : Option (List ℕ)) → (cond keep o None ≡ Some found → At q) → cond keep (cond left o None) None ≡ Some found → At q
+      by q found true true o old h = old h
+      by q found true false o old h = cc
+      by q found false left o old h = cc
+
+  -- one step
+  step_at : (step : SessionStep) (before after : Point) → HasWords step → IsToldStep target step before.moment.world → Takes small_compiler step before after → SourcesAt before.moment.world → SourcesAt after.moment.world
+  step_at (Write path text) before after at told (moment, answers) files = subst (λ (m : Moment). SourcesAt m.world) (sym moment) (written_at path text before.moment.world at files)
+  step_at (Remove path) before after words told (moment, answers) files = subst (λ (m : Moment). SourcesAt m.world) (sym moment) (removed_at path before.moment.world files)
+  step_at (Set name value) before after words told (moment, answers) files = subst (λ (m : Moment). SourcesAt m.world) (sym moment) files
+  step_at (Unset name) before after words told (moment, answers) files = subst (λ (m : Moment). SourcesAt m.world) (sym moment) files
+  step_at (Die key death) before after words told same files = subst (λ (p : Point). SourcesAt p.moment.world) (sym same) files
+  step_at (Fuse number) before after words told same files = subst (λ (p : Point). SourcesAt p.moment.world) (sym same) files
+  step_at (Build options pick) before after words told (answer, picked, stays, headline, answers) files =
+      subst FilesHavePaths (sym (subst (λ t. from_nothing t after.moment.world ≡ from_nothing t before.moment.world) told.one_target stays)) files
+
+  -- such a build has its words
+  small_of : (options : Options) (w : World) → At options.manifest → RunsAlone options.runner → SourcesAt w → IsToldBuild target options w → IsSmallBuild options w
+  small_of options w manifest runner files told = record {
+    manifest = manifest;
+    files = subst (λ t. FilesHavePaths (from_nothing t w)) (sym told.one_target) files;
+    setup = λ toolchain. record { flags = told.flags; runner = runner };
+    tells = told.tells;
+  }
+
+  -- the folder of the records of such a build
+  folder_is : (options : Options) (w : World) → IsToldBuild target options w → records_of options w.variables ≡ below target (folder_of options.profile)
+  folder_is options w told = ap (λ t. below t (folder_of options.profile)) told.one_target
+
+  module _ (read : Reading) (reading : IsReading read) (records_stay_true : RecordsStayTrue) where
+    -- the records of every profile are true
+    abbrev AllSound : World → Type 0
+    AllSound w = (name : List ℕ) → Named name → Sound read judge small_compiler (below target name) w.files
+
+    spares_so : (name : List ℕ) (step : SessionStep) (w : World) → Named name → HasWords step → SourcesAt w → IsToldStep target step w → Spares small_compiler (below target name) step w
+    spares_so name (Write path text) w named words files told = outside_within target (below target name) path (lies_within target name named) told
+    spares_so name (Remove path) w named words files told = λ q inside. told q (at_or_below_on target (below target name) q (lies_within target name named) inside)
+    spares_so name (Set n value) w named words files told = tt
+    spares_so name (Unset n) w named words files told = tt
+    spares_so name (Die key death) w named words files told = tt
+    spares_so name (Fuse number) w named words files told = tt
+    spares_so name (Build options pick) w named words files told = by (bytes_eq (folder_of options.profile) name) refl
+      where
+        by : (b : Bool) → bytes_eq (folder_of options.profile) name ≡ b → ((records_of options w.variables ≡ below target name) × IsHonestBuild small_compiler options w) ⊎ ShareNoPath (below target name) (records_of options w.variables)
+        by true same = inl (folder_is options w told ∙ ap (below target) ((bytes_eq-Decides (folder_of options.profile) name).0 same), small_builds_are_honest options w (small_of options w words.0 words.1 files told))
+        by false other = inr (subst (ShareNoPath (below target name)) (sym (folder_is options w told))
+            (lie_apart target name (folder_of options.profile) (subst At told.one_target (target_at options w.variables words.0)) named (profile_named options.profile told.profile)
+            (λ same. false≢true (sym other ∙ (bytes_eq-Decides (folder_of options.profile) name).1 (sym same)))))
+
+    all_sound : (step : SessionStep) (before after : Point) → HasWords step → SourcesAt before.moment.world → IsToldStep target step before.moment.world → Takes small_compiler step before after → AllSound before.moment.world → AllSound after.moment.world
+    all_sound step before after words files told takes sound name named =
+        records_stay_true read small_compiler (below target name) (step ∷ []) before after reading (spares_so name step before.moment.world named words files told, (after, takes, refl)) (sound name named)
+
+    step_gives : (step : SessionStep) (before after : Point) → HasWords step → SourcesAt before.moment.world → IsToldStep target step before.moment.world → Takes small_compiler step before after → AllSound before.moment.world → StepGives read step before after
+    step_gives (Write path text) before after words files told takes sound = tt
+    step_gives (Remove path) before after words files told takes sound = tt
+    step_gives (Set name value) before after words files told takes sound = tt
+    step_gives (Unset name) before after words files told takes sound = tt
+    step_gives (Die key death) before after words files told takes sound = tt
+    step_gives (Fuse number) before after words files told takes sound = tt
+    step_gives (Build options pick) before after words files told (answer, picked, stays, headline, answers) sound = (
+      answer,
+      answers,
+      small_builds_give read options answer.result before.moment after.moment reading headline (small_of options before.moment.world words.0 words.1 files told)
+          (subst (λ folder. Sound read judge small_compiler folder before.moment.world.files) (sym (folder_is options before.moment.world told)) (sound (folder_of options.profile) (profile_named options.profile told.profile))),
+    )
+
+    all_give : (steps : List SessionStep) (before after : Point) (course : Course small_compiler steps before after) → AllByRecursion HasWords steps → SourcesAt before.moment.world → AllSound before.moment.world
+        → AllTold target steps before after course → AllGive read steps before after course
+    all_give [] before after course words files sound told = tt
+    all_give (step ∷ steps) before after course words files sound told = (
+      step_gives step before course.0 words.0 files told.0 course.1 sound,
+      all_give steps course.0 after course.2 words.1 (step_at step before course.0 words.0 told.0 course.1 files) (all_sound step before course.0 words.0 files told.0 course.1 sound) told.1,
+    )
+
+-- where no file is, no text counts as a record, and all files have paths
+none_at : (read : Reading) (folder key : List ℕ) → record_at read folder finite.empty key ≡ None
+unfolding record_at
+none_at read folder key = by (is_key key)
+  where
+    by : (b : Bool) → (if b then if_of_key key (read_text read (finite.get (finite.empty {K = List ℕ} {X = List ℕ} {R = slice_cmp nat_cmp}) (place_of folder key))) else None) ≡ None
+    by true = ap (λ o. if_of_key key (read_text read o)) (get-empty (slice_cmp nat_cmp) (place_of folder key))
+    by false = refl
+
+no_files : (target : List ℕ) (w : World) → w.files ≡ finite.empty → SourcesAt target w
+no_files target w empty path text is =
+    by (not (is_at_or_below target path)) (get w.files path) (ap (λ files. get files path) empty ∙ get-empty (slice_cmp nat_cmp) path) (sym (get-kept w.files (λ q. not (is_at_or_below target q)) path) ∙ is)
+  where
+    by : (keep : Bool) (o : Option (List ℕ)) → o ≡ None → cond keep o None ≡ Some text → At path
+    by true None at h = cc
+    by true (Some other) at h = cc
+    by false o at h = cc
+
+module _ (records_stay_true : RecordsStayTrue) (nothing_is_sound : NothingIsSound) where
+  pub session_files_give : SessionFilesGive
+  session_files_give read bytes target steps before after reading said empty course told =
+      all_give target read reading records_stay_true steps before after course (session_has bytes steps said) (no_files target before.moment.world empty)
+      (λ name named. nothing_is_sound read small_compiler (below target name) before.moment.world.files (λ key. ap (λ files. record_at read (below target name) files key) empty ∙ none_at read (below target name) key)) told

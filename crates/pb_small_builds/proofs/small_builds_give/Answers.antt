@@ -1,0 +1,5 @@
+use Rattle.pb_small_builds.proofs.Honest.{small_builds_give}
+use Rattle.pb_small_builds.proofs.small_builds_give.Goals as goal
+
+pub returns : goal.returns
+returns c = small_builds_give

@@ -1,0 +1,43 @@
+-- What builds with the small compiler give, with no premise on the child.
+use Rattle.std.specs.Prelude.{◌≡◌, ◌∷◌, ◌++◌, [], ℕ, true, List, Result, Ok}
+use Rattle.std.specs.FinMap as finite
+use Rattle.pb_answer.specs.declared.fault.BuildFault.{BuildFault}
+use Rattle.pb_answer.specs.declared.summary.Summary.{Summary}
+use Rattle.pb_command.specs.Judge.{judge}
+use Rattle.pb_honesty.specs.Honest.{small_compiler}
+use Rattle.pb_package.specs.declared.options.Options.{Options}
+use Rattle.pb_place.specs.World.{World}
+use Rattle.pb_record.specs.Parts.{IsReading}
+use Rattle.pb_run.specs.Halves.{OnRecords}
+use Rattle.pb_session.specs.Sessions.{session_of}
+use Rattle.pb_session.specs.declared.pick.PickBy.{PickBy}
+use Rattle.pb_session.specs.declared.step.SessionStep.{SessionStep}
+use Rattle.pb_session.specs.declared.step.SessionStep.TheVariants.{Build}
+use Rattle.pb_soundness.specs.Records.{Reading}
+use Rattle.pb_soundness.specs.Sound.{Sound}
+use Rattle.pb_turns.specs.Moments.{Moment}
+use Rattle.pb_build.specs.Headline.{records_of, IsHonestBuild, Gives, Headline}
+use Rattle.pb_build.specs.Session.{Point, Takes, Course}
+use Rattle.pb_build.specs.declared.sessions.Answer.{Answer}
+use Rattle.pb_small_builds.specs.Small.{AllGive, AllTold, IsSmallBuild, SmallCourse}
+
+-- The small compiler is an honest child of each build with these words.
+abbrev pub SmallBuildsAreHonest : Type 0
+SmallBuildsAreHonest = (options : Options) (w : World) → IsSmallBuild options w → IsHonestBuild small_compiler options w
+
+-- Over a place that tells its maps and whose child is the small compiler, a build with these words that rests on true records gives what the present workspace gives from nothing, however it ends.
+abbrev pub SmallBuildsGive : Type 0
+SmallBuildsGive = (read : Reading) (options : Options) (result : Result Summary BuildFault) (old new : Moment) → IsReading read → Headline true small_compiler options result old new
+    → IsSmallBuild options old.world → Sound read judge small_compiler (records_of options old.world.variables) old.world.files → Gives OnRecords read small_compiler options result old new
+
+-- Any edits outside of the folder of its records, any such builds between: a build of a session with the small compiler gives it too, where the records of that folder were true before the steps.
+abbrev pub SmallSessionsGive : Type 0
+SmallSessionsGive = (read : Reading) (options : Options) (pick : PickBy) (steps : List SessionStep) (before mid after : Point) → IsReading read
+    → Sound read judge small_compiler (records_of options mid.moment.world.variables) before.moment.world.files → SmallCourse (records_of options mid.moment.world.variables) steps before mid
+    → IsSmallBuild options mid.moment.world → Takes small_compiler (Build options pick) mid after
+    → (answer : Answer) × (after.answers ≡ mid.answers ++ answer ∷ []) × Gives OnRecords read small_compiler options answer.result mid.moment after.moment
+
+-- So does each build of a session file that begins without files, of which no more is asked than the file leaves open.
+abbrev pub SessionFilesGive : Type 0
+SessionFilesGive = (read : Reading) (bytes target : List ℕ) (steps : List SessionStep) (before after : Point) → IsReading read → session_of bytes ≡ Ok steps → before.moment.world.files ≡ finite.empty
+    → (course : Course small_compiler steps before after) → AllTold target steps before after course → AllGive read steps before after course

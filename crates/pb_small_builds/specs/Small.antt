@@ -1,0 +1,92 @@
+-- Builds whose child is the small compiler: what has to hold of their words, and nothing of the child.
+use Rattle.std.specs.Prelude.{◌≡◌, ◌⊎◌, ◌∷◌, ◌++◌, [], ⊤, ℕ, true, false, codes, List, take, Some}
+use Rattle.std.specs.FinMap as finite
+use Rattle.pb_data.specs.Mentions.{is_mentioned}
+use Rattle.pb_honesty.specs.Honest.{small_compiler, CanTell, IsSmall}
+use Rattle.pb_manifest.specs.Letters.{is_name}
+use Rattle.pb_package.specs.declared.options.Options.{Options}
+use Rattle.pb_place.specs.Paths.{is_at_or_below, is_path}
+use Rattle.pb_place.specs.World.{World, from_nothing}
+use Rattle.pb_project.specs.Targets.{unit_at}
+use Rattle.pb_project.specs.declared.project.Project.{Project}
+use Rattle.pb_project.specs.declared.project.Setup.{Setup}
+use Rattle.pb_run.specs.Halves.{OnRecords}
+use Rattle.pb_run.specs.Outcome.{outcomes, command_after, view_of}
+use Rattle.pb_session.specs.declared.step.SessionStep.{SessionStep}
+use Rattle.pb_session.specs.declared.step.SessionStep.TheVariants.{Write, Remove, Build}
+use Rattle.pb_soundness.specs.Records.{Reading}
+use Rattle.pb_unit.specs.declared.plan.Planned.{Planned}
+use Rattle.pb_build.specs.Environment.{environment_of}
+use Rattle.pb_build.specs.Headline.{records_of, Gives}
+use Rattle.pb_build.specs.Lasting.{ShareNoPath, Spares}
+use Rattle.pb_build.specs.Planning.{IsProject}
+use Rattle.pb_build.specs.Result.{toolchain_of, setup_of}
+use Rattle.pb_build.specs.Session.{Point, Takes, Course}
+use Rattle.pb_build.specs.declared.sessions.Answer.{Answer}
+
+-- One build.
+
+-- each file has a normalised absolute path
+abbrev pub FilesHavePaths : World → Type 0
+FilesHavePaths w = (path text : List ℕ) → finite.get w.files path ≡ Some text → is_path path ≡ true
+
+-- of each unit of a project the small compiler can tell what it reads: on the unit's command, in the unit's view
+abbrev pub CanTellUnits : Setup → Project → World → Type 0
+CanTellUnits setup project sources = (place : ℕ) (u : Planned) → unit_at project place ≡ Some u
+    → CanTell (command_after setup project (take place (outcomes small_compiler setup project sources)) u) (view_of (take place (outcomes small_compiler setup project sources)) sources u)
+
+-- the same of whatever project and version of the compiler a build finds in a world
+abbrev pub CanTellBuild : Options → World → Type 0
+CanTellBuild options w = (project : Project) (toolchain : List ℕ) → IsProject options (environment_of options w.variables).target w project
+    → toolchain_of small_compiler (environment_of options w.variables) project (from_nothing (environment_of options w.variables).target w) ≡ Some toolchain
+    → CanTellUnits (setup_of options (environment_of options w.variables) toolchain) project (from_nothing (environment_of options w.variables).target w)
+
+-- the words of a build with the small compiler: the manifest and the files of the sources have normalised absolute paths; the user's flags give no libraries, and scripts are run by the small compiler; and what is read can be told
+pub record IsSmallBuild (options : Options) (w : World) : Type 0 where
+  pub manifest : is_path options.manifest ≡ true
+  pub files : FilesHavePaths (from_nothing (environment_of options w.variables).target w)
+  pub setup : (toolchain : List ℕ) → IsSmall (setup_of options (environment_of options w.variables) toolchain)
+  pub tells : CanTellBuild options w
+
+-- Sessions.
+
+-- a step spares the records of a folder: an edit outside of it; or a build with these words, that keeps its records there or apart from it
+abbrev pub SparesBySmall : List ℕ → SessionStep → World → Type 0
+SparesBySmall folder (Build options pick) w = IsSmallBuild options w × ((records_of options w.variables ≡ folder) ⊎ ShareNoPath folder (records_of options w.variables))
+SparesBySmall folder step w = Spares small_compiler folder step w
+
+-- the steps were taken in turn, and each spares the records of a folder
+abbrev pub SmallCourse : List ℕ → List SessionStep → Point → Point → Type 0
+SmallCourse folder [] before after = after ≡ before
+SmallCourse folder (step ∷ steps) before after = SparesBySmall folder step before.moment.world × ((mid : Point) × Takes small_compiler step before mid × SmallCourse folder steps mid after)
+
+-- Sessions of a file.
+
+-- what a session file leaves open of the words of a build: this is its target folder, and its profile has the letters of names; the user's flags give no libraries, and what is read can be told
+pub record IsToldBuild (target : List ℕ) (options : Options) (w : World) : Type 0 where
+  pub one_target : (environment_of options w.variables).target ≡ target
+  pub profile : is_name options.profile ≡ true
+  pub flags : is_mentioned (environment_of options w.variables).flags (codes "--extern") ≡ false
+  pub tells : CanTellBuild options w
+
+-- of a step: an edit is one outside of the target folder
+abbrev pub IsToldStep : List ℕ → SessionStep → World → Type 0
+IsToldStep target (Write path text) w = is_at_or_below target path ≡ false
+IsToldStep target (Remove path) w = ShareNoPath target path
+IsToldStep target (Build options pick) w = IsToldBuild target options w
+IsToldStep target step w = ⊤
+
+-- of each step that was taken
+abbrev pub AllTold : (target : List ℕ) (steps : List SessionStep) (before after : Point) → Course small_compiler steps before after → Type 0
+AllTold target [] before after course = ⊤
+AllTold target (step ∷ steps) before after course = IsToldStep target step before.moment.world × AllTold target steps course.0 after course.2
+
+-- a build among the steps gives what the workspace of that time gives from nothing, or a fault with the first of its lines
+abbrev pub StepGives : Reading → SessionStep → Point → Point → Type 0
+StepGives read (Build options pick) before after = (answer : Answer) × (after.answers ≡ before.answers ++ answer ∷ []) × Gives OnRecords read small_compiler options answer.result before.moment after.moment
+StepGives read step before after = ⊤
+
+-- and so does each
+abbrev pub AllGive : (read : Reading) (steps : List SessionStep) (before after : Point) → Course small_compiler steps before after → Type 0
+AllGive read [] before after course = ⊤
+AllGive read (step ∷ steps) before after course = StepGives read step before course.0 × AllGive read steps course.0 after course.2
