@@ -9,6 +9,10 @@
 # two by instructions. All calls are to be linear; one large file is to take at most 3 nanoseconds a byte either way, and
 # twice its size.
 #
+# On a busy machine all exponents were 1.00. At 64 MiB one large file took 0.63 nanoseconds a byte to read, 0.69 to write,
+# and 2.02 times its size, as did a long stream; what has many small parts 3.2 to 5.7 to read, 1.2 to 2.5 to write, and 3.3
+# (words, needed units) to 3.8 (files) and 6.6 times its size (copies): each small text has an allocation of its own.
+#
 # `SIZES` may name other sizes, in KiB: 65536 takes half an hour in all, nearly all of it valgrind's.
 # Each record is read from a file, made by Python; where it does not read, or is written otherwise, the script ends so.
 set -euo pipefail
