@@ -16,11 +16,11 @@ use Rattle.pb_store.specs.Causes.{FailsToOpen}
 use Rattle.pb_store.specs.declared.fault.OpenFault.{OpenFault}
 use Rattle.pb_store.specs.declared.fault.OpenFault.TheVariants as open_fault
 use Rattle.pb_workspace.proofs.Accepted.{target_kept}
-use Rattle.pb_build.specs.Causes.{MayPlan, MayAsk, MayReady}
+use Rattle.pb_build.specs.Causes.{MayPlan, MayAsk, MayReady, Names}
 use Rattle.pb_build.specs.Ending.{FailsBefore, IsSilent, IsPrepared}
 use Rattle.pb_build.specs.Environment.{environment_of}
 use Rattle.pb_build.specs.Planning.{IsProject, IsToldRefusal}
-use Rattle.pb_build.specs.Private.{Names, IsReadyFor, IsSilentFault, IsUnrefused, unopened}
+use Rattle.pb_build.specs.Private.{IsReadyFor, IsSilentFault, IsUnrefused, unopened}
 use Rattle.pb_build.specs.Result.{toolchain_of, setup_of}
 use Rattle.pb_build.specs.declared.builder.Prepared.{Prepared}
 use Rattle.pb_build.specs.declared.environment.Environment.{Environment}

@@ -1,5 +1,5 @@
 -- What private functions of the build promise to one another. Nothing here is needed to read what a build gives.
-use Rattle.std.specs.Prelude.{◌≡◌, ℕ, List, Some, None, Result, Ok, Err, MatchResult}
+use Rattle.std.specs.Prelude.{◌≡◌, ℕ, List, Some, None, Ok, Err}
 use Rattle.pb_answer.specs.declared.fault.BuildFault.{BuildFault}
 use Rattle.pb_answer.specs.declared.fault.BuildFault.TheVariants.{Plan, Toolchain, Child, Device, Sink, OutOfMemory}
 use Rattle.pb_answer.specs.declared.fault.DeviceFault.TheVariants as device
@@ -13,7 +13,6 @@ use Rattle.pb_package.specs.declared.fault.LoadFault.TheVariants as load
 use Rattle.pb_package.specs.declared.options.Options.{Options}
 use Rattle.pb_package.specs.declared.options.Selection.{Selection}
 use Rattle.pb_package.specs.declared.workspace.Workspace.{Workspace}
-use Rattle.pb_place.specs.Counts.{Counts}
 use Rattle.pb_place.specs.World.{World, Answers, from_nothing}
 use Rattle.pb_project.specs.declared.project.Project.{Project}
 use Rattle.pb_record.specs.Parts.{IsReading}
@@ -30,18 +29,6 @@ use Rattle.pb_build.specs.Planning.{IsFeatured}
 use Rattle.pb_build.specs.Result.{toolchain_of, setup_of}
 use Rattle.pb_build.specs.declared.builder.Prepared.{Prepared}
 use Rattle.pb_build.specs.declared.environment.Environment.{Environment}
-
--- a fault of a call on this path or variable names it
-abbrev pub Names : BuildFault → Counts → Type 0
-Names (Plan why) new = Unit {0}
-Names Toolchain new = Unit {0}
-Names (Child unit fault) new = Unit {0}
-Names (Device name fault) new = new.named ≡ name
-Names Sink new = Unit {0}
-Names OutOfMemory new = Unit {0}
-
-abbrev pub NamesCall : {T : Type 0} → Result T BuildFault → Counts → Type 0
-NamesCall result new = MatchResult result (λ _. Unit {0}) (λ e. Names e new)
 
 -- a fault that is no refusal
 abbrev pub IsUnrefused : BuildFault → Type 0

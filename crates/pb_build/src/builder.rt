@@ -2,13 +2,13 @@
 
 ghost use Rattle.std.specs.Prelude.{◌≡◌, ◌+◌, [], max, length, IsTrue, IfOk, IfErr};
 ghost use Rattle.pb_record.specs.Parts.{IsReading};
-ghost use Rattle.pb_build.specs.Causes.{MayPlan, MayReady};
+ghost use Rattle.pb_build.specs.Causes.{MayPlan, MayReady, NamesCall};
 ghost use Rattle.pb_build.specs.Ending.{FailsBefore, Prepares, Works, Closes, Builds, BuildsBy, BuildsFirst};
 ghost use Rattle.pb_build.specs.Environment.{environment_of};
 ghost use Rattle.pb_build.specs.Headline.{Headline};
 ghost use Rattle.pb_build.specs.Kept.{SourcesStay};
 ghost use Rattle.pb_build.specs.Planning.{IsProject, IsToldRefusal};
-ghost use Rattle.pb_build.specs.Private.{NamesCall, IsReadyFor, IsSilentFault, IsUnrefused, unopened};
+ghost use Rattle.pb_build.specs.Private.{IsReadyFor, IsSilentFault, IsUnrefused, unopened};
 ghost use Rattle.pb_build.specs.Result.{setup_of};
 ghost use Rattle.pb_run.specs.Causes.{Takes, NoStart, OneStart};
 ghost use Rattle.pb_run.specs.Standing.{IsInOrder, records_folder};
@@ -300,7 +300,8 @@ fn without_library(project: Project) -> Items<Text>
 }
 
 /// The names of the packages without a library to which enabled dependencies lead, in byte order, each once. It goes as
-/// far as the plan: no child is started, no line written and no file changed. Faults: Plan; Device; OutOfMemory.
+/// far as the plan: no child is started, no line written and no file changed. Faults: Plan; Device, with the variable's name
+/// or the path of the call that failed; OutOfMemory.
 pub fn missing_libraries<P: Place>(
     alloc: Global,
     place: &mut P,
@@ -311,6 +312,7 @@ pub fn missing_libraries<P: Place>(
     ensures most { P.most place.new ≡ P.most place.old }
     ensures refused { IsTrue P.tells → IfErr result (IsToldRefusal options.now (environment_of options.now (P.world place.old).variables).target (P.world place.old)) }
     ensures takes { Takes NoStart MayPlan result (P.counts place.old) (P.counts place.new) }
+    ensures named { NamesCall result (P.counts place.new) }
 {
     let environment = match environment_of(alloc, place, options) {
         Ok(environment) => environment,

@@ -4,9 +4,9 @@ ghost use Rattle.std.specs.Prelude.{◌≡◌, IfOk, IfErr, IsTrue, codes};
 ghost use Rattle.std.specs.FinMap as finite;
 ghost use Rattle.pb_place.specs.Paths.{joined, below, folder_of};
 ghost use Rattle.pb_directive.specs.Directives.{words_of};
-ghost use Rattle.pb_build.specs.Causes.{MayPlan};
+ghost use Rattle.pb_build.specs.Causes.{MayPlan, NamesCall};
 ghost use Rattle.pb_build.specs.Environment.{set_text, rustc_of, flags_of, told_or, target_of, environment_of, environment_with};
-ghost use Rattle.pb_build.specs.Private.{NamesCall, IsUnrefused};
+ghost use Rattle.pb_build.specs.Private.{IsUnrefused};
 ghost use Rattle.pb_run.specs.Causes.{Takes, NoStart};
 
 use pb_answer::BuildFault;

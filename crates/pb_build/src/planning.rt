@@ -2,9 +2,9 @@
 
 ghost use Rattle.std.specs.Prelude.{◌≡◌, ◌⊎◌, ◌<◌, All, AllPairs, IfOk, IfErr, IsTrue, Ok, Err, length};
 ghost use Rattle.pb_place.specs.World.{World};
-ghost use Rattle.pb_build.specs.Causes.{MayPlan};
+ghost use Rattle.pb_build.specs.Causes.{MayPlan, NamesCall};
 ghost use Rattle.pb_build.specs.Planning.{IsFeatured, IsProject, IsRefused, IsToldRefusal};
-ghost use Rattle.pb_build.specs.Private.{NamesCall, IsRefusedOf, unread};
+ghost use Rattle.pb_build.specs.Private.{IsRefusedOf, unread};
 ghost use Rattle.pb_build.specs.declared.environment.Environment.{Environment};
 ghost use Rattle.pb_workspace.specs.Loaded.{workspace_of};
 ghost use Rattle.pb_workspace.specs.Selected.{selected};

@@ -10,6 +10,7 @@ use Rattle.pb_answer.specs.declared.fault.BuildFault.{BuildFault}
 use Rattle.pb_answer.specs.declared.fault.BuildFault.TheVariants.{OutOfMemory}
 use Rattle.pb_answer.specs.declared.summary.Summary.{Summary}
 use Rattle.pb_package.specs.declared.options.Options.{Options}
+use Rattle.pb_build.specs.Causes.{Looks}
 use Rattle.pb_build.specs.Ending.{BuildsFirst}
 use Rattle.pb_build.specs.Environment.{environment_of}
 use Rattle.pb_build.specs.Planning.{IsProject}
@@ -82,6 +83,7 @@ pub record BuildsTold (tells : Bool) (child : Answers) (options : Options) (expl
   pub silent : begun.heard ≡ old.heard
   pub most : begun.most ≡ old.most
   pub unstarted : begun.counts.starts ≡ old.counts.starts
+  pub looked : Looks old.counts begun.counts
   pub answer : Result Summary BuildFault
   pub builds : BuildsFirst tells child options answer begun new
   pub noted : Heard

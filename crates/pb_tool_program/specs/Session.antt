@@ -1,5 +1,5 @@
 -- What the session program says of its input, and how it ends.
-use Rattle.std.specs.Prelude.{◌≡◌, ◌⊎◌, ℕ, codes, List, [], ◌∷◌, ◌++◌, Option, Ok}
+use Rattle.std.specs.Prelude.{◌≡◌, ◌⊎◌, ℕ, codes, List, [], ◌∷◌, ◌++◌, take, Option, Ok}
 use Rattle.std.specs.Io.KnownBytes.{Appends}
 use Rattle.std.specs.FinMap as map
 use Rattle.pb_mini.specs.Answer.{answered}
@@ -12,9 +12,13 @@ use Rattle.pb_answer.specs.ResultLine.{result_line}
 use Rattle.pb_session.specs.Sessions.{session_of}
 use Rattle.pb_session.specs.declared.step.SessionStep.{SessionStep}
 
--- the session is told to be bad, or the sink failed: what it has taken before and after, and its faults before and after
+-- what is told of a bad session
+abbrev pub bad_session : List ℕ
+bad_session = codes "error: bad session\n"
+
+-- the session is told to be bad; or, where the sink failed, the first of these bytes were: what it has taken before and after, and its faults before and after
 abbrev pub Refused : Option (List ℕ) → Option (List ℕ) → ℕ → ℕ → Type 0
-Refused old new before after = Appends old new (codes "error: bad session\n") ⊎ (after ≡ up before)
+Refused old new before after = (Appends old new bad_session × (after ≡ before)) ⊎ (((n : ℕ) × Appends old new (take n bad_session)) × (after ≡ up before))
 
 -- a result line for each answer, with a line feed behind it
 abbrev pub lines_of : List Answer → List ℕ

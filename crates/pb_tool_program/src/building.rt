@@ -2,6 +2,7 @@
 
 ghost use Rattle.std.specs.Prelude.{◌≡◌, [], ◌⊎◌, ◌++◌, IsTrue, IfOk, OnOk, Result, string_bytes, codes};
 ghost use Rattle.std.specs.Io.KnownBytes.{Appends};
+ghost use Rattle.pb_build.specs.Causes.{Looks};
 ghost use Rattle.pb_build.specs.Ending.{BuildsFirst};
 ghost use Rattle.pb_turns.specs.Moments.{Moment, moment};
 ghost use Rattle.pb_answer.specs.ResultLine.{result_line};
@@ -63,6 +64,7 @@ fn note<P: Place, E: Out>(alloc: Global, place: &mut P, err: &mut E, options: &O
     ensures same { IsTrue P.tells → P.world place.new ≡ P.world place.old }
     ensures most { P.most place.new ≡ P.most place.old }
     ensures unstarted { (P.counts place.new).starts ≡ (P.counts place.old).starts }
+    ensures looked { Looks (P.counts place.old) (P.counts place.new) }
     ensures notes { Notes P.tells options.now (P.world place.old) record { taken = E.taken err.old; faults = E.faults err.old } record { taken = E.taken err.new; faults = E.faults err.new } }
 {
     let names = match missing_libraries(alloc, place, options) {

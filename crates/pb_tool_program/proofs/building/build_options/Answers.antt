@@ -9,6 +9,7 @@ returns g c = record {
   silent = refl;
   most = c.note.ensures.most;
   unstarted = c.note.ensures.unstarted;
+  looked = c.note.ensures.looked;
   answer = c.build-answer.result;
   builds = c.build-answer.ensures.builds;
   noted = record { taken = g.E.Out.taken c.note.new.err; faults = g.E.Out.faults c.note.new.err };
