@@ -6,7 +6,6 @@ use Rattle.pb_place.specs.declared.command.Command.{Command}
 use Rattle.pb_project.specs.declared.answer.InputName.{InputName}
 use Rattle.pb_project.specs.declared.answer.InputName.TheVariants.{Path, Variable}
 use Rattle.pb_record.specs.Commands.{command_of, of_parts}
-use Rattle.pb_record.specs.declared.record.Input.{Input}
 use Rattle.pb_record.specs.declared.record.Needed.{Needed}
 use Rattle.pb_record.specs.declared.record.Needed.TheVariants.{Copies, Numbers}
 use Rattle.pb_record.specs.declared.record.Record.{Record}

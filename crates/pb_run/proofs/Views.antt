@@ -1,5 +1,5 @@
 -- What a unit's command is for.
-use Rattle.std.proofs.Common.{◌≡◌, List, ℕ, Option, Some, refl, sym, subst}
+use Rattle.std.proofs.Common.{◌≡◌, List, Option, Some, refl, sym, subst}
 use Rattle.pb_place.specs.declared.command.Command.{Command}
 use Rattle.pb_unit.specs.declared.plan.Planned.{Planned}
 use Rattle.pb_unit.specs.declared.unit.What.{What}

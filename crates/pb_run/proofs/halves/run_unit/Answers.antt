@@ -1,6 +1,5 @@
 use Rattle.std.proofs.Common.{◌∙◌, Bool, slice_set, sym, subst}
 use Rattle.pb_flight.specs.declared.flight.State.TheVariants as state
-use Rattle.pb_place.specs.Counts.{Starts}
 use Rattle.pb_run.specs.Causes.{RunsBy}
 use Rattle.pb_run.specs.Halves.{basis}
 use Rattle.pb_run.proofs.InTurn.{answer_tells, both_run, can_answer, keeps_once, lifted_flies, number_kept}
