@@ -154,6 +154,7 @@ fn fault_of<P: Place>(
         "read" => place.read(alloc, path).err(),
         "list" => place.list(alloc, path).err(),
         "list_outside" => place.list_outside(alloc, path, path).err(),
+        "list_directly" => place.list_directly(alloc, path).err(),
         "write" => place.write(alloc, path, b"12345").err(),
         "remove_tree" => place.remove_tree(alloc, path).err(),
         _ => place.variable(alloc, path.as_str()).err(),
@@ -176,6 +177,7 @@ const CALLS: &[(&str, &str)] = &[
     ("read", "/w/a"),
     ("list", "/w"),
     ("list_outside", "/w"),
+    ("list_directly", "/w"),
     ("write", "/w/a"),
     ("remove_tree", "/w"),
     ("variable", "/V"),
@@ -232,13 +234,14 @@ fn fused(alloc: Global, number: u64) -> Result<(Option<PlaceFault>, u64, u64, us
 /// A fuse, the fault that it makes, how many calls came after, and the length of what stands at `/w/a` then.
 const FUSES: &[(u64, Option<PlaceFault>, u64, usize)] = &[
     (0, None, 0, 9),
-    (1, Some(PlaceFault::Read), 5, 9),
-    (2, Some(PlaceFault::List), 4, 9),
-    (3, Some(PlaceFault::List), 3, 9),
-    (4, Some(PlaceFault::Write), 2, 9),
-    (5, Some(PlaceFault::Remove), 1, 9),
-    (6, Some(PlaceFault::Variable), 0, 9),
-    (7, None, 0, 9),
+    (1, Some(PlaceFault::Read), 6, 9),
+    (2, Some(PlaceFault::List), 5, 9),
+    (3, Some(PlaceFault::List), 4, 9),
+    (4, Some(PlaceFault::List), 3, 9),
+    (5, Some(PlaceFault::Write), 2, 9),
+    (6, Some(PlaceFault::Remove), 1, 9),
+    (7, Some(PlaceFault::Variable), 0, 9),
+    (8, None, 0, 9),
 ];
 
 #[test]

@@ -56,6 +56,13 @@ fn list_outside<P: Place>(
     spaced(alloc, paths.as_slice())
 }
 
+/// The paths of the files directly in a folder, a space after each.
+fn list_directly<P: Place>(alloc: Global, place: &mut P, folder: &str) -> Result<Text, Fail> {
+    let folder = at(alloc, folder)?;
+    let paths = place.list_directly(alloc, &folder)?;
+    spaced(alloc, paths.as_slice())
+}
+
 /// The value of a variable, or `none`.
 fn variable<P: Place>(alloc: Global, place: &mut P, name: &str) -> Result<Text, Fail> {
     match place.variable(alloc, name)? {
@@ -142,6 +149,7 @@ fn call<P: Place>(
         "read" => read(alloc, place, name),
         "list" => list(alloc, place, name),
         "list_outside" => list_outside(alloc, place, name, text),
+        "list_directly" => list_directly(alloc, place, name),
         "write" => change(alloc, place, name, Some(text)),
         "remove_tree" => change(alloc, place, name, None),
         "variable" => variable(alloc, place, name),
@@ -254,6 +262,20 @@ fn lists_outside(rt: HostRuntime) -> Result<(), Fail> {
         list_outside|/w/target|/w/target|\n\
         list_outside|/w/target|/w|\n\
         list_outside|/x|/w|";
+    assert_eq!(rt; first_wrong(rt.alloc(), lines, 0)?, None);
+    Ok(())
+}
+
+#[test]
+fn lists_directly(rt: HostRuntime) -> Result<(), Fail> {
+    let lines = "list_directly|/w/target||/w/target/dep /w/target/hidden \n\
+        list_directly|/w||/w/a /w/ab \n\
+        list_directly|/||\n\
+        list_directly|/w/a||/w/a/b \n\
+        list_directly|/w/a/b||\n\
+        list_directly|/x||\n\
+        write|/f||done\n\
+        list_directly|/||/f ";
     assert_eq!(rt; first_wrong(rt.alloc(), lines, 0)?, None);
     Ok(())
 }

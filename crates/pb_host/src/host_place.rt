@@ -11,7 +11,7 @@ ghost use Rattle.pb_host.specs.Flying.{silent_child};
 ghost use Rattle.pb_place.specs.declared.child.ViewFault.TheVariants as view_fault;
 ghost use Rattle.pb_place.specs.declared.place.PlaceFault.TheVariants as place_fault;
 
-use crate::listing::{files_below, files_outside};
+use crate::listing::{files_below, files_directly, files_outside};
 use crate::reading::{file_at, variable_of};
 use crate::starting::{finish, spawn};
 use crate::writing::{remove_tree, write_file};
@@ -196,6 +196,16 @@ impl<'a, R: Files + Env + Processes + AllocGlobal> Place for HostPlace<'a, R> {
     ) -> Result<Items<PathText>, PlaceFault> {
         let name = self.tally.name(alloc, folder.as_str())?;
         let answer = files_outside(self.runtime, alloc, folder, left_out);
+        self.tally.count(name, answer)
+    }
+
+    fn list_directly(
+        &mut self,
+        alloc: Global,
+        folder: &PathText,
+    ) -> Result<Items<PathText>, PlaceFault> {
+        let name = self.tally.name(alloc, folder.as_str())?;
+        let answer = files_directly(self.runtime, alloc, folder);
         self.tally.count(name, answer)
     }
 

@@ -176,6 +176,39 @@ fn files_found<R: Files + AllocGlobal>(
     Err(PlaceFault::List)
 }
 
+/// The files directly in a folder, as they come. What its folders hold is not looked at.
+fn files_here<R: Files + AllocGlobal>(
+    runtime: &R,
+    alloc: Global,
+    folder: &PathText,
+) -> Result<Vec<PathText>, PlaceFault>
+    ensures below { IfOk result (λ files. AreBelow folder.now files.items) }
+    ensures fault { IfErr result (λ e. e ≢ PlaceFault.OutOfMemory → e ≡ PlaceFault.List) }
+{
+    let here = Waiting {
+        folder: folder.copy(alloc)?,
+        depth: 0,
+    };
+    let mut found = Found {
+        files: Vec::new(alloc),
+        waiting: Vec::new(alloc),
+    };
+    take_folder(runtime, alloc, None, &mut found, &here)?;
+    Ok(found.files)
+}
+
+/// Whether a folder stands at a path, links followed. List where it cannot be told.
+fn is_folder<R: Files>(runtime: &R, path: &PathText) -> Result<bool, PlaceFault>
+    ensures { IfErr result (λ e. e ≢ PlaceFault.OutOfMemory → e ≡ PlaceFault.List) }
+{
+    match standing_at(runtime, path.as_str()) {
+        Ok(Standing::Folder) => Ok(true),
+        Ok(_) => Ok(false),
+        Err(ViewFault::Failed) => Err(PlaceFault::List),
+        Err(ViewFault::OutOfMemory) => Err(PlaceFault::OutOfMemory),
+    }
+}
+
 /// The paths of all files below a folder that are not left out, in byte order; none where no folder stands at the path.
 fn files_listed<R: Files + AllocGlobal>(
     runtime: &R,
@@ -188,11 +221,8 @@ fn files_listed<R: Files + AllocGlobal>(
     ensures ordered { IfOk result AreOrdered }
     ensures fault { IfErr result (λ e. e ≢ PlaceFault.OutOfMemory → e ≡ PlaceFault.List) }
 {
-    match standing_at(runtime, folder.as_str()) {
-        Ok(Standing::Folder) => {}
-        Ok(_) => return Ok(Items::new(alloc)),
-        Err(ViewFault::Failed) => return Err(PlaceFault::List),
-        Err(ViewFault::OutOfMemory) => return Err(PlaceFault::OutOfMemory),
+    if !is_folder(runtime, folder)? {
+        return Ok(Items::new(alloc));
     }
     let mut files = files_found(runtime, alloc, left_out, folder)?;
     files.sort()?;
@@ -232,4 +262,23 @@ pub(crate) fn files_outside<R: Files + AllocGlobal>(
         return Ok(Items::new(alloc));
     }
     files_listed(runtime, alloc, Some(left_out), folder)
+}
+
+/// The paths of the files directly in a folder, in byte order; none where no folder stands at the path. What the
+/// folders there hold is not looked at, so nothing in them is a failure.
+pub(crate) fn files_directly<R: Files + AllocGlobal>(
+    runtime: &R,
+    alloc: Global,
+    folder: &PathText,
+) -> Result<Items<PathText>, PlaceFault>
+    ensures below { IfOk result (λ paths. AreBelow folder.now paths) }
+    ensures ordered { IfOk result AreOrdered }
+    ensures fault { IfErr result (λ e. e ≢ PlaceFault.OutOfMemory → e ≡ PlaceFault.List) }
+{
+    if !is_folder(runtime, folder)? {
+        return Ok(Items::new(alloc));
+    }
+    let mut files = files_here(runtime, alloc, folder)?;
+    files.sort()?;
+    Ok(Items::from_vec(files))
 }

@@ -182,11 +182,16 @@ kept_both p q m = same_map nat_list_cmp_total exact _ _ (λ x.
     split true b o = refl
     split false b o = refl
 
+-- the keys that pass two tests in turn
+pub names_twice_kept : (p q : List ℕ → Bool) (es : Entries) (names : List (List ℕ)) → names ≡ keys_of (filter (λ e. p e.0) es) → IsStrictlySortedBy (slice_cmp nat_cmp) (keys_of es)
+    → filter q names ≡ keys (retain_keys (from_entries {R = slice_cmp nat_cmp} es) (λ x. p x && q x))
+names_twice_kept p q es names are ordered =
+    ap (filter q) are ∙ filter_keys q (filter (λ e. p e.0) es) ∙ ap keys_of (filter_twice p q es) ∙ keys-filter (λ x. p x && q x) es ordered
+
 -- the keys below a folder, but those that a test leaves out
 pub names_kept : (p q : List ℕ → Bool) (es : Entries) (names : List (List ℕ)) → names ≡ keys_of (filter (λ e. p e.0) es) → IsStrictlySortedBy (slice_cmp nat_cmp) (keys_of es)
     → filter q names ≡ keys (retain_keys (retain_keys (from_entries {R = slice_cmp nat_cmp} es) q) p)
-names_kept p q es names are ordered =
-    ap (filter q) are ∙ filter_keys q (filter (λ e. p e.0) es) ∙ ap keys_of (filter_twice p q es) ∙ keys-filter (λ x. p x && q x) es ordered ∙ ap keys (kept_both p q (from_entries es))
+names_kept p q es names are ordered = names_twice_kept p q es names are ordered ∙ ap keys (kept_both p q (from_entries es))
 
 -- texts that pass a test, of texts that pass one
 pub all_filter : (p q : List ℕ → Bool) (xs : List (List ℕ)) → list_all p xs ≡ true → list_all p (filter q xs) ≡ true

@@ -1,6 +1,6 @@
 //! Files and variables in sorted maps, which contracts see as finite maps.
 
-ghost use Rattle.std.specs.Prelude.{◌≡◌, ℕ, List, Bool, true, not, None, ◌++◌, ◌∷◌, if◌then◌else◌, IfOk, OnOk, OnErr, string_bytes};
+ghost use Rattle.std.specs.Prelude.{◌≡◌, ◌==◌, ◌+◌, ℕ, List, Bool, true, not, length, drop, None, ◌++◌, ◌∷◌, if◌then◌else◌, IfOk, OnOk, OnErr, string_bytes};
 ghost use Rattle.std.specs.List.{list_all, list_any, filter};
 ghost use Rattle.std.specs.Ordering.{nat_cmp};
 ghost use Rattle.std.specs.Cmp.Lexicographic.{slice_cmp};
@@ -12,7 +12,7 @@ ghost use Rattle.std.specs.BTreeMap.Range.{entries_between};
 ghost use Rattle.std.specs.FinMap as map;
 ghost use Rattle.std.specs.Option.{option_copied};
 ghost use Rattle.pb_place.specs.Paths.{is_path, stem, is_below, is_at_or_below};
-ghost use Rattle.pb_place.specs.World.{is_same_path, AgreeBut, PartlyRemovedAt};
+ghost use Rattle.pb_place.specs.World.{is_directly_in, is_same_path, AgreeBut, PartlyRemovedAt};
 ghost use Rattle.pb_place.specs.Copies.{put_one, put_from, half_removed};
 ghost use Rattle.pb_place.specs.Maps.{files_of};
 
@@ -96,6 +96,19 @@ impl FileMap {
     {
         let names = names_below(alloc, &self.inside, folder.as_str())?;
         let names = names_outside(alloc, names, left_out)?;
+        Ok(paths_of(alloc, names)?)
+    }
+
+    /// The paths of the files directly in a folder, in byte order.
+    pub fn list_directly(
+        &self,
+        alloc: Global,
+        folder: &PathText,
+    ) -> Result<Items<PathText>, AllocError>
+        ensures { IfOk result (λ paths. paths ≡ map.keys (map.retain_keys self.now (is_directly_in folder.now))) }
+    {
+        let names = names_below(alloc, &self.inside, folder.as_str())?;
+        let names = names_without_slash(alloc, names, folder)?;
         Ok(paths_of(alloc, names)?)
     }
 
@@ -241,6 +254,42 @@ fn names_outside(
     let mut kept = Vec::new(alloc);
     for name in names {
         if !is_at_or_below(left_out.as_str(), name.as_str()) {
+            kept.push(name)?;
+        }
+    }
+    Ok(kept)
+}
+
+/// What follows a folder and a slash in a path; nothing, where the path is too short.
+fn rest_in<'a>(folder: &str, path: &'a str) -> &'a [u8]
+    ensures { result.now ≡ drop (length (stem folder.now) + 1) path.now }
+{
+    let start = stem(folder).len() + 1;
+    match path.as_bytes().get(start..) {
+        Some(rest) => rest,
+        None => &[],
+    }
+}
+
+/// Whether there is a slash.
+fn has_slash(name: &[u8]) -> bool
+    ensures { result ≡ list_any (λ b. b == 47) name.now }
+{
+    name.iter().any(|byte| *byte == b'/')
+}
+
+/// Those of some texts below a folder that go on with one name.
+fn names_without_slash(
+    alloc: Global,
+    names: Vec<Text>,
+    folder: &PathText,
+) -> Result<Vec<Text>, AllocError>
+    ensures { IfOk result (λ kept. kept.items ≡ filter (λ q. not (list_any (λ b. b == 47) (drop (length (stem folder.now) + 1) q))) names.items) }
+{
+    let mut kept = Vec::new(alloc);
+    for name in names {
+        let rest = rest_in(folder.as_str(), name.as_str());
+        if !has_slash(rest) {
             kept.push(name)?;
         }
     }

@@ -2,7 +2,7 @@
 
 ghost use Rattle.std.specs.Prelude.{◌≡◌, ◌≢◌, ◌⊎◌, ℕ, ◌+◌, ◌≤◌, Bool, true, false, max, length, IfOk, IfErr, OnOk, OnErr, IsTrue, IfSome};
 ghost use Rattle.std.specs.FinMap as map;
-ghost use Rattle.pb_place.specs.World.{World, Answers, written, removed, listed, Torn, PartlyRemoved, ChangesOnlyInSome, Ends};
+ghost use Rattle.pb_place.specs.World.{World, Answers, written, removed, listed, listed_directly, Torn, PartlyRemoved, ChangesOnlyInSome, Ends};
 ghost use Rattle.pb_place.specs.Counts.{Counts, counted, counted_start, counted_spawn, counted_finish};
 ghost use Rattle.pb_place.specs.Children.{child_spawned, is_flying, child_at, most_after, StaysStill, StaysStillBut, LandsAs};
 ghost use Rattle.pb_place.specs.declared.place.PlaceFault.TheVariants as place_fault;
@@ -154,6 +154,20 @@ pub trait Place {
         left_out: &PathText,
     ) -> Result<Items<PathText>, PlaceFault>
         ensures ok { IsTrue tells → IfOk result (λ paths. paths ≡ listed folder.now (removed left_out.now (world self.old))) }
+        ensures same { IsTrue tells → world self.new ≡ world self.old }
+        ensures fault { IfErr result (λ e. e ≢ PlaceFault.OutOfMemory → e ≡ PlaceFault.List) }
+        ensures fails { IfErr result (λ e. e ≢ PlaceFault.OutOfMemory → fails self.old) }
+        ensures counts { counts self.new ≡ counted folder.now result (counts self.old) }
+        ensures most { most self.new ≡ most self.old }
+        ensures still { StaysStill (counts self.old).starts.flying (world self.old) (world self.new) (still self.old) (still self.new) };
+
+    /// The paths of the files directly in a folder, in byte order, without looking into the folders there.
+    fn list_directly(
+        &mut self,
+        alloc: Global,
+        folder: &PathText,
+    ) -> Result<Items<PathText>, PlaceFault>
+        ensures ok { IsTrue tells → IfOk result (λ paths. paths ≡ listed_directly folder.now (world self.old)) }
         ensures same { IsTrue tells → world self.new ≡ world self.old }
         ensures fault { IfErr result (λ e. e ≢ PlaceFault.OutOfMemory → e ≡ PlaceFault.List) }
         ensures fails { IfErr result (λ e. e ≢ PlaceFault.OutOfMemory → fails self.old) }

@@ -2,7 +2,7 @@
 
 ghost use Rattle.std.specs.Prelude.{◌≡◌, ◌≢◌, ◌⊎◌, ◌+◌, ℕ, Bool, true, false, length, IfOk, IfErr, OnOk, OnErr, IsTrue, IfSome};
 ghost use Rattle.std.specs.FinMap as map;
-ghost use Rattle.pb_place.specs.World.{written, removed, listed, Torn, PartlyRemoved, ChangesOnlyInSome};
+ghost use Rattle.pb_place.specs.World.{written, removed, listed, listed_directly, Torn, PartlyRemoved, ChangesOnlyInSome};
 ghost use Rattle.pb_place.specs.Counts.{counted, counted_spawn, counted_finish};
 ghost use Rattle.pb_place.specs.Children.{child_spawned, is_flying, child_at, most_after, StaysStill, StaysStillBut, LandsAs};
 ghost use Rattle.pb_place.specs.Seen.{call_failed, start_failed, seen, seen_end};
@@ -138,6 +138,25 @@ impl<P: Place> Place for Seen<P> {
         ensures seen { (self.new.faulted, self.new.after) ≡ seen (call_failed result) (self.old.faulted, self.old.after) }
     {
         let answer = self.place.list_outside(alloc, folder, left_out);
+        self.note(call_failed(&answer));
+        answer
+    }
+
+    fn list_directly(
+        &mut self,
+        alloc: Global,
+        folder: &PathText,
+    ) -> Result<Items<PathText>, PlaceFault>
+        ensures ok { IsTrue P.tells → IfOk result (λ paths. paths ≡ listed_directly folder.now (P.world self.old.place)) }
+        ensures same { IsTrue P.tells → P.world self.new.place ≡ P.world self.old.place }
+        ensures fault { IfErr result (λ e. e ≢ PlaceFault.OutOfMemory → e ≡ PlaceFault.List) }
+        ensures fails { IfErr result (λ e. e ≢ PlaceFault.OutOfMemory → P.fails self.old.place) }
+        ensures counts { P.counts self.new.place ≡ counted folder.now result (P.counts self.old.place) }
+        ensures most { P.most self.new.place ≡ P.most self.old.place }
+        ensures still { StaysStill (P.counts self.old.place).starts.flying (P.world self.old.place) (P.world self.new.place) (P.still self.old.place) (P.still self.new.place) }
+        ensures seen { (self.new.faulted, self.new.after) ≡ seen (call_failed result) (self.old.faulted, self.old.after) }
+    {
+        let answer = self.place.list_directly(alloc, folder);
         self.note(call_failed(&answer));
         answer
     }

@@ -4,11 +4,11 @@ use Rattle.std.proofs.lemmas.Bool.{cases_Bool}
 use Rattle.std.proofs.Math.Nat.{le-max_left, le-max_right}
 use Rattle.std.proofs.Math.Seq.{drop-append_seam, drop-cons}
 use Rattle.std.specs.FinMap.{get, retain_keys}
-use Rattle.std.specs.List.{fold}
+use Rattle.std.specs.List.{fold, list_any}
 use Rattle.std.specs.Option.{is_some}
 use Rattle.std.specs.Str.{bytes_eq}
-use Rattle.pb_place.specs.Paths.{stem, is_below}
-use Rattle.pb_place.specs.World.{World, Map, listed, is_same_path}
+use Rattle.pb_place.specs.Paths.{stem}
+use Rattle.pb_place.specs.World.{World, Map, is_directly_in, listed_directly, is_same_path}
 use Rattle.pb_place.proofs.MapLemmas.{among_keys, get-kept}
 use Rattle.pb_place.proofs.Worlds.{same_path}
 use Rattle.pb_record.specs.declared.record.Needed.{Needed}
@@ -19,7 +19,7 @@ use Rattle.pb_soundness.specs.Records.{Reading, is_key, ends_as_record, place_of
 use Rattle.pb_soundness.proofs.Becoming.{one, none_some}
 use Rattle.pb_soundness.proofs.Elements.{any_at}
 use Rattle.pb_soundness.proofs.Places.{key_facts, record_plain, ends_so, place_in, its_key, text_at}
-use Rattle.pb_store.specs.Opening.{greatest_named, greatest_if, is_record_name, name_in, greatest_at, greatest_of, next_in}
+use Rattle.pb_store.specs.Opening.{greatest_named, greatest_if, greatest_at, greatest_of, next_in}
 use Rattle.pb_store.proofs.Earned.{contains_none, contains_cases}
 
 -- the greatest is at least each
@@ -80,15 +80,7 @@ module _ (read : Reading) (folder : List ℕ) (w : World) where
         | inr apart ↦ absurd (none_some r (sym (ap (λ b. cond b (Some t) None) apart) ∙ h))
       ]
 
-  -- its place is among the files of the folder
-  place_listed : (key text : List ℕ) → is_key key ≡ true → get w.files (place_of folder key) ≡ Some text → Contains (listed folder w) (place_of folder key)
-  place_listed key text is at =
-      let found : get (retain_keys w.files (is_below folder)) (place_of folder key) ≡ Some text =
-      get-kept w.files (is_below folder) (place_of folder key) ∙ ap (λ b. cond b (get w.files (place_of folder key)) None) (place_in folder key is) ∙ at in
-      let (path, has, same) = any_at (is_same_path (place_of folder key)) (listed folder w) (among_keys (retain_keys w.files (is_below folder)) (place_of folder key) ∙ ap is_some found) in
-      subst (Contains (listed folder w)) (same_path (place_of folder key) path same) has
-
-  name_of_place : (key : List ℕ) → name_in folder (place_of folder key) ≡ key ++ codes ".record"
+  name_of_place : (key : List ℕ) → drop (length (stem folder) + 1) (place_of folder key) ≡ key ++ codes ".record"
   name_of_place key =
       let long : length (stem folder ++ 47 ∷ []) ≡ length (stem folder) + 1 = length-append (stem folder) (47 ∷ []) in
       ap (λ n. drop n (place_of folder key)) (sym long) ∙ ap (drop (length (stem folder ++ 47 ∷ []))) (joined (stem folder) (key ++ codes ".record")) ∙ drop-append_seam (stem folder ++ 47 ∷ []) (key ++ codes ".record")
@@ -97,22 +89,40 @@ module _ (read : Reading) (folder : List ℕ) (w : World) where
       joined [] t = refl
       joined (c ∷ s) t = ap (λ x. c ∷ x) (joined s t)
 
-  is_named : (key : List ℕ) → is_key key ≡ true → is_record_name (name_in folder (place_of folder key)) ≡ true
-  is_named key is = ap is_record_name (name_of_place key) ∙ ap (λ b. not b && ends_as_record (key ++ codes ".record")) (record_plain key (key_facts key is).plain) ∙ ends_so key
+  -- its place is directly in the folder, and ends as the name of a record
+  place_directly_in : (key : List ℕ) → is_key key ≡ true → is_directly_in folder (place_of folder key) ≡ true
+  place_directly_in key is =
+      ap (λ b. b && not (list_any (λ c. c == 47) (drop (length (stem folder) + 1) (place_of folder key)))) (place_in folder key is)
+      ∙ ap (λ name. not (list_any (λ c. c == 47) name)) (name_of_place key) ∙ ap not (record_plain key (key_facts key is).plain)
 
-  named_below : (key : List ℕ) (r : Record) → record_at read folder w.files key ≡ Some r → greatest_named r.needed ≤ greatest_of read folder w.files (listed folder w)
+  place_ends : (key : List ℕ) → ends_as_record (place_of folder key) ≡ true
+  place_ends key = ap ends_as_record (joined (stem folder)) ∙ ends_so (stem folder ++ 47 ∷ key)
+    where
+      joined : (s : List ℕ) → s ++ 47 ∷ key ++ codes ".record" ≡ (s ++ 47 ∷ key) ++ codes ".record"
+      joined [] = refl
+      joined (c ∷ s) = ap (λ x. c ∷ x) (joined s)
+
+  -- so it is among the files that are listed
+  place_listed : (key text : List ℕ) → is_key key ≡ true → get w.files (place_of folder key) ≡ Some text → Contains (listed_directly folder w) (place_of folder key)
+  place_listed key text is at =
+      let found : get (retain_keys w.files (is_directly_in folder)) (place_of folder key) ≡ Some text =
+      get-kept w.files (is_directly_in folder) (place_of folder key) ∙ ap (λ b. cond b (get w.files (place_of folder key)) None) (place_directly_in key is) ∙ at in
+      let (path, has, same) = any_at (is_same_path (place_of folder key)) (listed_directly folder w) (among_keys (retain_keys w.files (is_directly_in folder)) (place_of folder key) ∙ ap is_some found) in
+      subst (Contains (listed_directly folder w)) (same_path (place_of folder key) path same) has
+
+  named_below : (key : List ℕ) (r : Record) → record_at read folder w.files key ≡ Some r → greatest_named r.needed ≤ greatest_of read w.files (listed_directly folder w)
   named_below key r there =
       let is = its_key read folder w.files key r there in
       let (text, at, reads) = text_there w.files key r (get w.files (place_of folder key)) is refl (sym (text_at read folder w.files key (get w.files (place_of folder key)) is refl) ∙ there) in
-      let here : greatest_at read folder w.files (place_of folder key) ≡ greatest_named r.needed =
-      ap (λ b. cond b (greatest_if (read_text read (get w.files (place_of folder key)))) 0) (is_named key is) ∙ ap greatest_if reads in
-      subst (λ n. n ≤ greatest_of read folder w.files (listed folder w)) here
-      (fold_each (greatest_at read folder w.files) 0 (listed folder w) (place_of folder key) (place_listed key text is at))
+      let here : greatest_at read w.files (place_of folder key) ≡ greatest_named r.needed =
+      ap (λ b. cond b (greatest_if (read_text read (get w.files (place_of folder key)))) 0) (place_ends key) ∙ ap greatest_if reads in
+      subst (λ n. n ≤ greatest_of read w.files (listed_directly folder w)) here
+      (fold_each (greatest_at read w.files) 0 (listed_directly folder w) (place_of folder key) (place_listed key text is at))
 
   pub open_ahead : IsAhead (record_at read folder w.files) (next_in read folder w)
   open_ahead key r there =
       let most = named_below key r there in
-      let g = greatest_of read folder w.files (listed folder w) in
+      let g = greatest_of read w.files (listed_directly folder w) in
       record {
         own = λ n is. before_le n g (le_trans n (greatest_named r.needed) g (own_most r.needed n is) most);
         named = λ need n has. before_le n g (le_trans n (greatest_named r.needed) g (named_most r.needed need n has) most);
@@ -121,7 +131,7 @@ module _ (read : Reading) (folder : List ℕ) (w : World) where
 pub opened_ahead : (read : Reading) (folder : List ℕ) (w : World) (next : Option ℕ) → next ≡ next_in read folder w → IsAhead (record_at read folder w.files) next
 opened_ahead read folder w next is = subst (IsAhead (record_at read folder w.files)) (sym is) (open_ahead read folder w)
 
-pub opened_next : (read : Reading) (folder : List ℕ) (old mid : World) (paths : List (List ℕ)) (greatest : ℕ) (next : Option ℕ) → mid ≡ old → paths ≡ listed folder old
-    → greatest ≡ greatest_of read folder mid.files paths → next ≡ after greatest → next ≡ next_in read folder old
+pub opened_next : (read : Reading) (folder : List ℕ) (old mid : World) (paths : List (List ℕ)) (greatest : ℕ) (next : Option ℕ) → mid ≡ old → paths ≡ listed_directly folder old
+    → greatest ≡ greatest_of read mid.files paths → next ≡ after greatest → next ≡ next_in read folder old
 opened_next read folder old mid paths greatest next same are most is =
-    is ∙ ap after (most ∙ ap (λ (w : World). greatest_of read folder w.files paths) same ∙ ap (greatest_of read folder old.files) are)
+    is ∙ ap after (most ∙ ap (λ (w : World). greatest_of read w.files paths) same ∙ ap (greatest_of read old.files) are)

@@ -3,17 +3,17 @@
 ghost use Rattle.std.specs.Prelude.{◌≡◌, max, IsTrue, IfOk};
 ghost use Rattle.std.specs.List.{fold};
 ghost use Rattle.std.specs.FinMap as map;
-ghost use Rattle.pb_place.specs.World.{listed};
+ghost use Rattle.pb_place.specs.World.{listed_directly};
 ghost use Rattle.pb_soundness.specs.Apart.{KeepsStill};
 ghost use Rattle.pb_soundness.specs.Numbers.{IsAhead};
 ghost use Rattle.pb_soundness.specs.Records.{Reading, read_text, record_at};
 ghost use Rattle.pb_store.specs.Causes.{TakesOpen};
-ghost use Rattle.pb_store.specs.Opening.{greatest_named, greatest_if, is_record_name, name_in, greatest_at, greatest_of, next_in};
+ghost use Rattle.pb_store.specs.Opening.{greatest_named, greatest_if, greatest_at, greatest_of, next_in};
 ghost use Rattle.pb_record.specs.Parts.{IsReading};
 
 use crate::dropping::number_after;
 use crate::fault::{OpenFault, opened};
-use crate::keys::{ends_as_record, has_slash};
+use crate::keys::ends_as_record;
 use crate::store::{Store, read_text};
 use pb_data::{Items, Text};
 use pb_place::{PathText, Place};
@@ -62,28 +62,6 @@ fn greatest_if(found: &Option<Record>) -> u64
     }
 }
 
-/// Whether a path inside the folder is the name of a record.
-fn is_record_name(name: &[u8]) -> bool
-    ensures { result ≡ is_record_name name.now }
-{
-    !has_slash(name) && ends_as_record(name)
-}
-
-/// The path of a file inside the folder.
-fn name_in<'a>(folder: &PathText, path: &'a PathText) -> &'a [u8]
-    ensures { result.now ≡ name_in folder.now path.now }
-{
-    let stem = if folder.as_str() == "/" {
-        0
-    } else {
-        folder.as_str().len()
-    };
-    match path.as_str().as_bytes().get(stem + 1..) {
-        Some(name) => name,
-        None => &[],
-    }
-}
-
 /// The greatest number that the record at a path has or names.
 #[tactic(auto, using(crate::proofs::Still::stands_same))]
 fn read_greatest<P: Place>(alloc: Global, place: &mut P, path: PathText) -> Result<u64, OpenFault>
@@ -103,20 +81,15 @@ fn read_greatest<P: Place>(alloc: Global, place: &mut P, path: PathText) -> Resu
     }
 }
 
-/// The greatest number that a path of the folder gives: of a record directly in it, the greatest that it has or names.
-fn greatest_at<P: Place>(
-    alloc: Global,
-    place: &mut P,
-    folder: &PathText,
-    path: PathText,
-) -> Result<u64, OpenFault>
-    ensures ok { (read : Reading) → IsReading read → IsTrue P.tells → IfOk result (λ n. n ≡ greatest_at read folder.now (P.world place.old).files path) }
+/// The greatest number that a file gives: where it has a record's name, the greatest that the record has or names.
+fn greatest_at<P: Place>(alloc: Global, place: &mut P, path: PathText) -> Result<u64, OpenFault>
+    ensures ok { (read : Reading) → IsReading read → IsTrue P.tells → IfOk result (λ n. n ≡ greatest_at read (P.world place.old).files path) }
     ensures same { IsTrue P.tells → P.world place.new ≡ P.world place.old }
     ensures most { P.most place.new ≡ P.most place.old }
     ensures still { IsTrue P.tells → KeepsStill (P.still place.old) (P.still place.new) }
     ensures takes { TakesOpen result (P.counts place.old) (P.counts place.new) }
 {
-    if !is_record_name(name_in(folder, &path)) {
+    if !ends_as_record(path.as_str().as_bytes()) {
         return Ok(0);
     }
     match read_greatest(alloc, place, path) {
@@ -125,14 +98,13 @@ fn greatest_at<P: Place>(
     }
 }
 
-/// The greatest number that the records among these paths have or name.
+/// The greatest number that the records among these files have or name.
 fn greatest_of<P: Place>(
     alloc: Global,
     place: &mut P,
-    folder: &PathText,
     paths: Items<PathText>,
 ) -> Result<u64, OpenFault>
-    ensures ok { (read : Reading) → IsReading read → IsTrue P.tells → IfOk result (λ n. n ≡ greatest_of read folder.now (P.world place.old).files paths) }
+    ensures ok { (read : Reading) → IsReading read → IsTrue P.tells → IfOk result (λ n. n ≡ greatest_of read (P.world place.old).files paths) }
     ensures same { IsTrue P.tells → P.world place.new ≡ P.world place.old }
     ensures most { P.most place.new ≡ P.most place.old }
     ensures still { IsTrue P.tells → KeepsStill (P.still place.old) (P.still place.new) }
@@ -140,7 +112,7 @@ fn greatest_of<P: Place>(
 {
     let mut greatest = 0;
     for path in paths.into_vec() {
-        let number = match greatest_at(alloc, place, folder, path) {
+        let number = match greatest_at(alloc, place, path) {
             Ok(number) => number,
             Err(fault) => return Err(fault),
         };
@@ -170,11 +142,11 @@ impl Store {
         ensures still { IsTrue P.tells → KeepsStill (P.still place.old) (P.still place.new) }
         ensures takes { TakesOpen result (P.counts place.old) (P.counts place.new) }
     {
-        let paths = match place.list(alloc, &folder) {
+        let paths = match place.list_directly(alloc, &folder) {
             Ok(paths) => paths,
             Err(fault) => return Err(opened(folder, fault)),
         };
-        match greatest_of(alloc, place, &folder, paths) {
+        match greatest_of(alloc, place, paths) {
             Ok(greatest) => Ok(Store {
                 folder,
                 next: number_after(greatest),

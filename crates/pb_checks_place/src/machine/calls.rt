@@ -58,6 +58,14 @@ fn list_outside<P: Place>(
     }
 }
 
+/// The names that are listed directly, or the fault.
+fn list_directly<P: Place>(alloc: Global, place: &mut P, folder: &PathText) -> Result<Text, Fail> {
+    match place.list_directly(alloc, folder) {
+        Ok(paths) => names(alloc, folder, &paths),
+        Err(fault) => fault_text(alloc, fault),
+    }
+}
+
 /// `done`, or the fault.
 fn done(alloc: Global, answer: Result<(), PlaceFault>) -> Result<Text, Fail> {
     match answer {
@@ -84,6 +92,7 @@ fn call<P: Place>(
         "read" => read(alloc, place, path),
         "list" => list(alloc, place, path),
         "outside" => list_outside(alloc, place, path, text),
+        "directly" => list_directly(alloc, place, path),
         "write" => done(alloc, place.write(alloc, path, text.as_bytes())),
         "remove" => done(alloc, place.remove_tree(alloc, path)),
         "counts" => counts(alloc, place),

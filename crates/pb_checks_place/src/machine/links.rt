@@ -80,3 +80,24 @@ const LEFT_OUT: &[Step] = &[
 fn a_folder_that_is_left_out(rt: HostRuntime) -> Result<(), Fail> {
     try_steps(&rt, "left-out", LEFT_OUT)
 }
+
+const DIRECTLY: &[Step] = &[
+    ("write", "b", "x", "done"),
+    ("write", "a", "x", "done"),
+    ("write", "deep/f", "x", "done"),
+    ("link", "deep/here", ".", "done"),
+    ("link", "again", ".", "done"),
+    ("link", "named", "deep/f", "done"),
+    ("link", "nowhere", "nothing", "done"),
+    ("list", "", "", "List"),
+    ("directly", "", "", "/a /b /named "),
+    ("directly", "deep", "", "/f "),
+    ("directly", "a", "", ""),
+    ("directly", "none", "", ""),
+    ("counts", "", "", "1 4"),
+];
+
+#[test]
+fn files_directly_in_a_folder(rt: HostRuntime) -> Result<(), Fail> {
+    try_steps(&rt, "directly", DIRECTLY)
+}

@@ -3,7 +3,7 @@
 
 ghost use Rattle.std.specs.Prelude.{◌≡◌, ◌≢◌, ◌⊎◌, ◌+◌, ◌-◌, ◌++◌, ◌∷◌, [], length, true, false, IfOk, IfErr, OnOk, OnErr, IfSome, Some, None, Err};
 ghost use Rattle.std.specs.FinMap as map;
-ghost use Rattle.pb_place.specs.World.{removed, listed, seen_by, Torn, PartlyRemoved, ChangesOnlyInSome};
+ghost use Rattle.pb_place.specs.World.{removed, listed, listed_directly, seen_by, Torn, PartlyRemoved, ChangesOnlyInSome};
 ghost use Rattle.pb_place.specs.Counts.{past_call, counted, counted_start, counted_spawn, counted_finish};
 ghost use Rattle.pb_place.specs.Children.{child_spawned, is_flying, child_at, most_after, LandsAs};
 ghost use Rattle.pb_place.specs.Copies.{put_half};
@@ -143,6 +143,25 @@ impl<C: Child> Place for Memory<C> {
         }
         self.pass();
         let paths = self.files.list_outside(alloc, folder, left_out)?;
+        Ok(paths)
+    }
+
+    fn list_directly(
+        &mut self,
+        alloc: Global,
+        folder: &PathText,
+    ) -> Result<Items<PathText>, PlaceFault>
+        ensures ok { IfOk result (λ paths. paths ≡ listed_directly folder.now self.old.world) }
+        ensures burns { self.old.fuse ≡ 1 → IfOk result (λ _. ⊥) }
+        ensures fault { IfErr result (λ e. e ≢ PlaceFault.OutOfMemory → e ≡ PlaceFault.List) }
+        ensures fails { IfErr result (λ e. e ≢ PlaceFault.OutOfMemory → self.old.fuse ≡ 1) }
+        ensures state { self.new ≡ record self.old { tally = counted folder.now result self.old.tally; fuse = fuse_after result self.old.fuse } }
+    {
+        if self.fuse == 1 {
+            return self.fail(alloc, folder.as_str(), PlaceFault::List);
+        }
+        self.pass();
+        let paths = self.files.list_directly(alloc, folder)?;
         Ok(paths)
     }
 

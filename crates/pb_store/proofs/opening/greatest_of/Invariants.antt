@@ -12,7 +12,7 @@ invariant-loop-path g l = record {
   same : IsTrue g.P.Place.tells → g.P.Place.world l.place ≡ g.P.Place.world l.fn.place;
   most : g.P.Place.most l.place ≡ g.P.Place.most l.fn.place;
   still : IsTrue g.P.Place.tells → KeepsStill (g.P.Place.still l.fn.place) (g.P.Place.still l.place);
-  found : (read : Reading) → IsReading read → IsTrue g.P.Place.tells → fold (λ m path. max m (greatest_at read l.folder (g.P.Place.world l.fn.place).files path)) l.greatest (into_iter_items l.path-iterator) ≡ greatest_of read l.folder (g.P.Place.world l.fn.place).files l.fn.paths;
+  found : (read : Reading) → IsReading read → IsTrue g.P.Place.tells → fold (λ m path. max m (greatest_at read (g.P.Place.world l.fn.place).files path)) l.greatest (into_iter_items l.path-iterator) ≡ greatest_of read (g.P.Place.world l.fn.place).files l.fn.paths;
   starts : (g.P.Place.counts l.place).starts ≡ (g.P.Place.counts l.fn.place).starts;
   failures : (g.P.Place.counts l.place).failures ≡ (g.P.Place.counts l.fn.place).failures;
 }
