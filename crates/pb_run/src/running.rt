@@ -1,6 +1,6 @@
 //! Single calls of the place, with the faults that a build tells of them.
 
-ghost use Rattle.std.specs.Prelude.{◌≡◌, ◌+◌, max, length, IsTrue, IfOk, OnOk, Some};
+ghost use Rattle.std.specs.Prelude.{◌≡◌, ◌⊎◌, ◌+◌, max, length, IsTrue, IfOk, OnErr, OnOk, Some};
 ghost use Rattle.pb_place.specs.Paths.{is_at_or_below};
 ghost use Rattle.pb_place.specs.World.{Ends, ChangesOnly, ChangesOnlyInSome, removed};
 ghost use Rattle.pb_place.specs.declared.command.Ended.{Ended};
@@ -25,6 +25,7 @@ pub fn start<P: Place>(
     ensures ok { IsTrue P.tells → IfOk result (λ ended. Ends (P.child command.now) command.now (P.world place.old) ended (P.world place.new)) }
     ensures only { IsTrue P.tells → ChangesOnlyInSome command.now.out (P.world place.old) (P.world place.new) }
     ensures most { OnOk result (P.most place.new ≡ max (P.most place.old) (length (P.counts place.old).starts.flying + 1)) }
+    ensures most_else { OnErr result ((P.most place.new ≡ P.most place.old) ⊎ (P.most place.new ≡ max (P.most place.old) (length (P.counts place.old).starts.flying + 1))) }
     ensures takes { Takes OneStart (MayStart name.now) result (P.counts place.old) (P.counts place.new) }
 {
     let unit = match Text::from_str(alloc, name) {
