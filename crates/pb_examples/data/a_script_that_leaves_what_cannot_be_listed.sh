@@ -1,5 +1,5 @@
-# A build script leaves a link to its own folder, and a name that is no text. Neither the members' pattern nor what looks
-# for binaries sees the target folder, but the records in it cannot be looked for; without it all is as ever.
+# A build script leaves a link to its own folder, and a name that is no text. Nothing looks there: neither the members'
+# pattern, nor what looks for binaries, nor what looks for records. When the script has changed, its folder is emptied.
 file Cargo.toml '[workspace]' 'members = ["m*"]' 'resolver = "2"'
 package m m
 file m/src/lib.rs
@@ -8,5 +8,5 @@ program compiles.sh '#!/bin/sh' "$RUSTC \"\$@\" || exit" '[ "$2" != build_script
 program own.sh '#!/bin/sh' 'ln -s . "$OUT_DIR/loop" && : > "$OUT_DIR/$(printf "\377")"'
 build_by "$PWD/compiles.sh"
 build_by "$PWD/compiles.sh"
-rm -r target
+file m/build.rs '# changed'
 build_by "$PWD/compiles.sh"
