@@ -308,7 +308,7 @@ pub(crate) fn files_directly<R: Files + AllocGlobal>(
     if !is_folder(runtime, folder)? {
         return Ok(Items::new(alloc));
     }
-    let mut files = files_here(runtime, alloc, folder)?;
-    files.sort()?;
-    Ok(Items::from_vec(files))
+    let mut here = files_here(runtime, alloc, folder)?;
+    here.sort()?;
+    Ok(Items::from_vec(here))
 }
