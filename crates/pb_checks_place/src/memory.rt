@@ -269,7 +269,7 @@ fn lists_outside(rt: HostRuntime) -> Result<(), Fail> {
 #[test]
 fn lists_directly(rt: HostRuntime) -> Result<(), Fail> {
     let lines = "list_directly|/w/target||/w/target/dep /w/target/hidden \n\
-        list_directly|/w||/w/a /w/ab \n\
+        list_directly|/w||/w/a /w/ab /w/target \n\
         list_directly|/||\n\
         list_directly|/w/a||/w/a/b \n\
         list_directly|/w/a/b||\n\
