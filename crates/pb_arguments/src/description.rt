@@ -169,13 +169,27 @@ fn with_places<'a>(alloc: Global, command: Command<'a>) -> Result<Command<'a>, A
     Ok(command)
 }
 
+/// What stands below the options of a build: the variables that count, the statuses, and an example.
+const BELOW_THE_OPTIONS: &str = "Variables:
+  RUSTC             The compiler (default rustc)
+  RUSTFLAGS         Words for each of its calls, with spaces between them
+  CARGO_TARGET_DIR  The folder for all that is made, where no option names one
+
+Status:
+  0    All units are good
+  101  The build failed or was refused: a line on standard error says why
+  1    The command line is bad
+
+Example:
+  pb_tool build -p almanac --release --jobs 4 --explain";
+
 /// `pb_tool build`.
 fn build_command<'a>(alloc: Global) -> Result<Command<'a>, AllocError>
     ensures { IfOk result (λ command. (formats : ValueParser) × IsJson formats × (app_of command ≡ build formats)) }
 {
-    let command = Command::new(alloc, "build").about(
-        "Builds a workspace of path packages and prints message lines in JSON",
-    );
+    let command = Command::new(alloc, "build")
+        .about("Builds a workspace of path packages and prints message lines in JSON")
+        .after_help(BELOW_THE_OPTIONS);
     let command = with_selection(alloc, command)?;
     let command = with_features(alloc, command)?;
     let command = with_jobs(alloc, command)?;

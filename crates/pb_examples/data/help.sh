@@ -2,6 +2,7 @@
 pb_tool build --help > help
 echo "status $?"
 grep -c -e '--manifest-path' help
+sed -n '/^Variables/,$p' help
 pb_tool --help > help
 echo "status $?"
 grep -c Usage help
