@@ -1,0 +1,106 @@
+#!/usr/bin/env python3
+"""What a reader of a promise has to believe: `believed.py [NAME] [--but NAME=NAME,NAME ..]` counts the definitions of
+`specs/` on which one stands (`Headline` of pb_build where none is named), with all that they stand on in turn, and their
+lines without comments, imports and empty lines, by crate. `--but command_of=CompilesSay,..` counts, in place of what one
+definition stands on, the statements of the laws that say it in other words; a reader who believes the laws reads these.
+Names are CRATE.File.name, or a last part that is there once. What std, the toolchain's crates and the types of the code
+say is left out."""
+import glob, os, re, sys
+
+top = os.path.dirname(os.path.dirname(os.path.abspath(__file__)))
+HEAD = re.compile(r"^(?:abbrev |unfoldable |opaque )*(?:pub )?(?:(record|data|ruleset) )?(\S+)(?: |$)")
+WORD = re.compile(r"[^\s(){}\[\],;.:=→λ≡×∷]+")
+
+
+def read(path):
+    """The imports of a file, and of each definition its lines."""
+    crate, module = path.split("/crates/")[1].split("/")[0], os.path.basename(path)[:-5]
+    names, modules, found, last = {}, {}, {}, None
+    for line in open(path, encoding="utf-8"):
+        line = line.rstrip("\n")
+        it = re.match(r"use Rattle\.(\w+)\.specs\.([\w.]+?)(?:\.\{(.*)\}| as (\w+))$", line)
+        if it:
+            whole = f"{it[1]}.{it[2]}"
+            if it[4]:
+                modules[it[4]] = whole
+            for part in (it[3] or "").split(","):
+                part = part.strip().split(" as ")
+                if part[0]:
+                    names[part[-1]] = f"{whole}.{part[0]}"
+            continue
+        if not line.strip():
+            last = None
+        elif line.startswith(("--", "use ", "pub mod", "mod ")):
+            continue
+        elif line[0] != " ":
+            head = HEAD.match(line)
+            name = head[2]
+            if last is None or (name != last and (head[1] or line.startswith(("abbrev", "unfoldable", "pub", "opaque")))):
+                last = name
+                found.setdefault(f"{crate}.{module}.{name}", [])
+            found[f"{crate}.{module}.{last}"].append(line)
+        elif last:
+            found[f"{crate}.{module}.{last}"].append(line)
+    return crate, module, names, modules, found
+
+
+lines, uses = {}, {}
+files = [read(path) for path in sorted(glob.glob(f"{top}/crates/*/specs/*.antt"))]
+for _, _, _, _, found in files:
+    lines.update(found)
+for crate, module, names, modules, found in files:
+    for name, body in found.items():
+        uses[name] = set()
+        text = "\n".join(body)
+        for it in re.finditer(r"(\w+)\.(\w+)", text):
+            if it[1] in modules:
+                uses[name].add(f"{modules[it[1]]}.{it[2]}")
+        for word in set(WORD.findall(text)):
+            for whole in (names.get(word), f"{crate}.{module}.{word}"):
+                if whole in lines and whole != name:
+                    uses[name].add(whole)
+        uses[name] &= set(lines)
+
+
+def named(text):
+    if text in lines:
+        return text
+    found = [it for it in lines if it.endswith("." + text)]
+    if len(found) != 1:
+        sys.exit(f"{text}: {'there is none' if not found else 'which of ' + ', '.join(found)}")
+    return found[0]
+
+
+def below(starts, instead):
+    """All on which some definitions stand, themselves among them."""
+    seen, todo = set(), list(starts)
+    while todo:
+        it = todo.pop()
+        if it in seen:
+            continue
+        seen.add(it)
+        todo += instead.get(it, uses[it])
+    return seen
+
+
+def count(seen, title):
+    by = {}
+    for it in seen:
+        n, k = by.get(it.split(".")[0], (0, 0))
+        by[it.split(".")[0]] = (n + 1, k + len(lines[it]))
+    print(f"{title}: {len(seen)} definitions, {sum(k for _, k in by.values())} lines")
+    print("  " + ", ".join(f"{crate} {k}" for crate, (_, k) in sorted(by.items(), key=lambda it: -it[1][1])))
+
+
+words = [it for it in sys.argv[1:] if not it.startswith("--")]
+instead = {}
+for it in sys.argv[1:]:
+    if it.startswith("--but="):
+        old, _, new = it[6:].partition("=")
+        instead[named(old)] = {named(part) for part in new.split(",") if part}
+starts = [named(it) for it in words] or [named("pb_build.Headline.Headline")]
+count(below(starts, {}), "with all definitions")
+if instead:
+    laws = set().union(*instead.values())
+    stops = {old: set() for old in instead}
+    count(below(starts + list(laws), stops), "with the laws in their place")
