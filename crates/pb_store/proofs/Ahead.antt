@@ -96,9 +96,11 @@ module _ (read : Reading) (folder : List ℕ) (w : World) where
       ∙ ap (λ name. not (list_any (λ c. c == 47) name)) (name_of_place key) ∙ ap not (record_plain key (key_facts key is).plain)
 
   place_ends : (key : List ℕ) → ends_as_record (place_of folder key) ≡ true
-  place_ends key = ap ends_as_record (joined (stem folder)) ∙ ends_so (stem folder ++ 47 ∷ key)
+  place_ends key =
+      let same : place_of folder key ≡ (stem folder ++ 47 ∷ key) ++ codes ".record" = joined (stem folder) in
+      ap ends_as_record same ∙ ends_so (stem folder ++ 47 ∷ key)
     where
-      joined : (s : List ℕ) → s ++ 47 ∷ key ++ codes ".record" ≡ (s ++ 47 ∷ key) ++ codes ".record"
+      joined : (s : List ℕ) → s ++ 47 ∷ (key ++ codes ".record") ≡ (s ++ 47 ∷ key) ++ codes ".record"
       joined [] = refl
       joined (c ∷ s) = ap (λ x. c ∷ x) (joined s)
 
