@@ -1,0 +1,4 @@
+pub mod Reading
+pub mod Compiles
+pub mod Libraries
+pub mod Variables

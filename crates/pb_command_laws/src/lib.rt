@@ -1,0 +1,23 @@
+//! Laws of commands in words of their own: what the words of a compile say, and what each variable is (The Cargo Book,
+//! cargo build, Build Scripts, Environment Variables).
+#![tactic(auto)]
+
+ghost use Rattle.pb_command_laws.specs.Compiles.{CompilesSay};
+ghost use Rattle.pb_command_laws.specs.Variables.{CompilesHave, RunsHave};
+
+/// A law: the words of a compile, read back by the compiler's own option grammar, say its crate, settings, conditions,
+/// folders and libraries, and then what the user's flags say.
+pub fn compiles_say()
+    ensures { CompilesSay }
+{}
+
+/// A law: the variables of a compile are these, each with this value unless the run of its own package has set it, and
+/// no others but what that run has set.
+pub fn compiles_have()
+    ensures { CompilesHave }
+{}
+
+/// A law: the variables of a run are these, each with this value, and no others.
+pub fn runs_have()
+    ensures { RunsHave }
+{}
