@@ -6,3 +6,4 @@ pub mod Compile
 pub mod Lasting
 pub mod Having
 pub mod Running
+pub mod Starting

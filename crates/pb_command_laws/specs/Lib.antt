@@ -2,3 +2,4 @@ pub mod Reading
 pub mod Compiles
 pub mod Libraries
 pub mod Variables
+pub mod Starts

@@ -3,6 +3,7 @@
 #![tactic(auto)]
 
 ghost use Rattle.pb_command_laws.specs.Compiles.{CompilesSay};
+ghost use Rattle.pb_command_laws.specs.Starts.{CompilesStart, RunsStart};
 ghost use Rattle.pb_command_laws.specs.Variables.{CompilesHave, RunsHave};
 
 /// A law: the words of a compile, read back by the compiler's own option grammar, say its crate, settings, conditions,
@@ -20,4 +21,12 @@ pub fn compiles_have()
 /// A law: the variables of a run are these, each with this value, and no others.
 pub fn runs_have()
     ensures { RunsHave }
+{}
+
+/// A law: a compile starts the compiler in the workspace's root, a run its script in its package's folder, behind the
+/// runner where there is one. Each writes into its unit's folder, and of the target folder it may read what its unit
+/// reaches.
+pub fn commands_start()
+    ensures compiles { CompilesStart }
+    ensures runs { RunsStart }
 {}
