@@ -7,3 +7,5 @@ pub mod Lasting
 pub mod Having
 pub mod Running
 pub mod Starting
+pub mod Wanting
+pub mod Wanted

@@ -1,18 +1,17 @@
 -- What a command starts.
-use Rattle.std.proofs.Common.{◌≡◌, ℕ, true, false, List, [], ◌∷◌, ◌++◌, map, Option, Some, None, refl, sym, ◌∙◌, ap, subst}
+use Rattle.std.proofs.Common.{◌≡◌, ℕ, true, false, List, [], ◌∷◌, ◌++◌, map, Option, Some, None, refl, sym, ap, subst}
 use Rattle.std.specs.List.{flat_map, filter_map, cons_option}
 use Rattle.pb_directive.specs.declared.directive.Directive.{Directive}
 use Rattle.pb_package.specs.declared.package.Package.{Package}
-use Rattle.pb_place.specs.declared.command.Command.{Command}
 use Rattle.pb_unit.specs.declared.plan.Planned.{Planned}
 use Rattle.pb_unit.specs.declared.unit.What.{What}
 use Rattle.pb_unit.specs.declared.unit.What.TheVariants.{Lib, Bin, Script, Run}
-use Rattle.pb_project.specs.Targets.{package_of, unit_at, is_run, script_source, script_file}
+use Rattle.pb_project.specs.Targets.{unit_at, is_run, script_source, script_file}
 use Rattle.pb_project.specs.declared.project.Project.{Project}
 use Rattle.pb_project.specs.declared.project.Setup.{Setup}
-use Rattle.pb_command.specs.Command.{run_program, run_words, compile_of, run_of, command_by, command_for, command_of}
-use Rattle.pb_command.specs.Externs.{folder_in, read_at, reads_of}
-use Rattle.pb_command_laws.specs.Starts.{IsOfUnit, StartsCompiler, StartsScript, CompilesStart, RunsStart}
+use Rattle.pb_command.specs.Command.{run_program, run_words, compile_of, run_of, command_by, command_for}
+use Rattle.pb_command.specs.Externs.{folder_in, read_at}
+use Rattle.pb_command_laws.specs.Starts.{StartsCompiler, StartsScript, CompilesStart, RunsStart}
 
 abbrev Lines : Type 0
 Lines = List (Option (List Directive))

@@ -3,3 +3,4 @@ pub mod Compiles
 pub mod Libraries
 pub mod Variables
 pub mod Starts
+pub mod Planned

@@ -3,6 +3,7 @@
 #![tactic(auto)]
 
 ghost use Rattle.pb_command_laws.specs.Compiles.{CompilesSay};
+ghost use Rattle.pb_command_laws.specs.Planned.{LibrariesAreWanted, CompilesHearRuns, RunsStartScripts};
 ghost use Rattle.pb_command_laws.specs.Starts.{CompilesStart, RunsStart};
 ghost use Rattle.pb_command_laws.specs.Variables.{CompilesHave, RunsHave};
 
@@ -29,4 +30,13 @@ pub fn runs_have()
 pub fn commands_start()
     ensures compiles { CompilesStart }
     ensures runs { RunsStart }
+{}
+
+/// A law: in a plan, the libraries that a compile is given are those of the enabled entries that lead to one, and a
+/// binary's own; the run that a library or a binary hears is that of its package on its side; and the script that a run
+/// starts is its package's on its side.
+pub fn commands_follow_plans()
+    ensures libraries { LibrariesAreWanted }
+    ensures heard { CompilesHearRuns }
+    ensures scripts { RunsStartScripts }
 {}
