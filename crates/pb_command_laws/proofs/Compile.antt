@@ -1,5 +1,5 @@
 -- What the words of a compile say, all together.
-use Rattle.std.proofs.Common.{◌≡◌, ℕ, true, false, codes, List, [], ◌∷◌, ◌++◌, map, Option, Some, refl, sym, ◌∙◌, ap, append_assoc}
+use Rattle.std.proofs.Common.{◌≡◌, ◌&&◌, is_some, cond, ℕ, true, false, codes, List, [], ◌∷◌, ◌++◌, map, Option, Some, refl, sym, ◌∙◌, ap, append_assoc}
 use Rattle.std.proofs.lemmas.List.{append-nil}
 use Rattle.std.specs.List.{flat_map}
 use Rattle.pb_directive.specs.declared.directive.Directive.{Directive}
@@ -19,10 +19,11 @@ use Rattle.pb_command.specs.Command.{crate_part, words_of, command_by, command_f
 use Rattle.pb_command.specs.Externs.{dependency_words, extern_words, externs, in_order, library_words}
 use Rattle.pb_command.specs.Said.{search_words, own_words, said_words}
 use Rattle.pb_command.specs.Words.{crate_words, output_words, settings_words, feature_words}
-use Rattle.pb_command_laws.specs.Compiles.{CompileSays, CompilesSay, settings_table, told, heard, folder_searched, feature_is_on, libraries_at}
+use Rattle.pb_command_laws.specs.Compiles.{CompileSays, CompilesSay, is_binary, settings_table, told, heard, feature_is_on, features_there_are, libraries_at}
 use Rattle.pb_command_laws.specs.Reading.{said_by}
+use Rattle.pb_command_laws.proofs.Asking.{folder_searched, searches_asked, links_asked, conditions_asked, checks_asked}
 use Rattle.pb_command_laws.proofs.Sayings.{Group, all_under, Says, says_one, says_both, values-groups}
-use Rattle.pb_command_laws.proofs.Groups.{crate_groups, crate_says, output_groups, output_says, settings_give, feature_groups, features_say, dependency_in, folders_give, externs_give, searches_give, own_groups, own_says}
+use Rattle.pb_command_laws.proofs.Groups.{crate_groups, crate_says, output_groups, output_says, settings_give, feature_groups, features_say, dependency_in, folders_give, externs_give, searches_give, own_groups, own_says, link_arg, flags_are}
 use Rattle.pb_command_laws.proofs.Named.{libraries_of, libraries_told, are_libraries}
 
 module _ (project : Project) (unit : Planned) (done : List (Option (List Directive))) (p : Package) where
@@ -82,11 +83,11 @@ module _ (project : Project) (unit : Planned) (done : List (Option (List Directi
     crate_types = values-groups (codes "--crate-type") groups ∙ append-nil _;
     folder = values-groups (codes "--out-dir") groups;
     alone = values-groups [] groups;
-    settings = values-groups (codes "-C") groups ∙ ap (λ vs. told (settings_table what unit.settings) ++ vs) (append-nil _);
-    conditions = values-groups (codes "--cfg") groups ∙ ap (λ vs. map feature_is_on (features_at project.features unit.unit.owner unit.unit.side) ++ vs) (append-nil _);
-    expected = values-groups (codes "--check-cfg") groups ∙ append-nil _;
-    searched = values-groups (codes "-L") groups ∙ ap (λ vs. map dependency_in (libraries_at project unit.reaches) ++ vs) (append-nil _);
-    linked = values-groups (codes "-l") groups ∙ append-nil _;
+    settings = values-groups (codes "-C") groups ∙ ap (λ vs. told (settings_table what unit.settings) ++ vs) (append-nil _) ∙ ap (λ vs. told (settings_table what unit.settings) ++ map link_arg vs) (flags_are what (heard project unit done));
+    conditions = values-groups (codes "--cfg") groups ∙ ap (λ vs. map feature_is_on (features_at project.features unit.unit.owner unit.unit.side) ++ vs) (append-nil _ ∙ conditions_asked (heard project unit done));
+    expected = values-groups (codes "--check-cfg") groups ∙ append-nil _ ∙ ap (λ vs. features_there_are p.features ∷ vs) (checks_asked (heard project unit done));
+    searched = values-groups (codes "-L") groups ∙ ap (λ vs. map dependency_in (libraries_at project unit.reaches) ++ vs) (append-nil _ ∙ searches_asked (flat_map (said_at done) unit.reaches));
+    linked = values-groups (codes "-l") groups ∙ append-nil _ ∙ ap (λ vs. cond (is_binary what && is_some p.library) [] vs) (links_asked (heard project unit done));
     libraries = libraries_of project unit p settled there compiles;
     given = values-groups (codes "--extern") groups ∙ append-nil _ ∙ libraries_told project unit p settled there compiles;
     are = are_libraries project unit p settled there compiles;

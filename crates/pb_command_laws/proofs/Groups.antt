@@ -34,7 +34,8 @@ use Rattle.pb_command.specs.Externs.{folder_words, folder_words_in, folder_words
 use Rattle.pb_command.specs.Said.{search_word, link_word, condition_word, check_word, argument_word, binaries_word, binary_word, searched_words, condition_words, argument_words, binary_link_words, own_words}
 use Rattle.pb_command.specs.Words.{option, name_words, edition_word, format_words, crate_words, type_word, type_words, emit_words, out_words, output_words, setting, rpath_words, strip_words, lto_text_words, lto_words, level_words, debug_words, assertion_words, overflow_words, codegen_words, panic_words, common_settings, settings_words, feature_text, feature_word, expected_text, active_words, expected_words, feature_words, quoted, switch, debug_info_text, panic_text}
 use Rattle.pb_mini.specs.CommandLine.{takes_value}
-use Rattle.pb_command_laws.specs.Compiles.{is_binary, hears, only_if, strip_value, lto_value, assigned, settings_table, told, folder_searched, library_linked, condition_set, condition_expected, flag_for_all, flag_for_binaries, flag_for, linker_flags, feature_is_on, features_there_are, libraries_at}
+use Rattle.pb_command_laws.specs.Compiles.{is_binary, hears, only_if, strip_value, lto_value, assigned, settings_table, told, linker_flags, feature_is_on, features_there_are, libraries_at}
+use Rattle.pb_command_laws.proofs.Asking.{folder_searched, library_linked, condition_set, condition_expected, flag_for_all, flag_for_binaries, flag_for, flags_asked, binaries_asked, one_binary_asked}
 use Rattle.pb_command_laws.proofs.Sayings.{Gives, gives_none, gives_one, gives_alone, gives_both, gives_each, gives_same, Says, Group, says_one, says_both, says_nothing}
 
 -- ---- the crate
@@ -256,7 +257,20 @@ flags_give : (word flag : Directive → List (List ℕ)) (said : List Directive)
 flags_give word flag said each =
     gives_same (flat_map word said) (codes "-C") (flat_map (λ d. map link_arg (flag d)) said) (map link_arg (flat_map flag said)) (map_flat flag said) (gives_each (codes "-C") word (λ d. map link_arg (flag d)) said each)
 
-arguments_give : (name : List ℕ) (said : List Directive) → Gives (argument_words name said) (codes "-C") (map link_arg (linker_flags (Bin name) said))
+-- the flags of a binary's linker
+abbrev pub flags_of : What → List Directive → List (List ℕ)
+flags_of Lib said = []
+flags_of (Bin name) said = flat_map flag_for_all said ++ flat_map flag_for_binaries said ++ flat_map (flag_for name) said
+flags_of Script said = []
+flags_of Run said = []
+
+pub flags_are : (what : What) (said : List Directive) → flags_of what said ≡ linker_flags what said
+flags_are Lib said = refl
+flags_are (Bin name) said = λ i. flags_asked said i ++ binaries_asked said i ++ one_binary_asked name said i
+flags_are Script said = refl
+flags_are Run said = refl
+
+arguments_give : (name : List ℕ) (said : List Directive) → Gives (argument_words name said) (codes "-C") (map link_arg (flags_of (Bin name) said))
 arguments_give name said =
     let all = flat_map flag_for_all said in
     let binaries = flat_map flag_for_binaries said in
@@ -283,7 +297,7 @@ linked_by what library said = cond (is_binary what && is_some library) [] (flat_
 
 abbrev pub own_groups : What → Option Library → List Directive → List Group
 own_groups what library said =
-    (codes "-l", linked_by what library said) ∷ (codes "--cfg", flat_map condition_set said) ∷ (codes "--check-cfg", flat_map condition_expected said) ∷ (codes "-C", map link_arg (linker_flags what said)) ∷ []
+    (codes "-l", linked_by what library said) ∷ (codes "--cfg", flat_map condition_set said) ∷ (codes "--check-cfg", flat_map condition_expected said) ∷ (codes "-C", map link_arg (flags_of what said)) ∷ []
 
 conditions_say : (said : List Directive) → Says (condition_words said) ((codes "--cfg", flat_map condition_set said) ∷ (codes "--check-cfg", flat_map condition_expected said) ∷ [])
 conditions_say said =
@@ -306,9 +320,9 @@ own_says Lib library said =
 own_says (Bin name) library said =
     let links = (codes "-l", linked_by (Bin name) library said) ∷ [] in
     let conditions = (codes "--cfg", flat_map condition_set said) ∷ (codes "--check-cfg", flat_map condition_expected said) ∷ [] in
-    says_both (binary_link_words library said ++ condition_words said) (argument_words name said) (links ++ conditions) ((codes "-C", map link_arg (linker_flags (Bin name) said)) ∷ [])
+    says_both (binary_link_words library said ++ condition_words said) (argument_words name said) (links ++ conditions) ((codes "-C", map link_arg (flags_of (Bin name) said)) ∷ [])
     (says_both (binary_link_words library said) (condition_words said) links conditions
     (says_one (binary_link_words library said) (codes "-l") (linked_by (Bin name) library said) (binary_links_give name library said)) (conditions_say said))
-    (says_one (argument_words name said) (codes "-C") (map link_arg (linker_flags (Bin name) said)) (arguments_give name said))
+    (says_one (argument_words name said) (codes "-C") (map link_arg (flags_of (Bin name) said)) (arguments_give name said))
 own_says Script library said = record { reads = λ rest. refl }
 own_says Run library said = record { reads = λ rest. refl }

@@ -1,3 +1,4 @@
+pub mod Asking
 pub mod Sayings
 pub mod Groups
 pub mod Pairs

@@ -2,7 +2,6 @@
 use Rattle.std.specs.Prelude.{◌≡◌, ℕ, Bool, true, false, ◌&&◌, ◌||◌, if◌then◌else◌, is_some, codes, List, [], ◌∷◌, ◌++◌, map, filter, Option, Some, None}
 use Rattle.std.specs.Fmt.{decimal}
 use Rattle.std.specs.List.{flat_map, filter_map, join_by}
-use Rattle.std.specs.Str.{bytes_eq}
 use Rattle.pb_directive.specs.declared.directive.Directive.{Directive}
 use Rattle.pb_directive.specs.declared.directive.Directive.TheVariants.{LinkSearch, LinkLib, Cfg, CheckCfg, LinkArg, LinkArgBins, LinkArgBin}
 use Rattle.pb_manifest.specs.Library.{crate_type_text}
@@ -20,7 +19,7 @@ use Rattle.pb_package.specs.declared.package.Package.{Package}
 use Rattle.pb_place.specs.Paths.{is_path}
 use Rattle.pb_unit.specs.declared.plan.Planned.{Planned}
 use Rattle.pb_unit.specs.declared.unit.What.{What}
-use Rattle.pb_unit.specs.declared.unit.What.TheVariants.{Lib, Bin, Script, Run}
+use Rattle.pb_unit.specs.declared.unit.What.TheVariants.{Bin}
 use Rattle.pb_project.specs.Targets.{package_of, unit_at, crate_name_of, crate_types, source_by, is_library, is_run, said_at, own_said}
 use Rattle.pb_project.specs.declared.project.Project.{Project}
 use Rattle.pb_project.specs.declared.project.Setup.{Setup}
@@ -30,10 +29,8 @@ use Rattle.pb_command_laws.specs.Libraries.{AreLibraries, given_as}
 use Rattle.pb_command_laws.specs.Reading.{said_by, values}
 
 abbrev pub is_binary : What → Bool
-is_binary Lib = false
 is_binary (Bin name) = true
-is_binary Script = false
-is_binary Run = false
+is_binary _ = false
 
 -- Settings.
 
@@ -75,33 +72,20 @@ told table = flat_map (λ (row : List ℕ × Option (List ℕ)). assigned row.0 
 
 -- What the lines of scripts say.
 
-abbrev pub folder_searched : Directive → List (List ℕ)
-folder_searched (LinkSearch folder) = folder ∷ []
-folder_searched _ = []
+-- a line of a script as its key and its value
+abbrev pub as_line : Directive → List ℕ × List ℕ
+as_line (LinkSearch folder) = (codes "rustc-link-search", folder)
+as_line (LinkLib name) = (codes "rustc-link-lib", name)
+as_line (Cfg condition) = (codes "rustc-cfg", condition)
+as_line (CheckCfg condition) = (codes "rustc-check-cfg", condition)
+as_line (LinkArg flag) = (codes "rustc-link-arg", flag)
+as_line (LinkArgBins flag) = (codes "rustc-link-arg-bins", flag)
+as_line (LinkArgBin binary flag) = (codes "rustc-link-arg-bin=" ++ binary, flag)
+as_line _ = ([], [])
 
-abbrev pub library_linked : Directive → List (List ℕ)
-library_linked (LinkLib name) = name ∷ []
-library_linked _ = []
-
-abbrev pub condition_set : Directive → List (List ℕ)
-condition_set (Cfg condition) = condition ∷ []
-condition_set _ = []
-
-abbrev pub condition_expected : Directive → List (List ℕ)
-condition_expected (CheckCfg condition) = condition ∷ []
-condition_expected _ = []
-
-abbrev pub flag_for_all : Directive → List (List ℕ)
-flag_for_all (LinkArg flag) = flag ∷ []
-flag_for_all _ = []
-
-abbrev pub flag_for_binaries : Directive → List (List ℕ)
-flag_for_binaries (LinkArgBins flag) = flag ∷ []
-flag_for_binaries _ = []
-
-abbrev pub flag_for : List ℕ → Directive → List (List ℕ)
-flag_for name (LinkArgBin binary flag) = if bytes_eq binary name then flag ∷ [] else []
-flag_for name _ = []
+-- the values of the lines with a key, in printed order
+abbrev pub asked : List ℕ → List Directive → List (List ℕ)
+asked key said = values key (map as_line said)
 
 -- a unit to which the run of its own package hands on what it has said: a library or a binary
 abbrev pub hears : What → Bool
@@ -113,10 +97,8 @@ heard project unit done = if hears unit.unit.what then own_said project unit don
 
 -- the flags of a binary's linker
 abbrev pub linker_flags : What → List Directive → List (List ℕ)
-linker_flags Lib said = []
-linker_flags (Bin name) said = flat_map flag_for_all said ++ flat_map flag_for_binaries said ++ flat_map (flag_for name) said
-linker_flags Script said = []
-linker_flags Run said = []
+linker_flags (Bin name) said = asked (codes "rustc-link-arg") said ++ asked (codes "rustc-link-arg-bins") said ++ asked (codes "rustc-link-arg-bin=" ++ name) said
+linker_flags _ said = []
 
 -- Features.
 
@@ -144,10 +126,10 @@ pub record CompileSays (project : Project) (unit : Planned) (done : List (Option
   pub folder : values (codes "--out-dir") said ≡ unit.out ∷ []
   pub alone : values [] said ≡ (codes "--edition=" ++ edition_text p.edition) ∷ source_by p unit.unit.what ∷ codes "--error-format=json" ∷ codes "--emit=dep-info,link" ∷ []
   pub settings : values (codes "-C") said ≡ told (settings_table unit.unit.what unit.settings) ++ map (λ flag. codes "link-arg=" ++ flag) (linker_flags unit.unit.what (heard project unit done))
-  pub conditions : values (codes "--cfg") said ≡ map feature_is_on (features_at project.features unit.unit.owner unit.unit.side) ++ flat_map condition_set (heard project unit done)
-  pub expected : values (codes "--check-cfg") said ≡ features_there_are p.features ∷ flat_map condition_expected (heard project unit done)
-  pub searched : values (codes "-L") said ≡ map (λ (library : Planned). codes "dependency=" ++ library.out) (libraries_at project unit.reaches) ++ flat_map folder_searched (flat_map (said_at done) unit.reaches)
-  pub linked : values (codes "-l") said ≡ (if is_binary unit.unit.what && is_some p.library then [] else flat_map library_linked (heard project unit done))
+  pub conditions : values (codes "--cfg") said ≡ map feature_is_on (features_at project.features unit.unit.owner unit.unit.side) ++ asked (codes "rustc-cfg") (heard project unit done)
+  pub expected : values (codes "--check-cfg") said ≡ features_there_are p.features ∷ asked (codes "rustc-check-cfg") (heard project unit done)
+  pub searched : values (codes "-L") said ≡ map (λ (library : Planned). codes "dependency=" ++ library.out) (libraries_at project unit.reaches) ++ asked (codes "rustc-link-search") (flat_map (said_at done) unit.reaches)
+  pub linked : values (codes "-l") said ≡ (if is_binary unit.unit.what && is_some p.library then [] else asked (codes "rustc-link-lib") (heard project unit done))
   pub libraries : List (List ℕ × List ℕ)
   pub given : values (codes "--extern") said ≡ map given_as libraries
   pub are : AreLibraries project unit p libraries

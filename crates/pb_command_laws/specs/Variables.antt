@@ -18,7 +18,7 @@ use Rattle.pb_profile.specs.Line.{Seen, checked_line}
 use Rattle.pb_profile.specs.Words.{opt_level_text}
 use Rattle.pb_unit.specs.declared.plan.Planned.{Planned}
 use Rattle.pb_unit.specs.declared.unit.What.{What}
-use Rattle.pb_unit.specs.declared.unit.What.TheVariants.{Lib, Bin, Script, Run}
+use Rattle.pb_unit.specs.declared.unit.What.TheVariants.{Bin}
 use Rattle.pb_project.specs.Targets.{package_of, unit_at, crate_name_of, is_run, own_run, said_at}
 use Rattle.pb_project.specs.declared.project.Project.{Project}
 use Rattle.pb_project.specs.declared.project.Setup.{Setup}
@@ -75,10 +75,8 @@ package_names =
 -- Of compiles.
 
 abbrev pub binary_name : What → Option (List ℕ)
-binary_name Lib = None
 binary_name (Bin name) = Some name
-binary_name Script = None
-binary_name Run = None
+binary_name _ = None
 
 -- the output folder of the unit at a place
 abbrev pub folder_at : Project → Option ℕ → Option (List ℕ)
