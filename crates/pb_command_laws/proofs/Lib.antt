@@ -1,0 +1,12 @@
+pub mod Asking
+pub mod Sayings
+pub mod Groups
+pub mod Pairs
+pub mod Named
+pub mod Compile
+pub mod Lasting
+pub mod Having
+pub mod Running
+pub mod Starting
+pub mod Wanting
+pub mod Wanted

@@ -1,0 +1,141 @@
+-- What the words of a compile say (The Cargo Book, Build Cache, Profiles, Features, Build Scripts): of each option all its values, in turn.
+use Rattle.std.specs.Prelude.{◌≡◌, ℕ, Bool, true, false, ◌&&◌, ◌||◌, if◌then◌else◌, is_some, codes, List, [], ◌∷◌, ◌++◌, map, filter, Option, Some, None}
+use Rattle.std.specs.Fmt.{decimal}
+use Rattle.std.specs.List.{flat_map, filter_map, join_by}
+use Rattle.pb_directive.specs.declared.directive.Directive.{Directive}
+use Rattle.pb_directive.specs.declared.directive.Directive.TheVariants.{LinkSearch, LinkLib, Cfg, CheckCfg, LinkArg, LinkArgBins, LinkArgBin}
+use Rattle.pb_manifest.specs.Library.{crate_type_text}
+use Rattle.pb_manifest.specs.Package.{edition_text}
+use Rattle.pb_manifest.specs.declared.feature.Feature.{Feature}
+use Rattle.pb_manifest.specs.declared.profile.Lto.{Lto}
+use Rattle.pb_manifest.specs.declared.profile.Lto.TheVariants as lto
+use Rattle.pb_manifest.specs.declared.profile.Strip.{Strip}
+use Rattle.pb_manifest.specs.declared.profile.Strip.TheVariants as strip
+use Rattle.pb_profile.specs.Words.{opt_level_text}
+use Rattle.pb_profile.specs.declared.settings.Settings.{Settings}
+use Rattle.pb_feature.specs.Resolved.{features_at}
+use Rattle.pb_package.specs.Settled.{IsSettled}
+use Rattle.pb_package.specs.declared.package.Package.{Package}
+use Rattle.pb_place.specs.Paths.{is_path}
+use Rattle.pb_unit.specs.declared.plan.Planned.{Planned}
+use Rattle.pb_unit.specs.declared.unit.What.{What}
+use Rattle.pb_unit.specs.declared.unit.What.TheVariants.{Bin}
+use Rattle.pb_project.specs.Targets.{package_of, unit_at, crate_name_of, crate_types, source_by, is_library, is_run, said_at, own_said}
+use Rattle.pb_project.specs.declared.project.Project.{Project}
+use Rattle.pb_project.specs.declared.project.Setup.{Setup}
+use Rattle.pb_command.specs.Command.{command_of}
+use Rattle.pb_command.specs.Words.{switch, debug_info_text, panic_text}
+use Rattle.pb_command_laws.specs.Libraries.{AreLibraries, given_as}
+use Rattle.pb_command_laws.specs.Reading.{said_by, values}
+
+abbrev pub is_binary : What → Bool
+is_binary (Bin name) = true
+is_binary _ = false
+
+-- Settings.
+
+abbrev pub strip_value : Strip → Option (List ℕ)
+strip_value strip.Nothing = None
+strip_value strip.DebugInfo = Some (codes "debuginfo")
+strip_value strip.Symbols = Some (codes "symbols")
+
+abbrev pub lto_value : Lto → Option (List ℕ)
+lto_value lto.ThinLocal = None
+lto_value lto.Fat = Some (codes "fat")
+lto_value lto.Thin = Some (codes "thin")
+lto_value lto.Off = Some (codes "off")
+
+abbrev pub only_if : Bool → Option (List ℕ) → Option (List ℕ)
+only_if on value = if on then value else None
+
+-- each setting with its value; one without a value is not told
+abbrev pub settings_table : What → Settings → List (List ℕ × Option (List ℕ))
+settings_table what s =
+    (codes "opt-level", Some (opt_level_text s.opt_level))
+    ∷ (codes "debuginfo", Some (debug_info_text s.debug))
+    ∷ (codes "debug-assertions", Some (switch s.debug_assertions))
+    ∷ (codes "overflow-checks", Some (switch s.overflow_checks))
+    ∷ (codes "codegen-units", Some (decimal s.codegen_units))
+    ∷ (codes "panic", Some (panic_text s.panic))
+    ∷ (codes "rpath", only_if s.rpath (Some (codes "yes")))
+    ∷ (codes "strip", strip_value s.strip)
+    ∷ (codes "lto", only_if (is_binary what) (lto_value s.lto))
+    ∷ []
+
+-- `KEY=VALUE`
+abbrev pub assigned : List ℕ → Option (List ℕ) → List (List ℕ)
+assigned key None = []
+assigned key (Some value) = (key ++ 61 ∷ value) ∷ []
+
+abbrev pub told : List (List ℕ × Option (List ℕ)) → List (List ℕ)
+told table = flat_map (λ (row : List ℕ × Option (List ℕ)). assigned row.0 row.1) table
+
+-- What the lines of scripts say.
+
+-- a line of a script as its key and its value
+abbrev pub as_line : Directive → List ℕ × List ℕ
+as_line (LinkSearch folder) = (codes "rustc-link-search", folder)
+as_line (LinkLib name) = (codes "rustc-link-lib", name)
+as_line (Cfg condition) = (codes "rustc-cfg", condition)
+as_line (CheckCfg condition) = (codes "rustc-check-cfg", condition)
+as_line (LinkArg flag) = (codes "rustc-link-arg", flag)
+as_line (LinkArgBins flag) = (codes "rustc-link-arg-bins", flag)
+as_line (LinkArgBin binary flag) = (codes "rustc-link-arg-bin=" ++ binary, flag)
+as_line _ = ([], [])
+
+-- the values of the lines with a key, in printed order
+abbrev pub asked : List ℕ → List Directive → List (List ℕ)
+asked key said = values key (map as_line said)
+
+-- a unit to which the run of its own package hands on what it has said: a library or a binary
+abbrev pub hears : What → Bool
+hears what = is_library what || is_binary what
+
+-- what it hears
+abbrev pub heard : Project → Planned → List (Option (List Directive)) → List Directive
+heard project unit done = if hears unit.unit.what then own_said project unit done else []
+
+-- the flags of a binary's linker
+abbrev pub linker_flags : What → List Directive → List (List ℕ)
+linker_flags (Bin name) said = asked (codes "rustc-link-arg") said ++ asked (codes "rustc-link-arg-bins") said ++ asked (codes "rustc-link-arg-bin=" ++ name) said
+linker_flags _ said = []
+
+-- Features.
+
+abbrev pub quoted : List ℕ → List ℕ
+quoted name = codes "\"" ++ name ++ codes "\""
+
+-- `feature="F"`
+abbrev pub feature_is_on : List ℕ → List ℕ
+feature_is_on name = codes "feature=" ++ quoted name
+
+-- `cfg(feature, values("F", "G"))`
+abbrev pub features_there_are : List Feature → List ℕ
+features_there_are features = codes "cfg(feature, values(" ++ join_by (λ (f : Feature). quoted f.name) (codes ", ") features ++ codes "))"
+
+-- Libraries.
+
+-- the units at these places that are libraries
+abbrev pub libraries_at : Project → List ℕ → List Planned
+libraries_at project places = filter (λ (u : Planned). is_library u.unit.what) (filter_map (unit_at project) places)
+
+-- What a compile says: the crate's name and its types; where it is written; edition, source and what the compiler writes and how it tells; the settings, and the flags of a binary's linker; the features that are on, and the conditions that the script sets; the features that there are, and the conditions that the script expects; the folder of each library that the unit reaches, and those that the runs which it reaches have named; what the script links, to a binary only where its package has no library; and the libraries
+pub record CompileSays (project : Project) (unit : Planned) (done : List (Option (List Directive))) (p : Package) (said : List (List ℕ × List ℕ)) : Type 0 where
+  pub crate_name : values (codes "--crate-name") said ≡ crate_name_of project unit ∷ []
+  pub crate_types : values (codes "--crate-type") said ≡ map crate_type_text (crate_types p.library unit.unit.what)
+  pub folder : values (codes "--out-dir") said ≡ unit.out ∷ []
+  pub alone : values [] said ≡ (codes "--edition=" ++ edition_text p.edition) ∷ source_by p unit.unit.what ∷ codes "--error-format=json" ∷ codes "--emit=dep-info,link" ∷ []
+  pub settings : values (codes "-C") said ≡ told (settings_table unit.unit.what unit.settings) ++ map (λ flag. codes "link-arg=" ++ flag) (linker_flags unit.unit.what (heard project unit done))
+  pub conditions : values (codes "--cfg") said ≡ map feature_is_on (features_at project.features unit.unit.owner unit.unit.side) ++ asked (codes "rustc-cfg") (heard project unit done)
+  pub expected : values (codes "--check-cfg") said ≡ features_there_are p.features ∷ asked (codes "rustc-check-cfg") (heard project unit done)
+  pub searched : values (codes "-L") said ≡ map (λ (library : Planned). codes "dependency=" ++ library.out) (libraries_at project unit.reaches) ++ asked (codes "rustc-link-search") (flat_map (said_at done) unit.reaches)
+  pub linked : values (codes "-l") said ≡ (if is_binary unit.unit.what && is_some p.library then [] else asked (codes "rustc-link-lib") (heard project unit done))
+  pub libraries : List (List ℕ × List ℕ)
+  pub given : values (codes "--extern") said ≡ map given_as libraries
+  pub are : AreLibraries project unit p libraries
+
+-- The law: the words of a compile say this, and then what the flags of the user say. The package is one of a workspace that was read, and its source has a normalised absolute path
+abbrev pub CompilesSay : Type 0
+CompilesSay = (setup : Setup) (project : Project) (unit : Planned) (done : List (Option (List Directive))) (p : Package)
+    → IsSettled project.workspace → package_of project unit ≡ Some p → is_run unit.unit.what ≡ false → is_path (source_by p unit.unit.what) ≡ true
+    → (said : List (List ℕ × List ℕ)) × (said_by (command_of setup project unit done).words ≡ said ++ said_by setup.flags) × CompileSays project unit done p said

@@ -1,0 +1,6 @@
+pub mod Reading
+pub mod Compiles
+pub mod Libraries
+pub mod Variables
+pub mod Starts
+pub mod Planned

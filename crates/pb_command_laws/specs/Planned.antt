@@ -1,0 +1,74 @@
+-- Which units of a plan a command speaks of: the libraries that a compile is given, the run that a compile hears, and the script that a run starts (The Cargo Book, Specifying Dependencies, Build Scripts).
+use Rattle.std.specs.Prelude.{◌≡◌, ◌↔◌, ℕ, ◌++◌, true, false, if◌then◌else◌, codes, is_some, List, Some, None, slice_get}
+use Rattle.pb_feature.specs.Resolved.{is_enabled}
+use Rattle.pb_manifest.specs.Letters.{underscored}
+use Rattle.pb_package.specs.declared.options.Selection.{Selection}
+use Rattle.pb_package.specs.declared.package.Entry.{Entry}
+use Rattle.pb_package.specs.declared.package.Library.{Library}
+use Rattle.pb_package.specs.declared.package.Package.{Package}
+use Rattle.pb_package.specs.declared.package.Side.{Side}
+use Rattle.pb_package.specs.declared.package.Side.TheVariants.{Host}
+use Rattle.pb_place.specs.Paths.{below}
+use Rattle.pb_project.specs.Targets.{package_of, unit_at, file_in, is_script, is_run, own_run, script_file}
+use Rattle.pb_project.specs.declared.project.Project.{Project}
+use Rattle.pb_unit.specs.Plan.{IsPlan, profile_folder}
+use Rattle.pb_unit.specs.Units.{unit, key_of, is_build}
+use Rattle.pb_unit.specs.declared.plan.Planned.{Planned}
+use Rattle.pb_unit.specs.declared.unit.Unit.{Unit as OfPlan}
+use Rattle.pb_unit.specs.declared.unit.What.TheVariants.{Lib, Bin, Script, Run}
+use Rattle.pb_command_laws.specs.Compiles.{hears}
+use Rattle.pb_command_laws.specs.Libraries.{IsLibrary}
+
+-- a unit stands in the plan of its project
+pub record StandsInPlan (project : Project) (u : Planned) (p : Package) : Type 0 where
+  pub selection : Selection
+  pub place : ℕ
+  pub planned : IsPlan project.workspace project.features selection project.profile project.plan
+  pub there : slice_get project.plan.planned place ≡ Some u
+  pub owner : package_of project u ≡ Some p
+
+-- the output folder of a unit: `TARGET/PROFILE/KEY`
+abbrev pub folder_of : Project → OfPlan → List ℕ
+folder_of project u = below (profile_folder project.workspace project.profile) (key_of project.workspace u)
+
+-- the crate and the file of the library of the package at a place, on a side
+pub record IsLibraryOf (project : Project) (place : ℕ) (side : Side) (crate file : List ℕ) : Type 0 where
+  pub owner : Package
+  pub library : Library
+  pub package_at : slice_get project.workspace.packages place ≡ Some owner
+  pub made : owner.library ≡ Some library
+  pub crate_is : crate ≡ library.name
+  pub file_is : file_in (folder_of project (unit place side Lib)) (codes "lib" ++ crate ++ codes ".rlib") ≡ Some file
+
+-- the side of the libraries that a unit needs: the host for a script, and else its own
+abbrev pub side_for : Planned → Side
+side_for u = if is_script u.unit.what then Host else u.unit.side
+
+-- each entry that is enabled on the unit's side, of `[build-dependencies]` for a script and else of `[dependencies]`, and leads to a package with a library; and, of a binary, its package's own library
+pub data IsWanted (project : Project) (u : Planned) (p : Package) : List ℕ → List ℕ → Type 0 where
+  by_entry : (n : ℕ) (entry : Entry) (crate file : List ℕ) (there : slice_get p.entries n ≡ Some entry) (enabled : is_enabled project.features u.unit.owner u.unit.side n ≡ true)
+      (kind : is_build entry.kind ≡ is_script u.unit.what) (library : IsLibraryOf project entry.to (side_for u) crate file) → IsWanted project u p (if entry.renamed then underscored entry.key else crate) file
+  own : (binary crate file : List ℕ) (is : u.unit.what ≡ Bin binary) (library : IsLibraryOf project u.unit.owner u.unit.side crate file) → IsWanted project u p crate file
+
+-- These are the libraries that a compile of a plan is given.
+abbrev pub LibrariesAreWanted : Type 0
+LibrariesAreWanted = (project : Project) (u : Planned) (p : Package) → StandsInPlan project u p → is_run u.unit.what ≡ false → (name file : List ℕ) → IsLibrary project u p name file ↔ IsWanted project u p name file
+
+-- a run of the package at a place on a side stands at this place of the plan
+pub record IsRunOf (project : Project) (owner : ℕ) (side : Side) (place : ℕ) : Type 0 where
+  pub run : Planned
+  pub there : unit_at project place ≡ Some run
+  pub is : run.unit ≡ unit owner side Run
+
+-- The run that a library or a binary hears is that of its package on its side, where the package has a script, and else there is none.
+pub record HearsOwnRun (project : Project) (u : Planned) (p : Package) : Type 0 where
+  pub some : is_some p.script ≡ true → (place : ℕ) × (own_run project u ≡ Some place) × IsRunOf project u.unit.owner u.unit.side place
+  pub none : is_some p.script ≡ false → own_run project u ≡ None
+
+abbrev pub CompilesHearRuns : Type 0
+CompilesHearRuns = (project : Project) (u : Planned) (p : Package) → StandsInPlan project u p → hears u.unit.what ≡ true → HearsOwnRun project u p
+
+-- The script that a run starts is that of its package on its side.
+abbrev pub RunsStartScripts : Type 0
+RunsStartScripts = (project : Project) (u : Planned) (p : Package) → StandsInPlan project u p → is_run u.unit.what ≡ true
+    → script_file project u ≡ Some (below (folder_of project (unit u.unit.owner u.unit.side Script)) (codes "build_script_build"))

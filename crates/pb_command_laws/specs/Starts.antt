@@ -1,0 +1,40 @@
+-- What a command starts, where, and what it may read (The Cargo Book, cargo build, Build Scripts).
+use Rattle.std.specs.Prelude.{◌≡◌, ℕ, true, false, List, [], ◌∷◌, ◌++◌, map, Option, Some}
+use Rattle.std.specs.List.{filter_map}
+use Rattle.pb_directive.specs.declared.directive.Directive.{Directive}
+use Rattle.pb_package.specs.declared.package.Package.{Package}
+use Rattle.pb_place.specs.declared.command.Command.{Command}
+use Rattle.pb_unit.specs.declared.plan.Planned.{Planned}
+use Rattle.pb_project.specs.Targets.{package_of, unit_at, is_run, script_file}
+use Rattle.pb_project.specs.declared.project.Project.{Project}
+use Rattle.pb_project.specs.declared.project.Setup.{Setup}
+use Rattle.pb_command.specs.Command.{command_of}
+
+-- a command writes into its unit's folder; of the target folder it may read the folders of all units that its unit reaches, in plan order
+pub record IsOfUnit (setup : Setup) (project : Project) (unit : Planned) (command : Command) : Type 0 where
+  pub out : command.out ≡ Some unit.out
+  pub target : command.target ≡ project.workspace.target
+  pub reads : command.reads ≡ map (λ (u : Planned). u.out) (filter_map (unit_at project) unit.reaches)
+  pub toolchain : command.toolchain ≡ setup.toolchain
+
+-- a compile starts the compiler in the workspace's root
+pub record StartsCompiler (setup : Setup) (project : Project) (unit : Planned) (command : Command) : Type 0 where
+  pub common : IsOfUnit setup project unit command
+  pub program : command.program ≡ setup.rustc
+  pub folder : command.folder ≡ project.workspace.root
+
+-- a run starts the script that its unit needs, behind the words of the runner where there is one, in its package's folder
+pub record StartsScript (setup : Setup) (project : Project) (unit : Planned) (p : Package) (command : Command) : Type 0 where
+  pub common : IsOfUnit setup project unit command
+  pub words : (script : List ℕ) → script_file project unit ≡ Some script → command.program ∷ command.words ≡ setup.runner ++ script ∷ []
+  pub folder : command.folder ≡ p.folder
+
+-- The laws.
+
+abbrev pub CompilesStart : Type 0
+CompilesStart = (setup : Setup) (project : Project) (unit : Planned) (done : List (Option (List Directive))) (p : Package)
+    → package_of project unit ≡ Some p → is_run unit.unit.what ≡ false → StartsCompiler setup project unit (command_of setup project unit done)
+
+abbrev pub RunsStart : Type 0
+RunsStart = (setup : Setup) (project : Project) (unit : Planned) (done : List (Option (List Directive))) (p : Package)
+    → package_of project unit ≡ Some p → is_run unit.unit.what ≡ true → StartsScript setup project unit p (command_of setup project unit done)

@@ -1,0 +1,14 @@
+//! Message lines are JSON objects: for each reason, which members it has (The Cargo Book, External Tools).
+#![tactic(auto)]
+
+ghost use Rattle.pb_message_objects.specs.Objects.{ArtifactsAreObjects, NotesAreObjects, ExecutedAreObjects, EndsAreObjects, DiagnosticsAreCopied};
+
+/// A law: each message line is the text of one object without spaces, with these members in this order, and a line
+/// feed. A compiler's diagnostic is copied byte for byte to where its member `message` stands.
+pub fn lines_are_objects()
+    ensures artifacts { ArtifactsAreObjects }
+    ensures notes { NotesAreObjects }
+    ensures executed { ExecutedAreObjects }
+    ensures ends { EndsAreObjects }
+    ensures diagnostics { DiagnosticsAreCopied }
+{}
