@@ -40,6 +40,7 @@ pub struct Bench {
 }
 
 /// The project of a selection with these features, or none where it has no plan.
+#[tactic(auto, using(pb_build::proofs::InOrder::in_order))]
 fn of_features(
     alloc: Global,
     workspace: Workspace,
