@@ -26,7 +26,7 @@ trap 'umount "$folder/small" 2> /dev/null || true; rm -rf "$folder"' EXIT
 program="${PROGRAM:-$(make_program "$top" "$folder")}"
 compiler="${COMPILER:-$(make_compiler "$top" "$folder")}"
 python3 - "$program" "$compiler" "$folder" "$top" "${TORN:-60}" "${SHARE:-1}" "${ONLY:-}" <<'PYTHON'
-import collections, json, os, random, re, shutil, socket, stat, subprocess, sys
+import collections, json, os, random, re, shutil, signal, socket, stat, subprocess, sys
 
 program, compiler, folder, top, torn, share, only = sys.argv[1:]
 torn, share = int(torn), int(share)
@@ -182,15 +182,18 @@ def judge(now, before, planted):
 
 
 tally = collections.defaultdict(collections.Counter)
-wrong, asked, told = [], 0, [None]
+wrong, asked = [], 0
 
 
-def tell(kind):
-    """Prints what came of the kind before, where another one begins."""
-    if told[-1] not in (None, kind):
-        came = tally[told[-1]]
-        print(f"{told[-1]}: {sum(came.values())}: " + ", ".join(f"{count} {how}" for how, count in came.most_common()), flush=True)
-    told[:] = [kind]
+def tell(*_):
+    """Prints what came of each kind so far, and ends."""
+    for kind, came in tally.items():
+        print(f"{kind}: {sum(came.values())}: " + ", ".join(f"{count} {how}" for how, count in came.most_common()))
+    print(f"{sum(sum(came.values()) for came in tally.values())} folders, {len(wrong)} wrong", flush=True)
+    sys.exit(min(len(wrong), 1))
+
+
+signal.signal(signal.SIGTERM, tell)
 
 
 def lie(kind, name, age, make, undo=None, free=False, as_nobody=False, limit=60, leads_out=False):
@@ -199,7 +202,6 @@ def lie(kind, name, age, make, undo=None, free=False, as_nobody=False, limit=60,
     asked += 1
     if only not in kind or (asked % share and kind != "no lie"):
         return
-    tell(kind)
     begin(age)
     make()
     if as_nobody:
@@ -446,7 +448,6 @@ def on_small_disk(size):
 
 
 if ROOT and only in "a disk that is full":
-    tell("a disk that is full")
     for size in range(4, 180, 4 * share):
         try:
             on_small_disk(size)
@@ -473,7 +474,5 @@ if ROOT and only in "a disk that is full":
         os.remove(f"{work}/target")
         subprocess.run(["umount", f"{folder}/small"], check=True)
 
-tell("the end")
-print(f"{sum(sum(came.values()) for came in tally.values())} folders, {len(wrong)} wrong")
-sys.exit(min(len(wrong), 1))
+tell()
 PYTHON

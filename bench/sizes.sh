@@ -139,7 +139,7 @@ def source():
     built(work, 1, "a source of 64 MiB, from nothing", 1)
     built(work, 1, "the same, nothing changed", 0)
     with open(f"{work}/src/lib.rs", "r+b") as it:
-        it.seek(33554432)
+        it.seek(33554432 + 512)
         it.write(b"y")
     built(work, 1, "the same, a byte changed in its middle", 1)
     built(work, 1, "the same, nothing changed", 0)

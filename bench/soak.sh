@@ -237,7 +237,7 @@ def compared(number, at, state, clock):
     """A build that is killed some times, then ends, and is compared. What is wrong, and the time from nothing."""
     target = target_of(state)
     for _ in range(r.choice([0, 1, 1, 1, 2, 3])):
-        was_at_work = killed(state, r.choice([1, 2, 4]), r.uniform(0, clock * 1.1))
+        was_at_work = killed(state, r.choice([1, 2, 4]), r.uniform(0, clock) * r.choice([0.2, 0.5, 1]))
         tally["kills" if was_at_work else "builds that ended before their kill"] += 1
         if was_at_work:
             for place in (f"{target}/{it}" for it in (os.listdir(target) if os.path.isdir(target) else [])):
