@@ -255,10 +255,12 @@ def dep_infos():
                 return True
             if line.startswith(b"# env-dep:"):
                 name = line[10:].partition(b"=")[0]
-                if not name or b"\0" in line:
+                if not name or b"\0" in name:
                     return True
-            elif line and not line.startswith(b"#") and (b"\0" in line or not re.search(rb":( |$)", line)):
-                return True
+            elif line and not line.startswith(b"#"):
+                rule = re.search(rb":( |$)", line)
+                if not rule or b"\0" in line[rule.end() :]:
+                    return True
         return False
 
     texts = [whole[:end] for end in range(len(whole) + 1)] + [whole[:at] + bytes([r.choice(b":# \\x\0\xff\n")]) + whole[at + 1 :] for at in range(len(whole))]
@@ -283,7 +285,7 @@ def dep_infos():
 
 def streams():
     for size, good in ((4194304, True), (4194305, False)):
-        for name, line in (("nothing is said", "x"), ("a warning", "cargo::warning="), ("one condition", "cargo::rustc-cfg="), ("an old key", "cargo:k="), ("flags", "cargo::rustc-flags=" + "-lx " * 1048570)):
+        for name, line in (("nothing is said", "x"), ("a warning", "cargo::warning="), ("one condition", "cargo::rustc-cfg="), ("an old key", "cargo:k="), ("flags", "cargo::rustc-flags=" + ("-lx " * 1048570).rstrip())):
             line += "x" * (size - 1 - len(line))
             steps = [{"write": ["/w/Cargo.toml", PACKAGE]}, {"write": ["/w/src/lib.rs", ""]}, {"write": ["/w/build.rs", f"print {line}\n"]}, {"build": {}}, {"build": {}}]
             came = session(steps)

@@ -16,7 +16,8 @@
 # of what the build gives: such folders are marked "free" here, and told with what came.
 #
 # PROGRAM=FILE and COMPILER=FILE take a `pb_tool` and a `pb_mini` that are made already; TORN=N tries so many places of a
-# record (60) and as many changed bytes; SHARE=N each Nth folder alone, ONLY=WORD the kinds whose names hold this word. Run as root it also tries builds of the user nobody, and a small disk of its own.
+# record (60) and as many changed bytes; SHARE=N each Nth folder alone, ONLY=WORD the kinds whose names hold this word. Run
+# as root it also tries builds of the user nobody, and a small disk of its own.
 # Prints a line for each kind of lie, and each folder over which something was wrong; the status is 0 only where nothing was wrong.
 set -euo pipefail
 top="$(cd "$(dirname "$0")/.." && pwd)"
@@ -139,8 +140,8 @@ def kept(path):
         return str(it)
 
 
-def wrong_records():
-    """What is wrong with the records after a build that went well."""
+def wrong_records(planted=False):
+    """What is wrong with the records after a build that went well: two may have one number only where it was planted."""
     said, there = [], {unit: kept(f"{DEBUG}/{unit}.record") for unit in UNITS}
     for unit, it in there.items():
         if isinstance(it, str):
@@ -150,7 +151,7 @@ def wrong_records():
         else:
             said += [f"{unit} names {need} {number}" for need, number in it.needs if isinstance(there.get(need), str) or there[need].number != number]
     numbers = [it.number for it in there.values() if not isinstance(it, str)]
-    return said + (["two records have one number"] if len(set(numbers)) < len(numbers) else [])
+    return said + (["two records have one number"] if not planted and len(set(numbers)) < len(numbers) else [])
 
 
 def begin(age):
@@ -164,14 +165,14 @@ def begin(age):
         shutil.copytree(folders[age], f"{work}/target", symlinks=True)
 
 
-def judge(now, before, planted):
+def judge(now, planted=False):
     """What is wrong with a build into a folder that lies, and how it ended in a word."""
     if now.status == 0:
         said = [] if now.lines == wanted.lines else [f"lines: {[line for line in now.lines if line not in wanted.lines][:1]}"]
         if not said and made() != files:
             other = [path for path in made() | files if made().get(path) != files.get(path)]
             said.append(f"files: {other[:2]}")
-        return said + ([] if said else wrong_records()), "right"
+        return said + ([] if said else wrong_records(planted)), "right"
     last = now.said.splitlines()[-1] if now.said else ""
     if now.status == 101 and last.startswith("error: fault "):
         head = now.lines[:-1]
@@ -211,7 +212,7 @@ def lie(kind, name, age, make, undo=None, free=False, as_nobody=False, limit=60,
                     os.lchown(it, 65534, 65534)
     outside = {path: it for path, it in (files_below(work) | files_below(beside)).items() if not path.startswith(f"{work}/target")}
     now = built(as_nobody, limit=limit)
-    said, how = judge(now, age, None)
+    said, how = judge(now, "number" in kind)
     later = {path: it for path, it in (files_below(work) | files_below(beside)).items() if not path.startswith(f"{work}/target")}
     lost = [path for path in outside if outside[path] != later.get(path)]
     strange = [] if leads_out else [path for path in later if path not in outside]
@@ -226,7 +227,7 @@ def lie(kind, name, age, make, undo=None, free=False, as_nobody=False, limit=60,
             undo()
         again = built(as_nobody)
         if not how.startswith("fault") or undo:
-            more, then = judge(again, age, None)
+            more, then = judge(again, "number" in kind)
             if more or then != "right":
                 said.append(f"the build after it: {then} {more}")
     if said:
@@ -455,7 +456,7 @@ if ROOT and only in "a disk that is full":
             print("no small disk can be made here: nothing was tried on a full one")
             break
         now = built()
-        said, how = judge(now, None, None)
+        said, how = judge(now)
         if now.status == 101 and "error: bad " in now.said:  # the small compiler itself could not write
             said, how = [], "bad " + now.said.splitlines()[-1].split()[2:4][-1]
         for path in (f"{DEBUG}/{unit}.record" for unit in UNITS):
@@ -465,7 +466,7 @@ if ROOT and only in "a disk that is full":
         tally["a disk that is full"][how] += 1
         subprocess.run(["mount", "-o", "remount,size=64m", f"{folder}/small"], check=True)
         again = built()
-        more, then = judge(again, None, None)
+        more, then = judge(again)
         if more or then != "right":
             said.append(f"with room again: {then} {more}")
         if said:
