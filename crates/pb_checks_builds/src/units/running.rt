@@ -9,7 +9,7 @@ use crate::units::ready::{Bench, Told};
 use pb_answer::{BuildFault, Summary, result_line};
 use pb_mini::Mini;
 use pb_place::{Memory, Place};
-use pb_project::Project;
+use pb_project::{Project, unit_at};
 use pb_run::{
     Beginning, Begun, Ran, Run, answer_unit, begin_unit, drop_unit, lines_of_unit, run_unit,
 };
@@ -78,11 +78,10 @@ pub fn run(
     requires folder { bench.old.store.folder ≡ records_folder project.now }
     ensures folder { bench.new.store.folder ≡ records_folder project.now }
 {
-    let units = project.plan.planned.as_slice();
-    if index >= units.len() {
-        return String::from_str(alloc, "no unit");
-    }
-    let unit = &units[index];
+    let unit = match unit_at(project, index) {
+        Some(unit) => unit,
+        None => return String::from_str(alloc, "no unit"),
+    };
     let done = bench.told.done.as_slice();
     match run_unit(
         alloc,
@@ -168,11 +167,11 @@ pub fn begin_and_drop(
     requires folder { bench.old.store.folder ≡ records_folder project.now }
     ensures folder { bench.new.store.folder ≡ records_folder project.now }
 {
-    let units = project.plan.planned.as_slice();
-    if index >= units.len() {
-        return String::from_str(alloc, "no unit");
-    }
-    match begin(alloc, place, project, bench, index, &units[index]) {
+    let unit = match unit_at(project, index) {
+        Some(unit) => unit,
+        None => return String::from_str(alloc, "no unit"),
+    };
+    match begin(alloc, place, project, bench, index, unit) {
         Ok(made) => {
             drop_begun(alloc, place, &made.begun);
             tell_difference(alloc, &made.difference)
@@ -243,12 +242,14 @@ pub fn run_both(
     requires folder { bench.old.store.folder ≡ records_folder project.now }
     ensures folder { bench.new.store.folder ≡ records_folder project.now }
 {
-    let units = project.plan.planned.as_slice();
-    if one >= units.len() || other >= units.len() {
-        return String::from_str(alloc, "no unit");
-    }
-    let first = &units[one];
-    let second = &units[other];
+    let first = match unit_at(project, one) {
+        Some(unit) => unit,
+        None => return String::from_str(alloc, "no unit"),
+    };
+    let second = match unit_at(project, other) {
+        Some(unit) => unit,
+        None => return String::from_str(alloc, "no unit"),
+    };
     let made = match begin(alloc, place, project, bench, one, first) {
         Ok(made) => made,
         Err(fault) => return tell_fault(alloc, fault),
