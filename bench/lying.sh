@@ -6,7 +6,7 @@
 #
 # What is looked at, for each folder:
 #   - the build ends in time, with status 0 and the lines and files of a build from nothing (but for `fresh`); or with status
-#     101, a last line `error: fault ..` and the first so many of these lines;
+#     101, a last line `error: fault ..` and the first so many of these lines (`error: bad ..` where a source may not be read);
 #   - what lies outside the target folder is as it was, wherever a link leads;
 #   - after status 0 the record of each unit is whole, by `records.py`, which reads records by their form alone, and names
 #     the numbers that the records of the needed units have; after a fault each record is whole, or is one of no unit, or
@@ -165,7 +165,7 @@ def begin(age):
         shutil.copytree(folders[age], f"{work}/target", symlinks=True)
 
 
-def judge(now, planted=False):
+def judge(now, planted=False, may_be_bad=False):
     """What is wrong with a build into a folder that lies, and how it ended in a word."""
     if now.status == 0:
         said = [] if now.lines == wanted.lines else [f"lines: {[line for line in now.lines if line not in wanted.lines][:1]}"]
@@ -179,6 +179,8 @@ def judge(now, planted=False):
         whole = now.lines[-1:] == ['{"reason":"build-finished","success":false}'] and head == wanted.lines[: len(head)]
         told = re.sub(r"/\S+", "PATH", last.removeprefix("error: "))
         return [] if whole else [f"lines of a fault: {now.lines}"], told
+    if may_be_bad and now.status == 101 and last.startswith("error: bad "):
+        return [], "the compiler's " + last.split()[3]
     return [f"status {now.status}: {now.said[-200:]}"], "wrong"
 
 
@@ -197,7 +199,7 @@ def tell(*_):
 signal.signal(signal.SIGTERM, tell)
 
 
-def lie(kind, name, age, make, undo=None, free=False, as_nobody=False, limit=60, leads_out=False):
+def lie(kind, name, age, make, undo=None, free=False, as_nobody=False, limit=60, leads_out=False, may_be_bad=False):
     """Tries one lie. `make` makes it, `undo` takes away what the next build cannot get over."""
     global asked
     asked += 1
@@ -212,7 +214,7 @@ def lie(kind, name, age, make, undo=None, free=False, as_nobody=False, limit=60,
                     os.lchown(it, 65534, 65534)
     outside = {path: it for path, it in (files_below(work) | files_below(beside)).items() if not path.startswith(f"{work}/target")}
     now = built(as_nobody, limit=limit)
-    said, how = judge(now, "number" in kind)
+    said, how = judge(now, "number" in kind, may_be_bad)
     later = {path: it for path, it in (files_below(work) | files_below(beside)).items() if not path.startswith(f"{work}/target")}
     lost = [path for path in outside if outside[path] != later.get(path)]
     strange = [] if leads_out else [path for path in later if path not in outside]
@@ -223,10 +225,10 @@ def lie(kind, name, age, make, undo=None, free=False, as_nobody=False, limit=60,
         bad = now.said.splitlines()[-1:] and now.said.splitlines()[-1].startswith("error: bad ")
         said = [it for it in said if it.startswith("outside") or (it.startswith("status") and not bad)]
     else:
-        if undo and how.startswith("fault"):
+        if undo and how.startswith(("fault", "the compiler")):
             undo()
         again = built(as_nobody)
-        if not how.startswith("fault") or undo:
+        if not how.startswith(("fault", "the compiler")) or undo:
             more, then = judge(again, "number" in kind)
             if more or then != "right":
                 said.append(f"the build after it: {then} {more}")
@@ -399,7 +401,7 @@ if ROOT:
                 def undo(path=path, was=was):
                     if os.path.lexists(path):
                         os.chmod(path, was["mode"])
-                lie("what may not be read or written", f"{path.removeprefix(work)} {mode:o}", age, make, undo, as_nobody=True)
+                lie("what may not be read or written", f"{path.removeprefix(work)} {mode:o}", age, make, undo, as_nobody=True, may_be_bad=not path.startswith(f"{work}/target"))
 
 # Records.
 
