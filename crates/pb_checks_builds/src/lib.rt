@@ -1,5 +1,5 @@
-//! Tests of what data cannot say: sessions over sinks that fail, and builds over a place whose calls fail. All else of
-//! builds and programs is tested by the examples.
+//! Tests of what data cannot say: sessions over sinks that fail, builds over a place whose calls fail, and runs of units
+//! by themselves. All else of builds and programs is tested by the examples.
 #![tactic(auto)]
 
 #[cfg(test)]
@@ -10,3 +10,5 @@ mod failing;
 mod old;
 #[cfg(test)]
 mod sinks;
+#[cfg(test)]
+mod units;

@@ -1,0 +1,179 @@
+//! What units are run with: the project of files in memory, and the store of its records.
+
+ghost use Rattle.std.specs.Prelude.{◌≡◌, ◌<◌, All, IfOk, IfSome, length};
+ghost use Rattle.pb_package.specs.Settled.{IsSettled};
+ghost use Rattle.pb_run.specs.Standing.{IsInOrder, records_folder};
+
+use pb_checks_files::{no_options, workspace_in};
+use pb_data::{Bytes, Items, Text};
+use pb_directive::Directives;
+use pb_feature::{Features, resolve};
+use pb_mini::Mini;
+use pb_package::{Options, Selection, Workspace};
+use pb_place::{Memory, PathText, RelativePath};
+use pb_profile::folder_of;
+use pb_project::{Project, Setup};
+use pb_store::Store;
+use pb_unit::Plan;
+use pb_workspace::selected;
+use std::alloc::{AllocError, Global};
+use std::test::Fail;
+
+/// What the units of a project have told.
+#[derive(Drop)]
+pub struct Told {
+    /// What the runs among them have said, by place.
+    pub done: Vec<Option<Directives>>,
+    /// The message lines of the one that answered last.
+    pub lines: Text,
+}
+
+/// What the units of a project are run with.
+#[derive(Drop)]
+pub struct Bench {
+    /// How things are compiled.
+    pub setup: Setup,
+    /// The records of the project's folder.
+    pub store: Store,
+    /// What the units have told.
+    pub told: Told,
+}
+
+/// The project of a selection with these features, or none where it has no plan.
+#[tactic(auto, using(pb_build::proofs::InOrder::in_order))]
+fn of_features(
+    alloc: Global,
+    workspace: Workspace,
+    features: Features,
+    selection: &Selection,
+    profile: Text,
+) -> Option<Project>
+    requires settled { IsSettled workspace }
+    requires within { All (λ place. place < length workspace.packages) selection.now.packages }
+    ensures order { IfSome result IsInOrder }
+{
+    let _ = workspace.target.as_str();
+    match Plan::plan(alloc, &workspace, &features, selection, profile.as_str()) {
+        Ok(plan) => Some(Project {
+            workspace,
+            features,
+            plan,
+            profile,
+        }),
+        Err(_) => None,
+    }
+}
+
+/// The project of a selection, or none where its features or its plan are refused.
+fn of_selection(
+    alloc: Global,
+    workspace: Workspace,
+    selection: &Selection,
+    profile: Text,
+) -> Option<Project>
+    requires settled { IsSettled workspace }
+    requires within { All (λ place. place < length workspace.packages) selection.now.packages }
+    ensures order { IfSome result IsInOrder }
+{
+    match resolve(alloc, &workspace, selection) {
+        Ok(features) => of_features(alloc, workspace, features, selection, profile),
+        Err(_) => None,
+    }
+}
+
+/// The project of a workspace, or none where what is asked for is refused.
+fn planned(alloc: Global, workspace: Workspace, options: Options) -> Option<Project>
+    requires { IsSettled workspace }
+    ensures order { IfSome result IsInOrder }
+{
+    match selected(alloc, &workspace, &options) {
+        Ok(selection) => of_selection(alloc, workspace, &selection, options.profile),
+        Err(_) => None,
+    }
+}
+
+/// The project at `/w`, whose target folder is `/w/target`, or none where it is refused.
+pub fn project_in(alloc: Global, place: &mut Memory<Mini>) -> Result<Option<Project>, Fail>
+    ensures order { IfOk result (λ found. IfSome found IsInOrder) }
+{
+    let options = no_options(alloc)?;
+    match workspace_in(alloc, place)? {
+        Ok(workspace) => Ok(planned(alloc, workspace, options)),
+        Err(_) => Ok(None),
+    }
+}
+
+/// The small compiler, as a runner.
+fn runner(alloc: Global) -> Result<Items<Text>, AllocError> {
+    let mut runner = Items::new(alloc);
+    runner.push(Text::from_str(alloc, "mini")?)?;
+    runner.push(Text::from_str(alloc, "--run")?)?;
+    Ok(runner)
+}
+
+/// How things are compiled at first.
+fn setup_of(alloc: Global) -> Result<Setup, AllocError> {
+    let runner = runner(alloc)?;
+    let tool = Text::from_str(alloc, "tool")?;
+    let rustc = Text::from_str(alloc, "rustc")?;
+    let toolchain = Bytes::from_slice(alloc, b"host: h\n")?;
+    Ok(Setup {
+        tool,
+        rustc,
+        flags: Items::new(alloc),
+        runner,
+        toolchain,
+    })
+}
+
+/// Opens the store of a project's records.
+pub fn store_of(alloc: Global, place: &mut Memory<Mini>, project: &Project) -> Result<Store, Fail>
+    requires order { IsInOrder project.now }
+    ensures folder { IfOk result (λ store. store.folder ≡ records_folder project.now) }
+{
+    let name = Text::from_str(alloc, folder_of(project.profile.as_str()))?;
+    match RelativePath::of(name) {
+        Some(name) => {
+            let folder = project.workspace.target.below(alloc, &name)?;
+            let store = Store::open(alloc, place, folder)?;
+            Ok(store)
+        }
+        None => unreachable!(),
+    }
+}
+
+/// What the units of a project have told at first: nothing.
+fn nothing_told(alloc: Global, project: &Project) -> Result<Told, AllocError> {
+    let mut done = Vec::new(alloc);
+    for _ in project.plan.units() {
+        done.push(None)?;
+    }
+    Ok(Told {
+        done,
+        lines: Text::from_str(alloc, "")?,
+    })
+}
+
+/// What the units of a project are run with at first.
+pub fn bench_of(alloc: Global, place: &mut Memory<Mini>, project: &Project) -> Result<Bench, Fail>
+    requires order { IsInOrder project.now }
+    ensures folder { IfOk result (λ bench. bench.store.folder ≡ records_folder project.now) }
+{
+    let setup = setup_of(alloc)?;
+    let told = nothing_told(alloc, project)?;
+    match store_of(alloc, place, project) {
+        Ok(store) => Ok(Bench { setup, store, told }),
+        Err(fault) => Err(fault),
+    }
+}
+
+/// Puts a text as the file at a path.
+pub fn put_file(
+    alloc: Global,
+    place: &mut Memory<Mini>,
+    path: &str,
+    text: &str,
+) -> Result<(), Fail> {
+    let path = PathText::parse(alloc, path)?;
+    Ok(place.put(alloc, &path, text.as_bytes())?)
+}
