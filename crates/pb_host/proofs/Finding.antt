@@ -20,6 +20,9 @@ folder_found above folder waiting old new at inside all is =
 pub none_found : (above : List ℕ) (files : List (List ℕ)) → files ≡ [] → AreBelow above files
 none_found above files is = subst (AreBelow above) (sym is) (All-nil (λ p. is_below above p ≡ true))
 
+pub none_waits : (above : List ℕ) (waiting : List Waiting) → waiting ≡ [] → All (λ (w : Waiting). is_at_or_below above w.folder ≡ true) waiting
+none_waits above waiting is = subst (All (λ (w : Waiting). is_at_or_below above w.folder ≡ true)) (sym is) (All-nil (λ (w : Waiting). is_at_or_below above w.folder ≡ true))
+
 pub none_outside : (left_out : Option (List ℕ)) (files : List (List ℕ)) → files ≡ [] → AreOutside left_out files
 none_outside left_out files is = subst (AreOutside left_out) (sym is) (All-nil (λ p. is_left_out left_out p ≡ false))
 

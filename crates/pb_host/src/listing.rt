@@ -176,6 +176,35 @@ fn files_found<R: Files + AllocGlobal>(
     Err(PlaceFault::List)
 }
 
+/// Whether an error says that an entry's name is not UTF-8.
+fn says_no_text(error: &io::Error) -> bool {
+    error.kind() == io::ErrorKind::InvalidFilename
+}
+
+/// Files the entries of a folder whose names are UTF-8.
+fn take_named<R: Files + AllocGlobal>(
+    runtime: &R,
+    alloc: Global,
+    found: &mut Found,
+    here: &Waiting,
+) -> Result<(), PlaceFault>
+    ensures below { OnOk result ((above : List ℕ) → is_at_or_below above here.now.folder ≡ true → StaysBelow above found.old → StaysBelow above found.new) }
+    ensures fault { IfErr result (λ e. e ≢ PlaceFault.OutOfMemory → e ≡ PlaceFault.List) }
+{
+    let entries = match fs::read_dir(&runtime, here.folder.as_str()) {
+        Ok(entries) => entries,
+        Err(error) => return Err(fault_of(error, PlaceFault::List)),
+    };
+    for entry in entries {
+        match entry {
+            Ok(entry) => take_entry(runtime, alloc, None, found, here, entry.file_name())?,
+            Err(error) if says_no_text(&error) => {}
+            Err(error) => return Err(fault_of(error, PlaceFault::List)),
+        }
+    }
+    Ok(())
+}
+
 /// The files directly in a folder, as they come. What its folders hold is not looked at.
 fn files_here<R: Files + AllocGlobal>(
     runtime: &R,
@@ -193,7 +222,7 @@ fn files_here<R: Files + AllocGlobal>(
         files: Vec::new(alloc),
         waiting: Vec::new(alloc),
     };
-    take_folder(runtime, alloc, None, &mut found, &here)?;
+    take_named(runtime, alloc, &mut found, &here)?;
     Ok(found.files)
 }
 
@@ -265,7 +294,8 @@ pub(crate) fn files_outside<R: Files + AllocGlobal>(
 }
 
 /// The paths of the files directly in a folder, in byte order; none where no folder stands at the path. What the
-/// folders there hold is not looked at, so nothing in them is a failure.
+/// folders there hold is not looked at, so nothing in them is a failure. A name that is not UTF-8 is passed over: it is
+/// none that anything asks for.
 pub(crate) fn files_directly<R: Files + AllocGlobal>(
     runtime: &R,
     alloc: Global,

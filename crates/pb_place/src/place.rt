@@ -1,6 +1,6 @@
 //! The outside world: files, variables and children, each call counted.
 
-ghost use Rattle.std.specs.Prelude.{◌≡◌, ◌≢◌, ◌⊎◌, ℕ, ◌+◌, ◌≤◌, Bool, true, false, max, length, IfOk, IfErr, OnOk, OnErr, IsTrue, IfSome};
+ghost use Rattle.std.specs.Prelude.{◌≡◌, ◌≢◌, ◌⊎◌, ℕ, ◌+◌, Bool, true, false, max, length, IfOk, IfErr, OnOk, OnErr, IsTrue, IfSome};
 ghost use Rattle.std.specs.FinMap as map;
 ghost use Rattle.pb_place.specs.World.{World, Answers, written, removed, listed, listed_directly, Torn, PartlyRemoved, ChangesOnlyInSome, Ends};
 ghost use Rattle.pb_place.specs.Counts.{Counts, counted, counted_start, counted_spawn, counted_finish};
@@ -243,7 +243,7 @@ pub trait Place {
         ensures fails { IfErr result (λ e. e ≢ StartFault.OutOfMemory → fails self.old) }
         ensures counts { counts self.new ≡ counted_start result (counts self.old) }
         ensures most { OnOk result (most self.new ≡ max (most self.old) (length (counts self.old).starts.flying + 1)) }
-        ensures at_most { most self.old ≤ most self.new }
+        ensures most_else { OnErr result ((most self.new ≡ most self.old) ⊎ (most self.new ≡ max (most self.old) (length (counts self.old).starts.flying + 1))) }
     {
         let ticket = self.spawn(alloc, command)?;
         self.finish(alloc, ticket)
