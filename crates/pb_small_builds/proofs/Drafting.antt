@@ -38,7 +38,7 @@ use Rattle.pb_workspace.specs.Frames.{given_to}
 use Rattle.pb_workspace.specs.Keys.{keys_of}
 use Rattle.pb_workspace.specs.Rounds.{draft_if, draft_in_file, manifest_at, parts_at, parts_in, read_found, tables_in}
 use Rattle.pb_workspace.specs.Settling.{discovered, readme_found, wanted_in}
-use Rattle.pb_workspace.specs.Sorted.{placed}
+use Rattle.pb_workspace.specs.Sorted.{with_entry}
 use Rattle.pb_workspace.specs.Sources.{has_own_file, library_of, own_source}
 use Rattle.pb_workspace.specs.Taken.{about_of, own_or_given}
 use Rattle.pb_workspace.specs.Wanted.{each_wanted, wanted_of}
@@ -53,7 +53,7 @@ use Rattle.pb_manifest.specs.Library.{library_name}
 use Rattle.pb_manifest.specs.declared.target.Library.{Library as WrittenLibrary}
 use Rattle.pb_package.specs.declared.package.Library.{Library}
 use Rattle.pb_small_builds.specs.Small.{FilesHavePaths}
-use Rattle.pb_small_builds.proofs.Rising.{placed_rises}
+use Rattle.pb_small_builds.proofs.Rising.{with_entry_rises}
 use Rattle.pb_small_builds.proofs.SourcesFound.{At, IsSourced, binaries_at, library_at, script_at}
 use Rattle.pb_small_builds.proofs.Wanting.{IsLed, all_led}
 
@@ -75,19 +75,19 @@ promised_at sources path m is = by (get sources.files path) is
 -- features and binaries stand in byte order of their names
 made_rise : (written : List Feature) (es : List (List ℕ × List FeatureItem)) (ds : List Dependency) → IsAscending (map (λ e. e.0) es) → IsAscending (map (λ e. e.0) (with_made written es ds))
 made_rise written es [] up = up
-made_rise written es (d ∷ ds) up = made_rise written (if makes_feature written d then placed es d.key (item.Dependency d.key ∷ []) else es) ds (by (makes_feature written d))
+made_rise written es (d ∷ ds) up = made_rise written (if makes_feature written d then with_entry es d.key (item.Dependency d.key ∷ []) else es) ds (by (makes_feature written d))
   where
-    by : (b : Bool) → IsAscending (map (λ e. e.0) (if b then placed es d.key (item.Dependency d.key ∷ []) else es))
-    by true = placed_rises es d.key (item.Dependency d.key ∷ []) up
+    by : (b : Bool) → IsAscending (map (λ e. e.0) (if b then with_entry es d.key (item.Dependency d.key ∷ []) else es))
+    by true = with_entry_rises es d.key (item.Dependency d.key ∷ []) up
     by false = up
 
 written_rise : (es : List (List ℕ × List FeatureItem)) (fs : List Feature) → IsAscending (map (λ e. e.0) es) → IsAscending (map (λ e. e.0) (with_written es fs))
 written_rise es [] up = up
-written_rise es (f ∷ fs) up = written_rise (placed es f.name f.items) fs (placed_rises es f.name f.items up)
+written_rise es (f ∷ fs) up = written_rise (with_entry es f.name f.items) fs (with_entry_rises es f.name f.items up)
 
 binaries_rise : (es : List (List ℕ × Binary)) (bs : List Binary) → IsAscending (map (λ e. e.0) es) → IsAscending (map (λ e. e.0) (with_binaries es bs))
 binaries_rise es [] up = up
-binaries_rise es (b ∷ bs) up = binaries_rise (placed es b.name b) bs (placed_rises es b.name b up)
+binaries_rise es (b ∷ bs) up = binaries_rise (with_entry es b.name b) bs (with_entry_rises es b.name b up)
 
 none_rises : IsAscending []
 unfolding IsStrictlySortedBy

@@ -15,7 +15,7 @@ use Rattle.pb_workspace.proofs.FoldersPut.{opened}
 use Rattle.pb_workspace.proofs.Puttings.{all_given}
 use Rattle.pb_workspace.specs.ByFolder.{folders_of, has}
 use Rattle.pb_workspace.specs.Rounds.{all_read, one_read, round, rounds, with_draft}
-use Rattle.pb_workspace.specs.Sorted.{placed}
+use Rattle.pb_workspace.specs.Sorted.{with_entry}
 use Rattle.pb_workspace.specs.declared.draft.Draft.{Draft}
 use Rattle.pb_workspace.specs.declared.rounds.Reading.{Reading}
 
@@ -30,7 +30,7 @@ turned : (a b : List ℕ) → cmp a b ≡ Greater → Before b a
 turned a b at = nat_list_cmp_total.antisymm b a ∙ ap ordering_reverse at
 
 -- what comes before all of some, and before one more, comes before all of them
-all_before : {V : Type 0} (a : List ℕ) (es : List (List ℕ × V)) (k : List ℕ) (v : V) → AllByRecursion (Before a) (folders_of es) → Before a k → AllByRecursion (Before a) (folders_of (placed es k v))
+all_before : {V : Type 0} (a : List ℕ) (es : List (List ℕ × V)) (k : List ℕ) (v : V) → AllByRecursion (Before a) (folders_of es) → Before a k → AllByRecursion (Before a) (folders_of (with_entry es k v))
 all_before a [] k v all new = (new, tt)
 all_before {V} a (e ∷ es) k v all new = by (cmp k e.0) (all_before a es k v all.1 new)
   where
@@ -39,10 +39,10 @@ all_before {V} a (e ∷ es) k v all new = by (cmp k e.0) (all_before a es k v al
     by Equal rest = all
     by Greater rest = (all.0, rest)
 
-pub placed_rises : {V : Type 0} (es : List (List ℕ × V)) (k : List ℕ) (v : V) → IsAscending (folders_of es) → IsAscending (folders_of (placed es k v))
+pub with_entry_rises : {V : Type 0} (es : List (List ℕ × V)) (k : List ℕ) (v : V) → IsAscending (folders_of es) → IsAscending (folders_of (with_entry es k v))
 unfolding IsStrictlySortedBy
-placed_rises [] k v up = (tt, tt)
-placed_rises {V} (e ∷ es) k v up = by (cmp k e.0) refl (placed_rises es k v up.1)
+with_entry_rises [] k v up = (tt, tt)
+with_entry_rises {V} (e ∷ es) k v up = by (cmp k e.0) refl (with_entry_rises es k v up.1)
   where
     by : (o : Ordering) → cmp k e.0 ≡ o → IsAscending (folders_of (insert_entry cmp es k v)) → IsAscending (folders_of (match_ordering o ((k, v) ∷ e ∷ es) ((e.0, v) ∷ es) (e ∷ insert_entry cmp es k v)))
     by Less at rest = ((at, all_given (Before e.0) (Before k) (λ y later. nat_list_cmp_total.trans k e.0 y at later) (folders_of es) up.0), up)
@@ -59,7 +59,7 @@ module _ (read : List ℕ → Result Draft LoadFault) where
       full false h =
           let o = opened (read folder) (λ d. Ok (with_draft r folder d)) made h in
           let same : with_draft r folder o.0 ≡ made = cc (o.2) in
-          subst (λ (x : Reading). IsAscending (folders_of x.found)) same (placed_rises r.found folder o.0 up)
+          subst (λ (x : Reading). IsAscending (folders_of x.found)) same (with_entry_rises r.found folder o.0 up)
 
       by : (b : Bool) → (if b then Ok r else (if nat_le 256 (length r.found) then Err TooMany else read folder >>= (λ d. Ok (with_draft r folder d)))) ≡ Ok made → IsAscending (folders_of made.found)
       by true h = let same : r ≡ made = cc in subst (λ (x : Reading). IsAscending (folders_of x.found)) same up

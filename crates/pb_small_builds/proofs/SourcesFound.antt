@@ -21,11 +21,11 @@ use Rattle.pb_place.proofs.Within.{or_second}
 use Rattle.pb_workspace.specs.Binaries.{binaries_of, binary_of, binary_source, first_some, flat_source, looked_for, looked_in_bin, main_source, nested_source, with_binaries, written_binary}
 use Rattle.pb_workspace.specs.FoundBinaries.{bin_folder, binary_at, found_at, found_binaries, main_binary, name_inside}
 use Rattle.pb_workspace.specs.Settling.{discovered}
-use Rattle.pb_workspace.specs.Sorted.{placed}
+use Rattle.pb_workspace.specs.Sorted.{with_entry}
 use Rattle.pb_workspace.specs.Sources.{has_own_file, library_of, library_source, own_source, script_of}
 use Rattle.pb_workspace.proofs.BinPaths.{flat_is_relative, nested_is_relative}
 use Rattle.pb_workspace.proofs.Naming.{both_all}
-use Rattle.pb_workspace.proofs.Puttings.{all_map, placed_all}
+use Rattle.pb_workspace.proofs.Puttings.{all_map, with_entry_all}
 use Rattle.pb_small_builds.specs.Small.{FilesHavePaths}
 use Rattle.pb_small_builds.proofs.PathsSaid.{below_is, resolved_is}
 
@@ -138,7 +138,7 @@ module _ (folder : List ℕ) (sources : World) (is : is_path folder ≡ true) (f
 
   with_is : (es : List (List ℕ × Binary)) (bs : List Binary) → AllByRecursion AtEntry es → AllByRecursion IsSourced bs → AllByRecursion AtEntry (with_binaries es bs)
   with_is es [] all more = all
-  with_is es (b ∷ bs) all more = with_is (placed es b.name b) bs (placed_all AtEntry es b.name b all more.0) more.1
+  with_is es (b ∷ bs) all more = with_is (with_entry es b.name b) bs (with_entry_all AtEntry es b.name b all more.0) more.1
 
   pub binaries_at : (name : List ℕ) (b : Bool) (bs : List WrittenBinary) → AllByRecursion IsBinary bs → AllByRecursion IsSourced (binaries_of (discovered folder sources name b) (map (written_binary folder sources name) bs))
   binaries_at name b bs promised =

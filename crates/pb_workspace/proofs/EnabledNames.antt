@@ -12,7 +12,7 @@ use Rattle.pb_manifest.specs.declared.feature.FeatureItem.{FeatureItem}
 use Rattle.pb_manifest.specs.declared.feature.FeatureItem.TheVariants as item
 use Rattle.pb_workspace.specs.Enabling.{named_by, named_in, AreEnabledNames, with_one}
 use Rattle.pb_workspace.specs.Features.{enables, is_enabled_by_name, with_made, with_written}
-use Rattle.pb_workspace.specs.Sorted.{placed}
+use Rattle.pb_workspace.specs.Sorted.{with_entry}
 
 or_nothing : (b : Bool) → (b || false) ≡ b
 or_nothing true = refl
@@ -52,7 +52,7 @@ pub made_step : (written : List Feature) (names : List (List ℕ)) → AreEnable
 made_step written names named ds i d es now_es whole lt is made before =
     let rest : List Dependency = drop (i + 1) ds in
     ap (λ s. with_made written s rest) made
-    ∙ ap (λ b. with_made written (if d.optional && not b then placed es d.key (item.Dependency d.key ∷ []) else es) rest) (named d.key)
+    ∙ ap (λ b. with_made written (if d.optional && not b then with_entry es d.key (item.Dependency d.key ∷ []) else es) rest) (named d.key)
     ∙ sym (ap (with_made written es) (drop-cons ds i d lt ∙ ap (λ n. get_or ds i d ∷ drop n ds) (sym (add-one i)) ∙ ap (λ y. y ∷ rest) (sym is))) ∙ before
 
 -- the steps of the whole, one after another

@@ -11,7 +11,7 @@ use Rattle.pb_package.specs.declared.fault.LoadFault.TheVariants.{TooMany}
 use Rattle.pb_workspace.specs.declared.rounds.Reading.{Reading}
 use Rattle.pb_workspace.specs.ByFolder.{folders_of, has}
 use Rattle.pb_workspace.specs.Rounds.{all_read, leads_to, one_read, round, rounds, with_draft}
-use Rattle.pb_workspace.proofs.Puttings.{placed_all}
+use Rattle.pb_workspace.proofs.Puttings.{with_entry_all}
 use Rattle.pb_workspace.proofs.FoldersPut.{Path, opened, has_there, put_only, put_old, put_new, with_only, with_old, with_new}
 
 -- a folder whose package was read, that is still to be read in this round, or that is read in the next
@@ -33,7 +33,7 @@ module _ (pack : Path → Result Draft LoadFault) (First : Path → Type 0) (Lea
     sound = sound;
     seeds = λ x first. still x (so.seeds x first);
     closed = closed;
-    packs = placed_all (λ e. pack e.0 ≡ Ok e.1) r.found folder d so.packs is;
+    packs = with_entry_all (λ e. pack e.0 ≡ Ok e.1) r.found folder d so.packs is;
   }
     where
       still : (x : Path) → IsKnown r (folder ∷ queue) x → IsKnown (with_draft r folder d) queue x

@@ -11,11 +11,11 @@ use Rattle.pb_place.proofs.MapLemmas.{exact}
 use Rattle.pb_workspace.specs.declared.draft.Draft.{Draft}
 use Rattle.pb_workspace.specs.ByFolder.{folders_of, value_of}
 use Rattle.pb_workspace.specs.Places.{numbered, places_of}
-use Rattle.pb_workspace.specs.Sorted.{placed}
+use Rattle.pb_workspace.specs.Sorted.{with_entry}
 use Rattle.pb_workspace.proofs.FoldersPut.{Path, cmp, put_old, put_new}
 
 -- a value that is found among entries with one more is the new one's, or was found before
-value_put : {V : Type 0} (es : List (Path × V)) (k : Path) (v : V) (q : Path) (x : V) → value_of q (placed es k v) ≡ Some x → ((q ≡ k) × (v ≡ x)) ⊎ (value_of q es ≡ Some x)
+value_put : {V : Type 0} (es : List (Path × V)) (k : Path) (v : V) (q : Path) (x : V) → value_of q (with_entry es k v) ≡ Some x → ((q ≡ k) × (v ≡ x)) ⊎ (value_of q es ≡ Some x)
 value_put {V} [] k v q x is = by (cmp q k) refl is
   where
     by : (o : Ordering) → cmp q k ≡ o → cond (is_eq o) (Some v) None ≡ Some x → ((q ≡ k) × (v ≡ x)) ⊎ (value_of {V = V} q [] ≡ Some x)
@@ -74,9 +74,9 @@ all_places : (all before ds : List Draft) (n : ℕ) (places : List (Path × ℕ)
 all_places all before [] n places parts long are = are
 all_places all before (d ∷ ds) n places parts long are =
     let next : n + 1 ≡ length (before ++ d ∷ []) = omega (arith, length-append before (d ∷ [])) in
-    all_places all (before ++ d ∷ []) ds (n + 1) (placed places d.folder n) (append_assoc before (d ∷ []) ds ∙ parts) next more
+    all_places all (before ++ d ∷ []) ds (n + 1) (with_entry places d.folder n) (append_assoc before (d ∷ []) ds ∙ parts) next more
   where
-    more : ArePlaces all (placed places d.folder n)
+    more : ArePlaces all (with_entry places d.folder n)
     more q k is = elim (value_put places d.folder n q k is) [
       | inl new ↦ (d, ap (slice_get all) (sym new.1 ∙ long) ∙ ap (λ xs. slice_get xs (length before)) (sym parts) ∙ here_in before d ds, sym new.0)
       | inr old ↦ are q k old
@@ -85,10 +85,10 @@ all_places all before (d ∷ ds) n places parts long are =
 some_place : (ds : List Draft) (n : ℕ) (places : List (Path × ℕ)) (q : Path) → Contains (folders_of places) q ⊎ Contains (map (λ (d : Draft). d.folder) ds) q → Contains (folders_of (numbered places n ds)) q
 some_place [] n places q (inl is) = is
 some_place [] n places q (inr is) = absurd (none q is)
-some_place (d ∷ ds) n places q (inl is) = some_place ds (n + 1) (placed places d.folder n) q (inl (put_old places d.folder n q is))
+some_place (d ∷ ds) n places q (inl is) = some_place ds (n + 1) (with_entry places d.folder n) q (inl (put_old places d.folder n q is))
 some_place (d ∷ ds) n places q (inr is) = elim (cases d.folder (map (λ (x : Draft). x.folder) ds) q is) [
-  | inl here ↦ some_place ds (n + 1) (placed places d.folder n) q (inl (subst (Contains (folders_of (placed places d.folder n))) here (put_new places d.folder n)))
-  | inr there ↦ some_place ds (n + 1) (placed places d.folder n) q (inr there)
+  | inl here ↦ some_place ds (n + 1) (with_entry places d.folder n) q (inl (subst (Contains (folders_of (with_entry places d.folder n))) here (put_new places d.folder n)))
+  | inr there ↦ some_place ds (n + 1) (with_entry places d.folder n) q (inr there)
 ]
 
 -- a folder of one of the packages has the place of a package there

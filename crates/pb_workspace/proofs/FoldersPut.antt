@@ -8,7 +8,7 @@ use Rattle.pb_closure.proofs.Membership.{none, head, tail, cases}
 use Rattle.pb_data.specs.Gives.{◌>>=◌}
 use Rattle.pb_place.proofs.MapLemmas.{exact}
 use Rattle.pb_workspace.specs.ByFolder.{folders_of, has, with_folders}
-use Rattle.pb_workspace.specs.Sorted.{placed}
+use Rattle.pb_workspace.specs.Sorted.{with_entry}
 
 abbrev pub Path : Type 0
 Path = List ℕ
@@ -32,7 +32,7 @@ has_there {V} (e ∷ es) k is = by (cmp k e.0) refl is (has_there es k)
     by Greater at on rest = tail e.0 (folders_of es) k (rest on)
 
 -- with one more
-pub put_only : {V : Type 0} (es : List (Path × V)) (k : Path) (v : V) (q : Path) → Contains (folders_of (placed es k v)) q → (k ≡ q) ⊎ Contains (folders_of es) q
+pub put_only : {V : Type 0} (es : List (Path × V)) (k : Path) (v : V) (q : Path) → Contains (folders_of (with_entry es k v)) q → (k ≡ q) ⊎ Contains (folders_of es) q
 put_only [] k v q is = cases k [] q is
 put_only {V} (e ∷ es) k v q is = by (cmp k e.0) is (put_only es k v q)
   where
@@ -44,7 +44,7 @@ put_only {V} (e ∷ es) k v q is = by (cmp k e.0) is (put_only es k v q)
       | inr there ↦ elim (rest there) [ inl new ↦ inl new | inr old ↦ inr (tail e.0 (folders_of es) q old) ]
     ]
 
-pub put_old : {V : Type 0} (es : List (Path × V)) (k : Path) (v : V) (q : Path) → Contains (folders_of es) q → Contains (folders_of (placed es k v)) q
+pub put_old : {V : Type 0} (es : List (Path × V)) (k : Path) (v : V) (q : Path) → Contains (folders_of es) q → Contains (folders_of (with_entry es k v)) q
 put_old [] k v q is = absurd (none q is)
 put_old {V} (e ∷ es) k v q is = by (cmp k e.0) (put_old es k v q)
   where
@@ -56,7 +56,7 @@ put_old {V} (e ∷ es) k v q is = by (cmp k e.0) (put_old es k v q)
       | inr there ↦ tail e.0 (folders_of (insert_entry cmp es k v)) q (rest there)
     ]
 
-pub put_new : {V : Type 0} (es : List (Path × V)) (k : Path) (v : V) → Contains (folders_of (placed es k v)) k
+pub put_new : {V : Type 0} (es : List (Path × V)) (k : Path) (v : V) → Contains (folders_of (with_entry es k v)) k
 put_new [] k v = head k []
 put_new {V} (e ∷ es) k v = by (cmp k e.0) refl (put_new es k v)
   where
@@ -66,7 +66,7 @@ put_new {V} (e ∷ es) k v = by (cmp k e.0) refl (put_new es k v)
     by Greater at rest = tail e.0 (folders_of (insert_entry cmp es k v)) k rest
 
 -- there is one folder more where it was not there
-pub put_longer : {V : Type 0} (es : List (Path × V)) (k : Path) (v : V) → has k es ≡ false → length (placed es k v) ≡ suc (length es)
+pub put_longer : {V : Type 0} (es : List (Path × V)) (k : Path) (v : V) → has k es ≡ false → length (with_entry es k v) ≡ suc (length es)
 put_longer [] k v out = refl
 put_longer {V} (e ∷ es) k v out = by (cmp k e.0) out (put_longer es k v)
   where
@@ -79,18 +79,18 @@ put_longer {V} (e ∷ es) k v out = by (cmp k e.0) out (put_longer es k v)
 -- with several more
 pub with_only : (es : List (Path × Unit {0})) (fs : List Path) (q : Path) → Contains (folders_of (with_folders es fs)) q → Contains (folders_of es) q ⊎ Contains fs q
 with_only es [] q is = inl is
-with_only es (f ∷ fs) q is = elim (with_only (placed es f tt) fs q is) [
+with_only es (f ∷ fs) q is = elim (with_only (with_entry es f tt) fs q is) [
   | inl old ↦ (elim (put_only es f tt q old) [ inl here ↦ inr (subst (Contains (f ∷ fs)) here (head f fs)) | inr there ↦ inl there ])
   | inr new ↦ inr (tail f fs q new)
 ]
 
 pub with_old : (es : List (Path × Unit {0})) (fs : List Path) (q : Path) → Contains (folders_of es) q → Contains (folders_of (with_folders es fs)) q
 with_old es [] q is = is
-with_old es (f ∷ fs) q is = with_old (placed es f tt) fs q (put_old es f tt q is)
+with_old es (f ∷ fs) q is = with_old (with_entry es f tt) fs q (put_old es f tt q is)
 
 pub with_new : (es : List (Path × Unit {0})) (fs : List Path) (q : Path) → Contains fs q → Contains (folders_of (with_folders es fs)) q
 with_new es [] q is = absurd (none q is)
 with_new es (f ∷ fs) q is = elim (cases f fs q is) [
-  | inl here ↦ with_old (placed es f tt) fs q (subst (Contains (folders_of (placed es f tt))) here (put_new es f tt))
-  | inr there ↦ with_new (placed es f tt) fs q there
+  | inl here ↦ with_old (with_entry es f tt) fs q (subst (Contains (folders_of (with_entry es f tt))) here (put_new es f tt))
+  | inr there ↦ with_new (with_entry es f tt) fs q there
 ]

@@ -42,9 +42,9 @@ use Rattle.pb_workspace.specs.Places.{numbered, places_of}
 use Rattle.pb_workspace.specs.Rounds.{with_draft}
 use Rattle.pb_package.specs.Settled.{IfNamed, IsAscending, IsPackage, IsSettled}
 use Rattle.pb_workspace.specs.Settling.{comes_again}
-use Rattle.pb_workspace.specs.Sorted.{placed}
+use Rattle.pb_workspace.specs.Sorted.{with_entry}
 use Rattle.pb_workspace.proofs.Chosen.{places_below}
-use Rattle.pb_workspace.proofs.Puttings.{placed_all, placed_length, all_map, all_given, map_twice}
+use Rattle.pb_workspace.proofs.Puttings.{with_entry_all, with_entry_length, all_map, all_given, map_twice}
 
 -- binaries
 abbrev NamedEntry : List ℕ × Binary → Type 0
@@ -52,7 +52,7 @@ NamedEntry e = is_name e.0 ≡ true
 
 with_named : (es : List (List ℕ × Binary)) (bs : List Binary) → AllByRecursion NamedEntry es → AllByRecursion IsBinaryNamed bs → AllByRecursion NamedEntry (with_binaries es bs)
 with_named es [] all named = all
-with_named es (b ∷ bs) all named = with_named (placed es b.name b) bs (placed_all NamedEntry es b.name b all named.0) named.1
+with_named es (b ∷ bs) all named = with_named (with_entry es b.name b) bs (with_entry_all NamedEntry es b.name b all named.0) named.1
 
 pub binaries_kept : (found written made : List Binary) (es : List (List ℕ × Binary)) → AllByRecursion IsBinaryNamed found → AllByRecursion IsBinaryNamed written
     → es ≡ with_binaries (with_binaries [] found) written → IsAscending (map (λ e. e.0) es) → made ≡ map binary_of es → AreBinaries made
@@ -74,13 +74,13 @@ made_named written es [] all named = all
 made_named written es (d ∷ ds) all named = by (makes_feature written d) (λ next keeps. made_named written next ds keeps named.1)
   where
     by : (b : Bool) → ((next : List (List ℕ × List FeatureItem)) → AllByRecursion FeatureEntry next → AllByRecursion FeatureEntry (with_made written next ds))
-        → AllByRecursion FeatureEntry (with_made written (if b then placed es d.key (item.Dependency d.key ∷ []) else es) ds)
-    by true rest = rest _ (placed_all FeatureEntry es d.key _ all (or_right (is_feature_name d.key) (is_name d.key) named.0))
+        → AllByRecursion FeatureEntry (with_made written (if b then with_entry es d.key (item.Dependency d.key ∷ []) else es) ds)
+    by true rest = rest _ (with_entry_all FeatureEntry es d.key _ all (or_right (is_feature_name d.key) (is_name d.key) named.0))
     by false rest = rest es all
 
 written_named : (es : List (List ℕ × List FeatureItem)) (fs : List Feature) → AllByRecursion FeatureEntry es → AllByRecursion IsWrittenFeature fs → AllByRecursion FeatureEntry (with_written es fs)
 written_named es [] all named = all
-written_named es (f ∷ fs) all named = written_named (placed es f.name f.items) fs (placed_all FeatureEntry es f.name f.items all (ap (λ b. b || is_name f.name) named.0)) named.1
+written_named es (f ∷ fs) all named = written_named (with_entry es f.name f.items) fs (with_entry_all FeatureEntry es f.name f.items all (ap (λ b. b || is_name f.name) named.0)) named.1
 
 pub features_kept : (written made : List Feature) (ds bs : List Dependency) (es : List (List ℕ × List FeatureItem)) → AllByRecursion IsWrittenFeature written → AllByRecursion IsKeyed ds → AllByRecursion IsKeyed bs
     → es ≡ with_written (with_made written (with_made written [] ds) bs) written → IsAscending (map (λ e. e.0) es) → made ≡ map feature_of es → AreFeatures made
@@ -92,10 +92,10 @@ features_kept written made ds bs es one two three put order is = record {
 
 -- packages that are read
 pub few_kept : (r made : Reading) (folder : List ℕ) (d : Draft) → length r.found < 256 → made ≡ with_draft r folder d → length made.found ≤ 256
-few_kept r made folder d few same = let h = placed_length r.found folder d in let found : made.found ≡ placed r.found folder d = ap (λ (x : Reading). x.found) same in subst (λ es. length es ≤ 256) (sym found) (omega arith)
+few_kept r made folder d few same = let h = with_entry_length r.found folder d in let found : made.found ≡ with_entry r.found folder d = ap (λ (x : Reading). x.found) same in subst (λ es. length es ≤ 256) (sym found) (omega arith)
 
 pub each_kept : (r made : Reading) (folder : List ℕ) (d : Draft) → AllByRecursion IsPut r.found → d.folder ≡ folder → IsDraft d → made ≡ with_draft r folder d → AllByRecursion IsPut made.found
-each_kept r made folder d all at good same = let found : made.found ≡ placed r.found folder d = ap (λ (x : Reading). x.found) same in subst (AllByRecursion IsPut) (sym found) (placed_all IsPut r.found folder d all (at, good))
+each_kept r made folder d all at good same = let found : made.found ≡ with_entry r.found folder d = ap (λ (x : Reading). x.found) same in subst (AllByRecursion IsPut) (sym found) (with_entry_all IsPut r.found folder d all (at, good))
 
 pub ruleset draft_laws = (few_kept, each_kept)
 
@@ -126,7 +126,7 @@ Below count e = e.1 < count
 
 numbered_below : (count : ℕ) (places : List (List ℕ × ℕ)) (n : ℕ) (ds : List Draft) → AllByRecursion (Below count) places → n + length ds ≤ count → AllByRecursion (Below count) (numbered places n ds)
 numbered_below count places n [] all fits = all
-numbered_below count places n (d ∷ ds) all fits = numbered_below count (placed places d.folder n) (n + 1) ds (placed_all (Below count) places d.folder n all (omega arith)) (omega arith)
+numbered_below count places n (d ∷ ds) all fits = numbered_below count (with_entry places d.folder n) (n + 1) ds (with_entry_all (Below count) places d.folder n all (omega arith)) (omega arith)
 
 value_below : (count : ℕ) (test : List ℕ → Bool) (places : List (List ℕ × ℕ)) → 0 < count → AllByRecursion (Below count) places → unwrap_or (lookup test places) 0 < count
 value_below count test [] some all = some

@@ -3,6 +3,7 @@ pub mod WantedOrder
 pub mod RowLemmas
 pub mod Resolving
 pub mod SourceLemmas
+pub mod Listed
 pub mod BinPaths
 pub mod Promised
 pub mod Steps

@@ -5,15 +5,15 @@ use Rattle.std.specs.Cmp.Lexicographic.{slice_cmp}
 use Rattle.std.specs.List.{AllByRecursion}
 use Rattle.std.specs.Ordering.{nat_cmp, match_ordering}
 use Rattle.pb_place.proofs.MapLemmas.{exact}
-use Rattle.pb_workspace.specs.Sorted.{placed}
+use Rattle.pb_workspace.specs.Sorted.{with_entry}
 
 abbrev cmp : List ℕ → List ℕ → Ordering
 cmp = slice_cmp nat_cmp
 
 -- what holds of each entry still holds where one more is put that it holds of: an old name stays and takes the new value
-pub placed_all : {V : Type 0} (P : List ℕ × V → Type 0) (es : List (List ℕ × V)) (k : List ℕ) (v : V) → AllByRecursion P es → P (k, v) → AllByRecursion P (placed es k v)
-placed_all P [] k v all new = (new, tt)
-placed_all {V} P (e ∷ es) k v all new = by (cmp k e.0) refl (placed_all P es k v all.1 new)
+pub with_entry_all : {V : Type 0} (P : List ℕ × V → Type 0) (es : List (List ℕ × V)) (k : List ℕ) (v : V) → AllByRecursion P es → P (k, v) → AllByRecursion P (with_entry es k v)
+with_entry_all P [] k v all new = (new, tt)
+with_entry_all {V} P (e ∷ es) k v all new = by (cmp k e.0) refl (with_entry_all P es k v all.1 new)
   where
     by : (o : Ordering) → cmp k e.0 ≡ o → AllByRecursion P (insert_entry cmp es k v) → AllByRecursion P (match_ordering o ((k, v) ∷ e ∷ es) ((e.0, v) ∷ es) (e ∷ insert_entry cmp es k v))
     by Less at rest = (new, all)
@@ -21,9 +21,9 @@ placed_all {V} P (e ∷ es) k v all new = by (cmp k e.0) refl (placed_all P es k
     by Greater at rest = (all.0, rest)
 
 -- there is one entry more, or as many
-pub placed_length : {V : Type 0} (es : List (List ℕ × V)) (k : List ℕ) (v : V) → length (placed es k v) ≤ suc (length es)
-placed_length [] k v = omega arith
-placed_length {V} (e ∷ es) k v = by (cmp k e.0) (placed_length es k v)
+pub with_entry_length : {V : Type 0} (es : List (List ℕ × V)) (k : List ℕ) (v : V) → length (with_entry es k v) ≤ suc (length es)
+with_entry_length [] k v = omega arith
+with_entry_length {V} (e ∷ es) k v = by (cmp k e.0) (with_entry_length es k v)
   where
     by : (o : Ordering) → length (insert_entry cmp es k v) ≤ suc (length es) → length (match_ordering o ((k, v) ∷ e ∷ es) ((e.0, v) ∷ es) (e ∷ insert_entry cmp es k v)) ≤ suc (length (e ∷ es))
     by Less rest = omega arith

@@ -1,13 +1,20 @@
 -- Two steps that read files, one after the other.
 use Rattle.std.proofs.Common.{◌≡◌, ◌<◌, ◌+◌, ◌-◌, ℕ, suc, List, Result, Ok, Err, sym, ap, ◌∙◌, subst, arith}
-use Rattle.pb_data.specs.Gives.{◌>>=◌}
+use Rattle.std.proofs.lemmas.Bool.{false≢true}
+use Rattle.pb_data.specs.Gives.{Gives, ◌>>=◌}
 use Rattle.pb_place.specs.Counts.{Counts, up}
 use Rattle.pb_place.specs.World.{World, from_nothing}
-use Rattle.pb_workspace.specs.Causes.{Told, Reads}
+use Rattle.pb_workspace.specs.Causes.{Told, Reads, is_outside}
 use Rattle.pb_package.specs.declared.fault.LoadFault.{LoadFault}
+use Rattle.pb_package.specs.declared.fault.LoadFault.TheVariants.{OutOfMemory}
 use Rattle.pb_workspace.specs.declared.frame.Frame.{Frame}
 use Rattle.pb_workspace.specs.declared.rounds.Reading.{Reading}
 use Rattle.pb_workspace.specs.Rounds.{draft_at, round, rounds}
+
+-- an answer up to want of memory is told
+pub gives_told : {A : Type 0} (result answer : Result A LoadFault) → Gives OutOfMemory (λ x. x) result answer → Told result answer
+gives_told (Ok x) answer gives = gives
+gives_told (Err e) answer gives = λ inside. gives (λ same. false≢true (sym inside ∙ ap is_outside same))
 
 -- what the second step tells is told, where the first gave a value and changed nothing
 pub told_step : {A B : Type 0} (next : World → A → Result B LoadFault) (first : Result A LoadFault) (w now : World) (x : A) (result : Result B LoadFault)

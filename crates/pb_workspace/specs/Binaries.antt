@@ -5,7 +5,7 @@ use Rattle.pb_place.specs.Paths.{below}
 use Rattle.pb_place.specs.World.{World}
 use Rattle.pb_manifest.specs.declared.target.Binary.{Binary as WrittenBinary}
 use Rattle.pb_package.specs.declared.package.Binary.{Binary}
-use Rattle.pb_workspace.specs.Sorted.{placed}
+use Rattle.pb_workspace.specs.Sorted.{with_entry}
 use Rattle.pb_workspace.specs.Sources.{own_source, resolved}
 
 -- the three places of a binary's source, from the package's folder
@@ -49,7 +49,7 @@ written_binary folder sources package_name b = record {
 -- binaries in turn, each in its place by byte order of the names; one of its name gives way
 abbrev pub with_binaries : List (List ℕ × Binary) → List Binary → List (List ℕ × Binary)
 with_binaries entries [] = entries
-with_binaries entries (b ∷ bs) = with_binaries (placed entries b.name b) bs
+with_binaries entries (b ∷ bs) = with_binaries (with_entry entries b.name b) bs
 
 -- the binary of an entry, under the entry's name
 abbrev pub binary_of : List ℕ × Binary → Binary

@@ -4,7 +4,7 @@ use Rattle.std.specs.BTreeMap.{is_at}
 use Rattle.std.specs.Map.{lookup}
 use Rattle.std.specs.Ordering.{nat_cmp}
 use Rattle.std.specs.Cmp.Lexicographic.{slice_cmp}
-use Rattle.pb_workspace.specs.Sorted.{placed}
+use Rattle.pb_workspace.specs.Sorted.{with_entry}
 
 -- the value of a folder
 abbrev pub value_of : {V : Type 0} → List ℕ → List (List ℕ × V) → Option V
@@ -23,4 +23,4 @@ values_of entries = map (λ e. e.1) entries
 -- with more folders, each once, in byte order
 abbrev pub with_folders : List (List ℕ × Unit {0}) → List (List ℕ) → List (List ℕ × Unit {0})
 with_folders entries [] = entries
-with_folders entries (folder ∷ folders) = with_folders (placed entries folder tt) folders
+with_folders entries (folder ∷ folders) = with_folders (with_entry entries folder tt) folders

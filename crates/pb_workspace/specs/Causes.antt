@@ -66,22 +66,6 @@ is_read (Place path fault) = is_read_fault fault
 is_read NoSuchPackage = true
 is_read OutOfMemory = true
 
--- the call that failed, if one did, was on this path
-abbrev pub bears : List ℕ → LoadFault → Bool
-bears path (NoManifest p) = true
-bears path (Manifest p fault) = true
-bears path SameName = true
-bears path NameMismatch = true
-bears path VersionMismatch = true
-bears path LinksTwice = true
-bears path LinksWithoutScript = true
-bears path NoInherited = true
-bears path TooMany = true
-bears path SameBinary = true
-bears path (Place p fault) = bytes_eq p path
-bears path NoSuchPackage = true
-bears path OutOfMemory = true
-
 -- what the place answered to the call that failed
 abbrev pub failure_of : LoadFault → Option Failure
 failure_of (NoManifest path) = None

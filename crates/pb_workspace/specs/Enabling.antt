@@ -7,7 +7,7 @@ use Rattle.pb_manifest.specs.declared.feature.Feature.{Feature}
 use Rattle.pb_manifest.specs.declared.feature.FeatureItem.{FeatureItem}
 use Rattle.pb_manifest.specs.declared.feature.FeatureItem.TheVariants as item
 use Rattle.pb_workspace.specs.Features.{is_enabled_by_name}
-use Rattle.pb_workspace.specs.Sorted.{placed}
+use Rattle.pb_workspace.specs.Sorted.{with_entry}
 
 -- the name N of an item `dep:N`
 abbrev pub named_by : FeatureItem → List (List ℕ)
@@ -25,4 +25,4 @@ AreEnabledNames names features = (name : List ℕ) → is_mentioned names name �
 
 -- with the feature that an entry makes
 abbrev pub with_one : List (List ℕ) → List (List ℕ × List FeatureItem) → Dependency → List (List ℕ × List FeatureItem)
-with_one names entries d = if d.optional && not (is_mentioned names d.key) then placed entries d.key (item.Dependency d.key ∷ []) else entries
+with_one names entries d = if d.optional && not (is_mentioned names d.key) then with_entry entries d.key (item.Dependency d.key ∷ []) else entries

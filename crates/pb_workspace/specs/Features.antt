@@ -6,7 +6,7 @@ use Rattle.pb_manifest.specs.declared.dependency.Dependency.{Dependency}
 use Rattle.pb_manifest.specs.declared.feature.Feature.{Feature}
 use Rattle.pb_manifest.specs.declared.feature.FeatureItem.{FeatureItem}
 use Rattle.pb_manifest.specs.declared.feature.FeatureItem.TheVariants as item
-use Rattle.pb_workspace.specs.Sorted.{placed}
+use Rattle.pb_workspace.specs.Sorted.{with_entry}
 
 -- the item `dep:N`
 abbrev pub enables : List ℕ → FeatureItem → Bool
@@ -26,12 +26,12 @@ makes_feature written d = d.optional && not (is_enabled_by_name d.key written)
 -- the features that entries make, each of them the one item `dep:N`
 abbrev pub with_made : List Feature → List (List ℕ × List FeatureItem) → List Dependency → List (List ℕ × List FeatureItem)
 with_made written entries [] = entries
-with_made written entries (d ∷ ds) = with_made written (if makes_feature written d then placed entries d.key (item.Dependency d.key ∷ []) else entries) ds
+with_made written entries (d ∷ ds) = with_made written (if makes_feature written d then with_entry entries d.key (item.Dependency d.key ∷ []) else entries) ds
 
 -- the written ones, which take the place of those made under their name
 abbrev pub with_written : List (List ℕ × List FeatureItem) → List Feature → List (List ℕ × List FeatureItem)
 with_written entries [] = entries
-with_written entries (f ∷ fs) = with_written (placed entries f.name f.items) fs
+with_written entries (f ∷ fs) = with_written (with_entry entries f.name f.items) fs
 
 abbrev pub feature_of : List ℕ × List FeatureItem → Feature
 feature_of entry = record { name = entry.0; items = entry.1 }

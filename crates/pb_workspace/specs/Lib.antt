@@ -12,6 +12,7 @@ pub mod Enabling
 pub mod Members
 pub mod Binaries
 pub mod FoundBinaries
+pub mod Listings
 pub mod Settling
 pub mod Keys
 pub mod Drafts

@@ -2,12 +2,12 @@
 use Rattle.std.specs.Prelude.{ℕ, ◌+◌, List, [], ◌∷◌, slice_get, Option, Some, None}
 use Rattle.pb_workspace.specs.declared.draft.Draft.{Draft}
 use Rattle.pb_workspace.specs.ByFolder.{value_of}
-use Rattle.pb_workspace.specs.Sorted.{placed}
+use Rattle.pb_workspace.specs.Sorted.{with_entry}
 
 -- each folder with its place, where the first has this one
 abbrev pub numbered : List (List ℕ × ℕ) → ℕ → List Draft → List (List ℕ × ℕ)
 numbered places n [] = places
-numbered places n (d ∷ ds) = numbered (placed places d.folder n) (n + 1) ds
+numbered places n (d ∷ ds) = numbered (with_entry places d.folder n) (n + 1) ds
 
 abbrev pub places_of : List Draft → List (List ℕ × ℕ)
 places_of drafts = numbered [] 0 drafts

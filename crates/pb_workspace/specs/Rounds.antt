@@ -22,7 +22,7 @@ use Rattle.pb_workspace.specs.declared.wanted.Wanted.{Wanted}
 use Rattle.pb_workspace.specs.ByFolder.{folders_of, has, with_folders}
 use Rattle.pb_workspace.specs.Drafts.{draft_of}
 use Rattle.pb_workspace.specs.Frames.{given_to, is_member}
-use Rattle.pb_workspace.specs.Sorted.{placed}
+use Rattle.pb_workspace.specs.Sorted.{with_entry}
 
 -- what the file at a manifest's path says
 abbrev pub read_found : List ℕ → Option (List ℕ) → Result ManifestRead LoadFault
@@ -69,7 +69,7 @@ leads_to wanted = map (λ (w : Wanted). w.folder) wanted
 
 -- with a package that was read: the folders to which its entries lead are read in the next round
 abbrev pub with_draft : Reading → List ℕ → Draft → Reading
-with_draft r folder d = record { found = placed r.found folder d; ahead = with_folders r.ahead (leads_to d.wanted) }
+with_draft r folder d = record { found = with_entry r.found folder d; ahead = with_folders r.ahead (leads_to d.wanted) }
 
 -- one folder: nothing where it was read before, and no more than 256
 abbrev pub one_read : (List ℕ → Result Draft LoadFault) → Reading → List ℕ → Result Reading LoadFault

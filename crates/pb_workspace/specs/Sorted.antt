@@ -5,5 +5,5 @@ use Rattle.std.specs.Ordering.{nat_cmp}
 use Rattle.std.specs.Cmp.Lexicographic.{slice_cmp}
 
 -- with one more entry, in its place by byte order; one of its name gives way
-abbrev pub placed : {V : Type 0} → List (List ℕ × V) → List ℕ → V → List (List ℕ × V)
-placed entries name value = insert_entry (slice_cmp nat_cmp) entries name value
+abbrev pub with_entry : {V : Type 0} → List (List ℕ × V) → List ℕ → V → List (List ℕ × V)
+with_entry entries name value = insert_entry (slice_cmp nat_cmp) entries name value

@@ -1,21 +1,21 @@
 //! The binaries of a package.
 
-ghost use Rattle.std.specs.Prelude.{◌≡◌, ◌++◌, All, IfOk, IfErr, OnOk, IsTrue, true, false, codes, map};
+ghost use Rattle.std.specs.Prelude.{◌≡◌, ◌++◌, All, IfOk, OnOk, true, false, codes, map};
 ghost use Rattle.pb_place.specs.Paths.{below};
-ghost use Rattle.pb_place.specs.World.{from_nothing};
+ghost use Rattle.pb_place.specs.World.{World};
 ghost use Rattle.pb_manifest.specs.Letters.{is_name};
 ghost use Rattle.pb_workspace.specs.Binaries.{main_source, flat_source, nested_source, looked_in_bin, looked_for, binary_source, written_binary, with_binaries, binary_of, binaries_of};
-ghost use Rattle.pb_workspace.specs.Causes.{is_outside, Reads};
+ghost use Rattle.pb_workspace.specs.Listings.{AreListingsOf};
 ghost use Rattle.std.specs.List.{AllByRecursion};
 ghost use Rattle.pb_workspace.specs.Drafted.{IsBinaryNamed, AreBinaries};
 
-use crate::found::own_source;
+use crate::listings::{Listings, own_source};
 use crate::sorted::Sorted;
 use crate::source::{own_path, resolved};
 use pb_data::{Items, Text, TryCopy};
 use pb_manifest::WrittenPath;
-use pb_package::{BinariesByName, Binary, LoadFault};
-use pb_place::{PathText, Place};
+use pb_package::{BinariesByName, Binary};
+use pb_place::PathText;
 use std::alloc::{AllocError, Global};
 
 /// A path in `src/bin`.
@@ -29,28 +29,22 @@ fn in_bin(alloc: Global, name: &str, end: &str) -> Result<Text, AllocError>
 }
 
 /// `src/bin/NAME.rs` or `src/bin/NAME/main.rs`, the first that is a file of the sources.
-#[tactic(auto, using(crate::proofs::BinPaths::bin_laws))]
-fn looked_in_bin<P: Place>(
+#[tactic(auto, using(crate::proofs::BinPaths::bin_laws, crate::proofs::Listed::listed_laws))]
+fn looked_in_bin(
     alloc: Global,
-    place: &mut P,
-    target: &PathText,
+    listings: &Listings,
     folder: &PathText,
     name: &str,
-) -> Result<Option<PathText>, LoadFault>
+) -> Result<Option<PathText>, AllocError>
     requires { is_name name.now ≡ true }
-    ensures ok { IsTrue P.tells → IfOk result (λ path. path ≡ looked_in_bin folder.now (from_nothing target.now (P.world place.old)) name.now) }
-    ensures same { IsTrue P.tells → P.world place.new ≡ P.world place.old }
-    ensures most { P.most place.new ≡ P.most place.old }
-    ensures outside { IfErr result (λ e. is_outside e ≡ true) }
-    ensures reads { Reads result (P.counts place.old) (P.counts place.new) }
+    ensures ok { (sources : World) → AreListingsOf folder.now sources listings.now → IfOk result (λ path. path ≡ looked_in_bin folder.now sources name.now) }
 {
     let flat = in_bin(alloc, name, ".rs")?;
-    if let Some(path) = own_source(alloc, place, target, folder, flat.as_str())? {
+    if let Some(path) = own_source(alloc, listings, folder, flat.as_str())? {
         return Ok(Some(path));
     }
     let nested = in_bin(alloc, name, "/main.rs")?;
-    let path = own_source(alloc, place, target, folder, nested.as_str())?;
-    Ok(path)
+    own_source(alloc, listings, folder, nested.as_str())
 }
 
 /// `src/bin/NAME.rs`, whether it is there or not.
@@ -64,103 +58,79 @@ fn flat_path(alloc: Global, folder: &PathText, name: &str) -> Result<PathText, A
 }
 
 /// The source of a `[[bin]]` without path that is not named as its package.
-fn looked_for_other<P: Place>(
+fn looked_for_other(
     alloc: Global,
-    place: &mut P,
-    target: &PathText,
+    listings: &Listings,
     folder: &PathText,
     name: &str,
-) -> Result<PathText, LoadFault>
+) -> Result<PathText, AllocError>
     requires { is_name name.now ≡ true }
-    ensures ok { IsTrue P.tells → IfOk result (λ path. path ≡ looked_for folder.now (from_nothing target.now (P.world place.old)) false name.now) }
-    ensures same { IsTrue P.tells → P.world place.new ≡ P.world place.old }
-    ensures most { P.most place.new ≡ P.most place.old }
-    ensures outside { IfErr result (λ e. is_outside e ≡ true) }
-    ensures reads { Reads result (P.counts place.old) (P.counts place.new) }
+    ensures ok { (sources : World) → AreListingsOf folder.now sources listings.now → IfOk result (λ path. path ≡ looked_for folder.now sources false name.now) }
 {
-    if let Some(path) = looked_in_bin(alloc, place, target, folder, name)? {
+    if let Some(path) = looked_in_bin(alloc, listings, folder, name)? {
         return Ok(path);
     }
-    let path = flat_path(alloc, folder, name)?;
-    Ok(path)
+    flat_path(alloc, folder, name)
 }
 
 /// The source of a `[[bin]]` without path that is named as its package.
-fn looked_for_main<P: Place>(
+#[tactic(auto, using(crate::proofs::Listed::listed_laws))]
+fn looked_for_main(
     alloc: Global,
-    place: &mut P,
-    target: &PathText,
+    listings: &Listings,
     folder: &PathText,
     name: &str,
-) -> Result<PathText, LoadFault>
+) -> Result<PathText, AllocError>
     requires { is_name name.now ≡ true }
-    ensures ok { IsTrue P.tells → IfOk result (λ path. path ≡ looked_for folder.now (from_nothing target.now (P.world place.old)) true name.now) }
-    ensures same { IsTrue P.tells → P.world place.new ≡ P.world place.old }
-    ensures most { P.most place.new ≡ P.most place.old }
-    ensures outside { IfErr result (λ e. is_outside e ≡ true) }
-    ensures reads { Reads result (P.counts place.old) (P.counts place.new) }
+    ensures ok { (sources : World) → AreListingsOf folder.now sources listings.now → IfOk result (λ path. path ≡ looked_for folder.now sources true name.now) }
 {
-    if let Some(path) = own_source(alloc, place, target, folder, "src/main.rs")? {
+    if let Some(path) = own_source(alloc, listings, folder, "src/main.rs")? {
         return Ok(path);
     }
-    if let Some(path) = looked_in_bin(alloc, place, target, folder, name)? {
+    if let Some(path) = looked_in_bin(alloc, listings, folder, name)? {
         return Ok(path);
     }
-    let path = own_path(alloc, folder, "src/main.rs")?;
-    Ok(path)
+    own_path(alloc, folder, "src/main.rs")
 }
 
 /// The source of a `[[bin]]` of a package (The Cargo Book, Cargo Targets): the path that it writes, as it is;
 /// else the first that is a file of `src/main.rs`, where it is named as its package, `src/bin/NAME.rs` and
 /// `src/bin/NAME/main.rs`, and the first of these where none is.
-pub fn binary_source<P: Place>(
+pub fn binary_source(
     alloc: Global,
-    place: &mut P,
-    target: &PathText,
+    listings: &Listings,
     folder: &PathText,
     package_name: &Text,
     name: &Text,
     path: &Option<WrittenPath>,
-) -> Result<PathText, LoadFault>
+) -> Result<PathText, AllocError>
     requires { is_name name.now ≡ true }
-    ensures ok { IsTrue P.tells → IfOk result (λ source. source ≡ binary_source folder.now (from_nothing target.now (P.world place.old)) package_name.now name.now path.now) }
-    ensures same { IsTrue P.tells → P.world place.new ≡ P.world place.old }
-    ensures most { P.most place.new ≡ P.most place.old }
-    ensures outside { IfErr result (λ e. is_outside e ≡ true) }
-    ensures reads { Reads result (P.counts place.old) (P.counts place.new) }
+    ensures ok { (sources : World) → AreListingsOf folder.now sources listings.now → IfOk result (λ source. source ≡ binary_source folder.now sources package_name.now name.now path.now) }
 {
     if let Some(path) = path {
-        return Ok(resolved(alloc, folder, path)?);
+        return resolved(alloc, folder, path);
     }
     if *name == *package_name {
-        let found = looked_for_main(alloc, place, target, folder, name.as_str())?;
-        return Ok(found);
+        return looked_for_main(alloc, listings, folder, name.as_str());
     }
-    let found = looked_for_other(alloc, place, target, folder, name.as_str())?;
-    Ok(found)
+    looked_for_other(alloc, listings, folder, name.as_str())
 }
 
 /// The binary of a `[[bin]]`.
-pub fn written_binary<P: Place>(
+pub fn written_binary(
     alloc: Global,
-    place: &mut P,
-    target: &PathText,
+    listings: &Listings,
     folder: &PathText,
     package_name: &Text,
     written: pb_manifest::Binary,
-) -> Result<Binary, LoadFault>
+) -> Result<Binary, AllocError>
     requires { is_name written.name ≡ true }
-    ensures ok { IsTrue P.tells → IfOk result (λ binary. binary ≡ written_binary folder.now (from_nothing target.now (P.world place.old)) package_name.now written) }
+    ensures ok { (sources : World) → AreListingsOf folder.now sources listings.now → IfOk result (λ binary. binary ≡ written_binary folder.now sources package_name.now written) }
     ensures named { IfOk result IsBinaryNamed }
-    ensures same { IsTrue P.tells → P.world place.new ≡ P.world place.old }
-    ensures most { P.most place.new ≡ P.most place.old }
-    ensures outside { IfErr result (λ e. is_outside e ≡ true) }
-    ensures reads { Reads result (P.counts place.old) (P.counts place.new) }
 {
     let source = binary_source(
         alloc,
-        place,
-        target,
+        listings,
         folder,
         package_name,
         &written.name,
@@ -174,25 +144,20 @@ pub fn written_binary<P: Place>(
 }
 
 /// The binaries of the `[[bin]]`s of a package, in the manifest's order.
-pub fn written_binaries<P: Place>(
+pub fn written_binaries(
     alloc: Global,
-    place: &mut P,
-    target: &PathText,
+    listings: &Listings,
     folder: &PathText,
     package_name: &Text,
     written: Items<pb_manifest::Binary>,
-) -> Result<Items<Binary>, LoadFault>
+) -> Result<Items<Binary>, AllocError>
     requires { All (λ b. is_name b.name ≡ true) written }
-    ensures ok { IsTrue P.tells → IfOk result (λ binaries. binaries ≡ map (written_binary folder.now (from_nothing target.now (P.world place.old)) package_name.now) written) }
+    ensures ok { (sources : World) → AreListingsOf folder.now sources listings.now → IfOk result (λ binaries. binaries ≡ map (written_binary folder.now sources package_name.now) written) }
     ensures named { IfOk result (AllByRecursion IsBinaryNamed) }
-    ensures same { IsTrue P.tells → P.world place.new ≡ P.world place.old }
-    ensures most { P.most place.new ≡ P.most place.old }
-    ensures outside { IfErr result (λ e. is_outside e ≡ true) }
-    ensures reads { Reads result (P.counts place.old) (P.counts place.new) }
 {
     let mut binaries = Items::new(alloc);
     for binary in written.into_vec() {
-        let made = written_binary(alloc, place, target, folder, package_name, binary)?;
+        let made = written_binary(alloc, listings, folder, package_name, binary)?;
         binaries.push(made)?;
     }
     Ok(binaries)

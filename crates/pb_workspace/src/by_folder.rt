@@ -4,7 +4,7 @@ ghost use Rattle.std.specs.Prelude.{◌≡◌, List, ℕ, [], IfOk, OnOk, length
 ghost use Rattle.std.specs.Option.{option_copied};
 ghost use Rattle.pb_workspace.specs.ByFolder.{value_of, has, with_folders, folders_of, values_of};
 ghost use Rattle.pb_package.specs.Settled.{IsAscending};
-ghost use Rattle.pb_workspace.specs.Sorted.{placed};
+ghost use Rattle.pb_workspace.specs.Sorted.{with_entry};
 
 use pb_data::{Items, TryCopy};
 use pb_place::PathText;
@@ -38,7 +38,7 @@ impl<V: Drop> ByFolder<V> {
 
     /// Puts an entry in its place; one of its folder gives way.
     pub fn insert(&mut self, folder: PathText, value: V) -> Result<(), AllocError>
-        ensures { OnOk result (self.new ≡ placed self.old folder value) }
+        ensures { OnOk result (self.new ≡ with_entry self.old folder value) }
     {
         let _old = self.inside.insert(folder, value)?;
         Ok(())

@@ -2,9 +2,10 @@
 
 ghost use Rattle.std.specs.Prelude.{◌≡◌, All, IfErr, IsTrue, false, true, IfOk, map};
 ghost use Rattle.pb_data.specs.Gives.{Gives};
-ghost use Rattle.pb_place.specs.World.{from_nothing};
+ghost use Rattle.pb_place.specs.World.{World, from_nothing};
 ghost use Rattle.pb_manifest.specs.Letters.{is_name};
 ghost use Rattle.pb_workspace.specs.Causes.{is_failure, Told, Reads};
+ghost use Rattle.pb_workspace.specs.Listings.{AreListingsOf};
 ghost use Rattle.pb_workspace.specs.Drafts.{lists_of, draft_from, draft_with, draft_of};
 ghost use Rattle.pb_package.specs.declared.fault.LoadFault.TheVariants as load_fault;
 ghost use Rattle.std.specs.List.{AllByRecursion};
@@ -14,6 +15,7 @@ ghost use Rattle.pb_package.specs.Settled.{IsAscending};
 use crate::by_key::WantedByKey;
 use crate::features::features_of;
 use crate::keys::{Keys, keys_of};
+use crate::listings::{Listings, listings_of};
 use crate::settling::{Given, Targets, has_same_binaries, targets_of, wanted_in};
 use crate::wanted::Standing;
 use pb_data::{Items, Text};
@@ -147,10 +149,9 @@ fn draft_from(
 
 /// The package of these keys.
 #[tactic(auto, unfolding(crate::specs::Drafts::draft_with))]
-fn draft_with<P: Place>(
+fn draft_with(
     alloc: Global,
-    place: &mut P,
-    target: &PathText,
+    listings: &Listings,
     at: Standing,
     is_member: bool,
     given: &Given,
@@ -160,12 +161,10 @@ fn draft_with<P: Place>(
     requires binaries { All (λ b. is_name b.name ≡ true) tables.binaries }
     requires name { is_name keys.name ≡ true }
     requires promised { ArePromised tables }
-    ensures ok { IsTrue P.tells → Told result (draft_with (from_nothing target.now (P.world place.old)) at is_member given.now tables keys) }
+    ensures told { (sources : World) → AreListingsOf at.folder sources listings.now → Gives load_fault.OutOfMemory (λ draft. draft) result (draft_with sources at is_member given.now tables keys) }
     ensures draft { IfOk result IsDraft }
     ensures folder { IfOk result (λ draft. draft.folder ≡ at.folder) }
-    ensures same { IsTrue P.tells → P.world place.new ≡ P.world place.old }
-    ensures most { P.most place.new ≡ P.most place.old }
-    ensures reads { Reads result (P.counts place.old) (P.counts place.new) }
+    ensures here { IfErr result (λ e. is_failure e ≡ false) }
 {
     let Tables {
         library,
@@ -184,15 +183,38 @@ fn draft_with<P: Place>(
         features,
         binaries.as_slice(),
     )?;
-    let targets = targets_of(alloc, place, target, &at.folder, &keys, library, binaries)?;
+    let targets = targets_of(alloc, listings, &at.folder, &keys, library, binaries)?;
     Ok(draft_from(at, is_member, keys, lists, dev_dependencies, targets))
 }
 
-/// The package of a manifest: what it and its folder say, with all that it takes from its workspace (The Cargo
-/// Book, Manifest Format and Workspaces). NoInherited where a key or an entry is taken from a workspace that has
-/// it not to give; the manifest with UnsupportedSource where the entry that it has to give has no path, or `git`
-/// or `registry`. The first is told: of the keys, then of `[dependencies]`, then of `[build-dependencies]`.
+/// The package of a manifest in whose folder these listings were made.
 #[tactic(auto, unfolding(crate::specs::Drafts::draft_of))]
+fn draft_seen(
+    alloc: Global,
+    listings: &Listings,
+    at: Standing,
+    is_member: bool,
+    given: &Given,
+    found: &Package,
+    tables: Tables,
+) -> Result<Draft, LoadFault>
+    requires binaries { All (λ b. is_name b.name ≡ true) tables.binaries }
+    requires name { is_name found.now.name ≡ true }
+    requires promised { ArePromised tables }
+    ensures told { (sources : World) → AreListingsOf at.folder sources listings.now → Gives load_fault.OutOfMemory (λ draft. draft) result (draft_of sources at is_member given.now found.now tables) }
+    ensures draft { IfOk result IsDraft }
+    ensures folder { IfOk result (λ draft. draft.folder ≡ at.folder) }
+    ensures here { IfErr result (λ e. is_failure e ≡ false) }
+{
+    let keys = keys_of(alloc, listings, &at, &given.package, found)?;
+    draft_with(alloc, listings, at, is_member, given, tables, keys)
+}
+
+/// The package of a manifest: what it and its folder say, with all that it takes from its workspace (The Cargo
+/// Book, Manifest Format and Workspaces). It looks at its folder once. NoInherited where a key or an entry is taken
+/// from a workspace that has it not to give; the manifest with UnsupportedSource where the entry that it has to give
+/// has no path, or `git` or `registry`. The first is told: of the keys, then of `[dependencies]`, then of
+/// `[build-dependencies]`.
 pub fn draft_of<P: Place>(
     alloc: Global,
     place: &mut P,
@@ -213,6 +235,6 @@ pub fn draft_of<P: Place>(
     ensures most { P.most place.new ≡ P.most place.old }
     ensures reads { Reads result (P.counts place.old) (P.counts place.new) }
 {
-    let keys = keys_of(alloc, place, target, &at, &given.package, found)?;
-    draft_with(alloc, place, target, at, is_member, given, tables, keys)
+    let listings = listings_of(alloc, place, target, &at.folder)?;
+    draft_seen(alloc, &listings, at, is_member, given, found, tables)
 }

@@ -5,7 +5,7 @@ ghost use Rattle.std.specs.List.{AllByRecursion, flat_map};
 ghost use Rattle.pb_data.specs.Mentions.{is_mentioned, mentioned_all};
 ghost use Rattle.pb_manifest.specs.declared.feature.Feature.{Feature};
 ghost use Rattle.pb_manifest.specs.declared.feature.FeatureItem.TheVariants as item;
-ghost use Rattle.pb_workspace.specs.Sorted.{placed};
+ghost use Rattle.pb_workspace.specs.Sorted.{with_entry};
 ghost use Rattle.pb_workspace.specs.Features.{with_made, with_written, feature_of, features_of};
 ghost use Rattle.pb_workspace.specs.Enabling.{named_by, named_in, AreEnabledNames, with_one};
 ghost use Rattle.pb_workspace.specs.Drafted.{AreFeatures, IsKeyed, IsWrittenFeature};
@@ -79,7 +79,7 @@ fn put_made(
     made: &mut Sorted<Items<FeatureItem>>,
     key: &Text,
 ) -> Result<(), AllocError>
-    ensures { OnOk result (made.new ≡ placed made.old key.now (item.Dependency key.now ∷ [])) }
+    ensures { OnOk result (made.new ≡ with_entry made.old key.now (item.Dependency key.now ∷ [])) }
 {
     let mut items = Items::new(alloc);
     items.push(FeatureItem::Dependency(key.copy(alloc)?))?;

@@ -1,88 +1,55 @@
 //! What is found in the folder of a package: its README, its library and its build script.
 
-ghost use Rattle.std.specs.Prelude.{◌≡◌, IfOk, IfErr, IsTrue, true, [], IfSome};
-ghost use Rattle.pb_place.specs.Paths.{is_relative};
-ghost use Rattle.pb_place.specs.World.{from_nothing};
-ghost use Rattle.pb_workspace.specs.Causes.{is_outside, Reads};
-ghost use Rattle.pb_workspace.specs.Sources.{own_source, found_readme, script_of, library_source, served_types, written_library, found_library, library_of};
+ghost use Rattle.std.specs.Prelude.{◌≡◌, IfOk, true, [], IfSome};
+ghost use Rattle.pb_place.specs.World.{World};
+ghost use Rattle.pb_workspace.specs.Listings.{AreListingsOf};
+ghost use Rattle.pb_workspace.specs.Sources.{found_readme, script_of, library_source, served_types, written_library, found_library, library_of};
 ghost use Rattle.pb_manifest.specs.Letters.{is_crate_name, is_name};
 ghost use Rattle.pb_workspace.specs.Drafted.{IsWrittenLibrary, IsLibraryNamed};
 
-use crate::source::{has_own_file, own_path, resolved};
+use crate::listings::{Listings, has_own_file, own_source};
+use crate::source::{own_path, resolved};
 use pb_data::{Items, Text};
 use pb_manifest::{Build, CrateType, WrittenPath, library_name};
-use pb_package::{Library, LoadFault};
-use pb_place::{PathText, Place};
+use pb_package::Library;
+use pb_place::PathText;
 use std::alloc::{AllocError, Global};
 
 /// The README of a package that names none: the first of `README.md`, `README.txt` and `README` that is a
 /// file of its folder (The Cargo Book, Manifest Format).
-pub fn found_readme<P: Place>(
+#[tactic(auto, using(crate::proofs::Listed::listed_laws))]
+pub fn found_readme(
     alloc: Global,
-    place: &mut P,
-    target: &PathText,
+    listings: &Listings,
     folder: &PathText,
-) -> Result<Text, LoadFault>
-    ensures ok { IsTrue P.tells → IfOk result (λ text. text ≡ found_readme folder.now (from_nothing target.now (P.world place.old))) }
-    ensures same { IsTrue P.tells → P.world place.new ≡ P.world place.old }
-    ensures most { P.most place.new ≡ P.most place.old }
-    ensures outside { IfErr result (λ e. is_outside e ≡ true) }
-    ensures reads { Reads result (P.counts place.old) (P.counts place.new) }
+) -> Result<Text, AllocError>
+    ensures ok { (sources : World) → AreListingsOf folder.now sources listings.now → IfOk result (λ text. text ≡ found_readme folder.now sources) }
 {
-    if has_own_file(alloc, place, target, folder, "README.md")? {
-        return Ok(Text::from_str(alloc, "README.md")?);
+    if has_own_file(alloc, listings, folder, "README.md")? {
+        return Text::from_str(alloc, "README.md");
     }
-    if has_own_file(alloc, place, target, folder, "README.txt")? {
-        return Ok(Text::from_str(alloc, "README.txt")?);
+    if has_own_file(alloc, listings, folder, "README.txt")? {
+        return Text::from_str(alloc, "README.txt");
     }
-    if has_own_file(alloc, place, target, folder, "README")? {
-        return Ok(Text::from_str(alloc, "README")?);
+    if has_own_file(alloc, listings, folder, "README")? {
+        return Text::from_str(alloc, "README");
     }
-    Ok(Text::from_str(alloc, "")?)
-}
-
-/// The path of a file of a folder, where it is one of the sources.
-pub(crate) fn own_source<P: Place>(
-    alloc: Global,
-    place: &mut P,
-    target: &PathText,
-    folder: &PathText,
-    name: &str,
-) -> Result<Option<PathText>, LoadFault>
-    requires { is_relative name.now ≡ true }
-    ensures ok { IsTrue P.tells → IfOk result (λ path. path ≡ own_source folder.now (from_nothing target.now (P.world place.old)) name.now) }
-    ensures same { IsTrue P.tells → P.world place.new ≡ P.world place.old }
-    ensures most { P.most place.new ≡ P.most place.old }
-    ensures outside { IfErr result (λ e. is_outside e ≡ true) }
-    ensures reads { Reads result (P.counts place.old) (P.counts place.new) }
-{
-    if !has_own_file(alloc, place, target, folder, name)? {
-        return Ok(None);
-    }
-    let path = own_path(alloc, folder, name)?;
-    Ok(Some(path))
+    Text::from_str(alloc, "")
 }
 
 /// The source of a package's build script, where it has one (The Cargo Book, Build Scripts): `build.rs` where
 /// that is a file, unless `build` says otherwise. A path that `build` writes is taken as it is.
-pub fn script_of<P: Place>(
+#[tactic(auto, using(crate::proofs::Listed::listed_laws))]
+pub fn script_of(
     alloc: Global,
-    place: &mut P,
-    target: &PathText,
+    listings: &Listings,
     folder: &PathText,
     build: &Build,
-) -> Result<Option<PathText>, LoadFault>
-    ensures ok { IsTrue P.tells → IfOk result (λ script. script ≡ script_of folder.now (from_nothing target.now (P.world place.old)) build.now) }
-    ensures same { IsTrue P.tells → P.world place.new ≡ P.world place.old }
-    ensures most { P.most place.new ≡ P.most place.old }
-    ensures outside { IfErr result (λ e. is_outside e ≡ true) }
-    ensures reads { Reads result (P.counts place.old) (P.counts place.new) }
+) -> Result<Option<PathText>, AllocError>
+    ensures ok { (sources : World) → AreListingsOf folder.now sources listings.now → IfOk result (λ script. script ≡ script_of folder.now sources build.now) }
 {
     match build {
-        Build::Discovered => {
-            let script = own_source(alloc, place, target, folder, "build.rs")?;
-            Ok(script)
-        }
+        Build::Discovered => own_source(alloc, listings, folder, "build.rs"),
         Build::Standard => {
             let script = own_path(alloc, folder, "build.rs")?;
             Ok(Some(script))
@@ -147,22 +114,18 @@ fn written_library(
 }
 
 /// The library of a package without a `[lib]` table: `src/lib.rs` where that is a file.
-fn found_library<P: Place>(
+#[tactic(auto, using(crate::proofs::Listed::listed_laws))]
+fn found_library(
     alloc: Global,
-    place: &mut P,
-    target: &PathText,
+    listings: &Listings,
     folder: &PathText,
     name: Text,
-) -> Result<Option<Library>, LoadFault>
+) -> Result<Option<Library>, AllocError>
     requires { is_crate_name name ≡ true }
-    ensures ok { IsTrue P.tells → IfOk result (λ library. library ≡ found_library folder.now (from_nothing target.now (P.world place.old)) name) }
+    ensures ok { (sources : World) → AreListingsOf folder.now sources listings.now → IfOk result (λ library. library ≡ found_library folder.now sources name) }
     ensures named { IfOk result (λ library. IfSome library IsLibraryNamed) }
-    ensures same { IsTrue P.tells → P.world place.new ≡ P.world place.old }
-    ensures most { P.most place.new ≡ P.most place.old }
-    ensures outside { IfErr result (λ e. is_outside e ≡ true) }
-    ensures reads { Reads result (P.counts place.old) (P.counts place.new) }
 {
-    let source = match own_source(alloc, place, target, folder, "src/lib.rs")? {
+    let source = match own_source(alloc, listings, folder, "src/lib.rs")? {
         Some(source) => source,
         None => return Ok(None),
     };
@@ -177,22 +140,17 @@ fn found_library<P: Place>(
 /// The library of a package of this name, where it has one (The Cargo Book, Cargo Targets): that of `[lib]`,
 /// else `src/lib.rs` where that is a file.
 #[tactic(auto, using(crate::proofs::Naming::library_laws))]
-pub fn library_of<P: Place>(
+pub fn library_of(
     alloc: Global,
-    place: &mut P,
-    target: &PathText,
+    listings: &Listings,
     folder: &PathText,
     package_name: &str,
     written: Option<pb_manifest::Library>,
-) -> Result<Option<Library>, LoadFault>
+) -> Result<Option<Library>, AllocError>
     requires name { is_name package_name.now ≡ true }
     requires library { IfSome written IsWrittenLibrary }
-    ensures ok { IsTrue P.tells → IfOk result (λ library. library ≡ library_of folder.now (from_nothing target.now (P.world place.old)) package_name.now written) }
+    ensures ok { (sources : World) → AreListingsOf folder.now sources listings.now → IfOk result (λ library. library ≡ library_of folder.now sources package_name.now written) }
     ensures named { IfOk result (λ library. IfSome library IsLibraryNamed) }
-    ensures same { IsTrue P.tells → P.world place.new ≡ P.world place.old }
-    ensures most { P.most place.new ≡ P.most place.old }
-    ensures outside { IfErr result (λ e. is_outside e ≡ true) }
-    ensures reads { Reads result (P.counts place.old) (P.counts place.new) }
 {
     let name = library_name(alloc, package_name, &written)?;
     match written {
@@ -200,9 +158,6 @@ pub fn library_of<P: Place>(
             let library = written_library(alloc, folder, name, written)?;
             Ok(Some(library))
         }
-        None => {
-            let library = found_library(alloc, place, target, folder, name)?;
-            Ok(library)
-        }
+        None => found_library(alloc, listings, folder, name),
     }
 }

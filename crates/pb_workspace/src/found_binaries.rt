@@ -1,24 +1,23 @@
 //! The binaries that a package's folder has.
 
-ghost use Rattle.std.specs.Prelude.{◌≡◌, ◌++◌, Bool, not, IfOk, IfErr, OnOk, IsTrue, true, false, filter, map, option_map};
+ghost use Rattle.std.specs.Prelude.{◌≡◌, ◌++◌, IfOk, OnOk, true, false, map, option_map};
 ghost use Rattle.std.specs.List.{AllByRecursion, filter_map};
-ghost use Rattle.pb_place.specs.Paths.{inside, is_at_or_below};
-ghost use Rattle.pb_place.specs.World.{from_nothing, listed};
+ghost use Rattle.pb_place.specs.Paths.{inside};
+ghost use Rattle.pb_place.specs.World.{World};
 ghost use Rattle.pb_manifest.specs.Features.{parted};
 ghost use Rattle.pb_workspace.specs.Between.{names_in};
-ghost use Rattle.pb_workspace.specs.Causes.{is_outside, bears, Reads};
-ghost use Rattle.pb_workspace.specs.FoundBinaries.{stem_in, flat_name, nested_name, name_by, name_inside, binary_at, main_binary, bin_folder, found_binaries};
-ghost use Rattle.pb_workspace.specs.Sources.{own_source};
+ghost use Rattle.pb_workspace.specs.FoundBinaries.{stem_in, flat_name, nested_name, name_by, name_inside, binary_at, main_binary, found_binaries};
+ghost use Rattle.pb_workspace.specs.Listings.{AreListingsOf};
 ghost use Rattle.pb_manifest.specs.Letters.{is_name};
 ghost use Rattle.pb_workspace.specs.Drafted.{IsBinaryNamed};
 
 use crate::between::names_in;
-use crate::found::own_source;
-use crate::source::{failed, own_path};
+use crate::listings::{Listings, own_source};
+use crate::source::own_path;
 use pb_data::{Items, Text, TryCopy};
 use pb_manifest::letters::is_name;
-use pb_package::{Binary, LoadFault};
-use pb_place::{PathText, Place};
+use pb_package::Binary;
+use pb_place::PathText;
 use std::alloc::{AllocError, Global};
 
 /// What stands before and after the first `.`.
@@ -137,27 +136,6 @@ fn add_binaries(
     Ok(())
 }
 
-/// The files of the sources below a folder, in byte order. Nothing at or below the target folder is looked at.
-pub fn listed_sources<P: Place>(
-    alloc: Global,
-    place: &mut P,
-    target: &PathText,
-    folder: &PathText,
-) -> Result<Items<PathText>, LoadFault>
-    ensures ok { IsTrue P.tells → IfOk result (λ paths. paths ≡ listed folder.now (from_nothing target.now (P.world place.old))) }
-    ensures same { IsTrue P.tells → P.world place.new ≡ P.world place.old }
-    ensures most { P.most place.new ≡ P.most place.old }
-    ensures outside { IfErr result (λ e. is_outside e ≡ true) }
-    ensures bears { IfErr result (λ e. bears folder.now e ≡ true) }
-    ensures reads { Reads result (P.counts place.old) (P.counts place.new) }
-{
-    let named = folder.copy(alloc)?;
-    match place.list_outside(alloc, folder, target) {
-        Ok(paths) => Ok(paths),
-        Err(fault) => Err(failed(named, fault)),
-    }
-}
-
 /// Adds the binary of `src/main.rs`, where it is there, named as the package.
 fn add_main(
     alloc: Global,
@@ -198,24 +176,19 @@ fn binaries_from(
 /// `src/bin/NAME.rs` and of `src/main.rs`, which is named as the package, in this order; so of two of one name
 /// the later counts. NAME has the letters of a package's name. What lies at or below the target folder is left
 /// out.
-pub fn found_binaries<P: Place>(
+#[tactic(auto, using(crate::proofs::Listed::listed_laws))]
+pub fn found_binaries(
     alloc: Global,
-    place: &mut P,
-    target: &PathText,
+    listings: &Listings,
     folder: &PathText,
     name: &Text,
-) -> Result<Items<Binary>, LoadFault>
+) -> Result<Items<Binary>, AllocError>
     requires { is_name name.now ≡ true }
-    ensures ok { IsTrue P.tells → IfOk result (λ binaries. binaries ≡ found_binaries folder.now (from_nothing target.now (P.world place.old)) name.now) }
+    ensures ok { (sources : World) → AreListingsOf folder.now sources listings.now → IfOk result (λ binaries. binaries ≡ found_binaries folder.now sources name.now) }
     ensures named { IfOk result (AllByRecursion IsBinaryNamed) }
-    ensures same { IsTrue P.tells → P.world place.new ≡ P.world place.old }
-    ensures most { P.most place.new ≡ P.most place.old }
-    ensures outside { IfErr result (λ e. is_outside e ≡ true) }
-    ensures reads { Reads result (P.counts place.old) (P.counts place.new) }
 {
     let bin = own_path(alloc, folder, "src/bin")?;
-    let main = own_source(alloc, place, target, folder, "src/main.rs")?;
-    let paths = listed_sources(alloc, place, target, &bin)?;
-    let binaries = binaries_from(alloc, name, &bin, paths.as_slice(), main)?;
+    let main = own_source(alloc, listings, folder, "src/main.rs")?;
+    let binaries = binaries_from(alloc, name, &bin, listings.in_bin.as_slice(), main)?;
     Ok(binaries)
 }

@@ -1,19 +1,20 @@
 //! The keys of a package, each settled.
 
-ghost use Rattle.std.specs.Prelude.{◌≡◌, IfErr, IsTrue, false, IfOk};
+ghost use Rattle.std.specs.Prelude.{◌≡◌, IfErr, false, IfOk};
 ghost use Rattle.pb_data.specs.Gives.{Gives};
-ghost use Rattle.pb_place.specs.World.{from_nothing};
-ghost use Rattle.pb_workspace.specs.Causes.{is_failure, Told, Reads};
+ghost use Rattle.pb_place.specs.World.{World};
+ghost use Rattle.pb_workspace.specs.Causes.{is_failure};
+ghost use Rattle.pb_workspace.specs.Listings.{AreListingsOf};
 ghost use Rattle.pb_workspace.specs.Keys.{keys_from, keys_of};
 ghost use Rattle.pb_package.specs.declared.fault.LoadFault.TheVariants as load_fault;
 
+use crate::listings::Listings;
 use crate::settling::readme_found;
 use crate::taken::{about_of, edition_of, version_of};
 use crate::wanted::Standing;
 use pb_data::{Text, TryCopy};
 use pb_manifest::{Build, Edition, Package, Version, WorkspacePackage};
 use pb_package::{About, LoadFault};
-use pb_place::{PathText, Place};
 use std::alloc::{AllocError, Global};
 
 /// The keys of a package, with nothing left to inherit.
@@ -102,21 +103,17 @@ fn keys_from(
 
 /// The keys of a package: what it writes, or takes from its workspace, or has in its folder (The Cargo Book,
 /// Manifest Format and Workspaces). NoInherited where a key is taken from a workspace that has none to give.
-pub fn keys_of<P: Place>(
+pub fn keys_of(
     alloc: Global,
-    place: &mut P,
-    target: &PathText,
+    listings: &Listings,
     at: &Standing,
     given: &WorkspacePackage,
     found: &Package,
 ) -> Result<Keys, LoadFault>
-    ensures ok { IsTrue P.tells → Told result (keys_of (from_nothing target.now (P.world place.old)) at.now given.now found.now) }
+    ensures told { (sources : World) → AreListingsOf at.now.folder sources listings.now → Gives load_fault.OutOfMemory (λ keys. keys) result (keys_of sources at.now given.now found.now) }
     ensures name { IfOk result (λ keys. keys.name ≡ found.now.name) }
-    ensures same { IsTrue P.tells → P.world place.new ≡ P.world place.old }
-    ensures most { P.most place.new ≡ P.most place.old }
-    ensures reads { Reads result (P.counts place.old) (P.counts place.new) }
+    ensures here { IfErr result (λ e. is_failure e ≡ false) }
 {
-    let readme = readme_found(alloc, place, target, &at.folder, &found.readme)?;
-    let keys = keys_from(alloc, at, given, &readme, found)?;
-    Ok(keys)
+    let readme = readme_found(alloc, listings, &at.folder, &found.readme)?;
+    keys_from(alloc, at, given, &readme, found)
 }

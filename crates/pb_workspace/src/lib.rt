@@ -17,6 +17,7 @@ pub mod frame;
 pub mod glob;
 pub mod keys;
 pub mod laws;
+pub mod listings;
 pub mod loading;
 pub mod member;
 pub mod member_folders;

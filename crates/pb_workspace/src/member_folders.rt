@@ -9,11 +9,10 @@ ghost use Rattle.pb_workspace.specs.Sources.{resolved};
 ghost use Rattle.pb_workspace.specs.MemberFolders.{is_fixed, fixed_text, base_of, is_manifest, is_taken, folders_taken, folders_meant, member_folders};
 
 use crate::by_folder::{ByFolder, put_folders};
-use crate::found_binaries::listed_sources;
 use crate::frame::Frame;
 use crate::glob::is_glob;
 use crate::member::{Part, is_excluded, is_meant, parts_meant};
-use crate::source::resolved;
+use crate::source::{listed_sources, resolved};
 use pb_data::Items;
 use pb_manifest::WrittenPath;
 use pb_package::LoadFault;

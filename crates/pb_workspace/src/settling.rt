@@ -1,10 +1,11 @@
 //! A package, settled from its manifest, its folder and what its workspace gives.
 
-ghost use Rattle.std.specs.Prelude.{◌≡◌, ◌++◌, All, Bool, IfOk, IfErr, OnOk, IsTrue, true, false, map, IfSome};
+ghost use Rattle.std.specs.Prelude.{◌≡◌, ◌++◌, All, IfOk, IfErr, true, false, map, IfSome};
 ghost use Rattle.pb_data.specs.Gives.{Gives};
-ghost use Rattle.pb_place.specs.World.{from_nothing};
+ghost use Rattle.pb_place.specs.World.{World};
 ghost use Rattle.pb_manifest.specs.Letters.{is_name};
-ghost use Rattle.pb_workspace.specs.Causes.{is_outside, is_failure, Reads};
+ghost use Rattle.pb_workspace.specs.Causes.{is_failure};
+ghost use Rattle.pb_workspace.specs.Listings.{AreListingsOf};
 ghost use Rattle.pb_workspace.specs.Settling.{readme_found, wanted_in, discovered, targets_of, comes_again, has_same_binaries};
 ghost use Rattle.pb_package.specs.declared.fault.LoadFault.TheVariants as load_fault;
 ghost use Rattle.std.specs.List.{AllByRecursion};
@@ -16,11 +17,12 @@ use crate::by_key::{SharedByKey, WantedByKey};
 use crate::found::{found_readme, library_of, script_of};
 use crate::found_binaries::found_binaries;
 use crate::keys::Keys;
+use crate::listings::Listings;
 use crate::wanted::{Standing, Wanted, each_wanted};
 use pb_data::{Items, Mentions, Text, TryCopy};
 use pb_manifest::{Dependency, Inheritable, Readme, WorkspacePackage};
 use pb_package::{BinariesByName, Binary, DependencyKind, Library, LoadFault};
-use pb_place::{PathText, Place};
+use pb_place::PathText;
 use std::alloc::{AllocError, Global};
 
 /// What a package may take from its workspace. A package that may take nothing is given a table without
@@ -45,26 +47,18 @@ pub struct Targets {
 }
 
 /// The README that is looked for in a package's folder, where none is written; else the empty text.
-pub fn readme_found<P: Place>(
+pub fn readme_found(
     alloc: Global,
-    place: &mut P,
-    target: &PathText,
+    listings: &Listings,
     folder: &PathText,
     readme: &Inheritable<Readme>,
-) -> Result<Text, LoadFault>
-    ensures ok { IsTrue P.tells → IfOk result (λ text. text ≡ readme_found folder.now (from_nothing target.now (P.world place.old)) readme.now) }
-    ensures same { IsTrue P.tells → P.world place.new ≡ P.world place.old }
-    ensures most { P.most place.new ≡ P.most place.old }
-    ensures outside { IfErr result (λ e. is_outside e ≡ true) }
-    ensures reads { Reads result (P.counts place.old) (P.counts place.new) }
+) -> Result<Text, AllocError>
+    ensures ok { (sources : World) → AreListingsOf folder.now sources listings.now → IfOk result (λ text. text ≡ readme_found folder.now sources readme.now) }
 {
     match readme {
-        Inheritable::Written(_) => Ok(Text::from_str(alloc, "")?),
-        Inheritable::Workspace => Ok(Text::from_str(alloc, "")?),
-        Inheritable::Absent => {
-            let readme = found_readme(alloc, place, target, folder)?;
-            Ok(readme)
-        }
+        Inheritable::Written(_) => Text::from_str(alloc, ""),
+        Inheritable::Workspace => Text::from_str(alloc, ""),
+        Inheritable::Absent => found_readme(alloc, listings, folder),
     }
 }
 
@@ -103,55 +97,44 @@ pub fn wanted_in(
 }
 
 /// The binaries that are found, unless `autobins` is false.
-fn discovered<P: Place>(
+fn discovered(
     alloc: Global,
-    place: &mut P,
-    target: &PathText,
+    listings: &Listings,
     folder: &PathText,
     name: &Text,
     autobins: bool,
-) -> Result<Items<Binary>, LoadFault>
+) -> Result<Items<Binary>, AllocError>
     requires { is_name name.now ≡ true }
-    ensures ok { IsTrue P.tells → IfOk result (λ binaries. binaries ≡ discovered folder.now (from_nothing target.now (P.world place.old)) name.now autobins) }
+    ensures ok { (sources : World) → AreListingsOf folder.now sources listings.now → IfOk result (λ binaries. binaries ≡ discovered folder.now sources name.now autobins) }
     ensures named { IfOk result (AllByRecursion IsBinaryNamed) }
-    ensures same { IsTrue P.tells → P.world place.new ≡ P.world place.old }
-    ensures most { P.most place.new ≡ P.most place.old }
-    ensures outside { IfErr result (λ e. is_outside e ≡ true) }
-    ensures reads { Reads result (P.counts place.old) (P.counts place.new) }
 {
     if !autobins {
         return Ok(Items::new(alloc));
     }
-    let found = found_binaries(alloc, place, target, folder, name)?;
-    Ok(found)
+    found_binaries(alloc, listings, folder, name)
 }
 
 /// What a package of these keys is built to: its library, its binaries and its build script, each where it is
 /// written or found (The Cargo Book, Cargo Targets and Build Scripts).
-pub fn targets_of<P: Place>(
+pub fn targets_of(
     alloc: Global,
-    place: &mut P,
-    target: &PathText,
+    listings: &Listings,
     folder: &PathText,
     keys: &Keys,
     library: Option<pb_manifest::Library>,
     binaries: Items<pb_manifest::Binary>,
-) -> Result<Targets, LoadFault>
+) -> Result<Targets, AllocError>
     requires binaries { All (λ b. is_name b.name ≡ true) binaries }
     requires name { is_name keys.now.name ≡ true }
     requires library { IfSome library IsWrittenLibrary }
-    ensures ok { IsTrue P.tells → IfOk result (λ targets. targets ≡ targets_of folder.now (from_nothing target.now (P.world place.old)) keys.now.name keys.now.autobins keys.now.build library binaries) }
+    ensures ok { (sources : World) → AreListingsOf folder.now sources listings.now → IfOk result (λ targets. targets ≡ targets_of folder.now sources keys.now.name keys.now.autobins keys.now.build library binaries) }
     ensures targets { IfOk result AreTargets }
-    ensures same { IsTrue P.tells → P.world place.new ≡ P.world place.old }
-    ensures most { P.most place.new ≡ P.most place.old }
-    ensures outside { IfErr result (λ e. is_outside e ≡ true) }
-    ensures reads { Reads result (P.counts place.old) (P.counts place.new) }
 {
     let name = &keys.name;
-    let library = library_of(alloc, place, target, folder, name.as_str(), library)?;
-    let script = script_of(alloc, place, target, folder, &keys.build)?;
-    let found = discovered(alloc, place, target, folder, name, keys.autobins)?;
-    let written = written_binaries(alloc, place, target, folder, name, binaries)?;
+    let library = library_of(alloc, listings, folder, name.as_str(), library)?;
+    let script = script_of(alloc, listings, folder, &keys.build)?;
+    let found = discovered(alloc, listings, folder, name, keys.autobins)?;
+    let written = written_binaries(alloc, listings, folder, name, binaries)?;
     let binaries = binaries_of(alloc, found, written)?;
     Ok(Targets {
         library,

@@ -1,7 +1,7 @@
 //! Values by names, in byte order of the names.
 
 ghost use Rattle.std.specs.Prelude.{◌≡◌, List, ℕ, [], IfOk, OnOk, OnErr, map};
-ghost use Rattle.pb_workspace.specs.Sorted.{placed};
+ghost use Rattle.pb_workspace.specs.Sorted.{with_entry};
 ghost use Rattle.pb_package.specs.Settled.{IsAscending};
 
 use pb_data::{Items, Text};
@@ -35,7 +35,7 @@ impl<V: Drop> Sorted<V> {
 
     /// Puts an entry in its place; one of its name gives way.
     pub fn insert(&mut self, name: Text, value: V) -> Result<(), AllocError>
-        ensures { OnOk result (self.new ≡ placed self.old name value) }
+        ensures { OnOk result (self.new ≡ with_entry self.old name value) }
     {
         let _old = self.inside.insert(name, value)?;
         Ok(())

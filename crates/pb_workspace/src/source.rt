@@ -1,13 +1,13 @@
 //! Files of the sources: what lies at or below the target folder is left out.
 
-ghost use Rattle.std.specs.Prelude.{◌≡◌, IfOk, IfErr, IsTrue, true};
+ghost use Rattle.std.specs.Prelude.{◌≡◌, IfOk, IfErr, IsTrue, true, not, filter};
 ghost use Rattle.std.specs.FinMap as finite;
-ghost use Rattle.pb_place.specs.Paths.{below, is_relative};
-ghost use Rattle.pb_place.specs.World.{from_nothing};
-ghost use Rattle.pb_workspace.specs.Causes.{is_outside, fault_at, bears, Reads};
-ghost use Rattle.pb_workspace.specs.Sources.{has_file, has_own_file, resolved};
+ghost use Rattle.pb_place.specs.Paths.{below, is_at_or_below, is_relative};
+ghost use Rattle.pb_place.specs.World.{from_nothing, listed, listed_directly};
+ghost use Rattle.pb_workspace.specs.Causes.{is_outside, fault_at, Reads};
+ghost use Rattle.pb_workspace.specs.Sources.{resolved};
 
-use pb_data::{Bytes, TryCopy};
+use pb_data::{Bytes, Items, TryCopy};
 use pb_manifest::WrittenPath;
 use pb_package::LoadFault;
 use pb_place::{PathText, Place, PlaceFault, RelativePath};
@@ -35,7 +35,6 @@ pub fn source<P: Place>(
     ensures same { IsTrue P.tells → P.world place.new ≡ P.world place.old }
     ensures most { P.most place.new ≡ P.most place.old }
     ensures outside { IfErr result (λ e. is_outside e ≡ true) }
-    ensures bears { IfErr result (λ e. bears path.now e ≡ true) }
     ensures reads { Reads result (P.counts place.old) (P.counts place.new) }
 {
     if path.starts_with(target) {
@@ -48,22 +47,71 @@ pub fn source<P: Place>(
     }
 }
 
-/// Whether a file is among the sources.
-pub fn is_source<P: Place>(
+/// Those of some paths that are not at or below the target folder.
+fn sources_among(
+    alloc: Global,
+    target: &PathText,
+    paths: Items<PathText>,
+) -> Result<Items<PathText>, AllocError>
+    ensures { IfOk result (λ kept. kept ≡ filter (λ path. not (is_at_or_below target.now path)) paths) }
+{
+    let mut kept = Items::new(alloc);
+    for path in paths.into_vec() {
+        if !path.starts_with(target) {
+            kept.push(path)?;
+        }
+    }
+    Ok(kept)
+}
+
+/// The files of the sources directly in a folder, in byte order. A folder at or below the target folder is not
+/// listed.
+#[tactic(auto, using(crate::proofs::SourceLemmas::listing_laws))]
+pub fn sources_directly<P: Place>(
     alloc: Global,
     place: &mut P,
     target: &PathText,
-    path: &PathText,
-) -> Result<bool, LoadFault>
-    ensures ok { IsTrue P.tells → IfOk result (λ answer. answer ≡ has_file path.now (from_nothing target.now (P.world place.old))) }
+    folder: &PathText,
+) -> Result<Items<PathText>, LoadFault>
+    ensures ok { IsTrue P.tells → IfOk result (λ paths. paths ≡ listed_directly folder.now (from_nothing target.now (P.world place.old))) }
     ensures same { IsTrue P.tells → P.world place.new ≡ P.world place.old }
     ensures most { P.most place.new ≡ P.most place.old }
     ensures outside { IfErr result (λ e. is_outside e ≡ true) }
-    ensures bears { IfErr result (λ e. bears path.now e ≡ true) }
     ensures reads { Reads result (P.counts place.old) (P.counts place.new) }
 {
-    let found = source(alloc, place, target, path)?;
-    Ok(found.is_some())
+    if folder.starts_with(target) {
+        return Ok(Items::new(alloc));
+    }
+    let named = folder.copy(alloc)?;
+    let paths = match place.list_directly(alloc, folder) {
+        Ok(paths) => paths,
+        Err(fault) => return Err(failed(named, fault)),
+    };
+    Ok(sources_among(alloc, target, paths)?)
+}
+
+/// The files of the sources below a folder, in byte order. Nothing at or below the target folder is looked at.
+#[tactic(auto, using(crate::proofs::SourceLemmas::listing_laws))]
+pub fn listed_sources<P: Place>(
+    alloc: Global,
+    place: &mut P,
+    target: &PathText,
+    folder: &PathText,
+) -> Result<Items<PathText>, LoadFault>
+    ensures ok { IsTrue P.tells → IfOk result (λ paths. paths ≡ listed folder.now (from_nothing target.now (P.world place.old))) }
+    ensures same { IsTrue P.tells → P.world place.new ≡ P.world place.old }
+    ensures most { P.most place.new ≡ P.most place.old }
+    ensures outside { IfErr result (λ e. is_outside e ≡ true) }
+    ensures reads { Reads result (P.counts place.old) (P.counts place.new) }
+{
+    if folder.starts_with(target) {
+        return Ok(Items::new(alloc));
+    }
+    let named = folder.copy(alloc)?;
+    match place.list_outside(alloc, folder, target) {
+        Ok(paths) => Ok(paths),
+        Err(fault) => Err(failed(named, fault)),
+    }
 }
 
 /// A path in a folder.
@@ -73,27 +121,6 @@ pub fn own_path(alloc: Global, folder: &PathText, name: &str) -> Result<PathText
 {
     let name = RelativePath::name(alloc, name)?;
     folder.below(alloc, &name)
-}
-
-/// Whether a file of a folder is among the sources.
-pub fn has_own_file<P: Place>(
-    alloc: Global,
-    place: &mut P,
-    target: &PathText,
-    folder: &PathText,
-    name: &str,
-) -> Result<bool, LoadFault>
-    requires { is_relative name.now ≡ true }
-    ensures ok { IsTrue P.tells → IfOk result (λ answer. answer ≡ has_own_file folder.now (from_nothing target.now (P.world place.old)) name.now) }
-    ensures same { IsTrue P.tells → P.world place.new ≡ P.world place.old }
-    ensures most { P.most place.new ≡ P.most place.old }
-    ensures outside { IfErr result (λ e. is_outside e ≡ true) }
-    ensures bears { IfErr result (λ e. bears (below folder.now name.now) e ≡ true) }
-    ensures reads { Reads result (P.counts place.old) (P.counts place.new) }
-{
-    let path = own_path(alloc, folder, name)?;
-    let found = is_source(alloc, place, target, &path)?;
-    Ok(found)
 }
 
 /// The path that a written one says, from a folder. It holds no byte 0, so it is one.

@@ -1,10 +1,8 @@
 use Rattle.std.proofs.Common.{◌≡◌, ◌++◌, ◌∷◌, ◌∙◌, List, [], All, suc, map, true, ap, sym, subst, arith, append_assoc}
-use Rattle.pb_place.specs.World.{from_nothing}
 use Rattle.pb_manifest.specs.Letters.{is_name}
 use Rattle.std.specs.List.{AllByRecursion}
 use Rattle.pb_workspace.specs.Drafted.{IsBinaryNamed}
 use Rattle.pb_workspace.proofs.Naming.{both_all}
-use Rattle.pb_workspace.specs.Binaries.{written_binary}
 use Rattle.pb_workspace.proofs.binaries.written_binaries.Goals as goal
 
 -- one item more is made, and put behind those that are made already
@@ -19,15 +17,8 @@ rest_all P old rest x cut all =
     λ k d lt. whole (suc k) d (omega arith)
 
 pub loop-binary-preserved : goal.loop-binary-preserved
-loop-binary-preserved g c = record {
+loop-binary-preserved c = record {
   names = rest_all (λ b. is_name b.name ≡ true) _ _ _ c.in-Some.ensures.steps.0 c.loop-binary.invariant.names;
-  made = λ told.
-      made_step _ _ _ _ _ _ _ _ c.in-Some.ensures.steps.0
-      (c.in_ok-made.ensures.ok told ∙ ap (λ w. written_binary c.args.folder.now (from_nothing c.args.target.now w) c.args.package_name.now c.in-Some.binary) (c.loop-binary.invariant.same told))
-      c.in_ok-push.ensures.ok (c.loop-binary.invariant.made told);
+  made = λ sources are. made_step _ _ _ _ _ _ _ _ c.in-Some.ensures.steps.0 (c.in_ok-made.ensures.ok sources are) c.in_ok-push.ensures.ok (c.loop-binary.invariant.made sources are);
   good = subst (AllByRecursion IsBinaryNamed) (sym c.in_ok-push.ensures.ok) (both_all IsBinaryNamed _ _ c.loop-binary.invariant.good (c.in_ok-made.ensures.named, tt));
-  same = λ told. c.in_ok-made.ensures.same told ∙ c.loop-binary.invariant.same told;
-  failures = c.in_ok-made.ensures.reads.0 ∙ c.loop-binary.invariant.failures;
-  starts = c.in_ok-made.ensures.reads.1 ∙ c.loop-binary.invariant.starts;
-  most = c.in_ok-made.ensures.most ∙ c.loop-binary.invariant.most;
 }

@@ -4,7 +4,7 @@ use Rattle.pb_package.specs.Settled.{IsAscending}
 use Rattle.pb_workspace.proofs.draft.draft_with.Goals as goal
 
 pub lists_of-requires-clause-normal_order : goal.lists_of-requires-clause-normal_order
-lists_of-requires-clause-normal_order g c = subst (λ ds. IsAscending (map (λ (d : Dependency). d.key) ds)) (sym c.as_slice.ensures) c.requires.promised.4
+lists_of-requires-clause-normal_order c = subst (λ ds. IsAscending (map (λ (d : Dependency). d.key) ds)) (sym c.as_slice.ensures) c.requires.promised.4
 
 pub lists_of-requires-clause-build_order : goal.lists_of-requires-clause-build_order
-lists_of-requires-clause-build_order g c = subst (λ ds. IsAscending (map (λ (d : Dependency). d.key) ds)) (sym c.as_slice-2.ensures) c.requires.promised.5
+lists_of-requires-clause-build_order c = subst (λ ds. IsAscending (map (λ (d : Dependency). d.key) ds)) (sym c.as_slice-2.ensures) c.requires.promised.5
