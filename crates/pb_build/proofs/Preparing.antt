@@ -1,5 +1,5 @@
 -- What comes before a build's units.
-use Rattle.std.proofs.Common.{◌≡◌, ◌∙◌, ◌⊎◌, Bool, List, Some, None, IsTrue, refl, sym, ap, subst, inl, inr}
+use Rattle.std.proofs.Common.{◌≡◌, ◌∙◌, ◌⊎◌, Bool, ℕ, max, List, [], Some, None, IsTrue, Result, refl, sym, ap, subst, inl, inr}
 use Rattle.pb_answer.specs.declared.fault.BuildFault.{BuildFault}
 use Rattle.pb_answer.specs.declared.fault.BuildFault.TheVariants.{Plan, Toolchain, Child, Device, Sink, OutOfMemory}
 use Rattle.pb_answer.specs.declared.fault.DeviceFault.TheVariants as device
@@ -17,11 +17,13 @@ use Rattle.pb_store.specs.declared.fault.OpenFault.{OpenFault}
 use Rattle.pb_store.specs.declared.fault.OpenFault.TheVariants as open_fault
 use Rattle.pb_workspace.proofs.Accepted.{target_kept}
 use Rattle.pb_build.specs.Causes.{MayPlan, MayAsk, MayReady, Names}
-use Rattle.pb_build.specs.Ending.{FailsBefore, IsSilent, IsPrepared}
+use Rattle.pb_turns.specs.Moments.{Moment}
+use Rattle.pb_build.specs.Ending.{FailsBefore, IsSilent, IsPrepared, PlansFrom}
 use Rattle.pb_build.specs.Environment.{environment_of}
 use Rattle.pb_build.specs.Planning.{IsProject, IsToldRefusal}
 use Rattle.pb_build.specs.Private.{IsReadyFor, IsSilentFault, IsUnrefused, unopened}
 use Rattle.pb_build.specs.Result.{toolchain_of, setup_of}
+use Rattle.pb_build.specs.declared.builder.BuildPlan.{BuildPlan}
 use Rattle.pb_build.specs.declared.builder.Prepared.{Prepared}
 use Rattle.pb_build.specs.declared.environment.Environment.{Environment}
 
@@ -95,6 +97,37 @@ ready_fails tells child options OutOfMemory w old new may cause named silent = (
 -- the counters of a call that ended well before
 pub may_ready_from : (e : BuildFault) (old mid new : Starts) → mid ≡ old → MayReady e mid new → MayReady e old new
 may_ready_from e old mid new same may = subst (λ s. MayReady e s new) same may
+
+-- and no child flies then
+pub may_ready_landed : (e : BuildFault) (old new : Starts) → MayReady e old new → old.flying ≡ [] → new.flying ≡ []
+may_ready_landed (Plan why) old new may none = absurd may
+may_ready_landed Toolchain old new may none = ap (λ (s : Starts). s.flying) may ∙ none
+may_ready_landed (Child key fault) old new may none = ap (λ (s : Starts). s.flying) may.1 ∙ none
+may_ready_landed (Device name (device.Place fault)) old new may none = ap (λ (s : Starts). s.flying) may ∙ none
+may_ready_landed (Device name device.NumbersSpent) old new may none = absurd may
+may_ready_landed Sink old new may none = absurd may
+may_ready_landed OutOfMemory old new (inl may) none = ap (λ (s : Starts). s.flying) may ∙ none
+may_ready_landed OutOfMemory old new (inr may) none = ap (λ (s : Starts). s.flying) may ∙ none
+
+-- a plan that ended so
+pub plan_at : (tells : Bool) (options : Options) (plan ended : Result BuildPlan BuildFault) (from here : Moment) → plan ≡ ended → PlansFrom tells options plan from here → PlansFrom tells options ended from here
+plan_at tells options plan ended from here is planned = subst (λ (r : Result BuildPlan BuildFault). PlansFrom tells options r from here) is planned
+
+-- the same, whatever the sink
+pub unheard : (tells : Bool) (options : Options) (plan : Result BuildPlan BuildFault) (from here : Moment) → PlansFrom tells options plan from here → PlansFrom tells options plan from record here { heard = from.heard }
+unheard tells options plan from here planned = record {
+  is = planned.is;
+  refused = planned.refused;
+  stays = planned.stays;
+  takes = planned.takes;
+  named = planned.named;
+  most = planned.most;
+  heard = refl;
+}
+
+-- the most children, counted from before the plan
+pub most_from : (from here new : ℕ) → here ≡ from → (new ≡ here) ⊎ (new ≡ max here 1) → (new ≡ from) ⊎ (new ≡ max from 1)
+most_from from here new same most = subst (λ m. (new ≡ m) ⊎ (new ≡ max m 1)) same most
 
 -- What the units start from.
 

@@ -1,10 +1,9 @@
 -- How many children a build has started before its units, where a fault ends it, and what such a fault names.
-use Rattle.std.specs.Prelude.{◌≡◌, ◌⊎◌, ℕ, List, codes, Result, MatchResult}
+use Rattle.std.specs.Prelude.{◌≡◌, ◌⊎◌, codes, Result, MatchResult}
 use Rattle.pb_place.specs.Counts.{Counts, Starts, up_starts}
 use Rattle.pb_answer.specs.declared.fault.BuildFault.{BuildFault}
 use Rattle.pb_answer.specs.declared.fault.DeviceFault.TheVariants as device
 use Rattle.pb_answer.specs.declared.fault.BuildFault.TheVariants.{Plan, Toolchain, Child, Device, Sink, OutOfMemory}
-use Rattle.pb_run.specs.Causes.{Takes, NoStart}
 
 -- the faults of what comes before the query
 abbrev pub MayPlan : BuildFault → Starts → Starts → Type 0
@@ -46,7 +45,3 @@ Names OutOfMemory new = Unit {0}
 
 abbrev pub NamesCall : {T : Type 0} → Result T BuildFault → Counts → Type 0
 NamesCall result new = MatchResult result (λ _. Unit {0}) (λ e. Names e new)
-
--- what was looked at before the query: no child was started; where a call failed, it alone did, with the fault that was told
-abbrev pub Looks : Counts → Counts → Type 0
-Looks old new = (found : Result (List (List ℕ)) BuildFault) × Takes NoStart MayPlan found old new

@@ -1,5 +1,5 @@
 -- How a build ends: a table over its answer.
-use Rattle.std.specs.Prelude.{◌≡◌, ◌⊎◌, ℕ, Bool, false, max, codes, List, [], take, Some, None, IsTrue, Result, Ok, Err}
+use Rattle.std.specs.Prelude.{◌≡◌, ◌⊎◌, ℕ, Bool, false, max, codes, List, [], take, Some, None, IsTrue, IfOk, IfErr, Result, Ok, Err}
 use Rattle.std.specs.Io.KnownBytes.{Appends}
 use Rattle.pb_answer.specs.declared.fault.BuildFault.{BuildFault}
 use Rattle.pb_answer.specs.declared.fault.BuildFault.TheVariants.{Plan, Toolchain, Child, Device, Sink, OutOfMemory}
@@ -17,16 +17,18 @@ use Rattle.pb_place.specs.World.{World, Answers, from_nothing}
 use Rattle.pb_place.specs.declared.place.Failure.TheVariants.{Called, Started}
 use Rattle.pb_project.specs.declared.project.Project.{Project}
 use Rattle.pb_record.specs.Parts.{IsReading}
-use Rattle.pb_run.specs.Causes.{FailedLast}
+use Rattle.pb_run.specs.Causes.{FailedLast, NoStart, Takes}
 use Rattle.pb_run.specs.Halves.{Footing, basis, records_in}
 use Rattle.pb_run.specs.Standing.{IsInOrder}
 use Rattle.pb_soundness.specs.Numbers.{IsAhead}
 use Rattle.pb_soundness.specs.Records.{Reading}
 use Rattle.pb_turns.specs.Ends.{TurnsEnd}
 use Rattle.pb_turns.specs.Moments.{Heard, Moment}
+use Rattle.pb_build.specs.Causes.{MayPlan, NamesCall}
 use Rattle.pb_build.specs.Environment.{environment_of}
-use Rattle.pb_build.specs.Planning.{IsProject, IsRefused}
+use Rattle.pb_build.specs.Planning.{IsProject, IsRefused, IsToldRefusal}
 use Rattle.pb_build.specs.Result.{toolchain_of, setup_of}
+use Rattle.pb_build.specs.declared.builder.BuildPlan.{BuildPlan}
 use Rattle.pb_build.specs.declared.builder.Prepared.{Prepared}
 
 -- Before the units.
@@ -34,6 +36,20 @@ use Rattle.pb_build.specs.declared.builder.Prepared.{Prepared}
 -- nothing was changed
 abbrev pub Stays : Bool → World → World → Type 0
 Stays tells old new = IsTrue tells → new ≡ old
+
+-- the plan of a build of this world: what its variables and the options say, and its project
+abbrev pub IsPlanOf : Options → World → BuildPlan → Type 0
+IsPlanOf options w plan = (plan.environment ≡ environment_of options w.variables) × IsProject options (environment_of options w.variables).target w plan.project
+
+-- between two moments a build was planned, and nothing else was done: nothing was changed or written, and no child was started
+pub record PlansFrom (tells : Bool) (options : Options) (plan : Result BuildPlan BuildFault) (old new : Moment) : Type 0 where
+  pub is : IsTrue tells → IfOk plan (IsPlanOf options old.world)
+  pub refused : IsTrue tells → IfErr plan (IsToldRefusal options (environment_of options old.world.variables).target old.world)
+  pub stays : Stays tells old.world new.world
+  pub takes : Takes NoStart MayPlan plan old.counts new.counts
+  pub named : NamesCall plan new.counts
+  pub most : new.most ≡ old.most
+  pub heard : new.heard ≡ old.heard
 
 -- the compiler does not say its version for a project of this world
 abbrev pub IsSilent : Answers → Options → World → Type 0
@@ -83,6 +99,7 @@ pub record NoneBegan (tells : Bool) (child : Answers) (options : Options) (resul
   pub answer : result ≡ Err fault
   pub why : FailsBefore tells child options fault old.world old.counts new.counts
   pub stays : Stays tells old.world new.world
+  pub most : (new.most ≡ old.most) ⊎ (new.most ≡ max old.most 1)
   pub heard : new.heard ≡ old.heard
   pub landed : new.counts.starts.flying ≡ []
 

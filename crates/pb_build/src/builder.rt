@@ -1,9 +1,9 @@
 //! A whole build.
 
-ghost use Rattle.std.specs.Prelude.{◌≡◌, ◌+◌, [], max, length, IsTrue, IfOk, IfErr};
+ghost use Rattle.std.specs.Prelude.{◌≡◌, ◌⊎◌, ◌+◌, [], max, length, IsTrue, IfOk, IfErr, OnErr};
 ghost use Rattle.pb_record.specs.Parts.{IsReading};
 ghost use Rattle.pb_build.specs.Causes.{MayPlan, MayReady, NamesCall};
-ghost use Rattle.pb_build.specs.Ending.{FailsBefore, Prepares, Works, Closes, Builds, BuildsBy, BuildsFirst};
+ghost use Rattle.pb_build.specs.Ending.{FailsBefore, IsPlanOf, PlansFrom, Prepares, Works, Closes, Builds, BuildsBy, BuildsFirst};
 ghost use Rattle.pb_build.specs.Environment.{environment_of};
 ghost use Rattle.pb_build.specs.Headline.{Headline};
 ghost use Rattle.pb_build.specs.Kept.{SourcesStay};
@@ -15,7 +15,7 @@ ghost use Rattle.pb_run.specs.Standing.{IsInOrder, records_folder};
 ghost use Rattle.pb_project.specs.declared.project.Project.{Project};
 ghost use Rattle.pb_soundness.specs.Numbers.{IsAhead};
 ghost use Rattle.pb_soundness.specs.Records.{Reading, record_at};
-ghost use Rattle.pb_turns.specs.Moments.{moment};
+ghost use Rattle.pb_turns.specs.Moments.{Moment, moment};
 
 use crate::environment::{Environment, environment_of};
 use crate::planning::planned;
@@ -125,6 +125,7 @@ fn ready<P: Place>(
     ensures silent { IsTrue P.tells → IfErr result (IsSilentFault P.child environment project (P.world place.old)) }
     ensures same { IsTrue P.tells → P.world place.new ≡ P.world place.old }
     ensures most { IfOk result (λ prepared. P.most place.new ≡ max (P.most place.old) (length (P.counts place.old).starts.flying + 1)) }
+    ensures most_else { OnErr result ((P.most place.new ≡ P.most place.old) ⊎ (P.most place.new ≡ max (P.most place.old) (length (P.counts place.old).starts.flying + 1))) }
     ensures takes { Takes OneStart MayReady result (P.counts place.old) (P.counts place.new) }
     ensures names { NamesCall result (P.counts place.new) }
 {
@@ -146,47 +147,93 @@ fn ready<P: Place>(
     }
 }
 
-/// Makes ready what the units of a build start from. In this order: the variables, the workspace, what is selected of
-/// it, its features, the plan, the query of the compiler's version, and the records of the profile's folder.
-fn prepare<P: Place>(
+/// A build as far as its plan: nothing is started and nothing is changed yet.
+#[derive(Drop)]
+pub struct BuildPlan {
+    /// What the variables and the options say.
+    pub environment: Environment,
+    /// What is built.
+    pub project: Project,
+}
+
+/// Plans a build. In this order: the variables `RUSTC`, `RUSTFLAGS` and `CARGO_TARGET_DIR`; the workspace; what is
+/// selected of it; its features; the plan. No child is started, no line written and no file changed.
+///
+/// Faults: Plan, with the first refusal; Device, with the variable's name or the path of the call that failed;
+/// OutOfMemory.
+pub fn plan_build<P: Place>(
     alloc: Global,
     place: &mut P,
     options: &Options,
-) -> Result<Prepared, BuildFault>
-    requires none { (P.counts place.old).starts.flying ≡ [] }
-    ensures order { IfOk result (λ prepared. IsInOrder prepared.project) }
-    ensures folder { IfOk result (λ prepared. prepared.store.folder ≡ records_folder prepared.project) }
-    ensures prepares { IfOk result (λ prepared. Prepares P.tells P.child options.now prepared (P.world place.old) (P.world place.new) (P.counts place.old) (P.counts place.new) (P.most place.old) (P.most place.new)) }
-    ensures fails { IfErr result (λ e. FailsBefore P.tells P.child options.now e (P.world place.old) (P.counts place.old) (P.counts place.new)) }
+) -> Result<BuildPlan, BuildFault>
+    ensures plan { IsTrue P.tells → IfOk result (IsPlanOf options.now (P.world place.old)) }
+    ensures order { IfOk result (λ plan. IsInOrder plan.project) }
     ensures same { IsTrue P.tells → P.world place.new ≡ P.world place.old }
+    ensures most { P.most place.new ≡ P.most place.old }
+    ensures unstarted { (P.counts place.new).starts ≡ (P.counts place.old).starts }
+    ensures refused { IsTrue P.tells → IfErr result (IsToldRefusal options.now (environment_of options.now (P.world place.old).variables).target (P.world place.old)) }
+    ensures takes { Takes NoStart MayPlan result (P.counts place.old) (P.counts place.new) }
+    ensures named { NamesCall result (P.counts place.new) }
 {
     let environment = match environment_of(alloc, place, options) {
         Ok(environment) => environment,
         Err(fault) => return Err(fault),
     };
-    let project = match planned(alloc, place, options, &environment.target) {
-        Ok(project) => project,
+    match planned(alloc, place, options, &environment.target) {
+        Ok(project) => Ok(BuildPlan {
+            environment,
+            project,
+        }),
+        Err(fault) => Err(fault),
+    }
+}
+
+/// Makes ready what the units of a build that was planned start from: the query of the compiler's version, and the
+/// records of the profile's folder. A plan that failed ends it with its fault.
+fn prepare<P: Place>(
+    alloc: Global,
+    place: &mut P,
+    options: &Options,
+    plan: Result<BuildPlan, BuildFault>,
+) -> Result<Prepared, BuildFault>
+    requires none { (P.counts place.old).starts.flying ≡ [] }
+    requires order { IfOk plan (λ plan. IsInOrder plan.project) }
+    ensures order { IfOk result (λ prepared. IsInOrder prepared.project) }
+    ensures folder { IfOk result (λ prepared. prepared.store.folder ≡ records_folder prepared.project) }
+    ensures prepares { IfOk result (λ prepared. (from : Moment) → PlansFrom P.tells options.now plan from record { world = P.world place.old; counts = P.counts place.old; most = P.most place.old; heard = from.heard }
+        → Prepares P.tells P.child options.now prepared from.world (P.world place.new) from.counts (P.counts place.new) from.most (P.most place.new)) }
+    ensures fails { IfErr result (λ e. (from : Moment) → PlansFrom P.tells options.now plan from record { world = P.world place.old; counts = P.counts place.old; most = P.most place.old; heard = from.heard }
+        → FailsBefore P.tells P.child options.now e from.world from.counts (P.counts place.new)) }
+    ensures same { IsTrue P.tells → P.world place.new ≡ P.world place.old }
+    ensures most { OnErr result ((P.most place.new ≡ P.most place.old) ⊎ (P.most place.new ≡ max (P.most place.old) 1)) }
+    ensures landed { (P.counts place.new).starts.flying ≡ [] }
+{
+    let plan = match plan {
+        Ok(plan) => plan,
         Err(fault) => return Err(fault),
     };
-    match ready(alloc, place, options, environment, project) {
+    match ready(alloc, place, options, plan.environment, plan.project) {
         Ok(prepared) => Ok(prepared),
         Err(fault) => Err(fault),
     }
 }
 
-/// Works through a build up to its finish line.
+/// Works through a build that was planned up to its finish line. What comes of it is said of the moment before it was
+/// planned, where only its planning came between.
 fn work<P: Place, O: Out, T: Turn>(
     alloc: Global,
     place: &mut P,
     out: &mut O,
     options: &Options,
+    plan: Result<BuildPlan, BuildFault>,
     turn: &mut T,
 ) -> Result<Summary, BuildFault>
     requires none { (P.counts place.old).starts.flying ≡ [] }
-    ensures { Works P.tells P.child T.turns options.now turn.old turn.new result
-        (moment (P.world place.old) (P.counts place.old) (P.most place.old) (O.taken out.old) (O.faults out.old)) (moment (P.world place.new) (P.counts place.new) (P.most place.new) (O.taken out.new) (O.faults out.new)) }
+    requires order { IfOk plan (λ plan. IsInOrder plan.project) }
+    ensures { (from : Moment) → PlansFrom P.tells options.now plan from (moment (P.world place.old) (P.counts place.old) (P.most place.old) (O.taken out.old) (O.faults out.old))
+        → Works P.tells P.child T.turns options.now turn.old turn.new result from (moment (P.world place.new) (P.counts place.new) (P.most place.new) (O.taken out.new) (O.faults out.new)) }
 {
-    let prepared = match prepare(alloc, place, options) {
+    let prepared = match prepare(alloc, place, options, plan) {
         Ok(prepared) => prepared,
         Err(fault) => return Err(fault),
     };
@@ -214,6 +261,48 @@ fn close<O: Out>(out: &mut O, inner: Result<Summary, BuildFault>) -> Result<Summ
             Err(_) => Err(BuildFault::Sink),
         },
     }
+}
+
+/// Builds what was planned, by the steps that a turn says: what `build_turns` does after the plan. A plan that failed
+/// ends the build as it would have ended there.
+///
+/// What is promised is said of the moment before the planning, where only that came between: no other call of the
+/// place was made, and nothing was written.
+pub fn build_plan_turns<P: Place, O: Out, T: Turn>(
+    alloc: Global,
+    place: &mut P,
+    out: &mut O,
+    options: &Options,
+    plan: Result<BuildPlan, BuildFault>,
+    turn: &mut T,
+) -> Result<Summary, BuildFault>
+    requires none { (P.counts place.old).starts.flying ≡ [] }
+    requires order { IfOk plan (λ plan. IsInOrder plan.project) }
+    ensures { (from : Moment) → PlansFrom P.tells options.now plan from (moment (P.world place.old) (P.counts place.old) (P.most place.old) (O.taken out.old) (O.faults out.old))
+        → Builds P.tells P.child T.turns options.now turn.old turn.new result from (moment (P.world place.new) (P.counts place.new) (P.most place.new) (O.taken out.new) (O.faults out.new)) }
+{
+    let inner = work(alloc, place, out, options, plan, turn);
+    close(out, inner)
+}
+
+/// Builds what was planned, and begins those units first that come first in plan order: what `build` does after the plan.
+pub fn build_plan<P: Place, O: Out>(
+    alloc: Global,
+    place: &mut P,
+    out: &mut O,
+    options: &Options,
+    plan: Result<BuildPlan, BuildFault>,
+) -> Result<Summary, BuildFault>
+    requires none { (P.counts place.old).starts.flying ≡ [] }
+    requires order { IfOk plan (λ plan. IsInOrder plan.project) }
+    ensures { (from : Moment) → PlansFrom P.tells options.now plan from (moment (P.world place.old) (P.counts place.old) (P.most place.old) (O.taken out.old) (O.faults out.old))
+        → BuildsFirst P.tells P.child options.now result from (moment (P.world place.new) (P.counts place.new) (P.most place.new) (O.taken out.new) (O.faults out.new)) }
+{
+    let mut jobs = Jobs {
+        pick: First {},
+        jobs: options.jobs,
+    };
+    build_plan_turns(alloc, place, out, options, plan, &mut jobs)
 }
 
 /// Builds the workspace of a root manifest, as `cargo build` does, by the steps that a turn says.
@@ -245,8 +334,8 @@ pub fn build_turns<P: Place, O: Out, T: Turn>(
     ensures kept { IsTrue P.tells → SourcesStay (environment_of options.now (P.world place.old).variables).target (P.world place.old) (P.world place.new) }
     ensures landed { (P.counts place.new).starts.flying ≡ [] }
 {
-    let inner = work(alloc, place, out, options, turn);
-    close(out, inner)
+    let plan = plan_build(alloc, place, options);
+    build_plan_turns(alloc, place, out, options, plan, turn)
 }
 
 /// Builds with as many units in flight at one time as the options say; who picks says which of those that may begin
@@ -291,17 +380,16 @@ pub fn build<P: Place, O: Out>(
     build_with(alloc, place, out, options, First {})
 }
 
-/// The names of the packages of a project to which enabled dependencies lead and that have no library.
-fn without_library(project: Project) -> Items<Text>
-    ensures { result ≡ project.plan.without_library }
+/// The names of the packages without a library to which enabled dependencies of a plan lead.
+fn without_library(plan: BuildPlan) -> Items<Text>
+    ensures { result ≡ plan.project.plan.without_library }
 {
-    let plan = project.plan;
+    let plan = plan.project.plan;
     plan.without_library
 }
 
 /// The names of the packages without a library to which enabled dependencies lead, in byte order, each once. It goes as
-/// far as the plan: no child is started, no line written and no file changed. Faults: Plan; Device, with the variable's name
-/// or the path of the call that failed; OutOfMemory.
+/// far as the plan: no child is started, no line written and no file changed. Faults: those of `plan_build`.
 pub fn missing_libraries<P: Place>(
     alloc: Global,
     place: &mut P,
@@ -314,12 +402,8 @@ pub fn missing_libraries<P: Place>(
     ensures takes { Takes NoStart MayPlan result (P.counts place.old) (P.counts place.new) }
     ensures named { NamesCall result (P.counts place.new) }
 {
-    let environment = match environment_of(alloc, place, options) {
-        Ok(environment) => environment,
-        Err(fault) => return Err(fault),
-    };
-    match planned(alloc, place, options, &environment.target) {
-        Ok(project) => Ok(without_library(project)),
+    match plan_build(alloc, place, options) {
+        Ok(plan) => Ok(without_library(plan)),
         Err(fault) => Err(fault),
     }
 }

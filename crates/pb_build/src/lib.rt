@@ -9,7 +9,10 @@ pub mod planning;
 pub mod sessions;
 pub mod toolchain;
 
-pub use builder::{Prepared, build, build_turns, build_with, missing_libraries};
+pub use builder::{
+    BuildPlan, Prepared, build, build_plan, build_plan_turns, build_turns, build_with,
+    missing_libraries, plan_build,
+};
 pub use environment::Environment;
 pub use laws::{
     any_build_gives, builds_look_at_sources, earlier_builds_change_nothing, records_stay_true,

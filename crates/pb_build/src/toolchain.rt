@@ -1,6 +1,6 @@
 //! The query of the compiler's version.
 
-ghost use Rattle.std.specs.Prelude.{◌≡◌, ◌+◌, max, length, IfOk, IsTrue, MatchResult, Some, None, codes};
+ghost use Rattle.std.specs.Prelude.{◌≡◌, ◌⊎◌, ◌+◌, max, length, IfOk, OnErr, IsTrue, MatchResult, Some, None, codes};
 ghost use Rattle.std.specs.List.{list_any};
 ghost use Rattle.pb_place.specs.World.{World, from_nothing};
 ghost use Rattle.pb_build.specs.Causes.{MayAsk};
@@ -70,6 +70,7 @@ pub(crate) fn ask<P: Place>(
         (λ e. e ≡ build_fault.Toolchain → toolchain_of P.child environment.now project.now (from_nothing project.now.workspace.target (P.world place.old)) ≡ None) }
     ensures same { IsTrue P.tells → P.world place.new ≡ P.world place.old }
     ensures most { IfOk result (λ toolchain. P.most place.new ≡ max (P.most place.old) (length (P.counts place.old).starts.flying + 1)) }
+    ensures most_else { OnErr result ((P.most place.new ≡ P.most place.old) ⊎ (P.most place.new ≡ max (P.most place.old) (length (P.counts place.old).starts.flying + 1))) }
     ensures takes { Takes OneStart MayAsk result (P.counts place.old) (P.counts place.new) }
 {
     let command = match query(alloc, &environment.rustc, &project.workspace) {

@@ -10,10 +10,10 @@ use Rattle.pb_answer.specs.declared.fault.BuildFault.{BuildFault}
 use Rattle.pb_answer.specs.declared.fault.BuildFault.TheVariants.{OutOfMemory}
 use Rattle.pb_answer.specs.declared.summary.Summary.{Summary}
 use Rattle.pb_package.specs.declared.options.Options.{Options}
-use Rattle.pb_build.specs.Causes.{Looks}
 use Rattle.pb_build.specs.Ending.{BuildsFirst}
 use Rattle.pb_build.specs.Environment.{environment_of}
 use Rattle.pb_build.specs.Planning.{IsProject}
+use Rattle.pb_build.specs.declared.builder.BuildPlan.{BuildPlan}
 use Rattle.pb_turns.specs.Moments.{Heard, Moment}
 
 abbrev pub success_status : Bool → ℕ
@@ -76,16 +76,15 @@ AreMissing options w names = (project : Project) × IsProject options (environme
 abbrev pub Notes : Bool → Options → World → Heard → Heard → Type 0
 Notes tells options w old new = (new ≡ old) ⊎ ((names : List (List ℕ)) × (IsTrue tells → AreMissing options w names) × Tells (notes_of names) old new)
 
--- A build was carried out, after reads that started no child, changed nothing and wrote nothing to the output. What is written beside the output are the notes before it, and what is told behind it.
+-- notes of the packages that a plan names, or nothing; nothing where there is no plan
+abbrev pub NotesOf : Result BuildPlan BuildFault → Heard → Heard → Type 0
+NotesOf (Ok plan) old new = (new ≡ old) ⊎ Tells (notes_of plan.project.plan.without_library) old new
+NotesOf (Err fault) old new = new ≡ old
+
+-- A build was carried out, and the place was asked for nothing else. What is written beside the output are the notes before it, and what is told behind it.
 pub record BuildsTold (tells : Bool) (child : Answers) (options : Options) (explain : Bool) (status : ℕ) (old new : Moment) (said_before said_after : Heard) : Type 0 where
-  pub begun : Moment
-  pub same : IsTrue tells → begun.world ≡ old.world
-  pub silent : begun.heard ≡ old.heard
-  pub most : begun.most ≡ old.most
-  pub unstarted : begun.counts.starts ≡ old.counts.starts
-  pub looked : Looks old.counts begun.counts
   pub answer : Result Summary BuildFault
-  pub builds : BuildsFirst tells child options answer begun new
+  pub builds : BuildsFirst tells child options answer old new
   pub noted : Heard
   pub notes : Notes tells options old.world said_before noted
   pub concluded : Concludes explain answer status noted said_after

@@ -2,16 +2,15 @@
 
 ghost use Rattle.std.specs.Prelude.{◌≡◌, [], ◌⊎◌, ◌++◌, IsTrue, IfOk, OnOk, Result, string_bytes, codes};
 ghost use Rattle.std.specs.Io.KnownBytes.{Appends};
-ghost use Rattle.pb_build.specs.Causes.{Looks};
 ghost use Rattle.pb_build.specs.Ending.{BuildsFirst};
 ghost use Rattle.pb_turns.specs.Moments.{Moment, moment};
 ghost use Rattle.pb_answer.specs.ResultLine.{result_line};
 ghost use Rattle.pb_answer.specs.declared.fault.BuildFault.{BuildFault};
 ghost use Rattle.pb_answer.specs.declared.summary.Summary.{Summary};
-ghost use Rattle.pb_tool_program.specs.Building.{status_of, notes_of, error_of, Notes, TellsReasons, TellsSaid, TellsWhy, Concludes, BuildsTold};
+ghost use Rattle.pb_tool_program.specs.Building.{status_of, notes_of, error_of, NotesOf, TellsReasons, TellsSaid, TellsWhy, Concludes, BuildsTold};
 
 use pb_answer::{BuildFault, Summary, explanation, result_line, said};
-use pb_build::{build, missing_libraries};
+use pb_build::{BuildPlan, build_plan, plan_build};
 use pb_data::Text;
 use pb_package::Options;
 use pb_place::{Out, Place, write_all};
@@ -58,20 +57,16 @@ fn error_of(alloc: Global, answer: &Result<Summary, BuildFault>) -> Result<Strin
     Ok(line)
 }
 
-/// Tells which packages that are depended on have no library. Where that cannot be found out, or memory is refused,
-/// nothing is told: the build then says why. No child is started.
-fn note<P: Place, E: Out>(alloc: Global, place: &mut P, err: &mut E, options: &Options)
-    ensures same { IsTrue P.tells → P.world place.new ≡ P.world place.old }
-    ensures most { P.most place.new ≡ P.most place.old }
-    ensures unstarted { (P.counts place.new).starts ≡ (P.counts place.old).starts }
-    ensures looked { Looks (P.counts place.old) (P.counts place.new) }
-    ensures notes { Notes P.tells options.now (P.world place.old) record { taken = E.taken err.old; faults = E.faults err.old } record { taken = E.taken err.new; faults = E.faults err.new } }
+/// Tells which packages that are depended on have no library, as a build's plan names them. Where there is no plan, or
+/// memory is refused, nothing is told: the build then says why.
+fn note<E: Out>(alloc: Global, err: &mut E, plan: &Result<BuildPlan, BuildFault>)
+    ensures { NotesOf plan.now record { taken = E.taken err.old; faults = E.faults err.old } record { taken = E.taken err.new; faults = E.faults err.new } }
 {
-    let names = match missing_libraries(alloc, place, options) {
-        Ok(names) => names,
+    let plan = match plan {
+        Ok(plan) => plan,
         Err(_) => return,
     };
-    let notes = match notes_of(alloc, names.as_slice()) {
+    let notes = match notes_of(alloc, plan.project.plan.without_library.as_slice()) {
         Ok(notes) => notes,
         Err(_) => return,
     };
@@ -167,7 +162,8 @@ pub fn build_options<P: Place, O: Out, E: Out>(
         (moment (P.world place.old) (P.counts place.old) (P.most place.old) (O.taken out.old) (O.faults out.old)) (moment (P.world place.new) (P.counts place.new) (P.most place.new) (O.taken out.new) (O.faults out.new))
         record { taken = E.taken err.old; faults = E.faults err.old } record { taken = E.taken err.new; faults = E.faults err.new } }
 {
-    note(alloc, place, err, options);
-    let answer = build(alloc, place, out, options);
+    let plan = plan_build(alloc, place, options);
+    note(alloc, err, &plan);
+    let answer = build_plan(alloc, place, out, options, plan);
     conclude(alloc, err, explain, &answer)
 }

@@ -1,12 +1,24 @@
-use Rattle.std.proofs.Common.{refl, inr}
+use Rattle.std.proofs.Common.{◌∙◌, ◌⊎◌, ◌≡◌, max, refl, inl, inr, ap, subst, ℕ}
 use Rattle.pb_turns.specs.Moments.{moment}
+use Rattle.pb_build.proofs.Preparing.{most_from, unheard}
 use Rattle.pb_build.proofs.builder.work.Goals as goal
 
+pub returns-in-Err : goal.returns-in-Err
+returns-in-Err g c = λ from planned. inl record {
+  fault = c.in-Err.fault;
+  answer = refl;
+  why = c.in-Err.ensures.fails from (unheard g.P.Place.tells c.args.options.now c.args.plan from _ planned);
+  stays = λ told. c.in-Err.ensures.same told ∙ planned.stays told;
+  most = most_from _ _ _ planned.most c.in-Err.ensures.most;
+  heard = planned.heard;
+  landed = c.in-Err.ensures.landed;
+}
+
 pub returns : goal.returns
-returns g c = inr record {
+returns g c = λ from planned. inr record {
   prepared = c.in-Ok.prepared;
   mid = moment (g.P.Place.world c.prepare.new.place) (g.P.Place.counts c.prepare.new.place) (g.P.Place.most c.prepare.new.place) (g.O.Out.taken c.args.out.now) (g.O.Out.faults c.args.out.now);
-  heard = refl;
-  prepares = c.in-Ok.ensures.prepares;
+  heard = planned.heard;
+  prepares = c.in-Ok.ensures.prepares from (unheard g.P.Place.tells c.args.options.now c.args.plan from _ planned);
   ends = c.run_turns.ensures;
 }
