@@ -384,7 +384,8 @@ pub fn build<P: Place, O: Out>(
 fn without_library(plan: BuildPlan) -> Items<Text>
     ensures { result ≡ plan.project.plan.without_library }
 {
-    let plan = plan.project.plan;
+    let project = plan.project;
+    let plan = project.plan;
     plan.without_library
 }
 
