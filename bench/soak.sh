@@ -271,6 +271,17 @@ def compared(number, at, state, clock):
     return [f"session {number}, build {at}: {it}" for it in said], nothing.clock
 
 
+def tell(*_):
+    """Prints what was done so far, and ends."""
+    if marked():
+        wrong.append(f"left at the end: {marked()}")
+    for name, count in sorted(tally.items()):
+        print(f"{name:40} {count:8}")
+    print(f"{len(wrong)} things are wrong", flush=True)
+    sys.exit(min(len(wrong), 1))
+
+
+signal.signal(signal.SIGTERM, tell)
 number, clock = int(seed), 0.2
 while tally["builds"] < builds:
     shutil.rmtree(disk, ignore_errors=True)
@@ -287,10 +298,5 @@ while tally["builds"] < builds:
         for line in said:
             print("wrong:", line, flush=True)
     number += 1
-if marked():
-    wrong.append(f"left at the end: {marked()}")
-for name, count in sorted(tally.items()):
-    print(f"{name:40} {count:8}")
-print(f"{len(wrong)} things are wrong")
-sys.exit(min(len(wrong), 1))
+tell()
 PYTHON
