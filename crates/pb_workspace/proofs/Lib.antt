@@ -7,6 +7,7 @@ pub mod Listed
 pub mod BinPaths
 pub mod Promised
 pub mod Steps
+pub mod Looking
 pub mod Puttings
 pub mod Naming
 pub mod Keeping

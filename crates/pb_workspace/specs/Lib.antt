@@ -24,6 +24,7 @@ pub mod Places
 pub mod Checks
 pub mod Assembled
 pub mod Loaded
+pub mod LookedAt
 pub mod Drafted
 pub mod PackageFolders
 pub mod GlobWords
