@@ -1,5 +1,5 @@
 -- After a build that succeeded the same build again starts nothing.
-use Rattle.std.proofs.Common.{◌≡◌, ◌∙◌, true, List, [], ℕ, Option, Some, Result, Ok, Err, inl, inr, refl, sym, ap, subst, take}
+use Rattle.std.proofs.Common.{◌≡◌, ◌∙◌, true, List, ℕ, Option, Some, Result, Ok, Err, inl, inr, refl, sym, ap, subst, take}
 use Rattle.pb_answer.specs.declared.fault.BuildFault.{BuildFault}
 use Rattle.pb_command.specs.Command.{command_of}
 use Rattle.pb_command.specs.Judge.{judge}

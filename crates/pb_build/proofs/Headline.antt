@@ -1,5 +1,5 @@
 -- A build that rests on true records and an honest child, or on no record, gives what its units give from nothing, and leaves true records.
-use Rattle.std.proofs.Common.{◌≡◌, ◌∙◌, ◌⊎◌, ◌<◌, ◌+◌, true, false, Bool, List, [], ◌∷◌, ℕ, zero, suc, map, length, take, is_none, if◌then◌else◌, Option, Some, None, Result, Ok, Err, inl, inr, refl, sym, ap, ap₂, subst, arith, slice_get}
+use Rattle.std.proofs.Common.{◌≡◌, ◌∙◌, ◌<◌, true, false, Bool, List, [], ◌∷◌, ℕ, zero, suc, map, length, take, is_none, if◌then◌else◌, Option, Some, None, Result, Ok, Err, inl, inr, refl, sym, ap, ap₂, subst, arith, slice_get}
 use Rattle.std.proofs.lemmas.List.{length-map}
 use Rattle.std.proofs.Math.Seq.{take-length}
 use Rattle.std.specs.Io.KnownBytes.{Appends}
@@ -25,22 +25,22 @@ use Rattle.pb_answer.specs.declared.bad_unit.BadUnit.{BadUnit}
 use Rattle.pb_project.specs.declared.project.Project.{Project}
 use Rattle.pb_project.specs.declared.project.Setup.{Setup}
 use Rattle.pb_record.specs.Parts.{IsReading}
-use Rattle.pb_run.specs.Halves.{Footing, OnRecords, OnNothing, Basis, basis, records_in, outcomes_in, Keeps, HoldsBy}
-use Rattle.pb_run.specs.Outcome.{Outcome, Waiting, Good, Bad}
+use Rattle.pb_run.specs.Halves.{Footing, OnRecords, OnNothing, Basis, basis, outcomes_in, Keeps, HoldsBy}
+use Rattle.pb_run.specs.Outcome.{Outcome, Good}
 use Rattle.pb_run.specs.Standing.{records_folder}
 use Rattle.pb_soundness.specs.Numbers.{IsAhead}
 use Rattle.pb_soundness.specs.Records.{Reading, record_at}
 use Rattle.pb_soundness.specs.Sound.{Sound}
 use Rattle.pb_turns.specs.Crew.{needs_of}
-use Rattle.pb_turns.specs.Ends.{TurnsEnd, EndsWhole, EndsCut, StandsWhole, StandsCut, Stands, nothing_said, rows_in}
+use Rattle.pb_turns.specs.Ends.{TurnsEnd, StandsWhole, StandsCut, Stands, nothing_said, rows_in}
 use Rattle.pb_turns.specs.Moments.{Heard, Moment}
-use Rattle.pb_turns.specs.Rows.{Row, rows_of, to_first_bad, is_bad, fault_in, said_from}
+use Rattle.pb_turns.specs.Rows.{Row, to_first_bad, is_bad, fault_in, said_from}
 use Rattle.pb_turns.specs.Story.{states_in, untouched, Stops, AllBeganFor}
 use Rattle.pb_unit.specs.declared.plan.Planned.{Planned}
 use Rattle.pb_workspace.proofs.Accepted.{target_kept}
 use Rattle.pb_build.specs.Ending.{Works, Builds, NoneBegan}
 use Rattle.pb_build.specs.Environment.{environment_of}
-use Rattle.pb_build.specs.Headline.{records_of, RestsOn, UnitsOf, GivesAll, GivesFirst, LinesBefore, GivesUnits, LeavesRecords, Gives, Headline}
+use Rattle.pb_build.specs.Headline.{records_of, RestsOn, UnitsOf, LinesBefore, GivesUnits, LeavesRecords, Gives, Headline}
 use Rattle.pb_build.specs.Planning.{IsProject}
 use Rattle.pb_build.specs.Result.{toolchain_of, setup_of}
 

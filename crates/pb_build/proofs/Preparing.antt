@@ -1,5 +1,5 @@
 -- What comes before a build's units.
-use Rattle.std.proofs.Common.{◌≡◌, ◌∙◌, ◌⊎◌, Bool, ℕ, max, List, [], Some, None, IsTrue, Result, refl, sym, ap, subst, inl, inr}
+use Rattle.std.proofs.Common.{◌≡◌, ◌∙◌, ◌⊎◌, Bool, ℕ, max, [], Some, None, IsTrue, Result, refl, sym, ap, subst, inl, inr}
 use Rattle.pb_answer.specs.declared.fault.BuildFault.{BuildFault}
 use Rattle.pb_answer.specs.declared.fault.BuildFault.TheVariants.{Plan, Toolchain, Child, Device, Sink, OutOfMemory}
 use Rattle.pb_answer.specs.declared.fault.DeviceFault.TheVariants as device

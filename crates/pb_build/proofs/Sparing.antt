@@ -1,6 +1,5 @@
 -- The records of a folder stay true over a session's steps.
-use Rattle.std.proofs.Common.{◌≡◌, ◌∙◌, ◌⊎◌, ℕ, Bool, true, false, not, cond, List, [], ◌∷◌, ◌++◌, Option, Some, None, Result, Ok, Err, inl, inr, refl, sym, ap, subst}
-use Rattle.std.specs.Prelude.{IsTrue}
+use Rattle.std.proofs.Common.{◌≡◌, ◌∙◌, ℕ, Bool, true, false, not, cond, List, [], ◌∷◌, Option, Some, None, Result, Ok, Err, inl, inr, refl, sym, ap, subst}
 use Rattle.std.proofs.lemmas.Bool.{cases_Bool, false≢true}
 use Rattle.std.proofs.lemmas.Slice.Eq.{bytes_eq-Decides}
 use Rattle.std.specs.FinMap.{get, get-insert}
@@ -12,7 +11,7 @@ use Rattle.pb_flight.specs.Events.{Event}
 use Rattle.pb_flight.specs.declared.turn.Step.{Step}
 use Rattle.pb_package.specs.declared.options.Options.{Options}
 use Rattle.pb_place.specs.Paths.{is_at_or_below}
-use Rattle.pb_place.specs.World.{World, Map, Answers, AgreeBut, written, removed, is_same_path}
+use Rattle.pb_place.specs.World.{World, Answers, AgreeBut, written, removed, is_same_path}
 use Rattle.pb_place.proofs.MapLemmas.{get-kept, same_bytes}
 use Rattle.pb_place.proofs.Within.{at_itself}
 use Rattle.pb_answer.specs.declared.bad_unit.BadUnit.{BadUnit}
@@ -25,14 +24,14 @@ use Rattle.pb_session.specs.declared.pick.PickBy.{PickBy}
 use Rattle.pb_session.specs.declared.pick.PickBy.TheVariants.{First, Last}
 use Rattle.pb_session.specs.declared.step.SessionStep.{SessionStep}
 use Rattle.pb_session.specs.declared.step.SessionStep.TheVariants.{Write, Remove, Set, Unset, Build, Die, Fuse}
-use Rattle.pb_soundness.specs.Records.{Reading, record_at}
+use Rattle.pb_soundness.specs.Records.{Reading}
 use Rattle.pb_soundness.specs.Sound.{Sound}
 use Rattle.pb_soundness.proofs.Four.{outside}
 use Rattle.pb_turns.specs.Ends.{TurnsEnd}
 use Rattle.pb_turns.specs.Moments.{Moment}
 use Rattle.pb_turns.specs.Story.{OnlyOf}
 use Rattle.pb_build.specs.Ending.{Works, Builds}
-use Rattle.pb_build.specs.Headline.{records_of, RestsOn, Gives}
+use Rattle.pb_build.specs.Headline.{records_of, RestsOn}
 use Rattle.pb_build.specs.Lasting.{ShareNoPath, Spares, SparingCourse, NothingIsSound, RecordsStayTrue, AnyBuildGives}
 use Rattle.pb_build.specs.Session.{Point, Takes, Picked}
 use Rattle.pb_build.proofs.Headline.{same_folder}

@@ -1,13 +1,8 @@
 use Rattle.std.proofs.Common.{◌∙◌, ◌+◌, List, max, length, ap, sym, subst}
-use Rattle.pb_answer.specs.declared.fault.BuildFault.{BuildFault}
 use Rattle.pb_place.specs.Counts.{up_starts}
 use Rattle.pb_place.specs.declared.child_in_flight.ChildInFlight.{ChildInFlight}
 use Rattle.pb_turns.proofs.Counting.{cause_from}
-use Rattle.pb_turns.specs.Moments.{Moment}
-use Rattle.pb_build.specs.Ending.{PlansFrom}
-use Rattle.pb_build.specs.Environment.{environment_of}
 use Rattle.pb_build.specs.Planning.{IsProject}
-use Rattle.pb_build.specs.declared.builder.BuildPlan.{BuildPlan}
 use Rattle.pb_build.specs.declared.environment.Environment.{Environment}
 use Rattle.pb_build.proofs.Preparing.{prepared_of, plan_fails, ready_fails, may_ready_from, may_ready_landed, silent_of, plan_at}
 use Rattle.pb_build.proofs.builder.prepare.Goals as goal

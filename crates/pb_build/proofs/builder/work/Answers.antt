@@ -1,4 +1,4 @@
-use Rattle.std.proofs.Common.{◌∙◌, ◌⊎◌, ◌≡◌, max, refl, inl, inr, ap, subst, ℕ}
+use Rattle.std.proofs.Common.{◌∙◌, refl, inl, inr}
 use Rattle.pb_turns.specs.Moments.{moment}
 use Rattle.pb_build.proofs.Preparing.{most_from, unheard}
 use Rattle.pb_build.proofs.builder.work.Goals as goal
