@@ -1,14 +1,15 @@
 #!/usr/bin/env bash
-# Two scenes in which others write while a build is at work. No promise is about them; the script shows what they leave,
-# each time in the same order of steps, with the small compiler behind a script of the shell.
+# Two scenes in which others write while a build is at work, each time in the same order of steps, with the small compiler
+# behind a script of the shell.
 #
-#   a second build    of two builds in one target folder the second one empties the unit's folder while the compiler of
-#                     the first is at work; its own compile fails and leaves dep-info alone. The first one keeps a record
-#   an edit           the source changes after the compiler has read it and before it ends
+#   a second build    two builds in one target folder: the second one says that it waits, and does
+#   an edit           the source changes after the compiler has read it and before it ends; no promise is about that
 #
 # After each scene it builds twice more, and says whether the library is told as fresh, whether it is there, and whether
-# it is made of the source that stands. PROGRAM=FILE and COMPILER=FILE take a `pb_tool` and a `pb_mini` that are made
-# already. The status is 1 where a library is told that is not there or is made of another source.
+# it is made of the source that stands. Then pairs of builds begin at one moment, PAIRS times (20), with an edit before
+# each; one of both and a build after them have to say what a build from nothing says. PROGRAM=FILE and COMPILER=FILE
+# take a `pb_tool` and a `pb_mini` that are made already. The status is 1 where a library is told that is not there or is
+# made of another source, but for the second scene.
 set -euo pipefail
 top="$(cd "$(dirname "$0")/.." && pwd)"
 folder="$(mktemp -d)"
@@ -44,25 +45,17 @@ again() {
 }
 
 scene second <<'SH'
-if mkdir first 2> /dev/null; then
-    "$COMPILER" "$@"
-    until [ -e ended ]; do sleep 0.02; done
-elif [ ! -e ended ]; then
-    "$COMPILER" "$@"
-    rm target/debug/a.target.lib/liba.rlib
-    : > ended
-    exit 1
-else
-    exec "$COMPILER" "$@"
-fi
+: > begun
+until [ -s two ]; do sleep 0.02; done
+exec "$COMPILER" "$@"
 SH
 "$PROGRAM" build > one 2>&1 &
-until [ -e first ]; do sleep 0.02; done
-sleep 0.2
-"$PROGRAM" build > two 2>&1 || true
+until [ -e begun ]; do sleep 0.02; done
+"$PROGRAM" build > other 2> two || true
 wait $! || true
-echo "a second build: the two say '$(tail -n 1 one)' and '$(tail -n 1 two)'"
+echo "a second build: it says '$(cat two)', and the lines of the two end with '$(tail -n 1 one)' and '$(tail -n 1 other)'"
 again "a second build"
+told=$wrong
 
 scene edit <<'SH'
 "$COMPILER" "$@" || exit $?
@@ -70,4 +63,27 @@ scene edit <<'SH'
 SH
 "$PROGRAM" build > one 2>&1
 again "an edit"
+wrong=$told
+
+mkdir -p "$folder/pairs/src"
+cd "$folder/pairs"
+printf '[package]\nname = "a"\nversion = "0.1.0"\nedition = "2021"\n' > Cargo.toml
+export RUSTC="$COMPILER"
+unlike=0
+for number in $(seq "${PAIRS:-20}"); do
+    echo "print of $number" > src/lib.rs
+    "$PROGRAM" build > one 2>&1 &
+    "$PROGRAM" build > two 2>&1 || true
+    wait $! || true
+    "$PROGRAM" build > three 2>&1 || true
+    rm -rf nothing
+    "$PROGRAM" build --target-dir nothing > four 2>&1 || true
+    for file in one two three four; do
+        grep -v '^note: another build' $file | sed -e 's/"fresh":[a-z]*/"fresh":_/' -e "s|$PWD/nothing|$PWD/target|" > $file.told
+        cmp -s $file.told four.told || unlike=$((unlike + 1))
+    done
+    cmp -s target/debug/a.target.lib/liba.rlib nothing/debug/a.target.lib/liba.rlib || unlike=$((unlike + 1))
+done
+echo "pairs: of ${PAIRS:-20} with a build after each, $unlike builds were not like the one from nothing"
+[ $unlike = 0 ] || wrong=1
 exit $wrong

@@ -33,7 +33,7 @@ use Rattle.pb_turns.specs.Story.{OnlyOf}
 use Rattle.pb_build.specs.Ending.{Works, Builds}
 use Rattle.pb_build.specs.Headline.{records_of, RestsOn}
 use Rattle.pb_build.specs.Lasting.{ShareNoPath, Spares, SparingCourse, NothingIsSound, RecordsStayTrue, AnyBuildGives}
-use Rattle.pb_build.specs.Session.{Point, Takes, Picked}
+use Rattle.pb_build.specs.Session.{Point, Carries, Picked}
 use Rattle.pb_build.proofs.Headline.{same_folder}
 use Rattle.pb_build.proofs.Staying.{none_of}
 
@@ -86,7 +86,7 @@ module _ (read : Reading) (reading : IsReading read) (child : Answers) (folder :
   removed_sound path w apart = outside read judge child folder w.files (removed path w).files
       (λ q within. get-kept w.files (λ p. not (is_at_or_below path p)) q ∙ ap (λ (b : Bool). cond (not b) (get w.files q) None) (apart q within))
 
-  step_sound : (step : SessionStep) (before after : Point) → Spares child folder step before.moment.world → Takes child step before after → IsSound before.moment.world → IsSound after.moment.world
+  step_sound : (step : SessionStep) (before after : Point) → Spares child folder step before.moment.world → Carries child step before after → IsSound before.moment.world → IsSound after.moment.world
   step_sound (Write path text) before after out (e, same) sound = subst (λ (m : Moment). IsSound m.world) (sym e) (written_sound path text before.moment.world out sound)
   step_sound (Remove path) before after apart (e, same) sound = subst (λ (m : Moment). IsSound m.world) (sym e) (removed_sound path before.moment.world apart sound)
   step_sound (Set name value) before after out (e, same) sound = subst (λ (m : Moment). IsSound m.world) (sym e) sound

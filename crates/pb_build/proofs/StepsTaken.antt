@@ -4,7 +4,7 @@ use Rattle.std.proofs.Math.ListN.{get_or}
 use Rattle.std.proofs.lemmas.List.{drop_more, drop_all}
 use Rattle.pb_place.specs.World.{Answers}
 use Rattle.pb_session.specs.declared.step.SessionStep.{SessionStep}
-use Rattle.pb_build.specs.Session.{Point, Takes, Course}
+use Rattle.pb_build.specs.Session.{Point, Carries, Course}
 
 -- whatever the rest of the steps comes to, all of them come to
 abbrev pub Reaches : Answers → List SessionStep → List SessionStep → Point → Point → Type 0
@@ -14,7 +14,7 @@ one_more : (steps : List SessionStep) (i : ℕ) (step : SessionStep) → i < len
 one_more steps i step here is = drop_more steps i step here ∙ ap (λ (s : SessionStep). s ∷ drop (i + 1) steps) (sym is)
 
 pub step_taken : (child : Answers) (steps : List SessionStep) (i : ℕ) (step : SessionStep) (start before after : Point) → i < length steps → step ≡ get_or steps i step
-    → Reaches child steps (drop i steps) start before → Takes child step before after → Reaches child steps (drop (i + 1) steps) start after
+    → Reaches child steps (drop i steps) start before → Carries child step before after → Reaches child steps (drop (i + 1) steps) start after
 step_taken child steps i step start before after here is reaches taken end rest =
     reaches end (subst (λ (s : List SessionStep). Course child s before end) (sym (one_more steps i step here is)) (after, taken, rest))
 

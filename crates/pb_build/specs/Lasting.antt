@@ -13,7 +13,7 @@ use Rattle.pb_soundness.specs.Records.{Reading, record_at}
 use Rattle.pb_soundness.specs.Sound.{Sound}
 use Rattle.pb_build.specs.declared.sessions.Answer.{Answer}
 use Rattle.pb_build.specs.Headline.{records_of, IsHonestBuild, Gives}
-use Rattle.pb_build.specs.Session.{Point, Takes}
+use Rattle.pb_build.specs.Session.{Point, Carries}
 
 -- no path is at or below both
 abbrev pub ShareNoPath : List ℕ → List ℕ → Type 0
@@ -32,7 +32,7 @@ Spares child folder (Build options pick) w = ((records_of options w.variables �
 -- the steps were taken in turn, and each spares the records of a folder
 abbrev pub SparingCourse : Answers → List ℕ → List SessionStep → Point → Point → Type 0
 SparingCourse child folder [] before after = after ≡ before
-SparingCourse child folder (step ∷ steps) before after = Spares child folder step before.moment.world × ((mid : Point) × Takes child step before mid × SparingCourse child folder steps mid after)
+SparingCourse child folder (step ∷ steps) before after = Spares child folder step before.moment.world × ((mid : Point) × Carries child step before mid × SparingCourse child folder steps mid after)
 
 -- a folder in which no text counts as a record is sound
 abbrev pub NothingIsSound : Type 0
@@ -47,5 +47,5 @@ RecordsStayTrue = (read : Reading) (child : Answers) (folder : List ℕ) (steps 
 abbrev pub AnyBuildGives : Type 0
 AnyBuildGives = (read : Reading) (child : Answers) (options : Options) (pick : PickBy) (steps : List SessionStep) (before mid after : Point) → IsReading read
     → SparingCourse child (records_of options mid.moment.world.variables) steps before mid → Sound read judge child (records_of options mid.moment.world.variables) before.moment.world.files
-    → IsHonestBuild child options mid.moment.world → Takes child (Build options pick) mid after
+    → IsHonestBuild child options mid.moment.world → Carries child (Build options pick) mid after
     → (answer : Answer) × (after.answers ≡ mid.answers ++ answer ∷ []) × Gives OnRecords read child options answer.result mid.moment after.moment

@@ -36,14 +36,14 @@ Picked child options First result old new = BuildsFirst true child options resul
 Picked child options Last result old new = BuildsLast true child options result old new
 
 -- a step: an edit; a failure that is prepared, of which nothing is seen yet; or a build, which keeps the headline and adds its answer
-abbrev pub Takes : Answers → SessionStep → Point → Point → Type 0
-Takes child (Write path text) before after = Edits (written path text before.moment.world) before after
-Takes child (Remove path) before after = Edits (removed path before.moment.world) before after
-Takes child (Set name value) before after = Edits (set name value before.moment.world) before after
-Takes child (Unset name) before after = Edits (unset name before.moment.world) before after
-Takes child (Die key death) before after = after ≡ before
-Takes child (Fuse number) before after = after ≡ before
-Takes child (Build options pick) before after =
+abbrev pub Carries : Answers → SessionStep → Point → Point → Type 0
+Carries child (Write path text) before after = Edits (written path text before.moment.world) before after
+Carries child (Remove path) before after = Edits (removed path before.moment.world) before after
+Carries child (Set name value) before after = Edits (set name value before.moment.world) before after
+Carries child (Unset name) before after = Edits (unset name before.moment.world) before after
+Carries child (Die key death) before after = after ≡ before
+Carries child (Fuse number) before after = after ≡ before
+Carries child (Build options pick) before after =
     (answer : Answer) × Picked child options pick answer.result before.moment after.moment
     × SourcesStay (environment_of options before.moment.world.variables).target before.moment.world after.moment.world
     × Headline true child options answer.result before.moment after.moment × (after.answers ≡ before.answers ++ answer ∷ [])
@@ -51,7 +51,7 @@ Takes child (Build options pick) before after =
 -- the steps were taken in turn
 abbrev pub Course : Answers → List SessionStep → Point → Point → Type 0
 Course child [] before after = after ≡ before
-Course child (step ∷ steps) before after = (mid : Point) × Takes child step before mid × Course child steps mid after
+Course child (step ∷ steps) before after = (mid : Point) × Carries child step before mid × Course child steps mid after
 
 -- what an edit makes of the world; other steps are none
 abbrev pub edit : SessionStep → World → World

@@ -5,7 +5,7 @@ ghost use Rattle.pb_session.specs.declared.step.SessionStep.TheVariants.{Build};
 ghost use Rattle.pb_build.specs.Environment.{environment_of};
 ghost use Rattle.pb_build.specs.Headline.{Headline};
 ghost use Rattle.pb_build.specs.Kept.{SourcesStay};
-ghost use Rattle.pb_build.specs.Session.{Picked, Takes, Course, point};
+ghost use Rattle.pb_build.specs.Session.{Picked, Carries, Course, point};
 ghost use Rattle.pb_place.specs.Memory.{counts_in};
 ghost use Rattle.pb_turns.specs.Moments.{moment};
 
@@ -57,7 +57,7 @@ fn add_build<C: Child, O: Out>(
     answers: &mut Items<Answer>,
 ) -> Result<(), AllocError>
     requires none { (counts_in memory.old).starts.flying ≡ [] }
-    ensures taken { OnOk result (Takes C.answers (Build options.now pick) (point memory.old (O.taken out.old) (O.faults out.old) answers.old) (point memory.new (O.taken out.new) (O.faults out.new) answers.new)) }
+    ensures taken { OnOk result (Carries C.answers (Build options.now pick) (point memory.old (O.taken out.old) (O.faults out.old) answers.old) (point memory.new (O.taken out.new) (O.faults out.new) answers.new)) }
     ensures none { OnOk result ((counts_in memory.new).starts.flying ≡ []) }
 {
     let result = built(alloc, memory, out, options, pick);
@@ -75,7 +75,7 @@ fn take_step<C: Child, O: Out>(
     answers: &mut Items<Answer>,
 ) -> Result<(), AllocError>
     requires none { (counts_in memory.old).starts.flying ≡ [] }
-    ensures taken { OnOk result (Takes C.answers step.now (point memory.old (O.taken out.old) (O.faults out.old) answers.old) (point memory.new (O.taken out.new) (O.faults out.new) answers.new)) }
+    ensures taken { OnOk result (Carries C.answers step.now (point memory.old (O.taken out.old) (O.faults out.old) answers.old) (point memory.new (O.taken out.new) (O.faults out.new) answers.new)) }
     ensures none { OnOk result ((counts_in memory.new).starts.flying ≡ []) }
 {
     match step {

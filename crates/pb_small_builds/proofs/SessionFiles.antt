@@ -36,7 +36,7 @@ use Rattle.pb_turns.specs.Moments.{Moment}
 use Rattle.pb_workspace.proofs.FoldersPut.{opened}
 use Rattle.pb_build.specs.Headline.{IsHonestBuild, records_of}
 use Rattle.pb_build.specs.Lasting.{NothingIsSound, RecordsStayTrue, ShareNoPath, Spares}
-use Rattle.pb_build.specs.Session.{Course, Point, Takes}
+use Rattle.pb_build.specs.Session.{Course, Point, Carries}
 use Rattle.pb_small_builds.specs.Laws.{SessionFilesGive}
 use Rattle.pb_small_builds.specs.Small.{AllGive, AllTold, FilesHavePaths, IsSmallBuild, IsToldBuild, IsToldStep, StepGives}
 use Rattle.pb_small_builds.proofs.Folders.{Named, lie_apart, lies_within, profile_named}
@@ -182,7 +182,7 @@ module _ (target : List ℕ) where
       by q found false left o old h = cc
 
   -- one step
-  step_at : (step : SessionStep) (before after : Point) → HasWords step → IsToldStep target step before.moment.world → Takes small_compiler step before after → SourcesAt before.moment.world → SourcesAt after.moment.world
+  step_at : (step : SessionStep) (before after : Point) → HasWords step → IsToldStep target step before.moment.world → Carries small_compiler step before after → SourcesAt before.moment.world → SourcesAt after.moment.world
   step_at (Write path text) before after at told (moment, answers) files = subst (λ (m : Moment). SourcesAt m.world) (sym moment) (written_at path text before.moment.world at files)
   step_at (Remove path) before after words told (moment, answers) files = subst (λ (m : Moment). SourcesAt m.world) (sym moment) (removed_at path before.moment.world files)
   step_at (Set name value) before after words told (moment, answers) files = subst (λ (m : Moment). SourcesAt m.world) (sym moment) files
@@ -225,11 +225,11 @@ module _ (target : List ℕ) where
             (lie_apart target name (folder_of options.profile) (subst At told.one_target (target_at options w.variables words.0)) named (profile_named options.profile told.profile)
             (λ same. false≢true (sym other ∙ (bytes_eq-Decides (folder_of options.profile) name).1 (sym same)))))
 
-    all_sound : (step : SessionStep) (before after : Point) → HasWords step → SourcesAt before.moment.world → IsToldStep target step before.moment.world → Takes small_compiler step before after → AllSound before.moment.world → AllSound after.moment.world
+    all_sound : (step : SessionStep) (before after : Point) → HasWords step → SourcesAt before.moment.world → IsToldStep target step before.moment.world → Carries small_compiler step before after → AllSound before.moment.world → AllSound after.moment.world
     all_sound step before after words files told takes sound name named =
         records_stay_true read small_compiler (below target name) (step ∷ []) before after reading (spares_so name step before.moment.world named words files told, (after, takes, refl)) (sound name named)
 
-    step_gives : (step : SessionStep) (before after : Point) → HasWords step → SourcesAt before.moment.world → IsToldStep target step before.moment.world → Takes small_compiler step before after → AllSound before.moment.world → StepGives read step before after
+    step_gives : (step : SessionStep) (before after : Point) → HasWords step → SourcesAt before.moment.world → IsToldStep target step before.moment.world → Carries small_compiler step before after → AllSound before.moment.world → StepGives read step before after
     step_gives (Write path text) before after words files told takes sound = tt
     step_gives (Remove path) before after words files told takes sound = tt
     step_gives (Set name value) before after words files told takes sound = tt

@@ -17,7 +17,7 @@ use Rattle.pb_soundness.specs.Records.{Reading}
 use Rattle.pb_soundness.specs.Sound.{Sound}
 use Rattle.pb_turns.specs.Moments.{Moment}
 use Rattle.pb_build.specs.Headline.{records_of, IsHonestBuild, Gives, Headline}
-use Rattle.pb_build.specs.Session.{Point, Takes, Course}
+use Rattle.pb_build.specs.Session.{Point, Carries, Course}
 use Rattle.pb_build.specs.declared.sessions.Answer.{Answer}
 use Rattle.pb_small_builds.specs.Small.{AllGive, AllTold, IsSmallBuild, SmallCourse}
 
@@ -34,7 +34,7 @@ SmallBuildsGive = (read : Reading) (options : Options) (result : Result Summary 
 abbrev pub SmallSessionsGive : Type 0
 SmallSessionsGive = (read : Reading) (options : Options) (pick : PickBy) (steps : List SessionStep) (before mid after : Point) → IsReading read
     → Sound read judge small_compiler (records_of options mid.moment.world.variables) before.moment.world.files → SmallCourse (records_of options mid.moment.world.variables) steps before mid
-    → IsSmallBuild options mid.moment.world → Takes small_compiler (Build options pick) mid after
+    → IsSmallBuild options mid.moment.world → Carries small_compiler (Build options pick) mid after
     → (answer : Answer) × (after.answers ≡ mid.answers ++ answer ∷ []) × Gives OnRecords read small_compiler options answer.result mid.moment after.moment
 
 -- So does each build of a session file that begins without files, of which no more is asked than the file leaves open.

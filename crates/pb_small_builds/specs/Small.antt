@@ -21,7 +21,7 @@ use Rattle.pb_build.specs.Headline.{records_of, Gives}
 use Rattle.pb_build.specs.Lasting.{ShareNoPath, Spares}
 use Rattle.pb_build.specs.Planning.{IsProject}
 use Rattle.pb_build.specs.Result.{toolchain_of, setup_of}
-use Rattle.pb_build.specs.Session.{Point, Takes, Course}
+use Rattle.pb_build.specs.Session.{Point, Carries, Course}
 use Rattle.pb_build.specs.declared.sessions.Answer.{Answer}
 
 -- One build.
@@ -58,7 +58,7 @@ SparesBySmall folder step w = Spares small_compiler folder step w
 -- the steps were taken in turn, and each spares the records of a folder
 abbrev pub SmallCourse : List ℕ → List SessionStep → Point → Point → Type 0
 SmallCourse folder [] before after = after ≡ before
-SmallCourse folder (step ∷ steps) before after = SparesBySmall folder step before.moment.world × ((mid : Point) × Takes small_compiler step before mid × SmallCourse folder steps mid after)
+SmallCourse folder (step ∷ steps) before after = SparesBySmall folder step before.moment.world × ((mid : Point) × Carries small_compiler step before mid × SmallCourse folder steps mid after)
 
 -- Sessions of a file.
 

@@ -1,20 +1,16 @@
 -- What `pb_tool build` does.
-use Rattle.std.specs.Prelude.{◌≡◌, ◌⊎◌, ℕ, zero, suc, Bool, true, false, codes, List, [], ◌∷◌, ◌++◌, take, IsTrue, Result, Ok, Err}
-use Rattle.std.specs.Io.KnownBytes.{Appends}
-use Rattle.pb_project.specs.declared.project.Project.{Project}
-use Rattle.pb_place.specs.Counts.{up}
-use Rattle.pb_place.specs.World.{World, Answers}
+use Rattle.std.specs.Prelude.{◌≡◌, ◌⊎◌, ℕ, zero, suc, Bool, true, false, codes, List, [], ◌∷◌, ◌++◌, Option, Some, None, Result, Ok, Err}
+use Rattle.pb_place.specs.World.{Answers}
 use Rattle.pb_answer.specs.Explanation.{explanation, said_by_bad}
 use Rattle.pb_answer.specs.ResultLine.{result_line}
 use Rattle.pb_answer.specs.declared.fault.BuildFault.{BuildFault}
 use Rattle.pb_answer.specs.declared.fault.BuildFault.TheVariants.{OutOfMemory}
 use Rattle.pb_answer.specs.declared.summary.Summary.{Summary}
 use Rattle.pb_package.specs.declared.options.Options.{Options}
-use Rattle.pb_build.specs.Ending.{BuildsFirst}
-use Rattle.pb_build.specs.Environment.{environment_of}
-use Rattle.pb_build.specs.Planning.{IsProject}
+use Rattle.pb_build.specs.Ending.{BuildsFirst, PlansFrom}
 use Rattle.pb_build.specs.declared.builder.BuildPlan.{BuildPlan}
 use Rattle.pb_turns.specs.Moments.{Heard, Moment}
+use Rattle.pb_tool_program.specs.Writing.{Tells}
 
 abbrev pub success_status : Bool → ℕ
 success_status true = 0
@@ -33,15 +29,6 @@ notes_of (name ∷ names) = codes "note: " ++ name ++ codes " has no library\n" 
 -- why a build failed
 abbrev pub error_of : Result Summary BuildFault → List ℕ
 error_of answer = codes "error: " ++ result_line answer ++ codes "\n"
-
--- all of some bytes were written; or the first of them, and the sink failed
-abbrev pub Writes : Bool → List ℕ → Heard → Heard → Type 0
-Writes true bytes old new = Appends old.taken new.taken bytes × (new.faults ≡ old.faults)
-Writes false bytes old new = ((n : ℕ) × Appends old.taken new.taken (take n bytes)) × (new.faults ≡ up old.faults)
-
--- some bytes were told, as far as the sink took them
-abbrev pub Tells : List ℕ → Heard → Heard → Type 0
-Tells bytes old new = (whole : Bool) × Writes whole bytes old new
 
 -- what is told behind a build: nothing where all its units are good; else why it failed, or, where memory is refused for that, want of memory
 abbrev pub TellsWhy : ℕ → Result Summary BuildFault → Heard → Heard → Type 0
@@ -68,23 +55,25 @@ pub record Concludes (explain : Bool) (answer : Result Summary BuildFault) (stat
   pub said : TellsSaid answer explained repeated
   pub reason : TellsWhy status answer repeated new
 
--- packages of this workspace to which enabled dependencies lead and that have no library
-abbrev pub AreMissing : Options → World → List (List ℕ) → Type 0
-AreMissing options w names = (project : Project) × IsProject options (environment_of options w.variables).target w project × (names ≡ project.plan.without_library)
-
--- what is written before a build: notes of such packages, or nothing
-abbrev pub Notes : Bool → Options → World → Heard → Heard → Type 0
-Notes tells options w old new = (new ≡ old) ⊎ ((names : List (List ℕ)) × (IsTrue tells → AreMissing options w names) × Tells (notes_of names) old new)
-
--- notes of the packages that a plan names, or nothing; nothing where there is no plan
+-- what is written before a build: notes of the packages that its plan names, or nothing; nothing where there is no plan
 abbrev pub NotesOf : Result BuildPlan BuildFault → Heard → Heard → Type 0
 NotesOf (Ok plan) old new = (new ≡ old) ⊎ Tells (notes_of plan.project.plan.without_library) old new
 NotesOf (Err fault) old new = new ≡ old
 
--- A build was carried out, and the place was asked for nothing else. What is written beside the output are the notes before it, and what is told behind it.
-pub record BuildsTold (tells : Bool) (child : Answers) (options : Options) (explain : Bool) (status : ℕ) (old new : Moment) (said_before said_after : Heard) : Type 0 where
+-- the target folder of a plan
+abbrev pub folder_of : Result BuildPlan BuildFault → Option (List ℕ)
+folder_of (Ok plan) = Some plan.environment.target
+folder_of (Err fault) = None
+
+-- A build was planned and carried out, and the place was asked for nothing else; in between its target folder was guarded. What is written beside the output are the notes before it, that it waits, and what is told behind it.
+pub record BuildsTold (tells : Bool) (child : Answers) (Guards : Option (List ℕ) → Heard → Heard → Type 0) (options : Options) (explain : Bool) (status : ℕ) (old new : Moment) (said_before said_after : Heard) : Type 0 where
+  pub plan : Result BuildPlan BuildFault
+  pub planned : Moment
+  pub plans : PlansFrom tells options plan old planned
+  pub noted : Heard
+  pub notes : NotesOf plan said_before noted
+  pub held : Heard
+  pub guards : Guards (folder_of plan) noted held
   pub answer : Result Summary BuildFault
   pub builds : BuildsFirst tells child options answer old new
-  pub noted : Heard
-  pub notes : Notes tells options old.world said_before noted
-  pub concluded : Concludes explain answer status noted said_after
+  pub concluded : Concludes explain answer status held said_after

@@ -12,8 +12,9 @@ use Rattle.pb_arguments.specs.declared.asked.Unasked.TheVariants.{Help, Wrong, O
 use Rattle.pb_session.specs.Sessions.{session_of}
 use Rattle.pb_session.specs.declared.fault.BadSession.TheVariants.{BadForm}
 use Rattle.pb_turns.specs.Moments.{Heard, Moment}
-use Rattle.pb_tool_program.specs.Building.{Writes, Tells, BuildsTold}
+use Rattle.pb_tool_program.specs.Building.{BuildsTold}
 use Rattle.pb_tool_program.specs.Session.{Refused, SessionWritten}
+use Rattle.pb_tool_program.specs.Writing.{Writes, Tells}
 
 -- Sessions.
 
@@ -59,12 +60,12 @@ abbrev pub Means : List (List ℕ) → List ℕ → Result Asked Unasked → Typ
 Means words folder (Ok asked) = Asks words folder asked
 Means words folder (Err unasked) = Unasks words folder unasked
 
--- what comes of that: the build that is asked for, or the session; else the place is not touched
-abbrev pub Does : Bool → Answers → Result Asked Unasked → ℕ → Moment → Moment → Heard → Heard → Type 0
-Does tells child (Ok (Build options explain)) status old new said_before said_after = BuildsTold tells child options explain status old new said_before said_after
-Does tells child (Ok (Session path)) status old new said_before said_after = RunsFile tells path status old new said_before said_after
-Does tells child (Err unasked) status old new said_before said_after = (new ≡ record old { heard = new.heard }) × Explains unasked status old.heard new.heard said_before said_after
+-- what comes of that: the build that is asked for, or the session; else the place is not touched. A build alone asks the guard for a folder.
+abbrev pub Does : Bool → Answers → (Option (List ℕ) → Heard → Heard → Type 0) → Result Asked Unasked → ℕ → Moment → Moment → Heard → Heard → Type 0
+Does tells child Guards (Ok (Build options explain)) status old new said_before said_after = BuildsTold tells child Guards options explain status old new said_before said_after
+Does tells child Guards (Ok (Session path)) status old new said_before said_after = RunsFile tells path status old new said_before said_after × Guards None said_before said_before
+Does tells child Guards (Err unasked) status old new said_before said_after = (new ≡ record old { heard = new.heard }) × Explains unasked status old.heard new.heard said_before said_after × Guards None said_before said_before
 
 -- the program did what these words mean, where relative paths start at this folder
-abbrev pub Runs : Bool → Answers → List (List ℕ) → List ℕ → ℕ → Moment → Moment → Heard → Heard → Type 0
-Runs tells child words folder status old new said_before said_after = (meant : Result Asked Unasked) × Means words folder meant × Does tells child meant status old new said_before said_after
+abbrev pub Runs : Bool → Answers → (Option (List ℕ) → Heard → Heard → Type 0) → List (List ℕ) → List ℕ → ℕ → Moment → Moment → Heard → Heard → Type 0
+Runs tells child Guards words folder status old new said_before said_after = (meant : Result Asked Unasked) × Means words folder meant × Does tells child Guards meant status old new said_before said_after

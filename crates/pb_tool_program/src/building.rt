@@ -7,8 +7,10 @@ ghost use Rattle.pb_turns.specs.Moments.{Moment, moment};
 ghost use Rattle.pb_answer.specs.ResultLine.{result_line};
 ghost use Rattle.pb_answer.specs.declared.fault.BuildFault.{BuildFault};
 ghost use Rattle.pb_answer.specs.declared.summary.Summary.{Summary};
-ghost use Rattle.pb_tool_program.specs.Building.{status_of, notes_of, error_of, NotesOf, TellsReasons, TellsSaid, TellsWhy, Concludes, BuildsTold};
+ghost use Rattle.pb_tool_program.specs.Building.{status_of, notes_of, error_of, folder_of, NotesOf, TellsReasons, TellsSaid, TellsWhy, Concludes, BuildsTold};
+ghost use Rattle.pb_tool_program.specs.Guarding.{Guarded};
 
+use crate::guard::Guard;
 use pb_answer::{BuildFault, Summary, explanation, result_line, said};
 use pb_build::{BuildPlan, build_plan, plan_build};
 use pb_data::Text;
@@ -71,6 +73,21 @@ fn note<E: Out>(alloc: Global, err: &mut E, plan: &Result<BuildPlan, BuildFault>
         Err(_) => return,
     };
     let _ = write_all(err, notes.as_bytes());
+}
+
+/// Takes the target folder of a build's plan. Where another build has it, a line says so, and this one waits. Where there
+/// is no plan, no folder is asked for.
+fn hold<G: Guard, E: Out>(guard: &mut G, err: &mut E, plan: &Result<BuildPlan, BuildFault>)
+    ensures { Guarded G.asks G.waits guard.old guard.new (folder_of plan.now) record { taken = E.taken err.old; faults = E.faults err.old } record { taken = E.taken err.new; faults = E.faults err.new } }
+{
+    let plan = match plan {
+        Ok(plan) => plan,
+        Err(_) => return,
+    };
+    if guard.is_taken(&plan.environment.target) {
+        let _ = write_all(err, b"note: another build has the target folder: waiting\n");
+        guard.wait();
+    }
 }
 
 /// Tells why a build failed, where its status says so. Where memory is refused for that, want of memory is told, which
@@ -148,22 +165,26 @@ fn conclude<E: Out>(
 /// Builds, and gives the status: 0 for success, 101 for a build that failed or was refused, with `error: ` and its
 /// result line on `err`. Message lines go to `out` as units end. Before the build a line `note: NAME has no library`
 /// goes to `err` for each package to which an enabled dependency leads and that has no library; behind it, where that
-/// is asked for, why each child was started; and what the child of a bad unit wrote that no message line holds.
-pub fn build_options<P: Place, O: Out, E: Out>(
+/// is asked for, why each child was started; and what the child of a bad unit wrote that no message line holds. Between
+/// the plan and the compiler's query the guard is asked for the target folder; where another build has it, a line on
+/// `err` says so, and this one waits.
+pub fn build_options<P: Place, G: Guard, O: Out, E: Out>(
     alloc: Global,
     place: &mut P,
+    guard: &mut G,
     out: &mut O,
     err: &mut E,
     options: &Options,
     explain: bool,
 ) -> u8
     requires none { (P.counts place.old).starts.flying ≡ [] }
-    ensures { BuildsTold P.tells P.child options.now explain result
+    ensures { BuildsTold P.tells P.child (Guarded G.asks G.waits guard.old guard.new) options.now explain result
         (moment (P.world place.old) (P.counts place.old) (P.most place.old) (O.taken out.old) (O.faults out.old)) (moment (P.world place.new) (P.counts place.new) (P.most place.new) (O.taken out.new) (O.faults out.new))
         record { taken = E.taken err.old; faults = E.faults err.old } record { taken = E.taken err.new; faults = E.faults err.new } }
 {
     let plan = plan_build(alloc, place, options);
     note(alloc, err, &plan);
+    hold(guard, err, &plan);
     let answer = build_plan(alloc, place, out, options, plan);
     conclude(alloc, err, explain, &answer)
 }

@@ -3,11 +3,14 @@
 #![tactic(auto)]
 
 pub mod building;
+mod folder_lock;
+pub mod guard;
 pub mod machine;
 pub mod running;
 pub mod session;
 
 pub use building::build_options;
+pub use guard::Guard;
 pub use machine::tool;
 pub use pb_host::HostPlace;
 pub use running::run;

@@ -1,5 +1,6 @@
 //! The program over the machine.
 
+use crate::folder_lock::FolderLock;
 use crate::running::{BAD_COMMAND_LINE, FAILED, run};
 use pb_host::HostPlace;
 use pb_place::{Over, PathText, write_all};
@@ -43,6 +44,7 @@ pub fn tool(rt: &HostRuntime) -> u8 {
         words.as_slice(),
         &folder,
         &mut HostPlace::new(rt.alloc(), rt),
+        &mut FolderLock::new(rt),
         &mut Over::new(io::writer(rt)),
         &mut Over::new(rt.stderr()),
     )

@@ -2,9 +2,11 @@
 
 ghost use Rattle.std.specs.Prelude.{◌≡◌, [], map};
 ghost use Rattle.pb_turns.specs.Moments.{moment};
+ghost use Rattle.pb_tool_program.specs.Guarding.{Guarded};
 ghost use Rattle.pb_tool_program.specs.Running.{RunsFile, Explains, Runs};
 
 use crate::building::build_options;
+use crate::guard::Guard;
 use crate::session::{refuse, run_session};
 use pb_arguments::{Asked, Unasked, read_command_line};
 use pb_place::{Out, PathText, Place, write_all};
@@ -58,26 +60,27 @@ fn explain<O: Out, E: Out>(unasked: &Unasked, out: &mut O, err: &mut E) -> u8
 }
 
 /// The whole program: does what the words of the command line ask for, the program's own name first. Relative paths
-/// start at `folder`, the current one.
+/// start at `folder`, the current one. A build asks the guard for its target folder, once it is planned.
 ///
 /// The status is that of `build_options` or `run_session`; 1 for a bad command line; 0 where help was asked for; 101
 /// where memory is refused before.
-pub fn run<S: AsStr, P: Place, O: Out, E: Out>(
+pub fn run<S: AsStr, P: Place, G: Guard, O: Out, E: Out>(
     alloc: Global,
     words: &[S],
     folder: &PathText,
     place: &mut P,
+    guard: &mut G,
     out: &mut O,
     err: &mut E,
 ) -> u8
     requires none { (P.counts place.old).starts.flying ≡ [] }
-    ensures { Runs P.tells P.child (map S.text words.now) folder.now result
+    ensures { Runs P.tells P.child (Guarded G.asks G.waits guard.old guard.new) (map S.text words.now) folder.now result
         (moment (P.world place.old) (P.counts place.old) (P.most place.old) (O.taken out.old) (O.faults out.old)) (moment (P.world place.new) (P.counts place.new) (P.most place.new) (O.taken out.new) (O.faults out.new))
         record { taken = E.taken err.old; faults = E.faults err.old } record { taken = E.taken err.new; faults = E.faults err.new } }
 {
     match read_command_line(alloc, words, folder) {
         Ok(Asked::Build { options, explain }) => {
-            build_options(alloc, place, out, err, &options, explain)
+            build_options(alloc, place, guard, out, err, &options, explain)
         }
         Ok(Asked::Session(path)) => run_file(alloc, place, &path, out, err),
         Err(unasked) => explain(&unasked, out, err),
