@@ -78,7 +78,7 @@ for number in $(seq "${PAIRS:-20}"); do
     "$PROGRAM" build > three 2>&1 || true
     rm -rf nothing
     "$PROGRAM" build --target-dir nothing > four 2>&1 || true
-    for file in one two three four; do
+    for file in four one two three; do
         grep -v '^note: another build' $file | sed -e 's/"fresh":[a-z]*/"fresh":_/' -e "s|$PWD/nothing|$PWD/target|" > $file.told
         cmp -s $file.told four.told || unlike=$((unlike + 1))
     done
