@@ -254,6 +254,7 @@ fn close<O: Out>(out: &mut O, inner: Result<Summary, BuildFault>) -> Result<Summ
             Ok(()) => Ok(summary),
             Err(_) => Err(BuildFault::Sink),
         },
+        // A sink that failed is not written to again.
         Err(BuildFault::Sink) => Err(BuildFault::Sink),
         Err(BuildFault::Plan(refusal)) => Err(BuildFault::Plan(refusal)),
         Err(fault) => match write_lines(out, finish_line(false)) {

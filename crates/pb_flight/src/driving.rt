@@ -102,6 +102,7 @@ fn answer_one<P, O, F: Drop, E, C: Crew<P, O, F, E>>(
         Ok(answer) => answer,
         Err(fault) => return Err(fault),
     };
+    // Noted before lines are told: its own may be due.
     flight.answer(unit, answer);
     match tell(alloc, crew, place, out, flight) {
         Ok(()) => Ok(()),

@@ -382,6 +382,7 @@ impl<F: Drop> Flight<F> {
         ensures given { OnOk result (self.new ≡ emitted self.old) }
         ensures same { OnErr result (self.new ≡ self.old) }
     {
+        // Lines before the count: where memory is refused none are lost.
         let due = due_after(alloc, self.states.as_slice(), self.given)?;
         self.given = due.count;
         Ok(due.lines)

@@ -78,6 +78,7 @@ impl<'a, R: Files + Env + Processes + AllocGlobal> HostPlace<'a, R> {
         let Some(ticket) = free_ticket(self.flying.as_slice()) else {
             return Err(StartFault::OutOfMemory);
         };
+        // Room before the process: one that runs is always known.
         self.flying.reserve(1)?;
         let child = child_in_flight(alloc, command, ticket)?;
         let process = spawn(self.runtime, alloc, command)?;

@@ -101,6 +101,7 @@ pub(crate) fn spawn<R: Files + Processes>(
 ) -> Result<Child<R::Started>, StartFault>
     ensures fault { IfErr result (λ e. e ≢ StartFault.OutOfMemory → e ≡ StartFault.CannotStart) }
 {
+    // The folder before the child: a compiler does not make it.
     if let Some(out) = &command.out {
         if let Err(error) = fs::create_dir_all(runtime, out.as_str()) {
             return Err(fault_of(error, StartFault::CannotStart));

@@ -86,6 +86,7 @@ pub fn begin_unit<P: Place>(
     ensures most { MatchResult result (λ made. MatchOption made.begun.launched (P.most place.new ≡ P.most place.old) (λ launched. P.most place.new ≡ max (P.most place.old) (length (P.counts place.old).starts.flying + 1))) (λ e. P.most place.new ≡ P.most place.old) }
     ensures takes { Takes Begins (MayBeginUnit store.old.next unit.now.key) result (P.counts place.old) (P.counts place.new) }
 {
+    // Every growth before the first call: a child that is in flight has its name.
     let name = match unit.key.copy(alloc) {
         Ok(name) => name,
         Err(_) => return Err(BuildFault::OutOfMemory),
@@ -94,6 +95,7 @@ pub fn begin_unit<P: Place>(
         Ok(command) => command,
         Err(_) => return Err(BuildFault::OutOfMemory),
     };
+    // Looked at before anything is changed.
     let found = match difference_of(alloc, place, store, &unit.key, &command) {
         Ok(found) => found,
         Err(fault) => return Err(fault),

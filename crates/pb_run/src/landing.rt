@@ -86,6 +86,7 @@ pub(crate) fn judged_now<P: Place>(
         Ok(path) => path,
         Err(_) => return Err(BuildFault::OutOfMemory),
     };
+    // Dep-info before judging: the judgement is of bytes, and makes no call.
     let dep_info = match read_at(alloc, place, unit.key.as_str(), &path) {
         Ok(dep_info) => dep_info,
         Err(fault) => return Err(fault),
@@ -305,6 +306,7 @@ pub(crate) fn land<P: Place>(
         Ok(judgement) => judgement,
         Err(fault) => return Err(fault),
     };
+    // A bad unit keeps no record.
     if judgement.ran.bad.is_some() {
         return Ok(judgement.ran);
     }

@@ -126,6 +126,7 @@ fn spawn_anew<P: Place>(
     ensures still { IsTrue P.tells → KeepsStillOutside (is_at_or_below unit.now.out) (P.counts place.old).starts.flying (P.still place.old) (P.still place.new) }
     ensures takes { (next : Option ℕ) → Takes IsLifted (MayBeginUnit next unit.now.key) result (P.counts place.old) (P.counts place.new) }
 {
+    // Emptied before the child is there, so that nothing old counts as its own.
     match empty(alloc, place, unit.key.as_str(), &unit.out) {
         Ok(()) => {}
         Err(fault) => return Err(fault),
@@ -163,6 +164,7 @@ pub(crate) fn launch<P: Place>(
     ensures still { IsTrue P.tells → KeepsStillOutside (is_of store.old.folder unit.now.key) (P.counts place.old).starts.flying (P.still place.old) (P.still place.new) }
     ensures takes { Takes (λ launched. IsLifted launched.ticket) (MayBeginUnit store.old.next unit.now.key) result (P.counts place.old) (P.counts place.new) }
 {
+    // The record goes before the folder is emptied: a build that ends between leaves no record that lies.
     let number = match drop_record(alloc, place, store, &unit.key) {
         Ok(number) => number,
         Err(fault) => return Err(fault),

@@ -96,6 +96,7 @@ impl Store {
         ensures still { IsTrue P.tells → KeepsStillOutside (is_at_or_below (place_of self.old.folder key.now)) (P.counts place.old).starts.flying (P.still place.old) (P.still place.new) }
         ensures takes { Takes (MayDrop self.old.next) result (P.counts place.old) (P.counts place.new) }
     {
+        // The number first: where none is left, nothing is removed.
         let number = match self.next {
             None => return Err(StoreFault::NumbersSpent),
             Some(number) => number,
@@ -104,6 +105,7 @@ impl Store {
             Ok(()) => {}
             Err(fault) => return Err(fault),
         }
+        // Counted only once the record is gone.
         self.next = number_after(number);
         Ok(number)
     }

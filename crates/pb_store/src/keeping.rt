@@ -240,6 +240,7 @@ fn kept_now<P: Place>(
     ensures still { IsTrue P.tells → KeepsStill (P.still place.old) (P.still place.new) }
     ensures takes { Takes MayLook result (P.counts place.old) (P.counts place.new) }
 {
+    // Read before the write, so that the record says what stands now.
     let numbers = match numbered(alloc, place, folder, needs) {
         Ok(numbers) => numbers,
         Err(fault) => return Err(fault),

@@ -74,6 +74,7 @@ impl Store {
             Err(fault) => return Err(fault),
         };
         let kept = numbered_record(kept, number, numbers);
+        // Before the write: a torn one may have used the number.
         self.next = number_after(number);
         match put_record(alloc, place, &self.folder, key, &kept) {
             Ok(()) => Ok(()),

@@ -112,6 +112,7 @@ fn greatest_of<P: Place>(
 {
     let mut greatest = 0;
     for path in paths.into_vec() {
+        // Every record, also one in another key's place, may name the greatest number.
         let number = match greatest_at(alloc, place, path) {
             Ok(number) => number,
             Err(fault) => return Err(fault),

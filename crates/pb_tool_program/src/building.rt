@@ -184,6 +184,7 @@ pub fn build_options<P: Place, G: Guard, O: Out, E: Out>(
 {
     let plan = plan_build(alloc, place, options);
     note(alloc, err, &plan);
+    // After the plan: a refused build makes no folder.
     hold(guard, err, &plan);
     let answer = build_plan(alloc, place, out, options, plan);
     conclude(alloc, err, explain, &answer)

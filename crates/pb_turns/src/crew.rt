@@ -117,6 +117,7 @@ fn begin_at<P: Place>(
         (λ spawned. Story P.tells P.child first at crew.new (moment (P.world place.new) (P.counts place.new) (P.most place.new) taken faults) (P.still place.new) (Began unit spawned ∷ es) given)
         (λ e. (spawned : Bool) × StoryEnds P.tells P.child e first at crew.new (moment (P.world place.new) (P.counts place.new) (P.most place.new) taken faults) (P.still place.new) (Began unit spawned ∷ es)) }
 {
+    // Room before the spawn: a child in flight is always noted.
     match make_room(&mut crew.aloft, &mut crew.started) {
         Ok(()) => {}
         Err(_) => return Err(BuildFault::OutOfMemory),
@@ -191,6 +192,7 @@ fn answer_at<P: Place>(
         (λ answer. Story P.tells P.child first at crew.new (moment (P.world place.new) (P.counts place.new) (P.most place.new) taken faults) (P.still place.new) (Gave unit answer ∷ es) given)
         (λ e. StoryEnds P.tells P.child e first at crew.new (moment (P.world place.new) (P.counts place.new) (P.most place.new) taken faults) (P.still place.new) es) }
 {
+    // Out of the list first: after a fault too it flies no more.
     let Aloft { unit, begun } = crew.aloft.remove(index);
     let project = &crew.project;
     let planned = &project.plan.planned.as_slice()[unit];

@@ -126,6 +126,7 @@ pub fn run_turns<P: Place, O: Out, T: Turn>(
         reasons,
     };
     let driven = drive(alloc, &mut crew, place, out, &mut flight, turn);
+    // Before the fault is told: no child is left.
     drain(alloc, &mut crew, place);
     match driven {
         Ok(()) => match sum_up(alloc, &crew, flight) {
