@@ -29,10 +29,10 @@ def minutes():
     found = {}
     with open(f"{TOP}/docs/GATE.md", encoding="utf-8") as it:
         for line in it:
-            row = re.match(r"\| `(pb_\w+)` \|(.*)\|\s*$", line)
+            row = re.match(r"`(pb_\w+)` \|(.*)$", line)
             if row:
-                cells = [it.strip() for it in row[2].split("|")]
-                found[row[1]] = [0.0 if it in ("none", "") else float(it) for it in cells[-3:]]
+                cells = [it.strip().lstrip("~") for it in row[2].split("|")]
+                found[row[1]] = [float(it) if it else 0.0 for it in cells[-3:]]
     return found
 
 
