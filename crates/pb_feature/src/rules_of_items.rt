@@ -1,7 +1,7 @@
 //! The rules that the items of a package's features give, written with numbers. What an item names is
 //! looked up once, for both sides.
 
-ghost use Rattle.std.specs.Prelude.{◌≡◌, ◌+◌, ◌++◌, [], ◌∷◌, Some, OnOk, if◌then◌else◌};
+ghost use Rattle.std.specs.Prelude.{◌≡◌, ◌+◌, ◌++◌, [], ◌∷◌, Some, OnOk, IfOk, length, if◌then◌else◌};
 ghost use Rattle.std.specs.Option.{option_copied};
 ghost use Rattle.pb_package.specs.Workspace.{side_of};
 ghost use Rattle.pb_closure.specs.Placed.{placed};
@@ -54,20 +54,46 @@ fn add_own(
     }
 }
 
+/// An item of a feature, at an entry that it may name.
+#[derive(Clone, Copy)]
+struct AtEntry<'a> {
+    /// The place of the package.
+    place: usize,
+    /// The features of the package.
+    features: &'a FeaturesByName,
+    /// The place of the feature that lists the item, counted from 1.
+    feature: usize,
+    /// The place of the entry.
+    index: usize,
+    /// The entry.
+    entry: &'a Entry,
+}
+
+/// The number of the feature that lists an item, on a side.
+fn listing(ground: &Ground<'_>, side: Side, at: &AtEntry<'_>) -> Result<usize, AllocError>
+    ensures { IfOk result (λ number. number ≡ has ground.now.bases.now at.now.place side at.now.feature) }
+{
+    ground.has(at.place, side, at.feature)
+}
+
+/// The number of the entry that an item names, on a side.
+fn named(ground: &Ground<'_>, side: Side, at: &AtEntry<'_>) -> Result<usize, AllocError>
+    ensures { IfOk result (λ number. number ≡ enabled ground.now.bases.now at.now.place side (length at.now.features.now) at.now.index) }
+{
+    ground.enabled(at.place, side, at.features.as_slice().len(), at.index)
+}
+
 /// The rule of an item `dep:N` at an entry N.
 fn add_dependency(
     rules: &mut Vec<Rule>,
     ground: &Ground<'_>,
     side: Side,
-    place: usize,
-    features: usize,
-    feature: usize,
-    index: usize,
+    at: &AtEntry<'_>,
 ) -> Result<(), AllocError>
-    ensures { OnOk result (rules.new.items ≡ rules.old.items ++ alone (has ground.now.bases.now place side feature) (enabled ground.now.bases.now place side features index) ∷ []) }
+    ensures { OnOk result (rules.new.items ≡ rules.old.items ++ alone (has ground.now.bases.now at.now.place side at.now.feature) (enabled ground.now.bases.now at.now.place side (length at.now.features.now) at.now.index) ∷ []) }
 {
-    let has = ground.has(place, side, feature)?;
-    let enabled = ground.enabled(place, side, features, index)?;
+    let has = listing(ground, side, at)?;
+    let enabled = named(ground, side, at)?;
     add_alone(rules, has, enabled)
 }
 
@@ -76,22 +102,19 @@ fn add_of(
     rules: &mut Vec<Rule>,
     ground: &Ground<'_>,
     side: Side,
-    place: usize,
-    features: usize,
-    feature: usize,
-    index: usize,
-    entry: &Entry,
+    at: &AtEntry<'_>,
     own: usize,
     asked: usize,
 ) -> Result<(), AllocError>
-    ensures { OnOk result (rules.new.items ≡ rules.old.items ++ of_rules ground.now.bases.now (has ground.now.bases.now place side feature) place side own asked (enabled ground.now.bases.now place side features index) entry.now) }
+    ensures { OnOk result (rules.new.items ≡ rules.old.items ++ of_rules ground.now.bases.now (has ground.now.bases.now at.now.place side at.now.feature) at.now.place side own asked (enabled ground.now.bases.now at.now.place side (length at.now.features.now) at.now.index) at.now.entry.now) }
 {
-    let has = ground.has(place, side, feature)?;
-    let enabled = ground.enabled(place, side, features, index)?;
+    let entry = at.entry;
+    let has = listing(ground, side, at)?;
+    let enabled = named(ground, side, at)?;
     add_alone(rules, has, enabled)?;
     let gives = ground.has(entry.to, side_made(entry.kind, side), asked)?;
     add_alone(rules, has, gives)?;
-    add_there(rules, ground, has, place, side, entry.optional, own)
+    add_there(rules, ground, has, at.place, side, entry.optional, own)
 }
 
 /// The rule of an item `N?/F` at an entry N, by the place of the feature F.
@@ -99,17 +122,14 @@ fn add_of_enabled(
     rules: &mut Vec<Rule>,
     ground: &Ground<'_>,
     side: Side,
-    place: usize,
-    features: usize,
-    feature: usize,
-    index: usize,
-    entry: &Entry,
+    at: &AtEntry<'_>,
     asked: usize,
 ) -> Result<(), AllocError>
-    ensures { OnOk result (rules.new.items ≡ rules.old.items ++ pair (has ground.now.bases.now place side feature) (enabled ground.now.bases.now place side features index) (has ground.now.bases.now entry.now.to (side_of entry.now.kind side) asked) ∷ []) }
+    ensures { OnOk result (rules.new.items ≡ rules.old.items ++ pair (has ground.now.bases.now at.now.place side at.now.feature) (enabled ground.now.bases.now at.now.place side (length at.now.features.now) at.now.index) (has ground.now.bases.now at.now.entry.now.to (side_of at.now.entry.now.kind side) asked) ∷ []) }
 {
-    let first = ground.has(place, side, feature)?;
-    let second = ground.enabled(place, side, features, index)?;
+    let entry = at.entry;
+    let first = listing(ground, side, at)?;
+    let second = named(ground, side, at)?;
     let gives = ground.has(entry.to, side_made(entry.kind, side), asked)?;
     rules.push(Rule {
         first,
@@ -131,24 +151,20 @@ fn slot_where(test: bool, features: &FeaturesByName, name: &[u8]) -> usize
 fn add_item(
     rules: &mut Vec<Rule>,
     ground: &Ground<'_>,
-    place: usize,
-    features: &FeaturesByName,
-    feature: usize,
+    at: &AtEntry<'_>,
     item: &FeatureItem,
-    index: usize,
-    entry: &Entry,
 ) -> Result<(), AllocError>
-    ensures { OnOk result (rules.new.items ≡ rules.old.items ++ both_item_rules ground.now.packages.now ground.now.bases.now place features.now feature item.now index entry.now) }
+    ensures { OnOk result (rules.new.items ≡ rules.old.items ++ both_item_rules ground.now.packages.now ground.now.bases.now at.now.place at.now.features.now at.now.feature item.now at.now.index at.now.entry.now) }
 {
-    let count = features.as_slice().len();
+    let entry = at.entry;
     match item {
         FeatureItem::Own(_) => Ok(()),
         FeatureItem::Dependency(name) => {
             if name.as_bytes() != entry.key.as_bytes() {
                 return Ok(());
             }
-            add_dependency(rules, ground, Side::Target, place, count, feature, index)?;
-            add_dependency(rules, ground, Side::Host, place, count, feature, index)
+            add_dependency(rules, ground, Side::Target, at)?;
+            add_dependency(rules, ground, Side::Host, at)
         }
         FeatureItem::Of {
             dependency,
@@ -157,32 +173,10 @@ fn add_item(
             if dependency.as_bytes() != entry.key.as_bytes() {
                 return Ok(());
             }
-            let own = slot_where(entry.optional, features, dependency.as_bytes());
+            let own = slot_where(entry.optional, at.features, dependency.as_bytes());
             let asked = ground.slot_at(entry.to, asked.as_bytes());
-            add_of(
-                rules,
-                ground,
-                Side::Target,
-                place,
-                count,
-                feature,
-                index,
-                entry,
-                own,
-                asked,
-            )?;
-            add_of(
-                rules,
-                ground,
-                Side::Host,
-                place,
-                count,
-                feature,
-                index,
-                entry,
-                own,
-                asked,
-            )
+            add_of(rules, ground, Side::Target, at, own, asked)?;
+            add_of(rules, ground, Side::Host, at, own, asked)
         }
         FeatureItem::OfEnabled {
             dependency,
@@ -192,28 +186,8 @@ fn add_item(
                 return Ok(());
             }
             let asked = ground.slot_at(entry.to, asked.as_bytes());
-            add_of_enabled(
-                rules,
-                ground,
-                Side::Target,
-                place,
-                count,
-                feature,
-                index,
-                entry,
-                asked,
-            )?;
-            add_of_enabled(
-                rules,
-                ground,
-                Side::Host,
-                place,
-                count,
-                feature,
-                index,
-                entry,
-                asked,
-            )
+            add_of_enabled(rules, ground, Side::Target, at, asked)?;
+            add_of_enabled(rules, ground, Side::Host, at, asked)
         }
     }
 }
@@ -251,9 +225,17 @@ fn add_found(
     let Some(index) = index else {
         return Ok(());
     };
-    let features = &owner.features;
     match owner.entries.as_slice().get(index) {
-        Some(entry) => add_item(rules, ground, place, features, feature, item, index, entry),
+        Some(entry) => {
+            let at = AtEntry {
+                place,
+                features: &owner.features,
+                feature,
+                index,
+                entry,
+            };
+            add_item(rules, ground, &at, item)
+        }
         None => Ok(()),
     }
 }

@@ -87,10 +87,7 @@ pub(crate) fn judged_now<P: Place>(
         Err(_) => return Err(BuildFault::OutOfMemory),
     };
     // Dep-info before judging: the judgement is of bytes, and makes no call.
-    let dep_info = match read_at(alloc, place, unit.key.as_str(), &path) {
-        Ok(dep_info) => dep_info,
-        Err(fault) => return Err(fault),
-    };
+    let dep_info = read_at(alloc, place, unit.key.as_str(), &path)?;
     match judged(alloc, project, unit, command, ended, &dep_info) {
         Ok(judgement) => Ok(judgement),
         Err(_) => Err(BuildFault::OutOfMemory),

@@ -127,10 +127,7 @@ fn spawn_anew<P: Place>(
     ensures takes { (next : Option ℕ) → Takes IsLifted (MayBeginUnit next unit.now.key) result (P.counts place.old) (P.counts place.new) }
 {
     // Emptied before the child is there, so that nothing old counts as its own.
-    match empty(alloc, place, unit.key.as_str(), &unit.out) {
-        Ok(()) => {}
-        Err(fault) => return Err(fault),
-    }
+    empty(alloc, place, unit.key.as_str(), &unit.out)?;
     match spawn(alloc, place, &unit.key, command) {
         Ok(ticket) => Ok(ticket),
         Err(fault) => Err(fault),
@@ -165,10 +162,7 @@ pub(crate) fn launch<P: Place>(
     ensures takes { Takes (λ launched. IsLifted launched.ticket) (MayBeginUnit store.old.next unit.now.key) result (P.counts place.old) (P.counts place.new) }
 {
     // The record goes before the folder is emptied: a build that ends between leaves no record that lies.
-    let number = match drop_record(alloc, place, store, &unit.key) {
-        Ok(number) => number,
-        Err(fault) => return Err(fault),
-    };
+    let number = drop_record(alloc, place, store, &unit.key)?;
     match spawn_anew(alloc, place, unit, command) {
         Ok(ticket) => Ok(Launched { ticket, number }),
         Err(fault) => Err(fault),

@@ -310,10 +310,7 @@ fn first_from<P: Place>(
         Ok(None) => {}
         Err(_) => return Err(StoreFault::OutOfMemory),
     }
-    match first_around(alloc, place, folder, command, kept) {
-        Ok(found) => Ok(found),
-        Err(fault) => Err(fault),
-    }
+    first_around(alloc, place, folder, command, kept)
 }
 
 /// The first difference of a unit.
@@ -366,9 +363,6 @@ impl Store {
         ensures still { IsTrue P.tells → KeepsStill (P.still place.old) (P.still place.new) }
         ensures takes { Takes MayLook result (P.counts place.old) (P.counts place.new) }
     {
-        match first_of(alloc, place, &self.folder, key, command) {
-            Ok(found) => Ok(found),
-            Err(fault) => Err(fault),
-        }
+        first_of(alloc, place, &self.folder, key, command)
     }
 }

@@ -101,10 +101,7 @@ impl Store {
             None => return Err(StoreFault::NumbersSpent),
             Some(number) => number,
         };
-        match remove_record(alloc, place, &self.folder, key) {
-            Ok(()) => {}
-            Err(fault) => return Err(fault),
-        }
+        remove_record(alloc, place, &self.folder, key)?;
         // Counted only once the record is gone.
         self.next = number_after(number);
         Ok(number)

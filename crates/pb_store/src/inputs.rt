@@ -82,10 +82,7 @@ fn files_at<P: Place>(
 {
     let mut made = Items::new(alloc);
     for path in paths {
-        let found = match file_at(alloc, place, folder, path) {
-            Ok(found) => found,
-            Err(fault) => return Err(fault),
-        };
+        let found = file_at(alloc, place, folder, path)?;
         if let Some(file) = found {
             match made.push(file) {
                 Ok(()) => {}
@@ -149,10 +146,7 @@ fn sources_in<P: Place>(
     ensures still { IsTrue P.tells → KeepsStill (P.still place.old) (P.still place.new) }
     ensures takes { Takes MayLook result (P.counts place.old) (P.counts place.new) }
 {
-    let paths = match paths_outside(alloc, place, target, folder) {
-        Ok(paths) => paths,
-        Err(fault) => return Err(fault),
-    };
+    let paths = paths_outside(alloc, place, target, folder)?;
     match files_at(alloc, place, folder, paths.as_slice()) {
         Ok(files) => Ok(files),
         Err(fault) => Err(fault),
@@ -172,10 +166,7 @@ pub(crate) fn files_in<P: Place>(
     ensures still { IsTrue P.tells → KeepsStill (P.still place.old) (P.still place.new) }
     ensures takes { Takes MayLook result (P.counts place.old) (P.counts place.new) }
 {
-    let paths = match paths_below(alloc, place, folder) {
-        Ok(paths) => paths,
-        Err(fault) => return Err(fault),
-    };
+    let paths = paths_below(alloc, place, folder)?;
     match files_at(alloc, place, folder, paths.as_slice()) {
         Ok(files) => Ok(files),
         Err(fault) => Err(fault),
@@ -282,10 +273,7 @@ pub(crate) fn present<P: Place>(
 {
     let mut made = Items::new(alloc);
     for name in names {
-        let input = match input_now(alloc, place, target, name) {
-            Ok(input) => input,
-            Err(fault) => return Err(fault),
-        };
+        let input = input_now(alloc, place, target, name)?;
         match made.push(input) {
             Ok(()) => {}
             Err(_) => return Err(StoreFault::OutOfMemory),

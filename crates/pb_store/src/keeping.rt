@@ -107,10 +107,7 @@ pub(crate) fn numbered<P: Place>(
 {
     let mut pairs = Items::new(alloc);
     for need in needs {
-        let pair = match numbered_one(alloc, place, folder, need) {
-            Ok(pair) => pair,
-            Err(fault) => return Err(fault),
-        };
+        let pair = numbered_one(alloc, place, folder, need)?;
         match pairs.push(pair) {
             Ok(()) => {}
             Err(_) => return Err(StoreFault::OutOfMemory),
@@ -241,14 +238,8 @@ fn kept_now<P: Place>(
     ensures takes { Takes MayLook result (P.counts place.old) (P.counts place.new) }
 {
     // Read before the write, so that the record says what stands now.
-    let numbers = match numbered(alloc, place, folder, needs) {
-        Ok(numbers) => numbers,
-        Err(fault) => return Err(fault),
-    };
-    let inputs = match present(alloc, place, &command.target, names) {
-        Ok(inputs) => inputs,
-        Err(fault) => return Err(fault),
-    };
+    let numbers = numbered(alloc, place, folder, needs)?;
+    let inputs = present(alloc, place, &command.target, names)?;
     match kept_of(alloc, folder, key, command, inputs, number, numbers, ended) {
         Ok(kept) => Ok(kept),
         Err(_) => Err(StoreFault::OutOfMemory),

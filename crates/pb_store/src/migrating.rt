@@ -69,10 +69,7 @@ impl Store {
             None => return Err(StoreFault::NumbersSpent),
             Some(number) => number,
         };
-        let numbers = match numbered(alloc, place, &self.folder, needs) {
-            Ok(numbers) => numbers,
-            Err(fault) => return Err(fault),
-        };
+        let numbers = numbered(alloc, place, &self.folder, needs)?;
         let kept = numbered_record(kept, number, numbers);
         // Before the write: a torn one may have used the number.
         self.next = number_after(number);
@@ -113,10 +110,7 @@ impl Store {
         ensures still { IsTrue P.tells → KeepsStillOutside (is_at_or_below (place_of self.old.folder key.now)) (P.counts place.old).starts.flying (P.still place.old) (P.still place.new) }
         ensures takes { Takes (MayMigrate self.old.next) result (P.counts place.old) (P.counts place.new) }
     {
-        let found = match record_at(alloc, place, &self.folder, key) {
-            Ok(found) => found,
-            Err(fault) => return Err(fault),
-        };
+        let found = record_at(alloc, place, &self.folder, key)?;
         let kept = match found {
             Some(kept) => kept,
             None => return Ok(()),

@@ -92,10 +92,7 @@ fn greatest_at<P: Place>(alloc: Global, place: &mut P, path: PathText) -> Result
     if !ends_as_record(path.as_str().as_bytes()) {
         return Ok(0);
     }
-    match read_greatest(alloc, place, path) {
-        Ok(greatest) => Ok(greatest),
-        Err(fault) => Err(fault),
-    }
+    read_greatest(alloc, place, path)
 }
 
 /// The greatest number that the records among these files have or name.
@@ -113,10 +110,7 @@ fn greatest_of<P: Place>(
     let mut greatest = 0;
     for path in paths.into_vec() {
         // Every record, also one in another key's place, may name the greatest number.
-        let number = match greatest_at(alloc, place, path) {
-            Ok(number) => number,
-            Err(fault) => return Err(fault),
-        };
+        let number = greatest_at(alloc, place, path)?;
         greatest = greater(greatest, number);
     }
     Ok(greatest)

@@ -78,10 +78,7 @@ fn text_at<P: Place>(
         Ok(path) => path,
         Err(_) => return Err(StoreFault::OutOfMemory),
     };
-    match text_of(alloc, place, &path) {
-        Ok(found) => Ok(found),
-        Err(fault) => Err(fault),
-    }
+    text_of(alloc, place, &path)
 }
 
 /// The record that a text is, where there is one. A text that is that of no record is none.
@@ -128,10 +125,7 @@ pub(crate) fn record_at<P: Place>(
     ensures still { IsTrue P.tells → KeepsStill (P.still place.old) (P.still place.new) }
     ensures takes { Takes MayRead result (P.counts place.old) (P.counts place.new) }
 {
-    let text = match text_at(alloc, place, folder, key) {
-        Ok(text) => text,
-        Err(fault) => return Err(fault),
-    };
+    let text = text_at(alloc, place, folder, key)?;
     match read_text(alloc, &text) {
         Ok(found) => Ok(if_of_key(found, key)),
         Err(_) => Err(StoreFault::OutOfMemory),

@@ -58,20 +58,14 @@ pub(crate) fn entries_at(workspace: &Workspace, place: usize) -> &[Entry]
 fn is_normal(kind: DependencyKind) -> bool
     ensures { result ≡ is_normal kind }
 {
-    match kind {
-        DependencyKind::Normal => true,
-        DependencyKind::Build => false,
-    }
+    matches!(kind, DependencyKind::Normal)
 }
 
 /// Whether it is `[build-dependencies]`.
 fn is_build(kind: DependencyKind) -> bool
     ensures { result ≡ is_build kind }
 {
-    match kind {
-        DependencyKind::Normal => false,
-        DependencyKind::Build => true,
-    }
+    matches!(kind, DependencyKind::Build)
 }
 
 /// The number of a library.

@@ -7,64 +7,64 @@ use Rattle.pb_soundness.specs.Sound.{Sound}
 use Rattle.pb_store.proofs.Migrated.{lacks_it, renumbered_left, has_number, stands_by_key, same_migrated, renumbered}
 use Rattle.pb_store.proofs.store.Store.migrate.Goals as goal
 
-pub returns-in-Ok-renumber-clause-sound : goal.returns-in-Ok-renumber-clause-sound
-returns-in-Ok-renumber-clause-sound g c read judge d r is told may sound =
-    c.in-Ok-renumber.ensures.sound read judge d is told
-    (λ number was. same_migrated read judge _ _ _ d _ number _ _ r (g.P.Place.world c.args.place.now) (g.P.Place.world c.record_at.new.place) (c.in-Ok.ensures.same told) (c.in-Ok.ensures.ok read is told) c.in-Some.is (may number was))
-    (subst (λ (w : World). Sound read judge g.P.Place.child c.args.self.now.folder w.files) (sym (c.in-Ok.ensures.same told)) sound)
+pub returns-in-Ok-clause-sound : goal.returns-in-Ok-clause-sound
+returns-in-Ok-clause-sound g c read judge d r is told may sound =
+    c.in-Ok.ensures.sound read judge d is told
+    (λ number was. same_migrated read judge _ _ _ d _ number _ _ r (g.P.Place.world c.args.place.now) (g.P.Place.world c.record_at.new.place) (c.in_ok-found.ensures.same told) (c.in_ok-found.ensures.ok read is told) c.in-Some.is (may number was))
+    (subst (λ (w : World). Sound read judge g.P.Place.child c.args.self.now.folder w.files) (sym (c.in_ok-found.ensures.same told)) sound)
 
-pub returns-in-Ok-renumber-clause-ahead : goal.returns-in-Ok-renumber-clause-ahead
-returns-in-Ok-renumber-clause-ahead g c read judge d r is told may ahead =
-    c.in-Ok-renumber.ensures.ahead read judge d is told
-    (λ number was. same_migrated read judge _ _ _ d _ number _ _ r (g.P.Place.world c.args.place.now) (g.P.Place.world c.record_at.new.place) (c.in-Ok.ensures.same told) (c.in-Ok.ensures.ok read is told) c.in-Some.is (may number was))
-    (subst (λ (w : World). IsAhead (record_at read c.args.self.now.folder w.files) c.args.self.now.next) (sym (c.in-Ok.ensures.same told)) ahead)
+pub returns-in-Ok-clause-ahead : goal.returns-in-Ok-clause-ahead
+returns-in-Ok-clause-ahead g c read judge d r is told may ahead =
+    c.in-Ok.ensures.ahead read judge d is told
+    (λ number was. same_migrated read judge _ _ _ d _ number _ _ r (g.P.Place.world c.args.place.now) (g.P.Place.world c.record_at.new.place) (c.in_ok-found.ensures.same told) (c.in_ok-found.ensures.ok read is told) c.in-Some.is (may number was))
+    (subst (λ (w : World). IsAhead (record_at read c.args.self.now.folder w.files) c.args.self.now.next) (sym (c.in_ok-found.ensures.same told)) ahead)
 
-pub returns-in-Err-renumber-clause-sound : goal.returns-in-Err-renumber-clause-sound
-returns-in-Err-renumber-clause-sound g c read judge d r is told may sound =
-    c.in-Err-renumber.ensures.sound read judge d is told
-    (λ number was. same_migrated read judge _ _ _ d _ number _ _ r (g.P.Place.world c.args.place.now) (g.P.Place.world c.record_at.new.place) (c.in-Ok.ensures.same told) (c.in-Ok.ensures.ok read is told) c.in-Some.is (may number was))
-    (subst (λ (w : World). Sound read judge g.P.Place.child c.args.self.now.folder w.files) (sym (c.in-Ok.ensures.same told)) sound)
+pub returns-in-Err-clause-sound : goal.returns-in-Err-clause-sound
+returns-in-Err-clause-sound g c read judge d r is told may sound =
+    c.in-Err.ensures.sound read judge d is told
+    (λ number was. same_migrated read judge _ _ _ d _ number _ _ r (g.P.Place.world c.args.place.now) (g.P.Place.world c.record_at.new.place) (c.in_ok-found.ensures.same told) (c.in_ok-found.ensures.ok read is told) c.in-Some.is (may number was))
+    (subst (λ (w : World). Sound read judge g.P.Place.child c.args.self.now.folder w.files) (sym (c.in_ok-found.ensures.same told)) sound)
 
-pub returns-in-Err-renumber-clause-ahead : goal.returns-in-Err-renumber-clause-ahead
-returns-in-Err-renumber-clause-ahead g c read judge d r is told may ahead =
-    c.in-Err-renumber.ensures.ahead read judge d is told
-    (λ number was. same_migrated read judge _ _ _ d _ number _ _ r (g.P.Place.world c.args.place.now) (g.P.Place.world c.record_at.new.place) (c.in-Ok.ensures.same told) (c.in-Ok.ensures.ok read is told) c.in-Some.is (may number was))
-    (subst (λ (w : World). IsAhead (record_at read c.args.self.now.folder w.files) c.args.self.now.next) (sym (c.in-Ok.ensures.same told)) ahead)
+pub returns-in-Err-clause-ahead : goal.returns-in-Err-clause-ahead
+returns-in-Err-clause-ahead g c read judge d r is told may ahead =
+    c.in-Err.ensures.ahead read judge d is told
+    (λ number was. same_migrated read judge _ _ _ d _ number _ _ r (g.P.Place.world c.args.place.now) (g.P.Place.world c.record_at.new.place) (c.in_ok-found.ensures.same told) (c.in_ok-found.ensures.ok read is told) c.in-Some.is (may number was))
+    (subst (λ (w : World). IsAhead (record_at read c.args.self.now.folder w.files) c.args.self.now.next) (sym (c.in_ok-found.ensures.same told)) ahead)
 
-pub returns-in-Ok-renumber-clause-stands : goal.returns-in-Ok-renumber-clause-stands
-returns-in-Ok-renumber-clause-stands g c read is told =
-    renumbered read _ _ _ _ (g.P.Place.world c.args.place.now) (g.P.Place.world c.record_at.new.place) (g.P.Place.world c.renumber.new.place) _ c.in-Some.kept (c.in-Ok.ensures.same told) (c.in-Ok.ensures.ok read is told) c.in-Some.is
+pub returns-in-Ok-clause-stands : goal.returns-in-Ok-clause-stands
+returns-in-Ok-clause-stands g c read is told =
+    renumbered read _ _ _ _ (g.P.Place.world c.args.place.now) (g.P.Place.world c.record_at.new.place) (g.P.Place.world c.renumber.new.place) _ c.in-Some.kept (c.in_ok-found.ensures.same told) (c.in_ok-found.ensures.ok read is told) c.in-Some.is
     (ap is_some (sym c.number_of.ensures) ∙ sym c.is_some.ensures ∙ c.if-is_some.false)
-    (λ key. c.in-Ok-renumber.ensures.stands read is told key)
+    (λ key. c.in-Ok.ensures.stands read is told key)
 
-pub returns-in-Ok-renumber-clause-left : goal.returns-in-Ok-renumber-clause-left
-returns-in-Ok-renumber-clause-left g c read is told =
-    renumbered_left read _ _ _ _ (g.P.Place.world c.args.place.now) (g.P.Place.world c.record_at.new.place) (g.P.Place.world c.renumber.new.place) _ c.in-Some.kept (c.in-Ok.ensures.same told) (c.in-Ok.ensures.ok read is told) c.in-Some.is
+pub returns-in-Ok-clause-left : goal.returns-in-Ok-clause-left
+returns-in-Ok-clause-left g c read is told =
+    renumbered_left read _ _ _ _ (g.P.Place.world c.args.place.now) (g.P.Place.world c.record_at.new.place) (g.P.Place.world c.renumber.new.place) _ c.in-Some.kept (c.in_ok-found.ensures.same told) (c.in_ok-found.ensures.ok read is told) c.in-Some.is
     (ap is_some (sym c.number_of.ensures) ∙ sym c.is_some.ensures ∙ c.if-is_some.false)
-    (λ key. c.in-Ok-renumber.ensures.left read is told key)
+    (λ key. c.in-Ok.ensures.left read is told key)
 
-pub returns-in-Err-renumber-clause-left : goal.returns-in-Err-renumber-clause-left
-returns-in-Err-renumber-clause-left g c read is told =
-    renumbered_left read _ _ _ _ (g.P.Place.world c.args.place.now) (g.P.Place.world c.record_at.new.place) (g.P.Place.world c.renumber.new.place) _ c.in-Some.kept (c.in-Ok.ensures.same told) (c.in-Ok.ensures.ok read is told) c.in-Some.is
+pub returns-in-Err-clause-left : goal.returns-in-Err-clause-left
+returns-in-Err-clause-left g c read is told =
+    renumbered_left read _ _ _ _ (g.P.Place.world c.args.place.now) (g.P.Place.world c.record_at.new.place) (g.P.Place.world c.renumber.new.place) _ c.in-Some.kept (c.in_ok-found.ensures.same told) (c.in_ok-found.ensures.ok read is told) c.in-Some.is
     (ap is_some (sym c.number_of.ensures) ∙ sym c.is_some.ensures ∙ c.if-is_some.false)
-    (λ key. c.in-Err-renumber.ensures.left read is told key)
+    (λ key. c.in-Err.ensures.left read is told key)
 
-pub returns-in-Ok-renumber-clause-numbered : goal.returns-in-Ok-renumber-clause-numbered
-returns-in-Ok-renumber-clause-numbered g c read r is told there =
-    let (number, next, put) = c.in-Ok-renumber.ensures.stands read is told (stands_by_key read c.args.self.now.folder c.args.key.now (g.P.Place.world c.args.place.now).files c.in-Some.kept (sym (c.in-Ok.ensures.ok read is told) ∙ c.in-Some.is)) in
+pub returns-in-Ok-clause-numbered : goal.returns-in-Ok-clause-numbered
+returns-in-Ok-clause-numbered g c read r is told there =
+    let (number, next, put) = c.in-Ok.ensures.stands read is told (stands_by_key read c.args.self.now.folder c.args.key.now (g.P.Place.world c.args.place.now).files c.in-Some.kept (sym (c.in_ok-found.ensures.ok read is told) ∙ c.in-Some.is)) in
     has_number r c.in-Some.kept number _ _ put there
 
-pub returns-in-Ok-renumber-clause-same : goal.returns-in-Ok-renumber-clause-same
-returns-in-Ok-renumber-clause-same g c read is told has = absurd (false≢true (sym has ∙ lacks_it read c.args.self.now.folder c.args.key.now (g.P.Place.world c.args.place.now) _ c.in-Some.kept (c.in-Ok.ensures.ok read is told) c.in-Some.is (ap is_some (sym c.number_of.ensures) ∙ sym c.is_some.ensures ∙ c.if-is_some.false)))
+pub returns-in-Ok-clause-same : goal.returns-in-Ok-clause-same
+returns-in-Ok-clause-same g c read is told has = absurd (false≢true (sym has ∙ lacks_it read c.args.self.now.folder c.args.key.now (g.P.Place.world c.args.place.now) _ c.in-Some.kept (c.in_ok-found.ensures.ok read is told) c.in-Some.is (ap is_some (sym c.number_of.ensures) ∙ sym c.is_some.ensures ∙ c.if-is_some.false)))
 
-pub returns-in-Ok-renumber-clause-unused : goal.returns-in-Ok-renumber-clause-unused
-returns-in-Ok-renumber-clause-unused g c read is told has = absurd (false≢true (sym has ∙ lacks_it read c.args.self.now.folder c.args.key.now (g.P.Place.world c.args.place.now) _ c.in-Some.kept (c.in-Ok.ensures.ok read is told) c.in-Some.is (ap is_some (sym c.number_of.ensures) ∙ sym c.is_some.ensures ∙ c.if-is_some.false)))
+pub returns-in-Ok-clause-unused : goal.returns-in-Ok-clause-unused
+returns-in-Ok-clause-unused g c read is told has = absurd (false≢true (sym has ∙ lacks_it read c.args.self.now.folder c.args.key.now (g.P.Place.world c.args.place.now) _ c.in-Some.kept (c.in_ok-found.ensures.ok read is told) c.in-Some.is (ap is_some (sym c.number_of.ensures) ∙ sym c.is_some.ensures ∙ c.if-is_some.false)))
 
-pub returns-in-Err-renumber-clause-same : goal.returns-in-Err-renumber-clause-same
-returns-in-Err-renumber-clause-same g c read is told has = absurd (false≢true (sym has ∙ lacks_it read c.args.self.now.folder c.args.key.now (g.P.Place.world c.args.place.now) _ c.in-Some.kept (c.in-Ok.ensures.ok read is told) c.in-Some.is (ap is_some (sym c.number_of.ensures) ∙ sym c.is_some.ensures ∙ c.if-is_some.false)))
+pub returns-in-Err-clause-same : goal.returns-in-Err-clause-same
+returns-in-Err-clause-same g c read is told has = absurd (false≢true (sym has ∙ lacks_it read c.args.self.now.folder c.args.key.now (g.P.Place.world c.args.place.now) _ c.in-Some.kept (c.in_ok-found.ensures.ok read is told) c.in-Some.is (ap is_some (sym c.number_of.ensures) ∙ sym c.is_some.ensures ∙ c.if-is_some.false)))
 
-pub returns-in-Err-renumber-clause-unused : goal.returns-in-Err-renumber-clause-unused
-returns-in-Err-renumber-clause-unused g c read is told has = absurd (false≢true (sym has ∙ lacks_it read c.args.self.now.folder c.args.key.now (g.P.Place.world c.args.place.now) _ c.in-Some.kept (c.in-Ok.ensures.ok read is told) c.in-Some.is (ap is_some (sym c.number_of.ensures) ∙ sym c.is_some.ensures ∙ c.if-is_some.false)))
+pub returns-in-Err-clause-unused : goal.returns-in-Err-clause-unused
+returns-in-Err-clause-unused g c read is told has = absurd (false≢true (sym has ∙ lacks_it read c.args.self.now.folder c.args.key.now (g.P.Place.world c.args.place.now) _ c.in-Some.kept (c.in_ok-found.ensures.ok read is told) c.in-Some.is (ap is_some (sym c.number_of.ensures) ∙ sym c.is_some.ensures ∙ c.if-is_some.false)))
 
-pub returns-in-Err-renumber-clause-cause : goal.returns-in-Err-renumber-clause-cause
-returns-in-Err-renumber-clause-cause g c read is told spent = lacks_it read c.args.self.now.folder c.args.key.now (g.P.Place.world c.args.place.now) _ c.in-Some.kept (c.in-Ok.ensures.ok read is told) c.in-Some.is (ap is_some (sym c.number_of.ensures) ∙ sym c.is_some.ensures ∙ c.if-is_some.false)
+pub returns-in-Err-clause-cause : goal.returns-in-Err-clause-cause
+returns-in-Err-clause-cause g c read is told spent = lacks_it read c.args.self.now.folder c.args.key.now (g.P.Place.world c.args.place.now) _ c.in-Some.kept (c.in_ok-found.ensures.ok read is told) c.in-Some.is (ap is_some (sym c.number_of.ensures) ∙ sym c.is_some.ensures ∙ c.if-is_some.false)
