@@ -4,7 +4,7 @@ use Rattle.pb_turns.specs.Moments.{Heard}
 use Rattle.pb_tool_program.specs.Writing.{Tells}
 
 -- what is told where another build has the folder
-pub waiting : List ℕ
+abbrev pub waiting : List ℕ
 waiting = codes "note: another build has the target folder: waiting\n"
 
 -- a guard was asked for this folder, or for none; where another build has it, that is told, as far as the sink takes it, and it was waited for

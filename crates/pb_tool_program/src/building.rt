@@ -1,6 +1,6 @@
 //! `pb_tool build` over any place.
 
-ghost use Rattle.std.specs.Prelude.{◌≡◌, [], ◌⊎◌, ◌++◌, IsTrue, IfOk, OnOk, Result, string_bytes, codes};
+ghost use Rattle.std.specs.Prelude.{◌≡◌, [], ◌++◌, IfOk, OnOk, Result, Some, string_bytes, codes};
 ghost use Rattle.std.specs.Io.KnownBytes.{Appends};
 ghost use Rattle.pb_build.specs.Ending.{BuildsFirst};
 ghost use Rattle.pb_turns.specs.Moments.{Moment, moment};
@@ -8,14 +8,15 @@ ghost use Rattle.pb_answer.specs.ResultLine.{result_line};
 ghost use Rattle.pb_answer.specs.declared.fault.BuildFault.{BuildFault};
 ghost use Rattle.pb_answer.specs.declared.summary.Summary.{Summary};
 ghost use Rattle.pb_tool_program.specs.Building.{status_of, notes_of, error_of, folder_of, NotesOf, TellsReasons, TellsSaid, TellsWhy, Concludes, BuildsTold};
-ghost use Rattle.pb_tool_program.specs.Guarding.{Guarded};
+ghost use Rattle.pb_tool_program.specs.Guarding.{Guarded, waiting};
+ghost use Rattle.pb_tool_program.specs.Writing.{Tells};
 
 use crate::guard::Guard;
 use pb_answer::{BuildFault, Summary, explanation, result_line, said};
 use pb_build::{BuildPlan, build_plan, plan_build};
 use pb_data::Text;
 use pb_package::Options;
-use pb_place::{Out, Place, write_all};
+use pb_place::{Out, PathText, Place, write_all};
 use std::alloc::{AllocError, Global};
 
 /// The status of a build: 0 where all its units are good, else 101.
@@ -75,18 +76,30 @@ fn note<E: Out>(alloc: Global, err: &mut E, plan: &Result<BuildPlan, BuildFault>
     let _ = write_all(err, notes.as_bytes());
 }
 
-/// Takes the target folder of a build's plan. Where another build has it, a line says so, and this one waits. Where there
-/// is no plan, no folder is asked for.
+/// Tells that another build has the target folder.
+fn tell_waiting<E: Out>(err: &mut E)
+    ensures { Tells waiting record { taken = E.taken err.old; faults = E.faults err.old } record { taken = E.taken err.new; faults = E.faults err.new } }
+{
+    let _ = write_all(err, b"note: another build has the target folder: waiting\n");
+}
+
+/// Takes a folder. Where another build has it, a line says so, and this one waits.
+fn take<G: Guard, E: Out>(guard: &mut G, err: &mut E, folder: &PathText)
+    ensures { Guarded G.asks G.waits guard.old guard.new (Some folder.now) record { taken = E.taken err.old; faults = E.faults err.old } record { taken = E.taken err.new; faults = E.faults err.new } }
+{
+    if guard.is_taken(folder) {
+        tell_waiting(err);
+        guard.wait();
+    }
+}
+
+/// Takes the target folder of a build's plan. Where there is no plan, no folder is asked for.
 fn hold<G: Guard, E: Out>(guard: &mut G, err: &mut E, plan: &Result<BuildPlan, BuildFault>)
     ensures { Guarded G.asks G.waits guard.old guard.new (folder_of plan.now) record { taken = E.taken err.old; faults = E.faults err.old } record { taken = E.taken err.new; faults = E.faults err.new } }
 {
-    let plan = match plan {
-        Ok(plan) => plan,
-        Err(_) => return,
-    };
-    if guard.is_taken(&plan.environment.target) {
-        let _ = write_all(err, b"note: another build has the target folder: waiting\n");
-        guard.wait();
+    match plan {
+        Ok(plan) => take(guard, err, &plan.environment.target),
+        Err(_) => {}
     }
 }
 
