@@ -1,0 +1,4 @@
+pub mod Chains
+pub mod Reading
+pub mod Packages
+pub mod Targets

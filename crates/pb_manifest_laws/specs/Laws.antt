@@ -1,0 +1,24 @@
+-- The laws: what is read of a table is what the table says, and nothing else.
+use Rattle.std.specs.Prelude.{◌≡◌, ◌↔◌, ℕ, List, Ok}
+use Rattle.pb_manifest.specs.Values.{Read}
+use Rattle.pb_manifest.specs.Binaries.{binary_keys}
+use Rattle.pb_manifest.specs.Features.{feature_of}
+use Rattle.pb_manifest.specs.Library.{library_of}
+use Rattle.pb_manifest.specs.Package.{package_of}
+use Rattle.pb_manifest_laws.specs.Packages.{IsPackageTable, IsLibraryTable, IsBinaryTable, IsFeatureEntry}
+
+-- a reading gives just what is said
+abbrev pub Reads : {M A : Type 0} → (M → Read A) → (M → A → Type 0) → Type 0
+Reads {M} {A} read Says = (ms : M) (x : A) → (read ms ≡ Ok x) ↔ Says ms x
+
+abbrev pub ReadsPackages : Type 0
+ReadsPackages = Reads package_of IsPackageTable
+
+abbrev pub ReadsLibraries : Type 0
+ReadsLibraries = Reads library_of IsLibraryTable
+
+abbrev pub ReadsBinaries : Type 0
+ReadsBinaries = Reads binary_keys IsBinaryTable
+
+abbrev pub ReadsFeatures : Type 0
+ReadsFeatures = (name : List ℕ) → Reads (feature_of name) (IsFeatureEntry name)

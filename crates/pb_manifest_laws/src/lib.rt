@@ -1,0 +1,17 @@
+//! Laws of manifests: what each table of a document says, key by key (The Cargo Book, Manifest Format, Cargo Targets,
+//! Features).
+#![tactic(auto)]
+
+ghost use Rattle.pb_manifest_laws.specs.Laws.{ReadsPackages, ReadsLibraries, ReadsBinaries, ReadsFeatures};
+
+/// A law: `[package]` is read as just what it says, key by key.
+pub fn packages_say()
+    ensures { ReadsPackages }
+{}
+
+/// A law: so are `[lib]`, each `[[bin]]` and each entry of `[features]`.
+pub fn targets_say()
+    ensures libraries { ReadsLibraries }
+    ensures binaries { ReadsBinaries }
+    ensures features { ReadsFeatures }
+{}
