@@ -13,14 +13,14 @@ use Rattle.std.proofs.lemmas.List.Elements.{Contains-append_left, Contains-appen
 use Rattle.pb_data.specs.Gives.{◌>>=◌, lifted}
 use Rattle.pb_manifest.proofs.Manifests.{manifest_is}
 use Rattle.pb_manifest.specs.Document.{manifest_of}
-use Rattle.pb_manifest.specs.Promises.{IsManifest}
+use Rattle.pb_manifest.specs.Promises.{IsManifest, IsPackage}
 use Rattle.pb_manifest.specs.Versions.{matches}
 use Rattle.pb_manifest.specs.declared.manifest.Manifest.{Manifest}
 use Rattle.pb_manifest.specs.declared.manifest.WorkspacePackage.{WorkspacePackage}
 use Rattle.pb_manifest.specs.declared.manifest.WorkspaceTable.{WorkspaceTable}
 use Rattle.pb_manifest.specs.declared.package.Package.{Package as Written}
 use Rattle.pb_package.specs.declared.fault.LoadFault.{LoadFault}
-use Rattle.pb_package.specs.declared.fault.LoadFault.TheVariants.{Manifest as InManifest, SameName, NameMismatch, VersionMismatch}
+use Rattle.pb_package.specs.declared.fault.LoadFault.TheVariants.{Manifest as InManifest, SameName, NameMismatch, VersionMismatch, LinksTwice, LinksWithoutScript, SameBinary}
 use Rattle.pb_package.specs.declared.package.DependencyKind.TheVariants.{Normal, Build as ForScript}
 use Rattle.pb_package.specs.declared.package.Package.{Package}
 use Rattle.pb_package.specs.declared.workspace.Workspace.{Workspace}
@@ -28,7 +28,7 @@ use Rattle.pb_place.specs.Paths.{below, folder_of, is_path}
 use Rattle.pb_place.specs.World.{World, from_nothing}
 use Rattle.pb_workspace.specs.Assembled.{assembled, entry_at, package_at, packages_of}
 use Rattle.pb_workspace.specs.ByFolder.{folders_of, values_of}
-use Rattle.pb_workspace.specs.Checks.{fault_of, has_same_names, some_leads, has_other_name, has_other_version, matches_if}
+use Rattle.pb_workspace.specs.Checks.{fault_of, has_same_names, some_leads, has_other_name, has_other_version, links_twice, links_without_script, matches_if}
 use Rattle.pb_workspace.specs.Drafts.{draft_from, draft_of, draft_with, lists_of}
 use Rattle.pb_workspace.specs.Features.{features_of}
 use Rattle.pb_workspace.specs.Frames.{frame_of, given_to, is_member}
@@ -38,7 +38,7 @@ use Rattle.pb_workspace.specs.MemberFolders.{member_folders}
 use Rattle.pb_workspace.specs.PackageFolders.{package_in, LeadsTo, IsPackageFolder, frame_at}
 use Rattle.pb_workspace.specs.Places.{at_place, draft_in, places_of}
 use Rattle.pb_workspace.specs.Rounds.{draft_if, draft_in_file, manifest_at, parts_at, parts_in, read_found, standing_in, tables_in}
-use Rattle.pb_workspace.specs.Settling.{has_same_binaries, readme_found, targets_of, wanted_in}
+use Rattle.pb_workspace.specs.Settling.{discovered, has_same_binaries, readme_found, targets_of, wanted_in}
 use Rattle.pb_workspace.specs.Sources.{library_of}
 use Rattle.pb_workspace.specs.Taken.{about_of, own_or_given}
 use Rattle.pb_workspace.specs.Wanted.{each_wanted, wanted_of}
@@ -54,7 +54,13 @@ use Rattle.pb_workspace.specs.declared.wanted.Wanted.{Wanted}
 use Rattle.pb_workspace.proofs.FoldersPlaced.{place_there}
 use Rattle.pb_workspace.proofs.FoldersPut.{opened}
 use Rattle.pb_workspace.proofs.WholeWorkspace.{map_only, map_each, manifest_there, all_found, own_folders}
-use Rattle.pb_package_laws.specs.Laws.{IsManifestAt, IsRead, PackagesSay}
+use Rattle.pb_package_laws.specs.Laws.{IsManifestAt, IsRead, PackagesSay, BinariesSay}
+use Rattle.pb_package_laws.specs.Binaries.{FilesHavePaths, IsBinary, HasBinaries}
+use Rattle.pb_package_laws.proofs.AllBinaries.{all_rise, all_are}
+use Rattle.pb_workspace.specs.Binaries.{binaries_of, written_binary}
+use Rattle.pb_package.specs.declared.package.Binary.{Binary}
+use Rattle.pb_package.specs.Settled.{IsAscending}
+use Rattle.pb_manifest.specs.Letters.{is_name}
 use Rattle.pb_package_laws.specs.Packages.{IsOwnOrTaken, IsLibrary, script, IsPackageOf}
 use Rattle.pb_package_laws.proofs.Entries.{Leads, entries_are}
 use Rattle.pb_package_laws.proofs.Features.{none_meets, features_rise, features_are}
@@ -95,6 +101,7 @@ record AreKeys (sources : World) (at : Standing) (given : WorkspacePackage) (w :
   edition : IsOwnOrTaken w.edition given.edition k.edition
   about : IsAbout sources at.root at.folder w given k.about
   links : k.links ≡ w.links
+  autobins : k.autobins ≡ w.autobins
   build : k.build ≡ w.build
 
 keys_are : (sources : World) (at : Standing) (given : WorkspacePackage) (w : Written) (k : Keys) → keys_of sources at given w ≡ Ok k → AreKeys sources at given w k
@@ -111,6 +118,7 @@ keys_are sources at given w k h =
       edition = own_or_taken w.edition given.edition b.0 b.1;
       about = about_is sources at.root at.folder w given c.0 c.1;
       links = refl;
+      autobins = refl;
       build = refl;
     })
 
@@ -161,30 +169,40 @@ module _ (sources : World) (at : Standing) (member : Bool) (given : Given) (ws :
         development = refl;
       })
 
+-- it stands where it is said to, with these binaries
+record Stands (sources : World) (at : Standing) (member : Bool) (w : Written) (m : Manifest) (d : Draft) : Type 0 where
+  folder : d.folder ≡ at.folder
+  manifest : d.manifest ≡ at.manifest
+  is_member : d.is_member ≡ member
+  binaries : d.binaries ≡ binaries_of (discovered at.folder sources w.name w.autobins) (map (written_binary at.folder sources w.name) m.binaries)
+  apart : d.has_same_binaries ≡ has_same_binaries m.binaries
+
+stands_so : (sources : World) (at : Standing) (member : Bool) (given : Given) (w : Written) (m : Manifest) (d : Draft) → draft_of sources at member given w (tables_in m) ≡ Ok d → Stands sources at member w m d
+unfolding draft_of draft_with
+stands_so sources at member given w m d h =
+    let k = opened (keys_of sources at given.package w) (λ k. draft_with sources at member given (tables_in m) k) d h in
+    let keys = keys_are sources at given.package w k.0 k.1 in
+    let l = opened (lists_of at given m.dependencies m.build_dependencies m.features m.binaries)
+    (λ lists. Ok (draft_from at member k.0 lists m.dev_dependencies (targets_of at.folder sources k.0.name k.0.autobins k.0.build m.library m.binaries))) d k.2 in
+    let o = opened (wanted_in at given m.dependencies m.build_dependencies) (λ wanted. Ok record { wanted = wanted; features = features_of m.features m.dependencies m.build_dependencies; has_same_binaries = has_same_binaries m.binaries }) l.0 l.1 in
+    let lists : record { wanted = o.0; features = features_of m.features m.dependencies m.build_dependencies; has_same_binaries = has_same_binaries m.binaries } ≡ l.0 = cc (o.2) in
+    let same : draft_from at member k.0 l.0 m.dev_dependencies (targets_of at.folder sources k.0.name k.0.autobins k.0.build m.library m.binaries) ≡ d = cc (l.2) in
+    subst (Stands sources at member w m) same (record {
+      folder = refl;
+      manifest = refl;
+      is_member = refl;
+      binaries = λ i. binaries_of (discovered at.folder sources (keys.name i) (keys.autobins i)) (map (written_binary at.folder sources (keys.name i)) m.binaries);
+      apart = ap (λ (x : Lists). x.has_same_binaries) (sym lists);
+    })
+
 -- a package that was read
 record IsMade (sources : World) (f : Frame) (ws : Workspace) (places : List (List ℕ × ℕ)) (folder : List ℕ) (d : Draft) : Type 0 where
   own : Manifest
   read : IsManifestAt sources (below folder (codes "Cargo.toml")) own
   written : Written
   is_package : own.package ≡ Some written
-  folder_is : d.folder ≡ folder
-  manifest_is : d.manifest ≡ below folder (codes "Cargo.toml")
+  stands : Stands sources (standing_in f folder) (is_member f (member_folders sources f) folder) written own d
   says : IsPackageOf sources f.root (given_to f d.is_member) ws own written (package_at places d)
-
--- it stands where it is said to
-record Stands (at : Standing) (member : Bool) (d : Draft) : Type 0 where
-  folder : d.folder ≡ at.folder
-  manifest : d.manifest ≡ at.manifest
-  is_member : d.is_member ≡ member
-
-stands_so : (sources : World) (at : Standing) (member : Bool) (given : Given) (w : Written) (m : Manifest) (d : Draft) → draft_of sources at member given w (tables_in m) ≡ Ok d → Stands at member d
-unfolding draft_of draft_with
-stands_so sources at member given w m d h =
-    let k = opened (keys_of sources at given.package w) (λ k. draft_with sources at member given (tables_in m) k) d h in
-    let l = opened (lists_of at given m.dependencies m.build_dependencies m.features m.binaries)
-    (λ lists. Ok (draft_from at member k.0 lists m.dev_dependencies (targets_of at.folder sources k.0.name k.0.autobins k.0.build m.library m.binaries))) d k.2 in
-    let same : draft_from at member k.0 l.0 m.dev_dependencies (targets_of at.folder sources k.0.name k.0.autobins k.0.build m.library m.binaries) ≡ d = cc (l.2) in
-    subst (Stands at member) same (record { folder = refl; manifest = refl; is_member = refl })
 
 package_says : (sources : World) (f : Frame) (ws : Workspace) (places : List (List ℕ × ℕ)) (folder : List ℕ) (d : Draft) → package_in sources f folder ≡ Ok d → ((x : Wanted) → Contains d.wanted x → Leads places ws x)
     → IsMade sources f ws places folder d
@@ -208,27 +226,31 @@ package_says sources f ws places folder d h leads =
           read = there;
           written = w;
           is_package = is;
-          folder_is = stands.folder;
-          manifest_is = stands.manifest;
+          stands = stands;
           says = subst (λ b. IsPackageOf sources f.root (given_to f b) ws m w (package_at places d)) (sym stands.is_member)
               (draft_says sources (standing_in f folder) member (given_to f member) ws places m (manifest_is there.bytes m there.says) w d h leads);
         }
 
 -- nothing is wrong with any package
 record AreFine (drafts : List Draft) : Type 0 where
+  binaries : list_any (λ (d : Draft). d.has_same_binaries) drafts ≡ false
   names : some_leads has_other_name drafts ≡ false
   versions : some_leads has_other_version drafts ≡ false
 
 fine_so : (drafts : List Draft) → fault_of drafts ≡ None → AreFine drafts
 unfolding fault_of
-fine_so drafts is = by (has_same_names drafts) (some_leads has_other_name drafts) (some_leads has_other_version drafts) _ refl refl is
+fine_so drafts is =
+    by (has_same_names drafts) (some_leads has_other_name drafts) (some_leads has_other_version drafts) (links_twice drafts) (list_any links_without_script drafts) (list_any (λ (d : Draft). d.has_same_binaries) drafts) refl refl refl is
   where
-    by : (a b c : Bool) (rest : Option LoadFault) → some_leads has_other_name drafts ≡ b → some_leads has_other_version drafts ≡ c
-        → (if a then Some SameName else (if b then Some NameMismatch else (if c then Some VersionMismatch else rest))) ≡ None → AreFine drafts
-    by true b c rest two three h = cc
-    by false true c rest two three h = cc
-    by false false true rest two three h = cc
-    by false false false rest two three h = record { names = two; versions = three }
+    by : (a b c x y z : Bool) → some_leads has_other_name drafts ≡ b → some_leads has_other_version drafts ≡ c → list_any (λ (d : Draft). d.has_same_binaries) drafts ≡ z
+        → (if a then Some SameName else (if b then Some NameMismatch else (if c then Some VersionMismatch else (if x then Some LinksTwice else (if y then Some LinksWithoutScript else (if z then Some SameBinary else None)))))) ≡ None → AreFine drafts
+    by true b c x y z two three six h = cc
+    by false true c x y z two three six h = cc
+    by false false true x y z two three six h = cc
+    by false false false true y z two three six h = cc
+    by false false false false true z two three six h = cc
+    by false false false false false true two three six h = cc
+    by false false false false false false two three six h = record { binaries = six; names = two; versions = three }
 
 not_off : (b : Bool) → not b ≡ false → b ≡ true
 not_off true h = refl
@@ -269,12 +291,12 @@ module _ (sources : World) (f : Frame) (parts : Parts) (ws : Workspace) (r : Rea
         version = matched x.version h.1.version right;
       }
 
-  all_made : (p : Package) → Contains ws.packages p → (folder : List ℕ) × (d : Draft) × IsMade sources f ws places folder d × (package_at places d ≡ p)
+  all_made : (p : Package) → Contains ws.packages p → (folder : List ℕ) × (d : Draft) × IsMade sources f ws places folder d × (package_at places d ≡ p) × (d.has_same_binaries ≡ false)
   all_made p is =
       let m = map_only (package_at places) drafts p (subst (λ ps. Contains ps p) drafts_are is) in
       let v = map_only (λ (e : List ℕ × Draft). e.1) r.found m.0 m.1 in
       let own : package_in sources f v.0.0 ≡ Ok v.0.1 = all_at (λ (e : List ℕ × Draft). package_in sources f e.0 ≡ Ok e.1) r.found v.0 packages v.1 in
-      (v.0.0, v.0.1, package_says sources f ws places v.0.0 v.0.1 own (leads_so v.0 v.1), ap (package_at places) v.2 ∙ m.2)
+      (v.0.0, v.0.1, package_says sources f ws places v.0.0 v.0.1 own (leads_so v.0 v.1), ap (package_at places) v.2 ∙ m.2, none_meets (λ (d : Draft). d.has_same_binaries) drafts fine.binaries v.0.1 (map_each (λ (e : List ℕ × Draft). e.1) r.found v.0 v.1))
 
 frame_root : (manifest : List ℕ) (o : Option WorkspaceTable) → ((frame_of (folder_of manifest) manifest o).root ≡ folder_of manifest) × ((frame_of (folder_of manifest) manifest o).manifest ≡ manifest)
 frame_root manifest None = (refl, refl)
@@ -307,22 +329,57 @@ module _ (manifest target : List ℕ) (w : World) (ws : Workspace) (path : is_pa
         by ds None at h = let same : assembled target f root.profiles ds ≡ ws = cc in (ap (λ (x : Workspace). x.packages) (sym same), fine_so ds at)
         by ds (Some fault) at h = cc
 
-    pub each_read : (p : Package) → Contains ws.packages p → IsRead sources manifest root ws p
-    each_read p is =
+    abbrev Made : Package → Type 0
+    Made p = (places : List (List ℕ × ℕ)) × (folder : List ℕ) × (d : Draft) × IsMade sources f ws places folder d × (package_at places d ≡ p) × (d.has_same_binaries ≡ false)
+
+    each_made : (p : Package) → Contains ws.packages p → Made p
+    each_made p is =
         let c = came in
         let there = manifest_there sources manifest (parts_in root) path read in
         let at = frame_root manifest root.workspace in
         let stands : f.manifest ≡ below f.root (codes "Cargo.toml") = at.1 ∙ there.0 ∙ ap (λ x. below x (codes "Cargo.toml")) (sym at.0) in
         let all = all_found sources f (parts_in root) stands (ap (parts_at sources) at.1 ∙ there.1) c.r c.packages in
         let a = all_made sources f (parts_in root) ws c.r c.whole c.fine all.0 all.1 p is in
-        subst (IsRead sources manifest root ws) a.3 (record {
-          place = a.2.manifest_is ∙ ap (λ x. below x (codes "Cargo.toml")) (sym a.2.folder_is);
-          own = a.2.own;
-          read = subst (λ x. IsManifestAt sources x a.2.own) (sym a.2.manifest_is) a.2.read;
-          written = a.2.written;
-          is_package = a.2.is_package;
-          says = subst (λ x. IsPackageOf sources x (given_to f a.1.is_member) ws a.2.own a.2.written (package_at (places_of (values_of c.r.found)) a.1)) at.0 a.2.says;
+        (places_of (values_of c.r.found), a.0, a.1, a.2, a.3, a.4)
+
+    pub each_read : (p : Package) → Contains ws.packages p → IsRead sources manifest root ws p
+    each_read p is =
+        let at = frame_root manifest root.workspace in
+        let a = each_made p is in
+        subst (IsRead sources manifest root ws) a.4 (record {
+          place = a.3.stands.manifest ∙ ap (λ x. below x (codes "Cargo.toml")) (sym a.3.stands.folder);
+          own = a.3.own;
+          read = subst (λ x. IsManifestAt sources x a.3.own) (sym a.3.stands.manifest) a.3.read;
+          written = a.3.written;
+          is_package = a.3.is_package;
+          says = subst (λ x. IsPackageOf sources x (given_to f a.2.is_member) ws a.3.own a.3.written (package_at a.0 a.2)) at.0 a.3.says;
         })
+
+    -- a file says one manifest
+    one_manifest : (file : List ℕ) (m n : Manifest) → IsManifestAt sources file m → IsManifestAt sources file n → m ≡ n
+    one_manifest file m n one other =
+        let bytes : Some one.bytes ≡ Some other.bytes = sym one.file ∙ other.file in
+        let same : one.bytes ≡ other.bytes = cc in
+        let both : Ok m ≡ Ok n = sym one.says ∙ ap manifest_of same ∙ other.says in
+        cc
+
+    pub each_binaries : FilesHavePaths sources → (p : Package) (own : Manifest) (written : Written) → Contains ws.packages p → IsManifestAt sources p.manifest own → own.package ≡ Some written → HasBinaries sources own written p
+    each_binaries paths p own written is at_file is_package =
+        let a = each_made p is in
+        let here : p.manifest ≡ below a.1 (codes "Cargo.toml") = ap (λ (q : Package). q.manifest) (sym a.4) ∙ a.3.stands.manifest in
+        let same : a.3.own ≡ own = one_manifest (below a.1 (codes "Cargo.toml")) a.3.own own a.3.read (subst (λ x. IsManifestAt sources x own) here at_file) in
+        let both : Some a.3.written ≡ Some written = sym a.3.is_package ∙ ap (λ (m : Manifest). m.package) same ∙ is_package in
+        let table : a.3.written ≡ written = cc in
+        let kept = manifest_is a.3.read.bytes a.3.own a.3.read.says in
+        let named : is_name a.3.written.name ≡ true = (subst (λ o. IfSome o IsPackage) a.3.is_package kept.found).name in
+        let apart : has_same_binaries a.3.own.binaries ≡ false = sym a.3.stands.apart ∙ a.5 in
+        subst (HasBinaries sources own written) a.4
+        (subst (λ m. HasBinaries sources m written (package_at a.0 a.2)) same
+        (subst (λ x. HasBinaries sources a.3.own x (package_at a.0 a.2)) table (record {
+          order = subst (λ (bs : List Binary). IsAscending (map (λ (b : Binary). b.name) bs)) (sym a.3.stands.binaries) (all_rise sources a.1 paths a.3.own a.3.written named apart);
+          are = λ b. subst (λ folder. Contains a.2.binaries b ↔ IsBinary sources folder a.3.own a.3.written b) (sym a.3.stands.folder)
+              (subst (λ (bs : List Binary). Contains bs b ↔ IsBinary sources a.1 a.3.own a.3.written b) (sym a.3.stands.binaries) (all_are sources a.1 paths a.3.own a.3.written named apart b));
+        })))
 
 pub packages_say : PackagesSay
 unfolding workspace_of
@@ -333,3 +390,13 @@ packages_say manifest target w ws path made =
     let r = parts_read sources manifest o.0 there.1 in
     let read : root_parts sources manifest ≡ Ok (parts_in r.m) = o.1 ∙ ap (λ (ps : Parts). Ok ps) (sym r.same) in
     (r.m, r.there, each_read manifest target w ws path r.m read made)
+
+pub binaries_say : BinariesSay
+unfolding workspace_of
+binaries_say manifest target w ws path made paths p own written is at_file is_package =
+    let sources : World = from_nothing target w in
+    let o = opened (root_parts sources manifest) (λ (ps : Parts). workspace_in sources target (frame_of (folder_of manifest) manifest ps.workspace) ps.profiles ps.tables ps.found) ws made in
+    let there = manifest_there sources manifest o.0 path o.1 in
+    let r = parts_read sources manifest o.0 there.1 in
+    let read : root_parts sources manifest ≡ Ok (parts_in r.m) = o.1 ∙ ap (λ (ps : Parts). Ok ps) (sym r.same) in
+    each_binaries manifest target w ws path r.m read made paths p own written is at_file is_package

@@ -10,6 +10,7 @@ use Rattle.pb_place.specs.Paths.{below, folder_of, is_path}
 use Rattle.pb_place.specs.World.{World, from_nothing}
 use Rattle.pb_workspace.specs.Frames.{frame_of, given_to}
 use Rattle.pb_workspace.specs.Loaded.{workspace_of}
+use Rattle.pb_package_laws.specs.Binaries.{FilesHavePaths, HasBinaries}
 use Rattle.pb_package_laws.specs.Packages.{IsPackageOf}
 
 -- the manifest in the file at this path
@@ -30,3 +31,8 @@ pub record IsRead (sources : World) (manifest : List ℕ) (r : Manifest) (ws : W
 abbrev pub PackagesSay : Type 0
 PackagesSay = (manifest target : List ℕ) (w : World) (ws : Workspace) → is_path manifest ≡ true → workspace_of manifest target w ≡ Ok ws
     → (r : Manifest) × IsManifestAt (from_nothing target w) manifest r × ((p : Package) → Contains ws.packages p → IsRead (from_nothing target w) manifest r ws p)
+
+-- the same of its binaries, where each file of the sources has a normalised absolute path, as the paths of a place have
+abbrev pub BinariesSay : Type 0
+BinariesSay = (manifest target : List ℕ) (w : World) (ws : Workspace) → is_path manifest ≡ true → workspace_of manifest target w ≡ Ok ws → FilesHavePaths (from_nothing target w)
+    → (p : Package) (own : Manifest) (written : Written) → Contains ws.packages p → IsManifestAt (from_nothing target w) p.manifest own → own.package ≡ Some written → HasBinaries (from_nothing target w) own written p

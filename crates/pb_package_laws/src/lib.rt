@@ -2,10 +2,15 @@
 //! Targets, Build Scripts, Features, Specifying Dependencies, Workspaces).
 #![tactic(auto)]
 
-ghost use Rattle.pb_package_laws.specs.Laws.{PackagesSay};
+ghost use Rattle.pb_package_laws.specs.Laws.{PackagesSay, BinariesSay};
 
 /// A law: each package of a workspace that was read is what its manifest and its folder say, key by key, with what it
 /// takes from its workspace.
 pub fn packages_say()
     ensures { PackagesSay }
+{}
+
+/// A law: so are its binaries, those of `[[bin]]` and those that are found, each with its source.
+pub fn binaries_say()
+    ensures { BinariesSay }
 {}
