@@ -80,6 +80,15 @@ chosen {A} spell text word x rest y is later h = by (bytes_eq text word) refl h
     by true on h = let same : x ≡ y = cc in (bytes_eq-Decides text word).0 on ∙ is ∙ ap spell same
     by false on h = later h
 
+-- `workspace = true`
+pub truly : (found : Option Data) → is_true (truth_in found) ≡ true → found ≡ Some (boolean true)
+truly (Some (boolean b)) h = ap (λ c. Some (boolean c)) h
+truly None h = cc
+truly (Some _) h = cc
+
+pub says_so : (ms : Members) → takes_workspace ms ≡ true → get_member (spelled key.Workspace) ms ≡ Some (boolean true)
+says_so ms h = truly (value_at key.Workspace ms) h
+
 module _ {A : Type 0} (read : Data → Read A) (write : A → Data) (Valid : A → Type 0) (w : IsWrittenAs read write Valid) where
   -- a value that may be left out
   pub optional_only : (found : Option Data) (o : Option A) → optional read found ≡ Ok o → Holds write found o × IfSome o Valid
@@ -133,14 +142,6 @@ module _ {A : Type 0} (read : Data → Read A) (write : A → Data) (Valid : A �
   abbrev pub IfWritten : Inheritable A → Type 0
   IfWritten (Written x) = Valid x
   IfWritten _ = Unit {0}
-
-  truly : (found : Option Data) → is_true (truth_in found) ≡ true → found ≡ Some (boolean true)
-  truly (Some (boolean b)) h = ap (λ c. Some (boolean c)) h
-  truly None h = cc
-  truly (Some _) h = cc
-
-  says_so : (ms : Members) → takes_workspace ms ≡ true → get_member (spelled key.Workspace) ms ≡ Some (boolean true)
-  says_so ms h = truly (value_at key.Workspace ms) h
 
   pub taken_only : (k : Key) (found : Option Data) (x : Inheritable A) → inheritable_in k read found ≡ Ok x → HoldsOrTakes write found x × IfWritten x
   unfolding spelled

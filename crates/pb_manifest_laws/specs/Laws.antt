@@ -2,9 +2,12 @@
 use Rattle.std.specs.Prelude.{◌≡◌, ◌↔◌, ℕ, List, Ok}
 use Rattle.pb_manifest.specs.Values.{Read}
 use Rattle.pb_manifest.specs.Binaries.{binary_keys}
+use Rattle.pb_manifest.specs.Dependencies.{dependency_of}
 use Rattle.pb_manifest.specs.Features.{feature_of}
 use Rattle.pb_manifest.specs.Library.{library_of}
 use Rattle.pb_manifest.specs.Package.{package_of}
+use Rattle.pb_manifest.specs.declared.key.Key.{Key}
+use Rattle.pb_manifest_laws.specs.Dependencies.{IsDependencyEntry}
 use Rattle.pb_manifest_laws.specs.Packages.{IsPackageTable, IsLibraryTable, IsBinaryTable, IsFeatureEntry}
 
 -- a reading gives just what is said
@@ -22,3 +25,7 @@ ReadsBinaries = Reads binary_keys IsBinaryTable
 
 abbrev pub ReadsFeatures : Type 0
 ReadsFeatures = (name : List ℕ) → Reads (feature_of name) (IsFeatureEntry name)
+
+-- of whichever of the two tables
+abbrev pub ReadsDependencies : Type 0
+ReadsDependencies = (k : Key) (name : List ℕ) → Reads (dependency_of k name) (IsDependencyEntry name)

@@ -1,3 +1,4 @@
 pub mod Values
 pub mod Packages
+pub mod Dependencies
 pub mod Laws

@@ -2,7 +2,7 @@
 //! Features).
 #![tactic(auto)]
 
-ghost use Rattle.pb_manifest_laws.specs.Laws.{ReadsPackages, ReadsLibraries, ReadsBinaries, ReadsFeatures};
+ghost use Rattle.pb_manifest_laws.specs.Laws.{ReadsPackages, ReadsLibraries, ReadsBinaries, ReadsFeatures, ReadsDependencies};
 
 /// A law: `[package]` is read as just what it says, key by key.
 pub fn packages_say()
@@ -14,4 +14,9 @@ pub fn targets_say()
     ensures libraries { ReadsLibraries }
     ensures binaries { ReadsBinaries }
     ensures features { ReadsFeatures }
+{}
+
+/// A law: so is each entry of `[dependencies]` and `[build-dependencies]` (The Cargo Book, Specifying Dependencies).
+pub fn dependencies_say()
+    ensures { ReadsDependencies }
 {}
