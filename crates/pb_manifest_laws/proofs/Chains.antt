@@ -23,3 +23,11 @@ five y (Ok a) q r s t f h = let u = four y q r s t (f a) h in (a, u.0, u.1, u.2,
 
 pub then_back : {A B : Type 0} (first : Read A) (next : A → Read B) (x : A) (y : B) → first ≡ Ok x → next x ≡ Ok y → (first >>= next) ≡ Ok y
 then_back first next x y was more = ap (λ r. r >>= next) was ∙ more
+
+pub four_on : {A B C D E : Type 0} (y : E) (p : Read A) (q : Read B) (r : Read C) (s : Read D) (f : A → B → C → D → Read E) → (p >>= (λ a. q >>= (λ b. r >>= (λ c. s >>= (λ d. f a b c d))))) ≡ Ok y
+    → (a : A) × (b : B) × (c : C) × (d : D) × (p ≡ Ok a) × (q ≡ Ok b) × (r ≡ Ok c) × (s ≡ Ok d) × (f a b c d ≡ Ok y)
+four_on y (Err e) q r s f h = cc
+four_on y (Ok a) (Err e) r s f h = cc
+four_on y (Ok a) (Ok b) (Err e) s f h = cc
+four_on y (Ok a) (Ok b) (Ok c) (Err e) f h = cc
+four_on y (Ok a) (Ok b) (Ok c) (Ok d) f h = (a, b, c, d, refl, refl, refl, refl, h)

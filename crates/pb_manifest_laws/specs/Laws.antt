@@ -6,8 +6,10 @@ use Rattle.pb_manifest.specs.Dependencies.{dependency_of}
 use Rattle.pb_manifest.specs.Features.{feature_of}
 use Rattle.pb_manifest.specs.Library.{library_of}
 use Rattle.pb_manifest.specs.Package.{package_of}
+use Rattle.pb_manifest.specs.Profiles.{profile_keys, profile_of}
 use Rattle.pb_manifest.specs.declared.key.Key.{Key}
 use Rattle.pb_manifest_laws.specs.Dependencies.{IsDependencyEntry}
+use Rattle.pb_manifest_laws.specs.Profiles.{AreSettings, IsProfileEntry}
 use Rattle.pb_manifest_laws.specs.Packages.{IsPackageTable, IsLibraryTable, IsBinaryTable, IsFeatureEntry}
 
 -- a reading gives just what is said
@@ -29,3 +31,9 @@ ReadsFeatures = (name : List ℕ) → Reads (feature_of name) (IsFeatureEntry na
 -- of whichever of the two tables
 abbrev pub ReadsDependencies : Type 0
 ReadsDependencies = (k : Key) (name : List ℕ) → Reads (dependency_of k name) (IsDependencyEntry name)
+
+abbrev pub ReadsSettings : Type 0
+ReadsSettings = Reads profile_keys AreSettings
+
+abbrev pub ReadsProfiles : Type 0
+ReadsProfiles = (name : List ℕ) → Reads (profile_of name) (IsProfileEntry name)

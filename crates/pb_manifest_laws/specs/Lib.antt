@@ -1,4 +1,5 @@
 pub mod Values
 pub mod Packages
 pub mod Dependencies
+pub mod Profiles
 pub mod Laws

@@ -2,7 +2,7 @@
 //! Features).
 #![tactic(auto)]
 
-ghost use Rattle.pb_manifest_laws.specs.Laws.{ReadsPackages, ReadsLibraries, ReadsBinaries, ReadsFeatures, ReadsDependencies};
+ghost use Rattle.pb_manifest_laws.specs.Laws.{ReadsPackages, ReadsLibraries, ReadsBinaries, ReadsFeatures, ReadsDependencies, ReadsSettings, ReadsProfiles};
 
 /// A law: `[package]` is read as just what it says, key by key.
 pub fn packages_say()
@@ -19,4 +19,10 @@ pub fn targets_say()
 /// A law: so is each entry of `[dependencies]` and `[build-dependencies]` (The Cargo Book, Specifying Dependencies).
 pub fn dependencies_say()
     ensures { ReadsDependencies }
+{}
+
+/// A law: so are what a profile sets, and each entry of `[profile]` (The Cargo Book, Profiles).
+pub fn profiles_say()
+    ensures settings { ReadsSettings }
+    ensures profiles { ReadsProfiles }
 {}
