@@ -22,7 +22,7 @@ use Rattle.pb_manifest_laws.proofs.Packages.{all_any, some_any}
 use Rattle.pb_manifest_laws.proofs.Reading.{IsWrittenAs, Any, text_written, truth_written, path_written, spelled_so, table_is, truly, optional_only, optional_back, or_from, or_to, lists_only, lists_back}
 
 -- requirements
-requirement_only : (text x : List ℕ) → requirement_in text ≡ Ok x → (text ≡ x) × (is_requirement x ≡ true)
+pub requirement_only : (text x : List ℕ) → requirement_in text ≡ Ok x → (text ≡ x) × (is_requirement x ≡ true)
 requirement_only text x h = by (is_requirement text) refl h
   where
     by : (b : Bool) → is_requirement text ≡ b → (if b then Ok text else Err BadVersion) ≡ Ok x → (text ≡ x) × (is_requirement x ≡ true)
@@ -51,10 +51,10 @@ workspace_only found true u is h = (λ on. truly found is, λ off. cc)
 workspace_only None false u is h = (λ on. cc, λ off. refl)
 workspace_only (Some d) false u is h = cc
 
-taken_so : (found : Option Data) → found ≡ Some (boolean true) → is_true (truth_in found) ≡ true
+pub taken_so : (found : Option Data) → found ≡ Some (boolean true) → is_true (truth_in found) ≡ true
 taken_so found is = ap (λ f. is_true (truth_in f)) is
 
-untaken_so : (found : Option Data) → found ≡ None → is_true (truth_in found) ≡ false
+pub untaken_so : (found : Option Data) → found ≡ None → is_true (truth_in found) ≡ false
 untaken_so found is = ap (λ f. is_true (truth_in f)) is
 
 -- where an entry comes from

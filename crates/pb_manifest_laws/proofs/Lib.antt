@@ -5,3 +5,6 @@ pub mod Targets
 pub mod Dependencies
 pub mod Tables
 pub mod Profiles
+pub mod Shared
+pub mod Workspaces
+pub mod Documents

@@ -43,7 +43,7 @@ edition_back E2018 valid = refl
 edition_back E2021 valid = refl
 edition_back E2024 valid = refl
 
-edition_written : IsWrittenAs edition_of edition Any
+pub edition_written : IsWrittenAs edition_of edition Any
 edition_written = spelled_so key.Edition edition_in edition_text Any edition_only edition_back
 
 -- the version
@@ -121,7 +121,7 @@ pub name_back : (found : Option Data) (x : List ℕ) → found ≡ Some (string 
 name_back found x there is = ap (λ f. optional (text_of key.Name) f >>= name_in) there ∙ ap (λ b. if b then Ok x else Err BadName) is
 
 -- the resolver
-resolver_only : (found : Option Data) (u : Unit {0}) → (optional (text_of key.Resolver) found >>= resolver_in) ≡ Ok u → IsResolver found
+pub resolver_only : (found : Option Data) (u : Unit {0}) → (optional (text_of key.Resolver) found >>= resolver_in) ≡ Ok u → IsResolver found
 resolver_only found u h =
     let c = came (optional (text_of key.Resolver) found) resolver_in u h in
     let v = optional_only (text_of key.Resolver) (λ t. string t) Any (text_written key.Resolver) found c.value c.was in
@@ -136,7 +136,7 @@ resolver_only found u h =
     by None holds h = absent holds
     by (Some text) holds h = which text (bytes_eq text (codes "2")) (bytes_eq text (codes "3")) refl refl holds h
 
-resolver_back : (found : Option Data) → IsResolver found → (optional (text_of key.Resolver) found >>= resolver_in) ≡ Ok tt
+pub resolver_back : (found : Option Data) → IsResolver found → (optional (text_of key.Resolver) found >>= resolver_in) ≡ Ok tt
 resolver_back found (absent is) = ap (λ f. optional (text_of key.Resolver) f >>= resolver_in) is
 resolver_back found (second is) = ap (λ f. optional (text_of key.Resolver) f >>= resolver_in) is
 resolver_back found (third is) = ap (λ f. optional (text_of key.Resolver) f >>= resolver_in) is

@@ -1,5 +1,5 @@
 -- What the entries of `[dependencies]`, `[build-dependencies]` and `[workspace.dependencies]` say, key by key (The Cargo Book, Specifying Dependencies, Workspaces).
-use Rattle.std.specs.Prelude.{◌≡◌, ℕ, true, false, List, codes, Option, Some, None, IfSome}
+use Rattle.std.specs.Prelude.{◌≡◌, ◌⊎◌, ℕ, Bool, true, false, List, [], codes, Option, Some, None, IfSome}
 use Rattle.toml.specs.Data.{Data, string, boolean, table, Members, get_member}
 use Rattle.pb_manifest.specs.Letters.{is_name}
 use Rattle.pb_manifest.specs.Versions.{is_requirement}
@@ -7,6 +7,9 @@ use Rattle.pb_manifest.specs.declared.dependency.Dependency.{Dependency}
 use Rattle.pb_manifest.specs.declared.dependency.PathSource.{PathSource}
 use Rattle.pb_manifest.specs.declared.dependency.Source.{Source}
 use Rattle.pb_manifest.specs.declared.dependency.Source.TheVariants as own
+use Rattle.pb_manifest.specs.declared.dependency.WorkspaceDependency.{WorkspaceDependency}
+use Rattle.pb_manifest.specs.declared.dependency.WorkspaceSource.{WorkspaceSource}
+use Rattle.pb_manifest.specs.declared.dependency.WorkspaceSource.TheVariants as shared
 use Rattle.pb_manifest_laws.specs.Values.{IsPath, Holds, HoldsPath, HoldsOr, Lists}
 
 -- a requirement, where one is written
@@ -46,3 +49,34 @@ pub record IsDependencyEntry (name : List ℕ) (d : Data) (x : Dependency) : Typ
   pub features : Lists string (get_member (codes "features") inner) x.features
   pub no_git : get_member (codes "git") inner ≡ None
   pub no_registry : get_member (codes "registry") inner ≡ None
+
+-- where an entry of `[workspace.dependencies]` comes from: a path; one without a path, or with `git` or `registry`, is kept, and refused where it is taken
+abbrev pub IsSharedSource : Members → WorkspaceSource → Type 0
+IsSharedSource ms (shared.Path s) = IsPathSource ms s × (get_member (codes "git") ms ≡ None) × (get_member (codes "registry") ms ≡ None)
+IsSharedSource ms shared.Unsupported =
+    HasIdleKeys ms × ((default : Option Bool) × Holds boolean (get_member (codes "default-features") ms) default) × (get_member (codes "git") ms ≡ None → get_member (codes "registry") ms ≡ None → get_member (codes "path") ms ≡ None)
+
+-- such an entry that is a table
+pub record IsSharedTable (name : List ℕ) (d : Data) (x : WorkspaceDependency) : Type 0 where
+  pub key : x.key ≡ name
+  pub letters : is_name name ≡ true
+  pub inner : Members
+  pub is_table : d ≡ table inner
+  pub source : IsSharedSource inner x.source
+  pub features : Lists string (get_member (codes "features") inner) x.features
+  pub optional : Option Bool
+  pub optional_is : Holds boolean (get_member (codes "optional") inner) optional
+  pub taken : (get_member (codes "workspace") inner ≡ None) ⊎ (get_member (codes "workspace") inner ≡ Some (boolean true))
+
+-- or one that is a version alone, which has no path
+pub record IsSharedVersion (name : List ℕ) (d : Data) (x : WorkspaceDependency) : Type 0 where
+  pub key : x.key ≡ name
+  pub letters : is_name name ≡ true
+  pub text : List ℕ
+  pub is_text : d ≡ string text
+  pub requirement : is_requirement text ≡ true
+  pub source : x.source ≡ shared.Unsupported
+  pub features : x.features ≡ []
+
+abbrev pub IsSharedEntry : List ℕ → Data → WorkspaceDependency → Type 0
+IsSharedEntry name d x = IsSharedTable name d x ⊎ IsSharedVersion name d x

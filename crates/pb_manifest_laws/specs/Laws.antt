@@ -1,15 +1,21 @@
 -- The laws: what is read of a table is what the table says, and nothing else.
 use Rattle.std.specs.Prelude.{◌≡◌, ◌↔◌, ℕ, List, Ok}
+use Rattle.toml.specs.Data.{Members}
 use Rattle.pb_manifest.specs.Values.{Read}
 use Rattle.pb_manifest.specs.Binaries.{binary_keys}
-use Rattle.pb_manifest.specs.Dependencies.{dependency_of}
+use Rattle.pb_manifest.specs.Dependencies.{dependency_of, shared_dependency_of}
+use Rattle.pb_manifest.specs.Document.{document_of, manifest_of}
 use Rattle.pb_manifest.specs.Features.{feature_of}
 use Rattle.pb_manifest.specs.Library.{library_of}
 use Rattle.pb_manifest.specs.Package.{package_of}
 use Rattle.pb_manifest.specs.Profiles.{profile_keys, profile_of}
+use Rattle.pb_manifest.specs.Workspace.{workspace_of}
 use Rattle.pb_manifest.specs.declared.key.Key.{Key}
-use Rattle.pb_manifest_laws.specs.Dependencies.{IsDependencyEntry}
+use Rattle.pb_manifest.specs.declared.manifest.Manifest.{Manifest}
+use Rattle.pb_manifest_laws.specs.Dependencies.{IsDependencyEntry, IsSharedEntry}
+use Rattle.pb_manifest_laws.specs.Documents.{IsDocument, AreManifest}
 use Rattle.pb_manifest_laws.specs.Profiles.{AreSettings, IsProfileEntry}
+use Rattle.pb_manifest_laws.specs.Workspaces.{IsWorkspaceTable}
 use Rattle.pb_manifest_laws.specs.Packages.{IsPackageTable, IsLibraryTable, IsBinaryTable, IsFeatureEntry}
 
 -- a reading gives just what is said
@@ -37,3 +43,20 @@ ReadsSettings = Reads profile_keys AreSettings
 
 abbrev pub ReadsProfiles : Type 0
 ReadsProfiles = (name : List ℕ) → Reads (profile_of name) (IsProfileEntry name)
+
+abbrev pub ReadsSharedDependencies : Type 0
+ReadsSharedDependencies = (name : List ℕ) → Reads (shared_dependency_of name) (IsSharedEntry name)
+
+abbrev pub ReadsWorkspaces : Type 0
+ReadsWorkspaces = Reads workspace_of IsWorkspaceTable
+
+-- the whole document, and the bytes
+abbrev pub ReadsDocuments : Type 0
+ReadsDocuments = Reads document_of IsDocument
+
+abbrev pub ReadsManifests : Type 0
+ReadsManifests = Reads manifest_of AreManifest
+
+-- so a document says one manifest
+abbrev pub DocumentsSayOne : Type 0
+DocumentsSayOne = (ms : Members) (m n : Manifest) → IsDocument ms m → IsDocument ms n → m ≡ n
