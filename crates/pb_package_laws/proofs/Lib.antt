@@ -5,4 +5,6 @@ pub mod Keys
 pub mod BinPlaces
 pub mod Binaries
 pub mod AllBinaries
+pub mod Fine
+pub mod Members
 pub mod Whole

@@ -1,5 +1,5 @@
 -- Each package of a workspace that was read is what its manifest and its folder say.
-use Rattle.std.proofs.Common.{inl, inr, ◌≡◌, ◌↔◌, ◌∙◌, ℕ, Bool, true, false, not, if◌then◌else◌, List, [], ◌∷◌, ◌++◌, map, codes, Option, Some, None, Ok, Err, Result, IfSome, unwrap_or, slice_get, Contains, refl, sym, ap, subst}
+use Rattle.std.proofs.Common.{inl, inr, ◌≡◌, ◌↔◌, ◌∙◌, ℕ, Bool, true, false, List, [], ◌∷◌, ◌++◌, map, codes, Option, Some, None, Ok, Err, Result, IfSome, unwrap_or, slice_get, Contains, refl, sym, ap, subst}
 use Rattle.std.proofs.lemmas.List.{map-append}
 use Rattle.std.proofs.lemmas.Option.{slice_get-map}
 use Rattle.std.proofs.lemmas.Slice.Eq.{bytes_eq-Decides}
@@ -14,13 +14,12 @@ use Rattle.pb_data.specs.Gives.{◌>>=◌, lifted}
 use Rattle.pb_manifest.proofs.Manifests.{manifest_is}
 use Rattle.pb_manifest.specs.Document.{manifest_of}
 use Rattle.pb_manifest.specs.Promises.{IsManifest, IsPackage}
-use Rattle.pb_manifest.specs.Versions.{matches}
 use Rattle.pb_manifest.specs.declared.manifest.Manifest.{Manifest}
 use Rattle.pb_manifest.specs.declared.manifest.WorkspacePackage.{WorkspacePackage}
 use Rattle.pb_manifest.specs.declared.manifest.WorkspaceTable.{WorkspaceTable}
 use Rattle.pb_manifest.specs.declared.package.Package.{Package as Written}
 use Rattle.pb_package.specs.declared.fault.LoadFault.{LoadFault}
-use Rattle.pb_package.specs.declared.fault.LoadFault.TheVariants.{Manifest as InManifest, SameName, NameMismatch, VersionMismatch, LinksTwice, LinksWithoutScript, SameBinary}
+use Rattle.pb_package.specs.declared.fault.LoadFault.TheVariants.{Manifest as InManifest}
 use Rattle.pb_package.specs.declared.package.DependencyKind.TheVariants.{Normal, Build as ForScript}
 use Rattle.pb_package.specs.declared.package.Package.{Package}
 use Rattle.pb_package.specs.declared.workspace.Workspace.{Workspace}
@@ -28,7 +27,7 @@ use Rattle.pb_place.specs.Paths.{below, folder_of, is_path}
 use Rattle.pb_place.specs.World.{World, from_nothing}
 use Rattle.pb_workspace.specs.Assembled.{assembled, entry_at, package_at, packages_of}
 use Rattle.pb_workspace.specs.ByFolder.{folders_of, values_of}
-use Rattle.pb_workspace.specs.Checks.{fault_of, has_same_names, some_leads, has_other_name, has_other_version, links_twice, links_without_script, matches_if}
+use Rattle.pb_workspace.specs.Checks.{fault_of, has_other_name, has_other_version, matches_if}
 use Rattle.pb_workspace.specs.Drafts.{draft_from, draft_of, draft_with, lists_of}
 use Rattle.pb_workspace.specs.Features.{features_of}
 use Rattle.pb_workspace.specs.Frames.{frame_of, given_to, is_member}
@@ -54,7 +53,9 @@ use Rattle.pb_workspace.specs.declared.wanted.Wanted.{Wanted}
 use Rattle.pb_workspace.proofs.FoldersPlaced.{place_there}
 use Rattle.pb_workspace.proofs.FoldersPut.{opened}
 use Rattle.pb_workspace.proofs.WholeWorkspace.{map_only, map_each, manifest_there, all_found, own_folders}
-use Rattle.pb_package_laws.specs.Laws.{IsManifestAt, IsRead, PackagesSay, BinariesSay}
+use Rattle.pb_package_laws.specs.Laws.{IsManifestAt, IsRead, PackagesSay, BinariesSay, MembersSay}
+use Rattle.pb_package_laws.specs.Members.{IsMember}
+use Rattle.pb_package_laws.proofs.Members.{member_is}
 use Rattle.pb_package_laws.specs.Binaries.{FilesHavePaths, IsBinary, HasBinaries}
 use Rattle.pb_package_laws.proofs.AllBinaries.{all_rise, all_are}
 use Rattle.pb_workspace.specs.Binaries.{binaries_of, written_binary}
@@ -62,6 +63,7 @@ use Rattle.pb_package.specs.declared.package.Binary.{Binary}
 use Rattle.pb_package.specs.Settled.{IsAscending}
 use Rattle.pb_manifest.specs.Letters.{is_name}
 use Rattle.pb_package_laws.specs.Packages.{IsOwnOrTaken, IsLibrary, script, IsPackageOf}
+use Rattle.pb_package_laws.proofs.Fine.{AreFine, fine_so, not_off, matched}
 use Rattle.pb_package_laws.proofs.Entries.{Leads, entries_are}
 use Rattle.pb_package_laws.proofs.Features.{none_meets, features_rise, features_are}
 use Rattle.pb_package_laws.proofs.Keys.{own_or_taken, about_is, IsAbout, script_so, library_is}
@@ -231,35 +233,6 @@ package_says sources f ws places folder d h leads =
               (draft_says sources (standing_in f folder) member (given_to f member) ws places m (manifest_is there.bytes m there.says) w d h leads);
         }
 
--- nothing is wrong with any package
-record AreFine (drafts : List Draft) : Type 0 where
-  binaries : list_any (λ (d : Draft). d.has_same_binaries) drafts ≡ false
-  names : some_leads has_other_name drafts ≡ false
-  versions : some_leads has_other_version drafts ≡ false
-
-fine_so : (drafts : List Draft) → fault_of drafts ≡ None → AreFine drafts
-unfolding fault_of
-fine_so drafts is =
-    by (has_same_names drafts) (some_leads has_other_name drafts) (some_leads has_other_version drafts) (links_twice drafts) (list_any links_without_script drafts) (list_any (λ (d : Draft). d.has_same_binaries) drafts) refl refl refl is
-  where
-    by : (a b c x y z : Bool) → some_leads has_other_name drafts ≡ b → some_leads has_other_version drafts ≡ c → list_any (λ (d : Draft). d.has_same_binaries) drafts ≡ z
-        → (if a then Some SameName else (if b then Some NameMismatch else (if c then Some VersionMismatch else (if x then Some LinksTwice else (if y then Some LinksWithoutScript else (if z then Some SameBinary else None)))))) ≡ None → AreFine drafts
-    by true b c x y z two three six h = cc
-    by false true c x y z two three six h = cc
-    by false false true x y z two three six h = cc
-    by false false false true y z two three six h = cc
-    by false false false false true z two three six h = cc
-    by false false false false false true two three six h = cc
-    by false false false false false false two three six h = record { binaries = six; names = two; versions = three }
-
-not_off : (b : Bool) → not b ≡ false → b ≡ true
-not_off true h = refl
-not_off false h = cc
-
-matched : (version : Option (List ℕ)) (own : List ℕ) → matches_if version own ≡ true → IfSome version (λ requirement. matches requirement own ≡ true)
-matched None own is = tt
-matched (Some requirement) own is = is
-
 module _ (sources : World) (f : Frame) (parts : Parts) (ws : Workspace) (r : Reading) (drafts_are : ws.packages ≡ packages_of (values_of r.found)) (fine : AreFine (values_of r.found))
     (folders : (x : List ℕ) → Contains (folders_of r.found) x ↔ IsPackageFolder sources f parts.found x) (packages : AllByRecursion (λ (e : List ℕ × Draft). package_in sources f e.0 ≡ Ok e.1) r.found) where
   abbrev drafts : List Draft
@@ -363,6 +336,15 @@ module _ (manifest target : List ℕ) (w : World) (ws : Workspace) (path : is_pa
         let both : Ok m ≡ Ok n = sym one.says ∙ ap manifest_of same ∙ other.says in
         cc
 
+    pub each_member : (p : Package) → Contains ws.packages p → (p.is_member ≡ true) ↔ IsMember sources f p.folder
+    each_member p is =
+        let a = each_made p is in
+        subst (λ (q : Package). (q.is_member ≡ true) ↔ IsMember sources f q.folder) a.4
+        (subst (λ b. (b ≡ true) ↔ IsMember sources f a.2.folder) (sym a.3.stands.is_member) (subst (λ x. (is_member f (member_folders sources f) a.1 ≡ true) ↔ IsMember sources f x) (sym a.3.stands.folder) (member_is sources f a.1)))
+
+    pub same_root : (r : Manifest) → IsManifestAt sources manifest root → IsManifestAt sources manifest r → root ≡ r
+    same_root r one other = one_manifest manifest root r one other
+
     pub each_binaries : FilesHavePaths sources → (p : Package) (own : Manifest) (written : Written) → Contains ws.packages p → IsManifestAt sources p.manifest own → own.package ≡ Some written → HasBinaries sources own written p
     each_binaries paths p own written is at_file is_package =
         let a = each_made p is in
@@ -400,3 +382,14 @@ binaries_say manifest target w ws path made paths p own written is at_file is_pa
     let r = parts_read sources manifest o.0 there.1 in
     let read : root_parts sources manifest ≡ Ok (parts_in r.m) = o.1 ∙ ap (λ (ps : Parts). Ok ps) (sym r.same) in
     each_binaries manifest target w ws path r.m read made paths p own written is at_file is_package
+
+pub members_say : MembersSay
+unfolding workspace_of
+members_say manifest target w ws r path made there p is =
+    let sources : World = from_nothing target w in
+    let o = opened (root_parts sources manifest) (λ (ps : Parts). workspace_in sources target (frame_of (folder_of manifest) manifest ps.workspace) ps.profiles ps.tables ps.found) ws made in
+    let at = manifest_there sources manifest o.0 path o.1 in
+    let own = parts_read sources manifest o.0 at.1 in
+    let read : root_parts sources manifest ≡ Ok (parts_in own.m) = o.1 ∙ ap (λ (ps : Parts). Ok ps) (sym own.same) in
+    subst (λ (m : Manifest). (p.is_member ≡ true) ↔ IsMember sources (frame_of (folder_of manifest) manifest m.workspace) p.folder) (same_root manifest target w ws path own.m read made r own.there there)
+    (each_member manifest target w ws path own.m read made p is)

@@ -1,5 +1,5 @@
 -- The law of packages: each package of a workspace that was read is what its manifest and its folder say, with what it takes from its workspace.
-use Rattle.std.specs.Prelude.{◌≡◌, ℕ, true, codes, List, Some, Ok, Contains}
+use Rattle.std.specs.Prelude.{◌≡◌, ◌↔◌, ℕ, true, codes, List, Some, Ok, Contains}
 use Rattle.std.specs.FinMap as finite
 use Rattle.pb_manifest.specs.Document.{manifest_of}
 use Rattle.pb_manifest.specs.declared.manifest.Manifest.{Manifest}
@@ -11,6 +11,7 @@ use Rattle.pb_place.specs.World.{World, from_nothing}
 use Rattle.pb_workspace.specs.Frames.{frame_of, given_to}
 use Rattle.pb_workspace.specs.Loaded.{workspace_of}
 use Rattle.pb_package_laws.specs.Binaries.{FilesHavePaths, HasBinaries}
+use Rattle.pb_package_laws.specs.Members.{IsMember}
 use Rattle.pb_package_laws.specs.Packages.{IsPackageOf}
 
 -- the manifest in the file at this path
@@ -36,3 +37,8 @@ PackagesSay = (manifest target : List ℕ) (w : World) (ws : Workspace) → is_p
 abbrev pub BinariesSay : Type 0
 BinariesSay = (manifest target : List ℕ) (w : World) (ws : Workspace) → is_path manifest ≡ true → workspace_of manifest target w ≡ Ok ws → FilesHavePaths (from_nothing target w)
     → (p : Package) (own : Manifest) (written : Written) → Contains ws.packages p → IsManifestAt (from_nothing target w) p.manifest own → own.package ≡ Some written → HasBinaries (from_nothing target w) own written p
+
+-- and which packages are members, by the manifest `r` of the workspace
+abbrev pub MembersSay : Type 0
+MembersSay = (manifest target : List ℕ) (w : World) (ws : Workspace) (r : Manifest) → is_path manifest ≡ true → workspace_of manifest target w ≡ Ok ws → IsManifestAt (from_nothing target w) manifest r
+    → (p : Package) → Contains ws.packages p → (p.is_member ≡ true) ↔ IsMember (from_nothing target w) (frame_of (folder_of manifest) manifest r.workspace) p.folder
