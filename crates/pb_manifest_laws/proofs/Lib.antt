@@ -1,0 +1,10 @@
+pub mod Chains
+pub mod Reading
+pub mod Packages
+pub mod Targets
+pub mod Dependencies
+pub mod Tables
+pub mod Profiles
+pub mod Shared
+pub mod Workspaces
+pub mod Documents

@@ -1,0 +1,5 @@
+use Rattle.pb_manifest_laws.proofs.Documents.{documents_read, manifests_read, say_one}
+use Rattle.pb_manifest_laws.proofs.manifests_say.Goals as goal
+
+pub returns : goal.returns
+returns c = record { documents = documents_read; manifests = manifests_read; one = say_one }

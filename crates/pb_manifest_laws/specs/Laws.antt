@@ -1,0 +1,62 @@
+-- The laws: what is read of a table is what the table says, and nothing else.
+use Rattle.std.specs.Prelude.{◌≡◌, ◌↔◌, ℕ, List, Ok}
+use Rattle.toml.specs.Data.{Members}
+use Rattle.pb_manifest.specs.Values.{Read}
+use Rattle.pb_manifest.specs.Binaries.{binary_keys}
+use Rattle.pb_manifest.specs.Dependencies.{dependency_of, shared_dependency_of}
+use Rattle.pb_manifest.specs.Document.{document_of, manifest_of}
+use Rattle.pb_manifest.specs.Features.{feature_of}
+use Rattle.pb_manifest.specs.Library.{library_of}
+use Rattle.pb_manifest.specs.Package.{package_of}
+use Rattle.pb_manifest.specs.Profiles.{profile_keys, profile_of}
+use Rattle.pb_manifest.specs.Workspace.{workspace_of}
+use Rattle.pb_manifest.specs.declared.key.Key.{Key}
+use Rattle.pb_manifest.specs.declared.manifest.Manifest.{Manifest}
+use Rattle.pb_manifest_laws.specs.Dependencies.{IsDependencyEntry, IsSharedEntry}
+use Rattle.pb_manifest_laws.specs.Documents.{IsDocument, AreManifest}
+use Rattle.pb_manifest_laws.specs.Profiles.{AreSettings, IsProfileEntry}
+use Rattle.pb_manifest_laws.specs.Workspaces.{IsWorkspaceTable}
+use Rattle.pb_manifest_laws.specs.Packages.{IsPackageTable, IsLibraryTable, IsBinaryTable, IsFeatureEntry}
+
+-- a reading gives just what is said
+abbrev pub Reads : {M A : Type 0} → (M → Read A) → (M → A → Type 0) → Type 0
+Reads {M} {A} read Says = (ms : M) (x : A) → (read ms ≡ Ok x) ↔ Says ms x
+
+abbrev pub ReadsPackages : Type 0
+ReadsPackages = Reads package_of IsPackageTable
+
+abbrev pub ReadsLibraries : Type 0
+ReadsLibraries = Reads library_of IsLibraryTable
+
+abbrev pub ReadsBinaries : Type 0
+ReadsBinaries = Reads binary_keys IsBinaryTable
+
+abbrev pub ReadsFeatures : Type 0
+ReadsFeatures = (name : List ℕ) → Reads (feature_of name) (IsFeatureEntry name)
+
+-- of whichever of the two tables
+abbrev pub ReadsDependencies : Type 0
+ReadsDependencies = (k : Key) (name : List ℕ) → Reads (dependency_of k name) (IsDependencyEntry name)
+
+abbrev pub ReadsSettings : Type 0
+ReadsSettings = Reads profile_keys AreSettings
+
+abbrev pub ReadsProfiles : Type 0
+ReadsProfiles = (name : List ℕ) → Reads (profile_of name) (IsProfileEntry name)
+
+abbrev pub ReadsSharedDependencies : Type 0
+ReadsSharedDependencies = (name : List ℕ) → Reads (shared_dependency_of name) (IsSharedEntry name)
+
+abbrev pub ReadsWorkspaces : Type 0
+ReadsWorkspaces = Reads workspace_of IsWorkspaceTable
+
+-- the whole document, and the bytes
+abbrev pub ReadsDocuments : Type 0
+ReadsDocuments = Reads document_of IsDocument
+
+abbrev pub ReadsManifests : Type 0
+ReadsManifests = Reads manifest_of AreManifest
+
+-- so a document says one manifest
+abbrev pub DocumentsSayOne : Type 0
+DocumentsSayOne = (ms : Members) (m n : Manifest) → IsDocument ms m → IsDocument ms n → m ≡ n

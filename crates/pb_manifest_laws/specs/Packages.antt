@@ -1,0 +1,91 @@
+-- What `[package]`, `[lib]`, `[[bin]]` and `[features]` say, key by key (The Cargo Book, Manifest Format, Cargo Targets, Features).
+use Rattle.std.specs.Prelude.{◌≡◌, ℕ, true, false, List, map, codes, Option, Some, None, IfSome}
+use Rattle.std.specs.List.{AllByRecursion}
+use Rattle.toml.specs.Data.{Data, string, boolean, array, Members, get_member}
+use Rattle.pb_manifest.specs.Laws.{item_text}
+use Rattle.pb_manifest.specs.Letters.{is_name, is_crate_name, is_feature_name}
+use Rattle.pb_manifest.specs.Library.{crate_type_text}
+use Rattle.pb_manifest.specs.Package.{edition_text}
+use Rattle.pb_manifest.specs.Promises.{IsItem}
+use Rattle.pb_manifest.specs.Versions.{is_version}
+use Rattle.pb_manifest.specs.declared.inherited.Inherited.{Inherited}
+use Rattle.pb_manifest.specs.declared.inherited.Inherited.TheVariants.{Written, Workspace}
+use Rattle.pb_manifest.specs.declared.feature.Feature.{Feature}
+use Rattle.pb_manifest.specs.declared.package.Build.{Build}
+use Rattle.pb_manifest.specs.declared.package.Build.TheVariants as build
+use Rattle.pb_manifest.specs.declared.package.Edition.{Edition}
+use Rattle.pb_manifest.specs.declared.package.Edition.TheVariants.{E2015}
+use Rattle.pb_manifest.specs.declared.package.Package.{Package}
+use Rattle.pb_manifest.specs.declared.package.Readme.{Readme}
+use Rattle.pb_manifest.specs.declared.package.Readme.TheVariants as readme
+use Rattle.pb_manifest.specs.declared.target.Binary.{Binary}
+use Rattle.pb_manifest.specs.declared.target.Library.{Library}
+use Rattle.pb_manifest_laws.specs.Values.{items, texts, IsPath, Holds, HoldsPath, HoldsOr, Lists, HoldsOrTakes, HasOrTakes}
+
+abbrev pub edition : Edition → Data
+edition e = string (edition_text e)
+
+-- `true` for the usual file, `false` for none, or a path
+abbrev pub IsBuild : Option Data → Build → Type 0
+IsBuild found build.Discovered = found ≡ None
+IsBuild found build.Standard = found ≡ Some (boolean true)
+IsBuild found build.Never = found ≡ Some (boolean false)
+IsBuild found (build.At path) = (found ≡ Some (string path)) × IsPath path
+
+abbrev pub readme_value : Readme → Data
+readme_value readme.Standard = boolean true
+readme_value readme.Never = boolean false
+readme_value (readme.At path) = string path
+
+-- a version that is written is one of Semantic Versioning
+abbrev pub IsVersion : Inherited (List ℕ) → Type 0
+IsVersion (Written text) = is_version text ≡ true
+IsVersion Workspace = Unit {0}
+
+-- `"2"` or `"3"`, where one is written
+pub data IsResolver (found : Option Data) : Type 0 where
+  absent : (is : found ≡ None) → IsResolver found
+  second : (is : found ≡ Some (string (codes "2"))) → IsResolver found
+  third : (is : found ≡ Some (string (codes "3"))) → IsResolver found
+
+-- `[package]`
+pub record IsPackageTable (ms : Members) (p : Package) : Type 0 where
+  pub authors : HoldsOrTakes texts (get_member (codes "authors") ms) p.authors
+  pub autobins : HoldsOr true boolean (get_member (codes "autobins") ms) p.autobins
+  pub script : IsBuild (get_member (codes "build") ms) p.build
+  pub description : HoldsOrTakes string (get_member (codes "description") ms) p.description
+  pub edition_is : HasOrTakes E2015 edition (get_member (codes "edition") ms) p.edition
+  pub homepage : HoldsOrTakes string (get_member (codes "homepage") ms) p.homepage
+  pub license : HoldsOrTakes string (get_member (codes "license") ms) p.license
+  pub license_file : HoldsOrTakes string (get_member (codes "license-file") ms) p.license_file
+  pub links : Holds string (get_member (codes "links") ms) p.links
+  pub name : get_member (codes "name") ms ≡ Some (string p.name)
+  pub letters : is_name p.name ≡ true
+  pub readme_is : HoldsOrTakes readme_value (get_member (codes "readme") ms) p.readme
+  pub repository : HoldsOrTakes string (get_member (codes "repository") ms) p.repository
+  pub resolver : IsResolver (get_member (codes "resolver") ms)
+  pub rust_version : HoldsOrTakes string (get_member (codes "rust-version") ms) p.rust_version
+  pub version : HasOrTakes (codes "0.0.0") string (get_member (codes "version") ms) p.version
+  pub version_is : IsVersion p.version
+
+-- `[lib]`; `proc-macro = true` is refused
+pub record IsLibraryTable (ms : Members) (l : Library) : Type 0 where
+  pub crate_types : Lists (λ t. string (crate_type_text t)) (get_member (codes "crate-type") ms) l.crate_types
+  pub name : Holds string (get_member (codes "name") ms) l.name
+  pub letters : IfSome l.name (λ name. is_crate_name name ≡ true)
+  pub path : HoldsPath (get_member (codes "path") ms) l.path
+  pub no_macro : HoldsOr false boolean (get_member (codes "proc-macro") ms) false
+
+-- a `[[bin]]`
+pub record IsBinaryTable (ms : Members) (b : Binary) : Type 0 where
+  pub name : get_member (codes "name") ms ≡ Some (string b.name)
+  pub letters : is_name b.name ≡ true
+  pub path : HoldsPath (get_member (codes "path") ms) b.path
+  pub required_features : Lists string (get_member (codes "required-features") ms) b.required_features
+
+-- an entry of `[features]`: a list of items, each spelled `F`, `dep:N`, `N/F` or `N?/F`
+pub record IsFeatureEntry (name : List ℕ) (d : Data) (f : Feature) : Type 0 where
+  pub name_is : f.name ≡ name
+  pub letters : is_feature_name name ≡ true
+  pub listed : d ≡ array (items (map (λ i. string (item_text i)) f.items))
+  pub items_are : AllByRecursion IsItem f.items

@@ -1,0 +1,88 @@
+-- What `[profile.*]` says, key by key (The Cargo Book, Profiles).
+use Rattle.std.specs.Prelude.{◌≡◌, ◌≤◌, ℕ, pos, true, false, List, [], ◌∷◌, codes, Option, Some, None, IfSome, Contains}
+use Rattle.toml.specs.Data.{Data, string, integer, boolean, table, Members, get_member}
+use Rattle.pb_manifest.specs.Profiles.{may_be_profile}
+use Rattle.pb_manifest.specs.declared.profile.OptLevel.{OptLevel}
+use Rattle.pb_manifest.specs.declared.profile.OptLevel.TheVariants.{Zero, One, Two, Three, Size, SmallestSize}
+use Rattle.pb_manifest.specs.declared.profile.DebugInfo.{DebugInfo}
+use Rattle.pb_manifest.specs.declared.profile.DebugInfo.TheVariants as debug
+use Rattle.pb_manifest.specs.declared.profile.Lto.{Lto}
+use Rattle.pb_manifest.specs.declared.profile.Lto.TheVariants as lto
+use Rattle.pb_manifest.specs.declared.profile.Panic.{Panic}
+use Rattle.pb_manifest.specs.declared.profile.Panic.TheVariants.{Unwind, Abort}
+use Rattle.pb_manifest.specs.declared.profile.Strip.{Strip}
+use Rattle.pb_manifest.specs.declared.profile.Strip.TheVariants as strip
+use Rattle.pb_manifest.specs.declared.profile.ProfileKeys.{ProfileKeys}
+use Rattle.pb_manifest.specs.declared.profile.ProfileOverride.{ProfileOverride}
+use Rattle.pb_manifest.specs.declared.profile.Profile.{Profile}
+use Rattle.pb_manifest_laws.specs.Values.{Holds, IsTableAt, AreEntriesAt}
+
+-- how each value may be written
+
+abbrev pub opt_levels : OptLevel → List Data
+opt_levels Zero = integer (pos 0) ∷ []
+opt_levels One = integer (pos 1) ∷ []
+opt_levels Two = integer (pos 2) ∷ []
+opt_levels Three = integer (pos 3) ∷ []
+opt_levels Size = string (codes "s") ∷ []
+opt_levels SmallestSize = string (codes "z") ∷ []
+
+abbrev pub debug_infos : DebugInfo → List Data
+debug_infos debug.Nothing = boolean false ∷ integer (pos 0) ∷ string (codes "none") ∷ []
+debug_infos debug.Limited = integer (pos 1) ∷ string (codes "limited") ∷ []
+debug_infos debug.Full = boolean true ∷ integer (pos 2) ∷ string (codes "full") ∷ []
+debug_infos debug.LineTablesOnly = string (codes "line-tables-only") ∷ []
+debug_infos debug.LineDirectivesOnly = string (codes "line-directives-only") ∷ []
+
+abbrev pub ltos : Lto → List Data
+ltos lto.ThinLocal = boolean false ∷ []
+ltos lto.Fat = boolean true ∷ string (codes "fat") ∷ []
+ltos lto.Thin = string (codes "thin") ∷ []
+ltos lto.Off = string (codes "off") ∷ []
+
+abbrev pub strips : Strip → List Data
+strips strip.Nothing = boolean false ∷ string (codes "none") ∷ []
+strips strip.DebugInfo = string (codes "debuginfo") ∷ []
+strips strip.Symbols = boolean true ∷ string (codes "symbols") ∷ []
+
+abbrev pub panics : Panic → List Data
+panics Unwind = string (codes "unwind") ∷ []
+panics Abort = string (codes "abort") ∷ []
+
+-- a key holds a value in one of its forms; nothing is read just where it is left out
+abbrev pub HoldsOne : {A : Type 0} → (A → List Data) → Option Data → Option A → Type 0
+HoldsOne forms None None = Unit {0}
+HoldsOne forms None (Some x) = ⊥
+HoldsOne forms (Some d) None = ⊥
+HoldsOne forms (Some d) (Some x) = Contains (forms x) d
+
+-- what a profile or an override sets; `codegen-units` is from 1 to 65,536
+pub record AreSettings (ms : Members) (keys : ProfileKeys) : Type 0 where
+  pub codegen_units : Holds (λ n. integer (pos n)) (get_member (codes "codegen-units") ms) keys.codegen_units
+  pub units_are : IfSome keys.codegen_units (λ n. (1 ≤ n) × (n ≤ 65536))
+  pub debug_is : HoldsOne debug_infos (get_member (codes "debug") ms) keys.debug
+  pub debug_assertions : Holds boolean (get_member (codes "debug-assertions") ms) keys.debug_assertions
+  pub lto_is : HoldsOne ltos (get_member (codes "lto") ms) keys.lto
+  pub opt_level : HoldsOne opt_levels (get_member (codes "opt-level") ms) keys.opt_level
+  pub overflow_checks : Holds boolean (get_member (codes "overflow-checks") ms) keys.overflow_checks
+  pub panic : HoldsOne panics (get_member (codes "panic") ms) keys.panic
+  pub rpath : Holds boolean (get_member (codes "rpath") ms) keys.rpath
+  pub strip_is : HoldsOne strips (get_member (codes "strip") ms) keys.strip
+
+-- an override, by the name of a package
+pub record IsOverrideEntry (name : List ℕ) (d : Data) (o : ProfileOverride) : Type 0 where
+  pub name_is : o.name ≡ name
+  pub inner : Members
+  pub is_table : d ≡ table inner
+  pub keys : AreSettings inner o.keys
+
+-- a profile; one that is not built in has a name that may be its own, and `inherits`
+pub record IsProfileEntry (name : List ℕ) (d : Data) (p : Profile) : Type 0 where
+  pub name_is : p.name ≡ name
+  pub inner : Members
+  pub is_table : d ≡ table inner
+  pub keys : AreSettings inner p.keys
+  pub inherits : Holds string (get_member (codes "inherits") inner) p.inherits
+  pub may_be : may_be_profile name p.inherits ≡ true
+  pub packages : AreEntriesAt IsOverrideEntry (get_member (codes "package") inner) p.packages
+  pub build_override : IsTableAt AreSettings (get_member (codes "build-override") inner) p.build_override

@@ -1,0 +1,10 @@
+pub mod Sorting
+pub mod Features
+pub mod Entries
+pub mod Keys
+pub mod BinPlaces
+pub mod Binaries
+pub mod AllBinaries
+pub mod Fine
+pub mod Members
+pub mod Whole

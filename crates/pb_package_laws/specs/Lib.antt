@@ -1,0 +1,4 @@
+pub mod Packages
+pub mod Binaries
+pub mod Members
+pub mod Laws

@@ -1,0 +1,163 @@
+-- A package that was read, in the words of The Cargo Book (Manifest Format, Cargo Targets, Build Scripts, Features, Specifying Dependencies, Workspaces). `sources` is the world without what lies at or below the target folder.
+use Rattle.std.specs.Prelude.{◌≡◌, ◌≢◌, ◌↔◌, ℕ, Bool, true, not, ◌||◌, codes, is_some, List, [], ◌∷◌, ◌++◌, map, Option, Some, None, IfSome, Contains, slice_get, unwrap_or}
+use Rattle.std.specs.FinMap as finite
+use Rattle.std.specs.List.{find, join_by}
+use Rattle.std.specs.Option.{option_map}
+use Rattle.std.specs.Str.{bytes_eq}
+use Rattle.pb_manifest.specs.Letters.{underscored}
+use Rattle.pb_manifest.specs.Versions.{matches}
+use Rattle.pb_manifest.specs.declared.dependency.Dependency.{Dependency}
+use Rattle.pb_manifest.specs.declared.dependency.PathSource.{PathSource}
+use Rattle.pb_manifest.specs.declared.dependency.Source.TheVariants as source
+use Rattle.pb_manifest.specs.declared.dependency.WorkspaceDependency.{WorkspaceDependency}
+use Rattle.pb_manifest.specs.declared.dependency.WorkspaceSource.TheVariants as shared
+use Rattle.pb_manifest.specs.declared.feature.Feature.{Feature}
+use Rattle.pb_manifest.specs.declared.feature.FeatureItem.TheVariants as item
+use Rattle.pb_manifest.specs.declared.inherited.Inheritable.{Inheritable}
+use Rattle.pb_manifest.specs.declared.inherited.Inheritable.TheVariants as text
+use Rattle.pb_manifest.specs.declared.inherited.Inherited.{Inherited}
+use Rattle.pb_manifest.specs.declared.inherited.Inherited.TheVariants as key
+use Rattle.pb_manifest.specs.declared.manifest.Manifest.{Manifest}
+use Rattle.pb_manifest.specs.declared.package.Build.{Build}
+use Rattle.pb_manifest.specs.declared.package.Build.TheVariants as build
+use Rattle.pb_manifest.specs.declared.package.Package.{Package as Written}
+use Rattle.pb_manifest.specs.declared.target.CrateType.TheVariants.{Lib}
+use Rattle.pb_manifest.specs.declared.target.Library.{Library as WrittenLibrary}
+use Rattle.pb_package.specs.Settled.{IsAscending}
+use Rattle.pb_package.specs.declared.package.DependencyKind.{DependencyKind}
+use Rattle.pb_package.specs.declared.package.DependencyKind.TheVariants.{Normal, Build as ForScript}
+use Rattle.pb_package.specs.declared.package.Entry.{Entry}
+use Rattle.pb_package.specs.declared.package.Library.{Library}
+use Rattle.pb_package.specs.declared.package.Package.{Package}
+use Rattle.pb_package.specs.declared.workspace.Workspace.{Workspace}
+use Rattle.pb_place.specs.Paths.{below}
+use Rattle.pb_place.specs.World.{World}
+use Rattle.pb_workspace.specs.Sources.{resolved}
+use Rattle.pb_workspace.specs.Taken.{from_member, readme_text, given_readme}
+use Rattle.pb_workspace.specs.declared.settling.Given.{Given}
+
+-- Files.
+
+-- a name of a file of the sources, from this folder
+abbrev pub is_file : World → List ℕ → List ℕ → Bool
+is_file sources folder name = is_some (finite.get sources.files (below folder name))
+
+-- the first of these names that is one
+abbrev pub first_file : World → List ℕ → List (List ℕ) → Option (List ℕ)
+first_file sources folder names = find (is_file sources folder) names
+
+-- its path
+abbrev pub first_path : World → List ℕ → List (List ℕ) → Option (List ℕ)
+first_path sources folder names = option_map (below folder) (first_file sources folder names)
+
+-- Keys.
+
+-- the package's own value, or its workspace's where it says `KEY.workspace = true`
+abbrev pub IsOwnOrTaken : {A : Type 0} → Inherited A → Option A → A → Type 0
+IsOwnOrTaken (key.Written x) given value = value ≡ x
+IsOwnOrTaken key.Workspace given value = given ≡ Some value
+
+-- a text: what it makes of the package's own, of the workspace's, and of none
+abbrev pub IsText : {A : Type 0} → (A → List ℕ) → (A → List ℕ) → List ℕ → Inheritable A → Option A → List ℕ → Type 0
+IsText {A} own taken none (text.Written x) given value = value ≡ own x
+IsText {A} own taken none text.Workspace given value = (x : A) × (given ≡ Some x) × (value ≡ taken x)
+IsText {A} own taken none text.Absent given value = value ≡ none
+
+abbrev pub IsPlainText : Inheritable (List ℕ) → Option (List ℕ) → List ℕ → Type 0
+IsPlainText = IsText (λ x. x) (λ x. x) []
+
+-- the authors, with `:` between them
+abbrev pub with_colons : List (List ℕ) → List ℕ
+with_colons authors = join_by (λ author. author) (codes ":") authors
+
+-- Targets.
+
+-- the build script: `build.rs` where that is a file, unless `build` says `true`, `false` or a path
+abbrev pub script : World → List ℕ → Build → Option (List ℕ)
+script sources folder build.Discovered = first_path sources folder (codes "build.rs" ∷ [])
+script sources folder build.Standard = Some (below folder (codes "build.rs"))
+script sources folder build.Never = None
+script sources folder (build.At path) = Some (resolved folder path)
+
+-- the path that a table writes, or else this one of the package's folder
+abbrev pub path_or : List ℕ → List ℕ → Option (List ℕ) → List ℕ
+path_or folder name None = below folder name
+path_or folder name (Some path) = resolved folder path
+
+-- a library that is not said to be of another kind is of the kind `lib`
+pub record IsOfTable (folder name : List ℕ) (l : WrittenLibrary) (library : Library) : Type 0 where
+  pub called : library.name ≡ unwrap_or l.name (underscored name)
+  pub kinds : l.crate_types ≢ [] → library.crate_types ≡ l.crate_types
+  pub kind : l.crate_types ≡ [] → library.crate_types ≡ Lib ∷ []
+  pub source : library.source ≡ path_or folder (codes "src/lib.rs") l.path
+
+-- the library: that of `[lib]`, and without that table there is one where `src/lib.rs` is a file
+abbrev pub IsLibrary : World → List ℕ → List ℕ → Option WrittenLibrary → Option Library → Type 0
+IsLibrary sources folder name (Some l) (Some library) = IsOfTable folder name l library
+IsLibrary sources folder name (Some l) None = ⊥
+IsLibrary sources folder name None library = library ≡ option_map (λ path. record { name = underscored name; crate_types = Lib ∷ []; source = path }) (first_path sources folder (codes "src/lib.rs" ∷ []))
+
+-- Features.
+
+-- a feature that is written; or that an optional entry makes, of the entry's key and with the one item `dep:KEY`, unless that item or a feature of that name is written
+pub data IsFeature (m : Manifest) (f : Feature) : Type 0 where
+  written : (is : Contains m.features f) → IsFeature m f
+  made : (d : Dependency) (entry : Contains (m.dependencies ++ m.build_dependencies) d) (optional : d.optional ≡ true) (name : f.name ≡ d.key) (items : f.items ≡ item.Dependency d.key ∷ [])
+      (no_item : (g : Feature) → Contains m.features g → Contains g.items (item.Dependency d.key) → ⊥) (no_feature : (g : Feature) → Contains m.features g → g.name ≢ d.key) → IsFeature m f
+
+-- Entries.
+
+-- an entry asks for the package at a path from this folder: that package is there, it has the name that `package` says, or else the entry's key, and its version matches
+pub record AsksFor (base : List ℕ) (default : Bool) (features : List (List ℕ)) (s : PathSource) (ws : Workspace) (e : Entry) : Type 0 where
+  pub default_features : e.default_features ≡ default
+  pub features_are : e.features ≡ features
+  pub renamed : e.renamed ≡ not (bytes_eq (unwrap_or s.package e.key) e.key)
+  pub found : Package
+  pub there : slice_get ws.packages e.to ≡ Some found
+  pub folder : found.folder ≡ resolved base s.path
+  pub name : found.name ≡ unwrap_or s.package e.key
+  pub version : IfSome s.version (λ requirement. matches requirement found.version ≡ true)
+
+-- an entry with a path of its own; or the workspace's entry of its key, from the root's folder, with the features of both, and with `default` where one of the two asks for it
+pub data IsFrom (root folder : List ℕ) (entries : List WorkspaceDependency) (ws : Workspace) (d : Dependency) (e : Entry) : Type 0 where
+  path : (s : PathSource) (is : d.source ≡ source.Path s) (asks : AsksFor folder s.default_features d.features s ws e) → IsFrom root folder entries ws d e
+  workspace : (default : Bool) (is : d.source ≡ source.Workspace default) (w : WorkspaceDependency) (there : Contains entries w) (same : w.key ≡ d.key) (s : PathSource) (has_path : w.source ≡ shared.Path s)
+      (asks : AsksFor root (s.default_features || default) (w.features ++ d.features) s ws e) → IsFrom root folder entries ws d e
+
+pub record IsEntry (root folder : List ℕ) (entries : List WorkspaceDependency) (ws : Workspace) (kind : DependencyKind) (d : Dependency) (e : Entry) : Type 0 where
+  pub key_is : e.key ≡ d.key
+  pub kind_is : e.kind ≡ kind
+  pub optional : e.optional ≡ d.optional
+  pub from : IsFrom root folder entries ws d e
+
+-- one for one, in this order
+abbrev pub AreOneForOne : {A B : Type 0} → (A → B → Type 0) → List A → List B → Type 0
+AreOneForOne Is [] [] = Unit {0}
+AreOneForOne Is [] (y ∷ ys) = ⊥
+AreOneForOne Is (x ∷ xs) [] = ⊥
+AreOneForOne Is (x ∷ xs) (y ∷ ys) = Is x y × AreOneForOne Is xs ys
+
+-- A package of a workspace whose root folder and entries are these, with the manifest `m` and its `[package]` table `w`.
+pub record IsPackageOf (sources : World) (root : List ℕ) (given : Given) (ws : Workspace) (m : Manifest) (w : Written) (p : Package) : Type 0 where
+  pub name : p.name ≡ w.name
+  pub version : IsOwnOrTaken w.version given.package.version p.version
+  pub edition : IsOwnOrTaken w.edition given.package.edition p.edition
+  pub authors : IsText with_colons with_colons [] w.authors given.package.authors p.about.authors
+  pub description : IsPlainText w.description given.package.description p.about.description
+  pub homepage : IsPlainText w.homepage given.package.homepage p.about.homepage
+  pub license : IsPlainText w.license given.package.license p.about.license
+  pub license_file : IsText (λ path. path) (from_member root p.folder) [] w.license_file given.package.license_file p.about.license_file
+  pub readme : IsText readme_text (given_readme root p.folder) (unwrap_or (first_file sources p.folder (codes "README.md" ∷ codes "README.txt" ∷ codes "README" ∷ [])) []) w.readme given.package.readme p.about.readme
+  pub repository : IsPlainText w.repository given.package.repository p.about.repository
+  pub rust_version : IsPlainText w.rust_version given.package.rust_version p.about.rust_version
+  pub links : p.links ≡ w.links
+  pub library : IsLibrary sources p.folder w.name m.library p.library
+  pub script_is : p.script ≡ script sources p.folder w.build
+  pub features_order : IsAscending (map (λ (f : Feature). f.name) p.features)
+  pub features : (f : Feature) → Contains p.features f ↔ IsFeature m f
+  pub normal : List Entry
+  pub for_script : List Entry
+  pub entries : p.entries ≡ normal ++ for_script
+  pub of_dependencies : AreOneForOne (IsEntry root p.folder given.dependencies ws Normal) m.dependencies normal
+  pub of_build_dependencies : AreOneForOne (IsEntry root p.folder given.dependencies ws ForScript) m.build_dependencies for_script
+  pub development : p.development ≡ m.dev_dependencies
