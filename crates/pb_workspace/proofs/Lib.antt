@@ -7,6 +7,9 @@ pub mod Listed
 pub mod BinPaths
 pub mod Promised
 pub mod Steps
+pub mod EachOne
+pub mod Looking
+pub mod LookingOver
 pub mod Puttings
 pub mod Naming
 pub mod Keeping

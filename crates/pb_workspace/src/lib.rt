@@ -21,6 +21,7 @@ pub mod listings;
 pub mod loading;
 pub mod member;
 pub mod member_folders;
+pub mod normal_paths;
 pub mod places;
 pub mod rounds;
 pub mod selecting;
@@ -35,6 +36,7 @@ pub use laws::{
     workspaces_look_at_sources,
 };
 pub use loading::load;
+pub use normal_paths::workspace_has_paths;
 pub use pb_package::{
     About, BinariesByName, Binary, DefaultMembers, DependencyKind, EntriesByKey, Entry,
     FeaturesByName, Library, LoadFault, Options, Package, Selection, Side, Workspace,
