@@ -104,9 +104,9 @@ module _ (target : List ℕ) (f : Frame) (begun : Reading) (w : World) where
   unfolding others_looked
   others_looks meant folders one two read result old first mid new are put same then begins is before more =
       let whole : Looks result (all_at w meant ++ after (all_of w meant) (rounds_at w meant)) first new =
-          looks_step result (λ v r. rounds_at v meant r) (λ v. all_of v meant) (λ v. all_at v meant) read w one two first mid new same then
-          (subst (λ xs. all_read (draft_at (from_nothing target one) f meant) begun xs ≡ Ok read) put is)
-          (subst (λ xs. mid ≡ past_calls (all_looked (draft_at (from_nothing target one) f meant) (folder_looked target (from_nothing target one) f) begun xs) first) put before) more in
+      looks_step result (λ v r. rounds_at v meant r) (λ v. all_of v meant) (λ v. all_at v meant) read w one two first mid new same then
+      (subst (λ xs. all_read (draft_at (from_nothing target one) f meant) begun xs ≡ Ok read) put is)
+      (subst (λ xs. mid ≡ past_calls (all_looked (draft_at (from_nothing target one) f meant) (folder_looked target (from_nothing target one) f) begun xs) first) put before) more in
       looks_both result (members_looked target f) _ old first new begins (subst (λ m. Looks result (all_at w m ++ after (all_of w m) (rounds_at w m)) first new) are whole)
 
   pub others_stop : (meant : Members) (folders : List (List ℕ)) (one : World) (e : LoadFault) (old first new : Counts)
@@ -117,9 +117,9 @@ module _ (target : List ℕ) (f : Frame) (begun : Reading) (w : World) where
   unfolding others_looked
   others_stop meant folders one e old first new are put same begins told before =
       let whole : Ends e (all_at w meant ++ after (all_of w meant) (rounds_at w meant)) first new =
-          looks_stop e (λ v r. rounds_at v meant r) (λ v. all_of v meant) (λ v. all_at v meant) w one first new same
-          (λ inside. subst (λ xs. all_read (draft_at (from_nothing target one) f meant) begun xs ≡ Err e) put (told inside))
-          (subst (λ xs. Ends e (all_looked (draft_at (from_nothing target one) f meant) (folder_looked target (from_nothing target one) f) begun xs) first new) put before) in
+      looks_stop e (λ v r. rounds_at v meant r) (λ v. all_of v meant) (λ v. all_at v meant) w one first new same
+      (λ inside. subst (λ xs. all_read (draft_at (from_nothing target one) f meant) begun xs ≡ Err e) put (told inside))
+      (subst (λ xs. Ends e (all_looked (draft_at (from_nothing target one) f meant) (folder_looked target (from_nothing target one) f) begun xs) first new) put before) in
       ends_both e (members_looked target f) _ old first new begins (subst (λ m. Ends e (all_at w m ++ after (all_of w m) (rounds_at w m)) first new) are whole)
 
   pub others_none : (e : LoadFault) (old first : Counts) → is_outside e ≡ true → is_failure e ≡ false → first ≡ past_calls (members_looked target f) old → Ends e (others_looked target (from_nothing target w) f begun) old first

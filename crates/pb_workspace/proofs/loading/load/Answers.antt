@@ -50,6 +50,6 @@ pub returns-in_err-parts-clause-looks : goal.returns-in_err-parts-clause-looks
 unfolding looked_at
 returns-in_err-parts-clause-looks g c told =
     let h = looks_stop c.in_err-parts.field-0.0
-            (λ w parts. packages_looked c.args.target.now (from_nothing c.args.target.now w) (frame_of (folder_of c.args.manifest.now) c.args.manifest.now parts.workspace) parts.tables parts.found)
-            (λ w. root_parts (from_nothing c.args.target.now w) c.args.manifest.now) (λ w. root_looked c.args.target.now c.args.manifest.now) (g.P.Place.world c.args.place.now) (g.P.Place.world c.args.place.now) (g.P.Place.counts c.args.place.now) (g.P.Place.counts c.root_parts.new.place) refl (c.in_err-parts.ensures.ok told) c.in_err-parts.ensures.looks in
+    (λ w parts. packages_looked c.args.target.now (from_nothing c.args.target.now w) (frame_of (folder_of c.args.manifest.now) c.args.manifest.now parts.workspace) parts.tables parts.found)
+    (λ w. root_parts (from_nothing c.args.target.now w) c.args.manifest.now) (λ w. root_looked c.args.target.now c.args.manifest.now) (g.P.Place.world c.args.place.now) (g.P.Place.world c.args.place.now) (g.P.Place.counts c.args.place.now) (g.P.Place.counts c.root_parts.new.place) refl (c.in_err-parts.ensures.ok told) c.in_err-parts.ensures.looks in
     search (rules, h)

@@ -16,13 +16,13 @@ returns-in_err-folders-clause-looks g c told =
 pub returns-in_err-read-clause-looks : goal.returns-in_err-read-clause-looks
 returns-in_err-read-clause-looks g c told =
     let h = others_stop c.args.target.now c.args.frame.now c.args.begun (g.P.Place.world c.args.place.now) c.in_ok-meant.meant c.in_ok-folders.folders (g.P.Place.world c.member_folders.new.place) c.in_err-read.field-0.0 (g.P.Place.counts c.args.place.now) (g.P.Place.counts c.member_folders.new.place) (g.P.Place.counts c.all_read.new.place)
-            (c.in_ok-meant.ensures.ok told) c.in_ok-folders.ensures (c.in_ok-meant.ensures.same told) c.in_ok-meant.ensures.looks (c.in_err-read.ensures.ok told) (c.in_err-read.ensures.looks told) in
+    (c.in_ok-meant.ensures.ok told) c.in_ok-folders.ensures (c.in_ok-meant.ensures.same told) c.in_ok-meant.ensures.looks (c.in_err-read.ensures.ok told) (c.in_err-read.ensures.looks told) in
     search (rules, h)
 
 pub returns-in_err-read-2-clause-looks : goal.returns-in_err-read-2-clause-looks
 returns-in_err-read-2-clause-looks g c told =
     let h = others_looks c.args.target.now c.args.frame.now c.args.begun (g.P.Place.world c.args.place.now) c.in_ok-meant.meant c.in_ok-folders.folders (g.P.Place.world c.member_folders.new.place) (g.P.Place.world c.all_read.new.place) c.in_ok-read.read (Err c.in_err-read-2.field-0.0) (g.P.Place.counts c.args.place.now) (g.P.Place.counts c.member_folders.new.place) (g.P.Place.counts c.all_read.new.place) (g.P.Place.counts c.rounds.new.place)
-            (c.in_ok-meant.ensures.ok told) c.in_ok-folders.ensures (c.in_ok-meant.ensures.same told) (c.in_ok-read.ensures.same told ∙ c.in_ok-meant.ensures.same told) c.in_ok-meant.ensures.looks (c.in_ok-read.ensures.ok told) (c.in_ok-read.ensures.looks told) (c.in_err-read-2.ensures.looks told) in
+    (c.in_ok-meant.ensures.ok told) c.in_ok-folders.ensures (c.in_ok-meant.ensures.same told) (c.in_ok-read.ensures.same told ∙ c.in_ok-meant.ensures.same told) c.in_ok-meant.ensures.looks (c.in_ok-read.ensures.ok told) (c.in_ok-read.ensures.looks told) (c.in_err-read-2.ensures.looks told) in
     search (rules, h)
 
 pub returns-clause-looks : goal.returns-clause-looks

@@ -25,5 +25,5 @@ pub returns-in_err-parts-clause-looks : goal.returns-in_err-parts-clause-looks
 unfolding file_looked
 returns-in_err-parts-clause-looks g c told =
     let h = looks_no_further c.in_err-parts.field-0.0 (parts_at (from_nothing c.args.target.now (g.P.Place.world c.args.place.now)) c.args.at.manifest) (λ parts. package_looked c.args.target.now c.args.at.folder parts.found) (looked c.args.target.now c.args.at.manifest) (g.P.Place.counts c.args.place.now) (g.P.Place.counts c.parts_at.new.place)
-            (c.in_err-parts.ensures.ok told) c.in_err-parts.ensures.looks in
+    (c.in_err-parts.ensures.ok told) c.in_err-parts.ensures.looks in
     search (rules, h)
