@@ -21,3 +21,4 @@ pub mod WholeWorkspace
 pub mod GlobRelation
 pub mod Chosen
 pub mod Accepted
+pub mod FoundSources
