@@ -9,7 +9,7 @@ use Rattle.pb_place.proofs.PathLemmas.{and_left, and_right}
 use Rattle.pb_package.proofs.NamesInPaths.{either, leads_on, no_dot, no_slash, no_zero, unlike, without}
 
 -- a name with an ending, cut at slashes, has its first cut in the ending
-cut_after : (name ending first : List ℕ) (rest : List (List ℕ)) → list_all letters.is_name_byte name ≡ true → parts_of ending ≡ first ∷ rest → parts_of (name ++ ending) ≡ (name ++ first) ∷ rest
+pub cut_after : (name ending first : List ℕ) (rest : List (List ℕ)) → list_all letters.is_name_byte name ≡ true → parts_of ending ≡ first ∷ rest → parts_of (name ++ ending) ≡ (name ++ first) ∷ rest
 cut_after [] ending first rest all is = is
 cut_after (b ∷ name) ending first rest all is =
     ap (λ t. cond t ([] ∷ parts_of (name ++ ending)) (onto_first b (parts_of (name ++ ending)))) (unlike 47 b no_slash (and_left _ _ all))

@@ -7,6 +7,9 @@ pub mod Listed
 pub mod BinPaths
 pub mod Promised
 pub mod Steps
+pub mod EachOne
+pub mod Looking
+pub mod LookingOver
 pub mod Puttings
 pub mod Naming
 pub mod Keeping
@@ -18,3 +21,4 @@ pub mod WholeWorkspace
 pub mod GlobRelation
 pub mod Chosen
 pub mod Accepted
+pub mod FoundSources

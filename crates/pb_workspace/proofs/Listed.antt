@@ -63,7 +63,7 @@ not_root : (s rest : List ℕ) (c : ℕ) → bytes_eq (s ++ 47 ∷ c ∷ rest) (
 not_root [] rest c = refl
 not_root (a ∷ s) rest c = ap (λ b. (a == 47) && b) (not_empty s (c ∷ rest) 47) ∙ and_false (a == 47)
 
-below_twice : (folder first rest : List ℕ) (c : ℕ) → below folder ((c ∷ first) ++ 47 ∷ rest) ≡ below (below folder (c ∷ first)) rest
+pub below_twice : (folder first rest : List ℕ) (c : ℕ) → below folder ((c ∷ first) ++ 47 ∷ rest) ≡ below (below folder (c ∷ first)) rest
 below_twice folder first rest c =
     sym (append_assoc (stem folder) (47 ∷ c ∷ first) (47 ∷ rest)) ∙ sym (ap (λ b. cond b [] (below folder (c ∷ first)) ++ 47 ∷ rest) (not_root (stem folder) first c))
 

@@ -24,6 +24,8 @@ pub mod Places
 pub mod Checks
 pub mod Assembled
 pub mod Loaded
+pub mod LookedAt
+pub mod NormalPaths
 pub mod Drafted
 pub mod PackageFolders
 pub mod GlobWords

@@ -4,6 +4,7 @@ ghost use Rattle.std.specs.Prelude.{◌≡◌, All, IfErr, IsTrue, false, true, 
 ghost use Rattle.pb_data.specs.Gives.{Gives};
 ghost use Rattle.pb_place.specs.World.{World, from_nothing};
 ghost use Rattle.pb_manifest.specs.Letters.{is_name};
+ghost use Rattle.pb_workspace.specs.LookedAt.{Looks, listings_at};
 ghost use Rattle.pb_workspace.specs.Causes.{is_failure, Told, Reads};
 ghost use Rattle.pb_workspace.specs.Listings.{AreListingsOf};
 ghost use Rattle.pb_workspace.specs.Drafts.{lists_of, draft_from, draft_with, draft_of};
@@ -234,6 +235,7 @@ pub fn draft_of<P: Place>(
     ensures same { IsTrue P.tells → P.world place.new ≡ P.world place.old }
     ensures most { P.most place.new ≡ P.most place.old }
     ensures reads { Reads result (P.counts place.old) (P.counts place.new) }
+    ensures looks { Looks result (listings_at target.now at.folder) (P.counts place.old) (P.counts place.new) }
 {
     let listings = listings_of(alloc, place, target, &at.folder)?;
     draft_seen(alloc, &listings, at, is_member, given, found, tables)

@@ -1,7 +1,7 @@
 //! Laws of workspaces. Each function does nothing; its contract is the law.
 
 ghost use Rattle.pb_workspace.specs.GlobWords.{DecidesGlobs};
-ghost use Rattle.pb_workspace.specs.Laws.{NamesDiffer, HasTarget, HasRoot, LooksAtSources};
+ghost use Rattle.pb_workspace.specs.Laws.{NamesDiffer, HasTarget, HasRoot, LooksAtSources, FoundAsLookedFor};
 ghost use Rattle.pb_workspace.specs.PackageFolders.{AreOfTheirFolders, AreTheLeastSet, FuelIsEnough};
 
 /// The folders of the packages of a workspace that was read are exactly the least set that holds the root package's,
@@ -37,4 +37,10 @@ pub fn workspaces_are_settled()
 /// same refusal.
 pub fn workspaces_look_at_sources()
     ensures { LooksAtSources }
+{}
+
+/// A binary that is found has the source that a `[[bin]]` of its name would have that writes no path (The Cargo Book,
+/// Cargo Targets): what is found and what is looked for are told in opposite orders, and agree.
+pub fn found_binaries_are_looked_for()
+    ensures { FoundAsLookedFor }
 {}

@@ -21,6 +21,7 @@ pub mod listings;
 pub mod loading;
 pub mod member;
 pub mod member_folders;
+pub mod normal_paths;
 pub mod places;
 pub mod rounds;
 pub mod selecting;
@@ -31,10 +32,11 @@ pub mod taken;
 pub mod wanted;
 
 pub use laws::{
-    globs_stand_for_names, packages_are_the_least_set, rounds_are_enough, workspaces_are_settled,
-    workspaces_look_at_sources,
+    found_binaries_are_looked_for, globs_stand_for_names, packages_are_the_least_set,
+    rounds_are_enough, workspaces_are_settled, workspaces_look_at_sources,
 };
 pub use loading::load;
+pub use normal_paths::workspace_has_paths;
 pub use pb_package::{
     About, BinariesByName, Binary, DefaultMembers, DependencyKind, EntriesByKey, Entry,
     FeaturesByName, Library, LoadFault, Options, Package, Selection, Side, Workspace,

@@ -3,6 +3,7 @@
 ghost use Rattle.std.specs.Prelude.{◌≡◌, IfOk, IfErr, IsTrue, true, if◌then◌else◌, Some, None};
 ghost use Rattle.pb_place.specs.Paths.{is_relative};
 ghost use Rattle.pb_place.specs.World.{World, from_nothing};
+ghost use Rattle.pb_workspace.specs.LookedAt.{Looks, listings_at};
 ghost use Rattle.pb_workspace.specs.Causes.{is_outside, Reads};
 ghost use Rattle.pb_workspace.specs.Listings.{AreListingsOf, is_listed, is_among, is_seen};
 ghost use Rattle.pb_workspace.specs.Sources.{has_own_file, own_source};
@@ -36,6 +37,7 @@ pub fn listings_of<P: Place>(
     ensures most { P.most place.new ≡ P.most place.old }
     ensures outside { IfErr result (λ e. is_outside e ≡ true) }
     ensures reads { Reads result (P.counts place.old) (P.counts place.new) }
+    ensures looks { Looks result (listings_at target.now folder.now) (P.counts place.old) (P.counts place.new) }
 {
     let src = own_path(alloc, folder, "src")?;
     let bin = own_path(alloc, folder, "src/bin")?;

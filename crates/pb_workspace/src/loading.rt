@@ -8,10 +8,12 @@ ghost use Rattle.pb_manifest.specs.Letters.{is_name};
 ghost use Rattle.pb_workspace.specs.ByFolder.{values_of};
 ghost use Rattle.pb_data.specs.Gives.{Gives};
 ghost use Rattle.pb_package.specs.declared.fault.LoadFault.TheVariants as load_fault;
+ghost use Rattle.pb_workspace.specs.LookedAt.{Looks, listings_at, package_looked, root_looked, others_looked, packages_looked, looked_at};
 ghost use Rattle.pb_workspace.specs.Causes.{is_failure, Told, Reads};
 ghost use Rattle.pb_workspace.specs.Frames.{frame_of};
 ghost use Rattle.pb_workspace.specs.Loaded.{root_parts, at_root, nothing_read, root_read, others_read, packages_read, workspace_from, workspace_in, workspace_of};
 ghost use Rattle.pb_workspace.specs.Drafted.{ArePromised, HasSharedInOrder, IsReading};
+ghost use Rattle.pb_workspace.specs.NormalPaths.{HasNormalPaths};
 ghost use Rattle.pb_package.specs.Settled.{IsSettled};
 
 use crate::assembled::assembled;
@@ -20,6 +22,7 @@ use crate::checks::fault_of;
 use crate::draft::{Draft, Tables, draft_of};
 use crate::frame::{Frame, frame_of};
 use crate::member_folders::{is_manifest, member_folders};
+use crate::normal_paths::workspace_has_paths;
 use crate::places::places_of;
 use crate::rounds::{
     ENOUGH_ROUNDS, Parts, Reading, all_read, no_manifest, parts_at, rounds, with_draft,
@@ -47,6 +50,7 @@ fn root_parts<P: Place>(
     ensures same { IsTrue P.tells → P.world place.new ≡ P.world place.old }
     ensures most { P.most place.new ≡ P.most place.old }
     ensures reads { Reads result (P.counts place.old) (P.counts place.new) }
+    ensures looks { Looks result (root_looked target.now path.now) (P.counts place.old) (P.counts place.new) }
 {
     if !is_manifest(path) {
         return Err(no_manifest(alloc, path));
@@ -105,6 +109,7 @@ fn root_package_read<P: Place>(
     ensures same { IsTrue P.tells → P.world place.new ≡ P.world place.old }
     ensures most { P.most place.new ≡ P.most place.old }
     ensures reads { Reads result (P.counts place.old) (P.counts place.new) }
+    ensures looks { Looks result (listings_at target.now frame.now.root) (P.counts place.old) (P.counts place.new) }
 {
     let at = at_root(alloc, frame)?;
     let draft = draft_of(alloc, place, target, at, true, &frame.given, found, tables)?;
@@ -130,6 +135,7 @@ fn root_read<P: Place>(
     ensures same { IsTrue P.tells → P.world place.new ≡ P.world place.old }
     ensures most { P.most place.new ≡ P.most place.old }
     ensures reads { Reads result (P.counts place.old) (P.counts place.new) }
+    ensures looks { Looks result (package_looked target.now frame.now.root found) (P.counts place.old) (P.counts place.new) }
 {
     match found {
         Some(found) => root_package_read(alloc, place, target, frame, tables, &found),
@@ -152,6 +158,7 @@ fn others_read<P: Place>(
     ensures same { IsTrue P.tells → P.world place.new ≡ P.world place.old }
     ensures most { P.most place.new ≡ P.most place.old }
     ensures reads { Reads result (P.counts place.old) (P.counts place.new) }
+    ensures looks { IsTrue P.tells → Looks result (others_looked target.now (from_nothing target.now (P.world place.old)) frame.now begun) (P.counts place.old) (P.counts place.new) }
 {
     let meant = member_folders(alloc, place, target, frame)?;
     let folders = meant.folders(alloc)?;
@@ -178,6 +185,7 @@ fn packages_read<P: Place>(
     ensures same { IsTrue P.tells → P.world place.new ≡ P.world place.old }
     ensures most { P.most place.new ≡ P.most place.old }
     ensures reads { Reads result (P.counts place.old) (P.counts place.new) }
+    ensures looks { IsTrue P.tells → Looks result (packages_looked target.now (from_nothing target.now (P.world place.old)) frame.now tables found) (P.counts place.old) (P.counts place.new) }
 {
     let begun = root_read(alloc, place, target, frame, tables, found)?;
     let read = others_read(alloc, place, target, frame, begun)?;
@@ -215,10 +223,12 @@ fn finished(
     requires { IsReading read }
     ensures told { Gives load_fault.OutOfMemory (λ ws. ws) result (workspace_from target.now frame.now profiles (values_of read.found)) }
     ensures settled { IfOk result IsSettled }
+    ensures paths { IfOk result HasNormalPaths }
     ensures here { IfErr result (λ e. is_failure e ≡ false) }
 {
     let drafts = read.found.into_values(alloc)?;
     let made = workspace_from(alloc, target, frame, profiles, drafts)?;
+    workspace_has_paths(&made);
     Ok(made)
 }
 
@@ -238,9 +248,11 @@ fn workspace_in<P: Place>(
     requires found_name { IfSome found (λ p. is_name p.name ≡ true) }
     ensures ok { IsTrue P.tells → Told result (workspace_in (from_nothing target.now (P.world place.old)) target.now frame.now profiles tables found) }
     ensures settled { IfOk result IsSettled }
+    ensures paths { IfOk result HasNormalPaths }
     ensures same { IsTrue P.tells → P.world place.new ≡ P.world place.old }
     ensures most { P.most place.new ≡ P.most place.old }
     ensures reads { Reads result (P.counts place.old) (P.counts place.new) }
+    ensures looks { IsTrue P.tells → Looks result (packages_looked target.now (from_nothing target.now (P.world place.old)) frame.now tables found) (P.counts place.old) (P.counts place.new) }
 {
     let read = packages_read(alloc, place, target, frame, tables, found)?;
     let made = finished(alloc, target, frame, profiles, read)?;
@@ -267,9 +279,11 @@ pub fn load<P: Place>(
 ) -> Result<Workspace, LoadFault>
     ensures ok { IsTrue P.tells → Told result (workspace_of manifest.now target.now (P.world place.old)) }
     ensures settled { IfOk result IsSettled }
+    ensures paths { IfOk result HasNormalPaths }
     ensures same { IsTrue P.tells → P.world place.new ≡ P.world place.old }
     ensures most { P.most place.new ≡ P.most place.old }
     ensures reads { Reads result (P.counts place.old) (P.counts place.new) }
+    ensures looks { IsTrue P.tells → Looks result (looked_at manifest.now target.now (P.world place.old)) (P.counts place.old) (P.counts place.new) }
 {
     let root = manifest.folder(alloc)?;
     let path = manifest.copy(alloc)?;

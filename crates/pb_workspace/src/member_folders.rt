@@ -4,6 +4,7 @@ ghost use Rattle.std.specs.Prelude.{◌≡◌, ◌++◌, [], ◌∷◌, IfOk, If
 ghost use Rattle.std.specs.List.{flat_map};
 ghost use Rattle.pb_place.specs.Paths.{folder_of};
 ghost use Rattle.pb_place.specs.World.{from_nothing, listed};
+ghost use Rattle.pb_workspace.specs.LookedAt.{Looks, looked, text_looked, members_looked};
 ghost use Rattle.pb_workspace.specs.Causes.{is_outside, Reads};
 ghost use Rattle.pb_workspace.specs.Sources.{resolved};
 ghost use Rattle.pb_workspace.specs.MemberFolders.{is_fixed, fixed_text, base_of, is_manifest, is_taken, folders_taken, folders_meant, member_folders};
@@ -120,6 +121,7 @@ fn folders_taken<P: Place>(
     ensures most { P.most place.new ≡ P.most place.old }
     ensures outside { IfErr result (λ e. is_outside e ≡ true) }
     ensures reads { Reads result (P.counts place.old) (P.counts place.new) }
+    ensures looks { Looks result (looked target.now (base_of parts.now)) (P.counts place.old) (P.counts place.new) }
 {
     let base = base_of(alloc, parts)?;
     let paths = listed_sources(alloc, place, target, &base)?;
@@ -154,6 +156,7 @@ fn folders_meant<P: Place>(
     ensures most { P.most place.new ≡ P.most place.old }
     ensures outside { IfErr result (λ e. is_outside e ≡ true) }
     ensures reads { Reads result (P.counts place.old) (P.counts place.new) }
+    ensures looks { Looks result (text_looked target.now frame.now text.now) (P.counts place.old) (P.counts place.new) }
 {
     if is_glob(text.as_str()) {
         let parts = parts_meant(alloc, &frame.root, text)?;
@@ -187,6 +190,7 @@ fn folders_of_texts<P: Place>(
     ensures most { P.most place.new ≡ P.most place.old }
     ensures outside { IfErr result (λ e. is_outside e ≡ true) }
     ensures reads { Reads result (P.counts place.old) (P.counts place.new) }
+    ensures looks { Looks result (flat_map (text_looked target.now frame.now) texts.now) (P.counts place.old) (P.counts place.new) }
 {
     let mut made = Items::new(alloc);
     for text in texts {
@@ -210,6 +214,7 @@ pub fn member_folders<P: Place>(
     ensures most { P.most place.new ≡ P.most place.old }
     ensures outside { IfErr result (λ e. is_outside e ≡ true) }
     ensures reads { Reads result (P.counts place.old) (P.counts place.new) }
+    ensures looks { Looks result (members_looked target.now frame.now) (P.counts place.old) (P.counts place.new) }
 {
     let folders = folders_of_texts(alloc, place, target, frame, frame.members.as_slice())?;
     let mut made = ByFolder::new(alloc);

@@ -6,6 +6,7 @@ ghost use Rattle.pb_place.specs.Paths.{below};
 ghost use Rattle.pb_manifest.specs.Letters.{is_name};
 ghost use Rattle.pb_manifest.specs.Promises.{IsManifest};
 ghost use Rattle.pb_workspace.specs.ByFolder.{folders_of, with_folders};
+ghost use Rattle.pb_workspace.specs.LookedAt.{Looks, looked, package_looked, file_looked, folder_looked, one_looked, all_looked, round_looked, rounds_looked};
 ghost use Rattle.pb_workspace.specs.Causes.{is_failure, is_outside, Told, Reads};
 ghost use Rattle.pb_workspace.specs.Frames.{given_to, nothing};
 ghost use Rattle.pb_package.specs.declared.fault.LoadFault.TheVariants as load_fault;
@@ -91,6 +92,7 @@ fn manifest_at<P: Place>(
     ensures same { IsTrue P.tells → P.world place.new ≡ P.world place.old }
     ensures most { P.most place.new ≡ P.most place.old }
     ensures reads { Reads result (P.counts place.old) (P.counts place.new) }
+    ensures looks { Looks result (looked target.now path.now) (P.counts place.old) (P.counts place.new) }
 {
     let found = source(alloc, place, target, path)?;
     let manifest = read_found(alloc, path, found)?;
@@ -126,6 +128,7 @@ pub fn draft_if<P: Place>(
     ensures same { IsTrue P.tells → P.world place.new ≡ P.world place.old }
     ensures most { P.most place.new ≡ P.most place.old }
     ensures reads { Reads result (P.counts place.old) (P.counts place.new) }
+    ensures looks { Looks result (package_looked target.now at.folder found) (P.counts place.old) (P.counts place.new) }
 {
     match found {
         Some(found) => {
@@ -204,6 +207,7 @@ pub fn parts_at<P: Place>(
     ensures same { IsTrue P.tells → P.world place.new ≡ P.world place.old }
     ensures most { P.most place.new ≡ P.most place.old }
     ensures reads { Reads result (P.counts place.old) (P.counts place.new) }
+    ensures looks { Looks result (looked target.now path.now) (P.counts place.old) (P.counts place.new) }
 {
     let found = manifest_at(alloc, place, target, path)?;
     Ok(parts_of(found))
@@ -225,6 +229,7 @@ fn draft_in_file<P: Place>(
     ensures same { IsTrue P.tells → P.world place.new ≡ P.world place.old }
     ensures most { P.most place.new ≡ P.most place.old }
     ensures reads { Reads result (P.counts place.old) (P.counts place.new) }
+    ensures looks { IsTrue P.tells → Looks result (file_looked target.now (from_nothing target.now (P.world place.old)) at) (P.counts place.old) (P.counts place.new) }
 {
     let parts = parts_at(alloc, place, target, &at.manifest)?;
     draft_if(
@@ -241,7 +246,7 @@ fn draft_in_file<P: Place>(
 
 /// The package of a folder: what its manifest and it say. NoManifest where no file of the sources is there;
 /// the manifest with its fault, which is BadKind of `package` where it has no `[package]`.
-#[tactic(auto, unfolding(crate::specs::Rounds::draft_at))]
+#[tactic(auto, unfolding(crate::specs::Rounds::draft_at, crate::specs::LookedAt::folder_looked))]
 fn draft_at<P: Place>(
     alloc: Global,
     place: &mut P,
@@ -256,6 +261,7 @@ fn draft_at<P: Place>(
     ensures same { IsTrue P.tells → P.world place.new ≡ P.world place.old }
     ensures most { P.most place.new ≡ P.most place.old }
     ensures reads { Reads result (P.counts place.old) (P.counts place.new) }
+    ensures looks { IsTrue P.tells → Looks result (folder_looked target.now (from_nothing target.now (P.world place.old)) frame.now folder.now) (P.counts place.old) (P.counts place.new) }
 {
     if *folder == frame.root {
         return Err(refused(alloc, &frame.manifest, ManifestFault::BadKind(Key::Package)));
@@ -330,6 +336,7 @@ fn one_read<P: Place>(
     ensures same { IsTrue P.tells → P.world place.new ≡ P.world place.old }
     ensures most { P.most place.new ≡ P.most place.old }
     ensures reads { Reads result (P.counts place.old) (P.counts place.new) }
+    ensures looks { IsTrue P.tells → Looks result (one_looked (folder_looked target.now (from_nothing target.now (P.world place.old)) frame.now) reading folder) (P.counts place.old) (P.counts place.new) }
 {
     if reading.found.contains(&folder) {
         return Ok(reading);
@@ -358,6 +365,7 @@ pub fn all_read<P: Place>(
     ensures same { IsTrue P.tells → P.world place.new ≡ P.world place.old }
     ensures most { P.most place.new ≡ P.most place.old }
     ensures reads { Reads result (P.counts place.old) (P.counts place.new) }
+    ensures looks { IsTrue P.tells → Looks result (all_looked (draft_at (from_nothing target.now (P.world place.old)) frame.now meant.now) (folder_looked target.now (from_nothing target.now (P.world place.old)) frame.now) reading folders) (P.counts place.old) (P.counts place.new) }
 {
     let mut reading = reading;
     for folder in folders.into_vec() {
@@ -381,6 +389,7 @@ fn round<P: Place>(
     ensures same { IsTrue P.tells → P.world place.new ≡ P.world place.old }
     ensures most { P.most place.new ≡ P.most place.old }
     ensures reads { Reads result (P.counts place.old) (P.counts place.new) }
+    ensures looks { IsTrue P.tells → Looks result (round_looked (draft_at (from_nothing target.now (P.world place.old)) frame.now meant.now) (folder_looked target.now (from_nothing target.now (P.world place.old)) frame.now) reading) (P.counts place.old) (P.counts place.new) }
 {
     let Reading { found, ahead } = reading;
     let folders = ahead.folders(alloc)?;
@@ -409,6 +418,7 @@ pub fn rounds<P: Place>(
     ensures same { IsTrue P.tells → P.world place.new ≡ P.world place.old }
     ensures most { P.most place.new ≡ P.most place.old }
     ensures reads { Reads result (P.counts place.old) (P.counts place.new) }
+    ensures looks { IsTrue P.tells → Looks result (rounds_looked count (draft_at (from_nothing target.now (P.world place.old)) frame.now meant.now) (folder_looked target.now (from_nothing target.now (P.world place.old)) frame.now) reading) (P.counts place.old) (P.counts place.new) }
 {
     let mut reading = reading;
     for done in 0..count {

@@ -4,6 +4,7 @@ ghost use Rattle.std.specs.Prelude.{◌≡◌, IfOk, IfErr, IsTrue, true, not, f
 ghost use Rattle.std.specs.FinMap as finite;
 ghost use Rattle.pb_place.specs.Paths.{below, is_at_or_below, is_relative};
 ghost use Rattle.pb_place.specs.World.{from_nothing, listed, listed_directly};
+ghost use Rattle.pb_workspace.specs.LookedAt.{Looks, looked};
 ghost use Rattle.pb_workspace.specs.Causes.{is_outside, fault_at, Reads};
 ghost use Rattle.pb_workspace.specs.Sources.{resolved};
 
@@ -36,6 +37,7 @@ pub fn source<P: Place>(
     ensures most { P.most place.new ≡ P.most place.old }
     ensures outside { IfErr result (λ e. is_outside e ≡ true) }
     ensures reads { Reads result (P.counts place.old) (P.counts place.new) }
+    ensures looks { Looks result (looked target.now path.now) (P.counts place.old) (P.counts place.new) }
 {
     if path.starts_with(target) {
         return Ok(None);
@@ -78,6 +80,7 @@ pub fn sources_directly<P: Place>(
     ensures most { P.most place.new ≡ P.most place.old }
     ensures outside { IfErr result (λ e. is_outside e ≡ true) }
     ensures reads { Reads result (P.counts place.old) (P.counts place.new) }
+    ensures looks { Looks result (looked target.now folder.now) (P.counts place.old) (P.counts place.new) }
 {
     if folder.starts_with(target) {
         return Ok(Items::new(alloc));
@@ -103,6 +106,7 @@ pub fn listed_sources<P: Place>(
     ensures most { P.most place.new ≡ P.most place.old }
     ensures outside { IfErr result (λ e. is_outside e ≡ true) }
     ensures reads { Reads result (P.counts place.old) (P.counts place.new) }
+    ensures looks { Looks result (looked target.now folder.now) (P.counts place.old) (P.counts place.new) }
 {
     if folder.starts_with(target) {
         return Ok(Items::new(alloc));

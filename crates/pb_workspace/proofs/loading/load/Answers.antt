@@ -1,10 +1,14 @@
-use Rattle.std.proofs.Common.{ap, ◌∙◌, subst}
+use Rattle.std.proofs.Common.{ap, ◌∙◌, refl, rules, subst}
+use Rattle.pb_package.specs.declared.fault.LoadFault.TheVariants.{OutOfMemory}
+use Rattle.pb_workspace.proofs.Looking.{looks_none}
 use Rattle.pb_place.specs.World.{from_nothing}
+use Rattle.pb_workspace.proofs.LookingOver.{looks_step, looks_stop}
 use Rattle.pb_workspace.proofs.Steps.{told_step, reads_step}
 use Rattle.pb_place.specs.Paths.{folder_of}
 use Rattle.pb_workspace.specs.Causes.{Told}
 use Rattle.pb_workspace.specs.Frames.{frame_of}
-use Rattle.pb_workspace.specs.Loaded.{workspace_in, workspace_of}
+use Rattle.pb_workspace.specs.Loaded.{root_parts, workspace_in, workspace_of}
+use Rattle.pb_workspace.specs.LookedAt.{looked_at, Looks, packages_looked, root_looked}
 use Rattle.pb_workspace.proofs.loading.load.Goals as goal
 
 pub returns-clause-ok : goal.returns-clause-ok
@@ -18,3 +22,34 @@ returns-clause-ok g c told =
 
 pub returns-clause-reads : goal.returns-clause-reads
 returns-clause-reads g c = reads_step c.workspace_in.result (g.P.Place.counts c.args.place.now) (g.P.Place.counts c.root_parts.new.place) (g.P.Place.counts c.workspace_in.new.place) c.in_ok-parts.ensures.reads.0 c.in_ok-parts.ensures.reads.1 c.workspace_in.ensures.reads
+
+pub returns-clause-looks : goal.returns-clause-looks
+unfolding looked_at
+returns-clause-looks g c told =
+    looks_step c.workspace_in.result
+    (λ w parts. packages_looked c.args.target.now (from_nothing c.args.target.now w) (frame_of (folder_of c.args.manifest.now) c.args.manifest.now parts.workspace) parts.tables parts.found)
+    (λ w. root_parts (from_nothing c.args.target.now w) c.args.manifest.now) (λ w. root_looked c.args.target.now c.args.manifest.now) c.in_ok-parts.parts
+    (g.P.Place.world c.args.place.now) (g.P.Place.world c.args.place.now) (g.P.Place.world c.root_parts.new.place)
+    (g.P.Place.counts c.args.place.now) (g.P.Place.counts c.root_parts.new.place) (g.P.Place.counts c.workspace_in.new.place)
+    refl (c.in_ok-parts.ensures.same told) (c.in_ok-parts.ensures.ok told) c.in_ok-parts.ensures.looks
+    (subst (λ f. Looks c.workspace_in.result (packages_looked c.args.target.now (from_nothing c.args.target.now (g.P.Place.world c.root_parts.new.place)) f c.in_ok-parts.parts.tables c.in_ok-parts.parts.found) (g.P.Place.counts c.root_parts.new.place) (g.P.Place.counts c.workspace_in.new.place))
+    (c.frame_of-frame.ensures ∙ ap (λ root. frame_of root c.in_ok-path.path c.in_ok-parts.parts.workspace) c.in_ok-root.ensures ∙ ap (λ path. frame_of (folder_of c.args.manifest.now) path c.in_ok-parts.parts.workspace) c.in_ok-path.ensures)
+    (c.workspace_in.ensures.looks told))
+
+pub returns-in_err-root-clause-looks : goal.returns-in_err-root-clause-looks
+returns-in_err-root-clause-looks g c told =
+    let h = looks_none OutOfMemory (looked_at c.args.manifest.now c.args.target.now (g.P.Place.world c.args.place.now)) (g.P.Place.counts c.args.place.now) (g.P.Place.counts c.args.place.now) refl refl refl in
+    search (rules, h)
+
+pub returns-in_err-path-clause-looks : goal.returns-in_err-path-clause-looks
+returns-in_err-path-clause-looks g c told =
+    let h = looks_none OutOfMemory (looked_at c.args.manifest.now c.args.target.now (g.P.Place.world c.args.place.now)) (g.P.Place.counts c.args.place.now) (g.P.Place.counts c.args.place.now) refl refl refl in
+    search (rules, h)
+
+pub returns-in_err-parts-clause-looks : goal.returns-in_err-parts-clause-looks
+unfolding looked_at
+returns-in_err-parts-clause-looks g c told =
+    let h = looks_stop c.in_err-parts.field-0.0
+    (λ w parts. packages_looked c.args.target.now (from_nothing c.args.target.now w) (frame_of (folder_of c.args.manifest.now) c.args.manifest.now parts.workspace) parts.tables parts.found)
+    (λ w. root_parts (from_nothing c.args.target.now w) c.args.manifest.now) (λ w. root_looked c.args.target.now c.args.manifest.now) (g.P.Place.world c.args.place.now) (g.P.Place.world c.args.place.now) (g.P.Place.counts c.args.place.now) (g.P.Place.counts c.root_parts.new.place) refl (c.in_err-parts.ensures.ok told) c.in_err-parts.ensures.looks in
+    search (rules, h)

@@ -1,5 +1,8 @@
-use Rattle.std.proofs.Common.{◌≡◌, ◌++◌, drop}
+use Rattle.std.proofs.Common.{◌≡◌, ◌++◌, drop, List, ℕ, Result}
 use Rattle.std.specs.Prelude.{IsTrue}
+use Rattle.pb_package.specs.declared.fault.LoadFault.{LoadFault}
+use Rattle.pb_place.specs.Counts.{Counts}
+use Rattle.pb_workspace.specs.LookedAt.{Looks, text_looked}
 use Rattle.pb_place.specs.World.{from_nothing}
 use Rattle.std.specs.List.{flat_map}
 use Rattle.pb_workspace.specs.MemberFolders.{folders_meant}
@@ -11,5 +14,6 @@ invariant-loop-text g l = record {
   same : IsTrue g.P.Place.tells → g.P.Place.world l.place ≡ g.P.Place.world l.fn.place;
   failures : (g.P.Place.counts l.place).failures ≡ (g.P.Place.counts l.fn.place).failures;
   starts : (g.P.Place.counts l.place).starts ≡ (g.P.Place.counts l.fn.place).starts;
+  looks : (r : Result (List (List ℕ)) LoadFault) (new : Counts) → Looks r (flat_map (text_looked l.target l.frame) (drop l.text-index l.texts)) (g.P.Place.counts l.place) new → Looks r (flat_map (text_looked l.target l.frame) l.texts) (g.P.Place.counts l.fn.place) new;
   most : g.P.Place.most l.place ≡ g.P.Place.most l.fn.place;
 }

@@ -1,0 +1,31 @@
+use Rattle.std.proofs.Common.{◌∙◌, Ok, Err, refl, rules}
+use Rattle.pb_package.specs.declared.fault.LoadFault.TheVariants.{OutOfMemory}
+use Rattle.pb_workspace.proofs.LookingOver.{others_first, others_looks, others_none, others_stop}
+use Rattle.pb_workspace.proofs.loading.others_read.Goals as goal
+
+pub returns-in_err-meant-clause-looks : goal.returns-in_err-meant-clause-looks
+returns-in_err-meant-clause-looks g c told =
+    let h = others_first c.args.target.now c.args.frame.now c.args.begun (g.P.Place.world c.args.place.now) c.in_err-meant.field-0.0 (g.P.Place.counts c.args.place.now) (g.P.Place.counts c.member_folders.new.place) c.in_err-meant.ensures.outside c.in_err-meant.ensures.looks in
+    search (rules, h)
+
+pub returns-in_err-folders-clause-looks : goal.returns-in_err-folders-clause-looks
+returns-in_err-folders-clause-looks g c told =
+    let h = others_none c.args.target.now c.args.frame.now c.args.begun (g.P.Place.world c.args.place.now) OutOfMemory (g.P.Place.counts c.args.place.now) (g.P.Place.counts c.member_folders.new.place) refl refl c.in_ok-meant.ensures.looks in
+    search (rules, h)
+
+pub returns-in_err-read-clause-looks : goal.returns-in_err-read-clause-looks
+returns-in_err-read-clause-looks g c told =
+    let h = others_stop c.args.target.now c.args.frame.now c.args.begun (g.P.Place.world c.args.place.now) c.in_ok-meant.meant c.in_ok-folders.folders (g.P.Place.world c.member_folders.new.place) c.in_err-read.field-0.0 (g.P.Place.counts c.args.place.now) (g.P.Place.counts c.member_folders.new.place) (g.P.Place.counts c.all_read.new.place)
+    (c.in_ok-meant.ensures.ok told) c.in_ok-folders.ensures (c.in_ok-meant.ensures.same told) c.in_ok-meant.ensures.looks (c.in_err-read.ensures.ok told) (c.in_err-read.ensures.looks told) in
+    search (rules, h)
+
+pub returns-in_err-read-2-clause-looks : goal.returns-in_err-read-2-clause-looks
+returns-in_err-read-2-clause-looks g c told =
+    let h = others_looks c.args.target.now c.args.frame.now c.args.begun (g.P.Place.world c.args.place.now) c.in_ok-meant.meant c.in_ok-folders.folders (g.P.Place.world c.member_folders.new.place) (g.P.Place.world c.all_read.new.place) c.in_ok-read.read (Err c.in_err-read-2.field-0.0) (g.P.Place.counts c.args.place.now) (g.P.Place.counts c.member_folders.new.place) (g.P.Place.counts c.all_read.new.place) (g.P.Place.counts c.rounds.new.place)
+    (c.in_ok-meant.ensures.ok told) c.in_ok-folders.ensures (c.in_ok-meant.ensures.same told) (c.in_ok-read.ensures.same told ∙ c.in_ok-meant.ensures.same told) c.in_ok-meant.ensures.looks (c.in_ok-read.ensures.ok told) (c.in_ok-read.ensures.looks told) (c.in_err-read-2.ensures.looks told) in
+    search (rules, h)
+
+pub returns-clause-looks : goal.returns-clause-looks
+returns-clause-looks g c told =
+    others_looks c.args.target.now c.args.frame.now c.args.begun (g.P.Place.world c.args.place.now) c.in_ok-meant.meant c.in_ok-folders.folders (g.P.Place.world c.member_folders.new.place) (g.P.Place.world c.all_read.new.place) c.in_ok-read.read (Ok c.in_ok-read-2.read) (g.P.Place.counts c.args.place.now) (g.P.Place.counts c.member_folders.new.place) (g.P.Place.counts c.all_read.new.place) (g.P.Place.counts c.rounds.new.place)
+    (c.in_ok-meant.ensures.ok told) c.in_ok-folders.ensures (c.in_ok-meant.ensures.same told) (c.in_ok-read.ensures.same told ∙ c.in_ok-meant.ensures.same told) c.in_ok-meant.ensures.looks (c.in_ok-read.ensures.ok told) (c.in_ok-read.ensures.looks told) (c.in_ok-read-2.ensures.looks told)

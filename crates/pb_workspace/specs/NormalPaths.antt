@@ -1,0 +1,25 @@
+-- All paths of a workspace are normalised absolute paths.
+use Rattle.std.specs.Prelude.{◌≡◌, true, List, All, IfSome}
+use Rattle.pb_place.specs.Paths.{is_path}
+use Rattle.pb_package.specs.declared.package.Binary.{Binary}
+use Rattle.pb_package.specs.declared.package.Library.{Library}
+use Rattle.pb_package.specs.declared.package.Package.{Package}
+use Rattle.pb_package.specs.declared.workspace.Workspace.{Workspace}
+
+-- a binary: its source
+pub record HasSource (binary : Binary) : Type 0 where
+  pub source : is_path binary.source ≡ true
+
+-- a package: its folder, its manifest and its sources
+pub record HasOwnPaths (p : Package) : Type 0 where
+  pub folder : is_path p.folder ≡ true
+  pub manifest : is_path p.manifest ≡ true
+  pub library : IfSome p.library (λ (library : Library). is_path library.source ≡ true)
+  pub binaries : All HasSource p.binaries
+  pub script : IfSome p.script (λ path. is_path path ≡ true)
+
+-- a workspace: its root, its target folder and its packages
+pub record HasNormalPaths (ws : Workspace) : Type 0 where
+  pub root : is_path ws.root ≡ true
+  pub target : is_path ws.target ≡ true
+  pub packages : All HasOwnPaths ws.packages
