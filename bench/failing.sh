@@ -9,7 +9,10 @@
 # - status 0, and one build that says `fault memory OutOfMemory`: of its message lines the first so many whole
 #   ones, then the failing finish line; all other builds as they are;
 # - status 1, `error: bad session`, and the message lines of the first so many builds, whole: the memory was
-#   refused outside a build.
+#   refused outside a build;
+# - status 101 and nothing else: it was refused before the command line was read.
+# A build behind one that ended so starts what that one has not: of later builds `fresh` and the keys of `started=` are
+# not compared. Sessions in which children die or calls fail are left out, since such a failure then meets a later build.
 #
 # What may come, where all allocations from one on fail: the right output, where there was none of them; else status
 # 1 and `error: bad session`, since the result lines take memory: the message lines of the first so many builds, and
@@ -42,6 +45,12 @@ def run(session, number=0, from_then_on=False, count_file=None):
     return ran.returncode, ran.stdout, ran.stderr
 
 
+def alike(printed):
+    """Without what a build says of those before it."""
+    printed = re.sub(rb'"fresh":(?:true|false)', b'"fresh":_', printed)
+    return re.sub(rb" started=[^ \n]*", b" started=_", printed)
+
+
 def builds_of(printed):
     """The message lines of each build, and its result line."""
     lines = printed.splitlines(keepends=True)
@@ -69,7 +78,7 @@ def one_refused(printed):
     """What may come where one allocation is refused, by its name."""
     builds = builds_of(printed)
     assert told(builds) == printed
-    may = {(0, printed, b""): "right"}
+    may = {(0, printed, b""): "right", (101, b"", b""): "before"}
     for at in range(len(builds) + 1):
         may[(1, lines_of(builds[:at]), BAD)] = "bad session"
     for at, (lines, _) in enumerate(builds):
@@ -82,7 +91,7 @@ def one_refused(printed):
 def all_refused(printed):
     """What may come where all allocations from one on are refused, by its name."""
     builds = builds_of(printed)
-    may = {(0, printed, b""): "right"}
+    may = {(0, printed, b""): "right", (101, b"", b""): "before"}
     for at in range(len(builds) + 1):
         may[(1, lines_of(builds[:at]), BAD)] = "bad session"
         lines = builds[at][0] if at < len(builds) else []
@@ -97,9 +106,10 @@ def try_all(name, session, count, from_then_on, may):
     numbers = range(1, count + 1, int(every))
     with ThreadPoolExecutor(2) as pool:
         came = list(zip(numbers, pool.map(lambda number: run(session, number, from_then_on), numbers)))
-    seen = {"right": 0, "memory": 0, "bad session": 0}
+    seen = {"right": 0, "memory": 0, "bad session": 0, "before": 0}
     wrong = []
-    for number, outcome in came:
+    for number, (status, written, said) in came:
+        outcome = (status, alike(written), said)
         if outcome in may:
             seen[may[outcome]] += 1
         else:
@@ -107,12 +117,12 @@ def try_all(name, session, count, from_then_on, may):
     what = "from it on" if from_then_on else "alone"
     print(
         f"{name:30} {what:10} {count:6} {len(numbers):6} {seen['memory']:7} "
-        f"{seen['bad session']:11} {seen['right']:6} {len(wrong):6}",
+        f"{seen['bad session']:11} {seen['before']:6} {seen['right']:6} {len(wrong):6}",
         flush=True,
     )
     for number, (status, written, said) in wrong[:1]:
         print(f"  allocation {number}: status {status}, says {said[:200]!r}, writes {written[:300]!r}", flush=True)
-    return len(numbers), len(wrong)
+    return len(numbers), len(wrong), seen
 
 
 def try_example(name):
@@ -127,20 +137,23 @@ def try_example(name):
     with open(count_file) as it:
         count = int(it.read())
     return [
-        try_all(name, session, count, False, one_refused(printed)),
-        try_all(name, session, count, True, all_refused(printed)),
+        try_all(name, session, count, False, one_refused(alike(printed))),
+        try_all(name, session, count, True, all_refused(alike(printed))),
     ]
 
 
-print(f"{'example':30} {'refused':10} {'asked':>6} {'tried':>6} {'memory':>7} {'bad session':>11} {'right':>6} {'wrong':>6}")
+print(f"{'example':30} {'refused':10} {'asked':>6} {'tried':>6} {'memory':>7} {'bad session':>11} {'before':>6} {'right':>6} {'wrong':>6}")
 with open(f"{examples}/stdout", "rb") as it:
     parts = (part.partition(b"\n") for part in re.split(rb"^== ", it.read(), flags=re.MULTILINE)[1:])
     outputs = {name.decode(): printed for name, _, printed in parts}
 names = sorted(it.removesuffix(".json") for it in os.listdir(f"{examples}/data") if it.endswith(".json"))
 if not set(names) <= set(outputs):
     sys.exit("the file stdout has not all examples")
+texts = {name: open(f"{examples}/data/{name}.json", encoding="utf-8").read() for name in names}
+names = [name for name in names if '"die"' not in texts[name] and '"fuse"' not in texts[name]]
 alone, on = zip(*(try_example(name) for name in names))
 for what, found in (("alone", alone), ("with all that follow", on)):
-    print(f"{sum(it[0] for it in found)} allocations refused {what}, {sum(it[1] for it in found)} outcomes were wrong")
+    of = {kind: sum(it[2][kind] for it in found) for kind in found[0][2]}
+    print(f"{sum(it[0] for it in found)} allocations of {len(names)} sessions refused {what}, {sum(it[1] for it in found)} outcomes were wrong: {of}")
 sys.exit(1 if any(it[1] for it in alone + on) else 0)
 PYTHON

@@ -3,7 +3,7 @@
 use crate::folder_lock::FolderLock;
 use crate::running::{BAD_COMMAND_LINE, FAILED, run};
 use pb_host::HostPlace;
-use pb_place::{Over, PathText, write_all};
+use pb_place::{Over, PathFault, PathText, write_all};
 use std::io::ErrorKind;
 use std::{env, io};
 
@@ -13,10 +13,14 @@ fn words(rt: &HostRuntime) -> io::Result<Vec<String>> {
     Ok(words)
 }
 
-/// The current folder, where it is known.
-fn folder(rt: &HostRuntime) -> Option<PathText> {
-    let path = env::current_dir(rt).ok()?;
-    PathText::parse(rt.alloc(), path.as_str()).ok()
+/// The current folder.
+fn folder(rt: &HostRuntime) -> io::Result<PathText> {
+    let path = env::current_dir(rt)?;
+    match PathText::parse(rt.alloc(), path.as_str()) {
+        Ok(path) => Ok(path),
+        Err(PathFault::OutOfMemory) => Err(io::Error::from(ErrorKind::OutOfMemory)),
+        Err(_) => Err(io::Error::from(ErrorKind::InvalidInput)),
+    }
 }
 
 /// Says on standard error why nothing was done.
@@ -25,7 +29,8 @@ fn say(rt: &HostRuntime, text: &str) {
 }
 
 /// Does what the words of this process ask for, over its files, variables and children, and gives the status to end
-/// with: that of `run`; 1 where a word is not UTF-8; 101 where the current folder is not known.
+/// with: that of `run`; 1 where a word is not UTF-8; 101 where the current folder is not known, or memory is refused
+/// for these, which is not said.
 pub fn tool(rt: &HostRuntime) -> u8 {
     let words = match words(rt) {
         Ok(words) => words,
@@ -35,9 +40,13 @@ pub fn tool(rt: &HostRuntime) -> u8 {
             return BAD_COMMAND_LINE;
         }
     };
-    let Some(folder) = folder(rt) else {
-        say(rt, "error: the current folder is not known\n");
-        return FAILED;
+    let folder = match folder(rt) {
+        Ok(folder) => folder,
+        Err(error) if error.kind() == ErrorKind::OutOfMemory => return FAILED,
+        Err(_) => {
+            say(rt, "error: the current folder is not known\n");
+            return FAILED;
+        }
     };
     run(
         rt.alloc(),
