@@ -68,21 +68,23 @@ source_only ms df name version written path u df_is name_is version_is written_i
         let there = workspace_only (value_at key.Workspace ms) (takes_workspace ms) u refl workspace in
         let none : None ≡ path = cc in
         let default : HoldsOr false (λ b. boolean b) (get_member (codes "default-features") ms) (is_true df) =
-            subst (HoldsOr false (λ b. boolean b) (get_member (codes "default-features") ms)) (sym (true_or df)) (or_from (truth_of key.DefaultFeatures) (λ b. boolean b) Any (truth_written key.DefaultFeatures) false (get_member (codes "default-features") ms) df df_is) in
+        subst (HoldsOr false (λ b. boolean b) (get_member (codes "default-features") ms)) (sym (true_or df)) (or_from (truth_of key.DefaultFeatures) (λ b. boolean b) Any (truth_written key.DefaultFeatures) false (get_member (codes "default-features") ms) df df_is) in
         subst (λ p. IsSource ms (source_of df name version p)) none
         (there.0 on, default, record { path = o; name = name; version = version; path_is = holds; name_is = name_is; version_is = version_is })
     by false off None holds h = cc
     by false off (Some text) holds h =
         let there = workspace_only (value_at key.Workspace ms) (takes_workspace ms) u refl workspace in
         let some : Some text ≡ path = cc in
-        subst (λ p. IsSource ms (source_of df name version p)) some
-        (there.1 off, record {
-          path = holds.0;
-          path_is = holds.1;
-          name = name_is;
-          version = version_is;
-          default_features = or_from (truth_of key.DefaultFeatures) (λ b. boolean b) Any (truth_written key.DefaultFeatures) true (get_member (codes "default-features") ms) df df_is;
-        })
+        subst (λ p. IsSource ms (source_of df name version p)) some (
+          there.1 off,
+          record {
+            path = holds.0;
+            path_is = holds.1;
+            name = name_is;
+            version = version_is;
+            default_features = or_from (truth_of key.DefaultFeatures) (λ b. boolean b) Any (truth_written key.DefaultFeatures) true (get_member (codes "default-features") ms) df df_is;
+          },
+        )
 
 table_only : (name : List ℕ) (d : Data) (ms : Members) (x : Dependency) → is_name name ≡ true → d ≡ table ms → dependency_keys name ms ≡ Ok x → IsDependencyEntry name d x
 unfolding spelled
@@ -104,7 +106,7 @@ table_only name d ms x letters is h =
     let source : IsSource ms (source_of t.0 t.4 v.value u.0) = source_only ms t.0 t.4 v.value c.value u.0 w.value df.0 renamed.0 requirement path w.was u.3 in
     let made : Dependency = record { key = name; source = source_of t.0 t.4 v.value u.0; optional = is_true t.3; features = t.1 } in
     let whole : made ≡ x = (λ i. record { key = name; source = source_of t.0 t.4 (version i) u.0; optional = is_true t.3; features = t.1 })
-        ∙ (λ i. record { key = name; source = source_of (t.10 i).default_features (t.10 i).package (u.6 i).version (u.6 i).path; optional = (t.10 i).optional; features = (t.10 i).features }) ∙ cc (b.more) in
+    ∙ (λ i. record { key = name; source = source_of (t.10 i).default_features (t.10 i).package (u.6 i).version (u.6 i).path; optional = (t.10 i).optional; features = (t.10 i).features }) ∙ cc (b.more) in
     subst (IsDependencyEntry name d) whole (record {
       key = refl;
       letters = letters;

@@ -148,20 +148,48 @@ document_only : (ms : Members) (m : Manifest) → document_of ms ≡ Ok m → Is
 unfolding document_of targets_of tables_of spelled
 document_only ms m h =
     let t = four_on m (supported ms) (not_old ms) (targets_of ms) (tables_of ms) (λ none new a b. Ok record {
-      «package» = a.package; library = a.library; binaries = a.binaries; dependencies = b.dependencies; build_dependencies = b.build_dependencies; dev_dependencies = b.dev_dependencies; features = b.features; profiles = b.profiles; workspace = b.workspace;
+      «package» = a.package;
+      library = a.library;
+      binaries = a.binaries;
+      dependencies = b.dependencies;
+      build_dependencies = b.build_dependencies;
+      dev_dependencies = b.dev_dependencies;
+      features = b.features;
+      profiles = b.profiles;
+      workspace = b.workspace;
     }) h in
     let n = none_there (value_at key.Patch ms) (value_at key.Replace ms) (value_at key.Target ms) t.0 t.4 in
     let a = three t.2 (package_at ms) (library_at ms) (binaries_at ms) (λ found library binaries. record { «package» = found; library = library; binaries = binaries }) t.6 in
     let b = five t.3 (dependencies_at key.Dependencies ms) (dependencies_at key.BuildDependencies ms) (features_at ms) (profiles_at ms) (workspace_at ms) (λ dependencies build_dependencies features profiles workspace. record {
-      dependencies = dependencies; build_dependencies = build_dependencies; dev_dependencies = keys_at key.DevDependencies ms; features = features; profiles = profiles; workspace = workspace;
+      dependencies = dependencies;
+      build_dependencies = build_dependencies;
+      dev_dependencies = keys_at key.DevDependencies ms;
+      features = features;
+      profiles = profiles;
+      workspace = workspace;
     }) t.7 in
     let own = package_only (has key.Workspace ms) (value_at key.Package ms) a.0 a.3 in
     let made : Manifest = record {
-      «package» = a.0; library = a.1; binaries = a.2; dependencies = b.0; build_dependencies = b.1; dev_dependencies = keys_at key.DevDependencies ms; features = b.2; profiles = b.3; workspace = b.4;
+      «package» = a.0;
+      library = a.1;
+      binaries = a.2;
+      dependencies = b.0;
+      build_dependencies = b.1;
+      dev_dependencies = keys_at key.DevDependencies ms;
+      features = b.2;
+      profiles = b.3;
+      workspace = b.4;
     } in
     let whole : made ≡ m = (λ i. record {
-      «package» = (a.6 i).package; library = (a.6 i).library; binaries = (a.6 i).binaries; dependencies = (b.10 i).dependencies; build_dependencies = (b.10 i).build_dependencies;
-      dev_dependencies = (b.10 i).dev_dependencies; features = (b.10 i).features; profiles = (b.10 i).profiles; workspace = (b.10 i).workspace;
+      «package» = (a.6 i).package;
+      library = (a.6 i).library;
+      binaries = (a.6 i).binaries;
+      dependencies = (b.10 i).dependencies;
+      build_dependencies = (b.10 i).build_dependencies;
+      dev_dependencies = (b.10 i).dev_dependencies;
+      features = (b.10 i).features;
+      profiles = (b.10 i).profiles;
+      workspace = (b.10 i).workspace;
     }) ∙ cc (t.8) in
     subst (IsDocument ms) whole (record {
       no_patch = n.first;
@@ -196,17 +224,46 @@ document_back ms m says =
     let k : profiles_at ms ≡ Ok m.profiles = entries_at_back profile_of IsProfileEntry profiles_read BadProfile (value_at key.Profile ms) m.profiles says.profiles in
     let l : workspace_at ms ≡ Ok m.workspace = table_at_back workspace_of IsWorkspaceTable workspaces_read workspace_in refl (λ ns. refl) (BadKind key.Workspace) (value_at key.Workspace ms) m.workspace says.workspace in
     (λ i. a i >>= (λ none. b i >>= (λ new. targets_of ms >>= (λ a. tables_of ms >>= (λ b. Ok record {
-      «package» = a.package; library = a.library; binaries = a.binaries; dependencies = b.dependencies; build_dependencies = b.build_dependencies; dev_dependencies = b.dev_dependencies; features = b.features; profiles = b.profiles; workspace = b.workspace;
+      «package» = a.package;
+      library = a.library;
+      binaries = a.binaries;
+      dependencies = b.dependencies;
+      build_dependencies = b.build_dependencies;
+      dev_dependencies = b.dev_dependencies;
+      features = b.features;
+      profiles = b.profiles;
+      workspace = b.workspace;
     })))))
     ∙ then_back (targets_of ms) (λ a. tables_of ms >>= (λ b. Ok record {
-      «package» = a.package; library = a.library; binaries = a.binaries; dependencies = b.dependencies; build_dependencies = b.build_dependencies; dev_dependencies = b.dev_dependencies; features = b.features; profiles = b.profiles; workspace = b.workspace;
+      «package» = a.package;
+      library = a.library;
+      binaries = a.binaries;
+      dependencies = b.dependencies;
+      build_dependencies = b.build_dependencies;
+      dev_dependencies = b.dev_dependencies;
+      features = b.features;
+      profiles = b.profiles;
+      workspace = b.workspace;
     })) (record { «package» = m.package; library = m.library; binaries = m.binaries }) m
     (λ i. c i >>= (λ found. d i >>= (λ library. e i >>= (λ binaries. Ok record { «package» = found; library = library; binaries = binaries }))))
     (then_back (tables_of ms) (λ b. Ok record {
-      «package» = m.package; library = m.library; binaries = m.binaries; dependencies = b.dependencies; build_dependencies = b.build_dependencies; dev_dependencies = b.dev_dependencies; features = b.features; profiles = b.profiles; workspace = b.workspace;
+      «package» = m.package;
+      library = m.library;
+      binaries = m.binaries;
+      dependencies = b.dependencies;
+      build_dependencies = b.build_dependencies;
+      dev_dependencies = b.dev_dependencies;
+      features = b.features;
+      profiles = b.profiles;
+      workspace = b.workspace;
     }) (record { dependencies = m.dependencies; build_dependencies = m.build_dependencies; dev_dependencies = m.dev_dependencies; features = m.features; profiles = m.profiles; workspace = m.workspace }) m
     (λ i. f i >>= (λ dependencies. g i >>= (λ build_dependencies. j i >>= (λ features. k i >>= (λ profiles. l i >>= (λ workspace. Ok record {
-      dependencies = dependencies; build_dependencies = build_dependencies; dev_dependencies = h i; features = features; profiles = profiles; workspace = workspace;
+      dependencies = dependencies;
+      build_dependencies = build_dependencies;
+      dev_dependencies = h i;
+      features = features;
+      profiles = profiles;
+      workspace = workspace;
     })))))) refl)
 
 pub documents_read : ReadsDocuments

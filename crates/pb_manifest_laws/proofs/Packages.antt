@@ -192,7 +192,6 @@ package_only ms p h =
       version_is = version_fact c.4 version.1;
     })
 
-
 version_own : (x : Inherited (List ℕ)) → IsVersion x → IfOwn version_of (λ t. string t) IsOne version_written x
 version_own (Written x) is = is
 version_own Workspace is = tt
@@ -218,7 +217,7 @@ package_back : (ms : Members) (p : Package) → IsPackageTable ms p → package_
 unfolding spelled
 package_back ms p says =
     let authors : inheritable_texts_at key.Authors ms ≡ Ok p.authors =
-        taken_back (texts_of key.Authors) texts (AllByRecursion Any) (list_written (text_of key.Authors) (λ x. string x) Any (text_written key.Authors) key.Authors) key.Authors (value_at key.Authors ms) p.authors says.authors (authors_written p.authors) in
+    taken_back (texts_of key.Authors) texts (AllByRecursion Any) (list_written (text_of key.Authors) (λ x. string x) Any (text_written key.Authors) key.Authors) key.Authors (value_at key.Authors ms) p.authors says.authors (authors_written p.authors) in
     let o = or_to (truth_of key.Autobins) (λ x. boolean x) Any (truth_written key.Autobins) true (value_at key.Autobins ms) p.autobins says.autobins in
     let autobins : truth_at key.Autobins ms ≡ Ok o.0 = optional_back (truth_of key.Autobins) (λ x. boolean x) Any (truth_written key.Autobins) (value_at key.Autobins ms) o.0 o.1 (some_any o.0) in
     let script : build_at ms ≡ Ok p.build = build_back (value_at key.Build ms) p.build says.script in

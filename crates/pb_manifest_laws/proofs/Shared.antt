@@ -57,14 +57,17 @@ source_only ms df name version written df_is name_is version_is written_is = by 
     by (Some d) r o git registry holds = (idle o holds, (df, df_is), λ none also. absurd (let clash : None ≡ Some d = sym none ∙ git in cc))
     by None (Some d) o git registry holds = (idle o holds, (df, df_is), λ none also. absurd (let clash : None ≡ Some d = sym also ∙ registry in cc))
     by None None None git registry holds = (idle None holds, (df, df_is), λ none also. holds.0)
-    by None None (Some text) git registry holds =
-        (record {
-          path = holds.0;
-          path_is = holds.1;
-          name = name_is;
-          version = version_is;
-          default_features = or_from (truth_of key.DefaultFeatures) (λ b. boolean b) Any (truth_written key.DefaultFeatures) true (get_member (codes "default-features") ms) df df_is;
-        }, git, registry)
+    by None None (Some text) git registry holds = (
+      record {
+        path = holds.0;
+        path_is = holds.1;
+        name = name_is;
+        version = version_is;
+        default_features = or_from (truth_of key.DefaultFeatures) (λ b. boolean b) Any (truth_written key.DefaultFeatures) true (get_member (codes "default-features") ms) df df_is;
+      },
+      git,
+      registry,
+    )
 
 table_only : (name : List ℕ) (d : Data) (ms : Members) (x : WorkspaceDependency) → is_name name ≡ true → d ≡ table ms → shared_dependency_keys name ms ≡ Ok x → IsSharedTable name d x
 unfolding spelled
@@ -85,9 +88,9 @@ table_only name d ms x letters is h =
     let requirement = optional_only requirement_of (λ q. string q) (λ q. is_requirement q ≡ true) requirement_written (value_at key.Version ms) v.value v.was in
     let made : WorkspaceDependency = record { key = name; source = shared_source_of t.0 t.4 v.value (supported_path ms c.value); features = t.1 } in
     let whole : made ≡ x = (λ i. record { key = name; source = shared_source_of t.0 t.4 (version i) (supported_path ms c.value); features = t.1 })
-        ∙ (λ i. record { key = name; source = shared_source_of (t.10 i).default_features (t.10 i).package u.value (supported_path ms c.value); features = (t.10 i).features })
-        ∙ (let last : Ok (record { path = supported_path ms c.value; version = u.value }) ≡ Ok b.value = u.more in
-          ap (λ r. elim r as (λ q. WorkspaceDependency) [ Ok q ↦ record { key = name; source = shared_source_of a.value.default_features a.value.package q.version q.path; features = a.value.features } | Err e ↦ x ]) last) ∙ cc (b.more) in
+    ∙ (λ i. record { key = name; source = shared_source_of (t.10 i).default_features (t.10 i).package u.value (supported_path ms c.value); features = (t.10 i).features })
+    ∙ (let last : Ok (record { path = supported_path ms c.value; version = u.value }) ≡ Ok b.value = u.more in
+    ap (λ r. elim r as (λ q. WorkspaceDependency) [ Ok q ↦ record { key = name; source = shared_source_of a.value.default_features a.value.package q.version q.path; features = a.value.features } | Err e ↦ x ]) last) ∙ cc (b.more) in
     subst (IsSharedTable name d) whole (record {
       key = refl;
       letters = letters;

@@ -47,10 +47,28 @@ inherited_only : (ms : Members) (w : WorkspacePackage) → workspace_package_of 
 unfolding spelled
 inherited_only ms w h =
     let a = came (first_keys ms) (λ a. last_keys ms >>= (λ b. Ok record {
-      authors = a.authors; description = a.description; edition = a.edition; homepage = a.homepage; license = a.license; license_file = b.license_file; readme = b.readme; repository = b.repository; rust_version = b.rust_version; version = b.version;
+      authors = a.authors;
+      description = a.description;
+      edition = a.edition;
+      homepage = a.homepage;
+      license = a.license;
+      license_file = b.license_file;
+      readme = b.readme;
+      repository = b.repository;
+      rust_version = b.rust_version;
+      version = b.version;
     })) w h in
     let b = came (last_keys ms) (λ b. Ok record {
-      authors = a.value.authors; description = a.value.description; edition = a.value.edition; homepage = a.value.homepage; license = a.value.license; license_file = b.license_file; readme = b.readme; repository = b.repository; rust_version = b.rust_version; version = b.version;
+      authors = a.value.authors;
+      description = a.value.description;
+      edition = a.value.edition;
+      homepage = a.value.homepage;
+      license = a.value.license;
+      license_file = b.license_file;
+      readme = b.readme;
+      repository = b.repository;
+      rust_version = b.rust_version;
+      version = b.version;
     }) w a.more in
     let t = five a.value (texts_at key.Authors ms) (text_at key.Description ms) (edition_at ms) (text_at key.Homepage ms) (text_at key.License ms)
     (λ authors description edition homepage license. record { authors = authors; description = description; edition = edition; homepage = homepage; license = license }) a.was in
@@ -58,11 +76,28 @@ inherited_only ms w h =
     (λ license_file readme repository rust_version version. record { license_file = license_file; readme = readme; repository = repository; rust_version = rust_version; version = version }) b.was in
     let version = optional_only version_of (λ t. string t) (λ t. is_version t ≡ true) version_written (value_at key.Version ms) u.4 u.9 in
     let made : WorkspacePackage = record {
-      authors = t.0; description = t.1; edition = t.2; homepage = t.3; license = t.4; license_file = u.0; readme = u.1; repository = u.2; rust_version = u.3; version = u.4;
+      authors = t.0;
+      description = t.1;
+      edition = t.2;
+      homepage = t.3;
+      license = t.4;
+      license_file = u.0;
+      readme = u.1;
+      repository = u.2;
+      rust_version = u.3;
+      version = u.4;
     } in
     let whole : made ≡ w = (λ i. record {
-      authors = (t.10 i).authors; description = (t.10 i).description; edition = (t.10 i).edition; homepage = (t.10 i).homepage; license = (t.10 i).license;
-      license_file = (u.10 i).license_file; readme = (u.10 i).readme; repository = (u.10 i).repository; rust_version = (u.10 i).rust_version; version = (u.10 i).version;
+      authors = (t.10 i).authors;
+      description = (t.10 i).description;
+      edition = (t.10 i).edition;
+      homepage = (t.10 i).homepage;
+      license = (t.10 i).license;
+      license_file = (u.10 i).license_file;
+      readme = (u.10 i).readme;
+      repository = (u.10 i).repository;
+      rust_version = (u.10 i).rust_version;
+      version = (u.10 i).version;
     }) ∙ cc (b.more) in
     subst (IsInheritedTable ms) whole (record {
       authors = (optional_only (texts_of key.Authors) texts (AllByRecursion Any) (texts_written key.Authors) (value_at key.Authors ms) t.0 t.5).0;
@@ -92,11 +127,29 @@ inherited_back ms w says =
     let j : text_at key.RustVersion ms ≡ Ok w.rust_version = text_back key.RustVersion ms w.rust_version says.rust_version in
     let k : version_at ms ≡ Ok w.version = optional_back version_of (λ t. string t) (λ t. is_version t ≡ true) version_written (value_at key.Version ms) w.version says.version says.version_is in
     then_back (first_keys ms) (λ a. last_keys ms >>= (λ b. Ok record {
-      authors = a.authors; description = a.description; edition = a.edition; homepage = a.homepage; license = a.license; license_file = b.license_file; readme = b.readme; repository = b.repository; rust_version = b.rust_version; version = b.version;
+      authors = a.authors;
+      description = a.description;
+      edition = a.edition;
+      homepage = a.homepage;
+      license = a.license;
+      license_file = b.license_file;
+      readme = b.readme;
+      repository = b.repository;
+      rust_version = b.rust_version;
+      version = b.version;
     })) (record { authors = w.authors; description = w.description; edition = w.edition; homepage = w.homepage; license = w.license }) w
     (λ i. a i >>= (λ a. b i >>= (λ b. c i >>= (λ c. d i >>= (λ d. e i >>= (λ e. Ok record { authors = a; description = b; edition = c; homepage = d; license = e }))))))
     (then_back (last_keys ms) (λ b. Ok record {
-      authors = w.authors; description = w.description; edition = w.edition; homepage = w.homepage; license = w.license; license_file = b.license_file; readme = b.readme; repository = b.repository; rust_version = b.rust_version; version = b.version;
+      authors = w.authors;
+      description = w.description;
+      edition = w.edition;
+      homepage = w.homepage;
+      license = w.license;
+      license_file = b.license_file;
+      readme = b.readme;
+      repository = b.repository;
+      rust_version = b.rust_version;
+      version = b.version;
     }) (record { license_file = w.license_file; readme = w.readme; repository = w.repository; rust_version = w.rust_version; version = w.version }) w
     (λ i. f i >>= (λ a. g i >>= (λ b. h i >>= (λ c. j i >>= (λ d. k i >>= (λ e. Ok record { license_file = a; readme = b; repository = c; rust_version = d; version = e })))))) refl)
 

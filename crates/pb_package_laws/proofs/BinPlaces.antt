@@ -188,7 +188,7 @@ found_to sources folder nested b is =
     let at : below (bin_folder folder) rest ≡ below folder (place_in nested b.name) = in_folder folder rest in
     let in_it : inside (bin_folder folder) (below folder (place_in nested b.name)) ≡ Some rest = ap (inside (bin_folder folder)) (sym at) ∙ found_inside (bin_folder folder) rest (some_end nested b.name) in
     let gives : binary_at nested (bin_folder folder) (below folder (place_in nested b.name)) ≡ Some record { name = b.name; source = below folder (place_in nested b.name); required_features = [] } =
-        ap (λ o. found_at (below folder (place_in nested b.name)) (name_inside nested o)) in_it ∙ ap (found_at (below folder (place_in nested b.name))) (named_so nested b.name is.letters_are) in
+    ap (λ o. found_at (below folder (place_in nested b.name)) (name_inside nested o)) in_it ∙ ap (found_at (below folder (place_in nested b.name))) (named_so nested b.name is.letters_are) in
     let same : record { name = b.name; source = below folder (place_in nested b.name); required_features = [] } ≡ b = λ i. record { name = b.name; source = sym is.source i; required_features = sym is.features i } in
     to_kept (binary_at nested (bin_folder folder)) (listed (bin_folder folder) sources) (below folder (place_in nested b.name)) b
     (listed_to sources folder (bin_folder folder) (below folder (place_in nested b.name)) (is_inside (bin_folder folder) _ rest in_it) is.file) (gives ∙ ap (λ x. Some x) same)

@@ -68,7 +68,6 @@ use Rattle.pb_package_laws.proofs.Entries.{Leads, entries_are}
 use Rattle.pb_package_laws.proofs.Features.{none_meets, features_rise, features_are}
 use Rattle.pb_package_laws.proofs.Keys.{own_or_taken, about_is, IsAbout, script_so, library_is}
 
-
 all_at : {A : Type 0} (P : A → Type 0) (xs : List A) (x : A) → AllByRecursion P xs → Contains xs x → P x
 all_at P [] x all is = absurd (none x is)
 all_at P (w ∷ xs) x all is = elim (cases w xs x is) [ inl here ↦ subst P here all.0 | inr there ↦ all_at P xs x all.1 there ]
@@ -144,7 +143,7 @@ module _ (sources : World) (at : Standing) (member : Bool) (given : Given) (ws :
       let made : Lists = record { wanted = n.0 ++ s.0; features = features_of m.features m.dependencies m.build_dependencies; has_same_binaries = has_same_binaries m.binaries } in
       let lists : made ≡ l.0 = (λ i. record { wanted = both i; features = features_of m.features m.dependencies m.build_dependencies; has_same_binaries = has_same_binaries m.binaries }) ∙ cc (o.2) in
       let same : draft_from at member k.0 made m.dev_dependencies (targets_of at.folder sources k.0.name k.0.autobins k.0.build m.library m.binaries) ≡ d =
-          (λ i. draft_from at member k.0 (lists i) m.dev_dependencies (targets_of at.folder sources k.0.name k.0.autobins k.0.build m.library m.binaries)) ∙ cc (l.2) in
+      (λ i. draft_from at member k.0 (lists i) m.dev_dependencies (targets_of at.folder sources k.0.name k.0.autobins k.0.build m.library m.binaries)) ∙ cc (l.2) in
       let all = subst (λ (x : Draft). (y : Wanted) → Contains x.wanted y → Leads places ws y) (sym same) leads in
       subst Says same (record {
         name = keys.name;
@@ -251,9 +250,9 @@ module _ (sources : World) (f : Frame) (parts : Parts) (ws : Workspace) (r : Rea
       let in_drafts : Contains drafts e.1 = map_each (λ (e : List ℕ × Draft). e.1) r.found e among in
       let drafted : draft_in drafts x.folder ≡ Some h.1 = ap (at_place drafts) h.2 ∙ h.3 in
       let same_name : has_other_name x (draft_in drafts x.folder) ≡ false =
-          none_meets (λ (w : Wanted). has_other_name w (draft_in drafts w.folder)) e.1.wanted (none_meets (λ (d : Draft). list_any (λ (w : Wanted). has_other_name w (draft_in drafts w.folder)) d.wanted) drafts fine.names e.1 in_drafts) x there in
+      none_meets (λ (w : Wanted). has_other_name w (draft_in drafts w.folder)) e.1.wanted (none_meets (λ (d : Draft). list_any (λ (w : Wanted). has_other_name w (draft_in drafts w.folder)) d.wanted) drafts fine.names e.1 in_drafts) x there in
       let same_version : has_other_version x (draft_in drafts x.folder) ≡ false =
-          none_meets (λ (w : Wanted). has_other_version w (draft_in drafts w.folder)) e.1.wanted (none_meets (λ (d : Draft). list_any (λ (w : Wanted). has_other_version w (draft_in drafts w.folder)) d.wanted) drafts fine.versions e.1 in_drafts) x there in
+      none_meets (λ (w : Wanted). has_other_version w (draft_in drafts w.folder)) e.1.wanted (none_meets (λ (d : Draft). list_any (λ (w : Wanted). has_other_version w (draft_in drafts w.folder)) d.wanted) drafts fine.versions e.1 in_drafts) x there in
       let named : bytes_eq x.name h.1.name ≡ true = not_off (bytes_eq x.name h.1.name) (sym (ap (has_other_name x) drafted) ∙ same_name) in
       let right : matches_if x.version h.1.version ≡ true = not_off (matches_if x.version h.1.version) (sym (ap (has_other_version x) drafted) ∙ same_version) in
       record {
@@ -293,7 +292,7 @@ module _ (manifest target : List ℕ) (w : World) (ws : Workspace) (path : is_pa
     unfolding workspace_of workspace_in workspace_from assembled
     came =
         let here : workspace_in sources target f root.profiles (tables_in root) root.package ≡ Ok ws =
-            sym (ap (λ x. x >>= (λ (ps : Parts). workspace_in sources target (frame_of (folder_of manifest) manifest ps.workspace) ps.profiles ps.tables ps.found)) read) ∙ made in
+        sym (ap (λ x. x >>= (λ (ps : Parts). workspace_in sources target (frame_of (folder_of manifest) manifest ps.workspace) ps.profiles ps.tables ps.found)) read) ∙ made in
         let o = opened (packages_read sources f (tables_in root) root.package) (λ r. workspace_from target f root.profiles (values_of r.found)) ws here in
         let both = by (values_of o.0.found) (fault_of (values_of o.0.found)) refl o.2 in
         record { r = o.0; packages = o.1; whole = both.0; fine = both.1 }
