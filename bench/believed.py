@@ -1,10 +1,15 @@
 #!/usr/bin/env python3
-"""What a reader of a promise has to believe: `believed.py [NAME] [--but NAME=NAME,NAME ..]` counts the definitions of
+"""What a reader of a promise has to believe: `believed.py [NAME] [--but=NAME=NAME,NAME ..]` counts the definitions of
 `specs/` on which one stands (`Headline` of pb_build where none is named), with all that they stand on in turn, and their
-lines without comments, imports and empty lines, by crate. `--but command_of=CompilesSay,..` counts, in place of what one
-definition stands on, the statements of the laws that say it in other words; a reader who believes the laws reads these.
-Names are CRATE.File.name, or a last part that is there once. What std, the toolchain's crates and the types of the code
-say is left out."""
+lines without comments, imports and empty lines, by crate. `--but=NAME=NAME,..` counts, in place of what one definition
+stands on, the statements of the laws that say it in other words; a reader who believes the laws reads these. Names are
+CRATE.File.name, or a last part that is there once. What std, the toolchain's crates and the types of the code say is left
+out. With all laws:
+
+    python3 bench/believed.py --but=pb_manifest.Document.manifest_of=ReadsManifests,DocumentsSayOne \\
+        --but=pb_workspace.Loaded.workspace_of=PackagesSay,BinariesSay,MembersSay \\
+        --but=pb_command.Command.command_of=CompilesSay,CompilesHave,RunsHave,CompilesStart,RunsStart,LibrariesAreWanted,CompilesHearRuns,RunsStartScripts
+"""
 import glob, os, re, sys
 
 top = os.path.dirname(os.path.dirname(os.path.abspath(__file__)))

@@ -12,7 +12,8 @@
 #   refused outside a build;
 # - status 101 and nothing else: it was refused before the command line was read.
 # A build behind one that ended so starts what that one has not: of later builds `fresh` and the keys of `started=` are
-# not compared. Sessions in which children die or calls fail are left out, since such a failure then meets a later build.
+# not compared. Left out are sessions in which children die or calls fail, since such a failure then meets a later build,
+# and three in which a later build reads what an earlier one has left: as a source, or as a record that is planted.
 #
 # What may come, where all allocations from one on fail: the right output, where there was none of them; else status
 # 1 and `error: bad session`, since the result lines take memory: the message lines of the first so many builds, and
@@ -150,7 +151,8 @@ names = sorted(it.removesuffix(".json") for it in os.listdir(f"{examples}/data")
 if not set(names) <= set(outputs):
     sys.exit("the file stdout has not all examples")
 texts = {name: open(f"{examples}/data/{name}.json", encoding="utf-8").read() for name in names}
-names = [name for name in names if '"die"' not in texts[name] and '"fuse"' not in texts[name]]
+DEPENDENT = ("a_record_of_an_earlier_version", "a_target_folder_that_moves", "no_number_left")
+names = [name for name in names if name not in DEPENDENT and '"die"' not in texts[name] and '"fuse"' not in texts[name]]
 alone, on = zip(*(try_example(name) for name in names))
 for what, found in (("alone", alone), ("with all that follow", on)):
     of = {kind: sum(it[2][kind] for it in found) for kind in found[0][2]}
