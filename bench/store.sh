@@ -14,7 +14,8 @@
 # said in `measured.sh`.
 #
 # On a busy machine, instructions grew with exponents of 1.00 to 1.03 in each shape; a record of 64 MiB took 116 million
-# of them to keep, and 193 MiB of memory; the same unit 84 million to compare.
+# of them to keep, and 133 MB of memory since its text is written into room that is made once; the same unit 84 million to
+# compare.
 set -euo pipefail
 crates="pb_data pb_closure pb_order pb_place pb_directive pb_manifest pb_package pb_profile pb_feature pb_unit pb_project pb_record pb_soundness pb_store"
 uses="pb_data pb_place pb_project pb_record pb_soundness pb_store"
