@@ -1,10 +1,10 @@
 -- A binary that is found has the source that one written without a path would have.
-use Rattle.std.proofs.Common.{◌≡◌, ◌≢◌, ◌∙◌, ◌⊎◌, inl, inr, ◌&&◌, ◌||◌, ◌==◌, ◌+◌, ℕ, suc, arith, Bool, true, false, not, cond, if◌then◌else◌, codes, is_some, length, drop, List, [], ◌∷◌, ◌++◌, Contains, Option, Some, None, unwrap_or, refl, sym, ap, subst}
+use Rattle.std.proofs.Common.{◌≡◌, ◌≢◌, ◌∙◌, ◌⊎◌, inl, inr, ◌&&◌, ◌||◌, ◌==◌, ℕ, suc, arith, Bool, true, false, not, cond, if◌then◌else◌, codes, is_some, length, List, [], ◌∷◌, ◌++◌, Contains, Option, Some, None, unwrap_or, refl, sym, ap, subst}
 use Rattle.std.proofs.lemmas.Bool.{false≢true}
 use Rattle.std.proofs.lemmas.Bool.Decides.{nat_tests}
 use Rattle.std.proofs.lemmas.List.Elements.{Contains-append_left, Contains-append_right}
 use Rattle.std.proofs.lemmas.Slice.Eq.{bytes_eq-Decides}
-use Rattle.std.specs.FinMap.{get, keys, retain_keys}
+use Rattle.std.specs.FinMap.{get, retain_keys}
 use Rattle.std.specs.List.{cons_option, filter, filter_map, list_all, list_any}
 use Rattle.std.specs.Str.{bytes_eq}
 use Rattle.pb_closure.proofs.Membership.{none, head, tail, cases}
@@ -14,17 +14,17 @@ use Rattle.pb_manifest.proofs.Spelled.{parted_none, parted_some}
 use Rattle.pb_package.proofs.NamesInPaths.{no_dot, unlike}
 use Rattle.pb_package.specs.declared.package.Binary.{Binary}
 use Rattle.pb_place.specs.Paths.{below, inside, is_below, is_name, is_path, is_relative, parts_of, slashed}
-use Rattle.pb_place.specs.World.{Map, World, is_same_path, listed}
+use Rattle.pb_place.specs.World.{World, is_same_path, listed}
 use Rattle.pb_place.proofs.MapLemmas.{among_keys, get-kept, same_bytes}
 use Rattle.pb_place.proofs.PathLemmas.{and_left, and_right, below_is_path, slashed_parts}
 use Rattle.pb_place.proofs.TakenApart.{found_inside, inside_is_relative, joins_again}
 use Rattle.pb_place.proofs.Within.{goes_below, one_byte}
 use Rattle.pb_workspace.specs.Between.{names_in}
 use Rattle.pb_workspace.specs.Binaries.{binary_source, first_some, flat_source, looked_for, looked_in_bin, main_source, nested_source}
-use Rattle.pb_workspace.specs.FoundBinaries.{bin_folder, binary_at, flat_name, found_at, found_binaries, main_binary, name_by, name_inside, nested_name, stem_in}
+use Rattle.pb_workspace.specs.FoundBinaries.{bin_folder, binary_at, flat_name, found_at, found_binaries, main_binary, name_inside, nested_name, stem_in}
 use Rattle.pb_workspace.specs.Laws.{FoundAsLookedFor, HasFilesAtPaths}
 use Rattle.pb_workspace.specs.Selected.{is_word}
-use Rattle.pb_workspace.specs.Sources.{has_file, has_own_file, own_source}
+use Rattle.pb_workspace.specs.Sources.{has_own_file, own_source}
 use Rattle.pb_workspace.proofs.BinPaths.{cut_after}
 use Rattle.pb_workspace.proofs.Listed.{below_twice}
 

@@ -1,5 +1,5 @@
 -- What the listings of a package's folder have is what its folder has.
-use Rattle.std.proofs.Common.{◌≡◌, ◌≢◌, ◌&&◌, ◌||◌, ◌==◌, ◌+◌, ◌++◌, ◌∙◌, List, [], ◌∷◌, ℕ, Bool, true, false, not, cond, codes, Option, Some, None, is_some, length, drop, refl, sym, ap, append_assoc}
+use Rattle.std.proofs.Common.{◌≡◌, ◌&&◌, ◌||◌, ◌==◌, ◌+◌, ◌++◌, ◌∙◌, List, [], ◌∷◌, ℕ, Bool, true, false, not, cond, codes, Option, Some, None, is_some, length, drop, refl, sym, ap, append_assoc}
 use Rattle.std.specs.FinMap.{get, keys, retain_keys}
 use Rattle.std.specs.List.{list_any}
 use Rattle.std.specs.Str.{bytes_eq}

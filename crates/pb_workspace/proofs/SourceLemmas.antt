@@ -1,5 +1,5 @@
 -- The sources of a world, file by file.
-use Rattle.std.proofs.Common.{◌≡◌, ◌&&◌, ◌||◌, ◌∙◌, List, [], ◌∷◌, map, ℕ, Bool, true, false, T, not, cond, Option, Some, None, is_some, refl, sym, ap}
+use Rattle.std.proofs.Common.{◌≡◌, ◌||◌, ◌∙◌, List, [], ◌∷◌, map, ℕ, Bool, true, false, T, not, cond, Option, None, is_some, refl, sym, ap}
 use Rattle.std.proofs.lemmas.Bool.{false≢true}
 use Rattle.std.proofs.lemmas.Slice.Eq.{bytes_eq-Decides}
 use Rattle.std.specs.List.{filter, list_any}
@@ -7,7 +7,6 @@ use Rattle.std.specs.Map.{keys_of}
 use Rattle.std.specs.Ordering.{nat_cmp}
 use Rattle.std.specs.Cmp.Lexicographic.{slice_cmp, nat_list_cmp_total}
 use Rattle.std.specs.declared.cmp.Ordering.TheVariants.{Equal}
-use Rattle.std.specs.Str.{bytes_eq}
 use Rattle.std.specs.FinMap.{get, keys, retain_keys, entries, entries_sorted, get-entries, from_sorted, get-from_sorted, entries-from_sorted, same_map}
 use Rattle.std.specs.FinMap.Entries.{is_sorted, is_sorted-where_key, where_key, find-where_key}
 use Rattle.pb_place.specs.Paths.{is_at_or_below, is_below}

@@ -1,6 +1,5 @@
 -- How a step that reads files ends: which faults come from outside the rules, and how the counters of the place moved.
 use Rattle.std.specs.Prelude.{◌≡◌, ℕ, List, [], Bool, true, false, Option, Some, None, Result, Ok, Err, MatchResult}
-use Rattle.std.specs.Str.{bytes_eq}
 use Rattle.pb_place.specs.Counts.{Counts, up}
 use Rattle.pb_place.specs.declared.place.Failure.{Failure}
 use Rattle.pb_place.specs.declared.place.Failure.TheVariants.{Called}

@@ -1,5 +1,5 @@
 -- What a reading of a workspace looks at (our own choice where The Cargo Book is silent): the path that each call of the place is given, in order, up to the first refusal. `sources` is the world without what lies at or below the target folder.
-use Rattle.std.specs.Prelude.{◌≡◌, ◌⊎◌, ℕ, zero, suc, Bool, false, true, nat_le, if◌then◌else◌, Contains, List, [], ◌∷◌, ◌++◌, length, Option, Some, None, Result, Ok, Err, MatchResult}
+use Rattle.std.specs.Prelude.{◌≡◌, ◌⊎◌, ℕ, zero, suc, false, true, nat_le, if◌then◌else◌, Contains, List, [], ◌∷◌, ◌++◌, length, Option, Some, None, Result, Ok, Err, MatchResult}
 use Rattle.std.specs.List.{flat_map}
 use Rattle.std.specs.Str.{bytes_eq}
 use Rattle.pb_place.specs.Counts.{Counts, past_call}
@@ -10,7 +10,6 @@ use Rattle.pb_package.specs.declared.fault.LoadFault.{LoadFault}
 use Rattle.pb_workspace.specs.declared.draft.Draft.{Draft}
 use Rattle.pb_workspace.specs.declared.draft.Tables.{Tables}
 use Rattle.pb_workspace.specs.declared.frame.Frame.{Frame}
-use Rattle.pb_workspace.specs.declared.rounds.Parts.{Parts}
 use Rattle.pb_workspace.specs.declared.rounds.Reading.{Reading}
 use Rattle.pb_workspace.specs.declared.wanted.Standing.{Standing}
 use Rattle.pb_workspace.specs.ByFolder.{folders_of, has}

@@ -1,5 +1,5 @@
 -- All paths of a workspace are normalised absolute paths.
-use Rattle.std.specs.Prelude.{◌≡◌, true, List, All, IfSome}
+use Rattle.std.specs.Prelude.{◌≡◌, true, All, IfSome}
 use Rattle.pb_place.specs.Paths.{is_path}
 use Rattle.pb_package.specs.declared.package.Binary.{Binary}
 use Rattle.pb_package.specs.declared.package.Library.{Library}
