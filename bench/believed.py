@@ -1,16 +1,26 @@
 #!/usr/bin/env python3
-"""What a reader of a promise has to believe: `believed.py [NAME] [--but=NAME=NAME,NAME ..]` counts the definitions of
+"""What a reader of a promise has to believe: `believed.py [NAME] [--laws] [--but=NAME=NAME,.. ..]` counts the definitions of
 `specs/` on which one stands (`Headline` of pb_build where none is named), with all that they stand on in turn, and their
 lines without comments, imports and empty lines, by crate. `--but=NAME=NAME,..` counts, in place of what one definition
 stands on, the statements of the laws that say it in other words; a reader who believes the laws reads these. Names are
 CRATE.File.name, or a last part that is there once. What std, the toolchain's crates and the types of the code say is left
-out. With all laws:
-
-    python3 bench/believed.py --but=pb_manifest.Document.manifest_of=ReadsManifests,DocumentsSayOne \\
-        --but=pb_workspace.Loaded.workspace_of=PackagesSay,BinariesSay,MembersSay \\
-        --but=pb_command.Command.command_of=CompilesSay,CompilesHave,RunsHave,CompilesStart,RunsStart,LibrariesAreWanted,CompilesHearRuns,RunsStartScripts
+out. `--laws` takes all laws of LAWS: of records and true records these say only what a build needs of them.
 """
 import glob, os, re, sys
+
+LAWS = """
+--but=pb_manifest.Document.manifest_of=ReadsManifests,DocumentsSayOne
+--but=pb_workspace.Loaded.workspace_of=WorkspacesAreRead,WorkspacesAreOne
+--but=pb_workspace.Globs.matches=DecidesGlobs
+--but=pb_command.Command.command_of=CompilesOfPlans,RunsOfPlans
+--but=pb_command.Answers.answered_of=AnswersSay
+--but=pb_command.Judge.judge=JudgesAsAnswered
+--but=pb_directive.Directives.line_directives=LinesSay
+--but=pb_directive.DepInfo.line_info=InfosSay
+--but=pb_package.Settled.IsSettled=AllAreSettled
+--but=pb_record.Parts.Reads=HasOneReading,HasReading
+--but=pb_soundness.Sound.Sound=NothingIsSound,OutsideLaw
+""".split()
 
 top = os.path.dirname(os.path.dirname(os.path.abspath(__file__)))
 HEAD = re.compile(r"^(?:abbrev |unfoldable |opaque )*(?:pub )?(?:(record|data|ruleset) )?(\S+)(?: |$)")
@@ -99,7 +109,7 @@ def count(seen, title):
 
 words = [it for it in sys.argv[1:] if not it.startswith("--")]
 instead = {}
-for it in sys.argv[1:]:
+for it in sys.argv[1:] + (LAWS if "--laws" in sys.argv else []):
     if it.startswith("--but="):
         old, _, new = it[6:].partition("=")
         instead[named(old)] = {named(part) for part in new.split(",") if part}

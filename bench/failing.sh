@@ -1,8 +1,9 @@
 #!/usr/bin/env bash
-# Runs each example session again and again, each allocation of the program failing in turn, alone and with all
-# that follow it, and compares what comes with what may come. It makes the program in a folder of its own, which it
-# takes away at the end, and runs it over a malloc that fails when it is told to. PROGRAM=FILE takes a program that
-# is made already; EVERY=N tries only each Nth allocation. The status is 1 where anything else came than may come.
+# Runs each example session with each allocation of the program failing in turn, alone and with all that follow it,
+# and compares what comes with what may come. It makes the program in a folder of its own, which it takes away at the
+# end, and runs it over a malloc that makes two copies of the process at each allocation and lets it fail in these
+# (`failing.c`). PROGRAM=FILE takes a program that is made already; EVERY=N tries only each Nth allocation; WORKERS=N so
+# many sessions at one time (4). The status is 1 where anything else came than may come.
 #
 # What may come, where one allocation fails:
 # - the right output, where the program could do without that memory;
@@ -12,8 +13,9 @@
 #   refused outside a build;
 # - status 101 and nothing else: it was refused before the command line was read.
 # A build behind one that ended so starts what that one has not: of later builds `fresh` and the keys of `started=` are
-# not compared. Left out are sessions in which children die or calls fail, since such a failure then meets a later build,
-# and three in which a later build reads what an earlier one has left: as a source, or as a record that is planted.
+# not compared. In sessions in which children die or calls fail, where such a failure then meets a later build, and in three
+# in which a later build reads what an earlier one has left, it is only looked at that each build is answered, with
+# message lines and one result line, or the session is bad.
 #
 # What may come, where all allocations from one on fail: the right output, where there was none of them; else status
 # 1 and `error: bad session`, since the result lines take memory: the message lines of the first so many builds, and
@@ -27,23 +29,29 @@ trap 'rm -rf "$folder"' EXIT
 . "$top/bench/program.sh"
 program="${PROGRAM:-$(make_program "$top" "$folder")}"
 cc -O2 -shared -fPIC -o "$folder/failing.so" "$top/bench/failing.c"
-python3 - "$program" "$folder" "$top/crates/pb_examples" "${EVERY:-1}" <<'PYTHON'
+python3 - "$program" "$folder" "$top/crates/pb_examples" "${EVERY:-1}" "${WORKERS:-4}" <<'PYTHON'
 import os, re, subprocess, sys
 from concurrent.futures import ThreadPoolExecutor
 
-program, folder, examples, every = sys.argv[1:]
+program, folder, examples, every, workers = sys.argv[1:]
 FINISH, FAILED = b'{"reason":"build-finished"', b'{"reason":"build-finished","success":false}\n'
 MEMORY, BAD = b"fault memory OutOfMemory\n", b"error: bad session\n"
 
 
-def run(session, number=0, from_then_on=False, count_file=None):
-    said = {"PATH": os.environ["PATH"], "LD_PRELOAD": f"{folder}/failing.so", "FAILING_ALLOCATION": str(number)}
-    if from_then_on:
-        said["FROM_THEN_ON"] = "1"
-    if count_file:
-        said["ALLOCATIONS_FILE"] = count_file
-    ran = subprocess.run([program, "session", session], env=said, capture_output=True, timeout=60)
-    return ran.returncode, ran.stdout, ran.stderr
+def run(name, session):
+    """What a session prints over that malloc, and what came of each allocation: its mode, how many, and what."""
+    path = f"{folder}/{name}"
+    said = {"PATH": os.environ["PATH"], "LD_PRELOAD": f"{folder}/failing.so", "OUTCOMES": path, "EVERY": every}
+    with open(f"{path}.printed", "w+b") as printed:
+        ran = subprocess.run([program, "session", session], env=said, stdout=printed, stderr=subprocess.PIPE)
+        printed.seek(0)
+        whole = (ran.returncode, printed.read(), ran.stderr)
+    came = []
+    with open(path, "rb") as it:
+        while line := it.readline():
+            mode, first, count, status, written, told = line.decode().split()
+            came.append((mode, int(first), int(count), int(status), it.read(int(written)), it.read(int(told))))
+    return whole, came
 
 
 def alike(printed):
@@ -102,28 +110,38 @@ def all_refused(printed):
     return may
 
 
-def try_all(name, session, count, from_then_on, may):
-    """Tries the allocations of an example, prints what came how often, and gives how many came and were wrong."""
-    numbers = range(1, count + 1, int(every))
-    with ThreadPoolExecutor(2) as pool:
-        came = list(zip(numbers, pool.map(lambda number: run(session, number, from_then_on), numbers)))
+class Answered:
+    """What may come of a session whose builds hang on each other: all of its builds are answered, or it is bad."""
+
+    def __init__(self, printed):
+        self.printed, self.count = printed, len(builds_of(printed))
+
+    def get(self, outcome):
+        status, written, said = outcome
+        lines = written.splitlines()
+        messages = [line for line in lines if line.startswith(b"{")]
+        if status == 0 and said == b"" and len(lines) - len(messages) == self.count:
+            return "right" if written == self.printed else "memory"
+        if status == 1 and said == BAD and len(lines) == len(messages):
+            return "bad session"
+        return "before" if outcome == (101, b"", b"") else None
+
+
+def summed(name, mode, came, may):
+    """What came how often where allocations were refused so: a line for the table, the sums, and what was wrong."""
     seen = {"right": 0, "memory": 0, "bad session": 0, "before": 0}
     wrong = []
-    for number, (status, written, said) in came:
-        outcome = (status, alike(written), said)
-        if outcome in may:
-            seen[may[outcome]] += 1
+    for _, first, count, status, written, said in (it for it in came if it[0] == mode):
+        kind = may.get((status, alike(written), said))
+        if kind:
+            seen[kind] += count
         else:
-            wrong.append((number, outcome))
-    what = "from it on" if from_then_on else "alone"
-    print(
-        f"{name:30} {what:10} {count:6} {len(numbers):6} {seen['memory']:7} "
-        f"{seen['bad session']:11} {seen['before']:6} {seen['right']:6} {len(wrong):6}",
-        flush=True,
-    )
-    for number, (status, written, said) in wrong[:1]:
-        print(f"  allocation {number}: status {status}, says {said[:200]!r}, writes {written[:300]!r}", flush=True)
-    return len(numbers), len(wrong), seen
+            wrong.append((first, count, status, written, said))
+    bad, tried = sum(it[1] for it in wrong), sum(seen.values()) + sum(it[1] for it in wrong)
+    line = f"{name:44} {mode:6} {tried:7} {seen['memory']:7} {seen['bad session']:11} {seen['before']:6} {seen['right']:6} {bad:6}"
+    for first, _, status, written, said in wrong[:1]:
+        line += f"\n  allocation {first}: status {status}, says {said[:200]!r}, writes {written[:300]!r}"
+    return line, tried, bad, seen
 
 
 def try_example(name):
@@ -132,18 +150,16 @@ def try_example(name):
         ran = subprocess.run([program, "session", session], stdout=full, stderr=subprocess.PIPE, timeout=60)
     if (ran.returncode, ran.stderr) != (1, BAD):
         sys.exit(f"{name}: wrong over a full device: status {ran.returncode}, says {ran.stderr!r}")
-    count_file = f"{folder}/{name}.count"
-    if run(session, count_file=count_file) != (0, printed, b""):
+    whole, came = run(name, session)
+    if whole != (0, printed, b""):
         sys.exit(f"{name}: wrong with all the memory that it asks for")
-    with open(count_file) as it:
-        count = int(it.read())
-    return [
-        try_all(name, session, count, False, one_refused(alike(printed))),
-        try_all(name, session, count, True, all_refused(alike(printed))),
-    ]
+    may = [Answered(alike(printed))] * 2 if name in hanging else [one_refused(alike(printed)), all_refused(alike(printed))]
+    found = [summed(name, mode, came, may) for mode, may in zip(("alone", "on"), may)]
+    print("\n".join(line for line, _, _, _ in found), flush=True)
+    return found
 
 
-print(f"{'example':30} {'refused':10} {'asked':>6} {'tried':>6} {'memory':>7} {'bad session':>11} {'before':>6} {'right':>6} {'wrong':>6}")
+print(f"{'example':44} {'mode':6} {'tried':>7} {'memory':>7} {'bad session':>11} {'before':>6} {'right':>6} {'wrong':>6}")
 with open(f"{examples}/stdout", "rb") as it:
     parts = (part.partition(b"\n") for part in re.split(rb"^== ", it.read(), flags=re.MULTILINE)[1:])
     outputs = {name.decode(): printed for name, _, printed in parts}
@@ -152,10 +168,11 @@ if not set(names) <= set(outputs):
     sys.exit("the file stdout has not all examples")
 texts = {name: open(f"{examples}/data/{name}.json", encoding="utf-8").read() for name in names}
 DEPENDENT = ("a_record_of_an_earlier_version", "a_target_folder_that_moves", "no_number_left")
-names = [name for name in names if name not in DEPENDENT and '"die"' not in texts[name] and '"fuse"' not in texts[name]]
-alone, on = zip(*(try_example(name) for name in names))
+hanging = {name for name in names if name in DEPENDENT or '"die"' in texts[name] or '"fuse"' in texts[name]}
+with ThreadPoolExecutor(int(workers)) as pool:
+    alone, on = zip(*pool.map(try_example, names))
 for what, found in (("alone", alone), ("with all that follow", on)):
-    of = {kind: sum(it[2][kind] for it in found) for kind in found[0][2]}
-    print(f"{sum(it[0] for it in found)} allocations of {len(names)} sessions refused {what}, {sum(it[1] for it in found)} outcomes were wrong: {of}")
-sys.exit(1 if any(it[1] for it in alone + on) else 0)
+    of = {kind: sum(it[3][kind] for it in found) for kind in found[0][3]}
+    print(f"{sum(it[1] for it in found)} allocations of {len(names)} sessions ({len(hanging)} only looked at for answers) refused {what}, {sum(it[2] for it in found)} outcomes were wrong: {of}")
+sys.exit(1 if any(it[2] for it in alone + on) else 0)
 PYTHON

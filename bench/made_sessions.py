@@ -1,10 +1,11 @@
 """Makes up sessions over the whole language of sessions: `session_of(number)` gives the steps of the session of this number,
-the same ones each time. A session writes a workspace of up to eight packages, and then edits, builds, and prepares
-failures in turn. Most builds are to end well, so what is refused or bad is rare in each edit. Used by `turns.sh`."""
+the same ones each time. A session writes a workspace of up to eight packages, or with PACKAGES=N in the environment of nine to N (30 at
+most), and then edits, builds, and prepares failures in turn. Most builds are to end well, so what is refused or bad is rare in each edit. Used by `turns.sh`."""
 
 import copy, os, random
 
-NAMES = ["a", "b", "c-c", "d_d", "e", "f", "g-g", "h"]
+MOST = int(os.environ.get("PACKAGES", "8"))
+NAMES = ["a", "b", "c-c", "d_d", "e", "f", "g-g", "h", *[f"n-{number}" if number % 3 else f"m_{number}" for number in range(8, 30)]][:MOST]
 VARIABLES = ["V0", "V1", "V2", "V3"]
 KINDS = ["CannotStart", "Died", "Capture"]
 PROFILES = ["dev"] * 6 + ["release"] * 3 + ["fast"] * 3 + ["test", "bench"]
@@ -217,7 +218,7 @@ def new_items(r, package):
 
 def new_model(r):
     model = {"packages": [], "listed": r.random() < 0.3, "excluded": [], "inherited": "0.1.0", "profiles": {"fast": {"inherits": '"release"'}}, "others": {"/other/x.txt": ["one"], "/other/y.txt": ["one"]}}
-    count = r.choice([1, 2, 2, 3, 3, 4, 5, 6, 7, 8])
+    count = r.choice([1, 2, 2, 3, 3, 4, 5, 6, 7, 8]) if MOST <= 8 else r.randint(9, MOST)
     root = r.randrange(count) if r.random() < 0.5 else -1
     for number in range(count):
         there = "/w" if number == root else f"/x/p{number}" if r.random() < 0.1 else f"/w/p{number}"
@@ -341,7 +342,7 @@ def edit_packages(r, model):
                 for entry in [it for it in package["entries"] if it["of"] == gone["name"]]:
                     package["entries"].remove(entry)
                     drop_uses(package, entry)
-    elif len(model["packages"]) < 8:
+    elif len(model["packages"]) < MOST:
         name = next(it for it in NAMES if it not in [package["name"] for package in model["packages"]])
         model["packages"].append(new_package(r, model, name, f"/w/p{NAMES.index(name)}" if r.random() < 0.9 else f"/x/p{NAMES.index(name)}"))
     elif r.random() < 0.3:

@@ -34,7 +34,7 @@ use anyhow::Result;
 use child::Silent;
 use pb_data::{Bytes, Items, Text, TryCopy};
 use pb_place::{Command, Ended, Memory, PathFault, PathText, RelativePath};
-use pb_project::InputName;
+use pb_record::InputName;
 use pb_record::{Asked, Record, read_record};
 use pb_store::Store;
 use std::alloc::{AllocError, Global};

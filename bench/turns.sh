@@ -4,7 +4,7 @@
 # sides, inherited keys, profiles), and in turn edits of every kind, builds with other options, picks and jobs, `die` and
 # `fuse`. SESSIONS=N so many (10,000 where it is absent), SEED=N the first of their numbers (1), WORKERS=N so many at one
 # time (2); ONLY=N shows the session of this number and what is wrong with it. PROGRAM=FILE takes a program that is made
-# already.
+# already, PACKAGES=30 makes workspaces of nine to thirty packages.
 #
 # What is looked at:
 #   lines      a build that ends without a fault has the message lines, but for `fresh`, and the result, but for what was
@@ -46,7 +46,7 @@ def run(steps, name):
     path = f"{folder}/{os.getpid()}.{name}.json"
     with open(path, "w") as it:
         json.dump(steps, it)
-    ran = subprocess.run([program, "session", path], capture_output=True, text=True, timeout=120)
+    ran = subprocess.run([program, "session", path], capture_output=True, text=True, timeout=600)
     if ran.returncode or ran.stderr:
         raise Refused(f"status {ran.returncode}, {ran.stderr[:300]!r}")
     lines = ran.stdout.splitlines()

@@ -3,8 +3,8 @@ use Rattle.std.specs.Prelude.{ℕ, ◌==◌, ◌-◌, Bool, true, if◌then◌el
 use Rattle.std.specs.Fmt.{decimal}
 use Rattle.std.specs.List.{concat}
 use Rattle.pb_answer.specs.declared.summary.Summary.{Summary}
-use Rattle.pb_project.specs.declared.answer.InputName.{InputName}
-use Rattle.pb_project.specs.declared.answer.InputName.TheVariants.{Path, Variable}
+use Rattle.pb_record.specs.declared.record.InputName.{InputName}
+use Rattle.pb_record.specs.declared.record.InputName.TheVariants.{Path, Variable}
 use Rattle.pb_project.specs.declared.fault.UnitFault.{UnitFault}
 use Rattle.pb_store.specs.declared.difference.CommandPart.{CommandPart}
 use Rattle.pb_store.specs.declared.difference.CommandPart.TheVariants.{Program, Words, Folder, Out, Target, Toolchain, Reads}

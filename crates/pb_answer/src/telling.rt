@@ -7,7 +7,7 @@ ghost use Rattle.pb_answer.specs.Explanation.{part, reason, started_line, line_i
 use crate::line::joined;
 use crate::summary::Summary;
 use pb_data::{Bytes, Text};
-use pb_project::InputName;
+use pb_record::InputName;
 use pb_store::{CommandPart, Difference};
 use std::alloc::{AllocError, Global};
 

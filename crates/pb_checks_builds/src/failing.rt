@@ -251,7 +251,7 @@ const LAST_OF_PAIR: &str =
 /// Those of two libraries of an earlier version, the first of which is made. Of the second, what its record holds is
 /// looked at, and the record written anew.
 const LAST_OF_OLD: &str =
-    "fault a.target.lib CannotStart, fault a.target.lib Died, fault a.target.lib Device, fault a.target.lib Device, fault a.target.lib Device, fault b.target.lib Device, fault b.target.lib Device, fault b.target.lib Device, fault b.target.lib Device, fault b.target.lib Device, fault b.target.lib Device, fault b.target.lib Device, fault b.target.lib Device, fault b.target.lib Device, fault b.target.lib Device, ";
+    "fault a.target.lib CannotStart, fault a.target.lib Died, fault a.target.lib Device, fault a.target.lib Device, fault a.target.lib Device, fault b.target.lib Device, fault b.target.lib Device, fault b.target.lib Device, fault b.target.lib Device, fault b.target.lib Device, fault b.target.lib Device, fault b.target.lib Device, fault b.target.lib Device, fault b.target.lib Device, ";
 
 /// The trials.
 const TRIALS: &[Trial] = &[

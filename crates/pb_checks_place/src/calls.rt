@@ -1,21 +1,18 @@
 //! Writes and removals in turn, and variables in order.
 
 use super::echo::Echo;
-use super::memory::read;
+use super::memory::{read, remove_tree, write};
 use pb_data::Text;
-use pb_place::{Memory, PathText, Place, TextMap, last_word_stands};
-use std::alloc::Global;
+use pb_place::{Memory, TextMap, last_word_stands};
+use std::alloc::{AllocError, Global};
 use std::test::Fail;
 
 /// Writes a text, or removes where it is `none`.
 fn change(alloc: Global, memory: &mut Memory<Echo>, path: &str, text: &str) -> Result<(), Fail> {
-    let path = PathText::parse(alloc, path)?;
     if text == "none" {
-        memory.remove_tree(alloc, &path)?;
-        return Ok(());
+        return remove_tree(alloc, memory, path);
     }
-    memory.write(alloc, &path, text.as_bytes())?;
-    Ok(())
+    write(alloc, memory, path, text)
 }
 
 /// Paths, and the text that is written at each; `none` where it is removed.
@@ -36,14 +33,13 @@ const LEFT: &[(&str, &str)] = &[
     ("/c", "five"),
 ];
 
-/// A place in memory at which the changes were made in turn.
-fn changed(alloc: Global) -> Result<Memory<Echo>, Fail> {
-    let mut memory = Memory::new(alloc, Echo);
+/// Makes the changes in turn.
+fn change_all(alloc: Global, memory: &mut Memory<Echo>) -> Result<(), Fail> {
     for case in CHANGES {
         let (path, text) = *case;
-        change(alloc, &mut memory, path, text)?;
+        change(alloc, memory, path, text)?;
     }
-    Ok(memory)
+    Ok(())
 }
 
 /// Whether this is read at a path.
@@ -52,13 +48,22 @@ fn reads(alloc: Global, memory: &mut Memory<Echo>, path: &str, wanted: &str) -> 
     Ok(told.as_str() == wanted)
 }
 
-#[test]
-fn changes_in_turn(rt: HostRuntime) -> Result<(), Fail> {
-    let mut memory = changed(rt.alloc())?;
+/// The first path at which something else is read after all changes.
+fn first_wrong(alloc: Global, memory: &mut Memory<Echo>) -> Result<Option<&'static str>, Fail> {
+    change_all(alloc, memory)?;
     for case in LEFT {
         let (path, wanted) = *case;
-        assert!(rt; reads(rt.alloc(), &mut memory, path, wanted)?, "at {path}");
+        if !reads(alloc, memory, path, wanted)? {
+            return Ok(Some(path));
+        }
     }
+    Ok(None)
+}
+
+#[test]
+fn changes_in_turn(rt: HostRuntime) -> Result<(), Fail> {
+    let mut memory = Memory::new(rt.alloc(), Echo);
+    assert_eq!(rt; first_wrong(rt.alloc(), &mut memory)?, None);
     last_word_stands();
     Ok(())
 }
@@ -85,14 +90,19 @@ const VARIABLES_IN_ORDER: &[(&str, &str)] = &[
     ("c", "6"),
 ];
 
-/// The variables that were given these values in turn, and of which `c` was taken away.
-fn given(alloc: Global) -> Result<TextMap, Fail> {
-    let mut variables = TextMap::new(alloc);
+/// Gives variables these values in turn, and takes `c` away.
+fn give(alloc: Global, variables: &mut TextMap) -> Result<(), AllocError> {
     for case in VARIABLES_IN_ORDER {
         let (name, value) = *case;
         variables.insert(alloc, name, value)?;
     }
-    variables.remove(alloc, "c")?;
+    variables.remove(alloc, "c")
+}
+
+/// The variables that were given these values.
+fn given(alloc: Global) -> Result<TextMap, AllocError> {
+    let mut variables = TextMap::new(alloc);
+    give(alloc, &mut variables)?;
     Ok(variables)
 }
 

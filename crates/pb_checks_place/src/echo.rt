@@ -100,23 +100,39 @@ fn one_path(alloc: Global, path: &str) -> Result<Items<PathText>, PathFault> {
     Ok(paths)
 }
 
-/// A command for the child: it says the file at `folder` and the variable NAME, and writes into `/w/target/out`.
-/// Of the target folder `/w/target` it sees what lies below `/w/target/dep`.
-pub fn say(alloc: Global, folder: &str) -> Result<Command, PathFault> {
-    let program = Text::from_str(alloc, "NAME")?;
-    let folder = PathText::parse(alloc, folder)?;
-    let out = PathText::parse(alloc, "/w/target/out")?;
-    let target = PathText::parse(alloc, "/w/target")?;
-    let toolchain = Bytes::from_slice(alloc, b"")?;
-    let reads = one_path(alloc, "/w/target/dep")?;
-    Ok(Command {
+/// A command without words and pairs.
+fn command_of(
+    alloc: Global,
+    program: Text,
+    folder: PathText,
+    out: PathText,
+    target: PathText,
+    reads: Items<PathText>,
+) -> Command {
+    Command {
         program,
         words: Items::new(alloc),
         folder,
         pairs: Items::new(alloc),
         out: Some(out),
         target,
-        toolchain,
+        toolchain: Bytes::new(Vec::new(alloc)),
         reads,
-    })
+    }
+}
+
+/// A command for the child: it says the file at `folder` and the variable NAME, and writes into `out`. Of the target
+/// folder `/w/target` it sees what lies below `/w/target/dep`.
+pub fn say_into(alloc: Global, folder: &str, out: PathText) -> Result<Command, PathFault> {
+    let program = Text::from_str(alloc, "NAME")?;
+    let folder = PathText::parse(alloc, folder)?;
+    let target = PathText::parse(alloc, "/w/target")?;
+    let reads = one_path(alloc, "/w/target/dep")?;
+    Ok(command_of(alloc, program, folder, out, target, reads))
+}
+
+/// The same, into `/w/target/out`.
+pub fn say(alloc: Global, folder: &str) -> Result<Command, PathFault> {
+    let out = PathText::parse(alloc, "/w/target/out")?;
+    say_into(alloc, folder, out)
 }

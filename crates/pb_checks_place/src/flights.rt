@@ -1,25 +1,41 @@
 //! Children in flight at a place in memory, and calls of it that fail as it is told.
 
-use super::echo::{Echo, say};
+use super::echo::{self, Echo};
+use super::memory::put;
 use pb_place::{Command, Memory, PathText, Place, PlaceFault, Seen, StartFault};
 use std::alloc::Global;
 use std::test::Fail;
 
+/// The path of a folder of this name in the target folder.
+fn path_of(alloc: Global, name: &str) -> Result<PathText, Fail> {
+    let path = format!(in alloc; "/w/target/{name}")?;
+    Ok(PathText::parse(alloc, path.as_str())?)
+}
+
 /// A command for the child that writes into a folder of this name.
 fn say_into(alloc: Global, name: &str) -> Result<Command, Fail> {
-    let path = format!(in alloc; "/w/target/{name}")?;
-    let out = PathText::parse(alloc, path.as_str())?;
-    let command = say(alloc, "/w/a")?;
-    Ok(Command {
-        out: Some(out),
-        ..command
-    })
+    let out = path_of(alloc, name)?;
+    Ok(echo::say_into(alloc, "/w/a", out)?)
+}
+
+/// Spawns a child: its ticket, or the fault.
+pub fn launch<P: Place>(alloc: Global, place: &mut P, command: Command) -> Result<u64, StartFault> {
+    place.spawn(alloc, &command)
+}
+
+/// A child that is spawned for a folder of this name: its ticket, or the fault.
+fn launch_into(
+    alloc: Global,
+    memory: &mut Memory<Echo>,
+    name: &str,
+) -> Result<Result<u64, StartFault>, Fail> {
+    let command = say_into(alloc, name)?;
+    Ok(launch(alloc, memory, command))
 }
 
 /// Spawns a child that writes into a folder of this name.
 fn spawn(alloc: Global, memory: &mut Memory<Echo>, name: &str) -> Result<(), Fail> {
-    let command = say_into(alloc, name)?;
-    memory.spawn(alloc, &command)?;
+    launch_into(alloc, memory, name)??;
     Ok(())
 }
 
@@ -36,8 +52,7 @@ fn ends(alloc: Global, memory: &mut Memory<Echo>, ticket: u64) -> bool {
 
 /// How many files stand below a folder of this name.
 fn files_in(alloc: Global, memory: &mut Memory<Echo>, name: &str) -> Result<usize, Fail> {
-    let path = format!(in alloc; "/w/target/{name}")?;
-    let folder = PathText::parse(alloc, path.as_str())?;
+    let folder = path_of(alloc, name)?;
     let paths = memory.list(alloc, &folder)?;
     Ok(paths.len())
 }
@@ -98,6 +113,11 @@ fn tickets_in_every_order(rt: HostRuntime) -> Result<(), Fail> {
     Ok(())
 }
 
+/// The fault of a start, if it fails.
+fn start_fault(alloc: Global, memory: &mut Memory<Echo>, command: Command) -> Option<StartFault> {
+    memory.start(alloc, &command).err()
+}
+
 /// The fault of a start into a folder of this name, if it fails.
 fn start_into(
     alloc: Global,
@@ -105,7 +125,13 @@ fn start_into(
     name: &str,
 ) -> Result<Option<StartFault>, Fail> {
     let command = say_into(alloc, name)?;
-    Ok(memory.start(alloc, &command).err())
+    Ok(start_fault(alloc, memory, command))
+}
+
+/// Whether a start into a folder of this name does not fail.
+fn starts_into(alloc: Global, memory: &mut Memory<Echo>, name: &str) -> Result<bool, Fail> {
+    let fault = start_into(alloc, memory, name)?;
+    Ok(fault.is_none())
 }
 
 /// The fault of a start into the folder `a.lib`, how many files it leaves there, and whether a start into another
@@ -114,10 +140,10 @@ fn starts_in_turn(
     alloc: Global,
     memory: &mut Memory<Echo>,
 ) -> Result<(Option<StartFault>, usize, bool), Fail> {
-    let spared = start_into(alloc, memory, "b.lib")?.is_none();
+    let spared = starts_into(alloc, memory, "b.lib")?;
     let fault = start_into(alloc, memory, "a.lib")?;
     let left = files_in(alloc, memory, "a.lib")?;
-    let again = start_into(alloc, memory, "a.lib")?.is_none();
+    let again = starts_into(alloc, memory, "a.lib")?;
     Ok((fault, left, spared && again))
 }
 
@@ -188,27 +214,16 @@ fn last_fault<P: Place>(alloc: Global, place: &mut P) -> Result<Option<PlaceFaul
     let mut last = None;
     for case in CALLS {
         let (call, path) = *case;
-        if let Some(fault) = fault_at(alloc, place, call, path)? {
-            last = Some(fault);
-        }
+        last = fault_at(alloc, place, call, path)?.or(last);
     }
     Ok(last)
 }
 
-/// Puts a file.
-fn put(alloc: Global, memory: &mut Memory<Echo>, path: &str, text: &str) -> Result<(), Fail> {
-    let path = PathText::parse(alloc, path)?;
-    memory.put(alloc, &path, text.as_bytes())?;
-    Ok(())
-}
-
-/// A place with a file at each of `/w/a`, `/w/b` and `/w/c`.
-fn furnished(alloc: Global) -> Result<Memory<Echo>, Fail> {
-    let mut memory = Memory::new(alloc, Echo);
-    put(alloc, &mut memory, "/w/a", "old")?;
-    put(alloc, &mut memory, "/w/b", "x")?;
-    put(alloc, &mut memory, "/w/c", "x")?;
-    Ok(memory)
+/// Puts a file at each of `/w/a`, `/w/b` and `/w/c`.
+fn furnish(alloc: Global, memory: &mut Memory<Echo>) -> Result<(), Fail> {
+    put(alloc, memory, "/w/a", "old")?;
+    put(alloc, memory, "/w/b", "x")?;
+    put(alloc, memory, "/w/c", "x")
 }
 
 /// The length of what stands at a path, 9 for nothing.
@@ -222,13 +237,22 @@ fn length_at(alloc: Global, memory: &Memory<Echo>, path: &str) -> Result<usize, 
 
 /// The fault of the last call that failed under this fuse, how many failed, how many came after, and the length of
 /// what stands at `/w/a` then.
-fn fused(alloc: Global, number: u64) -> Result<(Option<PlaceFault>, u64, u64, usize), Fail> {
-    let mut memory = furnished(alloc)?;
-    memory.fuse(number);
-    let mut seen = Seen::new(memory);
-    let fault = last_fault(alloc, &mut seen)?;
+fn fused_in(
+    alloc: Global,
+    seen: &mut Seen<Memory<Echo>>,
+    number: u64,
+) -> Result<(Option<PlaceFault>, u64, u64, usize), Fail> {
+    furnish(alloc, &mut seen.place)?;
+    seen.place.fuse(number);
+    let fault = last_fault(alloc, seen)?;
     let left = length_at(alloc, &seen.place, "/w/a")?;
     Ok((fault, seen.failures(), seen.after, left))
+}
+
+/// The same at a place of its own.
+fn fused(alloc: Global, number: u64) -> Result<(Option<PlaceFault>, u64, u64, usize), Fail> {
+    let mut seen = Seen::new(Memory::new(alloc, Echo));
+    fused_in(alloc, &mut seen, number)
 }
 
 /// A fuse, the fault that it makes, how many calls came after, and the length of what stands at `/w/a` then.
@@ -256,18 +280,29 @@ fn fuses_at_each_number(rt: HostRuntime) -> Result<(), Fail> {
 }
 
 /// The fault of a call where the fuse is 1, and the lengths of what stands at `/w/a`, `/w/b` and `/w/c` then.
+fn halved_in(
+    alloc: Global,
+    memory: &mut Memory<Echo>,
+    call: &str,
+    path: &str,
+) -> Result<(Option<PlaceFault>, usize, usize, usize), Fail> {
+    furnish(alloc, memory)?;
+    memory.fuse(1);
+    let fault = fault_at(alloc, memory, call, path)?;
+    let first = length_at(alloc, memory, "/w/a")?;
+    let second = length_at(alloc, memory, "/w/b")?;
+    let third = length_at(alloc, memory, "/w/c")?;
+    Ok((fault, first, second, third))
+}
+
+/// The same at a place of its own.
 fn halved(
     alloc: Global,
     call: &str,
     path: &str,
 ) -> Result<(Option<PlaceFault>, usize, usize, usize), Fail> {
-    let mut memory = furnished(alloc)?;
-    memory.fuse(1);
-    let fault = fault_at(alloc, &mut memory, call, path)?;
-    let first = length_at(alloc, &memory, "/w/a")?;
-    let second = length_at(alloc, &memory, "/w/b")?;
-    let third = length_at(alloc, &memory, "/w/c")?;
-    Ok((fault, first, second, third))
+    let mut memory = Memory::new(alloc, Echo);
+    halved_in(alloc, &mut memory, call, path)
 }
 
 #[test]
@@ -301,16 +336,6 @@ fn a_start_is_two_calls(rt: HostRuntime) -> Result<(), Fail> {
     Ok(())
 }
 
-/// A child that is spawned for a folder of this name: its ticket, or the fault.
-fn launch(
-    alloc: Global,
-    memory: &mut Memory<Echo>,
-    name: &str,
-) -> Result<Result<u64, StartFault>, Fail> {
-    let command = say_into(alloc, name)?;
-    Ok(memory.spawn(alloc, &command))
-}
-
 /// The fault of a child that was not spawned, or did not answer.
 fn fault_of_child(
     alloc: Global,
@@ -330,8 +355,8 @@ fn fly_two(
     alloc: Global,
     memory: &mut Memory<Echo>,
 ) -> Result<(Option<StartFault>, Option<StartFault>, bool), Fail> {
-    let first = launch(alloc, memory, "a")?;
-    let second = launch(alloc, memory, "b")?;
+    let first = launch_into(alloc, memory, "a")?;
+    let second = launch_into(alloc, memory, "b")?;
     let reads = fault_at(alloc, memory, "read", "/w/a")?.is_none();
     let later = fault_of_child(alloc, memory, second);
     let earlier = fault_of_child(alloc, memory, first);

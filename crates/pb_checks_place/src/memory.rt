@@ -3,7 +3,8 @@
 use super::echo::{Echo, say};
 use pb_data::{Bytes, Text};
 use pb_place::{Ended, Memory, PathText, Place};
-use std::alloc::Global;
+use std::alloc::{AllocError, Global};
+use std::process::Abort;
 use std::test::Fail;
 
 /// The path that a text says.
@@ -11,19 +12,20 @@ fn at(alloc: Global, text: &str) -> Result<PathText, Fail> {
     Ok(PathText::parse(alloc, text)?)
 }
 
-/// The text of some bytes, or `none`.
-fn text_of(alloc: Global, found: Option<Bytes>) -> Result<Text, Fail> {
-    match found {
-        Some(bytes) => Ok(Text::new(String::from_utf8(bytes.into_vec())?)),
-        None => Ok(Text::from_str(alloc, "none")?),
-    }
+/// The text of some bytes, `none`, or `wrong` where they are no text.
+fn text_of(alloc: Global, found: &Option<Bytes>) -> Result<Text, AllocError> {
+    let text = match found {
+        Some(bytes) => str::from_utf8(bytes.as_slice()).unwrap_or("wrong"),
+        None => "none",
+    };
+    Text::from_str(alloc, text)
 }
 
 /// The file at a path that is read, or `none`.
 pub fn read<P: Place>(alloc: Global, place: &mut P, path: &str) -> Result<Text, Fail> {
     let path = at(alloc, path)?;
     let found = place.read(alloc, &path)?;
-    text_of(alloc, found)
+    Ok(text_of(alloc, &found)?)
 }
 
 /// Paths, a space after each.
@@ -74,8 +76,8 @@ fn variable<P: Place>(alloc: Global, place: &mut P, name: &str) -> Result<Text, 
 /// How a child ended: its status, its output and its errors, with spaces between them.
 fn said(alloc: Global, ended: &Ended) -> Result<Text, Fail> {
     let status = ended.status;
-    let stdout = str::from_utf8(ended.stdout.as_slice())?;
-    let stderr = str::from_utf8(ended.stderr.as_slice())?;
+    let stdout = str::from_utf8(ended.stdout.as_slice()).unwrap_or("wrong");
+    let stderr = str::from_utf8(ended.stderr.as_slice()).unwrap_or("wrong");
     Ok(Text::new(format!(in alloc; "{status} {stdout} {stderr}")?))
 }
 
@@ -86,55 +88,51 @@ fn start<P: Place>(alloc: Global, place: &mut P, path: &str) -> Result<Text, Fai
     said(alloc, &ended)
 }
 
-/// Writes or removes files as a place does.
-fn change<P: Place>(
-    alloc: Global,
-    place: &mut P,
-    path: &str,
-    bytes: Option<&str>,
-) -> Result<Text, Fail> {
-    let path = at(alloc, path)?;
-    match bytes {
-        Some(bytes) => place.write(alloc, &path, bytes.as_bytes())?,
-        None => place.remove_tree(alloc, &path)?,
-    }
+/// `done`, once a call did not fail.
+fn done(alloc: Global, answer: Result<(), Fail>) -> Result<Text, Fail> {
+    answer?;
     Ok(Text::from_str(alloc, "done")?)
 }
 
-/// Edits files as a session does.
-fn edit(
-    alloc: Global,
-    memory: &mut Memory<Echo>,
-    path: &str,
-    bytes: Option<&str>,
-) -> Result<Text, Fail> {
+/// Writes a file as a place does.
+pub fn write<P: Place>(alloc: Global, place: &mut P, path: &str, text: &str) -> Result<(), Fail> {
     let path = at(alloc, path)?;
-    match bytes {
-        Some(bytes) => memory.put(alloc, &path, bytes.as_bytes())?,
-        None => memory.remove(alloc, &path)?,
-    }
-    Ok(Text::from_str(alloc, "done")?)
+    Ok(place.write(alloc, &path, text.as_bytes())?)
 }
 
-/// Edits variables as a session does.
-fn edit_variable(
-    alloc: Global,
-    memory: &mut Memory<Echo>,
-    name: &str,
-    value: Option<&str>,
-) -> Result<Text, Fail> {
-    match value {
-        Some(value) => memory.set(alloc, name, value)?,
-        None => memory.unset(alloc, name)?,
-    }
-    Ok(Text::from_str(alloc, "done")?)
+/// Removes files as a place does.
+pub fn remove_tree<P: Place>(alloc: Global, place: &mut P, path: &str) -> Result<(), Fail> {
+    let path = at(alloc, path)?;
+    Ok(place.remove_tree(alloc, &path)?)
+}
+
+/// Puts a file as a session does.
+pub fn put(alloc: Global, memory: &mut Memory<Echo>, path: &str, text: &str) -> Result<(), Fail> {
+    let path = at(alloc, path)?;
+    Ok(memory.put(alloc, &path, text.as_bytes())?)
+}
+
+/// Removes files as a session does.
+fn remove(alloc: Global, memory: &mut Memory<Echo>, path: &str) -> Result<(), Fail> {
+    let path = at(alloc, path)?;
+    Ok(memory.remove(alloc, &path)?)
+}
+
+/// Sets a variable as a session does.
+fn set(alloc: Global, memory: &mut Memory<Echo>, name: &str, value: &str) -> Result<(), Fail> {
+    Ok(memory.set(alloc, name, value)?)
+}
+
+/// Takes a variable away as a session does.
+fn unset(alloc: Global, memory: &mut Memory<Echo>, name: &str) -> Result<(), Fail> {
+    Ok(memory.unset(alloc, name)?)
 }
 
 /// The file at a path, or `none`.
 fn file(alloc: Global, memory: &Memory<Echo>, path: &str) -> Result<Text, Fail> {
     let path = at(alloc, path)?;
     let found = memory.file(alloc, &path)?;
-    text_of(alloc, found)
+    Ok(text_of(alloc, &found)?)
 }
 
 /// What a call of a place answers.
@@ -150,8 +148,8 @@ fn call<P: Place>(
         "list" => list(alloc, place, name),
         "list_outside" => list_outside(alloc, place, name, text),
         "list_directly" => list_directly(alloc, place, name),
-        "write" => change(alloc, place, name, Some(text)),
-        "remove_tree" => change(alloc, place, name, None),
+        "write" => done(alloc, write(alloc, place, name, text)),
+        "remove_tree" => done(alloc, remove_tree(alloc, place, name)),
         "variable" => variable(alloc, place, name),
         "start" => start(alloc, place, name),
         _ => Err(Fail::from("no such call")),
@@ -166,10 +164,10 @@ fn answer(
     words: (&str, &str),
 ) -> Result<Text, Fail> {
     match words.0 {
-        "put" => edit(alloc, memory, name, Some(words.1)),
-        "remove" => edit(alloc, memory, name, None),
-        "set" => edit_variable(alloc, memory, name, Some(words.1)),
-        "unset" => edit_variable(alloc, memory, name, None),
+        "put" => done(alloc, put(alloc, memory, name, words.1)),
+        "remove" => done(alloc, remove(alloc, memory, name)),
+        "set" => done(alloc, set(alloc, memory, name, words.1)),
+        "unset" => done(alloc, unset(alloc, memory, name)),
         "file" => file(alloc, memory, name),
         _ => call(alloc, memory, words.0, name, words.1),
     }
@@ -186,15 +184,13 @@ const FILES: &[(&str, &str)] = &[
     ("/w/a/b", "inside"),
 ];
 
-/// A place with these files and a variable.
-fn furnished(alloc: Global) -> Result<Memory<Echo>, Fail> {
-    let mut memory = Memory::new(alloc, Echo);
+/// Puts these files, and sets a variable.
+fn furnish(alloc: Global, memory: &mut Memory<Echo>) -> Result<(), Fail> {
     for file in FILES {
         let (path, text) = *file;
-        edit(alloc, &mut memory, path, Some(text))?;
+        put(alloc, memory, path, text)?;
     }
-    edit_variable(alloc, &mut memory, "NAME", Some("value"))?;
-    Ok(memory)
+    set(alloc, memory, "NAME", "value")
 }
 
 /// The counters of a place: failures, starts and late calls.
@@ -204,14 +200,13 @@ fn counters<P: Place>(place: &P) -> (u64, u64, u64) {
 
 /// Whether a line `CALL|NAME|TEXT|ANSWER` tells what the call answers.
 fn is_answered(alloc: Global, memory: &mut Memory<Echo>, line: &str) -> Result<bool, Fail> {
-    let parts: Vec<&str> = line.split('|').collect(alloc)?;
-    match parts.as_slice() {
-        [word, name, text, want] => {
-            let told = answer(alloc, memory, *name, (*word, *text))?;
-            Ok(told.as_str() == *want)
-        }
-        _ => Ok(false),
-    }
+    let mut parts = line.split('|');
+    let word = parts.next().unwrap_or("");
+    let name = parts.next().unwrap_or("");
+    let text = parts.next().unwrap_or("");
+    let want = parts.next().unwrap_or("no answer");
+    let told = answer(alloc, memory, name, (word, text))?;
+    Ok(told.as_str() == want && parts.next().is_none())
 }
 
 /// Makes the calls of some lines in turn, and gives the first line that tells another answer.
@@ -229,13 +224,30 @@ fn first_wrong_line<'a>(
 }
 
 /// The same at a place that is furnished, where none of the calls fails, and so many start a child: else `counters`.
-fn first_wrong<'a>(alloc: Global, lines: &'a str, starts: u64) -> Result<Option<&'a str>, Fail> {
-    let mut memory = furnished(alloc)?;
-    let wrong = first_wrong_line(alloc, &mut memory, lines)?;
-    if wrong.is_none() && counters(&memory) != (0, starts, 0) {
+fn first_wrong_in<'a>(
+    alloc: Global,
+    memory: &mut Memory<Echo>,
+    lines: &'a str,
+    starts: u64,
+) -> Result<Option<&'a str>, Fail> {
+    furnish(alloc, memory)?;
+    let wrong = first_wrong_line(alloc, memory, lines)?;
+    if wrong.is_none() && counters(memory) != (0, starts, 0) {
         return Ok(Some("counters"));
     }
     Ok(wrong)
+}
+
+/// The same at a place of its own.
+fn first_wrong<'a>(alloc: Global, lines: &'a str, starts: u64) -> Result<Option<&'a str>, Fail> {
+    let mut memory = Memory::new(alloc, Echo);
+    first_wrong_in(alloc, &mut memory, lines, starts)
+}
+
+/// Asserts that there is none.
+fn assert_lines(rt: &impl Abort, alloc: Global, lines: &str, starts: u64) -> Result<(), Fail> {
+    assert_eq!(rt; first_wrong(alloc, lines, starts)?, None);
+    Ok(())
 }
 
 #[test]
@@ -249,8 +261,7 @@ fn lists_and_reads(rt: HostRuntime) -> Result<(), Fail> {
         read|/w||none\n\
         file|/w/ab||longer\n\
         file|/w/abc||none";
-    assert_eq!(rt; first_wrong(rt.alloc(), lines, 0)?, None);
-    Ok(())
+    assert_lines(&rt, rt.alloc(), lines, 0)
 }
 
 #[test]
@@ -262,8 +273,7 @@ fn lists_outside(rt: HostRuntime) -> Result<(), Fail> {
         list_outside|/w/target|/w/target|\n\
         list_outside|/w/target|/w|\n\
         list_outside|/x|/w|";
-    assert_eq!(rt; first_wrong(rt.alloc(), lines, 0)?, None);
-    Ok(())
+    assert_lines(&rt, rt.alloc(), lines, 0)
 }
 
 #[test]
@@ -276,8 +286,7 @@ fn lists_directly(rt: HostRuntime) -> Result<(), Fail> {
         list_directly|/x||\n\
         write|/f||done\n\
         list_directly|/||/f ";
-    assert_eq!(rt; first_wrong(rt.alloc(), lines, 0)?, None);
-    Ok(())
+    assert_lines(&rt, rt.alloc(), lines, 0)
 }
 
 #[test]
@@ -295,8 +304,7 @@ fn writes_and_removes(rt: HostRuntime) -> Result<(), Fail> {
         read|/||root\n\
         remove_tree|/||done\n\
         read|/||none";
-    assert_eq!(rt; first_wrong(rt.alloc(), lines, 0)?, None);
-    Ok(())
+    assert_lines(&rt, rt.alloc(), lines, 0)
 }
 
 #[test]
@@ -315,8 +323,7 @@ fn edits(rt: HostRuntime) -> Result<(), Fail> {
         unset|NAME||done\n\
         variable|NAME||none\n\
         variable|||a=b";
-    assert_eq!(rt; first_wrong(rt.alloc(), lines, 0)?, None);
-    Ok(())
+    assert_lines(&rt, rt.alloc(), lines, 0)
 }
 
 #[test]
@@ -333,6 +340,5 @@ fn starts(rt: HostRuntime) -> Result<(), Fail> {
         start|/w/target/dep/lib||7 read value\n\
         set|NAME||done\n\
         start|/w/nothing||7  ";
-    assert_eq!(rt; first_wrong(rt.alloc(), lines, 7)?, None);
-    Ok(())
+    assert_lines(&rt, rt.alloc(), lines, 7)
 }

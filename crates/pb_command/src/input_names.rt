@@ -5,12 +5,13 @@ ghost use Rattle.std.specs.List.{flat_map, find};
 ghost use Rattle.pb_data.specs.Gives.{Gives};
 ghost use Rattle.pb_data.specs.Mentions.{is_mentioned, mentioned, mentioned_all, once};
 ghost use Rattle.pb_command.specs.Answers.{path_said, paths_from, is_covered, is_foreign, is_source, inputs_of, inherited};
-ghost use Rattle.pb_project.specs.declared.answer.InputName.TheVariants.{Path, Variable};
+ghost use Rattle.pb_record.specs.declared.record.InputName.TheVariants.{Path, Variable};
 ghost use Rattle.pb_project.specs.declared.fault.UnitFault.TheVariants as unit_fault;
 
 use pb_data::{Items, Mentions, Text, TryCopy};
 use pb_place::{Command, PathFault, PathText};
-use pb_project::{InputName, UnitFault};
+use pb_project::UnitFault;
+use pb_record::InputName;
 use std::alloc::{AllocError, Global};
 
 /// Mentions a path. The texts of the paths are those that were seen.

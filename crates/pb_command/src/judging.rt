@@ -12,7 +12,8 @@ use crate::input_names::{inherited, inputs_of, once, paths_from};
 use pb_data::{Bytes, Items, Text, TryCopy};
 use pb_directive::{DepInfo, Directive, LineFault, read_dep_info, read_directives};
 use pb_place::{Command, Ended, PathText};
-use pb_project::{Answered, InputName, Project, UnitFault, folder_of};
+use pb_project::{Answered, Project, UnitFault, folder_of};
+use pb_record::InputName;
 use pb_unit::{Planned, What};
 use std::alloc::{AllocError, Global};
 

@@ -20,5 +20,6 @@ pub use laws::{
     commands_are_absolute, judges_as_answered, last_values_count, libraries_in_order, pairs_rise,
 };
 pub use pb_project::{
-    Answered, InputName, Project, Setup, UnitFault, crate_name_of, dep_info_path, made_file,
+    Answered, Project, Setup, UnitFault, crate_name_of, dep_info_path, made_file,
 };
+pub use pb_record::InputName;

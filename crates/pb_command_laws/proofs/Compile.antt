@@ -20,6 +20,7 @@ use Rattle.pb_command.specs.Externs.{dependency_words, extern_words, externs, in
 use Rattle.pb_command.specs.Said.{search_words, own_words, said_words}
 use Rattle.pb_command.specs.Words.{crate_words, output_words, settings_words, feature_words}
 use Rattle.pb_command_laws.specs.Compiles.{CompileSays, CompilesSay, is_binary, settings_table, told, heard, feature_is_on, features_there_are, libraries_at}
+use Rattle.pb_command_laws.specs.Libraries.{IsLibrary}
 use Rattle.pb_command_laws.specs.Reading.{said_by}
 use Rattle.pb_command_laws.proofs.Asking.{folder_searched, searches_asked, links_asked, conditions_asked, checks_asked}
 use Rattle.pb_command_laws.proofs.Sayings.{Group, all_under, Says, says_one, says_both, values-groups}
@@ -77,7 +78,7 @@ module _ (project : Project) (unit : Planned) (done : List (Option (List Directi
       ∙ (says_both (crate_part project unit p) asked first_groups (library_groups ++ said_groups) (first_say absolute)
       (says_both (library_words project unit p) (said_words project unit done p) library_groups said_groups libraries_say said_say)).reads setup.flags
 
-  fields : IsSettled project.workspace → package_of project unit ≡ Some p → is_run what ≡ false → CompileSays project unit done p (all_under groups)
+  fields : IsSettled project.workspace → package_of project unit ≡ Some p → is_run what ≡ false → CompileSays project unit done p (heard project unit done) (IsLibrary project unit p) (all_under groups)
   fields settled there compiles = record {
     crate_name = values-groups (codes "--crate-name") groups;
     crate_types = values-groups (codes "--crate-type") groups ∙ append-nil _;

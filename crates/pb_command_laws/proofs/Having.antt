@@ -188,7 +188,7 @@ module _ (setup : Setup) (project : Project) (unit : Planned) (done : List (Opti
       last-append (codes "OUT_DIR") (row (codes "CARGO_BIN_NAME") binary) (row (codes "OUT_DIR") out)
       ∙ (λ i. option_or (last_itself (codes "OUT_DIR") out i) (last_other (codes "OUT_DIR") (codes "CARGO_BIN_NAME") binary refl i)) ∙ or_none out
 
-  pub compile_has : CompileHas setup project unit p command said
+  pub compile_has : CompileHas setup project unit p command said (out_of project unit done unit.unit.what)
   compile_has = record {
     common = tells_package setup p command said set_front;
     crate = set_own (codes "CARGO_CRATE_NAME") (Some (crate_name_of project unit)) refl crate_is;

@@ -10,3 +10,5 @@ pub mod Running
 pub mod Starting
 pub mod Wanting
 pub mod Wanted
+pub mod OfPlans
+pub mod Judged

@@ -276,7 +276,7 @@ module _ (project : Project) (unit : Planned) (p : Package) (settled : IsSettled
       let (last, among) = ordered_to pairs (extern_key name file) (extern_text name file) (given name file is) in
       to_list ordered all_are name file (extern_key name file, last) (plain_name name file is) refl among
 
-  pub are_libraries : AreLibraries project unit p libraries_of
+  pub are_libraries : AreLibraries (IsLibrary project unit p) libraries_of
   are_libraries = record {
     order = order_in ordered all_are (rising pairs);
     same = λ library. (from_list ordered all_are library, λ is. listed library.0 library.1 is);

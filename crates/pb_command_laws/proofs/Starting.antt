@@ -33,7 +33,7 @@ module _ (setup : Setup) (project : Project) (unit : Planned) (done : Lines) (p 
   started [] file script is = ap (λ f. script_source f ∷ []) is
   started (program ∷ words) file script is = ap (λ f. program ∷ words ++ script_source f ∷ []) is
 
-  script : StartsScript setup project unit p (run_of setup project unit done p)
+  script : StartsScript setup project unit p (script_file project unit) (run_of setup project unit done p)
   script = record {
     common = record { out = refl; target = refl; reads = reads_are project unit.reaches; toolchain = refl };
     words = started setup.runner (script_file project unit);
@@ -46,7 +46,7 @@ module _ (setup : Setup) (project : Project) (unit : Planned) (done : Lines) (p 
   by_what Script compiles = compiler
   by_what Run compiles = absurd (cc)
 
-  by_run : (what : What) → is_run what ≡ true → StartsScript setup project unit p (command_by what setup project unit done p)
+  by_run : (what : What) → is_run what ≡ true → StartsScript setup project unit p (script_file project unit) (command_by what setup project unit done p)
   by_run Lib runs = absurd (cc)
   by_run (Bin name) runs = absurd (cc)
   by_run Script runs = absurd (cc)
@@ -58,4 +58,4 @@ compiles_start setup project unit done p there compiles =
 
 pub runs_start : RunsStart
 runs_start setup project unit done p there runs =
-    subst (λ (owner : Option Package). StartsScript setup project unit p (command_for setup project unit done owner)) (sym there) (by_run setup project unit done p unit.unit.what runs)
+    subst (λ (owner : Option Package). StartsScript setup project unit p (script_file project unit) (command_for setup project unit done owner)) (sym there) (by_run setup project unit done p unit.unit.what runs)

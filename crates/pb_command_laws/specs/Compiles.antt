@@ -25,7 +25,7 @@ use Rattle.pb_project.specs.declared.project.Project.{Project}
 use Rattle.pb_project.specs.declared.project.Setup.{Setup}
 use Rattle.pb_command.specs.Command.{command_of}
 use Rattle.pb_command.specs.Words.{switch, debug_info_text, panic_text}
-use Rattle.pb_command_laws.specs.Libraries.{AreLibraries, given_as}
+use Rattle.pb_command_laws.specs.Libraries.{AreLibraries, IsLibrary, given_as}
 use Rattle.pb_command_laws.specs.Reading.{said_by, values}
 
 abbrev pub is_binary : What → Bool
@@ -119,23 +119,23 @@ features_there_are features = codes "cfg(feature, values(" ++ join_by (λ (f : F
 abbrev pub libraries_at : Project → List ℕ → List Planned
 libraries_at project places = filter (λ (u : Planned). is_library u.unit.what) (filter_map (unit_at project) places)
 
--- What a compile says: the crate's name and its types; where it is written; edition, source and what the compiler writes and how it tells; the settings, and the flags of a binary's linker; the features that are on, and the conditions that the script sets; the features that there are, and the conditions that the script expects; the folder of each library that the unit reaches, and those that the runs which it reaches have named; what the script links, to a binary only where its package has no library; and the libraries
-pub record CompileSays (project : Project) (unit : Planned) (done : List (Option (List Directive))) (p : Package) (said : List (List ℕ × List ℕ)) : Type 0 where
+-- What a compile says: the crate's name and its types; where it is written; edition, source and what the compiler writes and how it tells; the settings, and the flags of a binary's linker; the features that are on, and the conditions that the script sets; the features that there are, and the conditions that the script expects; the folder of each library that the unit reaches, and those that the runs which it reaches have named; what the script links, to a binary only where its package has no library; and the libraries of which `Is` holds. `lines` are those of the script that it hears
+pub record CompileSays (project : Project) (unit : Planned) (done : List (Option (List Directive))) (p : Package) (lines : List Directive) (Is : List ℕ → List ℕ → Type 0) (said : List (List ℕ × List ℕ)) : Type 0 where
   pub crate_name : values (codes "--crate-name") said ≡ crate_name_of project unit ∷ []
   pub crate_types : values (codes "--crate-type") said ≡ map crate_type_text (crate_types p.library unit.unit.what)
   pub folder : values (codes "--out-dir") said ≡ unit.out ∷ []
   pub alone : values [] said ≡ (codes "--edition=" ++ edition_text p.edition) ∷ source_by p unit.unit.what ∷ codes "--error-format=json" ∷ codes "--emit=dep-info,link" ∷ []
-  pub settings : values (codes "-C") said ≡ told (settings_table unit.unit.what unit.settings) ++ map (λ flag. codes "link-arg=" ++ flag) (linker_flags unit.unit.what (heard project unit done))
-  pub conditions : values (codes "--cfg") said ≡ map feature_is_on (features_at project.features unit.unit.owner unit.unit.side) ++ asked (codes "rustc-cfg") (heard project unit done)
-  pub expected : values (codes "--check-cfg") said ≡ features_there_are p.features ∷ asked (codes "rustc-check-cfg") (heard project unit done)
+  pub settings : values (codes "-C") said ≡ told (settings_table unit.unit.what unit.settings) ++ map (λ flag. codes "link-arg=" ++ flag) (linker_flags unit.unit.what lines)
+  pub conditions : values (codes "--cfg") said ≡ map feature_is_on (features_at project.features unit.unit.owner unit.unit.side) ++ asked (codes "rustc-cfg") lines
+  pub expected : values (codes "--check-cfg") said ≡ features_there_are p.features ∷ asked (codes "rustc-check-cfg") lines
   pub searched : values (codes "-L") said ≡ map (λ (library : Planned). codes "dependency=" ++ library.out) (libraries_at project unit.reaches) ++ asked (codes "rustc-link-search") (flat_map (said_at done) unit.reaches)
-  pub linked : values (codes "-l") said ≡ (if is_binary unit.unit.what && is_some p.library then [] else asked (codes "rustc-link-lib") (heard project unit done))
+  pub linked : values (codes "-l") said ≡ (if is_binary unit.unit.what && is_some p.library then [] else asked (codes "rustc-link-lib") lines)
   pub libraries : List (List ℕ × List ℕ)
   pub given : values (codes "--extern") said ≡ map given_as libraries
-  pub are : AreLibraries project unit p libraries
+  pub are : AreLibraries Is libraries
 
 -- The law: the words of a compile say this, and then what the flags of the user say. The package is one of a workspace that was read, and its source has a normalised absolute path
 abbrev pub CompilesSay : Type 0
 CompilesSay = (setup : Setup) (project : Project) (unit : Planned) (done : List (Option (List Directive))) (p : Package)
     → IsSettled project.workspace → package_of project unit ≡ Some p → is_run unit.unit.what ≡ false → is_path (source_by p unit.unit.what) ≡ true
-    → (said : List (List ℕ × List ℕ)) × (said_by (command_of setup project unit done).words ≡ said ++ said_by setup.flags) × CompileSays project unit done p said
+    → (said : List (List ℕ × List ℕ)) × (said_by (command_of setup project unit done).words ≡ said ++ said_by setup.flags) × CompileSays project unit done p (heard project unit done) (IsLibrary project unit p) said

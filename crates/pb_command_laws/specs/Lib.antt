@@ -4,3 +4,5 @@ pub mod Libraries
 pub mod Variables
 pub mod Starts
 pub mod Planned
+pub mod OfPlans
+pub mod Judged

@@ -33,10 +33,10 @@ pub data IsLibrary (project : Project) (unit : Planned) (p : Package) : List ℕ
 abbrev pub by_name : List ℕ × List ℕ → List ℕ × List ℕ → Ordering
 by_name a b = ordering_then (slice_cmp nat_cmp a.0 b.0) (slice_cmp nat_cmp a.1 b.1)
 
--- the libraries of a unit, in this order, each once
-pub record AreLibraries (project : Project) (unit : Planned) (p : Package) (libraries : List (List ℕ × List ℕ)) : Type 0 where
+-- those libraries of a name and a file of which this is so, in this order, each once
+pub record AreLibraries (Is : List ℕ → List ℕ → Type 0) (libraries : List (List ℕ × List ℕ)) : Type 0 where
   pub order : IsStrictlySortedBy by_name libraries
-  pub same : (library : List ℕ × List ℕ) → Contains libraries library ↔ IsLibrary project unit p library.0 library.1
+  pub same : (library : List ℕ × List ℕ) → Contains libraries library ↔ Is library.0 library.1
 
 -- `NAME=FILE`
 abbrev pub given_as : List ℕ × List ℕ → List ℕ

@@ -23,10 +23,10 @@ pub record StartsCompiler (setup : Setup) (project : Project) (unit : Planned) (
   pub program : command.program ≡ setup.rustc
   pub folder : command.folder ≡ project.workspace.root
 
--- a run starts the script that its unit needs, behind the words of the runner where there is one, in its package's folder
-pub record StartsScript (setup : Setup) (project : Project) (unit : Planned) (p : Package) (command : Command) : Type 0 where
+-- a run starts its script, where there is one, behind the words of the runner where there is one, in its package's folder
+pub record StartsScript (setup : Setup) (project : Project) (unit : Planned) (p : Package) (file : Option (List ℕ)) (command : Command) : Type 0 where
   pub common : IsOfUnit setup project unit command
-  pub words : (script : List ℕ) → script_file project unit ≡ Some script → command.program ∷ command.words ≡ setup.runner ++ script ∷ []
+  pub words : (script : List ℕ) → file ≡ Some script → command.program ∷ command.words ≡ setup.runner ++ script ∷ []
   pub folder : command.folder ≡ p.folder
 
 -- The laws.
@@ -37,4 +37,4 @@ CompilesStart = (setup : Setup) (project : Project) (unit : Planned) (done : Lis
 
 abbrev pub RunsStart : Type 0
 RunsStart = (setup : Setup) (project : Project) (unit : Planned) (done : List (Option (List Directive))) (p : Package)
-    → package_of project unit ≡ Some p → is_run unit.unit.what ≡ true → StartsScript setup project unit p (command_of setup project unit done)
+    → package_of project unit ≡ Some p → is_run unit.unit.what ≡ true → StartsScript setup project unit p (script_file project unit) (command_of setup project unit done)

@@ -83,18 +83,18 @@ abbrev pub folder_at : Project → Option ℕ → Option (List ℕ)
 folder_at project None = None
 folder_at project (Some place) = option_map (λ (u : Planned). u.out) (unit_at project place)
 
--- a compile: what every unit has; the crate; of a binary its name; of a library or a binary whose package has a run the folder of the run's files; and whatever that run sets, which wins. No other name is there
-pub record CompileHas (setup : Setup) (project : Project) (unit : Planned) (p : Package) (command : Command) (said : List Directive) : Type 0 where
+-- a compile: what every unit has; the crate; of a binary its name; of a library or a binary whose package has a run the folder of the run's files; and whatever that run sets, which wins. No other name is there. `said` are the lines of that run, `ran` is its folder
+pub record CompileHas (setup : Setup) (project : Project) (unit : Planned) (p : Package) (command : Command) (said : List Directive) (ran : Option (List ℕ)) : Type 0 where
   pub common : TellsPackage setup p command said
   pub crate : IsSet command said (codes "CARGO_CRATE_NAME") (Some (crate_name_of project unit))
   pub binary : IsSet command said (codes "CARGO_BIN_NAME") (binary_name unit.unit.what)
-  pub out : IsSet command said (codes "OUT_DIR") (if hears unit.unit.what then folder_at project (own_run project unit) else None)
+  pub out : IsSet command said (codes "OUT_DIR") ran
   pub others : (name : List ℕ) → is_mentioned (package_names ++ codes "CARGO_CRATE_NAME" ∷ codes "CARGO_BIN_NAME" ∷ codes "OUT_DIR" ∷ []) name ≡ false → IsSet command said name None
 
 -- The law of compiles.
 abbrev pub CompilesHave : Type 0
 CompilesHave = (setup : Setup) (project : Project) (unit : Planned) (done : List (Option (List Directive))) (p : Package)
-    → package_of project unit ≡ Some p → is_run unit.unit.what ≡ false → CompileHas setup project unit p (command_of setup project unit done) (heard project unit done)
+    → package_of project unit ≡ Some p → is_run unit.unit.what ≡ false → CompileHas setup project unit p (command_of setup project unit done) (heard project unit done) (if hears unit.unit.what then folder_at project (own_run project unit) else None)
 
 -- Of runs.
 

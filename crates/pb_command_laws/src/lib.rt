@@ -3,6 +3,8 @@
 #![tactic(auto)]
 
 ghost use Rattle.pb_command_laws.specs.Compiles.{CompilesSay};
+ghost use Rattle.pb_command_laws.specs.Judged.{AnswersSay};
+ghost use Rattle.pb_command_laws.specs.OfPlans.{CompilesOfPlans, RunsOfPlans};
 ghost use Rattle.pb_command_laws.specs.Planned.{LibrariesAreWanted, CompilesHearRuns, RunsStartScripts};
 ghost use Rattle.pb_command_laws.specs.Starts.{CompilesStart, RunsStart};
 ghost use Rattle.pb_command_laws.specs.Variables.{CompilesHave, RunsHave};
@@ -39,4 +41,16 @@ pub fn commands_follow_plans()
     ensures libraries { LibrariesAreWanted }
     ensures heard { CompilesHearRuns }
     ensures scripts { RunsStartScripts }
+{}
+
+/// A law: all that the other laws say of the command of a unit that stands in a plan, in one: what it starts, which
+/// variables it has, what its words say, which libraries it is given, and which run it hears.
+pub fn commands_of_plans()
+    ensures compiles { CompilesOfPlans }
+    ensures runs { RunsOfPlans }
+{}
+
+/// A law: how the answer of a unit's child is judged, case by case, and of what inputs it tells.
+pub fn answers_say()
+    ensures { AnswersSay }
 {}

@@ -8,3 +8,7 @@ pub mod NameLemmas
 pub mod InfoLemmas
 pub mod MetadataLemmas
 pub mod JoinLemmas
+pub mod SettingLemmas
+pub mod KeyLemmas
+pub mod LineLemmas
+pub mod InfoWords

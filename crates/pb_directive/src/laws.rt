@@ -6,6 +6,8 @@ ghost use Rattle.pb_data.specs.Table.{value_at, names_of, last_value};
 ghost use Rattle.pb_directive.specs.DepInfo.{dep_info_of, all_names_of};
 ghost use Rattle.pb_directive.specs.Directives.{directives_of, directives_from};
 ghost use Rattle.pb_directive.specs.Laws.{followed_by, then_said, then_named, line_count};
+ghost use Rattle.pb_directive.specs.InfoWords.{InfosSay};
+ghost use Rattle.pb_directive.specs.LineWords.{LinesSay};
 ghost use Rattle.pb_directive.specs.Lines.{after_prefix, trimmed};
 ghost use Rattle.pb_directive.specs.Metadata.{passed, dep_pairs};
 ghost use Rattle.pb_directive.specs.declared.directive.Directive.{Directive};
@@ -48,4 +50,16 @@ pub fn last_metadata_counts()
 /// Each variable that metadata names stands once, in order of first mention.
 pub fn passed_names_stand_once()
     ensures { (links : List ℕ) (directives : List Directive) → names_of (dep_pairs links directives) ≡ once (names_of (passed links directives)) }
+{}
+
+/// A line of a build script's output says what its key says with its value, key by key (The Cargo Book, Build Scripts,
+/// Outputs of the Build Script), and what is refused is refused so.
+pub fn lines_say()
+    ensures { LinesSay }
+{}
+
+/// A line of dep-info names what its kind of line names (The Cargo Book, Build Cache, Dep-Info Files), and what is refused
+/// is refused so.
+pub fn infos_say()
+    ensures { InfosSay }
 {}

@@ -13,8 +13,8 @@ use Rattle.pb_record.specs.declared.record.Input.TheVariants.{File, Tree, Value}
 use Rattle.pb_soundness.specs.Inputs.{contents, path_input, input_in, SameBelow, reply_in}
 use Rattle.pb_project.specs.Targets.{package_of, dep_info_of}
 use Rattle.pb_project.specs.declared.answer.Answered.{Answered}
-use Rattle.pb_project.specs.declared.answer.InputName.{InputName}
-use Rattle.pb_project.specs.declared.answer.InputName.TheVariants.{Path, Variable}
+use Rattle.pb_record.specs.declared.record.InputName.{InputName}
+use Rattle.pb_record.specs.declared.record.InputName.TheVariants.{Path, Variable}
 use Rattle.pb_project.specs.declared.fault.UnitFault.{UnitFault}
 use Rattle.pb_project.specs.declared.project.Project.{Project}
 use Rattle.pb_project.specs.declared.project.Setup.{Setup}

@@ -17,8 +17,8 @@ use Rattle.pb_workspace.specs.Settling.{discovered, has_same_binaries}
 use Rattle.pb_workspace.proofs.Keeping.{none_again}
 use Rattle.pb_workspace.proofs.Puttings.{map_twice}
 use Rattle.pb_workspace.proofs.WholeWorkspace.{map_only, map_each}
-use Rattle.pb_package_laws.specs.Binaries.{FilesHavePaths, in_bin, places, source_of, IsBinary, written, found}
-use Rattle.pb_package_laws.specs.Packages.{is_file, first_file}
+use Rattle.pb_package_laws.specs.Binaries.{in_bin, places, source_of, IsBinary, written, found}
+use Rattle.pb_package_laws.specs.Files.{FilesHavePaths, is_file, first_file}
 use Rattle.pb_package_laws.proofs.BinPlaces.{place_in}
 use Rattle.pb_package_laws.proofs.Binaries.{Bins, rises_on, put_or_old, stays, stands, nothing_rises, IsFirst, found_so, found_first, first_found}
 use Rattle.pb_package_laws.proofs.Sorting.{Name, Rises, names}

@@ -22,8 +22,7 @@ use Rattle.pb_place.specs.World.{World, listed, is_same_path}
 use Rattle.pb_workspace.specs.Between.{names_in}
 use Rattle.pb_workspace.specs.FoundBinaries.{stem_in, flat_name, nested_name, name_by, name_inside, found_at, binary_at, bin_folder}
 use Rattle.pb_workspace.specs.Selected.{is_word}
-use Rattle.pb_package_laws.specs.Packages.{is_file}
-use Rattle.pb_package_laws.specs.Binaries.{FilesHavePaths}
+use Rattle.pb_package_laws.specs.Files.{FilesHavePaths, is_file}
 
 -- paths among some
 any_there : (q : List ℕ) (xs : List (List ℕ)) → list_any (is_same_path q) xs ≡ true → Contains xs q

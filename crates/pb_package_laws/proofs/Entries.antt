@@ -1,9 +1,9 @@
 -- The entries of a package: each asks for what its table says, with what it takes from its workspace.
-use Rattle.std.proofs.Common.{◌≡◌, ◌∙◌, ℕ, Bool, true, false, not, ◌||◌, List, [], ◌∷◌, ◌++◌, map, Contains, Option, Some, None, Ok, IfSome, unwrap_or, slice_get, cond, refl, sym, ap, subst}
+use Rattle.std.proofs.Common.{inl, inr, ◌≡◌, ◌∙◌, ℕ, Bool, true, false, not, ◌||◌, List, [], ◌∷◌, ◌++◌, map, Contains, Option, Some, None, Ok, IfSome, unwrap_or, slice_get, cond, refl, sym, ap, subst}
 use Rattle.std.proofs.lemmas.Slice.Eq.{bytes_eq-Decides}
 use Rattle.std.specs.List.{find}
 use Rattle.std.specs.Str.{bytes_eq}
-use Rattle.pb_closure.proofs.Membership.{head, tail}
+use Rattle.pb_closure.proofs.Membership.{none, head, tail, cases}
 use Rattle.pb_data.specs.Gives.{◌>>=◌, some_or}
 use Rattle.pb_manifest.specs.Versions.{matches}
 use Rattle.pb_manifest.specs.declared.dependency.Dependency.{Dependency}
@@ -23,7 +23,7 @@ use Rattle.pb_workspace.specs.ByFolder.{value_of}
 use Rattle.pb_workspace.specs.Wanted.{is_renamed, wanted_at, shared_at, taken_from, wanted_by, wanted_of, each_wanted}
 use Rattle.pb_workspace.specs.declared.wanted.Wanted.{Wanted}
 use Rattle.pb_workspace.proofs.FoldersPut.{opened}
-use Rattle.pb_package_laws.specs.Packages.{AsksFor, path, workspace, IsEntry, AreOneForOne}
+use Rattle.pb_package_laws.specs.Packages.{Asks, path, workspace, IsEntry, AreOneForOne}
 
 -- the package to which an entry leads
 pub record Leads (places : List (List ℕ × ℕ)) (ws : Workspace) (w : Wanted) : Type 0 where
@@ -46,70 +46,113 @@ found_one {A} test (y ∷ xs) x is = by (test y) refl is (λ h. found_one test x
     by true at h rest = let same : y ≡ x = cc in (subst (Contains (y ∷ xs)) same (head y xs), ap test (sym same) ∙ at)
     by false at h rest = let r = rest h in (tail y xs x r.0, r.1)
 
-module _ (places : List (List ℕ × ℕ)) (ws : Workspace) (root folder manifest : List ℕ) (given : List WorkspaceDependency) (kind : DependencyKind) where
-  asks : (base : List ℕ) (d : Dependency) (default : Bool) (features : List (List ℕ)) (s : PathSource) → Leads places ws (wanted_at base kind d.key d.optional default features s)
-      → AsksFor base default features s ws (entry_at places (wanted_at base kind d.key d.optional default features s))
-  asks base d default features s leads = record {
-    default_features = refl;
-    features_are = refl;
-    renamed = renamed_so d.key s.package;
-    found = leads.found;
-    there = leads.there;
-    folder = leads.folder;
-    name = leads.name;
-    version = leads.version;
-  }
+module _ (root folder manifest : List ℕ) (given : List WorkspaceDependency) (kind : DependencyKind) where
+  -- what an entry wants is what its dependency asks for
+  pub record IsAsked (d : Dependency) (w : Wanted) : Type 0 where
+    pub key_is : w.key ≡ d.key
+    pub kind_is : w.kind ≡ kind
+    pub optional : w.optional ≡ d.optional
+    pub s : PathSource
+    pub asks : Asks root folder given d w.folder s w.default_features w.features
+    pub name : w.name ≡ unwrap_or s.package w.key
+    pub renamed : w.renamed ≡ not (bytes_eq w.name w.key)
+    pub version : w.version ≡ s.version
 
-  abbrev Is : Dependency → Entry → Type 0
-  Is = IsEntry root folder given ws kind
-
-  -- one entry
-  entry_is : (d : Dependency) (w : Wanted) → wanted_of root folder manifest given kind d ≡ Ok w → Leads places ws w → Is d (entry_at places w)
-  entry_is d w is leads = by d.source refl is
+  pub asked_so : (d : Dependency) (w : Wanted) → wanted_of root folder manifest given kind d ≡ Ok w → IsAsked d w
+  asked_so d w is = by d.source refl is
     where
-      by_path : (s : PathSource) → d.source ≡ source.Path s → wanted_at folder kind d.key d.optional s.default_features d.features s ≡ w → Is d (entry_at places w)
+      by_path : (s : PathSource) → d.source ≡ source.Path s → wanted_at folder kind d.key d.optional s.default_features d.features s ≡ w → IsAsked d w
       by_path s at same =
-          subst (λ (x : Wanted). Is d (entry_at places x)) same (record {
-            key_is = refl;
-            kind_is = refl;
-            optional = refl;
-            from = path s at (asks folder d s.default_features d.features s (subst (Leads places ws) (sym same) leads));
-          })
+          subst (IsAsked d) same (record { key_is = refl; kind_is = refl; optional = refl; s = s; asks = path s at; name = refl; renamed = renamed_so d.key s.package; version = refl })
 
       by_shared : (default : Bool) (x : WorkspaceDependency) (s : PathSource) → d.source ≡ source.Workspace default → Contains given x → x.key ≡ d.key → x.source ≡ shared.Path s
-          → wanted_at root kind d.key d.optional (s.default_features || default) (x.features ++ d.features) s ≡ w → Is d (entry_at places w)
+          → wanted_at root kind d.key d.optional (s.default_features || default) (x.features ++ d.features) s ≡ w → IsAsked d w
       by_shared default x s at there key has same =
-          subst (λ (y : Wanted). Is d (entry_at places y)) same (record {
+          subst (IsAsked d) same (record {
             key_is = refl;
             kind_is = refl;
             optional = refl;
-            from = workspace default at x there key s has (asks root d (s.default_features || default) (x.features ++ d.features) s (subst (Leads places ws) (sym same) leads));
+            s = s;
+            asks = workspace default at x there key s has;
+            name = refl;
+            renamed = renamed_so d.key s.package;
+            version = refl;
           })
 
       by_source : (default : Bool) (x : WorkspaceDependency) (o : WorkspaceSource) → d.source ≡ source.Workspace default → Contains given x → x.key ≡ d.key → x.source ≡ o → taken_from root manifest kind d default x o ≡ Ok w
-          → Is d (entry_at places w)
+          → IsAsked d w
       by_source default x (shared.Path s) at there key has h = by_shared default x s at there key has (cc)
       by_source default x shared.Unsupported at there key has h = cc
 
-      by : (o : Source) → d.source ≡ o → wanted_by root folder manifest given kind d o ≡ Ok w → Is d (entry_at places w)
+      by : (o : Source) → d.source ≡ o → wanted_by root folder manifest given kind d o ≡ Ok w → IsAsked d w
       by (source.Path s) at h = by_path s at (cc)
       by (source.Workspace default) at h =
-          let o = opened (some_or NoInherited (shared_at d.key given)) (λ (x : WorkspaceDependency). taken_from root manifest kind d default x x.source) w h in
-          let f = found_one (λ (x : WorkspaceDependency). bytes_eq d.key x.key) given o.0 (some_there (shared_at d.key given) o.0 o.1) in
-          by_source default o.0 o.0.source at f.0 (sym ((bytes_eq-Decides d.key o.0.key).0 f.1)) refl o.2
+          let o = shared_there default w h in
+          by_source default o.0 o.0.source at o.1 o.2 refl o.3
         where
           some_there : (found : Option WorkspaceDependency) (x : WorkspaceDependency) → some_or NoInherited found ≡ Ok x → found ≡ Some x
           some_there None x h = cc
           some_there (Some y) x h = let same : y ≡ x = cc in ap (λ z. Some z) same
 
-  -- all entries of a table
-  pub entries_are : (ds : List Dependency) (wanted : List Wanted) → each_wanted (wanted_of root folder manifest given kind) ds ≡ Ok wanted → ((w : Wanted) → Contains wanted w → Leads places ws w)
-      → AreOneForOne Is ds (map (entry_at places) wanted)
-  entries_are [] wanted is leads = let same : [] ≡ wanted = cc in subst (λ (xs : List Wanted). AreOneForOne Is [] (map (entry_at places) xs)) same tt
-  entries_are (d ∷ ds) wanted is leads =
+          shared_there : (default : Bool) (w : Wanted) → wanted_by root folder manifest given kind d (source.Workspace default) ≡ Ok w
+              → (x : WorkspaceDependency) × Contains given x × (x.key ≡ d.key) × (taken_from root manifest kind d default x x.source ≡ Ok w)
+          shared_there default w h =
+              let o = opened (some_or NoInherited (shared_at d.key given)) (λ (x : WorkspaceDependency). taken_from root manifest kind d default x x.source) w h in
+              let f = found_one (λ (x : WorkspaceDependency). bytes_eq d.key x.key) given o.0 (some_there (shared_at d.key given) o.0 o.1) in
+              (o.0, f.0, sym ((bytes_eq-Decides d.key o.0.key).0 f.1), o.2)
+
+  -- each entry of a table is that of one of its dependencies, and each dependency has one
+  pub each_asked : (ds : List Dependency) (wanted : List Wanted) → each_wanted (wanted_of root folder manifest given kind) ds ≡ Ok wanted → (w : Wanted) → Contains wanted w
+      → (d : Dependency) × Contains ds d × IsAsked d w
+  each_asked [] wanted is w there = let same : [] ≡ wanted = cc in absurd (none w (subst (λ (xs : List Wanted). Contains xs w) (sym same) there))
+  each_asked (d ∷ ds) wanted is w there =
       let a = opened (wanted_of root folder manifest given kind d) (λ (w : Wanted). each_wanted (wanted_of root folder manifest given kind) ds >>= (λ rest. Ok (w ∷ rest))) wanted is in
       let b = opened (each_wanted (wanted_of root folder manifest given kind) ds) (λ (rest : List Wanted). Ok (a.0 ∷ rest)) wanted a.2 in
       let same : a.0 ∷ b.0 ≡ wanted = cc (b.2) in
-      let all = subst (λ (xs : List Wanted). (w : Wanted) → Contains xs w → Leads places ws w) (sym same) leads in
-      subst (λ (xs : List Wanted). AreOneForOne Is (d ∷ ds) (map (entry_at places) xs)) same
-      (entry_is d a.0 a.1 (all a.0 (head a.0 b.0)), entries_are ds b.0 b.1 (λ w there. all w (tail a.0 b.0 w there)))
+      elim (cases a.0 b.0 w (subst (λ (xs : List Wanted). Contains xs w) (sym same) there)) [
+        | inl here ↦ (d, head d ds, subst (IsAsked d) here (asked_so d a.0 a.1))
+        | inr later ↦ (let r = each_asked ds b.0 b.1 w later in (r.0, tail d ds r.0 r.1, r.2))
+      ]
+
+  pub each_has : (ds : List Dependency) (wanted : List Wanted) → each_wanted (wanted_of root folder manifest given kind) ds ≡ Ok wanted → (d : Dependency) → Contains ds d
+      → (w : Wanted) × Contains wanted w × IsAsked d w
+  each_has [] wanted is d there = absurd (none d there)
+  each_has (e ∷ ds) wanted is d there =
+      let a = opened (wanted_of root folder manifest given kind e) (λ (w : Wanted). each_wanted (wanted_of root folder manifest given kind) ds >>= (λ rest. Ok (w ∷ rest))) wanted is in
+      let b = opened (each_wanted (wanted_of root folder manifest given kind) ds) (λ (rest : List Wanted). Ok (a.0 ∷ rest)) wanted a.2 in
+      let same : a.0 ∷ b.0 ≡ wanted = cc (b.2) in
+      elim (cases e ds d there) [
+        | inl here ↦ (a.0, subst (λ (xs : List Wanted). Contains xs a.0) same (head a.0 b.0), subst (λ (x : Dependency). IsAsked x a.0) here (asked_so e a.0 a.1))
+        | inr later ↦ (let r = each_has ds b.0 b.1 d later in (r.0, subst (λ (xs : List Wanted). Contains xs r.0) same (tail a.0 b.0 r.0 r.1), r.2))
+      ]
+
+  module _ (places : List (List ℕ × ℕ)) (ws : Workspace) where
+    abbrev Is : Dependency → Entry → Type 0
+    Is = IsEntry root folder given ws kind
+
+    -- one entry
+    entry_is : (d : Dependency) (w : Wanted) → IsAsked d w → Leads places ws w → Is d (entry_at places w)
+    entry_is d w is leads = record {
+      key_is = is.key_is;
+      kind_is = is.kind_is;
+      optional = is.optional;
+      s = is.s;
+      found = leads.found;
+      asks = subst (λ x. Asks root folder given d x is.s w.default_features w.features) (sym leads.folder) is.asks;
+      there = leads.there;
+      name = leads.name ∙ is.name;
+      renamed = is.renamed ∙ ap (λ x. not (bytes_eq x w.key)) (sym leads.name);
+      version = subst (λ o. IfSome o (λ requirement. matches requirement leads.found.version ≡ true)) is.version leads.version;
+    }
+
+    -- all entries of a table
+    pub entries_are : (ds : List Dependency) (wanted : List Wanted) → each_wanted (wanted_of root folder manifest given kind) ds ≡ Ok wanted → ((w : Wanted) → Contains wanted w → Leads places ws w)
+        → AreOneForOne Is ds (map (entry_at places) wanted)
+    entries_are [] wanted is leads = let same : [] ≡ wanted = cc in subst (λ (xs : List Wanted). AreOneForOne Is [] (map (entry_at places) xs)) same tt
+    entries_are (d ∷ ds) wanted is leads =
+        let a = opened (wanted_of root folder manifest given kind d) (λ (w : Wanted). each_wanted (wanted_of root folder manifest given kind) ds >>= (λ rest. Ok (w ∷ rest))) wanted is in
+        let b = opened (each_wanted (wanted_of root folder manifest given kind) ds) (λ (rest : List Wanted). Ok (a.0 ∷ rest)) wanted a.2 in
+        let same : a.0 ∷ b.0 ≡ wanted = cc (b.2) in
+        let all = subst (λ (xs : List Wanted). (w : Wanted) → Contains xs w → Leads places ws w) (sym same) leads in
+        subst (λ (xs : List Wanted). AreOneForOne Is (d ∷ ds) (map (entry_at places) xs)) same
+        (entry_is d a.0 (asked_so d a.0 a.1) (all a.0 (head a.0 b.0)), entries_are ds b.0 b.1 (λ w there. all w (tail a.0 b.0 w there)))

@@ -8,6 +8,7 @@ use Rattle.pb_workspace.specs.declared.draft.Draft.{Draft}
 
 -- nothing is wrong with any package
 pub record AreFine (drafts : List Draft) : Type 0 where
+  pub apart : has_same_names drafts ≡ false
   pub binaries : list_any (λ (d : Draft). d.has_same_binaries) drafts ≡ false
   pub names : some_leads has_other_name drafts ≡ false
   pub versions : some_leads has_other_version drafts ≡ false
@@ -15,17 +16,17 @@ pub record AreFine (drafts : List Draft) : Type 0 where
 pub fine_so : (drafts : List Draft) → fault_of drafts ≡ None → AreFine drafts
 unfolding fault_of
 fine_so drafts is =
-    by (has_same_names drafts) (some_leads has_other_name drafts) (some_leads has_other_version drafts) (links_twice drafts) (list_any links_without_script drafts) (list_any (λ (d : Draft). d.has_same_binaries) drafts) refl refl refl is
+    by (has_same_names drafts) (some_leads has_other_name drafts) (some_leads has_other_version drafts) (links_twice drafts) (list_any links_without_script drafts) (list_any (λ (d : Draft). d.has_same_binaries) drafts) refl refl refl refl is
   where
-    by : (a b c x y z : Bool) → some_leads has_other_name drafts ≡ b → some_leads has_other_version drafts ≡ c → list_any (λ (d : Draft). d.has_same_binaries) drafts ≡ z
+    by : (a b c x y z : Bool) → has_same_names drafts ≡ a → some_leads has_other_name drafts ≡ b → some_leads has_other_version drafts ≡ c → list_any (λ (d : Draft). d.has_same_binaries) drafts ≡ z
         → (if a then Some SameName else (if b then Some NameMismatch else (if c then Some VersionMismatch else (if x then Some LinksTwice else (if y then Some LinksWithoutScript else (if z then Some SameBinary else None)))))) ≡ None → AreFine drafts
-    by true b c x y z two three six h = cc
-    by false true c x y z two three six h = cc
-    by false false true x y z two three six h = cc
-    by false false false true y z two three six h = cc
-    by false false false false true z two three six h = cc
-    by false false false false false true two three six h = cc
-    by false false false false false false two three six h = record { binaries = six; names = two; versions = three }
+    by true b c x y z one two three six h = cc
+    by false true c x y z one two three six h = cc
+    by false false true x y z one two three six h = cc
+    by false false false true y z one two three six h = cc
+    by false false false false true z one two three six h = cc
+    by false false false false false true one two three six h = cc
+    by false false false false false false one two three six h = record { apart = one; binaries = six; names = two; versions = three }
 
 pub not_off : (b : Bool) → not b ≡ false → b ≡ true
 not_off true h = refl

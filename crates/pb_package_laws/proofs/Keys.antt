@@ -26,7 +26,8 @@ use Rattle.pb_workspace.specs.Settling.{readme_found}
 use Rattle.pb_workspace.specs.Sources.{has_own_file, own_source, found_readme, library_of, library_source, served_types, script_of}
 use Rattle.pb_workspace.specs.Taken.{own_or_given, text_of, authors_of, further_authors, joined_authors, license_file_of, from_member, readme_of, readme_text, given_readme, about_of}
 use Rattle.pb_workspace.proofs.FoldersPut.{opened}
-use Rattle.pb_package_laws.specs.Packages.{is_file, first_file, first_path, IsOwnOrTaken, IsText, IsPlainText, with_colons, script, path_or, IsLibrary}
+use Rattle.pb_package_laws.specs.Files.{is_file, first_file, first_path}
+use Rattle.pb_package_laws.specs.Packages.{IsOwnOrTaken, IsText, IsPlainText, with_colons, script, path_or, IsLibrary}
 
 -- a value that has to be there
 given_some : {A : Type 0} (given : Option A) (x : A) → some_or NoInherited given ≡ Ok x → given ≡ Some x

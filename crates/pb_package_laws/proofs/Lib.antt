@@ -7,4 +7,9 @@ pub mod Binaries
 pub mod AllBinaries
 pub mod Fine
 pub mod Members
+pub mod Reading
+pub mod Folders
+pub mod Order
 pub mod Whole
+pub mod One
+pub mod Settling

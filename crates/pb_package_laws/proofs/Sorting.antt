@@ -1,6 +1,7 @@
 -- Values that are put in their places by byte order of their names.
-use Rattle.std.proofs.Common.{◌≡◌, ◌≢◌, ◌⊎◌, inl, inr, ◌∙◌, ℕ, List, [], ◌∷◌, map, Contains, refl, sym, ap, subst, Ordering, Less, Equal, Greater}
+use Rattle.std.proofs.Common.{◌≡◌, ◌≢◌, ◌⊎◌, inl, inr, ◌∙◌, ℕ, zero, suc, Some, slice_get, List, [], ◌∷◌, map, Contains, refl, sym, ap, subst, Ordering, Less, Equal, Greater}
 use Rattle.std.proofs.lemmas.Cmp.{nat_list_cmp_total}
+use Rattle.std.proofs.lemmas.Option.{slice_get_within, get_or_from_slice_get}
 use Rattle.std.specs.BTreeMap.{insert_entry}
 use Rattle.std.specs.Cmp.Lexicographic.{slice_cmp}
 use Rattle.std.specs.List.{AllByRecursion}
@@ -39,6 +40,43 @@ turned a b more = nat_list_cmp_total.antisymm b a ∙ ap ordering_reverse more
 beyond : (k x : Name) (ys : List Name) → cmp k x ≡ Less → AllByRecursion (λ y. cmp x y ≡ Less) ys → AllByRecursion (λ y. cmp k y ≡ Less) ys
 beyond k x [] less all = tt
 beyond k x (y ∷ ys) less all = (nat_list_cmp_total.trans k x y less all.0, beyond k x ys less all.1)
+
+pub below_through : (a b c : Name) → cmp a b ≡ Less → cmp b c ≡ Less → cmp a c ≡ Less
+below_through a b c first second = nat_list_cmp_total.trans a b c first second
+
+-- of things in byte order of their keys, those of one key are one, and stand at one place
+pub in_all : {A : Type 0} (key : A → Name) (P : Name → Type 0) (xs : List A) (x : A) → AllByRecursion P (map key xs) → Contains xs x → P (key x)
+in_all key P [] x all there = absurd (none x there)
+in_all key P (y ∷ xs) x all there = elim (cases y xs x there) [ inl here ↦ subst (λ z. P (key z)) here all.0 | inr later ↦ in_all key P xs x all.1 later ]
+
+pub contained : {A : Type 0} (xs : List A) (n : ℕ) (x : A) → slice_get xs n ≡ Some x → Contains xs x
+contained xs n x at = (n, slice_get_within xs n x at, get_or_from_slice_get xs n x x at)
+
+pub one_of_key : {A : Type 0} (key : A → Name) (xs : List A) (a b : A) → Rises (map key xs) → Contains xs a → Contains xs b → key a ≡ key b → a ≡ b
+unfolding IsStrictlySortedBy
+one_of_key key [] a b up first second same = absurd (none a first)
+one_of_key {A} key (x ∷ xs) a b up first second same = elim (cases x xs a first) [
+  | inl here ↦ (elim (cases x xs b second) [
+    | inl there ↦ sym here ∙ there
+    | inr later ↦ absurd (below_apart (key x) (key b) (in_all key (λ y. cmp (key x) y ≡ Less) xs b up.0 later) (sym same ∙ ap key (sym here)))
+  ])
+  | inr later ↦ (elim (cases x xs b second) [
+    | inl there ↦ absurd (below_apart (key x) (key a) (in_all key (λ y. cmp (key x) y ≡ Less) xs a up.0 later) (same ∙ ap key (sym there)))
+    | inr behind ↦ one_of_key key xs a b up.1 later behind same
+  ])
+]
+
+pub same_place : {A : Type 0} (key : A → Name) (xs : List A) (i j : ℕ) (a b : A) → Rises (map key xs) → slice_get xs i ≡ Some a → slice_get xs j ≡ Some b → key a ≡ key b → i ≡ j
+unfolding IsStrictlySortedBy
+same_place key [] i j a b up one other same = absurd (none a (contained [] i a one))
+same_place key (x ∷ xs) zero zero a b up one other same = refl
+same_place key (x ∷ xs) zero (suc j) a b up one other same =
+    let here : x ≡ a = cc in
+    absurd (below_apart (key x) (key b) (in_all key (λ y. cmp (key x) y ≡ Less) xs b up.0 (contained xs j b other)) (sym same ∙ ap key (sym here)))
+same_place key (x ∷ xs) (suc i) zero a b up one other same =
+    let here : x ≡ b = cc in
+    absurd (below_apart (key x) (key a) (in_all key (λ y. cmp (key x) y ≡ Less) xs a up.0 (contained xs i a one)) (same ∙ ap key (sym here)))
+same_place key (x ∷ xs) (suc i) (suc j) a b up one other same = ap suc (same_place key xs i j a b up.1 one other same)
 
 module _ {V : Type 0} where
   abbrev pub names : List (Name × V) → List Name

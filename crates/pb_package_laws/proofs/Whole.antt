@@ -1,42 +1,38 @@
 -- Each package of a workspace that was read is what its manifest and its folder say.
-use Rattle.std.proofs.Common.{inl, inr, ◌≡◌, ◌↔◌, ◌∙◌, ℕ, Bool, true, false, List, [], ◌∷◌, ◌++◌, map, codes, Option, Some, None, Ok, Err, Result, IfSome, unwrap_or, slice_get, Contains, refl, sym, ap, subst}
+use Rattle.std.proofs.Common.{◌≡◌, ◌↔◌, ◌∙◌, ◌≤◌, ℕ, Bool, true, false, List, [], ◌∷◌, ◌++◌, map, codes, length, Option, Some, None, Ok, IfSome, unwrap_or, slice_get, Contains, refl, sym, ap, subst}
 use Rattle.std.proofs.lemmas.List.{map-append}
 use Rattle.std.proofs.lemmas.Option.{slice_get-map}
 use Rattle.std.proofs.lemmas.Slice.Eq.{bytes_eq-Decides}
-use Rattle.std.specs.FinMap as finite
 use Rattle.std.specs.List.{AllByRecursion, list_any}
 use Rattle.std.specs.Option.{option_map}
 use Rattle.std.specs.Str.{bytes_eq}
 use Rattle.pb_closure.specs.Closure.{onward}
-use Rattle.pb_closure.proofs.Membership.{none, cases}
 use Rattle.std.proofs.lemmas.List.Elements.{Contains-append_left, Contains-append_right}
-use Rattle.pb_data.specs.Gives.{◌>>=◌, lifted}
+use Rattle.pb_data.specs.Gives.{◌>>=◌}
 use Rattle.pb_manifest.proofs.Manifests.{manifest_is}
-use Rattle.pb_manifest.specs.Document.{manifest_of}
 use Rattle.pb_manifest.specs.Promises.{IsManifest, IsPackage}
 use Rattle.pb_manifest.specs.declared.manifest.Manifest.{Manifest}
 use Rattle.pb_manifest.specs.declared.manifest.WorkspacePackage.{WorkspacePackage}
 use Rattle.pb_manifest.specs.declared.manifest.WorkspaceTable.{WorkspaceTable}
 use Rattle.pb_manifest.specs.declared.package.Package.{Package as Written}
 use Rattle.pb_package.specs.declared.fault.LoadFault.{LoadFault}
-use Rattle.pb_package.specs.declared.fault.LoadFault.TheVariants.{Manifest as InManifest}
 use Rattle.pb_package.specs.declared.package.DependencyKind.TheVariants.{Normal, Build as ForScript}
 use Rattle.pb_package.specs.declared.package.Package.{Package}
 use Rattle.pb_package.specs.declared.workspace.Workspace.{Workspace}
 use Rattle.pb_place.specs.Paths.{below, folder_of, is_path}
 use Rattle.pb_place.specs.World.{World, from_nothing}
-use Rattle.pb_workspace.specs.Assembled.{assembled, entry_at, package_at, packages_of}
-use Rattle.pb_workspace.specs.ByFolder.{folders_of, values_of}
+use Rattle.pb_workspace.specs.Assembled.{assembled, default_members_of, entry_at, package_at, packages_of}
+use Rattle.pb_workspace.specs.ByFolder.{folders_of, value_of, values_of}
 use Rattle.pb_workspace.specs.Checks.{fault_of, has_other_name, has_other_version, matches_if}
 use Rattle.pb_workspace.specs.Drafts.{draft_from, draft_of, draft_with, lists_of}
 use Rattle.pb_workspace.specs.Features.{features_of}
 use Rattle.pb_workspace.specs.Frames.{frame_of, given_to, is_member}
 use Rattle.pb_workspace.specs.Keys.{keys_of}
-use Rattle.pb_workspace.specs.Loaded.{packages_read, root_parts, unless, workspace_from, workspace_in, workspace_of}
+use Rattle.pb_workspace.specs.Loaded.{others_read, packages_read, root_parts, root_read, unless, workspace_from, workspace_in, workspace_of}
 use Rattle.pb_workspace.specs.MemberFolders.{member_folders}
 use Rattle.pb_workspace.specs.PackageFolders.{package_in, LeadsTo, IsPackageFolder, frame_at}
 use Rattle.pb_workspace.specs.Places.{at_place, draft_in, places_of}
-use Rattle.pb_workspace.specs.Rounds.{draft_if, draft_in_file, manifest_at, parts_at, parts_in, read_found, standing_in, tables_in}
+use Rattle.pb_workspace.specs.Rounds.{all_read, draft_at, parts_at, parts_in, rounds, standing_in, tables_in}
 use Rattle.pb_workspace.specs.Settling.{discovered, has_same_binaries, readme_found, targets_of, wanted_in}
 use Rattle.pb_workspace.specs.Sources.{library_of}
 use Rattle.pb_workspace.specs.Taken.{about_of, own_or_given}
@@ -50,50 +46,35 @@ use Rattle.pb_workspace.specs.declared.rounds.Reading.{Reading}
 use Rattle.pb_workspace.specs.declared.settling.Given.{Given}
 use Rattle.pb_workspace.specs.declared.wanted.Standing.{Standing}
 use Rattle.pb_workspace.specs.declared.wanted.Wanted.{Wanted}
-use Rattle.pb_workspace.proofs.FoldersPlaced.{place_there}
+use Rattle.pb_workspace.proofs.Accepted.{root_kept, target_kept}
+use Rattle.pb_workspace.proofs.FoldersPlaced.{place_there, places_are}
 use Rattle.pb_workspace.proofs.FoldersPut.{opened}
-use Rattle.pb_workspace.proofs.WholeWorkspace.{map_only, map_each, manifest_there, all_found, own_folders}
-use Rattle.pb_package_laws.specs.Laws.{IsManifestAt, IsRead, PackagesSay, BinariesSay, MembersSay}
+use Rattle.pb_workspace.proofs.Fuel.{all_grow, ends_or_grows}
+use Rattle.pb_workspace.proofs.Keeping.{assembled_settled}
+use Rattle.pb_workspace.proofs.Puttings.{map_twice}
+use Rattle.pb_workspace.proofs.WholeWorkspace.{map_only, map_each, manifest_there, all_found, begun, own_folders}
+use Rattle.pb_package_laws.specs.Files.{FilesHavePaths, IsManifestAt}
+use Rattle.pb_package_laws.specs.Folders as Folders
+use Rattle.pb_package_laws.specs.Laws.{IsOfItsFolder, IsRootPackage, IsWorkspaceOf, WorkspacesAreRead, AllAreSettled}
 use Rattle.pb_package_laws.specs.Members.{IsMember}
 use Rattle.pb_package_laws.proofs.Members.{member_is}
-use Rattle.pb_package_laws.specs.Binaries.{FilesHavePaths, IsBinary, HasBinaries}
+use Rattle.pb_package_laws.specs.Binaries.{IsBinary, HasBinaries}
 use Rattle.pb_package_laws.proofs.AllBinaries.{all_rise, all_are}
 use Rattle.pb_workspace.specs.Binaries.{binaries_of, written_binary}
 use Rattle.pb_package.specs.declared.package.Binary.{Binary}
-use Rattle.pb_package.specs.Settled.{IsAscending}
+use Rattle.pb_package.specs.Settled.{IsAscending, IsSettled}
+use Rattle.pb_workspace.specs.Drafted.{IsPut}
 use Rattle.pb_manifest.specs.Letters.{is_name}
 use Rattle.pb_package_laws.specs.Packages.{IsOwnOrTaken, IsLibrary, script, IsPackageOf}
 use Rattle.pb_package_laws.proofs.Fine.{AreFine, fine_so, not_off, matched}
 use Rattle.pb_package_laws.proofs.Entries.{Leads, entries_are}
 use Rattle.pb_package_laws.proofs.Features.{none_meets, features_rise, features_are}
+use Rattle.pb_package_laws.proofs.Folders.{keyed_so, folders_are}
+use Rattle.pb_package_laws.proofs.Order.{packages_up}
+use Rattle.pb_package_laws.proofs.Reading.{all_at, drafted, parts_read, wanted_so}
+use Rattle.pb_package_laws.proofs.Settling.{draft_kept}
+use Rattle.pb_package_laws.proofs.Sorting.{Rises, contained, same_place}
 use Rattle.pb_package_laws.proofs.Keys.{own_or_taken, about_is, IsAbout, script_so, library_is}
-
-all_at : {A : Type 0} (P : A → Type 0) (xs : List A) (x : A) → AllByRecursion P xs → Contains xs x → P x
-all_at P [] x all is = absurd (none x is)
-all_at P (w ∷ xs) x all is = elim (cases w xs x is) [ inl here ↦ subst P here all.0 | inr there ↦ all_at P xs x all.1 there ]
-
--- the manifest of a file
-lifted_ok : {A E F : Type 0} (wrap : E → F) (r : Result A E) (x : A) → lifted wrap r ≡ Ok x → r ≡ Ok x
-lifted_ok wrap (Ok y) x h = let same : y ≡ x = cc in ap (λ z. Ok z) same
-lifted_ok wrap (Err e) x h = cc
-
-in_file : (sources : World) (path : List ℕ) (m : Manifest) → manifest_at sources path ≡ Ok m → IsManifestAt sources path m
-in_file sources path m h = by (finite.get sources.files path) refl h
-  where
-    by : (found : Option (List ℕ)) → finite.get sources.files path ≡ found → read_found path found ≡ Ok m → IsManifestAt sources path m
-    by None at h = cc
-    by (Some bytes) at h = record { bytes = bytes; file = at; says = lifted_ok (InManifest path) (manifest_of bytes) m h }
-
-record IsRead1 (sources : World) (path : List ℕ) (parts : Parts) : Type 0 where
-  m : Manifest
-  there : IsManifestAt sources path m
-  same : parts_in m ≡ parts
-
-parts_read : (sources : World) (path : List ℕ) (parts : Parts) → parts_at sources path ≡ Ok parts → IsRead1 sources path parts
-parts_read sources path parts h =
-    let o = opened (manifest_at sources path) (λ m. Ok (parts_in m)) parts h in
-    let same : parts_in o.0 ≡ parts = cc (o.2) in
-    record { m = o.0; there = in_file sources path o.0 o.1; same = same }
 
 -- the keys
 record AreKeys (sources : World) (at : Standing) (given : WorkspacePackage) (w : Written) (k : Keys) : Type 0 where
@@ -165,8 +146,8 @@ module _ (sources : World) (at : Standing) (member : Bool) (given : Given) (ws :
         normal = map (entry_at places) n.0;
         for_script = map (entry_at places) s.0;
         entries = map-append (entry_at places) n.0 s.0;
-        of_dependencies = entries_are places ws at.root at.folder at.manifest given.dependencies Normal m.dependencies n.0 n.1 (λ x there. all x (Contains-append_left n.0 s.0 x there));
-        of_build_dependencies = entries_are places ws at.root at.folder at.manifest given.dependencies ForScript m.build_dependencies s.0 s.1 (λ x there. all x (Contains-append_right n.0 s.0 x there));
+        of_dependencies = entries_are at.root at.folder at.manifest given.dependencies Normal places ws m.dependencies n.0 n.1 (λ x there. all x (Contains-append_left n.0 s.0 x there));
+        of_build_dependencies = entries_are at.root at.folder at.manifest given.dependencies ForScript places ws m.build_dependencies s.0 s.1 (λ x there. all x (Contains-append_right n.0 s.0 x there));
         development = refl;
       })
 
@@ -177,6 +158,9 @@ record Stands (sources : World) (at : Standing) (member : Bool) (w : Written) (m
   is_member : d.is_member ≡ member
   binaries : d.binaries ≡ binaries_of (discovered at.folder sources w.name w.autobins) (map (written_binary at.folder sources w.name) m.binaries)
   apart : d.has_same_binaries ≡ has_same_binaries m.binaries
+  name : d.name ≡ w.name
+  library : d.library ≡ library_of at.folder sources w.name m.library
+  features : d.features ≡ features_of m.features m.dependencies m.build_dependencies
 
 stands_so : (sources : World) (at : Standing) (member : Bool) (given : Given) (w : Written) (m : Manifest) (d : Draft) → draft_of sources at member given w (tables_in m) ≡ Ok d → Stands sources at member w m d
 unfolding draft_of draft_with
@@ -194,6 +178,9 @@ stands_so sources at member given w m d h =
       is_member = refl;
       binaries = λ i. binaries_of (discovered at.folder sources (keys.name i) (keys.autobins i)) (map (written_binary at.folder sources (keys.name i)) m.binaries);
       apart = ap (λ (x : Lists). x.has_same_binaries) (sym lists);
+      name = keys.name;
+      library = ap (λ n. library_of at.folder sources n m.library) keys.name;
+      features = ap (λ (x : Lists). x.features) (sym lists);
     })
 
 -- a package that was read
@@ -207,30 +194,19 @@ record IsMade (sources : World) (f : Frame) (ws : Workspace) (places : List (Lis
 
 package_says : (sources : World) (f : Frame) (ws : Workspace) (places : List (List ℕ × ℕ)) (folder : List ℕ) (d : Draft) → package_in sources f folder ≡ Ok d → ((x : Wanted) → Contains d.wanted x → Leads places ws x)
     → IsMade sources f ws places folder d
-unfolding draft_in_file draft_if
 package_says sources f ws places folder d h leads =
-    let member : Bool = is_member f (member_folders sources f) folder in
-    let at : Standing = standing_in f folder in
-    let o = opened (parts_at sources at.manifest) (λ parts. draft_if sources f member at parts.tables parts.found) d h in
-    let r = parts_read sources at.manifest o.0 o.1 in
-    let again : draft_if sources f member at (tables_in r.m) r.m.package ≡ Ok d = ap (λ (parts : Parts). draft_if sources f member at parts.tables parts.found) r.same ∙ o.2 in
-    by r.m r.there r.m.package refl again
-  where
-    by : (m : Manifest) → IsManifestAt sources (below folder (codes "Cargo.toml")) m → (found : Option Written) → m.package ≡ found → draft_if sources f (is_member f (member_folders sources f) folder) (standing_in f folder) (tables_in m) found ≡ Ok d
-        → IsMade sources f ws places folder d
-    by m there None is h = cc
-    by m there (Some w) is h =
-        let member : Bool = is_member f (member_folders sources f) folder in
-        let stands = stands_so sources (standing_in f folder) member (given_to f member) w m d h in
-        record {
-          own = m;
-          read = there;
-          written = w;
-          is_package = is;
-          stands = stands;
-          says = subst (λ b. IsPackageOf sources f.root (given_to f b) ws m w (package_at places d)) (sym stands.is_member)
-              (draft_says sources (standing_in f folder) member (given_to f member) ws places m (manifest_is there.bytes m there.says) w d h leads);
-        }
+    let b : Bool = is_member f (member_folders sources f) folder in
+    let own = drafted sources f folder d h in
+    let stands = stands_so sources (standing_in f folder) b (given_to f b) own.written own.own d own.made in
+    record {
+      own = own.own;
+      read = own.read;
+      written = own.written;
+      is_package = own.is_package;
+      stands = stands;
+      says = subst (λ c. IsPackageOf sources f.root (given_to f c) ws own.own own.written (package_at places d)) (sym stands.is_member)
+          (draft_says sources (standing_in f folder) b (given_to f b) ws places own.own (manifest_is own.read.bytes own.own own.read.says) own.written d own.made leads);
+    }
 
 module _ (sources : World) (f : Frame) (parts : Parts) (ws : Workspace) (r : Reading) (drafts_are : ws.packages ≡ packages_of (values_of r.found)) (fine : AreFine (values_of r.found))
     (folders : (x : List ℕ) → Contains (folders_of r.found) x ↔ IsPackageFolder sources f parts.found x) (packages : AllByRecursion (λ (e : List ℕ × Draft). package_in sources f e.0 ≡ Ok e.1) r.found) where
@@ -278,18 +254,18 @@ module _ (manifest target : List ℕ) (w : World) (ws : Workspace) (path : is_pa
   abbrev sources : World
   sources = from_nothing target w
 
-  module _ (root : Manifest) (read : root_parts sources manifest ≡ Ok (parts_in root)) (made : workspace_of manifest target w ≡ Ok ws) where
+  module _ (root : Manifest) (there : IsManifestAt sources manifest root) (read : root_parts sources manifest ≡ Ok (parts_in root)) (made : workspace_of manifest target w ≡ Ok ws) where
     abbrev f : Frame
     f = frame_at manifest (parts_in root)
 
     record Came : Type 0 where
       r : Reading
       packages : packages_read sources f (tables_in root) root.package ≡ Ok r
-      whole : ws.packages ≡ packages_of (values_of r.found)
+      whole : assembled target f root.profiles (values_of r.found) ≡ ws
       fine : AreFine (values_of r.found)
 
     came : Came
-    unfolding workspace_of workspace_in workspace_from assembled
+    unfolding workspace_of workspace_in workspace_from
     came =
         let here : workspace_in sources target f root.profiles (tables_in root) root.package ≡ Ok ws =
         sym (ap (λ x. x >>= (λ (ps : Parts). workspace_in sources target (frame_of (folder_of manifest) manifest ps.workspace) ps.profiles ps.tables ps.found)) read) ∙ made in
@@ -297,98 +273,175 @@ module _ (manifest target : List ℕ) (w : World) (ws : Workspace) (path : is_pa
         let both = by (values_of o.0.found) (fault_of (values_of o.0.found)) refl o.2 in
         record { r = o.0; packages = o.1; whole = both.0; fine = both.1 }
       where
-        by : (ds : List Draft) (o : Option LoadFault) → fault_of ds ≡ o → unless o (assembled target f root.profiles ds) ≡ Ok ws → (ws.packages ≡ packages_of ds) × AreFine ds
-        by ds None at h = let same : assembled target f root.profiles ds ≡ ws = cc in (ap (λ (x : Workspace). x.packages) (sym same), fine_so ds at)
+        by : (ds : List Draft) (o : Option LoadFault) → fault_of ds ≡ o → unless o (assembled target f root.profiles ds) ≡ Ok ws → (assembled target f root.profiles ds ≡ ws) × AreFine ds
+        by ds None at h = (cc, fine_so ds at)
         by ds (Some fault) at h = cc
+
+    abbrev r : Reading
+    r = came.r
+
+    abbrev drafts_read : List Draft
+    drafts_read = values_of r.found
+
+    drafts_are : ws.packages ≡ packages_of drafts_read
+    unfolding assembled
+    drafts_are = ap (λ (x : Workspace). x.packages) (sym came.whole)
+
+    members_are : ws.default_members ≡ default_members_of f.root ws.packages f.default_members
+    unfolding assembled
+    members_are = ap (λ (x : Workspace). x.default_members) (sym came.whole) ∙ ap (λ ps. default_members_of f.root ps f.default_members) (sym drafts_are)
+
+    profiles_are : ws.profiles ≡ root.profiles
+    unfolding assembled
+    profiles_are = ap (λ (x : Workspace). x.profiles) (sym came.whole)
+
+    root_place : ws.root_package ≡ value_of f.root (places_of drafts_read)
+    unfolding assembled
+    root_place = ap (λ (x : Workspace). x.root_package) (sym came.whole)
+
+    stands_there : (f.root ≡ folder_of manifest) × (f.manifest ≡ manifest)
+    stands_there = frame_root manifest root.workspace
+
+    all_so : ((x : List ℕ) → Contains (folders_of r.found) x ↔ IsPackageFolder sources f root.package x) × AllByRecursion (λ (e : List ℕ × Draft). package_in sources f e.0 ≡ Ok e.1) r.found
+    all_so =
+        let file = manifest_there sources manifest (parts_in root) path read in
+        let at = stands_there in
+        let stands : f.manifest ≡ below f.root (codes "Cargo.toml") = at.1 ∙ file.0 ∙ ap (λ x. below x (codes "Cargo.toml")) (sym at.0) in
+        all_found sources f (parts_in root) stands (ap (parts_at sources) at.1 ∙ file.1) r came.packages
+
+    few_so : length r.found ≤ 256
+    unfolding packages_read others_read
+    few_so =
+        let file = manifest_there sources manifest (parts_in root) path read in
+        let at = stands_there in
+        let stands : f.manifest ≡ below f.root (codes "Cargo.toml") = at.1 ∙ file.0 ∙ ap (λ x. below x (codes "Cargo.toml")) (sym at.0) in
+        let o = opened (root_read sources f (tables_in root) root.package) (λ first. others_read sources f first) r came.packages in
+        let q = opened (all_read (draft_at sources f (member_folders sources f)) o.0 (folders_of (member_folders sources f))) (λ now. rounds 257 (draft_at sources f (member_folders sources f)) now) r o.2 in
+        let few = (all_grow (draft_at sources f (member_folders sources f)) (folders_of (member_folders sources f)) o.0 q.0 (begun sources f (parts_in root) stands (ap (parts_at sources) at.1 ∙ file.1) o.0 o.1).1 q.1).few in
+        (ends_or_grows (draft_at sources f (member_folders sources f)) 257 q.0 r few q.2).1
+
+    -- the folders of the packages
+    folders_so : map (λ (p : Package). p.folder) ws.packages ≡ folders_of r.found
+    folders_so = ap (map (λ (p : Package). p.folder)) drafts_are ∙ map_twice (λ (p : Package). p.folder) (package_at (places_of drafts_read)) drafts_read ∙ own_folders sources f r.found all_so.1
+
+    rise_so : Rises (map (λ (p : Package). p.folder) ws.packages)
+    rise_so = subst Rises (sym folders_so) (packages_up sources f (tables_in root) root.package r came.packages)
+
+    set_so : (folder : List ℕ) → Contains (map (λ (p : Package). p.folder) ws.packages) folder ↔ Folders.IsPackageFolder sources f root folder
+    set_so folder =
+        subst (λ xs. Contains xs folder ↔ Folders.IsPackageFolder sources f root folder) (sym folders_so)
+        (folders_are sources f (keyed_so manifest root.workspace (manifest_is there.bytes root there.says).workspace) root r all_so.0 all_so.1 folder)
+
+    -- the root package
+    at_root_so : (place : ℕ) → (ws.root_package ≡ Some place) ↔ IsRootPackage ws place
+    at_root_so place = (onto, back)
+      where
+        root_is : ws.root ≡ f.root
+        root_is = root_kept manifest target w ws made ∙ sym stands_there.0
+
+        package_so : (k : ℕ) (d : Draft) → slice_get drafts_read k ≡ Some d → slice_get ws.packages k ≡ Some (package_at (places_of drafts_read) d)
+        package_so k d at = ap (λ ps. slice_get ps k) drafts_are ∙ slice_get-map (package_at (places_of drafts_read)) drafts_read k ∙ ap (option_map (package_at (places_of drafts_read))) at
+
+        onto : ws.root_package ≡ Some place → IsRootPackage ws place
+        onto h =
+            let a = places_are drafts_read f.root place (sym root_place ∙ h) in
+            record { p = package_at (places_of drafts_read) a.0; there = package_so place a.0 a.1; folder = a.2 ∙ sym root_is }
+
+        back : IsRootPackage ws place → ws.root_package ≡ Some place
+        back is =
+            let in_folder : is.p.folder ≡ f.root = is.folder ∙ root_is in
+            let known : Contains (map (λ (p : Package). p.folder) ws.packages) f.root = subst (Contains (map (λ (p : Package). p.folder) ws.packages)) in_folder (map_each (λ (p : Package). p.folder) ws.packages is.p (contained ws.packages place is.p is.there)) in
+            let h = place_there drafts_read f.root (subst (λ xs. Contains xs f.root) (folders_so ∙ sym (own_folders sources f r.found all_so.1)) known) in
+            let same : h.0 ≡ place = same_place (λ (p : Package). p.folder) ws.packages h.0 place (package_at (places_of drafts_read) h.1) is.p rise_so (package_so h.0 h.1 h.3) is.there (h.4 ∙ sym in_folder) in
+            root_place ∙ h.2 ∙ ap (λ k. Some k) same
+
+    -- what is promised of each package
+    put_so : (es : List (List ℕ × Draft)) → AllByRecursion (λ (e : List ℕ × Draft). package_in sources f e.0 ≡ Ok e.1) es → AllByRecursion IsPut es
+    put_so [] all = tt
+    put_so (e ∷ es) all =
+        let b : Bool = is_member f (member_folders sources f) e.0 in
+        let own = drafted sources f e.0 e.1 all.0 in
+        let stands = stands_so sources (standing_in f e.0) b (given_to f b) own.written own.own e.1 own.made in (
+          (
+            stands.folder,
+            draft_kept sources (standing_in f e.0) (given_to f b) own.written own.own e.1 (manifest_is own.read.bytes own.own own.read.says) own.is_package stands.name stands.library stands.binaries stands.features
+                (wanted_so sources (standing_in f e.0) b (given_to f b) own.written own.own e.1 own.made),
+          ),
+          put_so es all.1,
+        )
+
+    pub settled_so : IsSettled ws
+    settled_so =
+        let all = put_so r.found all_so.1 in
+        subst IsSettled came.whole (assembled_settled target f root.profiles r.found few_so all (packages_up sources f (tables_in root) root.package r came.packages) came.fine.apart)
 
     abbrev Made : Package → Type 0
     Made p = (places : List (List ℕ × ℕ)) × (folder : List ℕ) × (d : Draft) × IsMade sources f ws places folder d × (package_at places d ≡ p) × (d.has_same_binaries ≡ false)
 
     each_made : (p : Package) → Contains ws.packages p → Made p
     each_made p is =
-        let c = came in
-        let there = manifest_there sources manifest (parts_in root) path read in
-        let at = frame_root manifest root.workspace in
-        let stands : f.manifest ≡ below f.root (codes "Cargo.toml") = at.1 ∙ there.0 ∙ ap (λ x. below x (codes "Cargo.toml")) (sym at.0) in
-        let all = all_found sources f (parts_in root) stands (ap (parts_at sources) at.1 ∙ there.1) c.r c.packages in
-        let a = all_made sources f (parts_in root) ws c.r c.whole c.fine all.0 all.1 p is in
-        (places_of (values_of c.r.found), a.0, a.1, a.2, a.3, a.4)
+        let a = all_made sources f (parts_in root) ws r drafts_are came.fine all_so.0 all_so.1 p is in
+        (places_of drafts_read, a.0, a.1, a.2, a.3, a.4)
 
-    pub each_read : (p : Package) → Contains ws.packages p → IsRead sources manifest root ws p
-    each_read p is =
-        let at = frame_root manifest root.workspace in
-        let a = each_made p is in
-        subst (IsRead sources manifest root ws) a.4 (record {
-          place = a.3.stands.manifest ∙ ap (λ x. below x (codes "Cargo.toml")) (sym a.3.stands.folder);
-          own = a.3.own;
-          read = subst (λ x. IsManifestAt sources x a.3.own) (sym a.3.stands.manifest) a.3.read;
-          written = a.3.written;
-          is_package = a.3.is_package;
-          says = subst (λ x. IsPackageOf sources x (given_to f a.2.is_member) ws a.3.own a.3.written (package_at a.0 a.2)) at.0 a.3.says;
-        })
-
-    -- a file says one manifest
-    one_manifest : (file : List ℕ) (m n : Manifest) → IsManifestAt sources file m → IsManifestAt sources file n → m ≡ n
-    one_manifest file m n one other =
-        let bytes : Some one.bytes ≡ Some other.bytes = sym one.file ∙ other.file in
-        let same : one.bytes ≡ other.bytes = cc in
-        let both : Ok m ≡ Ok n = sym one.says ∙ ap manifest_of same ∙ other.says in
-        cc
-
-    pub each_member : (p : Package) → Contains ws.packages p → (p.is_member ≡ true) ↔ IsMember sources f p.folder
+    each_member : (p : Package) → Contains ws.packages p → (p.is_member ≡ true) ↔ IsMember sources f p.folder
     each_member p is =
         let a = each_made p is in
         subst (λ (q : Package). (q.is_member ≡ true) ↔ IsMember sources f q.folder) a.4
         (subst (λ b. (b ≡ true) ↔ IsMember sources f a.2.folder) (sym a.3.stands.is_member) (subst (λ x. (is_member f (member_folders sources f) a.1 ≡ true) ↔ IsMember sources f x) (sym a.3.stands.folder) (member_is sources f a.1)))
 
-    pub same_root : (r : Manifest) → IsManifestAt sources manifest root → IsManifestAt sources manifest r → root ≡ r
-    same_root r one other = one_manifest manifest root r one other
+    binaries_so : FilesHavePaths sources → (at : List (List ℕ × ℕ)) (folder : List ℕ) (d : Draft) (m : IsMade sources f ws at folder d) → d.has_same_binaries ≡ false → HasBinaries sources m.own m.written (package_at at d)
+    binaries_so paths at folder d m alone =
+        let kept = manifest_is m.read.bytes m.own m.read.says in
+        let named : is_name m.written.name ≡ true = (subst (λ o. IfSome o IsPackage) m.is_package kept.found).name in
+        let apart : has_same_binaries m.own.binaries ≡ false = sym m.stands.apart ∙ alone in
+        record {
+          order = subst (λ (bs : List Binary). IsAscending (map (λ (b : Binary). b.name) bs)) (sym m.stands.binaries) (all_rise sources folder paths m.own m.written named apart);
+          are = λ b. subst (λ x. Contains d.binaries b ↔ IsBinary sources x m.own m.written b) (sym m.stands.folder)
+              (subst (λ (bs : List Binary). Contains bs b ↔ IsBinary sources folder m.own m.written b) (sym m.stands.binaries) (all_are sources folder paths m.own m.written named apart b));
+        }
 
-    pub each_binaries : FilesHavePaths sources → (p : Package) (own : Manifest) (written : Written) → Contains ws.packages p → IsManifestAt sources p.manifest own → own.package ≡ Some written → HasBinaries sources own written p
-    each_binaries paths p own written is at_file is_package =
+    each_read : (p : Package) → Contains ws.packages p → IsOfItsFolder sources f ws p
+    each_read p is =
         let a = each_made p is in
-        let here : p.manifest ≡ below a.1 (codes "Cargo.toml") = ap (λ (q : Package). q.manifest) (sym a.4) ∙ a.3.stands.manifest in
-        let same : a.3.own ≡ own = one_manifest (below a.1 (codes "Cargo.toml")) a.3.own own a.3.read (subst (λ x. IsManifestAt sources x own) here at_file) in
-        let both : Some a.3.written ≡ Some written = sym a.3.is_package ∙ ap (λ (m : Manifest). m.package) same ∙ is_package in
-        let table : a.3.written ≡ written = cc in
-        let kept = manifest_is a.3.read.bytes a.3.own a.3.read.says in
-        let named : is_name a.3.written.name ≡ true = (subst (λ o. IfSome o IsPackage) a.3.is_package kept.found).name in
-        let apart : has_same_binaries a.3.own.binaries ≡ false = sym a.3.stands.apart ∙ a.5 in
-        subst (HasBinaries sources own written) a.4
-        (subst (λ m. HasBinaries sources m written (package_at a.0 a.2)) same
-        (subst (λ x. HasBinaries sources a.3.own x (package_at a.0 a.2)) table (record {
-          order = subst (λ (bs : List Binary). IsAscending (map (λ (b : Binary). b.name) bs)) (sym a.3.stands.binaries) (all_rise sources a.1 paths a.3.own a.3.written named apart);
-          are = λ b. subst (λ folder. Contains a.2.binaries b ↔ IsBinary sources folder a.3.own a.3.written b) (sym a.3.stands.folder)
-              (subst (λ (bs : List Binary). Contains bs b ↔ IsBinary sources a.1 a.3.own a.3.written b) (sym a.3.stands.binaries) (all_are sources a.1 paths a.3.own a.3.written named apart b));
-        })))
+        subst (IsOfItsFolder sources f ws) a.4 (record {
+          manifest = a.3.stands.manifest ∙ ap (λ x. below x (codes "Cargo.toml")) (sym a.3.stands.folder);
+          own = a.3.own;
+          read = subst (λ x. IsManifestAt sources x a.3.own) (sym a.3.stands.manifest) a.3.read;
+          written = a.3.written;
+          is_package = a.3.is_package;
+          member = subst (λ (q : Package). (q.is_member ≡ true) ↔ IsMember sources f q.folder) (sym a.4) (each_member p is);
+          says = a.3.says;
+          binaries = λ paths. binaries_so paths a.0 a.1 a.2 a.3 a.5;
+        })
 
-pub packages_say : PackagesSay
+    pub whole_workspace : IsWorkspaceOf sources manifest root ws
+    whole_workspace = record {
+      read = there;
+      root = root_kept manifest target w ws made;
+      order = rise_so;
+      folders = set_so;
+      packages = each_read;
+      root_package = at_root_so;
+      default_members = members_are ∙ ap (λ x. default_members_of x ws.packages f.default_members) (stands_there.0 ∙ sym (root_kept manifest target w ws made));
+      profiles = profiles_are;
+    }
+
+pub workspaces_are_read : WorkspacesAreRead
 unfolding workspace_of
-packages_say manifest target w ws path made =
+workspaces_are_read manifest target w ws path made =
     let sources : World = from_nothing target w in
     let o = opened (root_parts sources manifest) (λ (ps : Parts). workspace_in sources target (frame_of (folder_of manifest) manifest ps.workspace) ps.profiles ps.tables ps.found) ws made in
     let there = manifest_there sources manifest o.0 path o.1 in
     let r = parts_read sources manifest o.0 there.1 in
     let read : root_parts sources manifest ≡ Ok (parts_in r.m) = o.1 ∙ ap (λ (ps : Parts). Ok ps) (sym r.same) in
-    (r.m, r.there, each_read manifest target w ws path r.m read made)
+    (target_kept manifest target w ws made, (r.m, whole_workspace manifest target w ws path r.m r.there read made))
 
-pub binaries_say : BinariesSay
+pub all_are_settled : AllAreSettled
 unfolding workspace_of
-binaries_say manifest target w ws path made paths p own written is at_file is_package =
+all_are_settled manifest target w ws path made =
     let sources : World = from_nothing target w in
     let o = opened (root_parts sources manifest) (λ (ps : Parts). workspace_in sources target (frame_of (folder_of manifest) manifest ps.workspace) ps.profiles ps.tables ps.found) ws made in
     let there = manifest_there sources manifest o.0 path o.1 in
     let r = parts_read sources manifest o.0 there.1 in
     let read : root_parts sources manifest ≡ Ok (parts_in r.m) = o.1 ∙ ap (λ (ps : Parts). Ok ps) (sym r.same) in
-    each_binaries manifest target w ws path r.m read made paths p own written is at_file is_package
-
-pub members_say : MembersSay
-unfolding workspace_of
-members_say manifest target w ws r path made there p is =
-    let sources : World = from_nothing target w in
-    let o = opened (root_parts sources manifest) (λ (ps : Parts). workspace_in sources target (frame_of (folder_of manifest) manifest ps.workspace) ps.profiles ps.tables ps.found) ws made in
-    let at = manifest_there sources manifest o.0 path o.1 in
-    let own = parts_read sources manifest o.0 at.1 in
-    let read : root_parts sources manifest ≡ Ok (parts_in own.m) = o.1 ∙ ap (λ (ps : Parts). Ok ps) (sym own.same) in
-    subst (λ (m : Manifest). (p.is_member ≡ true) ↔ IsMember sources (frame_of (folder_of manifest) manifest m.workspace) p.folder) (same_root manifest target w ws path own.m read made r own.there there)
-    (each_member manifest target w ws path own.m read made p is)
+    settled_so manifest target w ws path r.m r.there read made

@@ -1,6 +1,5 @@
 -- The binaries of a package that was read (The Cargo Book, Cargo Targets). `sources` is the world without what lies at or below the target folder.
 use Rattle.std.specs.Prelude.{◌≡◌, ◌≢◌, ◌↔◌, ℕ, true, if◌then◌else◌, codes, List, [], ◌∷◌, ◌++◌, map, Option, Some, None, Contains, get_or, unwrap_or}
-use Rattle.std.specs.FinMap as finite
 use Rattle.std.specs.Str.{bytes_eq}
 use Rattle.pb_manifest.specs.Letters.{is_name}
 use Rattle.pb_manifest.specs.declared.manifest.Manifest.{Manifest}
@@ -9,14 +8,10 @@ use Rattle.pb_manifest.specs.declared.target.Binary.{Binary as WrittenBinary}
 use Rattle.pb_package.specs.Settled.{IsAscending}
 use Rattle.pb_package.specs.declared.package.Binary.{Binary}
 use Rattle.pb_package.specs.declared.package.Package.{Package}
-use Rattle.pb_place.specs.Paths.{below, is_path}
+use Rattle.pb_place.specs.Paths.{below}
 use Rattle.pb_place.specs.World.{World}
 use Rattle.pb_workspace.specs.Sources.{resolved}
-use Rattle.pb_package_laws.specs.Packages.{first_file}
-
--- each file has a normalised absolute path
-abbrev pub FilesHavePaths : World → Type 0
-FilesHavePaths w = (path bytes : List ℕ) → finite.get w.files path ≡ Some bytes → is_path path ≡ true
+use Rattle.pb_package_laws.specs.Files.{first_file}
 
 -- `src/bin/NAME.rs`, `src/bin/NAME/main.rs`
 abbrev pub in_bin : List ℕ → List (List ℕ)

@@ -1,44 +1,62 @@
--- The law of packages: each package of a workspace that was read is what its manifest and its folder say, with what it takes from its workspace.
-use Rattle.std.specs.Prelude.{◌≡◌, ◌↔◌, ℕ, true, codes, List, Some, Ok, Contains}
-use Rattle.std.specs.FinMap as finite
-use Rattle.pb_manifest.specs.Document.{manifest_of}
+-- The law of workspaces: a workspace that was read is what its manifests and their folders say.
+use Rattle.std.specs.Prelude.{◌≡◌, ◌↔◌, ℕ, true, codes, List, map, Some, Ok, Contains, slice_get}
 use Rattle.pb_manifest.specs.declared.manifest.Manifest.{Manifest}
 use Rattle.pb_manifest.specs.declared.package.Package.{Package as Written}
+use Rattle.pb_package.specs.Settled.{IsAscending, IsSettled}
 use Rattle.pb_package.specs.declared.package.Package.{Package}
 use Rattle.pb_package.specs.declared.workspace.Workspace.{Workspace}
 use Rattle.pb_place.specs.Paths.{below, folder_of, is_path}
 use Rattle.pb_place.specs.World.{World, from_nothing}
+use Rattle.pb_workspace.specs.Assembled.{default_members_of}
 use Rattle.pb_workspace.specs.Frames.{frame_of, given_to}
 use Rattle.pb_workspace.specs.Loaded.{workspace_of}
-use Rattle.pb_package_laws.specs.Binaries.{FilesHavePaths, HasBinaries}
+use Rattle.pb_workspace.specs.declared.frame.Frame.{Frame}
+use Rattle.pb_package_laws.specs.Binaries.{HasBinaries}
+use Rattle.pb_package_laws.specs.Files.{FilesHavePaths, IsManifestAt}
+use Rattle.pb_package_laws.specs.Folders.{IsPackageFolder}
 use Rattle.pb_package_laws.specs.Members.{IsMember}
 use Rattle.pb_package_laws.specs.Packages.{IsPackageOf}
 
--- the manifest in the file at this path
-pub record IsManifestAt (sources : World) (path : List ℕ) (m : Manifest) : Type 0 where
-  pub bytes : List ℕ
-  pub file : finite.get sources.files path ≡ Some bytes
-  pub says : manifest_of bytes ≡ Ok m
-
--- the package that the manifest of its folder describes; a member takes from the workspace's manifest `r`
-pub record IsRead (sources : World) (manifest : List ℕ) (r : Manifest) (ws : Workspace) (p : Package) : Type 0 where
-  pub place : p.manifest ≡ below p.folder (codes "Cargo.toml")
+-- The package of its folder: that which the manifest there describes, and the files there. A member takes from its workspace, of which `f` is what the root manifest says.
+pub record IsOfItsFolder (sources : World) (f : Frame) (ws : Workspace) (p : Package) : Type 0 where
+  pub manifest : p.manifest ≡ below p.folder (codes "Cargo.toml")
   pub own : Manifest
   pub read : IsManifestAt sources p.manifest own
   pub written : Written
   pub is_package : own.package ≡ Some written
-  pub says : IsPackageOf sources (folder_of manifest) (given_to (frame_of (folder_of manifest) manifest r.workspace) p.is_member) ws own written p
+  pub member : (p.is_member ≡ true) ↔ IsMember sources f p.folder
+  pub says : IsPackageOf sources f.root (given_to f p.is_member) ws own written p
+  pub binaries : FilesHavePaths sources → HasBinaries sources own written p
 
-abbrev pub PackagesSay : Type 0
-PackagesSay = (manifest target : List ℕ) (w : World) (ws : Workspace) → is_path manifest ≡ true → workspace_of manifest target w ≡ Ok ws
-    → (r : Manifest) × IsManifestAt (from_nothing target w) manifest r × ((p : Package) → Contains ws.packages p → IsRead (from_nothing target w) manifest r ws p)
+-- the package at this place stands in the root's folder
+pub record IsRootPackage (ws : Workspace) (place : ℕ) : Type 0 where
+  pub p : Package
+  pub there : slice_get ws.packages place ≡ Some p
+  pub folder : p.folder ≡ ws.root
 
--- the same of its binaries, where each file of the sources has a normalised absolute path, as the paths of a place have
-abbrev pub BinariesSay : Type 0
-BinariesSay = (manifest target : List ℕ) (w : World) (ws : Workspace) → is_path manifest ≡ true → workspace_of manifest target w ≡ Ok ws → FilesHavePaths (from_nothing target w)
-    → (p : Package) (own : Manifest) (written : Written) → Contains ws.packages p → IsManifestAt (from_nothing target w) p.manifest own → own.package ≡ Some written → HasBinaries (from_nothing target w) own written p
+-- what a root manifest says of its workspace
+abbrev pub frame_in : List ℕ → Manifest → Frame
+frame_in manifest r = frame_of (folder_of manifest) manifest r.workspace
 
--- and which packages are members, by the manifest `r` of the workspace
-abbrev pub MembersSay : Type 0
-MembersSay = (manifest target : List ℕ) (w : World) (ws : Workspace) (r : Manifest) → is_path manifest ≡ true → workspace_of manifest target w ≡ Ok ws → IsManifestAt (from_nothing target w) manifest r
-    → (p : Package) → Contains ws.packages p → (p.is_member ≡ true) ↔ IsMember (from_nothing target w) (frame_of (folder_of manifest) manifest r.workspace) p.folder
+-- The workspace of the root manifest `r`, which stands at this path.
+pub record IsWorkspaceOf (sources : World) (manifest : List ℕ) (r : Manifest) (ws : Workspace) : Type 0 where
+  pub read : IsManifestAt sources manifest r
+  pub root : ws.root ≡ folder_of manifest
+  pub order : IsAscending (map (λ (p : Package). p.folder) ws.packages)
+  pub folders : (folder : List ℕ) → Contains (map (λ (p : Package). p.folder) ws.packages) folder ↔ IsPackageFolder sources (frame_in manifest r) r folder
+  pub packages : (p : Package) → Contains ws.packages p → IsOfItsFolder sources (frame_in manifest r) ws p
+  pub root_package : (place : ℕ) → (ws.root_package ≡ Some place) ↔ IsRootPackage ws place
+  pub default_members : ws.default_members ≡ default_members_of ws.root ws.packages (frame_in manifest r).default_members
+  pub profiles : ws.profiles ≡ r.profiles
+
+abbrev pub WorkspacesAreRead : Type 0
+WorkspacesAreRead = (manifest target : List ℕ) (w : World) (ws : Workspace) → is_path manifest ≡ true → workspace_of manifest target w ≡ Ok ws
+    → (ws.target ≡ target) × ((r : Manifest) × IsWorkspaceOf (from_nothing target w) manifest r ws)
+
+-- There is one such workspace, where each file of the sources has a normalised absolute path.
+abbrev pub WorkspacesAreOne : Type 0
+WorkspacesAreOne = (sources : World) (manifest : List ℕ) (r s : Manifest) (v w : Workspace) → FilesHavePaths sources → IsWorkspaceOf sources manifest r v → IsWorkspaceOf sources manifest s w → v.target ≡ w.target → v ≡ w
+
+-- A workspace that was read is settled: its names have their letters, its entries lead somewhere.
+abbrev pub AllAreSettled : Type 0
+AllAreSettled = (manifest target : List ℕ) (w : World) (ws : Workspace) → is_path manifest ≡ true → workspace_of manifest target w ≡ Ok ws → IsSettled ws

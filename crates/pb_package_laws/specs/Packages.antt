@@ -1,7 +1,6 @@
 -- A package that was read, in the words of The Cargo Book (Manifest Format, Cargo Targets, Build Scripts, Features, Specifying Dependencies, Workspaces). `sources` is the world without what lies at or below the target folder.
-use Rattle.std.specs.Prelude.{◌≡◌, ◌≢◌, ◌↔◌, ℕ, Bool, true, not, ◌||◌, codes, is_some, List, [], ◌∷◌, ◌++◌, map, Option, Some, None, IfSome, Contains, slice_get, unwrap_or}
-use Rattle.std.specs.FinMap as finite
-use Rattle.std.specs.List.{find, join_by}
+use Rattle.std.specs.Prelude.{◌≡◌, ◌≢◌, ◌↔◌, ℕ, Bool, true, not, ◌||◌, codes, List, [], ◌∷◌, ◌++◌, map, Option, Some, None, IfSome, Contains, slice_get, unwrap_or}
+use Rattle.std.specs.List.{join_by}
 use Rattle.std.specs.Option.{option_map}
 use Rattle.std.specs.Str.{bytes_eq}
 use Rattle.pb_manifest.specs.Letters.{underscored}
@@ -35,20 +34,7 @@ use Rattle.pb_place.specs.World.{World}
 use Rattle.pb_workspace.specs.Sources.{resolved}
 use Rattle.pb_workspace.specs.Taken.{from_member, readme_text, given_readme}
 use Rattle.pb_workspace.specs.declared.settling.Given.{Given}
-
--- Files.
-
--- a name of a file of the sources, from this folder
-abbrev pub is_file : World → List ℕ → List ℕ → Bool
-is_file sources folder name = is_some (finite.get sources.files (below folder name))
-
--- the first of these names that is one
-abbrev pub first_file : World → List ℕ → List (List ℕ) → Option (List ℕ)
-first_file sources folder names = find (is_file sources folder) names
-
--- its path
-abbrev pub first_path : World → List ℕ → List (List ℕ) → Option (List ℕ)
-first_path sources folder names = option_map (below folder) (first_file sources folder names)
+use Rattle.pb_package_laws.specs.Files.{first_file, first_path}
 
 -- Keys.
 
@@ -107,28 +93,24 @@ pub data IsFeature (m : Manifest) (f : Feature) : Type 0 where
 
 -- Entries.
 
--- an entry asks for the package at a path from this folder: that package is there, it has the name that `package` says, or else the entry's key, and its version matches
-pub record AsksFor (base : List ℕ) (default : Bool) (features : List (List ℕ)) (s : PathSource) (ws : Workspace) (e : Entry) : Type 0 where
-  pub default_features : e.default_features ≡ default
-  pub features_are : e.features ≡ features
-  pub renamed : e.renamed ≡ not (bytes_eq (unwrap_or s.package e.key) e.key)
-  pub found : Package
-  pub there : slice_get ws.packages e.to ≡ Some found
-  pub folder : found.folder ≡ resolved base s.path
-  pub name : found.name ≡ unwrap_or s.package e.key
-  pub version : IfSome s.version (λ requirement. matches requirement found.version ≡ true)
-
--- an entry with a path of its own; or the workspace's entry of its key, from the root's folder, with the features of both, and with `default` where one of the two asks for it
-pub data IsFrom (root folder : List ℕ) (entries : List WorkspaceDependency) (ws : Workspace) (d : Dependency) (e : Entry) : Type 0 where
-  path : (s : PathSource) (is : d.source ≡ source.Path s) (asks : AsksFor folder s.default_features d.features s ws e) → IsFrom root folder entries ws d e
+-- what a dependency asks for: the folder at a path from its package's; or, where it takes the workspace's entry of its key, at a path from the root's, with the features of both, and with `default` where one of the two asks for it
+pub data Asks (root folder : List ℕ) (entries : List WorkspaceDependency) (d : Dependency) : List ℕ → PathSource → Bool → List (List ℕ) → Type 0 where
+  path : (s : PathSource) (is : d.source ≡ source.Path s) → Asks root folder entries d (resolved folder s.path) s s.default_features d.features
   workspace : (default : Bool) (is : d.source ≡ source.Workspace default) (w : WorkspaceDependency) (there : Contains entries w) (same : w.key ≡ d.key) (s : PathSource) (has_path : w.source ≡ shared.Path s)
-      (asks : AsksFor root (s.default_features || default) (w.features ++ d.features) s ws e) → IsFrom root folder entries ws d e
+      → Asks root folder entries d (resolved root s.path) s (s.default_features || default) (w.features ++ d.features)
 
+-- its entry leads to the package there, which has the name that `package` says, or else the key, and a version that matches
 pub record IsEntry (root folder : List ℕ) (entries : List WorkspaceDependency) (ws : Workspace) (kind : DependencyKind) (d : Dependency) (e : Entry) : Type 0 where
   pub key_is : e.key ≡ d.key
   pub kind_is : e.kind ≡ kind
   pub optional : e.optional ≡ d.optional
-  pub from : IsFrom root folder entries ws d e
+  pub s : PathSource
+  pub found : Package
+  pub asks : Asks root folder entries d found.folder s e.default_features e.features
+  pub there : slice_get ws.packages e.to ≡ Some found
+  pub name : found.name ≡ unwrap_or s.package e.key
+  pub renamed : e.renamed ≡ not (bytes_eq found.name e.key)
+  pub version : IfSome s.version (λ requirement. matches requirement found.version ≡ true)
 
 -- one for one, in this order
 abbrev pub AreOneForOne : {A B : Type 0} → (A → B → Type 0) → List A → List B → Type 0

@@ -1,22 +1,23 @@
-//! Laws of packages: what a package of a workspace that was read is, key by key (The Cargo Book, Manifest Format, Cargo
-//! Targets, Build Scripts, Features, Specifying Dependencies, Workspaces).
+//! Laws of workspaces: what one that was read is, key by key (The Cargo Book, Manifest Format, Cargo Targets, Build
+//! Scripts, Features, Specifying Dependencies, Workspaces).
 #![tactic(auto)]
 
-ghost use Rattle.pb_package_laws.specs.Laws.{PackagesSay, BinariesSay, MembersSay};
+ghost use Rattle.pb_package_laws.specs.Laws.{AllAreSettled, WorkspacesAreOne, WorkspacesAreRead};
 
-/// A law: each package of a workspace that was read is what its manifest and its folder say, key by key, with what it
-/// takes from its workspace.
-pub fn packages_say()
-    ensures { PackagesSay }
+/// A law: a workspace that was read is what its manifests and their folders say. Its packages lie in the least set of
+/// folders that holds the root package's, the members' and that of each path dependency of a package in it, in byte order.
+/// Each package is what the manifest of its folder and the files there say, key by key, with what a member takes from
+/// the workspace; its binaries too, where the files of the sources have normalised absolute paths.
+pub fn workspaces_are_read()
+    ensures { WorkspacesAreRead }
 {}
 
-/// A law: so are its binaries, those of `[[bin]]` and those that are found, each with its source.
-pub fn binaries_say()
-    ensures { BinariesSay }
+/// A law: there is one such workspace; so nothing of a workspace that was read is left unsaid.
+pub fn workspaces_are_one()
+    ensures { WorkspacesAreOne }
 {}
 
-/// A law: a package is a member if and only if it is the root package, or `members` means its folder, or it lies in the
-/// root's folder and is not excluded.
-pub fn members_say()
-    ensures { MembersSay }
+/// A law: whatever the files say, a workspace that was read is settled, as `load` promises of what it gives.
+pub fn all_are_settled()
+    ensures { AllAreSettled }
 {}

@@ -1,6 +1,6 @@
 //! The children in flight at a place, and the starts that will fail at one in memory.
 
-ghost use Rattle.std.specs.Prelude.{◌≡◌, ℕ, true, false, IfSome, IfNone, Some, None, ◌<◌, ◌+◌, ◌==◌, length, take};
+ghost use Rattle.std.specs.Prelude.{◌≡◌, ℕ, true, false, IfSome, IfNone, Some, None, ◌<◌, ◌≤◌, ◌+◌, ◌==◌, length, take};
 ghost use Rattle.std.specs.List.{list_any};
 ghost use Rattle.pb_place.specs.Children.{is_flying, child_at};
 ghost use Rattle.pb_place.specs.Counts.{without};
@@ -46,10 +46,12 @@ pub fn flies<K>(flying: &[Flying<K>], ticket: u64) -> bool
     has_ticket(flying, ticket)
 }
 
-/// A number that no child in flight has: the lowest. There is one at or below their number.
+/// A number that no child in flight has: the lowest. There is one at or below their number, so none is never the answer;
+/// proved is that it is only where each of these numbers is taken.
 #[tactic(auto, using(crate::proofs::InFlight::flying_laws))]
 pub fn free_ticket<K>(flying: &[Flying<K>]) -> Option<u64>
-    ensures { IfSome result (λ ticket. is_flying ticket (children_in flying.now) ≡ false) }
+    ensures free { IfSome result (λ ticket. is_flying ticket (children_in flying.now) ≡ false) }
+    ensures taken { (t : ℕ) → t ≤ length flying.now → IfNone result (is_flying t (children_in flying.now) ≡ true) }
 {
     for ticket in 0..=flying.len() as u64 {
         if !flies(flying, ticket) {

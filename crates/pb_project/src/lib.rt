@@ -9,7 +9,7 @@ pub mod needed;
 pub mod project;
 pub mod targets;
 
-pub use answer::{Answered, InputName};
+pub use answer::Answered;
 pub use fault::UnitFault;
 pub use needed::{
     is_library, is_run, library_file, own_run, own_said, said_at, script_file, unit_at,

@@ -24,5 +24,5 @@ pub use laws::{
 };
 pub use pairs::Pairs;
 pub use read::read_record;
-pub use record::{Input, Needed, Record};
+pub use record::{Input, InputName, Needed, Record};
 pub use write::write_record;

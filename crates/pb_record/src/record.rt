@@ -1,8 +1,18 @@
 //! What is kept of a unit that was built.
 
 use crate::asked::Asked;
-use pb_data::{Bytes, Items, Text};
+use pb_data::{Bytes, Items, Text, TryCopy};
 use pb_place::{PathText, RelativePath};
+use std::alloc::{AllocError, Global};
+
+/// Something that a unit's answer depends on beside its command and the units that it reaches.
+#[derive(Debug, Drop)]
+pub enum InputName {
+    /// A file, or all files below a folder.
+    Path(PathText),
+    /// A variable of the environment.
+    Variable(Text),
+}
 
 /// Something beside its command and the units that it reaches on which a unit's answer rests, with its value.
 #[derive(Debug, Drop)]
@@ -40,4 +50,13 @@ pub struct Record {
     pub stdout: Bytes,
     /// What the child wrote to standard error.
     pub stderr: Bytes,
+}
+
+impl TryCopy for InputName {
+    fn copy(&self, alloc: Global) -> Result<InputName, AllocError> {
+        Ok(match self {
+            InputName::Path(path) => InputName::Path(path.copy(alloc)?),
+            InputName::Variable(name) => InputName::Variable(name.copy(alloc)?),
+        })
+    }
 }

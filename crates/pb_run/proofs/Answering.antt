@@ -25,6 +25,7 @@ use Rattle.pb_unit.specs.declared.plan.Planned.{Planned}
 use Rattle.pb_run.specs.Halves.{Basis, CanAnswer, IsBegun, IsInFlight, Keeps, WaitsBy, begun_with, command_in, outcomes_in, view_in}
 use Rattle.pb_run.specs.Outcome.{Waiting, directives_of, judged, judgement_by, outcome_by, outcome_of, ran_by, ran_of}
 use Rattle.pb_run.specs.Standing.{IsInOrder}
+use Rattle.pb_run.specs.declared.begun.Awaited.TheVariants as awaited
 use Rattle.pb_run.specs.declared.begun.Begun.{Begun}
 use Rattle.pb_run.specs.declared.begun.Launched.{Launched}
 use Rattle.pb_run.specs.declared.ran.Judgement.{Judgement}
@@ -68,9 +69,9 @@ module _ (b : Basis) (order : IsInOrder b.project) (i : ℕ) (u : Planned) (at :
 
   -- a unit that has begun is this one
   pub begun_as : (begun : Begun) (next : Option ℕ) (w : World) (flying : List ChildInFlight) (still : ℕ → Type 0) → IsBegun b i begun next w flying still
-      → (begun.command ≡ command_in b i u) × WaitsBy b u begun.command (view_in b i u) begun.launched next w flying still
+      → (begun.command ≡ command_in b i u) × WaitsBy b u begun.command (view_in b i u) begun.awaited next w flying still
   begun_as begun next w flying still is =
-      subst (λ (v : Planned). (begun.command ≡ command_in b i v) × WaitsBy b v begun.command (view_in b i v) begun.launched next w flying still) (one is.unit u (sym is.there ∙ at)) (is.command, is.waits)
+      subst (λ (v : Planned). (begun.command ≡ command_in b i v) × WaitsBy b v begun.command (view_in b i v) begun.awaited next w flying still) (one is.unit u (sym is.there ∙ at)) (is.command, is.waits)
 
   pub reached_stand : (states : List (State BadUnit)) (done : List (Option (List Directive))) (next : Option ℕ) (w : World) → Keeps b states done next w → are_good states u.reaches ≡ true → AllStand b done w u.reaches
   reached_stand states done next w keeps reaches place has = keeps.good place (all_at (λ p. is_good_at (slice_get states p)) u.reaches place reaches has)
@@ -103,20 +104,20 @@ module _ (b : Basis) (order : IsInOrder b.project) (i : ℕ) (u : Planned) (at :
 
   -- the child that flies for it has landed
   module _ (key : List ℕ) (c : Command) (l : Launched) (next : Option ℕ) (flying : List ChildInFlight) (still : ℕ → Type 0) where
-    pub its_flight : (w : World) → IsBegun b i (begun_with key c (Some l)) next w flying still → (c ≡ command_in b i u) × IsInFlight b.child c (view_in b i u) l.ticket flying still
-    its_flight w is = let (command, waits) = begun_as (begun_with key c (Some l)) next w flying still is in (command, waits.0)
+    pub its_flight : (w : World) → IsBegun b i (begun_with key c (awaited.Child l)) next w flying still → (c ≡ command_in b i u) × IsInFlight b.child c (view_in b i u) l.ticket flying still
+    its_flight w is = let (command, waits) = begun_as (begun_with key c (awaited.Child l)) next w flying still is in (command, waits.0)
 
     pub its_landing : (old new : World) (ended : Ended) (spawned : World) → child_at l.ticket flying ≡ Some (child_spawned (b.child c) c spawned l.ticket) → IfSome (child_at l.ticket flying) (λ s. LandsAs s old ended new)
         → LandsAs (child_spawned (b.child c) c spawned l.ticket) old ended new
     its_landing old new ended spawned flies lands = subst (λ (o : Option ChildInFlight). IfSome o (λ s. LandsAs s old ended new)) flies lands
 
-    pub landed_only : (old new : World) → IsBegun b i (begun_with key c (Some l)) next old flying still → IfSome (child_at l.ticket flying) (λ s. ChangesOnlyInSome s.command.out old new) → ChangesOnly (is_at_or_below u.out) old new
+    pub landed_only : (old new : World) → IsBegun b i (begun_with key c (awaited.Child l)) next old flying still → IfSome (child_at l.ticket flying) (λ s. ChangesOnlyInSome s.command.out old new) → ChangesOnly (is_at_or_below u.out) old new
     landed_only old new is only =
         let (command, flight) = its_flight old is in
         let inside : ChangesOnlyInSome c.out old new = subst (λ (o : Option ChildInFlight). IfSome o (λ s. ChangesOnlyInSome s.command.out old new)) flight.flies only in
         only_started u.out c.out old new (ap (λ (d : Command). d.out) command ∙ command_out) inside
 
-    pub landed_gives : (states : List (State BadUnit)) (done : List (Option (List Directive))) (old new : World) (ended : Ended) (j : Judgement) → CanAnswer b states done i u (begun_with key c (Some l)) next old flying still
+    pub landed_gives : (states : List (State BadUnit)) (done : List (Option (List Directive))) (old new : World) (ended : Ended) (j : Judgement) → CanAnswer b states done i u (begun_with key c (awaited.Child l)) next old flying still
         → (still l.ticket → IfSome (child_at l.ticket flying) (λ s. LandsAs s old ended new)) → j ≡ judgement_by b.project u ended (answered_of b.project u c ended (file_at (dep_info_of b.project u) new.files))
         → slice_get (outcomes_in b) i ≡ Some (outcome_by (files_in u.out new.files) j.ran)
     landed_gives states done old new ended j can lands is_judged =

@@ -141,14 +141,6 @@ kept key store.OutOfMemory old new starts may cause = (starts, cause)
 pub keep_told : (key unit : List ℕ) (e : StoreFault) (told : BuildFault) (old new : Counts) → told ≡ store_fault unit e → unit ≡ key → (new.starts ≡ old.starts) × (causes.MayKeep e × causes.HasCause e old new) → TellsFollow key old new told
 keep_told key unit e told old new is named takes = subst (TellsFollow key old new) (sym (is ∙ ap (λ k. store_fault k e) named)) (kept key e old new takes.0 takes.1.0 takes.1.1)
 
-replayed : (key : List ℕ) (e : StoreFault) (old new : Counts) → new.starts ≡ old.starts → causes.MayRead e → causes.HasCause e old new → TellsFollow key old new (store_fault key e)
-replayed key (store.Place f) old new starts may cause = subst (FollowsAt key old new) (sym may) (λ c. ((refl, read_no_remove, starts), c)) cause
-replayed key store.NumbersSpent old new starts may cause = absurd may
-replayed key store.OutOfMemory old new starts may cause = (starts, cause)
-
-pub replay_told : (key unit : List ℕ) (e : StoreFault) (told : BuildFault) (old new : Counts) → told ≡ store_fault unit e → unit ≡ key → (new.starts ≡ old.starts) × (causes.MayRead e × causes.HasCause e old new) → TellsFollow key old new told
-replay_told key unit e told old new is named takes = subst (TellsFollow key old new) (sym (is ∙ ap (λ k. store_fault k e) named)) (replayed key e old new takes.0 takes.1.0 takes.1.1)
-
 -- a file that is read
 pub read_follows : (key : List ℕ) (e : BuildFault) (old new : Starts) → MayRead key e old new → MayFollow key e old new
 read_follows key (Plan refusal) old new may = absurd may

@@ -25,6 +25,7 @@ use Rattle.pb_run.specs.Causes.{IsLifted, MayBeginUnit}
 use Rattle.pb_run.specs.Halves.{Basis, BeginsApart, CanBegin, IsBegun, Keeps, begun_with, command_in, records_in, view_in}
 use Rattle.pb_run.specs.Launching.{IsSpawned}
 use Rattle.pb_run.specs.Standing.{IsCommandOf, IsInOrder, records_folder}
+use Rattle.pb_run.specs.declared.begun.Awaited.TheVariants as awaited
 use Rattle.pb_run.specs.declared.begun.Begun.{Begun}
 use Rattle.pb_run.specs.declared.begun.Launched.{Launched}
 use Rattle.pb_run.proofs.Answering.{reached_stand}
@@ -39,6 +40,8 @@ use Rattle.pb_soundness.specs.Reuse.{IsSame}
 use Rattle.pb_soundness.specs.Sound.{Sound}
 use Rattle.pb_store.specs.Keeping.{Leaves}
 use Rattle.pb_store.specs.Migrating.{TakesNumber}
+use Rattle.pb_store.specs.Replaying.{IsReplayed}
+use Rattle.pb_store.specs.declared.replaying.Replayed.{Replayed}
 
 -- a unit's command writes into its folder
 pub out_asked : (project : Project) (setup : Setup) (i : ℕ) (u : Planned) (done : List (Option (List Directive))) (c : Command) → IsInOrder project → slice_get project.plan.planned i ≡ Some u → c ≡ command_of setup project u done → c.out ≡ Some u.out
@@ -67,12 +70,13 @@ module _ (b : Basis) (order : IsInOrder b.project) (i : ℕ) (u : Planned) (at :
   pub keeps_same : (w' : World) → w' ≡ w → Keeps b (slice_set states i begun_state) done next w'
   keeps_same w' same = subst (Keeps b (slice_set states i begun_state) done next) (sym same) keeps_here
 
-  pub begun_none : (key : List ℕ) (c : Command) (w' : World) (folder : List ℕ) (flying : List ChildInFlight) (still : ℕ → Type 0) → w' ≡ w → folder ≡ records_folder b.project → c ≡ command_of b.setup b.project u done
-      → (r : Record) × IsSame b.read folder u.key c w r → IsBegun b i (begun_with key c None) next w' flying still
-  begun_none key c w' folder flying still same is_folder is found =
-      subst (λ (v : World). IsBegun b i (begun_with key c None) next v flying still) (sym same)
-      (begun_same b order states done i u at next w w (only_same _ w) can (begun_with key c None) flying still (is_command c is) refl
-      (found.0, subst (λ f. IsSame b.read f u.key c w found.0) is_folder found.1))
+  pub begun_none : (key : List ℕ) (c : Command) (again : Replayed) (w' : World) (folder : List ℕ) (flying : List ChildInFlight) (still : ℕ → Type 0) → w' ≡ w → folder ≡ records_folder b.project → c ≡ command_of b.setup b.project u done
+      → (r : Record) × IsSame b.read folder u.key c w r → IsReplayed (record_at b.read folder w.files u.key) again → IsBegun b i (begun_with key c (awaited.Record again)) next w' flying still
+  begun_none key c again w' folder flying still same is_folder is found gives =
+      subst (λ (v : World). IsBegun b i (begun_with key c (awaited.Record again)) next v flying still) (sym same)
+      (begun_same b order states done i u at next w w (only_same _ w) can (begun_with key c (awaited.Record again)) again flying still (is_command c is) refl
+      (found.0, subst (λ f. IsSame b.read f u.key c w found.0) is_folder found.1)
+      (subst (λ f. IsReplayed (record_at b.read f w.files u.key) again) is_folder gives))
 
   -- its child was launched, or a step on the way failed
   module _ (folder : List ℕ) (is_folder : folder ≡ records_folder b.project) (w' : World) (next' : Option ℕ) (only : ChangesOnly (is_of folder u.key) w w') where
@@ -86,9 +90,9 @@ module _ (b : Basis) (order : IsInOrder b.project) (i : ℕ) (u : Planned) (at :
         (subst (λ f. IsAhead (record_at b.read f w.files) next → IsAhead (record_at b.read f w'.files) next') is_folder ahead)
 
     pub begun_some : (key : List ℕ) (c : Command) (l : Launched) (flying : List ChildInFlight) (still : ℕ → Type 0) → c ≡ command_of b.setup b.project u done → IsSpawned (is_of folder u.key) b.child c w l.ticket flying still
-        → record_at b.read folder w'.files u.key ≡ None → next ≡ Some l.number → next' ≡ after l.number → IsBegun b i (begun_with key c (Some l)) next' w' flying still
+        → record_at b.read folder w'.files u.key ≡ None → next ≡ Some l.number → next' ≡ after l.number → IsBegun b i (begun_with key c (awaited.Child l)) next' w' flying still
     begun_some key c l flying still is spawned gone given then' =
-        begun_child b order states done i u at next w w' only_its can (begun_with key c (Some l)) l spawned.spawned next' flying still (is_command c is) refl (is_shown_view c is)
+        begun_child b order states done i u at next w w' only_its can (begun_with key c (awaited.Child l)) l spawned.spawned next' flying still (is_command c is) refl (is_shown_view c is)
         (subst (λ f. ChangesOnly (is_of f u.key) w spawned.spawned) is_folder spawned.only) spawned.flies spawned.emptied spawned.stands
         (subst (λ f. record_at b.read f w'.files u.key ≡ None) is_folder gone) given then'
 

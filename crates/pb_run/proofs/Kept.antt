@@ -28,7 +28,7 @@ use Rattle.pb_place.specs.declared.child_in_flight.ChildInFlight.{ChildInFlight}
 use Rattle.pb_place.specs.declared.command.Command.{Command}
 use Rattle.pb_place.specs.declared.command.Ended.{Ended}
 use Rattle.pb_project.specs.Targets.{dep_info_of, unit_at}
-use Rattle.pb_project.specs.declared.answer.InputName.{InputName}
+use Rattle.pb_record.specs.declared.record.InputName.{InputName}
 use Rattle.pb_answer.specs.declared.bad_unit.BadUnit.{BadUnit}
 use Rattle.pb_project.specs.declared.project.Project.{Project}
 use Rattle.pb_record.specs.Sorted.{are_sorted, leads}
@@ -37,6 +37,7 @@ use Rattle.pb_run.specs.Causes.{MayAnswerUnit, MayFollow}
 use Rattle.pb_run.specs.Halves.{Basis, BeginsApart, CanAnswer, IsBegun, Keeps, begun_with, command_in, key_at, key_in, needed_keys, outcomes_in, view_in}
 use Rattle.pb_run.specs.Outcome.{judgement_by, outcome_by}
 use Rattle.pb_run.specs.Standing.{IsCommandOf, IsInOrder, records_folder}
+use Rattle.pb_run.specs.declared.begun.Awaited.TheVariants as awaited
 use Rattle.pb_run.specs.declared.begun.Begun.{Begun}
 use Rattle.pb_run.specs.declared.begun.Launched.{Launched}
 use Rattle.pb_run.specs.declared.ran.Judgement.{Judgement}
@@ -110,7 +111,7 @@ flying_follow key OutOfMemory old new may = ap (λ (s : Starts). s.flying) may
 -- The child has landed.
 
 module _ (b : Basis) (order : IsInOrder b.project) (i : ℕ) (u : Planned) (at : unit_at b.project i ≡ Some u) (c : Command) (l : Launched) (next : Option ℕ) (w : World)
-    (flying : List ChildInFlight) (still : ℕ → Type 0) (states : List (State BadUnit)) (done : List (Option (List Directive))) (can : CanAnswer b states done i u (begun_with u.key c (Some l)) next w flying still)
+    (flying : List ChildInFlight) (still : ℕ → Type 0) (states : List (State BadUnit)) (done : List (Option (List Directive))) (can : CanAnswer b states done i u (begun_with u.key c (awaited.Child l)) next w flying still)
     (w1 : World) (ends : IfSome (child_at l.ticket flying) (λ s. ChangesOnlyInSome s.command.out w w1)) where
   landed_so : ChangesOnly (is_at_or_below u.out) w w1
   landed_so = landed_only b order i u at u.key c l next flying still w w1 can.begun_so ends
@@ -136,8 +137,8 @@ module _ (b : Basis) (order : IsInOrder b.project) (i : ℕ) (u : Planned) (at :
         let only_here : ChangesOnly (is_at_or_below (place_of (records_folder b.project) u.key)) v v2 = subst (λ f. ChangesOnly (is_at_or_below (place_of f u.key)) v v2) is_folder only in
         others_landed b order i u at u.key c l next w flying still states done can v landed_v other its v2 flying' later apart
         (kept_only (records_folder b.project) u.key u.out w v v2 (order.folders i u at) landed_v only_here)
-        (left_kept b order i u at states done (begun_with u.key c (Some l)) next w flying still can v landed_v v2 only_here b.footing l.number (map (input_in c.target v) names) ended
-        (its_record b order i u at states done (begun_with u.key c (Some l)) next w flying still can l refl)
+        (left_kept b order i u at states done (begun_with u.key c (awaited.Child l)) next w flying still can v landed_v v2 only_here b.footing l.number (map (input_in c.target v) names) ended
+        (its_record b order i u at states done (begun_with u.key c (awaited.Child l)) next w flying still can l refl)
         (subst (λ f. Leaves (Some (kept_of f u.key c (map (input_in c.target v) names) l.number (numbered (record_at b.read f v.files) (needed_keys b.project u)) ended)) (record_at b.read f v.files u.key) (record_at b.read f v2.files u.key)) is_folder leaves))
         (second ∙ first)
         (λ t ne stands stood. still_over (is_of (records_folder b.project) u.key) t l.ticket flying w w1 still judged later ne (only_out b order i u at w w1 landed_so)

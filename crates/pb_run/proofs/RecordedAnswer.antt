@@ -22,20 +22,22 @@ use Rattle.pb_place.specs.declared.command.Command.{Command}
 use Rattle.pb_place.specs.declared.command.Ended.{Ended}
 use Rattle.pb_project.specs.Targets.{unit_at}
 use Rattle.pb_project.specs.declared.answer.Answered.{Answered as answer_type}
-use Rattle.pb_project.specs.declared.answer.InputName.{InputName}
+use Rattle.pb_record.specs.declared.record.InputName.{InputName}
 use Rattle.pb_project.specs.declared.fault.UnitFault.{UnitFault}
 use Rattle.pb_answer.specs.declared.bad_unit.BadUnit.{BadUnit}
 use Rattle.pb_project.specs.declared.fault.UnitFault.TheVariants as unit_fault
-use Rattle.pb_run.specs.Halves.{Footing, OnRecords, OnNothing, Basis, HasRecord, Keeps, IsInFlight, AwaitsBy, IsUnchanged, WaitsBy, CanAnswer, outcomes_in, records_in, command_in, view_in}
+use Rattle.pb_run.specs.Halves.{Footing, OnRecords, OnNothing, Basis, HasRecord, Keeps, IsInFlight, AwaitsBy, IsUnchanged, WaitsBy, CanAnswer, outcomes_in, records_in, command_in, view_in, child_of}
 use Rattle.pb_run.specs.Outcome.{outcome_by, outcome_from}
 use Rattle.pb_run.specs.Standing.{IsInOrder, records_folder}
+use Rattle.pb_run.specs.declared.begun.Awaited.{Awaited}
+use Rattle.pb_run.specs.declared.begun.Awaited.TheVariants as awaited
 use Rattle.pb_run.specs.declared.begun.Begun.{Begun}
 use Rattle.pb_run.specs.declared.begun.Launched.{Launched}
 use Rattle.pb_run.specs.declared.ran.Ran.{Ran}
 use Rattle.pb_run.proofs.Recorded.{command_for}
 use Rattle.pb_run.proofs.RecordedBegin.{never_by, own_far}
 use Rattle.pb_run.proofs.RecordedKeeps.{keeps_over}
-use Rattle.pb_run.proofs.RecordedOthers.{IfRecords}
+use Rattle.pb_run.proofs.RecordedOthers.{IfRecords, waits_child}
 use Rattle.pb_run.proofs.Views.{IsFor}
 use Rattle.pb_soundness.specs.Apart.{is_of}
 use Rattle.pb_soundness.specs.Grounded.{Standing, Grounded, grounded}
@@ -45,6 +47,8 @@ use Rattle.pb_soundness.specs.Sound.{Sound}
 use Rattle.pb_soundness.proofs.Becoming.{one, none_some}
 use Rattle.pb_soundness.proofs.Four.{in_output}
 use Rattle.pb_soundness.proofs.Places.{place_outside, no_key, record_same}
+use Rattle.pb_store.specs.Replaying.{IsReplayed}
+use Rattle.pb_store.specs.declared.replaying.Replayed.{Replayed}
 use Rattle.pb_unit.specs.declared.plan.Planned.{Planned}
 
 -- A good reply has status 0.
@@ -126,17 +130,23 @@ module _ (b : Basis) (order : IsInOrder b.project) (place : ℕ) (u : Planned) (
     pub its_command : begun.command ≡ command_in b place u
     its_command = subst (λ (x : Planned). begun.command ≡ command_in b place x) its_unit can.begun_so.command
 
-    its_waits : WaitsBy b u begun.command (view_in b place u) begun.launched next w flying still
-    its_waits = subst (λ (x : Planned). WaitsBy b x begun.command (view_in b place x) begun.launched next w flying still) its_unit can.begun_so.waits
+    its_waits : WaitsBy b u begun.command (view_in b place u) begun.awaited next w flying still
+    its_waits = subst (λ (x : Planned). WaitsBy b x begun.command (view_in b place x) begun.awaited next w flying still) its_unit can.begun_so.waits
 
-    pub its_flight : (launched : Launched) → begun.launched ≡ Some launched → IsInFlight b.child begun.command (view_in b place u) launched.ticket flying still
-    its_flight launched is = (subst (λ (o : Option Launched). WaitsBy b u begun.command (view_in b place u) o next w flying still) is its_waits).0
+    pub its_flight : (launched : Launched) → child_of begun ≡ Some launched → IsInFlight b.child begun.command (view_in b place u) launched.ticket flying still
+    its_flight launched is = (waits_child b u begun.command (view_in b place u) begun.awaited launched next w flying still is its_waits).0
 
-    pub its_record : (launched : Launched) → begun.launched ≡ Some launched → AwaitsBy b.footing b u launched.number next w
-    its_record launched is = (subst (λ (o : Option Launched). WaitsBy b u begun.command (view_in b place u) o next w flying still) is its_waits).1
+    pub its_record : (launched : Launched) → child_of begun ≡ Some launched → AwaitsBy b.footing b u launched.number next w
+    its_record launched is = (waits_child b u begun.command (view_in b place u) begun.awaited launched next w flying still is its_waits).1
 
-    pub its_same : begun.launched ≡ None → IsUnchanged b.footing b u begun.command w
-    its_same is = subst (λ (o : Option Launched). WaitsBy b u begun.command (view_in b place u) o next w flying still) is its_waits
+    record_waits : (again : Replayed) → begun.awaited ≡ awaited.Record again → WaitsBy b u begun.command (view_in b place u) (awaited.Record again) next w flying still
+    record_waits again is = subst (λ (o : Awaited). WaitsBy b u begun.command (view_in b place u) o next w flying still) is its_waits
+
+    pub its_same : (again : Replayed) → begun.awaited ≡ awaited.Record again → IsUnchanged b.footing b u begun.command w
+    its_same again is = (record_waits again is).0
+
+    pub its_again : (again : Replayed) → begun.awaited ≡ awaited.Record again → IsReplayed (records_in b w u.key) again
+    its_again again is = (record_waits again is).1
 
     pub begun_bad : is_good_at (slice_get states place) ≡ false
     begun_bad = ap is_good_at can.state

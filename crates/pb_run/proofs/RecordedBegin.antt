@@ -17,6 +17,8 @@ use Rattle.pb_answer.specs.declared.bad_unit.BadUnit.{BadUnit}
 use Rattle.pb_record.specs.declared.record.Record.{Record}
 use Rattle.pb_run.specs.Halves.{Footing, OnRecords, OnNothing, Basis, HasRecord, HoldsBy, Keeps, IsBegun, AwaitsBy, IsUnchanged, WaitsBy, CanBegin, records_in, command_in, view_in}
 use Rattle.pb_run.specs.Standing.{IsInOrder, records_folder}
+use Rattle.pb_run.specs.declared.begun.Awaited.{Awaited}
+use Rattle.pb_run.specs.declared.begun.Awaited.TheVariants as awaited
 use Rattle.pb_run.specs.declared.begun.Begun.{Begun}
 use Rattle.pb_run.specs.declared.begun.Launched.{Launched}
 use Rattle.pb_run.proofs.Recorded.{command_for, seen_still}
@@ -28,6 +30,8 @@ use Rattle.pb_soundness.specs.Reuse.{IsSame}
 use Rattle.pb_soundness.specs.Sound.{Sound}
 use Rattle.pb_soundness.proofs.Ahead.{given_ahead, next_is_new}
 use Rattle.pb_soundness.proofs.Becoming.{none_some}
+use Rattle.pb_store.specs.Replaying.{IsReplayed}
+use Rattle.pb_store.specs.declared.replaying.Replayed.{Replayed}
 use Rattle.pb_unit.specs.declared.plan.Planned.{Planned}
 
 untouched_begun : (s : State BadUnit) → s ≡ begun_state → Some s ≡ Some Untouched → ⊥
@@ -93,7 +97,7 @@ module _ (b : Basis) (order : IsInOrder b.project) (states : List (State BadUnit
 
     -- with a child it has begun so,
     pub begun_child : (begun : Begun) (launched : Launched) (spawned : World) (next' : Option ℕ) (flying' : List ChildInFlight) (still' : ℕ → Type 0)
-        → begun.command ≡ command_in b place u → begun.launched ≡ Some launched → seen_by begun.command w ≡ view_in b place u
+        → begun.command ≡ command_in b place u → begun.awaited ≡ awaited.Child launched → seen_by begun.command w ≡ view_in b place u
         → ChangesOnly (is_of (records_folder b.project) u.key) w spawned → child_at launched.ticket flying' ≡ Some (child_spawned (b.child begun.command) begun.command spawned launched.ticket)
         → inside_out begun.command.out spawned.files ≡ finite.empty → still' launched.ticket
         → records_in b w' u.key ≡ None → next ≡ Some launched.number → next' ≡ after launched.number → IsBegun b place begun next' w' flying' still'
@@ -101,7 +105,7 @@ module _ (b : Basis) (order : IsInOrder b.project) (states : List (State BadUnit
       unit = u;
       there = there;
       command = is_command;
-      waits = subst (λ (o : Option Launched). WaitsBy b u begun.command (view_in b place u) o next' w' flying' still') (sym is_launched) (
+      waits = subst (λ (o : Awaited). WaitsBy b u begun.command (view_in b place u) o next' w' flying' still') (sym is_launched) (
         record {
           spawned = spawned;
           flies = flies;
@@ -118,11 +122,11 @@ module _ (b : Basis) (order : IsInOrder b.project) (states : List (State BadUnit
     unchanged_by OnRecords c holds same = same
     unchanged_by OnNothing c holds (r, same) = none_some r (sym (holds place u there can.untouched) ∙ same.stands)
 
-    pub begun_same : (begun : Begun) (flying : List ChildInFlight) (still : ℕ → Type 0) → begun.command ≡ command_in b place u → begun.launched ≡ None
-        → (r : Record) × IsSame b.read (records_folder b.project) u.key begun.command w r → IsBegun b place begun next w flying still
-    begun_same begun flying still is_command is_launched same = record {
+    pub begun_same : (begun : Begun) (again : Replayed) (flying : List ChildInFlight) (still : ℕ → Type 0) → begun.command ≡ command_in b place u → begun.awaited ≡ awaited.Record again
+        → (r : Record) × IsSame b.read (records_folder b.project) u.key begun.command w r → IsReplayed (records_in b w u.key) again → IsBegun b place begun next w flying still
+    begun_same begun again flying still is_command is_awaited same gives = record {
       unit = u;
       there = there;
       command = is_command;
-      waits = subst (λ (o : Option Launched). WaitsBy b u begun.command (view_in b place u) o next w flying still) (sym is_launched) (unchanged_by b.footing begun.command can.keeps.records same);
+      waits = subst (λ (o : Awaited). WaitsBy b u begun.command (view_in b place u) o next w flying still) (sym is_awaited) (unchanged_by b.footing begun.command can.keeps.records same, gives);
     }

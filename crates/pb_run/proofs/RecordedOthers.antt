@@ -3,7 +3,7 @@ use Rattle.std.proofs.Common.{◌≡◌, ◌≢◌, ◌<◌, ◌+◌, ◌==◌, 
 use Rattle.std.proofs.lemmas.Bool.{cases_Bool, false≢true}
 use Rattle.std.proofs.lemmas.Bool.Decides.{nat_tests}
 use Rattle.std.specs.FinMap as finite
-use Rattle.std.specs.Prelude.{IfSome}
+use Rattle.std.specs.Prelude.{IfSome, option_map}
 use Rattle.pb_command.specs.Externs.{reads_of}
 use Rattle.pb_command.specs.Judge.{judge}
 use Rattle.pb_directive.specs.declared.directive.Directive.{Directive}
@@ -17,15 +17,17 @@ use Rattle.pb_place.specs.World.{World, Map, Answers, ChangesOnly, from_nothing}
 use Rattle.pb_place.specs.declared.child_in_flight.ChildInFlight.{ChildInFlight}
 use Rattle.pb_place.specs.declared.command.Command.{Command}
 use Rattle.pb_project.specs.Targets.{unit_at}
-use Rattle.pb_project.specs.declared.answer.InputName.{InputName}
-use Rattle.pb_project.specs.declared.answer.InputName.TheVariants.{Path, Variable}
+use Rattle.pb_record.specs.declared.record.InputName.{InputName}
+use Rattle.pb_record.specs.declared.record.InputName.TheVariants.{Path, Variable}
 use Rattle.pb_answer.specs.declared.bad_unit.BadUnit.{BadUnit}
 use Rattle.pb_record.specs.declared.record.Input.{Input}
 use Rattle.pb_record.specs.declared.record.Needed.{Needed}
 use Rattle.pb_record.specs.declared.record.Needed.TheVariants.{Copies, Numbers}
 use Rattle.pb_record.specs.declared.record.Record.{Record}
-use Rattle.pb_run.specs.Halves.{Footing, OnRecords, OnNothing, Basis, HoldsBy, Keeps, IsBegun, IsInFlight, AwaitsRecord, AwaitsBy, IsUnchanged, WaitsBy, BeginsApart, needed_keys, records_in, view_in}
+use Rattle.pb_run.specs.Halves.{Footing, OnRecords, OnNothing, Basis, HoldsBy, Keeps, IsBegun, IsInFlight, AwaitsRecord, AwaitsBy, IsUnchanged, WaitsBy, BeginsApart, needed_keys, records_in, view_in, child_in, child_of}
 use Rattle.pb_run.specs.Standing.{IsInOrder, records_folder}
+use Rattle.pb_run.specs.declared.begun.Awaited.{Awaited}
+use Rattle.pb_run.specs.declared.begun.Awaited.TheVariants as awaited
 use Rattle.pb_run.specs.declared.begun.Begun.{Begun}
 use Rattle.pb_run.specs.declared.begun.Launched.{Launched}
 use Rattle.pb_run.proofs.Recorded.{all_at, read_reached, key_needed, key_by_folder, keys_differ, command_for, sources_still, files_still, record_still, seen_still}
@@ -42,6 +44,7 @@ use Rattle.pb_soundness.proofs.Flying.{unit_record}
 use Rattle.pb_soundness.proofs.Places.{is_same}
 use Rattle.pb_store.specs.Keeping.{Leaves, ReadBy, itself, further, HasNeeds}
 use Rattle.pb_store.specs.Migrating.{TakesNumber}
+use Rattle.pb_store.specs.Replaying.{replayed}
 use Rattle.pb_unit.specs.declared.plan.Planned.{Planned}
 
 -- what is asked only where a build rests on records
@@ -225,17 +228,26 @@ module _ (b : Basis) (order : IsInOrder b.project) (place : ℕ) (u : Planned) (
       stands = stands_on (flight_still c t flying is.spawned for is.flies) is.stands;
     }
 
-    pub waits_still : (c : Command) (view : World) (launched : Option Launched) (states : List (State BadUnit)) (next next' given : Option ℕ) (flying flying' : List ChildInFlight) (still still' : ℕ → Type 0)
+    pub waits_still : (c : Command) (view : World) (by : Awaited) (states : List (State BadUnit)) (next next' given : Option ℕ) (flying flying' : List ChildInFlight) (still still' : ℕ → Type 0)
         → IsFor b.project v c → HoldsBy b.footing b states next w → TakesNumber next next' → IfRecords b.footing (Left At At' u.key given)
-        → ((theirs : Launched) → launched ≡ Some theirs → given ≢ Some theirs.number)
-        → ((theirs : Launched) → launched ≡ Some theirs → (its : ChildInFlight) → child_at theirs.ticket flying ≡ Some its → child_at theirs.ticket flying' ≡ Some its)
-        → ((theirs : Launched) → launched ≡ Some theirs → ((x y : World) → ChangesOnly (is_of Folder u.key) x y → StandsStill theirs.ticket flying x y) → still theirs.ticket → still' theirs.ticket)
-        → WaitsBy b v c view launched next w flying still → WaitsBy b v c view launched next' w' flying' still'
-    waits_still c view None states next next' given flying flying' still still' for holds taken left numbers flies_on stands_on waits = unchanged_by b.footing states next c for holds waits
-    waits_still c view (Some theirs) states next next' given flying flying' still still' for holds taken left numbers flies_on stands_on (in_flight, awaits) = (
+        → ((theirs : Launched) → child_in by ≡ Some theirs → given ≢ Some theirs.number)
+        → ((theirs : Launched) → child_in by ≡ Some theirs → (its : ChildInFlight) → child_at theirs.ticket flying ≡ Some its → child_at theirs.ticket flying' ≡ Some its)
+        → ((theirs : Launched) → child_in by ≡ Some theirs → ((x y : World) → ChangesOnly (is_of Folder u.key) x y → StandsStill theirs.ticket flying x y) → still theirs.ticket → still' theirs.ticket)
+        → WaitsBy b v c view by next w flying still → WaitsBy b v c view by next' w' flying' still'
+    waits_still c view (awaited.Record again) states next next' given flying flying' still still' for holds taken left numbers flies_on stands_on (same, gives) = (
+      unchanged_by b.footing states next c for holds same,
+      ap (option_map replayed) (record_still b.project order place u there w w' only b.read other v at another) ∙ gives,
+    )
+    waits_still c view (awaited.Child theirs) states next next' given flying flying' still still' for holds taken left numbers flies_on stands_on (in_flight, awaits) = (
       in_flight_still c view theirs.ticket flying flying' still still' for (flies_on theirs refl) (stands_on theirs refl) in_flight,
       awaits_by b.footing next next' given theirs.number taken left (numbers theirs refl) awaits,
     )
+
+-- a unit with a child waits for its end
+pub waits_child : (b : Basis) (u : Planned) (c : Command) (view : World) (by : Awaited) (launched : Launched) (next : Option ℕ) (w : World) (flying : List ChildInFlight) (still : ℕ → Type 0) → child_in by ≡ Some launched
+    → WaitsBy b u c view by next w flying still → WaitsBy b u c view (awaited.Child launched) next w flying still
+waits_child b u c view (awaited.Child l) launched next w flying still is waits = subst (λ (x : Launched). WaitsBy b u c view (awaited.Child x) next w flying still) (one l launched is) waits
+waits_child b u c view (awaited.Record again) launched next w flying still is waits = absurd (none_some launched is)
 
 -- a good unit is not this one, which is not good
 pub far_of : (states : List (State BadUnit)) (place : ℕ) (places : List ℕ) → is_good_at (slice_get states place) ≡ false → are_good states places ≡ true → (p : ℕ) → Contains places p → p ≢ place
@@ -247,9 +259,9 @@ pub stays_begun : (b : Basis) (order : IsInOrder b.project) (states : List (Stat
     → unit_at b.project place ≡ Some u → is_good_at (slice_get states place) ≡ false → Keeps b states done next w
     → BeginsApart b states place launched other its next w flying still
     → ChangesOnly (is_of (records_folder b.project) u.key) w w' → TakesNumber next next' → IfRecords b.footing (Left (records_in b w) (records_in b w') u.key given)
-    → ((theirs : Launched) → its.launched ≡ Some theirs → given ≢ Some theirs.number)
-    → ((theirs : Launched) → its.launched ≡ Some theirs → (c : ChildInFlight) → child_at theirs.ticket flying ≡ Some c → child_at theirs.ticket flying' ≡ Some c)
-    → ((theirs : Launched) → its.launched ≡ Some theirs → ((x y : World) → ChangesOnly (is_of (records_folder b.project) u.key) x y → StandsStill theirs.ticket flying x y) → still theirs.ticket → still' theirs.ticket)
+    → ((theirs : Launched) → child_of its ≡ Some theirs → given ≢ Some theirs.number)
+    → ((theirs : Launched) → child_of its ≡ Some theirs → (c : ChildInFlight) → child_at theirs.ticket flying ≡ Some c → child_at theirs.ticket flying' ≡ Some c)
+    → ((theirs : Launched) → child_of its ≡ Some theirs → ((x y : World) → ChangesOnly (is_of (records_folder b.project) u.key) x y → StandsStill theirs.ticket flying x y) → still theirs.ticket → still' theirs.ticket)
     → IsBegun b other its next' w' flying' still'
 stays_begun b order states done place u launched other its next next' given w w' flying flying' still still' there bad keeps apart only taken left numbers flies_on stands_on =
     let is = apart.begun_so in
@@ -259,7 +271,7 @@ stays_begun b order states done place u launched other its next next' given w w'
       unit = is.unit;
       there = is.there;
       command = is.command;
-      waits = waits_still b order place u there w w' only other is.unit is.there far apart.another its.command (view_in b other is.unit) its.launched states next next' given flying flying' still still'
+      waits = waits_still b order place u there w w' only other is.unit is.there far apart.another its.command (view_in b other is.unit) its.awaited states next next' given flying flying' still still'
           (command_for b.project order b other is.unit its.command refl is.there is.command) keeps.records taken left numbers flies_on stands_on is.waits;
     }
 

@@ -15,7 +15,7 @@ use Rattle.pb_project.specs.Targets.{unit_at}
 use Rattle.pb_answer.specs.declared.bad_unit.BadUnit.{BadUnit}
 use Rattle.pb_record.specs.declared.record.Input.{Input}
 use Rattle.pb_record.specs.declared.record.Record.{Record}
-use Rattle.pb_run.specs.Halves.{Footing, OnRecords, OnNothing, Basis, HasRecord, HoldsRecords, HoldsBy, AwaitsBy, IsUnchanged, WaitsBy, CanAnswer, BeginsApart, command_in, needed_keys, records_in, view_in}
+use Rattle.pb_run.specs.Halves.{Footing, OnRecords, OnNothing, Basis, HasRecord, HoldsRecords, HoldsBy, AwaitsBy, IsUnchanged, CanAnswer, BeginsApart, command_in, needed_keys, records_in, view_in, child_of}
 use Rattle.pb_run.specs.Standing.{IsInOrder, records_folder}
 use Rattle.pb_run.specs.declared.begun.Begun.{Begun}
 use Rattle.pb_run.specs.declared.begun.Launched.{Launched}
@@ -23,7 +23,7 @@ use Rattle.pb_run.proofs.Recorded.{sources_still}
 use Rattle.pb_run.proofs.RecordedAnswer.{grounded_alike, only_place, its_command, its_for}
 use Rattle.pb_run.proofs.RecordedKeeps.{has_needs, reads_grounded}
 use Rattle.pb_run.proofs.RecordedLanding.{put_over}
-use Rattle.pb_run.proofs.RecordedOthers.{IfRecords, Left, agrees_still, vanished, as_before, put_anew, others_at}
+use Rattle.pb_run.proofs.RecordedOthers.{IfRecords, Left, agrees_still, vanished, as_before, put_anew, others_at, waits_child}
 use Rattle.pb_run.proofs.RecordedSame.{named_now, needed_alike}
 use Rattle.pb_run.proofs.Views.{IsFor}
 use Rattle.pb_soundness.specs.Inputs.{Agrees, IsHonest}
@@ -220,9 +220,9 @@ module _ (b : Basis) (order : IsInOrder b.project) (place : ℕ) (u : Planned) (
 
 -- where a unit has no child, the number that its record may get is none that another has
 pub numbers_apart : (b : Basis) (u : Planned) (c : Command) (states : List (State BadUnit)) (place : ℕ) (launched : Option Launched) (other : ℕ) (its : Begun) (next : Option ℕ) (w : World) (flying : List ChildInFlight) (still : ℕ → Type 0)
-    → IsUnchanged b.footing b u c w → BeginsApart b states place launched other its next w flying still → (theirs : Launched) → its.launched ≡ Some theirs → next ≢ Some theirs.number
+    → IsUnchanged b.footing b u c w → BeginsApart b states place launched other its next w flying still → (theirs : Launched) → child_of its ≡ Some theirs → next ≢ Some theirs.number
 numbers_apart b u c states place launched other its next w flying still same apart theirs is =
-    by_footing b.footing same (subst (λ (o : Option Launched). WaitsBy b apart.begun_so.unit its.command (view_in b other apart.begun_so.unit) o next w flying still) is apart.begun_so.waits).1
+    by_footing b.footing same (waits_child b apart.begun_so.unit its.command (view_in b other apart.begun_so.unit) its.awaited theirs next w flying still is apart.begun_so.waits).1
   where
     by_footing : (footing : Footing) → IsUnchanged footing b u c w → AwaitsBy footing b apart.begun_so.unit theirs.number next w → next ≢ Some theirs.number
     by_footing OnRecords same_now waits = next_apart next theirs.number waits.before

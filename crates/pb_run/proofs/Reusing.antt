@@ -1,5 +1,6 @@
 -- A unit that answers by its record: what is kept of a build, and what another unit finds.
-use Rattle.std.proofs.Common.{◌≡◌, ◌∙◌, ℕ, true, false, List, Option, Some, None, All, refl, sym, ap, subst, inl, slice_get, slice_index_or, slice_set}
+use Rattle.std.proofs.Common.{◌≡◌, ◌∙◌, ℕ, true, false, List, Option, Some, None, All, refl, sym, ap, subst, inl, inr, slice_get, slice_index_or, slice_set}
+use Rattle.std.proofs.lemmas.Bool.{false≢true}
 use Rattle.std.proofs.lemmas.List.Elements.{Contains-get_or}
 use Rattle.std.specs.Option.{is_some, option_map}
 use Rattle.pb_answer.specs.declared.fault.BuildFault.{BuildFault}
@@ -29,6 +30,8 @@ use Rattle.pb_run.specs.Causes.{MayAnswerUnit, MayFollow}
 use Rattle.pb_run.specs.Halves.{Footing, OnRecords, OnNothing, Basis, BeginsApart, CanAnswer, HasRecord, HoldsBy, IsBegun, IsUnchanged, Keeps, begun_with, command_in, needed_keys, outcomes_in, records_in, view_in}
 use Rattle.pb_run.specs.Outcome.{judgement_by, outcome_by, unstarted}
 use Rattle.pb_run.specs.Standing.{IsInOrder, records_folder}
+use Rattle.pb_run.specs.declared.begun.Awaited.{Awaited}
+use Rattle.pb_run.specs.declared.begun.Awaited.TheVariants as awaited
 use Rattle.pb_run.specs.declared.begun.Begun.{Begun}
 use Rattle.pb_run.specs.declared.begun.Launched.{Launched}
 use Rattle.pb_run.specs.declared.ran.Judgement.{Judgement}
@@ -36,7 +39,7 @@ use Rattle.pb_run.specs.declared.ran.Ran.{Ran}
 use Rattle.pb_run.proofs.Answering.{files_kept, judged_gives, reached_stand}
 use Rattle.pb_run.proofs.Halving.{still_after}
 use Rattle.pb_run.proofs.Recorded.{key_needed}
-use Rattle.pb_run.proofs.RecordedAnswer.{begun_bad, its_command, its_same, keeps_answered, keeps_fault, only_place}
+use Rattle.pb_run.proofs.RecordedAnswer.{begun_bad, its_again, its_command, its_same, keeps_answered, keeps_fault, only_place}
 use Rattle.pb_run.proofs.RecordedOthers.{IfRecords, Left, as_before, if_records, stays_begun}
 use Rattle.pb_run.proofs.RecordedReplay.{left_migrated, migrated_ahead, migrated_record, migrated_sound, numbers_apart, replay_backs}
 use Rattle.pb_run.proofs.Settling.{not_none, on_good}
@@ -48,8 +51,8 @@ use Rattle.pb_soundness.specs.Records.{Reading, is_key, number_of, place_of, rec
 use Rattle.pb_soundness.specs.Sound.{Backs, Sound}
 use Rattle.pb_soundness.proofs.Becoming.{one}
 use Rattle.pb_store.specs.Keeping.{Leaves, numbered}
-use Rattle.pb_store.specs.Migrating.{IsMigrated, TakesNumber, lacks_number, migrated}
-use Rattle.pb_store.specs.Replaying.{replayed}
+use Rattle.pb_store.specs.Migrating.{IsMigrated, TakesNumber, lacks_number, migrated, migrated_by}
+use Rattle.pb_store.specs.Replaying.{IsReplayed, replayed}
 use Rattle.pb_store.specs.declared.replaying.Replayed.{Replayed}
 
 -- what the call that gives a record a number gives
@@ -95,11 +98,11 @@ reused_only folder root key w w2 w3 is_folder same only =
     subst (λ f. ChangesOnly (is_of f key) w w3) is_folder
     (subst (λ (v : World). ChangesOnly (is_of folder key) v w3) same (widen (is_at_or_below (place_of folder key)) (is_of folder key) w2 w3 (place_within folder key) only))
 
-pub reused_still : (folder root key : List ℕ) (flying between : List ChildInFlight) (still still1 still2 still3 : ℕ → Type 0) → folder ≡ root → between ≡ flying → KeepsStill still still1 → KeepsStill still1 still2
+pub reused_still : (folder root key : List ℕ) (flying between : List ChildInFlight) (still still2 still3 : ℕ → Type 0) → folder ≡ root → between ≡ flying → KeepsStill still still2
     → KeepsStillOutside (is_at_or_below (place_of folder key)) between still2 still3 → KeepsStillOutside (is_of root key) flying still still3
-reused_still folder root key flying between still still1 still2 still3 is_folder same first second last =
+reused_still folder root key flying between still still2 still3 is_folder same first last =
     subst (λ f. KeepsStillOutside (is_of f key) flying still still3) is_folder
-    (still_after (is_of folder key) flying between still still2 still3 (λ t stood. second t (first t stood)) same
+    (still_after (is_of folder key) flying between still still2 still3 first same
     (still_widen (is_at_or_below (place_of folder key)) (is_of folder key) between still2 still3 (place_within folder key) last))
 
 -- nothing does where the record has a number
@@ -107,22 +110,31 @@ pub reused_same : (read : Reading) (folder root key : List ℕ) (w w2 w3 : World
 reused_same read folder root key w w2 w3 is_folder same gives has =
     gives (ap (λ f. lacks_number (record_at read f w2.files key)) is_folder ∙ ap (λ (v : World). lacks_number (record_at read root v.files key)) same ∙ has) ∙ same
 
+-- and it stays as it is
+number_stays : (next : Option ℕ) (pairs : List (List ℕ × ℕ)) (r : Record) (has : Option ℕ) → is_some has ≡ true → Some r ≡ migrated_by has next pairs r
+number_stays next pairs r None none = absurd (false≢true none)
+number_stays next pairs r (Some own) has = refl
+
+stays_numbered : (next : Option ℕ) (pairs : List (List ℕ × ℕ)) (found : Option Record) (again : Replayed) → IsReplayed found again → again.numbered ≡ true → found ≡ migrated next pairs found
+stays_numbered next pairs None again is has = refl
+stays_numbered next pairs (Some r) again is has = number_stays next pairs r (number_of r) (sym (ap (λ (x : Replayed). x.numbered) (one again (replayed r) (sym is))) ∙ has)
+
 pub no_child : (l : Launched) (o : Option Launched) (Fact : Type 0) → o ≡ Some l → o ≡ None → Fact
 no_child l o Fact is none = absurd (some_none (sym is ∙ none))
   where
     some_none : Some l ≡ None → ⊥
     some_none e = cc
 
-pub bad_unstarted : (ran its : Ran) → ran ≡ unstarted its → is_some its.bad ≡ true → is_some ran.bad ≡ true
-bad_unstarted ran its is bad = ap (λ (r : Ran). is_some r.bad) is ∙ bad
-
-module _ (b : Basis) (order : IsInOrder b.project) (i : ℕ) (u : Planned) (at : unit_at b.project i ≡ Some u) (key : List ℕ) (c : Command) (next : Option ℕ) (w : World)
-    (flying : List ChildInFlight) (still : ℕ → Type 0) (states : List (State BadUnit)) (done : List (Option (List Directive))) (can : CanAnswer b states done i u (begun_with key c None) next w flying still) where
+module _ (b : Basis) (order : IsInOrder b.project) (i : ℕ) (u : Planned) (at : unit_at b.project i ≡ Some u) (key : List ℕ) (c : Command) (again : Replayed) (next : Option ℕ) (w : World)
+    (flying : List ChildInFlight) (still : ℕ → Type 0) (states : List (State BadUnit)) (done : List (Option (List Directive))) (can : CanAnswer b states done i u (begun_with key c (awaited.Record again)) next w flying still) where
   abbrev begun : Begun
-  begun = begun_with key c None
+  begun = begun_with key c (awaited.Record again)
 
   same_now : IsUnchanged b.footing b u c w
-  same_now = its_same b order i u at states done begun next w flying still can refl
+  same_now = its_same b order i u at states done begun next w flying still can again refl
+
+  gives : IsReplayed (records_in b w u.key) again
+  gives = its_again b order i u at states done begun next w flying still can again refl
 
   is_command : c ≡ command_in b i u
   is_command = its_command b order i u at states done begun next w flying still can
@@ -140,31 +152,29 @@ module _ (b : Basis) (order : IsInOrder b.project) (i : ℕ) (u : Planned) (at :
       ∙ ap (λ s. let x : Ended = record { status = reply.status; stdout = reply.stdout; stderr = s } in x) (sym backs.stderr)
 
   -- the outcome, by what the record gives again
-  pub replay_gives : (folder : List ℕ) (again : Replayed) (j : Judgement) → folder ≡ records_folder b.project → Some again ≡ option_map replayed (record_at b.read folder w.files u.key)
-      → j ≡ judgement_by b.project u again.ended (answered_of b.project u c again.ended (file_at (dep_info_of b.project u) w.files)) → slice_get (outcomes_in b) i ≡ Some (outcome_by (files_in u.out w.files) j.ran)
-  replay_gives folder again j is_folder found is_judged =
+  pub replay_gives : (j : Judgement) → j ≡ judgement_by b.project u again.ended (answered_of b.project u c again.ended (file_at (dep_info_of b.project u) w.files)) → slice_get (outcomes_in b) i ≡ Some (outcome_by (files_in u.out w.files) j.ran)
+  replay_gives j is_judged =
       let (r, stands, backs) = replay_backs b order i u at states done begun next w flying still can b.footing can.keeps.records same_now sees in
-      let again_is : again ≡ replayed r = one again (replayed r) (found ∙ ap (λ f. option_map replayed (record_at b.read f w.files u.key)) is_folder ∙ ap (option_map replayed) stands) in
+      let again_is : again ≡ replayed r = one again (replayed r) (sym gives ∙ ap (option_map replayed) stands) in
       let replies : b.child c (view_in b i u) ≡ b.child (command_in b i u) (view_in b i u) = ap (λ (d : Command). b.child d (view_in b i u)) is_command in
       judged_gives b order i u at done w c again.ended w.files j stand is_command
       (ap (λ (x : Replayed). x.ended) again_is ∙ ended_same r (b.child c (view_in b i u)) backs ∙ ap ended_by replies)
       (sym backs.files ∙ ap (replied_files u.out) replies) is_judged
 
   -- for which no child was started
-  pub replay_outcome : (folder : List ℕ) (again : Replayed) (j : Judgement) (w1 w2 : World) (ran : Ran) → folder ≡ records_folder b.project → w1 ≡ w → w2 ≡ w1 → Some again ≡ option_map replayed (record_at b.read folder w.files u.key)
-      → j ≡ judgement_by b.project u again.ended (answered_of b.project u c again.ended (file_at (dep_info_of b.project u) w1.files)) → ran ≡ unstarted j.ran
+  pub replay_outcome : (j : Judgement) (w2 : World) (ran : Ran) → w2 ≡ w → j ≡ judgement_by b.project u again.ended (answered_of b.project u c again.ended (file_at (dep_info_of b.project u) w.files)) → ran ≡ unstarted j.ran
       → slice_get (outcomes_in b) i ≡ Some (outcome_by (files_in u.out w2.files) ran)
-  replay_outcome folder again j w1 w2 ran is_folder first second found is_judged is_ran =
-      replay_gives folder again j is_folder found (is_judged ∙ ap (λ (v : World). judgement_by b.project u again.ended (answered_of b.project u c again.ended (file_at (dep_info_of b.project u) v.files))) first)
-      ∙ sym (ap (λ (v : World). Some (outcome_by (files_in u.out v.files) j.ran)) (second ∙ first))
+  replay_outcome j w2 ran same is_judged is_ran =
+      replay_gives j is_judged
+      ∙ sym (ap (λ (v : World). Some (outcome_by (files_in u.out v.files) j.ran)) same)
       ∙ sym (ap (λ (r : Ran). Some (outcome_by (files_in u.out w2.files) r)) is_ran)
 
   -- and whose record was renewed
-  pub renewed_outcome : (folder : List ℕ) (again : Replayed) (j : Judgement) (w1 w2 w3 : World) (ran : Ran) → folder ≡ records_folder b.project → w1 ≡ w → w2 ≡ w1 → Some again ≡ option_map replayed (record_at b.read folder w.files u.key)
-      → j ≡ judgement_by b.project u again.ended (answered_of b.project u c again.ended (file_at (dep_info_of b.project u) w1.files)) → ran ≡ unstarted j.ran → ChangesOnly (is_at_or_below (place_of folder u.key)) w2 w3
+  pub renewed_outcome : (folder : List ℕ) (j : Judgement) (w2 w3 : World) (ran : Ran) → folder ≡ records_folder b.project → w2 ≡ w
+      → j ≡ judgement_by b.project u again.ended (answered_of b.project u c again.ended (file_at (dep_info_of b.project u) w.files)) → ran ≡ unstarted j.ran → ChangesOnly (is_at_or_below (place_of folder u.key)) w2 w3
       → slice_get (outcomes_in b) i ≡ Some (outcome_by (files_in u.out w3.files) ran)
-  renewed_outcome folder again j w1 w2 w3 ran is_folder first second found is_judged is_ran only =
-      replay_outcome folder again j w1 w2 ran is_folder first second found is_judged is_ran
+  renewed_outcome folder j w2 w3 ran is_folder same is_judged is_ran only =
+      replay_outcome j w2 ran same is_judged is_ran
       ∙ sym (ap (λ (m : Map). Some (outcome_by m ran))
       (files_kept (records_folder b.project) u.key u.out w2 w3 order.folder (order.keys i u at) (order.folders i u at) (subst (λ f. ChangesOnly (is_at_or_below (place_of f u.key)) w2 w3) is_folder only)))
 
@@ -198,6 +208,10 @@ module _ (b : Basis) (order : IsInOrder b.project) (i : ℕ) (u : Planned) (at :
       subst (Keeps b (slice_set states i (Answered record { fault = ran.bad; lines = lines })) (slice_set done i ran.directives) next) (sym same)
       (keeps_bad_here ran lines bad (subst (λ (v : World). slice_get (outcomes_in b) i ≡ Some (outcome_by (files_in u.out v.files) ran)) same outcome))
 
+  -- nor was a record with a number
+  renewing_none : Renewing b (records_folder b.project) u c next next w w
+  renewing_none = record { sound = λ r makes sound. sound; ahead = λ r makes ahead. ahead; only = only_same _ w; left = inr (inl refl) }
+
   module _ (w' : World) (next' : Option ℕ) (renews : Renewing b (records_folder b.project) u c next next' w w') where
     sound_new : IfRecords b.footing (Sound b.read judge b.child (records_folder b.project) w'.files)
     sound_new = migrated_sound b order i u at states done begun next w flying still can w' next' renews.only b.footing can.keeps.records same_now sees renews.sound
@@ -226,6 +240,20 @@ module _ (b : Basis) (order : IsInOrder b.project) (i : ℕ) (u : Planned) (at :
         (λ theirs is. numbers_apart b u c states i None other its next w flying still same_now apart theirs is)
         (λ theirs is f there. ap (child_at theirs.ticket) flies ∙ there) (λ theirs is stands stood. keeps theirs.ticket stands stood)
 
+  keeps_numbered_here : (ran : Ran) (lines : List ℕ) → again.numbered ≡ true → slice_get (outcomes_in b) i ≡ Some (outcome_by (files_in u.out w.files) ran)
+      → Keeps b (slice_set states i (Answered record { fault = ran.bad; lines = lines })) (slice_set done i ran.directives) next w
+  keeps_numbered_here ran lines has outcome = keeps_renewed w next renewing_none ran lines
+      record {
+        stands = stays_numbered next (numbered (records_in b w) (needed_keys b.project u)) (records_in b w u.key) again gives has;
+        numbered_now = λ s there. sym (ap (λ (x : Replayed). x.numbered) (one again (replayed s) (sym gives ∙ ap (option_map replayed) there))) ∙ has;
+      } outcome
+
+  pub keeps_numbered : (w' : World) (ran : Ran) (lines : List ℕ) → w' ≡ w → again.numbered ≡ true → slice_get (outcomes_in b) i ≡ Some (outcome_by (files_in u.out w'.files) ran)
+      → Keeps b (slice_set states i (Answered record { fault = ran.bad; lines = lines })) (slice_set done i ran.directives) next w'
+  keeps_numbered w' ran lines same has outcome =
+      subst (Keeps b (slice_set states i (Answered record { fault = ran.bad; lines = lines })) (slice_set done i ran.directives) next) (sym same)
+      (keeps_numbered_here ran lines has (subst (λ (v : World). slice_get (outcomes_in b) i ≡ Some (outcome_by (files_in u.out v.files) ran)) same outcome))
+
   pub others_unchanged : (other : ℕ) (its : Begun) (w' : World) (flying' : List ChildInFlight) (still' : ℕ → Type 0) → BeginsApart b states i None other its next w flying still → w' ≡ w → flying' ≡ flying → KeepsStill still still'
       → IsBegun b other its next w' flying' still'
   others_unchanged other its w' flying' still' apart same flies keeps =
@@ -237,11 +265,11 @@ module _ (b : Basis) (order : IsInOrder b.project) (i : ℕ) (u : Planned) (at :
 
 -- A unit that has begun, by its parts.
 
-pub begun_parts : (begun : Begun) (key : List ℕ) (launched : Option Launched) → begun.unit ≡ key → begun.launched ≡ launched → begun ≡ begun_with key begun.command launched
-begun_parts begun key launched named is = ap (λ (k : List ℕ). begun_with k begun.command begun.launched) named ∙ ap (begun_with key begun.command) is
+begun_parts : (begun : Begun) (key : List ℕ) (by : Awaited) → begun.unit ≡ key → begun.awaited ≡ by → begun ≡ begun_with key begun.command by
+begun_parts begun key by named is = ap (λ (k : List ℕ). begun_with k begun.command begun.awaited) named ∙ ap (begun_with key begun.command) is
 
-module _ (b : Basis) (i : ℕ) (begun : Begun) (next : Option ℕ) (w : World) (flying : List ChildInFlight) (still : ℕ → Type 0) (key : List ℕ) (launched : Option Launched)
-    (named : begun.unit ≡ key) (is : begun.launched ≡ launched) where
+module _ (b : Basis) (i : ℕ) (begun : Begun) (next : Option ℕ) (w : World) (flying : List ChildInFlight) (still : ℕ → Type 0) (key : List ℕ) (by : Awaited)
+    (named : begun.unit ≡ key) (is : begun.awaited ≡ by) where
   pub can_by_parts : (states : List (State BadUnit)) (done : List (Option (List Directive))) (u : Planned) → CanAnswer b states done i u begun next w flying still
-      → CanAnswer b states done i u (begun_with key begun.command launched) next w flying still
-  can_by_parts states done u can = subst (λ (x : Begun). CanAnswer b states done i u x next w flying still) (begun_parts begun key launched named is) can
+      → CanAnswer b states done i u (begun_with key begun.command by) next w flying still
+  can_by_parts states done u can = subst (λ (x : Begun). CanAnswer b states done i u x next w flying still) (begun_parts begun key by named is) can

@@ -22,14 +22,15 @@ use Rattle.pb_place.specs.declared.place.StartFault.{StartFault}
 use Rattle.pb_place.specs.declared.place.StartFault.TheVariants as start
 use Rattle.pb_project.specs.Targets.{crate_name_of, dep_info_of, unit_at}
 use Rattle.pb_project.specs.declared.answer.Answered as answers
-use Rattle.pb_project.specs.declared.answer.InputName.{InputName}
+use Rattle.pb_record.specs.declared.record.InputName.{InputName}
 use Rattle.pb_project.specs.declared.fault.UnitFault.{UnitFault}
 use Rattle.pb_answer.specs.declared.bad_unit.BadUnit.{BadUnit}
 use Rattle.pb_project.specs.declared.project.Project.{Project}
 use Rattle.pb_unit.specs.declared.plan.Planned.{Planned}
-use Rattle.pb_run.specs.Halves.{Footing, OnRecords, OnNothing, Basis, AwaitsBy, BeginsApart, CanAnswer, HasRecord, IsBegun, Keeps, begun_with, command_in, needed_keys, outcomes_in, records_in, view_in}
+use Rattle.pb_run.specs.Halves.{Footing, OnRecords, OnNothing, Basis, AwaitsBy, BeginsApart, CanAnswer, HasRecord, IsBegun, Keeps, begun_with, command_in, needed_keys, outcomes_in, records_in, view_in, child_in, child_of}
 use Rattle.pb_run.specs.Outcome.{directives_of, judgement_by, names_in, outcome_by, ran_by}
 use Rattle.pb_run.specs.Standing.{IsInOrder, records_folder}
+use Rattle.pb_run.specs.declared.begun.Awaited.TheVariants as awaited
 use Rattle.pb_run.specs.declared.begun.Begun.{Begun}
 use Rattle.pb_run.specs.declared.begun.Launched.{Launched}
 use Rattle.pb_run.specs.declared.ran.Judgement.{Judgement}
@@ -75,10 +76,10 @@ Stands b folder u c number names ended w1 w2 =
     record_at b.read folder w2.files u.key ≡ Some (kept_of folder u.key c (map (input_in c.target w1) names) number (numbered (record_at b.read folder w1.files) (needed_keys b.project u)) ended)
 
 module _ (b : Basis) (order : IsInOrder b.project) (i : ℕ) (u : Planned) (at : unit_at b.project i ≡ Some u) (key : List ℕ) (c : Command) (l : Launched) (next : Option ℕ) (w : World)
-    (flying : List ChildInFlight) (still : ℕ → Type 0) (states : List (State BadUnit)) (done : List (Option (List Directive))) (can : CanAnswer b states done i u (begun_with key c (Some l)) next w flying still)
+    (flying : List ChildInFlight) (still : ℕ → Type 0) (states : List (State BadUnit)) (done : List (Option (List Directive))) (can : CanAnswer b states done i u (begun_with key c (awaited.Child l)) next w flying still)
     (w1 : World) (landed : ChangesOnly (is_at_or_below u.out) w w1) where
   abbrev begun : Begun
-  begun = begun_with key c (Some l)
+  begun = begun_with key c (awaited.Child l)
 
   waits : AwaitsBy b.footing b u l.number next w
   waits = its_record b order i u at states done begun next w flying still can l refl
@@ -208,24 +209,24 @@ finish_flying ticket (Err start.Capture) old = refl
 finish_flying ticket (Err start.OutOfMemory) old = refl
 
 module _ (b : Basis) (order : IsInOrder b.project) (i : ℕ) (u : Planned) (at : unit_at b.project i ≡ Some u) (w w1 : World) (next : Option ℕ) (flying : List ChildInFlight) (still : ℕ → Type 0)
-    (begun : Begun) (l : Launched) (is : begun.launched ≡ Some l) where
-  as_parts : begun ≡ begun_with begun.unit begun.command (Some l)
+    (begun : Begun) (l : Launched) (is : begun.awaited ≡ awaited.Child l) where
+  as_parts : begun ≡ begun_with begun.unit begun.command (awaited.Child l)
   as_parts = ap (begun_with begun.unit begun.command) is
 
   dropped_only : IsBegun b i begun next w flying still → IfSome (child_at l.ticket flying) (λ s. ChangesOnlyInSome s.command.out w w1) → ChangesOnly (is_at_or_below u.out) w w1
   dropped_only is_begun only = landed_only b order i u at begun.unit begun.command l next flying still w w1 (subst (λ (x : Begun). IsBegun b i x next w flying still) as_parts is_begun) only
 
   module _ (states : List (State BadUnit)) (done : List (Option (List Directive))) (can : CanAnswer b states done i u begun next w flying still) (only : IfSome (child_at l.ticket flying) (λ s. ChangesOnlyInSome s.command.out w w1)) where
-    can_parts : CanAnswer b states done i u (begun_with begun.unit begun.command (Some l)) next w flying still
+    can_parts : CanAnswer b states done i u (begun_with begun.unit begun.command (awaited.Child l)) next w flying still
     can_parts = subst (λ (x : Begun). CanAnswer b states done i u x next w flying still) as_parts can
 
     pub dropped_keeps : Keeps b states done next w1
     dropped_keeps = keeps_landed b order i u at begun.unit begun.command l next w flying still states done can_parts w1 (dropped_only can.begun_so only) w1 refl
 
     pub dropped_others : (other : ℕ) (its : Begun) (result : Result Ended StartFault) (still' : ℕ → Type 0) (old new : Counts) → old.starts.flying ≡ flying → new ≡ counted_finish l.ticket result old → w1 ≡ w1
-        → StaysStillBut l.ticket flying w w1 still still' → BeginsApart b states i begun.launched other its next w flying still → IsBegun b other its next w1 new.starts.flying still'
+        → StaysStillBut l.ticket flying w w1 still still' → BeginsApart b states i (child_of begun) other its next w flying still → IsBegun b other its next w1 new.starts.flying still'
     dropped_others other its result still' old new flies counts same ends apart =
         others_unkept b order i u at begun.unit begun.command l next w flying still states done can_parts w1 (dropped_only can.begun_so only) other its w1 new.starts.flying still'
-        (subst (λ (o : Option Launched). BeginsApart b states i o other its next w flying still) is apart) refl
+        (subst (λ (o : Option Launched). BeginsApart b states i o other its next w flying still) (ap child_in is) apart) refl
         (ap (λ (c : Counts). c.starts.flying) counts ∙ finish_flying l.ticket result old ∙ ap (without l.ticket) flies)
         (λ t ne stands stood. stood_over b order i u at begun.unit begun.command l next w flying still states done can_parts w1 (dropped_only can.begun_so only) t still' still' ne ends (λ x y. y) stands stood)

@@ -1,5 +1,5 @@
 -- The folder into which the child of a unit writes, and the others that fly.
-use Rattle.std.proofs.Common.{◌≡◌, ◌≢◌, ◌∙◌, ◌||◌, ℕ, Bool, true, cond, List, [], ◌∷◌, Option, Some, None, sym, ap, subst, inl, inr}
+use Rattle.std.proofs.Common.{◌≡◌, ◌≢◌, ◌∙◌, ◌||◌, ℕ, Bool, true, cond, List, [], ◌∷◌, Option, Some, sym, ap, subst, inl, inr}
 use Rattle.std.proofs.lemmas.Bool.{cases_Bool, false≢true}
 use Rattle.std.specs.Prelude.{◌==◌, IfSome}
 use Rattle.pb_place.specs.Children.{child_at, is_flying}
@@ -11,9 +11,11 @@ use Rattle.pb_place.specs.declared.command.Command.{Command}
 use Rattle.pb_place.proofs.Folders.{only_started}
 use Rattle.pb_project.specs.Targets.{unit_at}
 use Rattle.pb_unit.specs.declared.plan.Planned.{Planned}
-use Rattle.pb_run.specs.Halves.{Basis, IsBegun, WaitsBy, WritesTo, view_in}
+use Rattle.pb_run.specs.Halves.{Basis, IsBegun, WaitsBy, WritesTo, view_in, child_in, child_of}
 use Rattle.pb_run.specs.Launching.{IsSpawned}
 use Rattle.pb_run.specs.Standing.{IsInOrder}
+use Rattle.pb_run.specs.declared.begun.Awaited.{Awaited}
+use Rattle.pb_run.specs.declared.begun.Awaited.TheVariants as awaited
 use Rattle.pb_run.specs.declared.begun.Begun.{Begun}
 use Rattle.pb_run.specs.declared.begun.Launched.{Launched}
 use Rattle.pb_run.proofs.Answering.{begun_as, command_out, kept_only}
@@ -27,17 +29,17 @@ pub spawned_writes : (out : List ℕ) (inside : List ℕ → Bool) (child : Answ
     → IsSpawned inside child c old l.ticket flying still → WritesTo out (Some l) flying
 spawned_writes out inside child c old l flying still is spawned = subst (λ (o : Option ChildInFlight). IfSome o (λ s. s.command.out ≡ Some out)) (sym spawned.flies) is
 
-waits_write : (b : Basis) (u : Planned) (c : Command) (view : World) (launched : Option Launched) (next : Option ℕ) (w : World) (flying : List ChildInFlight) (still : ℕ → Type 0) → c.out ≡ Some u.out
-    → WaitsBy b u c view launched next w flying still → WritesTo u.out launched flying
-waits_write b u c view None next w flying still is waits = tt
-waits_write b u c view (Some l) next w flying still is waits = subst (λ (o : Option ChildInFlight). IfSome o (λ s. s.command.out ≡ Some u.out)) (sym waits.0.flies) is
+waits_write : (b : Basis) (u : Planned) (c : Command) (view : World) (by : Awaited) (next : Option ℕ) (w : World) (flying : List ChildInFlight) (still : ℕ → Type 0) → c.out ≡ Some u.out
+    → WaitsBy b u c view by next w flying still → WritesTo u.out (child_in by) flying
+waits_write b u c view (awaited.Record again) next w flying still is waits = tt
+waits_write b u c view (awaited.Child l) next w flying still is waits = subst (λ (o : Option ChildInFlight). IfSome o (λ s. s.command.out ≡ Some u.out)) (sym waits.0.flies) is
 
 -- the child of a unit that has begun writes into the unit's folder
 pub begun_writes : (b : Basis) (order : IsInOrder b.project) (i : ℕ) (u : Planned) (at : unit_at b.project i ≡ Some u) (begun : Begun) (next : Option ℕ) (w : World) (flying : List ChildInFlight) (still : ℕ → Type 0)
-    → IsBegun b i begun next w flying still → WritesTo u.out begun.launched flying
+    → IsBegun b i begun next w flying still → WritesTo u.out (child_of begun) flying
 begun_writes b order i u at begun next w flying still is =
     let (command, waits) = begun_as b order i u at begun next w flying still is in
-    waits_write b u begun.command (view_in b i u) begun.launched next w flying still (ap (λ (d : Command). d.out) command ∙ command_out b order i u at) waits
+    waits_write b u begun.command (view_in b i u) begun.awaited next w flying still (ap (λ (d : Command). d.out) command ∙ command_out b order i u at) waits
 
 -- The child has landed.
 

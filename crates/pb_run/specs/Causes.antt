@@ -11,6 +11,7 @@ use Rattle.pb_place.specs.declared.place.PlaceFault.TheVariants as place
 use Rattle.pb_place.specs.declared.place.StartFault.{StartFault}
 use Rattle.pb_place.specs.declared.place.StartFault.TheVariants as start
 use Rattle.pb_answer.specs.declared.fault.BuildFault.{BuildFault}
+use Rattle.pb_run.specs.Halves.{child_of}
 use Rattle.pb_run.specs.declared.begun.Beginning.{Beginning}
 use Rattle.pb_run.specs.declared.begun.Launched.{Launched}
 use Rattle.pb_run.specs.declared.halves.Run.{Run}
@@ -114,7 +115,7 @@ LandsBy None old new = new ≡ old
 LandsBy (Some launched) old new = new ≡ record old { flying = without launched.ticket old.flying }
 
 abbrev pub Begins : Beginning → Starts → Starts → Type 0
-Begins made old new = BeginsBy made.begun.launched old new
+Begins made old new = BeginsBy (child_of made.begun) old new
 
 abbrev pub Lands : {T : Type 0} → Option Launched → T → Starts → Starts → Type 0
 Lands launched x old new = LandsBy launched old new

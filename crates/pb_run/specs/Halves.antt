@@ -21,6 +21,8 @@ use Rattle.pb_project.specs.declared.project.Setup.{Setup}
 use Rattle.pb_record.specs.declared.record.Record.{Record}
 use Rattle.pb_run.specs.Outcome.{Outcome, Good, outcomes, view_of, command_after}
 use Rattle.pb_run.specs.Standing.{records_folder}
+use Rattle.pb_run.specs.declared.begun.Awaited.{Awaited}
+use Rattle.pb_run.specs.declared.begun.Awaited.TheVariants as awaited
 use Rattle.pb_run.specs.declared.begun.Begun.{Begun}
 use Rattle.pb_run.specs.declared.begun.Launched.{Launched}
 use Rattle.pb_soundness.specs.Grounded.{Standing, Grounded}
@@ -30,6 +32,7 @@ use Rattle.pb_soundness.specs.Records.{Reading, record_at, number_of}
 use Rattle.pb_soundness.specs.Reuse.{IsSame}
 use Rattle.pb_soundness.specs.Sound.{Sound}
 use Rattle.pb_store.specs.Keeping.{HasNeeds}
+use Rattle.pb_store.specs.Replaying.{IsReplayed}
 use Rattle.pb_unit.specs.declared.plan.Planned.{Planned}
 
 -- What a build rests on: a sound folder of records and a child that is honest; or nothing, where no unit that has not begun has a record.
@@ -133,8 +136,16 @@ abbrev pub needed_keys : Project → Planned → List (List ℕ)
 needed_keys project u = flat_map (key_at project) u.needs
 
 -- a unit that has begun, by its parts
-abbrev pub begun_with : List ℕ → Command → Option Launched → Begun
-begun_with key c launched = record { unit = key; command = c; launched = launched }
+abbrev pub begun_with : List ℕ → Command → Awaited → Begun
+begun_with key c by = record { unit = key; command = c; awaited = by }
+
+-- its child, where it has one
+abbrev pub child_in : Awaited → Option Launched
+child_in (awaited.Child launched) = Some launched
+child_in (awaited.Record again) = None
+
+abbrev pub child_of : Begun → Option Launched
+child_of begun = child_in begun.awaited
 
 -- its child is in flight: it was spawned for this command, saw this, found its folder empty, and all this stood still since
 pub record IsInFlight (child : Answers) (c : Command) (view : World) (ticket : ℕ) (flying : List ChildInFlight) (still : ℕ → Type 0) : Type 0 where
@@ -160,17 +171,17 @@ abbrev pub IsUnchanged : Footing → Basis → Planned → Command → World →
 IsUnchanged OnRecords b u c w = (r : Record) × IsSame b.read (records_folder b.project) u.key c w r
 IsUnchanged OnNothing b u c w = ⊥
 
--- it has a child, or nothing differs from its record
-abbrev pub WaitsBy : Basis → Planned → Command → World → Option Launched → Option ℕ → World → List ChildInFlight → (ℕ → Type 0) → Type 0
-WaitsBy b u c view (Some launched) next w flying still = IsInFlight b.child c view launched.ticket flying still × AwaitsBy b.footing b u launched.number next w
-WaitsBy b u c view None next w flying still = IsUnchanged b.footing b u c w
+-- it has a child; or nothing differs from its record, and what it carries is what that gives again
+abbrev pub WaitsBy : Basis → Planned → Command → World → Awaited → Option ℕ → World → List ChildInFlight → (ℕ → Type 0) → Type 0
+WaitsBy b u c view (awaited.Child launched) next w flying still = IsInFlight b.child c view launched.ticket flying still × AwaitsBy b.footing b u launched.number next w
+WaitsBy b u c view (awaited.Record again) next w flying still = IsUnchanged b.footing b u c w × IsReplayed (records_in b w u.key) again
 
 -- the unit at a place has begun so
 pub record IsBegun (b : Basis) (place : ℕ) (begun : Begun) (next : Option ℕ) (w : World) (flying : List ChildInFlight) (still : ℕ → Type 0) : Type 0 where
   pub unit : Planned
   pub there : unit_at b.project place ≡ Some unit
   pub command : begun.command ≡ command_in b place unit
-  pub waits : WaitsBy b unit begun.command (view_in b place unit) begun.launched next w flying still
+  pub waits : WaitsBy b unit begun.command (view_in b place unit) begun.awaited next w flying still
 
 -- the child of a unit that has begun, where it has one, writes into this folder
 abbrev pub WritesTo : List ℕ → Option Launched → List ChildInFlight → Type 0
@@ -198,6 +209,6 @@ pub record BeginsApart (b : Basis) (states : List (State BadUnit)) (place : ℕ)
   pub unit : Planned
   pub there : unit_at b.project other ≡ Some unit
   pub reaches : are_good states unit.reaches ≡ true
-  pub tickets : (ours theirs : Launched) → launched ≡ Some ours → its.launched ≡ Some theirs → theirs.ticket ≢ ours.ticket
-  pub numbers : (ours theirs : Launched) → launched ≡ Some ours → its.launched ≡ Some theirs → theirs.number ≢ ours.number
+  pub tickets : (ours theirs : Launched) → launched ≡ Some ours → child_of its ≡ Some theirs → theirs.ticket ≢ ours.ticket
+  pub numbers : (ours theirs : Launched) → launched ≡ Some ours → child_of its ≡ Some theirs → theirs.number ≢ ours.number
   pub begun_so : IsBegun b other its next w flying still

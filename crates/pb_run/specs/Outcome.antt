@@ -20,7 +20,7 @@ use Rattle.pb_project.specs.Targets.{dep_info_of}
 use Rattle.pb_command.specs.Answers.{answered_of}
 use Rattle.pb_command.specs.Judge.{ended_by, replied_files, file_at}
 use Rattle.pb_run.specs.Telling.{good_messages, bad_messages, said_by}
-use Rattle.pb_project.specs.declared.answer.InputName.{InputName}
+use Rattle.pb_record.specs.declared.record.InputName.{InputName}
 use Rattle.pb_run.specs.declared.ran.Judgement.{Judgement}
 use Rattle.pb_run.specs.declared.ran.Ran.{Ran}
 

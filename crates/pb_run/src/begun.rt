@@ -1,8 +1,11 @@
 //! A unit that has begun.
 
+ghost use Rattle.std.specs.Prelude.{◌≡◌, is_some};
+ghost use Rattle.pb_run.specs.Halves.{child_of};
+
 use pb_data::Text;
 use pb_place::Command;
-use pb_store::Difference;
+use pb_store::{Difference, Replayed};
 
 /// A child that was spawned for a unit.
 #[derive(Debug, Drop)]
@@ -13,6 +16,15 @@ pub struct Launched {
     pub number: u64,
 }
 
+/// What a unit that has begun answers by.
+#[derive(Drop)]
+pub enum Awaited {
+    /// The end of its child.
+    Child(Launched),
+    /// Its record: nothing differs from it, and it gives this again.
+    Record(Replayed),
+}
+
 /// A unit that has begun.
 #[derive(Drop)]
 pub struct Begun {
@@ -20,8 +32,21 @@ pub struct Begun {
     pub unit: Text,
     /// Its command.
     pub command: Command,
-    /// Its child; none where nothing differs from its record, which then gives its answer again.
-    pub launched: Option<Launched>,
+    /// The end of its child; or, where nothing differs from its record, what that gives again, so that it is not read
+    /// once more.
+    pub awaited: Awaited,
+}
+
+impl Begun {
+    /// Whether a child was spawned for it.
+    pub fn has_child(&self) -> bool
+        ensures { result ≡ is_some (child_of self.now) }
+    {
+        match &self.awaited {
+            Awaited::Child(_) => true,
+            Awaited::Record(_) => false,
+        }
+    }
 }
 
 /// How a unit has begun.

@@ -15,7 +15,7 @@ ghost use Rattle.pb_project.specs.Targets.{unit_at};
 ghost use Rattle.pb_answer.specs.declared.bad_unit.BadUnit.{BadUnit};
 ghost use Rattle.pb_record.specs.Parts.{IsReading};
 ghost use Rattle.pb_run.specs.Causes.{Takes, Begins, Lands, Drops, Runs, MayBeginUnit, MayAnswerUnit, MayRunUnit};
-ghost use Rattle.pb_run.specs.Halves.{Footing, Basis, basis, outcomes_in, Keeps, IsBegun, CanBegin, CanAnswer, BeginsApart, WritesTo};
+ghost use Rattle.pb_run.specs.Halves.{Footing, Basis, basis, outcomes_in, Keeps, IsBegun, CanBegin, CanAnswer, BeginsApart, WritesTo, child_of};
 ghost use Rattle.pb_run.specs.Outcome.{outcome_by, directives_in};
 ghost use Rattle.pb_run.specs.Standing.{IsCommandOf, IsInOrder, records_folder};
 ghost use Rattle.pb_run.specs.declared.begun.Begun.{Begun};
@@ -26,9 +26,9 @@ ghost use Rattle.pb_soundness.specs.Records.{Reading, record_at};
 ghost use Rattle.pb_store.specs.Differences.{FirstDifference};
 ghost use Rattle.pb_store.specs.Migrating.{TakesNumber, lacks_number};
 
-use crate::begun::{Beginning, Begun};
+use crate::begun::{Awaited, Beginning, Begun};
 use crate::landing::{land, reuse};
-use crate::launching::{difference_of, launch};
+use crate::launching::{compare, launch};
 use crate::ran::Ran;
 use pb_answer::BuildFault;
 use pb_command::command;
@@ -36,7 +36,7 @@ use pb_data::TryCopy;
 use pb_directive::Directives;
 use pb_place::Place;
 use pb_project::{Project, Setup};
-use pb_store::{Difference, Store};
+use pb_store::{Compared, Difference, Store};
 use pb_unit::Planned;
 use std::alloc::Global;
 
@@ -75,15 +75,15 @@ pub fn begin_unit<P: Place>(
         → BeginsApart (basis footing read P.child setup.now project.now sources) states index None other its store.old.next (P.world place.old) (P.counts place.old).starts.flying (P.still place.old)
         → IsBegun (basis footing read P.child setup.now project.now sources) other its store.new.next (P.world place.new) (P.counts place.new).starts.flying (P.still place.new) }
     ensures differs { (read : Reading) → IsReading read → IsTrue P.tells → IfOk result (λ made. FirstDifference read (records_folder project.now) unit.now.key made.begun.command (P.world place.old) made.difference) }
-    ensures spawned { IfOk result (λ made. is_some made.begun.launched ≡ is_some made.difference) }
+    ensures spawned { IfOk result (λ made. is_some (child_of made.begun) ≡ is_some made.difference) }
     ensures only { IsTrue P.tells → ChangesOnly (is_of (records_folder project.now) unit.now.key) (P.world place.old) (P.world place.new) }
-    ensures same { IsTrue P.tells → IfOk result (λ made. made.begun.launched ≡ None → P.world place.new ≡ P.world place.old) }
-    ensures writes { IsTrue P.tells → IfOk result (λ made. WritesTo unit.now.out made.begun.launched (P.counts place.new).starts.flying) }
+    ensures same { IsTrue P.tells → IfOk result (λ made. child_of made.begun ≡ None → P.world place.new ≡ P.world place.old) }
+    ensures writes { IsTrue P.tells → IfOk result (λ made. WritesTo unit.now.out (child_of made.begun) (P.counts place.new).starts.flying) }
     ensures stay { (ticket : ℕ) (its : ChildInFlight) → child_at ticket (P.counts place.old).starts.flying ≡ Some its → child_at ticket (P.counts place.new).starts.flying ≡ Some its }
     ensures folder { store.new.folder ≡ store.old.folder }
     ensures next { TakesNumber store.old.next store.new.next }
-    ensures number { IfOk result (λ made. MatchOption made.begun.launched (store.new.next ≡ store.old.next) (λ launched. (store.old.next ≡ Some launched.number) × (store.new.next ≡ after launched.number))) }
-    ensures most { MatchResult result (λ made. MatchOption made.begun.launched (P.most place.new ≡ P.most place.old) (λ launched. P.most place.new ≡ max (P.most place.old) (length (P.counts place.old).starts.flying + 1))) (λ e. P.most place.new ≡ P.most place.old) }
+    ensures number { IfOk result (λ made. MatchOption (child_of made.begun) (store.new.next ≡ store.old.next) (λ launched. (store.old.next ≡ Some launched.number) × (store.new.next ≡ after launched.number))) }
+    ensures most { MatchResult result (λ made. MatchOption (child_of made.begun) (P.most place.new ≡ P.most place.old) (λ launched. P.most place.new ≡ max (P.most place.old) (length (P.counts place.old).starts.flying + 1))) (λ e. P.most place.new ≡ P.most place.old) }
     ensures takes { Takes Begins (MayBeginUnit store.old.next unit.now.key) result (P.counts place.old) (P.counts place.new) }
 {
     // Every growth before the first call: a child that is in flight has its name.
@@ -96,18 +96,18 @@ pub fn begin_unit<P: Place>(
         Err(_) => return Err(BuildFault::OutOfMemory),
     };
     // Looked at before anything is changed.
-    let found = match difference_of(alloc, place, store, &unit.key, &command) {
-        Ok(found) => found,
+    let compared = match compare(alloc, place, store, &unit.key, &command) {
+        Ok(compared) => compared,
         Err(fault) => return Err(fault),
     };
-    let difference = match found {
-        Some(difference) => difference,
-        None => {
+    let difference = match compared {
+        Compared::Differs(difference) => difference,
+        Compared::Same(again) => {
             return Ok(Beginning {
                 begun: Begun {
                     unit: name,
                     command,
-                    launched: None,
+                    awaited: Awaited::Record(again),
                 },
                 difference: None,
             });
@@ -118,7 +118,7 @@ pub fn begin_unit<P: Place>(
             begun: Begun {
                 unit: name,
                 command,
-                launched: Some(launched),
+                awaited: Awaited::Child(launched),
             },
             difference: Some(difference),
         }),
@@ -127,8 +127,8 @@ pub fn begin_unit<P: Place>(
 }
 
 /// Answers the unit at a place of a plan that has begun so. Where it has a child, asks for its end, reads what it left,
-/// judges the answer, and keeps the record where it is good; else reads the record's answer again, judges it, and
-/// gives a record of format 1 a run number.
+/// judges the answer, and keeps the record where it is good; else judges the answer that the record gave again when the
+/// unit began, and gives a record of format 1 a run number: one that has a number is not read once more.
 ///
 /// Faults: Child, where the child gave no answer; Device, where a file, a folder or a variable cannot be read, the
 /// record cannot be written, or no run number is left; OutOfMemory. Each has the unit's key, and no call of the place
@@ -150,7 +150,7 @@ pub fn answer_unit<P: Place>(
     requires folder { store.old.folder ≡ records_folder project.now }
     requires named { begun.unit ≡ unit.now.key }
     requires asks { IsCommandOf project.now unit.now begun.command }
-    requires flies { IfSome begun.launched (λ launched. is_flying launched.ticket (P.counts place.old).starts.flying ≡ true) }
+    requires flies { IfSome (child_of begun) (λ launched. is_flying launched.ticket (P.counts place.old).starts.flying ≡ true) }
     ensures outcome { (footing : Footing) (read : Reading) (setup : Setup) (sources : World) (states : List (State BadUnit)) (done : List (Option (List Directive))) → IsReading read → IsTrue P.tells
         → CanAnswer (basis footing read P.child setup project.now sources) states done index unit.now begun store.old.next (P.world place.old) (P.counts place.old).starts.flying (P.still place.old)
         → IfOk result (λ ran. slice_get (outcomes_in (basis footing read P.child setup project.now sources)) index ≡ Some (outcome_by (files_in unit.now.out (P.world place.new).files) ran)) }
@@ -161,31 +161,33 @@ pub fn answer_unit<P: Place>(
         (λ e. Keeps (basis footing read P.child setup project.now sources) states done store.new.next (P.world place.new)) }
     ensures others { (footing : Footing) (read : Reading) (setup : Setup) (sources : World) (states : List (State BadUnit)) (done : List (Option (List Directive))) (other : ℕ) (its : Begun) → IsReading read → IsTrue P.tells
         → CanAnswer (basis footing read P.child setup project.now sources) states done index unit.now begun store.old.next (P.world place.old) (P.counts place.old).starts.flying (P.still place.old)
-        → BeginsApart (basis footing read P.child setup project.now sources) states index begun.launched other its store.old.next (P.world place.old) (P.counts place.old).starts.flying (P.still place.old)
+        → BeginsApart (basis footing read P.child setup project.now sources) states index (child_of begun) other its store.old.next (P.world place.old) (P.counts place.old).starts.flying (P.still place.old)
         → IsBegun (basis footing read P.child setup project.now sources) other its store.new.next (P.world place.new) (P.counts place.new).starts.flying (P.still place.new) }
-    ensures only { IsTrue P.tells → WritesTo unit.now.out begun.launched (P.counts place.old).starts.flying → ChangesOnly (is_of (records_folder project.now) unit.now.key) (P.world place.old) (P.world place.new) }
-    ensures same { (read : Reading) → IsReading read → IsTrue P.tells → begun.launched ≡ None → lacks_number (record_at read (records_folder project.now) (P.world place.old).files unit.now.key) ≡ false → P.world place.new ≡ P.world place.old }
-    ensures stay { (ticket : ℕ) (its : ChildInFlight) → IfSome begun.launched (λ launched. ticket ≢ launched.ticket) → child_at ticket (P.counts place.old).starts.flying ≡ Some its → child_at ticket (P.counts place.new).starts.flying ≡ Some its }
-    ensures started { IfOk result (λ ran. ran.started ≡ is_some begun.launched) }
+    ensures only { IsTrue P.tells → WritesTo unit.now.out (child_of begun) (P.counts place.old).starts.flying → ChangesOnly (is_of (records_folder project.now) unit.now.key) (P.world place.old) (P.world place.new) }
+    ensures same { (read : Reading) → IsReading read → IsTrue P.tells → child_of begun ≡ None → lacks_number (record_at read (records_folder project.now) (P.world place.old).files unit.now.key) ≡ false → P.world place.new ≡ P.world place.old }
+    ensures stay { (ticket : ℕ) (its : ChildInFlight) → IfSome (child_of begun) (λ launched. ticket ≢ launched.ticket) → child_at ticket (P.counts place.old).starts.flying ≡ Some its → child_at ticket (P.counts place.new).starts.flying ≡ Some its }
+    ensures started { IfOk result (λ ran. ran.started ≡ is_some (child_of begun)) }
     ensures directives { IfOk result (λ ran. directives_in (outcome_by finite.empty ran) ≡ ran.directives) }
     ensures folder { store.new.folder ≡ store.old.folder }
     ensures next { TakesNumber store.old.next store.new.next }
     ensures most { P.most place.new ≡ P.most place.old }
-    ensures takes { Takes (Lands begun.launched) (MayAnswerUnit store.old.next unit.now.key begun.launched) result (P.counts place.old) (P.counts place.new) }
+    ensures takes { Takes (Lands (child_of begun)) (MayAnswerUnit store.old.next unit.now.key (child_of begun)) result (P.counts place.old) (P.counts place.new) }
 {
     let Begun {
         unit: name,
         command,
-        launched,
+        awaited,
     } = begun;
-    match launched {
-        Some(launched) => match land(
+    match awaited {
+        Awaited::Child(launched) => match land(
             alloc, place, store, project, index, unit, name, &command, &launched,
         ) {
             Ok(ran) => Ok(ran),
             Err(fault) => Err(fault),
         },
-        None => match reuse(alloc, place, store, project, index, unit, &command) {
+        Awaited::Record(again) => match reuse(
+            alloc, place, store, project, index, unit, &command, &again,
+        ) {
             Ok(ran) => Ok(ran),
             Err(fault) => Err(fault),
         },
@@ -196,22 +198,22 @@ pub fn answer_unit<P: Place>(
 /// flight no more, whatever the place answers, and the others fly on; only the folder changes into which it writes. A
 /// call that fails counts.
 pub fn drop_unit<P: Place>(alloc: Global, place: &mut P, begun: &Begun)
-    requires flies { IfSome begun.now.launched (λ launched. is_flying launched.ticket (P.counts place.old).starts.flying ≡ true) }
+    requires flies { IfSome (child_of begun.now) (λ launched. is_flying launched.ticket (P.counts place.old).starts.flying ≡ true) }
     ensures keeps { (b : Basis) (states : List (State BadUnit)) (done : List (Option (List Directive))) (index : ℕ) (unit : Planned) (next : Option ℕ) → IsInOrder b.project → unit_at b.project index ≡ Some unit → IsTrue P.tells
         → CanAnswer b states done index unit begun.now next (P.world place.old) (P.counts place.old).starts.flying (P.still place.old)
         → Keeps b states done next (P.world place.new) }
     ensures others { (b : Basis) (states : List (State BadUnit)) (done : List (Option (List Directive))) (index : ℕ) (unit : Planned) (next : Option ℕ) (other : ℕ) (its : Begun) → IsInOrder b.project → unit_at b.project index ≡ Some unit → IsTrue P.tells
         → CanAnswer b states done index unit begun.now next (P.world place.old) (P.counts place.old).starts.flying (P.still place.old)
-        → BeginsApart b states index begun.now.launched other its next (P.world place.old) (P.counts place.old).starts.flying (P.still place.old)
+        → BeginsApart b states index (child_of begun.now) other its next (P.world place.old) (P.counts place.old).starts.flying (P.still place.old)
         → IsBegun b other its next (P.world place.new) (P.counts place.new).starts.flying (P.still place.new) }
-    ensures only { (out : List ℕ) → IsTrue P.tells → WritesTo out begun.now.launched (P.counts place.old).starts.flying → ChangesOnly (is_at_or_below out) (P.world place.old) (P.world place.new) }
-    ensures stay { (ticket : ℕ) (its : ChildInFlight) → IfSome begun.now.launched (λ launched. ticket ≢ launched.ticket) → child_at ticket (P.counts place.old).starts.flying ≡ Some its → child_at ticket (P.counts place.new).starts.flying ≡ Some its }
+    ensures only { (out : List ℕ) → IsTrue P.tells → WritesTo out (child_of begun.now) (P.counts place.old).starts.flying → ChangesOnly (is_at_or_below out) (P.world place.old) (P.world place.new) }
+    ensures stay { (ticket : ℕ) (its : ChildInFlight) → IfSome (child_of begun.now) (λ launched. ticket ≢ launched.ticket) → child_at ticket (P.counts place.old).starts.flying ≡ Some its → child_at ticket (P.counts place.new).starts.flying ≡ Some its }
     ensures most { P.most place.new ≡ P.most place.old }
-    ensures counts { Drops begun.now.launched (P.counts place.old) (P.counts place.new) }
+    ensures counts { Drops (child_of begun.now) (P.counts place.old) (P.counts place.new) }
 {
-    let launched = match &begun.launched {
-        Some(launched) => launched,
-        None => return,
+    let launched = match &begun.awaited {
+        Awaited::Child(launched) => launched,
+        Awaited::Record(_) => return,
     };
     let _ = place.finish(alloc, launched.ticket);
 }

@@ -1,6 +1,6 @@
 //! A unit that answers: its child's end, or its record again; the judgement; the record kept or renewed.
 
-ghost use Rattle.std.specs.Prelude.{◌≡◌, ◌++◌, ℕ, true, false, List, Option, IsTrue, IfOk, IfSome, MatchResult, OnOk, Some, None, All, is_some, map, option_map, slice_get, slice_set};
+ghost use Rattle.std.specs.Prelude.{◌≡◌, ◌++◌, ℕ, true, false, List, Option, IsTrue, IfOk, IfSome, MatchResult, OnOk, Some, None, All, is_some, map, slice_get, slice_set};
 ghost use Rattle.std.specs.FinMap as finite;
 ghost use Rattle.pb_command.specs.Answers.{answered_of};
 ghost use Rattle.pb_command.specs.Judge.{file_at};
@@ -20,6 +20,7 @@ ghost use Rattle.pb_answer.specs.declared.bad_unit.BadUnit.{BadUnit};
 ghost use Rattle.pb_project.specs.declared.project.Setup.{Setup};
 ghost use Rattle.pb_run.specs.Halves.{Footing, basis, begun_with, outcomes_in, key_at, needed_keys, Keeps, IsBegun, CanAnswer, BeginsApart, WritesTo};
 ghost use Rattle.pb_run.specs.Standing.{IsCommandOf, IsInOrder, records_folder};
+ghost use Rattle.pb_run.specs.declared.begun.Awaited.TheVariants as awaited;
 ghost use Rattle.pb_run.specs.declared.begun.Begun.{Begun};
 ghost use Rattle.pb_run.specs.Outcome.{judgement_by, outcome_by, directives_in, unstarted};
 ghost use Rattle.std.specs.List.{flat_map};
@@ -30,7 +31,6 @@ ghost use Rattle.pb_soundness.specs.Records.{Reading, is_key, number_of, out_of,
 ghost use Rattle.pb_soundness.specs.Sound.{Sound};
 ghost use Rattle.pb_store.specs.Keeping.{HasNeeds, IsKept, Leaves, kept_of, numbered};
 ghost use Rattle.pb_store.specs.Migrating.{IsMigrated, TakesNumber, lacks_number, migrated};
-ghost use Rattle.pb_store.specs.Replaying.{replayed};
 
 use crate::begun::Launched;
 use crate::faults::{childless, storeless};
@@ -39,7 +39,8 @@ use crate::running::read_at;
 use pb_answer::BuildFault;
 use pb_data::{Items, Text, TryCopy};
 use pb_place::{Command, Ended, Place};
-use pb_project::{InputName, Project, dep_info_path, unit_at};
+use pb_project::{Project, dep_info_path, unit_at};
+use pb_record::InputName;
 use pb_store::{Replayed, Store};
 use pb_unit::Planned;
 use std::alloc::{AllocError, Global};
@@ -182,34 +183,6 @@ fn keep<P: Place>(
     }
 }
 
-/// What the record of a unit gives again; want of memory where there is none, which `differs` has found.
-fn replay<P: Place>(
-    alloc: Global,
-    place: &mut P,
-    store: &Store,
-    unit: &Planned,
-) -> Result<Replayed, BuildFault>
-    requires key { is_key unit.now.key ≡ true }
-    ensures replayed { (read : Reading) → IsReading read → IsTrue P.tells → IfOk result (λ again. Some again ≡ option_map replayed (record_at read store.now.folder (P.world place.old).files unit.now.key)) }
-    ensures same { IsTrue P.tells → P.world place.new ≡ P.world place.old }
-    ensures most { P.most place.new ≡ P.most place.old }
-    ensures still { IsTrue P.tells → KeepsStill (P.still place.old) (P.still place.new) }
-    ensures takes { Takes NoStart (MayFollow unit.now.key) result (P.counts place.old) (P.counts place.new) }
-{
-    let name = match unit.key.copy(alloc) {
-        Ok(name) => name,
-        Err(_) => return Err(BuildFault::OutOfMemory),
-    };
-    let found = match store.replay(alloc, place, &unit.key) {
-        Ok(found) => found,
-        Err(fault) => return Err(storeless(name, fault)),
-    };
-    match found {
-        Some(again) => Ok(again),
-        None => Err(BuildFault::OutOfMemory),
-    }
-}
-
 /// Gives the record of a unit a run number, where it has none.
 fn migrate<P: Place>(
     alloc: Global,
@@ -278,15 +251,15 @@ pub(crate) fn land<P: Place>(
     requires asks { IsCommandOf project.now unit.now command.now }
     requires flies { is_flying launched.now.ticket (P.counts place.old).starts.flying ≡ true }
     ensures outcome { (footing : Footing) (read : Reading) (setup : Setup) (sources : World) (states : List (State BadUnit)) (done : List (Option (List Directive))) → IsReading read → IsTrue P.tells
-        → CanAnswer (basis footing read P.child setup project.now sources) states done index unit.now (begun_with unit.now.key command.now (Some launched.now)) store.now.next (P.world place.old) (P.counts place.old).starts.flying (P.still place.old)
+        → CanAnswer (basis footing read P.child setup project.now sources) states done index unit.now (begun_with unit.now.key command.now (awaited.Child launched.now)) store.now.next (P.world place.old) (P.counts place.old).starts.flying (P.still place.old)
         → IfOk result (λ ran. slice_get (outcomes_in (basis footing read P.child setup project.now sources)) index ≡ Some (outcome_by (files_in unit.now.out (P.world place.new).files) ran)) }
     ensures keeps { (footing : Footing) (read : Reading) (setup : Setup) (sources : World) (states : List (State BadUnit)) (done : List (Option (List Directive))) → IsReading read → IsTrue P.tells
-        → CanAnswer (basis footing read P.child setup project.now sources) states done index unit.now (begun_with unit.now.key command.now (Some launched.now)) store.now.next (P.world place.old) (P.counts place.old).starts.flying (P.still place.old)
+        → CanAnswer (basis footing read P.child setup project.now sources) states done index unit.now (begun_with unit.now.key command.now (awaited.Child launched.now)) store.now.next (P.world place.old) (P.counts place.old).starts.flying (P.still place.old)
         → MatchResult result
         (λ ran. (lines : List ℕ) → Keeps (basis footing read P.child setup project.now sources) (slice_set states index (state.Answered record { fault = ran.bad; lines = lines })) (slice_set done index ran.directives) store.now.next (P.world place.new))
         (λ e. Keeps (basis footing read P.child setup project.now sources) states done store.now.next (P.world place.new)) }
     ensures others { (footing : Footing) (read : Reading) (setup : Setup) (sources : World) (states : List (State BadUnit)) (done : List (Option (List Directive))) (other : ℕ) (its : Begun) → IsReading read → IsTrue P.tells
-        → CanAnswer (basis footing read P.child setup project.now sources) states done index unit.now (begun_with unit.now.key command.now (Some launched.now)) store.now.next (P.world place.old) (P.counts place.old).starts.flying (P.still place.old)
+        → CanAnswer (basis footing read P.child setup project.now sources) states done index unit.now (begun_with unit.now.key command.now (awaited.Child launched.now)) store.now.next (P.world place.old) (P.counts place.old).starts.flying (P.still place.old)
         → BeginsApart (basis footing read P.child setup project.now sources) states index (Some launched.now) other its store.now.next (P.world place.old) (P.counts place.old).starts.flying (P.still place.old)
         → IsBegun (basis footing read P.child setup project.now sources) other its store.now.next (P.world place.new) (P.counts place.new).starts.flying (P.still place.new) }
     ensures only { IsTrue P.tells → WritesTo unit.now.out (Some launched.now) (P.counts place.old).starts.flying → ChangesOnly (is_of (records_folder project.now) unit.now.key) (P.world place.old) (P.world place.new) }
@@ -324,7 +297,7 @@ pub(crate) fn land<P: Place>(
 }
 
 /// Answers a unit of which nothing differs: judges what its record gives again, and gives the record a run number where
-/// it has none.
+/// it has none. A record that has one is not read.
 pub(crate) fn reuse<P: Place>(
     alloc: Global,
     place: &mut P,
@@ -333,21 +306,22 @@ pub(crate) fn reuse<P: Place>(
     index: usize,
     unit: &Planned,
     command: &Command,
+    again: &Replayed,
 ) -> Result<Ran, BuildFault>
     requires order { IsInOrder project.now }
     requires unit { slice_get project.now.plan.planned index ≡ Some unit.now }
     requires folder { store.old.folder ≡ records_folder project.now }
     requires asks { IsCommandOf project.now unit.now command.now }
     ensures outcome { (footing : Footing) (read : Reading) (setup : Setup) (sources : World) (states : List (State BadUnit)) (done : List (Option (List Directive))) → IsReading read → IsTrue P.tells
-        → CanAnswer (basis footing read P.child setup project.now sources) states done index unit.now (begun_with unit.now.key command.now None) store.old.next (P.world place.old) (P.counts place.old).starts.flying (P.still place.old)
+        → CanAnswer (basis footing read P.child setup project.now sources) states done index unit.now (begun_with unit.now.key command.now (awaited.Record again.now)) store.old.next (P.world place.old) (P.counts place.old).starts.flying (P.still place.old)
         → IfOk result (λ ran. slice_get (outcomes_in (basis footing read P.child setup project.now sources)) index ≡ Some (outcome_by (files_in unit.now.out (P.world place.new).files) ran)) }
     ensures keeps { (footing : Footing) (read : Reading) (setup : Setup) (sources : World) (states : List (State BadUnit)) (done : List (Option (List Directive))) → IsReading read → IsTrue P.tells
-        → CanAnswer (basis footing read P.child setup project.now sources) states done index unit.now (begun_with unit.now.key command.now None) store.old.next (P.world place.old) (P.counts place.old).starts.flying (P.still place.old)
+        → CanAnswer (basis footing read P.child setup project.now sources) states done index unit.now (begun_with unit.now.key command.now (awaited.Record again.now)) store.old.next (P.world place.old) (P.counts place.old).starts.flying (P.still place.old)
         → MatchResult result
         (λ ran. (lines : List ℕ) → Keeps (basis footing read P.child setup project.now sources) (slice_set states index (state.Answered record { fault = ran.bad; lines = lines })) (slice_set done index ran.directives) store.new.next (P.world place.new))
         (λ e. Keeps (basis footing read P.child setup project.now sources) states done store.new.next (P.world place.new)) }
     ensures others { (footing : Footing) (read : Reading) (setup : Setup) (sources : World) (states : List (State BadUnit)) (done : List (Option (List Directive))) (other : ℕ) (its : Begun) → IsReading read → IsTrue P.tells
-        → CanAnswer (basis footing read P.child setup project.now sources) states done index unit.now (begun_with unit.now.key command.now None) store.old.next (P.world place.old) (P.counts place.old).starts.flying (P.still place.old)
+        → CanAnswer (basis footing read P.child setup project.now sources) states done index unit.now (begun_with unit.now.key command.now (awaited.Record again.now)) store.old.next (P.world place.old) (P.counts place.old).starts.flying (P.still place.old)
         → BeginsApart (basis footing read P.child setup project.now sources) states index None other its store.old.next (P.world place.old) (P.counts place.old).starts.flying (P.still place.old)
         → IsBegun (basis footing read P.child setup project.now sources) other its store.new.next (P.world place.new) (P.counts place.new).starts.flying (P.still place.new) }
     ensures only { IsTrue P.tells → ChangesOnly (is_of (records_folder project.now) unit.now.key) (P.world place.old) (P.world place.new) }
@@ -359,19 +333,20 @@ pub(crate) fn reuse<P: Place>(
     ensures most { P.most place.new ≡ P.most place.old }
     ensures takes { Takes (Lands None) (MayAnswerUnit store.old.next unit.now.key None) result (P.counts place.old) (P.counts place.new) }
 {
-    let again = match replay(alloc, place, store, unit) {
-        Ok(again) => again,
-        Err(fault) => return Err(fault),
-    };
     let judgement = match judged_now(alloc, place, project, unit, command, &again.ended) {
         Ok(judgement) => judgement,
         Err(fault) => return Err(fault),
     };
-    if judgement.ran.bad.is_some() {
-        return Ok(unstarted(judgement.ran));
+    let ran = unstarted(judgement.ran);
+    if ran.bad.is_some() {
+        return Ok(ran);
+    }
+    // A record with a number stays as it is.
+    if again.numbered {
+        return Ok(ran);
     }
     match migrate(alloc, place, store, project, unit) {
-        Ok(()) => Ok(unstarted(judgement.ran)),
+        Ok(()) => Ok(ran),
         Err(fault) => Err(fault),
     }
 }

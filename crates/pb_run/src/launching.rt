@@ -17,6 +17,7 @@ ghost use Rattle.pb_soundness.specs.Sound.{Sound};
 ghost use Rattle.pb_store.specs.Differences.{FirstDifference};
 ghost use Rattle.pb_store.specs.Keeping.{Leaves};
 ghost use Rattle.pb_store.specs.Migrating.{TakesNumber};
+ghost use Rattle.pb_store.specs.Replaying.{CarriesReplayed, difference_in};
 
 use crate::begun::Launched;
 use crate::faults::{childless, storeless};
@@ -24,22 +25,23 @@ use crate::running::empty;
 use pb_answer::BuildFault;
 use pb_data::{Text, TryCopy};
 use pb_place::{Command, Place};
-use pb_store::{Difference, Store};
+use pb_store::{Compared, Store};
 use pb_unit::Planned;
 use std::alloc::Global;
 
-/// What differs of a unit since its record was kept.
+/// Compares a unit with its record.
 #[tactic(auto, using(crate::proofs::Causing::look_laws))]
-pub(crate) fn difference_of<P: Place>(
+pub(crate) fn compare<P: Place>(
     alloc: Global,
     place: &mut P,
     store: &Store,
     key: &Text,
     command: &Command,
-) -> Result<Option<Difference>, BuildFault>
+) -> Result<Compared, BuildFault>
     requires { is_key key.now ≡ true }
-    ensures first { (read : Reading) → IsReading read → IsTrue P.tells → IfOk result (FirstDifference read store.now.folder key.now command.now (P.world place.old)) }
-    ensures none { (read : Reading) → IsReading read → IsTrue P.tells → IfOk result (λ found. IfNone found ((r : Record) × IsSame read store.now.folder key.now command.now (P.world place.old) r)) }
+    ensures first { (read : Reading) → IsReading read → IsTrue P.tells → IfOk result (λ compared. FirstDifference read store.now.folder key.now command.now (P.world place.old) (difference_in compared)) }
+    ensures none { (read : Reading) → IsReading read → IsTrue P.tells → IfOk result (λ compared. IfNone (difference_in compared) ((r : Record) × IsSame read store.now.folder key.now command.now (P.world place.old) r)) }
+    ensures carries { (read : Reading) → IsReading read → IsTrue P.tells → IfOk result (CarriesReplayed (record_at read store.now.folder (P.world place.old).files key.now)) }
     ensures same { IsTrue P.tells → P.world place.new ≡ P.world place.old }
     ensures most { P.most place.new ≡ P.most place.old }
     ensures still { IsTrue P.tells → KeepsStill (P.still place.old) (P.still place.new) }
@@ -50,7 +52,7 @@ pub(crate) fn difference_of<P: Place>(
         Err(_) => return Err(BuildFault::OutOfMemory),
     };
     match store.differs(alloc, place, key, command) {
-        Ok(found) => Ok(found),
+        Ok(compared) => Ok(compared),
         Err(fault) => Err(storeless(unit, fault)),
     }
 }

@@ -13,7 +13,7 @@ pub mod ran;
 pub mod running;
 pub mod subjects;
 
-pub use begun::{Beginning, Begun, Launched};
+pub use begun::{Awaited, Beginning, Begun, Launched};
 pub use faults::{childless, deviceless, storeless};
 pub use halves::{Run, answer_unit, begin_unit, drop_unit, run_unit};
 pub use laws::outcomes_unfold;

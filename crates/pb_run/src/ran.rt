@@ -14,7 +14,8 @@ use pb_data::{Bytes, Items};
 use pb_directive::Directives;
 use pb_message::Message;
 use pb_place::{Command, Ended};
-use pb_project::{Answered, InputName, Project, UnitFault};
+use pb_project::{Answered, Project, UnitFault};
+use pb_record::InputName;
 use pb_unit::Planned;
 use std::alloc::{AllocError, Global};
 

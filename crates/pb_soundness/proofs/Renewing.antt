@@ -8,7 +8,7 @@ use Rattle.pb_place.specs.World.{World, Map, Answers, AgreeBut}
 use Rattle.pb_place.specs.declared.command.Command.{Command}
 use Rattle.pb_place.specs.declared.child.Reply.{Reply}
 use Rattle.pb_place.proofs.Within.{at_below, share_no_path}
-use Rattle.pb_project.specs.declared.answer.InputName.{InputName}
+use Rattle.pb_record.specs.declared.record.InputName.{InputName}
 use Rattle.pb_record.specs.Commands.{command_of}
 use Rattle.pb_record.specs.declared.record.Input.{Input}
 use Rattle.pb_record.specs.declared.record.Needed.{Needed}

@@ -6,8 +6,8 @@ use Rattle.pb_place.specs.Paths.{is_path}
 use Rattle.pb_place.specs.World.{World, Map, Answers, from_nothing}
 use Rattle.pb_place.specs.declared.command.Command.{Command}
 use Rattle.pb_place.specs.declared.command.Ended.{Ended}
-use Rattle.pb_project.specs.declared.answer.InputName.{InputName}
-use Rattle.pb_project.specs.declared.answer.InputName.TheVariants.{Path, Variable}
+use Rattle.pb_record.specs.declared.record.InputName.{InputName}
+use Rattle.pb_record.specs.declared.record.InputName.TheVariants.{Path, Variable}
 use Rattle.pb_record.specs.Commands.{asked_in, asked_with, command_of, of_parts}
 use Rattle.pb_record.specs.Sorted.{are_sorted}
 use Rattle.pb_record.specs.declared.asked.Asked.{Asked}

@@ -12,6 +12,7 @@ ghost use Rattle.pb_soundness.specs.Records.{Reading, is_key, out_of, record_at}
 ghost use Rattle.pb_soundness.specs.Reuse.{IsSame, number_if};
 ghost use Rattle.pb_store.specs.Causes.{Takes, MayRead, MayLook};
 ghost use Rattle.pb_store.specs.Differences.{IsFirst, FirstOrAll, IsPresent, HasNumber, HasFiles, AreNeeded, FirstNeed, FirstFrom, FirstDifference, NamesPaths};
+ghost use Rattle.pb_store.specs.Replaying.{CarriesReplayed, difference_in};
 
 use crate::asking::{first_part, first_variable};
 use crate::comparing::{are_same_files, is_same_input};
@@ -19,11 +20,11 @@ use crate::difference::Difference;
 use crate::fault::StoreFault;
 use crate::inputs::{files_in, input_now};
 use crate::keys::is_key;
+use crate::replaying::{Compared, again};
 use crate::store::{Store, record_at};
 use pb_data::{Bytes, Items, Text, TryCopy};
 use pb_place::{Command, PathText, Place, RelativePath};
-use pb_project::InputName;
-use pb_record::{Input, Needed, Record};
+use pb_record::{Input, InputName, Needed, Record};
 use std::alloc::{AllocError, Global};
 
 /// The name of an input.
@@ -313,17 +314,18 @@ fn first_from<P: Place>(
     first_around(alloc, place, folder, command, kept)
 }
 
-/// The first difference of a unit.
+/// What comes of the comparison of a unit with its record.
 #[tactic(auto, using(crate::proofs::Firsts::number_laws))]
-fn first_of<P: Place>(
+fn compare<P: Place>(
     alloc: Global,
     place: &mut P,
     folder: &PathText,
     key: &Text,
     command: &Command,
-) -> Result<Option<Difference>, StoreFault>
+) -> Result<Compared, StoreFault>
     requires { is_key key.now ≡ true }
-    ensures ok { IsTrue P.tells → IfOk result (FirstDifference reading folder.now key.now command.now (P.world place.old)) }
+    ensures first { IsTrue P.tells → IfOk result (λ compared. FirstDifference reading folder.now key.now command.now (P.world place.old) (difference_in compared)) }
+    ensures carries { (read : Reading) → IsReading read → IsTrue P.tells → IfOk result (CarriesReplayed (record_at read folder.now (P.world place.old).files key.now)) }
     ensures same { IsTrue P.tells → P.world place.new ≡ P.world place.old }
     ensures most { P.most place.new ≡ P.most place.old }
     ensures still { IsTrue P.tells → KeepsStill (P.still place.old) (P.still place.new) }
@@ -331,19 +333,21 @@ fn first_of<P: Place>(
 {
     let kept = match record_at(alloc, place, folder, key) {
         Ok(Some(kept)) => kept,
-        Ok(None) => return Ok(Some(Difference::NoRecord)),
+        Ok(None) => return Ok(Compared::Differs(Difference::NoRecord)),
         Err(fault) => return Err(fault),
     };
+    // Lent first, and then used up: the streams are carried on, and no second look reads them.
     match first_from(alloc, place, folder, command, &kept) {
-        Ok(found) => Ok(found),
+        Ok(Some(difference)) => Ok(Compared::Differs(difference)),
+        Ok(None) => Ok(Compared::Same(again(kept))),
         Err(fault) => Err(fault),
     }
 }
 
 impl Store {
-    /// What differs of a unit since its record was kept, for a command that would build it again; none where its
-    /// record says what a child would answer. Each input is read and compared in turn, and let go. Our own rule of
-    /// when a unit is built again.
+    /// Compares a unit with its record, for a command that would build it again: what differs first; or, where the
+    /// record says what a child would answer, what it gives again in the child's place. Each input is read and compared
+    /// in turn, and let go. Our own rule of when a unit is built again.
     ///
     /// Faults: Place, where a file cannot be read, a folder not be listed or a variable not be read; OutOfMemory.
     #[tactic(auto, using(crate::proofs::Once::difference_laws))]
@@ -353,16 +357,17 @@ impl Store {
         place: &mut P,
         key: &Text,
         command: &Command,
-    ) -> Result<Option<Difference>, StoreFault>
+    ) -> Result<Compared, StoreFault>
         requires { is_key key.now ≡ true }
-        ensures first { (read : Reading) → IsReading read → IsTrue P.tells → IfOk result (FirstDifference read self.now.folder key.now command.now (P.world place.old)) }
-        ensures none { (read : Reading) → IsReading read → IsTrue P.tells → IfOk result (λ found. IfNone found ((r : Record) × IsSame read self.now.folder key.now command.now (P.world place.old) r)) }
-        ensures unchanged { (read : Reading) (r : Record) → IsReading read → IsTrue P.tells → IsSame read self.now.folder key.now command.now (P.world place.old) r → NamesPaths r.needed → IfOk result (λ found. found ≡ None) }
+        ensures first { (read : Reading) → IsReading read → IsTrue P.tells → IfOk result (λ compared. FirstDifference read self.now.folder key.now command.now (P.world place.old) (difference_in compared)) }
+        ensures none { (read : Reading) → IsReading read → IsTrue P.tells → IfOk result (λ compared. IfNone (difference_in compared) ((r : Record) × IsSame read self.now.folder key.now command.now (P.world place.old) r)) }
+        ensures carries { (read : Reading) → IsReading read → IsTrue P.tells → IfOk result (CarriesReplayed (record_at read self.now.folder (P.world place.old).files key.now)) }
+        ensures unchanged { (read : Reading) (r : Record) → IsReading read → IsTrue P.tells → IsSame read self.now.folder key.now command.now (P.world place.old) r → NamesPaths r.needed → IfOk result (λ compared. difference_in compared ≡ None) }
         ensures same { IsTrue P.tells → P.world place.new ≡ P.world place.old }
         ensures most { P.most place.new ≡ P.most place.old }
         ensures still { IsTrue P.tells → KeepsStill (P.still place.old) (P.still place.new) }
         ensures takes { Takes MayLook result (P.counts place.old) (P.counts place.new) }
     {
-        first_of(alloc, place, &self.folder, key, command)
+        compare(alloc, place, &self.folder, key, command)
     }
 }

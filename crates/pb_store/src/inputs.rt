@@ -4,7 +4,7 @@ ghost use Rattle.std.specs.Prelude.{◌≡◌, true, IsTrue, IfOk, Decides, List
 ghost use Rattle.std.specs.FinMap as finite;
 ghost use Rattle.std.specs.List.{filter_map};
 ghost use Rattle.pb_place.specs.World.{from_nothing, listed, removed};
-ghost use Rattle.pb_project.specs.declared.answer.InputName.TheVariants.{Variable};
+ghost use Rattle.pb_record.specs.declared.record.InputName.TheVariants.{Variable};
 ghost use Rattle.pb_soundness.specs.Apart.{KeepsStill};
 ghost use Rattle.pb_soundness.specs.Inputs.{contents, input_in, name_of, path_input};
 ghost use Rattle.pb_store.specs.Causes.{Takes, MayRead, MayLook};
@@ -14,8 +14,7 @@ use crate::fault::{StoreFault, stored};
 use crate::store::text_of;
 use pb_data::{Bytes, Items, Text, TryCopy};
 use pb_place::{PathText, Place, RelativePath};
-use pb_project::InputName;
-use pb_record::Input;
+use pb_record::{Input, InputName};
 use std::alloc::Global;
 
 /// The bytes of a file of the sources: none where no file is there, or the path is at or below the target folder, and

@@ -20,8 +20,7 @@ use crate::inputs::present;
 use crate::store::{Store, place_path, record_at};
 use pb_data::{Items, Text, TryCopy};
 use pb_place::{Command, Ended, PathText, Place};
-use pb_project::InputName;
-use pb_record::{Asked, Input, Needed, Record, write_record};
+use pb_record::{Asked, Input, InputName, Needed, Record, write_record};
 use std::alloc::{AllocError, Global};
 
 /// The number of a record.

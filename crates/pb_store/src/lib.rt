@@ -20,5 +20,5 @@ pub mod store;
 pub use difference::{CommandPart, Difference};
 pub use fault::{OpenFault, StoreFault};
 pub use laws::{differences_are_one, first_name_is_first};
-pub use replaying::Replayed;
+pub use replaying::{Compared, Replayed};
 pub use store::Store;

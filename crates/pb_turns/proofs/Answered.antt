@@ -14,7 +14,7 @@ use Rattle.pb_place.specs.World.{World}
 use Rattle.pb_place.specs.declared.child_in_flight.ChildInFlight.{ChildInFlight}
 use Rattle.pb_project.specs.Targets.{unit_at}
 use Rattle.pb_answer.specs.declared.bad_unit.BadUnit.{BadUnit}
-use Rattle.pb_run.specs.Halves.{Footing, OnRecords, OnNothing, Basis, HoldsBy, Keeps, StandsGood, IsBegun, CanAnswer, BeginsApart, outcomes_in}
+use Rattle.pb_run.specs.Halves.{Footing, OnRecords, OnNothing, Basis, HoldsBy, Keeps, StandsGood, IsBegun, CanAnswer, BeginsApart, outcomes_in, child_of}
 use Rattle.pb_run.specs.Outcome.{Outcome, directives_in}
 use Rattle.pb_run.specs.Telling.{unit_lines}
 use Rattle.pb_run.specs.declared.begun.Begun.{Begun as unit_begun}
@@ -81,22 +81,22 @@ module _ (b : Basis) (done : List (Option (List Directive))) (aloft : List Aloft
   pub its_state : slice_get (states_in b.project es) a.unit ≡ Some Begun
   its_state = so.state
 
-  pub its_start : is_started es a.unit ≡ is_some a.begun.launched
+  pub its_start : is_started es a.unit ≡ is_some (child_of a.begun)
   its_start = so.started
 
   module _ (places : AreApart (places_of aloft)) (tickets : AreApart (tickets_of aloft)) (numbers : AreApart (numbers_of aloft))
-      (others : (other : ℕ) (its : unit_begun) → BeginsApart b (states_in b.project es) a.unit a.begun.launched other its next w flying still → IsBegun b other its next' w' flying' still') where
+      (others : (other : ℕ) (its : unit_begun) → BeginsApart b (states_in b.project es) a.unit (child_of a.begun) other its next w flying still → IsBegun b other its next' w' flying' still') where
     ne_unit : (j : ℕ) (y : Aloft) → slice_get aloft j ≡ Some y → j ≢ index → y.unit ≢ a.unit
     ne_unit j y at_j ne = apart_places (places_of aloft) j index y.unit a.unit places (get_map place_of_unit aloft j y at_j) (get_map place_of_unit aloft index a at) ne
 
-    apart_from : (j : ℕ) (y : Aloft) → slice_get aloft j ≡ Some y → j ≢ index → FliesSo b es next w flying still y → BeginsApart b (states_in b.project es) a.unit a.begun.launched y.unit y.begun next w flying still
+    apart_from : (j : ℕ) (y : Aloft) → slice_get aloft j ≡ Some y → j ≢ index → FliesSo b es next w flying still y → BeginsApart b (states_in b.project es) a.unit (child_of a.begun) y.unit y.begun next w flying still
     apart_from j y at_j ne f = record {
       another = ne_unit j y at_j ne;
       unit = f.begun_so.unit;
       there = f.begun_so.there;
       reaches = f.reaches f.begun_so.unit f.begun_so.there;
-      tickets = λ ours theirs e g. flat_apart (λ (x : Aloft). ticket_in x.begun.launched) aloft j index y a theirs.ticket ours.ticket tickets at_j at (ap ticket_in g) (ap ticket_in e) ne;
-      numbers = λ ours theirs e g. flat_apart (λ (x : Aloft). number_in x.begun.launched) aloft j index y a theirs.number ours.number numbers at_j at (ap number_in g) (ap number_in e) ne;
+      tickets = λ ours theirs e g. flat_apart (λ (x : Aloft). ticket_in (child_of x.begun)) aloft j index y a theirs.ticket ours.ticket tickets at_j at (ap ticket_in g) (ap ticket_in e) ne;
+      numbers = λ ours theirs e g. flat_apart (λ (x : Aloft). number_in (child_of x.begun)) aloft j index y a theirs.number ours.number numbers at_j at (ap number_in g) (ap number_in e) ne;
       begun_so = f.begun_so;
     }
 
@@ -116,7 +116,7 @@ module _ (b : Basis) (done : List (Option (List Directive))) (aloft : List Aloft
 
     module _ (answer : Answer BadUnit) (d : Option (List Directive)) (keeps : Keeps b (slice_set (states_in b.project es) a.unit (Answered answer)) (slice_set done a.unit d) next' w')
         (outcome : Outcome) (is : slice_get (outcomes_in b) a.unit ≡ Some outcome) (fault : answer.fault ≡ fault_in outcome) (noted : d ≡ directives_in outcome)
-        (lines : answer.lines ≡ unit_lines b.project u (is_some a.begun.launched) (messages_in outcome)) where
+        (lines : answer.lines ≡ unit_lines b.project u (is_some (child_of a.begun)) (messages_in outcome)) where
       flies_after : (j : ℕ) (y : Aloft) → slice_get aloft j ≡ Some y → j ≢ index → FliesSo b es next w flying still y → FliesSo b (Gave a.unit answer ∷ es) next' w' flying' still' y
       flies_after j y at_j ne f = record {
         state = get_set_other (states_in b.project es) a.unit y.unit (Answered answer) (λ e. ne_unit j y at_j ne (sym e)) ∙ f.state;

@@ -13,7 +13,7 @@ use Rattle.pb_project.specs.Targets.{unit_at}
 use Rattle.pb_answer.specs.declared.bad_unit.BadUnit.{BadUnit}
 use Rattle.pb_project.specs.declared.project.Setup.{Setup}
 use Rattle.pb_record.specs.Parts.{IsReading}
-use Rattle.pb_run.specs.Halves.{Footing, Basis, basis, Keeps, IsBegun, CanAnswer, BeginsApart, outcomes_in}
+use Rattle.pb_run.specs.Halves.{Footing, Basis, basis, Keeps, IsBegun, CanAnswer, BeginsApart, outcomes_in, child_of}
 use Rattle.pb_run.specs.Outcome.{outcome_from, outcome_by, directives_in}
 use Rattle.pb_run.specs.Telling.{unit_lines}
 use Rattle.pb_run.specs.declared.begun.Begun.{Begun as unit_begun}
@@ -47,7 +47,7 @@ module _ (tells : Bool) (child : Answers) (first old : UnitCrew) (at now new : M
     (places : AreApart (places_of old.aloft.items)) (tickets : AreApart (tickets_of old.aloft.items)) (numbers : AreApart (numbers_of old.aloft.items)) (next' : Option ℕ)
     (others : (footing : Footing) (read : Reading) (setup : Setup) (sources : World) (states : List (State BadUnit)) (done : List (Option (List Directive))) (other : ℕ) (its : unit_begun) → IsReading read → IsTrue tells
     → CanAnswer (basis footing read child setup old.project sources) states done a.unit u a.begun old.store.next now.world now.counts.starts.flying still
-    → BeginsApart (basis footing read child setup old.project sources) states a.unit a.begun.launched other its old.store.next now.world now.counts.starts.flying still
+    → BeginsApart (basis footing read child setup old.project sources) states a.unit (child_of a.begun) other its old.store.next now.world now.counts.starts.flying still
     → IsBegun (basis footing read child setup old.project sources) other its next' new.world new.counts.starts.flying still') where
   abbrev Of : Footing → Reading → World → Basis
   Of footing read sources = basis footing read child old.setup old.project sources
@@ -57,7 +57,7 @@ module _ (tells : Bool) (child : Answers) (first old : UnitCrew) (at now new : M
     pub could : CanAnswer (Of f r s) (states_in old.project es) old.done.items a.unit u a.begun old.store.next now.world now.counts.starts.flying still
     could = answered.can_answer (Of f r s) old.done.items old.aloft.items old.store.next next' es now.world new.world now.counts.starts.flying new.counts.starts.flying still still' h index a at_index u there
 
-    others_now : (other : ℕ) (its : unit_begun) → BeginsApart (Of f r s) (states_in old.project es) a.unit a.begun.launched other its old.store.next now.world now.counts.starts.flying still → IsBegun (Of f r s) other its next' new.world new.counts.starts.flying still'
+    others_now : (other : ℕ) (its : unit_begun) → BeginsApart (Of f r s) (states_in old.project es) a.unit (child_of a.begun) other its old.store.next now.world now.counts.starts.flying still → IsBegun (Of f r s) other its next' new.world new.counts.starts.flying still'
     others_now other its apart = others f r old.setup s (states_in old.project es) old.done.items other its reading t could apart
 
     less : Keeps (Of f r s) (states_in old.project es) old.done.items next' new.world → Happened (Of f r s) old.done.items (remove old.aloft.items index) next' es new.world new.counts.starts.flying still'
@@ -72,10 +72,10 @@ module _ (tells : Bool) (child : Answers) (first old : UnitCrew) (at now new : M
       untold : Happened (Of f r s) old.done.items (remove old.aloft.items index) next' es new.world new.counts.starts.flying still'
       untold = less (answered.keeps_back (Of f r s) (states_in old.project es) old.done.items old.store.next next' now.world new.world a.unit record { fault = ran.bad; lines = lines } ran.directives h.keeps keeps could.state)
 
-      module _ (started : ran.started ≡ is_some a.begun.launched) (told : lines ≡ unit_lines old.project u ran.started ran.messages) where
-        lines_are : lines ≡ unit_lines old.project u (is_some a.begun.launched) (messages_in (outcome_by (files_in u.out new.world.files) ran))
+      module _ (started : ran.started ≡ is_some (child_of a.begun)) (told : lines ≡ unit_lines old.project u ran.started ran.messages) where
+        lines_are : lines ≡ unit_lines old.project u (is_some (child_of a.begun)) (messages_in (outcome_by (files_in u.out new.world.files) ran))
         lines_are = told ∙ ap (λ b. unit_lines old.project u b ran.messages) started
-            ∙ ap (λ ms. unit_lines old.project u (is_some a.begun.launched) ms) (messages_of ran.bad (files_in u.out new.world.files) ran.directives ran.messages)
+            ∙ ap (λ ms. unit_lines old.project u (is_some (child_of a.begun)) ms) (messages_of ran.bad (files_in u.out new.world.files) ran.directives ran.messages)
 
         noted_is : ran.directives ≡ directives_in (outcome_by (files_in u.out new.world.files) ran)
         noted_is = sym noted ∙ directives_any ran.bad finite.empty (files_in u.out new.world.files) ran.directives ran.messages
@@ -124,7 +124,7 @@ module _ (tells : Bool) (child : Answers) (first old : UnitCrew) (at now new : M
 
     -- it has answered
     pub answered_happened : (lines : List ℕ) (aloft' : List Aloft) (done' : List (Option (List Directive))) → aloft' ≡ remove old.aloft.items index → done' ≡ slice_set old.done.items a.unit ran.directives
-        → ran.started ≡ is_some a.begun.launched → lines ≡ unit_lines old.project u ran.started ran.messages → IsTrue tells
+        → ran.started ≡ is_some (child_of a.begun) → lines ≡ unit_lines old.project u ran.started ran.messages → IsTrue tells
         → FromFirst child first at old (λ b. Happened b done' aloft' next' (Gave a.unit record { fault = ran.bad; lines = lines } ∷ es) new.world new.counts.starts.flying still' × AllBeganFor b (Gave a.unit record { fault = ran.bad; lines = lines } ∷ es) old.reasons.items at.world)
     answered_happened lines aloft' done' same set started told t f r s reading k =
         let (h, began) = story.happened t f r s reading k in

@@ -10,7 +10,7 @@ use Rattle.pb_project.specs.Targets.{unit_at}
 use Rattle.pb_answer.specs.declared.bad_unit.BadUnit.{BadUnit}
 use Rattle.pb_project.specs.declared.project.Project.{Project}
 use Rattle.pb_record.specs.Parts.{IsReading}
-use Rattle.pb_run.specs.Halves.{Footing, Basis, basis, Keeps, IsBegun, CanBegin, BeginsApart}
+use Rattle.pb_run.specs.Halves.{Footing, Basis, basis, Keeps, IsBegun, CanBegin, BeginsApart, child_of}
 use Rattle.pb_run.specs.Standing.{IsInOrder, records_folder}
 use Rattle.pb_run.specs.declared.begun.Begun.{Begun as unit_begun}
 use Rattle.pb_run.specs.declared.begun.Launched.{Launched}
@@ -76,17 +76,17 @@ module _ (tells : Bool) (child : Answers) (first old : UnitCrew) (at now new : M
       module _ (begun : unit_begun)
           (begins : (footing : Footing) (read : Reading) (sources : World) (states : List (State BadUnit)) → IsReading read → IsTrue tells → CanBegin (Of footing read sources) states done unit u old.store.next now.world → IsBegun (Of footing read sources) unit begun next' new.world new.counts.starts.flying still')
           (difference : Option Difference) (differs : (read : Reading) → IsReading read → IsTrue tells → FirstDifference read (records_folder old.project) u.key begun.command now.world difference)
-          (spawned : is_some begun.launched ≡ is_some difference) (within : unit < length old.reasons.items)
+          (spawned : is_some (child_of begun) ≡ is_some difference) (within : unit < length old.reasons.items)
           (quiet : IsQuiet (Of f r s) es at.world now.world) where
-        well : Happened (Of f r s) old.done.items (old.aloft.items ++ record { unit = unit; begun = begun } ∷ []) next' (Began unit (is_some begun.launched) ∷ es) new.world new.counts.starts.flying still'
+        well : Happened (Of f r s) old.done.items (old.aloft.items ++ record { unit = unit; begun = begun } ∷ []) next' (Began unit (is_some (child_of begun)) ∷ es) new.world new.counts.starts.flying still'
         well =
-            happening.happened_more (Of f r s) order at.world old.done.items old.aloft.items old.store.next next' es now.world new.world now.counts.starts.flying new.counts.starts.flying still still' old.reasons.items h began (story.changes t).only unit u there may (is_some begun.launched)
+            happening.happened_more (Of f r s) order at.world old.done.items old.aloft.items old.store.next next' es now.world new.world now.counts.starts.flying new.counts.starts.flying still still' old.reasons.items h began (story.changes t).only unit u there may (is_some (child_of begun))
             keeps_now (λ other its apart. others f r s (states_in old.project es) other its reading t could apart)
             record { unit = unit; begun = begun } refl refl (begins f r s (states_in old.project es) reading t could)
 
-        well_began : AllBeganFor (Of f r s) (Began unit (is_some begun.launched) ∷ es) (slice_set old.reasons.items unit (Some difference)) at.world
+        well_began : AllBeganFor (Of f r s) (Began unit (is_some (child_of begun)) ∷ es) (slice_set old.reasons.items unit (Some difference)) at.world
         well_began =
-            happening.began_more (Of f r s) order at.world old.done.items old.aloft.items old.store.next next' es now.world new.world now.counts.starts.flying new.counts.starts.flying still still' old.reasons.items h began (story.changes t).only unit u there may (is_some begun.launched)
+            happening.began_more (Of f r s) order at.world old.done.items old.aloft.items old.store.next next' es now.world new.world now.counts.starts.flying new.counts.starts.flying still still' old.reasons.items h began (story.changes t).only unit u there may (is_some (child_of begun))
             keeps_now (λ other its apart. others f r s (states_in old.project es) other its reading t could apart)
             record { unit = unit; begun = begun } refl refl (begins f r s (states_in old.project es) reading t could)
             difference (differs r reading t) spawned within quiet
@@ -101,13 +101,13 @@ module _ (tells : Bool) (child : Answers) (first old : UnitCrew) (at now new : M
     -- it has begun
     pub begun_happened : (begun : unit_begun) (aloft' : List Aloft) (difference : Option Difference) (reasons' : Reasons) → aloft' ≡ old.aloft.items ++ record { unit = unit; begun = begun } ∷ []
         → ((footing : Footing) (read : Reading) (sources : World) (states : List (State BadUnit)) → IsReading read → IsTrue tells → CanBegin (Of footing read sources) states done unit u old.store.next now.world → IsBegun (Of footing read sources) unit begun next' new.world new.counts.starts.flying still')
-        → ((read : Reading) → IsReading read → IsTrue tells → FirstDifference read (records_folder old.project) u.key begun.command now.world difference) → is_some begun.launched ≡ is_some difference → unit < length old.reasons.items
+        → ((read : Reading) → IsReading read → IsTrue tells → FirstDifference read (records_folder old.project) u.key begun.command now.world difference) → is_some (child_of begun) ≡ is_some difference → unit < length old.reasons.items
         → reasons' ≡ slice_set old.reasons.items unit (Some difference) → IsTrue tells
-        → FromFirst child first at old (λ b. Happened b old.done.items aloft' next' (Began unit (is_some begun.launched) ∷ es) new.world new.counts.starts.flying still' × AllBeganFor b (Began unit (is_some begun.launched) ∷ es) reasons' at.world)
+        → FromFirst child first at old (λ b. Happened b old.done.items aloft' next' (Began unit (is_some (child_of begun)) ∷ es) new.world new.counts.starts.flying still' × AllBeganFor b (Began unit (is_some (child_of begun)) ∷ es) reasons' at.world)
     begun_happened begun aloft' difference reasons' more begins differs spawned within noted t f r s reading k =
         let (h, began) = story.happened t f r s reading k in
         let quiet = story.quiet t f r s reading k in (
-          subst (λ (items : List Aloft). Happened (Of f r s) old.done.items items next' (Began unit (is_some begun.launched) ∷ es) new.world new.counts.starts.flying still') (sym more) (well t f r s reading h began begun begins difference differs spawned within quiet),
-          subst (λ (items : Reasons). AllBeganFor (Of f r s) (Began unit (is_some begun.launched) ∷ es) items at.world) (sym noted)
+          subst (λ (items : List Aloft). Happened (Of f r s) old.done.items items next' (Began unit (is_some (child_of begun)) ∷ es) new.world new.counts.starts.flying still') (sym more) (well t f r s reading h began begun begins difference differs spawned within quiet),
+          subst (λ (items : Reasons). AllBeganFor (Of f r s) (Began unit (is_some (child_of begun)) ∷ es) items at.world) (sym noted)
               (well_began t f r s reading h began begun begins difference differs spawned within quiet),
         )

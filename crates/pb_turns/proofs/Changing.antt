@@ -13,7 +13,7 @@ use Rattle.pb_place.specs.declared.child_in_flight.ChildInFlight.{ChildInFlight}
 use Rattle.pb_project.specs.Targets.{unit_at}
 use Rattle.pb_answer.specs.declared.bad_unit.BadUnit.{BadUnit}
 use Rattle.pb_project.specs.declared.project.Project.{Project}
-use Rattle.pb_run.specs.Halves.{WritesTo}
+use Rattle.pb_run.specs.Halves.{WritesTo, child_of}
 use Rattle.pb_run.specs.Standing.{records_folder}
 use Rattle.pb_run.specs.declared.begun.Launched.{Launched}
 use Rattle.pb_run.proofs.Writes.{flying_at}
@@ -50,7 +50,7 @@ changes_first project w aloft flying none = record {
 }
 
 module _ (project : Project) (first : World) (aloft : List Aloft) (es : List (Event BadUnit)) (w w' : World) (flying flying' : List ChildInFlight) (old : Changes project first aloft es w flying)
-    (flies : (index : ℕ) (a : Aloft) → slice_get aloft index ≡ Some a → IfSome a.begun.launched (λ l. is_flying l.ticket flying ≡ true)) where
+    (flies : (index : ℕ) (a : Aloft) → slice_get aloft index ≡ Some a → IfSome (child_of a.begun) (λ l. is_flying l.ticket flying ≡ true)) where
   -- A unit begins.
 
   module _ (unit : ℕ) (u : Planned) (there : unit_at project unit ≡ Some u) (untouched : slice_get (states_in project es) unit ≡ Some Untouched) (only : ChangesOnly (is_of (records_folder project) u.key) w w')
@@ -58,7 +58,7 @@ module _ (project : Project) (first : World) (aloft : List Aloft) (es : List (Ev
     flies_on : (index : ℕ) (a : Aloft) → slice_get aloft index ≡ Some a → FliesIn project es flying a → FliesIn project (Began unit spawned ∷ es) flying' a
     flies_on index a at f = record {
       state = get_set_other (states_in project es) unit a.unit Begun (another (states_in project es) unit a.unit untouched (Begun, f.state, refl)) ∙ f.state;
-      writes = λ v is. writes_on v.out a.begun.launched flying flying' (flies index a at) (λ l o its. stay l.ticket its) (f.writes v is);
+      writes = λ v is. writes_on v.out (child_of a.begun) flying flying' (flies index a at) (λ l o its. stay l.ticket its) (f.writes v is);
     }
 
     others_on : Changes project first aloft (Began unit spawned ∷ es) w' flying'
@@ -72,7 +72,7 @@ module _ (project : Project) (first : World) (aloft : List Aloft) (es : List (Ev
     changes_begun aloft' is = subst (λ (items : List Aloft). Changes project first items (Began unit spawned ∷ es) w' flying') (sym is) others_on
 
     -- it is in flight
-    pub changes_more : (a : Aloft) (aloft' : List Aloft) → a.unit ≡ unit → aloft' ≡ aloft ++ a ∷ [] → WritesTo u.out a.begun.launched flying' → Changes project first aloft' (Began unit spawned ∷ es) w' flying'
+    pub changes_more : (a : Aloft) (aloft' : List Aloft) → a.unit ≡ unit → aloft' ≡ aloft ++ a ∷ [] → WritesTo u.out (child_of a.begun) flying' → Changes project first aloft' (Began unit spawned ∷ es) w' flying'
     changes_more a aloft' its is writes = record {
       flies = subst (AllByRecursion (FliesIn project (Began unit spawned ∷ es) flying')) (sym is) (all_more (FliesIn project (Began unit spawned ∷ es) flying') aloft (a ∷ []) others_on.flies (own, tt));
       only = others_on.only;
@@ -81,7 +81,7 @@ module _ (project : Project) (first : World) (aloft : List Aloft) (es : List (Ev
         own : FliesIn project (Began unit spawned ∷ es) flying' a
         own = record {
           state = subst (λ n. slice_get (slice_set (states_in project es) unit Begun) n ≡ Some Begun) (sym its) (get_set_same (states_in project es) unit Untouched Begun untouched);
-          writes = λ v at. subst (λ (x : Planned). WritesTo x.out a.begun.launched flying') (injective (sym there ∙ subst (λ n. unit_at project n ≡ Some v) its at)) writes;
+          writes = λ v at. subst (λ (x : Planned). WritesTo x.out (child_of a.begun) flying') (injective (sym there ∙ subst (λ n. unit_at project n ≡ Some v) its at)) writes;
         }
 
   -- A unit answers, or a fault comes in its place.
@@ -90,20 +90,20 @@ module _ (project : Project) (first : World) (aloft : List Aloft) (es : List (Ev
     so : FliesIn project es flying a
     so = all_get (FliesIn project es flying) aloft index a old.flies at
 
-    pub its_writes : WritesTo u.out a.begun.launched flying
+    pub its_writes : WritesTo u.out (child_of a.begun) flying
     its_writes = so.writes u there
 
     module _ (places : AreApart (places_of aloft)) (tickets : AreApart (tickets_of aloft)) (only : ChangesOnly (is_of (records_folder project) u.key) w w')
-        (stay : (ticket : ℕ) (its : ChildInFlight) → IfSome a.begun.launched (λ l. ticket ≢ l.ticket) → child_at ticket flying ≡ Some its → child_at ticket flying' ≡ Some its) (aloft' : List Aloft) (is : aloft' ≡ remove aloft index) where
+        (stay : (ticket : ℕ) (its : ChildInFlight) → IfSome (child_of a.begun) (λ l. ticket ≢ l.ticket) → child_at ticket flying ≡ Some its → child_at ticket flying' ≡ Some its) (aloft' : List Aloft) (is : aloft' ≡ remove aloft index) where
       ne_unit : (j : ℕ) (y : Aloft) → slice_get aloft j ≡ Some y → j ≢ index → a.unit ≢ y.unit
       ne_unit j y at_j ne e = apart_places (places_of aloft) j index y.unit a.unit places (get_map place_of_unit aloft j y at_j) (get_map place_of_unit aloft index a at) ne (sym e)
 
-      other_ticket : (j : ℕ) (y : Aloft) → slice_get aloft j ≡ Some y → j ≢ index → (l : Launched) → y.begun.launched ≡ Some l → (o : Option Launched) → a.begun.launched ≡ o → IfSome o (λ k. l.ticket ≢ k.ticket)
+      other_ticket : (j : ℕ) (y : Aloft) → slice_get aloft j ≡ Some y → j ≢ index → (l : Launched) → (child_of y.begun) ≡ Some l → (o : Option Launched) → (child_of a.begun) ≡ o → IfSome o (λ k. l.ticket ≢ k.ticket)
       other_ticket j y at_j ne l theirs None ours = tt
-      other_ticket j y at_j ne l theirs (Some k) ours = flat_apart (λ (x : Aloft). ticket_in x.begun.launched) aloft j index y a l.ticket k.ticket tickets at_j at (ap ticket_in theirs) (ap ticket_in ours) ne
+      other_ticket j y at_j ne l theirs (Some k) ours = flat_apart (λ (x : Aloft). ticket_in (child_of x.begun)) aloft j index y a l.ticket k.ticket tickets at_j at (ap ticket_in theirs) (ap ticket_in ours) ne
 
-      writes_still : (j : ℕ) (y : Aloft) → slice_get aloft j ≡ Some y → j ≢ index → FliesIn project es flying y → (v : Planned) → unit_at project y.unit ≡ Some v → WritesTo v.out y.begun.launched flying'
-      writes_still j y at_j ne f v at_v = writes_on v.out y.begun.launched flying flying' (flies j y at_j) (λ l theirs its. stay l.ticket its (other_ticket j y at_j ne l theirs a.begun.launched refl)) (f.writes v at_v)
+      writes_still : (j : ℕ) (y : Aloft) → slice_get aloft j ≡ Some y → j ≢ index → FliesIn project es flying y → (v : Planned) → unit_at project y.unit ≡ Some v → WritesTo v.out (child_of y.begun) flying'
+      writes_still j y at_j ne f v at_v = writes_on v.out (child_of y.begun) flying flying' (flies j y at_j) (λ l theirs its. stay l.ticket its (other_ticket j y at_j ne l theirs (child_of a.begun) refl)) (f.writes v at_v)
 
       -- no answer is noted
       pub changes_less : Changes project first aloft' es w' flying'

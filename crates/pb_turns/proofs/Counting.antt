@@ -20,6 +20,7 @@ use Rattle.pb_project.specs.Targets.{unit_at}
 use Rattle.pb_answer.specs.declared.bad_unit.BadUnit.{BadUnit}
 use Rattle.pb_project.specs.declared.project.Project.{Project}
 use Rattle.pb_run.specs.Causes.{HasCause, MayBeginUnit, MayAnswerUnit, BeginsBy, LandsBy}
+use Rattle.pb_run.specs.Halves.{child_of}
 use Rattle.pb_run.specs.declared.begun.Launched.{Launched}
 use Rattle.pb_turns.specs.Crew.{AreApart, places_of, ticket_of_child, ticket_in, tickets_of, launched_of}
 use Rattle.pb_turns.specs.Moments.{Moment, Heard}
@@ -54,7 +55,7 @@ appends_part a b c xs ys n first then' = (length xs + n, subst (Appends a c) (sy
 
 without_none : (n : ℕ) (ns : List Aloft) → AllByRecursion (λ m. n ≢ m) (places_of ns) → launched_of ns ≡ events.without n (launched_of ns)
 without_none n [] all = refl
-without_none n (x ∷ ns) all = by (is_some x.begun.launched) (without_none n ns all.1)
+without_none n (x ∷ ns) all = by (is_some (child_of x.begun)) (without_none n ns all.1)
   where
     by : (b : Bool) → launched_of ns ≡ events.without n (launched_of ns) → if_so b x.unit ++ launched_of ns ≡ events.without n (if_so b x.unit ++ launched_of ns)
     by true more = ap (λ l. x.unit ∷ l) more ∙ sym (without_other x.unit n (launched_of ns) (λ e. all.0 (sym e)))
@@ -62,12 +63,12 @@ without_none n (x ∷ ns) all = by (is_some x.begun.launched) (without_none n ns
 
 pub launched_left : (aloft : List Aloft) (index : ℕ) (a : Aloft) → AreApart (places_of aloft) → slice_get aloft index ≡ Some a → launched_of (remove aloft index) ≡ events.without a.unit (launched_of aloft)
 launched_left [] index a apart at = absurd (clash at)
-launched_left (x ∷ aloft) zero a apart at = subst (λ (y : Aloft). launched_of aloft ≡ events.without y.unit (if_so (is_some x.begun.launched) x.unit ++ launched_of aloft)) (injective at) (by (is_some x.begun.launched))
+launched_left (x ∷ aloft) zero a apart at = subst (λ (y : Aloft). launched_of aloft ≡ events.without y.unit (if_so (is_some (child_of x.begun)) x.unit ++ launched_of aloft)) (injective at) (by (is_some (child_of x.begun)))
   where
     by : (b : Bool) → launched_of aloft ≡ events.without x.unit (if_so b x.unit ++ launched_of aloft)
     by true = sym (without_first x.unit (launched_of aloft))
     by false = without_none x.unit aloft apart.0
-launched_left (x ∷ aloft) (suc k) a apart at = by (is_some x.begun.launched) (launched_left aloft k a apart.1 at)
+launched_left (x ∷ aloft) (suc k) a apart at = by (is_some (child_of x.begun)) (launched_left aloft k a apart.1 at)
   where
     ne : x.unit ≢ a.unit
     ne = all_get (λ m. x.unit ≢ m) (places_of aloft) k a.unit apart.0 (get_map (λ (y : Aloft). y.unit) aloft k a at)
@@ -79,7 +80,7 @@ launched_left (x ∷ aloft) (suc k) a apart at = by (is_some x.begun.launched) (
 -- as many children as tickets
 as_many : (aloft : List Aloft) → length (tickets_of aloft) ≡ length (launched_of aloft)
 as_many [] = refl
-as_many (x ∷ aloft) = by x.begun.launched (as_many aloft)
+as_many (x ∷ aloft) = by (child_of x.begun) (as_many aloft)
   where
     by : (o : Option Launched) → length (tickets_of aloft) ≡ length (launched_of aloft) → length (ticket_in o ++ tickets_of aloft) ≡ length (if_so (is_some o) x.unit ++ launched_of aloft)
     by None more = more
@@ -128,18 +129,18 @@ module _ (project : Project) (first now new : Moment) (started : List ℕ) (alof
       let e : length now.counts.starts.flying ≡ length (launched_after es) = long ∙ ap length goes.launched_are in
       omega (arith, more, e, goes.most)
 
-  pub goes_begun : (a : Aloft) → a.unit ≡ unit → new.counts.failures ≡ now.counts.failures → BeginsBy a.begun.launched now.counts.starts new.counts.starts → length now.counts.starts.flying ≡ length (launched_of aloft)
-      → MatchOption a.begun.launched (new.most ≡ now.most) (λ l. new.most ≡ max now.most (length now.counts.starts.flying + 1))
-      → Goes project first new (started ++ if_so (is_some a.begun.launched) unit) (aloft ++ a ∷ []) (Began unit (is_some a.begun.launched) ∷ es) given
+  pub goes_begun : (a : Aloft) → a.unit ≡ unit → new.counts.failures ≡ now.counts.failures → BeginsBy (child_of a.begun) now.counts.starts new.counts.starts → length now.counts.starts.flying ≡ length (launched_of aloft)
+      → MatchOption (child_of a.begun) (new.most ≡ now.most) (λ l. new.most ≡ max now.most (length now.counts.starts.flying + 1))
+      → Goes project first new (started ++ if_so (is_some (child_of a.begun)) unit) (aloft ++ a ∷ []) (Began unit (is_some (child_of a.begun)) ∷ es) given
   goes_begun a its failures begins long most = record {
-    started_are = ap (λ l. l ++ if_so (is_some a.begun.launched) unit) goes.started_are;
-    launched_are = flat_more (λ (x : Aloft). if_so (is_some x.begun.launched) x.unit) aloft (a ∷ []) ∙ ap (λ l. launched_of aloft ++ l) (append-nil (if_so (is_some a.begun.launched) a.unit))
-        ∙ ap (λ n. launched_of aloft ++ if_so (is_some a.begun.launched) n) its ∙ ap (λ l. l ++ if_so (is_some a.begun.launched) unit) goes.launched_are;
+    started_are = ap (λ l. l ++ if_so (is_some (child_of a.begun)) unit) goes.started_are;
+    launched_are = flat_more (λ (x : Aloft). if_so (is_some (child_of x.begun)) x.unit) aloft (a ∷ []) ∙ ap (λ l. launched_of aloft ++ l) (append-nil (if_so (is_some (child_of a.begun)) a.unit))
+        ∙ ap (λ n. launched_of aloft ++ if_so (is_some (child_of a.begun)) n) its ∙ ap (λ l. l ++ if_so (is_some (child_of a.begun)) unit) goes.launched_are;
     lines = lines_begun;
     faults = faults_begun;
     failures = failures ∙ goes.failures;
-    starts = starts_begun a.begun.launched begins;
-    most = most_begun a.begun.launched long most;
+    starts = starts_begun (child_of a.begun) begins;
+    most = most_begun (child_of a.begun) long most;
   }
 
   -- memory is refused before
@@ -193,7 +194,7 @@ module _ (project : Project) (first now new : Moment) (started : List ℕ) (alof
   starts_same None same = ap (λ (s : Starts). s.count) same ∙ goes.starts
   starts_same (Some l) landed = ap (λ (s : Starts). s.count) landed ∙ goes.starts
 
-  pub goes_answered : AreApart (places_of aloft) → (answer : Answer BadUnit) → new.counts.failures ≡ now.counts.failures → LandsBy a.begun.launched now.counts.starts new.counts.starts → new.most ≡ now.most
+  pub goes_answered : AreApart (places_of aloft) → (answer : Answer BadUnit) → new.counts.failures ≡ now.counts.failures → LandsBy (child_of a.begun) now.counts.starts new.counts.starts → new.most ≡ now.most
       → Goes project first new started (remove aloft index) (Gave a.unit answer ∷ es) given
   goes_answered apart answer failures lands most = record {
     started_are = goes.started_are;
@@ -201,7 +202,7 @@ module _ (project : Project) (first now new : Moment) (started : List ℕ) (alof
     lines = subst (Appends first.heard.taken new.heard.taken) (sym (due_first_answered given (states_in project es) a.unit answer is_given begun)) (lines_same given goes.lines);
     faults = faults_same;
     failures = failures ∙ goes.failures;
-    starts = starts_same a.begun.launched lands;
+    starts = starts_same (child_of a.begun) lands;
     most = most ∙ goes.most;
   }
 
@@ -217,7 +218,7 @@ module _ (project : Project) (first now new : Moment) (started : List ℕ) (alof
       faults = faults_same;
     }
 
-    by_fault : (next : Option ℕ) (e : BuildFault) → MayAnswerUnit next u.key a.begun.launched e now.counts.starts new.counts.starts → StopsBy e project first new es
+    by_fault : (next : Option ℕ) (e : BuildFault) → MayAnswerUnit next u.key (child_of a.begun) e now.counts.starts new.counts.starts → StopsBy e project first new es
     by_fault next (Plan why) may = absurd may
     by_fault next Toolchain may = absurd may
     by_fault next (Child key fault) may = stops_there key may.0
@@ -226,16 +227,16 @@ module _ (project : Project) (first now new : Moment) (started : List ℕ) (alof
     by_fault next Sink may = absurd may
     by_fault next OutOfMemory may = ((given, lines_same given goes.lines), faults_same)
 
-    pub stops_answered : (next : Option ℕ) (e : BuildFault) → MayAnswerUnit next u.key a.begun.launched e now.counts.starts new.counts.starts → HasCause e now.counts new.counts → Stops e project first new es
+    pub stops_answered : (next : Option ℕ) (e : BuildFault) → MayAnswerUnit next u.key (child_of a.begun) e now.counts.starts new.counts.starts → HasCause e now.counts new.counts → Stops e project first new es
     stops_answered next e may cause = record {
       by = by_fault next e may;
       cause = cause_from e first.counts now.counts new.counts goes.failures cause;
-      starts = starts_same a.begun.launched (answer_fault_lands next u.key a.begun.launched e now.counts.starts new.counts.starts may);
+      starts = starts_same (child_of a.begun) (answer_fault_lands next u.key (child_of a.begun) e now.counts.starts new.counts.starts may);
     }
 
   -- memory is refused for its lines
-  pub stops_untold : LandsBy a.begun.launched now.counts.starts new.counts.starts → new.counts.failures ≡ now.counts.failures → Stops OutOfMemory project first new es
-  stops_untold lands failures = record { by = ((given, lines_same given goes.lines), faults_same); cause = failures ∙ goes.failures; starts = starts_same a.begun.launched lands }
+  pub stops_untold : LandsBy (child_of a.begun) now.counts.starts new.counts.starts → new.counts.failures ≡ now.counts.failures → Stops OutOfMemory project first new es
+  stops_untold lands failures = record { by = ((given, lines_same given goes.lines), faults_same); cause = failures ∙ goes.failures; starts = starts_same (child_of a.begun) lands }
 
 -- Lines are handed out.
 

@@ -14,7 +14,7 @@ use Rattle.pb_place.specs.declared.child_in_flight.ChildInFlight.{ChildInFlight}
 use Rattle.pb_project.specs.Targets.{unit_at}
 use Rattle.pb_answer.specs.declared.bad_unit.BadUnit.{BadUnit}
 use Rattle.pb_project.specs.declared.project.Project.{Project}
-use Rattle.pb_run.specs.Halves.{Basis, Keeps, IsBegun, CanBegin, BeginsApart, command_in}
+use Rattle.pb_run.specs.Halves.{Basis, Keeps, IsBegun, CanBegin, BeginsApart, command_in, child_of}
 use Rattle.pb_run.specs.Standing.{IsInOrder, records_folder}
 use Rattle.pb_run.specs.Telling.{unit_lines}
 use Rattle.pb_run.specs.declared.begun.Begun.{Begun as unit_begun}
@@ -102,10 +102,10 @@ module _ (b : Basis) (order : IsInOrder b.project) (first : World) (done : List 
       gave = λ place answer at. let (ne, before) = answered_before (states_in b.project es) unit place answer Untouched may.untouched at in given_on place answer ne (h.gave place answer before);
     }
 
-    module _ (a : Aloft) (its : a.unit ≡ unit) (flag : spawned ≡ is_some a.begun.launched) (begun_so : IsBegun b unit a.begun next' w' flying' still') where
+    module _ (a : Aloft) (its : a.unit ≡ unit) (flag : spawned ≡ is_some (child_of a.begun)) (begun_so : IsBegun b unit a.begun next' w' flying' still') where
       own : FliesSo b (Began unit spawned ∷ es) next' w' flying' still' a
       own = subst (λ n. (slice_get (slice_set (states_in b.project es) unit Begun) n ≡ Some Begun) → IsBegun b n a.begun next' w' flying' still'
-          → ((v : Planned) → unit_at b.project n ≡ Some v → are_good (slice_set (states_in b.project es) unit Begun) v.reaches ≡ true) → is_started (Began unit spawned ∷ es) n ≡ is_some a.begun.launched
+          → ((v : Planned) → unit_at b.project n ≡ Some v → are_good (slice_set (states_in b.project es) unit Begun) v.reaches ≡ true) → is_started (Began unit spawned ∷ es) n ≡ is_some (child_of a.begun)
           → FliesSo b (Began unit spawned ∷ es) next' w' flying' still' a) its
           (λ state so reaches started. record { state = state; begun_so = so; reaches = reaches; started = started })
           (get_set_same (states_in b.project es) unit Untouched Begun may.untouched)
@@ -121,7 +121,7 @@ module _ (b : Basis) (order : IsInOrder b.project) (first : World) (done : List 
         gave = happened_begun.gave;
       }
 
-      module _ (difference : Option Difference) (named : FirstDifference b.read (records_folder b.project) u.key a.begun.command w difference) (differs : is_some a.begun.launched ≡ is_some difference) (within : unit < length reasons) (quiet : IsQuiet b es first w) where
+      module _ (difference : Option Difference) (named : FirstDifference b.read (records_folder b.project) u.key a.begun.command w difference) (differs : is_some (child_of a.begun) ≡ is_some difference) (within : unit < length reasons) (quiet : IsQuiet b es first w) where
         stays : finite.get w.files (place_of (records_folder b.project) u.key) ≡ finite.get first.files (place_of (records_folder b.project) u.key)
         stays = only_first.files (place_of (records_folder b.project) u.key) (λ place v has at. place_outside_other b.project order place unit v u at there (λ e. another (states_in b.project es) unit place may.untouched has (sym e)))
 

@@ -17,7 +17,7 @@ use Rattle.pb_project.specs.Targets.{unit_at}
 use Rattle.pb_answer.specs.declared.bad_unit.BadUnit.{BadUnit}
 use Rattle.pb_project.specs.declared.project.Project.{Project}
 use Rattle.pb_run.specs.Causes.{Drops, LandsBy}
-use Rattle.pb_run.specs.Halves.{Basis, Keeps, IsBegun, CanAnswer, BeginsApart, WritesTo}
+use Rattle.pb_run.specs.Halves.{Basis, Keeps, IsBegun, CanAnswer, BeginsApart, WritesTo, child_of}
 use Rattle.pb_run.specs.Standing.{IsInOrder, records_folder}
 use Rattle.pb_run.specs.declared.begun.Begun.{Begun as unit_begun}
 use Rattle.pb_run.specs.declared.begun.Launched.{Launched}
@@ -51,7 +51,7 @@ pub happened_dropped : (b : Basis) (c : UnitCrew) (counts : Counts) (manned : Is
     (index : ℕ) (a : Aloft) (at : slice_get c.aloft.items index ≡ Some a) (aloft' : List Aloft) (is : aloft' ≡ remove c.aloft.items index) (h : Happened b c.done.items c.aloft.items c.store.next es w counts.starts.flying still)
     → ((index : ℕ) (unit : Planned) (next : Option ℕ) → IsInOrder b.project → unit_at b.project index ≡ Some unit → CanAnswer b (states_in b.project es) c.done.items index unit a.begun next w counts.starts.flying still → Keeps b (states_in b.project es) c.done.items next w')
     → ((states : List (State BadUnit)) (done : List (Option (List Directive))) (index : ℕ) (unit : Planned) (next : Option ℕ) (other : ℕ) (its : unit_begun) → IsInOrder b.project → unit_at b.project index ≡ Some unit → CanAnswer b states done index unit a.begun next w counts.starts.flying still
-    → BeginsApart b states index a.begun.launched other its next w counts.starts.flying still → IsBegun b other its next w' flying' still')
+    → BeginsApart b states index (child_of a.begun) other its next w counts.starts.flying still → IsBegun b other its next w' flying' still')
     → Happened b c.done.items aloft' c.store.next es w' flying' still'
 happened_dropped b c counts manned project es w w' still flying' still' index a at aloft' is h keeps others =
     let of_plan : IsOfPlan c.project a = all_get (IsOfPlan c.project) c.aloft.items index a manned.units at in
@@ -66,13 +66,13 @@ happened_dropped b c counts manned project es w w' still flying' still' index a 
 
 pub changes_dropped : (c : UnitCrew) (counts : Counts) (manned : IsManned c counts) (first : World) (es : List (Event BadUnit)) (w w' : World) (flying' : List ChildInFlight) (index : ℕ) (a : Aloft) (at : slice_get c.aloft.items index ≡ Some a)
     (aloft' : List Aloft) (is : aloft' ≡ remove c.aloft.items index) (old : Changes c.project first c.aloft.items es w counts.starts.flying)
-    → ((out : List ℕ) → WritesTo out a.begun.launched counts.starts.flying → ChangesOnly (is_at_or_below out) w w')
-    → ((ticket : ℕ) (its : ChildInFlight) → IfSome a.begun.launched (λ l. ticket ≢ l.ticket) → child_at ticket counts.starts.flying ≡ Some its → child_at ticket flying' ≡ Some its)
+    → ((out : List ℕ) → WritesTo out (child_of a.begun) counts.starts.flying → ChangesOnly (is_at_or_below out) w w')
+    → ((ticket : ℕ) (its : ChildInFlight) → IfSome (child_of a.begun) (λ l. ticket ≢ l.ticket) → child_at ticket counts.starts.flying ≡ Some its → child_at ticket flying' ≡ Some its)
     → Changes c.project first aloft' es w' flying'
 changes_dropped c counts manned first es w w' flying' index a at aloft' is old only stay =
     let of_plan : IsOfPlan c.project a = all_get (IsOfPlan c.project) c.aloft.items index a manned.units at in
     let flies = λ (j : ℕ) (y : Aloft) (at_j : slice_get c.aloft.items j ≡ Some y). flying_of c counts j y manned at_j in
-    let writes : WritesTo of_plan.unit.out a.begun.launched counts.starts.flying = its_writes c.project first c.aloft.items es w w' counts.starts.flying flying' old flies index a at of_plan.unit of_plan.there in
+    let writes : WritesTo of_plan.unit.out (child_of a.begun) counts.starts.flying = its_writes c.project first c.aloft.items es w w' counts.starts.flying flying' old flies index a at of_plan.unit of_plan.there in
     changes_less c.project first c.aloft.items es w w' counts.starts.flying flying' old flies index a at of_plan.unit of_plan.there manned.units_apart manned.tickets_apart
     (widen (is_at_or_below (out_of (records_folder c.project) of_plan.unit.key)) (is_of (records_folder c.project) of_plan.unit.key) w w' (out_within (records_folder c.project) of_plan.unit.key)
     (subst (λ o. ChangesOnly (is_at_or_below o) w w') (manned.order.folders a.unit of_plan.unit of_plan.there) (only of_plan.unit.out writes))) stay aloft' is

@@ -14,6 +14,7 @@ use Rattle.pb_place.specs.Counts.{Counts, Starts, without}
 use Rattle.pb_place.specs.declared.child_in_flight.ChildInFlight.{ChildInFlight}
 use Rattle.pb_project.specs.declared.project.Project.{Project}
 use Rattle.pb_run.specs.Causes.{MayBeginUnit, MayAnswerUnit, BeginsBy, LandsBy}
+use Rattle.pb_run.specs.Halves.{child_of}
 use Rattle.pb_run.specs.Standing.{IsInOrder, records_folder}
 use Rattle.pb_run.specs.declared.begun.Launched.{Launched}
 use Rattle.pb_soundness.specs.Numbers.{after, IsBefore}
@@ -103,13 +104,13 @@ flies_by ticket (f ∷ fs) has = elim (contains_cases f.ticket (map ticket_of_ch
     either true h = refl
     either false h = h
 
-pub flying_of : (c : UnitCrew) (counts : Counts) (index : ℕ) (a : Aloft) → IsManned c counts → slice_get c.aloft.items index ≡ Some a → IfSome a.begun.launched (λ l. is_flying l.ticket counts.starts.flying ≡ true)
-flying_of c counts index a manned at = by a.begun.launched refl
+pub flying_of : (c : UnitCrew) (counts : Counts) (index : ℕ) (a : Aloft) → IsManned c counts → slice_get c.aloft.items index ≡ Some a → IfSome (child_of a.begun) (λ l. is_flying l.ticket counts.starts.flying ≡ true)
+flying_of c counts index a manned at = by (child_of a.begun) refl
   where
-    by : (o : Option Launched) → a.begun.launched ≡ o → IfSome o (λ l. is_flying l.ticket counts.starts.flying ≡ true)
+    by : (o : Option Launched) → (child_of a.begun) ≡ o → IfSome o (λ l. is_flying l.ticket counts.starts.flying ≡ true)
     by None is = tt
     by (Some l) is =
-        flies_by l.ticket counts.starts.flying (subst (λ ts. Contains ts l.ticket) (sym manned.tickets) (has_given (λ (x : Aloft). ticket_in x.begun.launched) c.aloft.items index a l.ticket at (ap ticket_in is)))
+        flies_by l.ticket counts.starts.flying (subst (λ ts. Contains ts l.ticket) (sym manned.tickets) (has_given (λ (x : Aloft). ticket_in (child_of x.begun)) c.aloft.items index a l.ticket at (ap ticket_in is)))
 
 -- after a fault: the same units, and a next number that may have grown
 pub manned_same : (old new : UnitCrew) (before now : Counts) → IsManned old before → new.project ≡ old.project → new.store.folder ≡ old.store.folder → new.done.items ≡ old.done.items → length new.reasons.items ≡ length old.reasons.items → new.aloft.items ≡ old.aloft.items → TakesNumber old.store.next new.store.next
@@ -131,13 +132,13 @@ manned_same old new before now manned project folder done reasons aloft next fly
 -- a unit more in flight
 module _ (old new : UnitCrew) (before now : Counts) (a : Aloft) (manned : IsManned old before) (free : Contains (places_of old.aloft.items) a.unit → ⊥) (of_plan : IsOfPlan old.project a)
     (project : new.project ≡ old.project) (folder : new.store.folder ≡ old.store.folder) (done : new.done.items ≡ old.done.items) (reasons : length new.reasons.items ≡ length old.reasons.items) (aloft : new.aloft.items ≡ old.aloft.items ++ a ∷ [])
-    (next : TakesNumber old.store.next new.store.next) (begins : BeginsBy a.begun.launched before.starts now.starts)
-    (number : (l : Launched) → a.begun.launched ≡ Some l → (old.store.next ≡ Some l.number) × (new.store.next ≡ after l.number)) where
-  tickets_are : tickets_of new.aloft.items ≡ tickets_of old.aloft.items ++ ticket_in a.begun.launched
-  tickets_are = ap tickets_of aloft ∙ flat_more (λ (x : Aloft). ticket_in x.begun.launched) old.aloft.items (a ∷ []) ∙ ap (λ ts. tickets_of old.aloft.items ++ ts) (append-nil (ticket_in a.begun.launched))
+    (next : TakesNumber old.store.next new.store.next) (begins : BeginsBy (child_of a.begun) before.starts now.starts)
+    (number : (l : Launched) → (child_of a.begun) ≡ Some l → (old.store.next ≡ Some l.number) × (new.store.next ≡ after l.number)) where
+  tickets_are : tickets_of new.aloft.items ≡ tickets_of old.aloft.items ++ ticket_in (child_of a.begun)
+  tickets_are = ap tickets_of aloft ∙ flat_more (λ (x : Aloft). ticket_in (child_of x.begun)) old.aloft.items (a ∷ []) ∙ ap (λ ts. tickets_of old.aloft.items ++ ts) (append-nil (ticket_in (child_of a.begun)))
 
-  numbers_are : numbers_of new.aloft.items ≡ numbers_of old.aloft.items ++ number_in a.begun.launched
-  numbers_are = ap numbers_of aloft ∙ flat_more (λ (x : Aloft). number_in x.begun.launched) old.aloft.items (a ∷ []) ∙ ap (λ ns. numbers_of old.aloft.items ++ ns) (append-nil (number_in a.begun.launched))
+  numbers_are : numbers_of new.aloft.items ≡ numbers_of old.aloft.items ++ number_in (child_of a.begun)
+  numbers_are = ap numbers_of aloft ∙ flat_more (λ (x : Aloft). number_in (child_of x.begun)) old.aloft.items (a ∷ []) ∙ ap (λ ns. numbers_of old.aloft.items ++ ns) (append-nil (number_in (child_of a.begun)))
 
   places_are : places_of new.aloft.items ≡ places_of old.aloft.items ++ a.unit ∷ []
   places_are = ap places_of aloft ∙ map-append place_of_unit old.aloft.items (a ∷ [])
@@ -151,14 +152,14 @@ module _ (old new : UnitCrew) (before now : Counts) (a : Aloft) (manned : IsMann
   tickets_so None same = subst AreApart (sym (append-nil (tickets_of old.aloft.items))) manned.tickets_apart
   tickets_so (Some l) lifted = apart_more (tickets_of old.aloft.items) l.ticket manned.tickets_apart (subst (AllByRecursion (λ t. t ≢ l.ticket)) manned.tickets (free_ticket l.ticket before.starts.flying lifted.free))
 
-  numbers_so : (o : Option Launched) → a.begun.launched ≡ o → AreApart (numbers_of old.aloft.items ++ number_in o)
+  numbers_so : (o : Option Launched) → (child_of a.begun) ≡ o → AreApart (numbers_of old.aloft.items ++ number_in o)
   numbers_so None is = subst AreApart (sym (append-nil (numbers_of old.aloft.items))) manned.numbers_apart
   numbers_so (Some l) is = apart_more (numbers_of old.aloft.items) l.number manned.numbers_apart (below_apart l.number (numbers_of old.aloft.items) (subst (λ o. AllByRecursion (IsBefore o) (numbers_of old.aloft.items)) (number l is).0 manned.before))
 
   before_old : AllByRecursion (IsBefore new.store.next) (numbers_of old.aloft.items)
   before_old = all_as (IsBefore old.store.next) (IsBefore new.store.next) (numbers_of old.aloft.items) (λ n. before_next old.store.next new.store.next n next) manned.before
 
-  before_so : (o : Option Launched) → a.begun.launched ≡ o → AllByRecursion (IsBefore new.store.next) (numbers_of old.aloft.items ++ number_in o)
+  before_so : (o : Option Launched) → (child_of a.begun) ≡ o → AllByRecursion (IsBefore new.store.next) (numbers_of old.aloft.items ++ number_in o)
   before_so None is = all_more (IsBefore new.store.next) (numbers_of old.aloft.items) [] before_old tt
   before_so (Some l) is = all_more (IsBefore new.store.next) (numbers_of old.aloft.items) (l.number ∷ []) before_old (subst (λ o. IsBefore o l.number) (sym (number l is).1) (own_before l.number), tt)
 
@@ -170,21 +171,21 @@ module _ (old new : UnitCrew) (before now : Counts) (a : Aloft) (manned : IsMann
     reasoned = reasons ∙ manned.reasoned ∙ ap (λ (p : Project). length p.plan.planned) (sym project);
     units = subst (λ (p : Project). AllByRecursion (IsOfPlan p) new.aloft.items) (sym project) (subst (AllByRecursion (IsOfPlan old.project)) (sym aloft) (all_more (IsOfPlan old.project) old.aloft.items (a ∷ []) manned.units (of_plan, tt)));
     units_apart = subst AreApart (sym places_are) (apart_more (places_of old.aloft.items) a.unit manned.units_apart (none_among a.unit (places_of old.aloft.items) free));
-    tickets = flies a.begun.launched begins ∙ sym tickets_are;
-    tickets_apart = subst AreApart (sym tickets_are) (tickets_so a.begun.launched begins);
-    numbers_apart = subst AreApart (sym numbers_are) (numbers_so a.begun.launched refl);
-    before = subst (AllByRecursion (IsBefore new.store.next)) (sym numbers_are) (before_so a.begun.launched refl);
+    tickets = flies (child_of a.begun) begins ∙ sym tickets_are;
+    tickets_apart = subst AreApart (sym tickets_are) (tickets_so (child_of a.begun) begins);
+    numbers_apart = subst AreApart (sym numbers_are) (numbers_so (child_of a.begun) refl);
+    before = subst (AllByRecursion (IsBefore new.store.next)) (sym numbers_are) (before_so (child_of a.begun) refl);
   }
 
 -- a unit less
 module _ (old new : UnitCrew) (before now : Counts) (index : ℕ) (a : Aloft) (manned : IsManned old before) (at : slice_get old.aloft.items index ≡ Some a)
     (project : new.project ≡ old.project) (folder : new.store.folder ≡ old.store.folder) (done : length new.done.items ≡ length old.done.items) (reasons : length new.reasons.items ≡ length old.reasons.items) (aloft : new.aloft.items ≡ remove old.aloft.items index)
-    (next : TakesNumber old.store.next new.store.next) (lands : LandsBy a.begun.launched before.starts now.starts) where
-  flies_less : (o : Option Launched) → a.begun.launched ≡ o → LandsBy o before.starts now.starts → map ticket_of_child now.starts.flying ≡ tickets_of (remove old.aloft.items index)
-  flies_less None is same = ap (λ (s : Starts). map ticket_of_child s.flying) same ∙ manned.tickets ∙ sym (flat_stays (λ (x : Aloft). ticket_in x.begun.launched) old.aloft.items index a at (ap ticket_in is))
+    (next : TakesNumber old.store.next new.store.next) (lands : LandsBy (child_of a.begun) before.starts now.starts) where
+  flies_less : (o : Option Launched) → (child_of a.begun) ≡ o → LandsBy o before.starts now.starts → map ticket_of_child now.starts.flying ≡ tickets_of (remove old.aloft.items index)
+  flies_less None is same = ap (λ (s : Starts). map ticket_of_child s.flying) same ∙ manned.tickets ∙ sym (flat_stays (λ (x : Aloft). ticket_in (child_of x.begun)) old.aloft.items index a at (ap ticket_in is))
   flies_less (Some l) is landed =
       ap (λ (s : Starts). map ticket_of_child s.flying) landed ∙ tickets_without l.ticket before.starts.flying ∙ ap (events.without l.ticket) manned.tickets
-      ∙ sym (flat_without (λ (x : Aloft). ticket_in x.begun.launched) old.aloft.items index a l.ticket manned.tickets_apart at (ap ticket_in is))
+      ∙ sym (flat_without (λ (x : Aloft). ticket_in (child_of x.begun)) old.aloft.items index a l.ticket manned.tickets_apart at (ap ticket_in is))
 
   places_apart : AreApart (places_of (remove old.aloft.items index))
   places_apart =
@@ -198,11 +199,11 @@ module _ (old new : UnitCrew) (before now : Counts) (index : ℕ) (a : Aloft) (m
     reasoned = reasons ∙ manned.reasoned ∙ ap (λ (p : Project). length p.plan.planned) (sym project);
     units = subst (λ (p : Project). AllByRecursion (IsOfPlan p) new.aloft.items) (sym project) (subst (AllByRecursion (IsOfPlan old.project)) (sym aloft) (all_removed (IsOfPlan old.project) old.aloft.items index manned.units));
     units_apart = subst (λ (items : List Aloft). AreApart (places_of items)) (sym aloft) places_apart;
-    tickets = flies_less a.begun.launched refl lands ∙ ap tickets_of (sym aloft);
-    tickets_apart = subst (λ (items : List Aloft). AreApart (tickets_of items)) (sym aloft) (apart_flat (λ (x : Aloft). ticket_in x.begun.launched) old.aloft.items index manned.tickets_apart);
-    numbers_apart = subst (λ (items : List Aloft). AreApart (numbers_of items)) (sym aloft) (apart_flat (λ (x : Aloft). number_in x.begun.launched) old.aloft.items index manned.numbers_apart);
+    tickets = flies_less (child_of a.begun) refl lands ∙ ap tickets_of (sym aloft);
+    tickets_apart = subst (λ (items : List Aloft). AreApart (tickets_of items)) (sym aloft) (apart_flat (λ (x : Aloft). ticket_in (child_of x.begun)) old.aloft.items index manned.tickets_apart);
+    numbers_apart = subst (λ (items : List Aloft). AreApart (numbers_of items)) (sym aloft) (apart_flat (λ (x : Aloft). number_in (child_of x.begun)) old.aloft.items index manned.numbers_apart);
     before = subst (λ (items : List Aloft). AllByRecursion (IsBefore new.store.next) (numbers_of items)) (sym aloft)
-        (all_flat (IsBefore new.store.next) (λ (x : Aloft). number_in x.begun.launched) old.aloft.items index
+        (all_flat (IsBefore new.store.next) (λ (x : Aloft). number_in (child_of x.begun)) old.aloft.items index
         (all_as (IsBefore old.store.next) (IsBefore new.store.next) (numbers_of old.aloft.items) (λ n. before_next old.store.next new.store.next n next) manned.before));
   }
 

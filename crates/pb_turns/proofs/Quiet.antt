@@ -8,7 +8,7 @@ use Rattle.pb_place.specs.World.{World, Answers}
 use Rattle.pb_project.specs.Targets.{unit_at}
 use Rattle.pb_answer.specs.declared.bad_unit.BadUnit.{BadUnit}
 use Rattle.pb_record.specs.Parts.{IsReading}
-use Rattle.pb_run.specs.Halves.{Basis, basis, records_in}
+use Rattle.pb_run.specs.Halves.{Basis, basis, records_in, child_of}
 use Rattle.pb_run.specs.Standing.{records_folder}
 use Rattle.pb_run.specs.declared.begun.Begun.{Begun as unit_begun}
 use Rattle.pb_run.specs.declared.begun.Launched.{Launched}
@@ -50,9 +50,9 @@ quiet_begun b es first w w' unit None same quiet = λ none numbered. same refl �
 quiet_begun b es first w w' unit (Some l) same quiet = λ none numbered. absurd (some_last (started_by es) unit none)
 
 pub begun_quiet : (tells : Bool) (child : Answers) (first old : UnitCrew) (at now new : Moment) (still : ℕ → Type 0) (es : List (Event BadUnit)) (given unit : ℕ) → Story tells child first at old now still es given
-    → (begun : unit_begun) → (IsTrue tells → begun.launched ≡ None → new.world ≡ now.world) → IsTrue tells → FromFirst child first at old (λ b. IsQuiet b (Began unit (is_some begun.launched) ∷ es) at.world new.world)
+    → (begun : unit_begun) → (IsTrue tells → (child_of begun) ≡ None → new.world ≡ now.world) → IsTrue tells → FromFirst child first at old (λ b. IsQuiet b (Began unit (is_some (child_of begun)) ∷ es) at.world new.world)
 begun_quiet tells child first old at now new still es given unit story begun same t = λ f r s reading k.
-    quiet_begun (basis f r child old.setup old.project s) es at.world now.world new.world unit begun.launched (same t) (story.quiet t f r s reading k)
+    quiet_begun (basis f r child old.setup old.project s) es at.world now.world new.world unit (child_of begun) (same t) (story.quiet t f r s reading k)
 
 -- A unit answers.
 
@@ -65,9 +65,9 @@ module _ (b : Basis) (es : List (Event BadUnit)) (first w w' : World) (place : �
 
 pub answered_quiet : (tells : Bool) (child : Answers) (first old : UnitCrew) (at now new : Moment) (still : ℕ → Type 0) (es : List (Event BadUnit)) (given : ℕ) → Story tells child first at old now still es given
     → (index : ℕ) (a : Aloft) (u : Planned) → unit_at old.project a.unit ≡ Some u → slice_get old.aloft.items index ≡ Some a → (answer : Answer BadUnit)
-    → ((read : Reading) → IsReading read → IsTrue tells → a.begun.launched ≡ None → lacks_number (record_at read (records_folder old.project) now.world.files u.key) ≡ false → new.world ≡ now.world)
+    → ((read : Reading) → IsReading read → IsTrue tells → (child_of a.begun) ≡ None → lacks_number (record_at read (records_folder old.project) now.world.files u.key) ≡ false → new.world ≡ now.world)
     → IsTrue tells → FromFirst child first at old (λ b. IsQuiet b (Gave a.unit answer ∷ es) at.world new.world)
 answered_quiet tells child first old at now new still es given story index a u there at_index answer same t = λ f r s reading k.
     let (h, began) = story.happened t f r s reading k in
     let so = all_get (FliesSo (basis f r child old.setup old.project s) es old.store.next now.world now.counts.starts.flying still) old.aloft.items index a h.begun at_index in
-    quiet_answered (basis f r child old.setup old.project s) es at.world now.world new.world a.unit u there a.begun.launched so.started (same r reading t) (story.quiet t f r s reading k)
+    quiet_answered (basis f r child old.setup old.project s) es at.world now.world new.world a.unit u there (child_of a.begun) so.started (same r reading t) (story.quiet t f r s reading k)

@@ -5,6 +5,7 @@ use Rattle.pb_flight.specs.Table.{if_so}
 use Rattle.pb_place.specs.Counts.{Counts}
 use Rattle.pb_place.specs.declared.child_in_flight.ChildInFlight.{ChildInFlight}
 use Rattle.pb_project.specs.declared.project.Project.{Project}
+use Rattle.pb_run.specs.Halves.{child_of}
 use Rattle.pb_run.specs.Standing.{IsInOrder, IsCommandOf, records_folder}
 use Rattle.pb_run.specs.declared.begun.Launched.{Launched}
 use Rattle.pb_soundness.specs.Numbers.{IsBefore}
@@ -35,13 +36,13 @@ ticket_of_child child = child.ticket
 
 -- the tickets of their children, their run numbers, and the units among them that have a child
 abbrev pub tickets_of : List Aloft → List ℕ
-tickets_of aloft = flat_map (λ (a : Aloft). ticket_in a.begun.launched) aloft
+tickets_of aloft = flat_map (λ (a : Aloft). ticket_in (child_of a.begun)) aloft
 
 abbrev pub numbers_of : List Aloft → List ℕ
-numbers_of aloft = flat_map (λ (a : Aloft). number_in a.begun.launched) aloft
+numbers_of aloft = flat_map (λ (a : Aloft). number_in (child_of a.begun)) aloft
 
 abbrev pub launched_of : List Aloft → List ℕ
-launched_of aloft = flat_map (λ (a : Aloft). if_so (is_some a.begun.launched) a.unit) aloft
+launched_of aloft = flat_map (λ (a : Aloft). if_so (is_some (child_of a.begun)) a.unit) aloft
 
 -- no two of them are one
 abbrev pub AreApart : List ℕ → Type 0

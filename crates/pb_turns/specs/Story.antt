@@ -20,7 +20,7 @@ use Rattle.pb_answer.specs.declared.bad_unit.BadUnit.{BadUnit}
 use Rattle.pb_project.specs.declared.project.Project.{Project}
 use Rattle.pb_record.specs.Parts.{IsReading}
 use Rattle.pb_run.specs.Causes.{HasCause}
-use Rattle.pb_run.specs.Halves.{Footing, Basis, basis, outcomes_in, command_in, records_in, Keeps, IsBegun, WritesTo}
+use Rattle.pb_run.specs.Halves.{Footing, Basis, basis, outcomes_in, command_in, records_in, Keeps, IsBegun, WritesTo, child_of}
 use Rattle.pb_run.specs.Outcome.{Outcome, directives_in}
 use Rattle.pb_run.specs.Standing.{records_folder}
 use Rattle.pb_run.specs.Telling.{unit_lines}
@@ -133,7 +133,7 @@ pub record OnlyOf (project : Project) (es : List (Event BadUnit)) (old new : Wor
 -- a unit in flight has begun, and its child, if it has one, writes into the unit's folder
 pub record FliesIn (project : Project) (es : List (Event BadUnit)) (flying : List ChildInFlight) (a : Aloft) : Type 0 where
   pub state : slice_get (states_in project es) a.unit ≡ Some Begun
-  pub writes : (u : Planned) → unit_at project a.unit ≡ Some u → WritesTo u.out a.begun.launched flying
+  pub writes : (u : Planned) → unit_at project a.unit ≡ Some u → WritesTo u.out (child_of a.begun) flying
 
 -- whatever a build rests on: the units in flight, and what was changed
 pub record Changes (project : Project) (first : World) (aloft : List Aloft) (es : List (Event BadUnit)) (world : World) (flying : List ChildInFlight) : Type 0 where
@@ -145,7 +145,7 @@ pub record FliesSo (b : Basis) (es : List (Event BadUnit)) (next : Option ℕ) (
   pub state : slice_get (states_in b.project es) a.unit ≡ Some Begun
   pub begun_so : IsBegun b a.unit a.begun next world flying still
   pub reaches : (u : Planned) → unit_at b.project a.unit ≡ Some u → are_good (states_in b.project es) u.reaches ≡ true
-  pub started : is_started es a.unit ≡ is_some a.begun.launched
+  pub started : is_started es a.unit ≡ is_some (child_of a.begun)
 
 -- what the halves of units keep; the units in flight; and what has answered
 pub record Happened (b : Basis) (done : List (Option (List Directive))) (aloft : List Aloft) (next : Option ℕ) (es : List (Event BadUnit)) (world : World) (flying : List ChildInFlight) (still : ℕ → Type 0) : Type 0 where

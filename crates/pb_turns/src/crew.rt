@@ -8,6 +8,7 @@ ghost use Rattle.pb_flight.specs.Table.{due_after, count_due, if_so};
 ghost use Rattle.pb_flight.specs.declared.flight.State.TheVariants as state;
 ghost use Rattle.pb_place.specs.Counts.{up};
 ghost use Rattle.pb_answer.specs.declared.bad_unit.BadUnit.{BadUnit};
+ghost use Rattle.pb_run.specs.Halves.{child_of};
 ghost use Rattle.pb_turns.specs.Crew.{needs_of, places_of, IsManned};
 ghost use Rattle.pb_turns.specs.Moments.{Moment, moment};
 ghost use Rattle.pb_turns.specs.Story.{Story, StoryEnds, states_in};
@@ -85,11 +86,11 @@ fn note_begun(
     requires more { vec_len started.old < vec_capacity started.old }
     requires within { unit < length reasons.old.items }
     ensures aloft { aloft.new.items ≡ aloft.old.items ++ record { unit = unit; begun = made.begun } ∷ [] }
-    ensures started { started.new.items ≡ started.old.items ++ if_so (is_some made.begun.launched) unit }
+    ensures started { started.new.items ≡ started.old.items ++ if_so (is_some (child_of made.begun)) unit }
     ensures reasons { reasons.new.items ≡ slice_set reasons.old.items unit (Some made.difference) }
 {
     let Beginning { begun, difference } = made;
-    let spawned = begun.launched.is_some();
+    let spawned = begun.has_child();
     put(aloft, Aloft { unit, begun });
     if spawned {
         put(started, unit);
@@ -137,7 +138,7 @@ fn begin_at<P: Place>(
         Ok(made) => made,
         Err(fault) => return Err(fault),
     };
-    let spawned = made.begun.launched.is_some();
+    let spawned = made.begun.has_child();
     note_begun(
         &mut crew.aloft,
         &mut crew.started,

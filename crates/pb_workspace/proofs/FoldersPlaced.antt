@@ -91,12 +91,16 @@ some_place (d ∷ ds) n places q (inr is) = elim (cases d.folder (map (λ (x : D
   | inr there ↦ some_place ds (n + 1) (with_entry places d.folder n) q (inr there)
 ]
 
+-- where a folder has a place, a package in that folder stands there
+pub places_are : (ds : List Draft) → ArePlaces ds (places_of ds)
+places_are ds = all_places ds [] ds 0 [] refl refl none_yet
+  where
+    none_yet : ArePlaces ds []
+    none_yet q k is = cc
+
 -- a folder of one of the packages has the place of a package there
 pub place_there : (ds : List Draft) (q : Path) → Contains (map (λ (d : Draft). d.folder) ds) q → (k : ℕ) × (d : Draft) × (value_of q (places_of ds) ≡ Some k) × (slice_get ds k ≡ Some d) × (d.folder ≡ q)
 place_there ds q is =
     let v = value_there (places_of ds) q (some_place ds 0 [] q (inr is)) in
-    let at = all_places ds [] ds 0 [] refl refl none_yet q v.0 v.1 in
+    let at = places_are ds q v.0 v.1 in
     (v.0, at.0, v.1, at.1, at.2)
-  where
-    none_yet : ArePlaces ds []
-    none_yet q k is = cc

@@ -1,8 +1,6 @@
 -- The packages of a workspace that was read, by its definition.
-use Rattle.std.proofs.Common.{◌≡◌, ◌≢◌, inl, inr, ◌↔◌, ◌≤◌, ℕ, List, [], ◌∷◌, length, map, Contains, Bool, true, false, if◌then◌else◌, ◌||◌, Option, Some, None, Ok, Err, codes, slice_get, refl, sym, ap, ◌∙◌, subst, arith}
+use Rattle.std.proofs.Common.{◌≡◌, ◌≢◌, inl, inr, ◌↔◌, ◌≤◌, ℕ, List, [], ◌∷◌, length, map, Contains, Bool, true, false, if◌then◌else◌, ◌||◌, Option, Some, None, Ok, Err, codes, refl, sym, ap, ◌∙◌, subst, arith}
 use Rattle.std.specs.List.{AllByRecursion, flat_map}
-use Rattle.std.specs.Option.{option_map, unwrap_or}
-use Rattle.std.proofs.lemmas.Option.{slice_get-map, slice_get_within, get_or_from_slice_get}
 use Rattle.std.specs.Str.{bytes_eq}
 use Rattle.std.proofs.lemmas.Slice.Eq.{bytes_eq-Decides}
 use Rattle.std.proofs.lemmas.List.Elements.{Contains-append_left, Contains-append_right, Contains-append_cases}
@@ -25,8 +23,8 @@ use Rattle.pb_workspace.specs.declared.settling.Given.{Given}
 use Rattle.pb_workspace.specs.declared.wanted.Standing.{Standing}
 use Rattle.pb_workspace.specs.declared.wanted.Wanted.{Wanted}
 use Rattle.pb_package.specs.declared.workspace.Workspace.{Workspace}
-use Rattle.pb_workspace.specs.Assembled.{assembled, entry_at, package_at, packages_of}
-use Rattle.pb_workspace.specs.ByFolder.{folders_of, value_of, values_of}
+use Rattle.pb_workspace.specs.Assembled.{assembled, package_at, packages_of}
+use Rattle.pb_workspace.specs.ByFolder.{folders_of, values_of}
 use Rattle.pb_workspace.specs.Checks.{fault_of}
 use Rattle.pb_workspace.specs.Drafts.{draft_of, draft_with, lists_of}
 use Rattle.pb_manifest.specs.declared.manifest.WorkspaceTable.{WorkspaceTable}
@@ -37,9 +35,8 @@ use Rattle.pb_workspace.specs.MemberFolders.{folders_meant, is_manifest, member_
 use Rattle.pb_workspace.specs.Places.{places_of}
 use Rattle.pb_workspace.specs.Rounds.{all_read, draft_at, draft_if, draft_in_file, leads_to, no_package, parts_at, rounds, standing_in, with_draft}
 use Rattle.pb_workspace.proofs.Puttings.{map_twice}
-use Rattle.pb_workspace.specs.PackageFolders.{package_in, IsOfItsFolder, LeadsInto, LeadsTo, IsRootOrMember, root, member, IsPackageFolder, frame_at}
+use Rattle.pb_workspace.specs.PackageFolders.{package_in, LeadsTo, IsRootOrMember, root, member, IsPackageFolder, frame_at}
 use Rattle.pb_workspace.proofs.FoldersPut.{Path, opened, with_only, with_new}
-use Rattle.pb_workspace.proofs.FoldersPlaced.{place_there}
 use Rattle.pb_workspace.proofs.FoldersFound.{IsKnown, Sofar, all_more, rounds_more, at_end}
 use Rattle.pb_workspace.proofs.Fuel.{all_grow, nothing_ahead}
 
@@ -236,8 +233,12 @@ manifest_there sources manifest parts path is = by (is_manifest manifest) refl i
         not_top e = cc
     by false named h = cc
 
-contains_at : {A : Type 0} (xs : List A) (n : ℕ) (x : A) → slice_get xs n ≡ Some x → Contains xs x
-contains_at xs n x at = (n, slice_get_within xs n x at, get_or_from_slice_get xs n x x at)
+-- what was read of a package
+pub record IsOfItsFolder (sources : World) (f : Frame) (p : Package) : Type 0 where
+  pub owner : Draft
+  pub places : List (List ℕ × ℕ)
+  pub read : package_in sources f p.folder ≡ Ok owner
+  pub same : p ≡ package_at places owner
 
 all_at : {A : Type 0} (P : A → Type 0) (xs : List A) (x : A) → AllByRecursion P xs → Contains xs x → P x
 all_at P [] x all is = absurd (none x is)
@@ -299,28 +300,9 @@ module _ (manifest target : Path) (w : World) (parts : Parts) (ws : Workspace) (
       let same : map (λ (p : Package). p.folder) ws.packages ≡ folders_of m.0.found = ap (map (λ (p : Package). p.folder)) m.1.whole ∙ map_twice (λ (p : Package). p.folder) (package_at (places_of drafts)) drafts ∙ own_folders sources f m.0.found all.1 in
       (λ is. (all.0 folder).0 (subst (λ xs. Contains xs folder) same is), λ is. subst (λ xs. Contains xs folder) (sym same) ((all.0 folder).1 is))
 
-  pub theirs : (p : Package) → Contains ws.packages p → IsOfItsFolder sources f ws p
+  pub theirs : (p : Package) → Contains ws.packages p → IsOfItsFolder sources f p
   theirs p is =
       let m = made_of in
       let all = all_found sources f parts stands there m.0 m.1.packages in
-      let drafts : List Draft = values_of m.0.found in
-      let places = places_of drafts in
-      let e = each_theirs sources f m.0.found places p all.1 (subst (λ ps. Contains ps p) m.1.whole is) in
-      record { owner = e.0; places = places; read = e.1; same = e.2; leads = into m.0.found e.0 places refl all.0 (own_folders sources f m.0.found all.1) m.1.whole e.1 e.2 }
-    where
-      into : (es : List (Path × Draft)) (owner : Draft) (places : List (Path × ℕ)) → places ≡ places_of (values_of es) → ((x : Path) → Contains (folders_of es) x ↔ IsPackageFolder sources f parts.found x)
-          → map (λ (d : Draft). d.folder) (values_of es) ≡ folders_of es → ws.packages ≡ packages_of (values_of es) → package_in sources f p.folder ≡ Ok owner → p ≡ package_at places owner
-          → (n : ℕ) (wanted : Wanted) → slice_get owner.wanted n ≡ Some wanted → LeadsInto ws p n wanted.folder
-      into es owner places are found_all own whole read_it same n wanted at =
-          let from : IsPackageFolder sources f parts.found p.folder = (least p.folder).0 (map_each (λ (q : Package). q.folder) ws.packages p is) in
-          let leads : LeadsTo sources f p.folder wanted.folder = record { owner = owner; entry = wanted; package_at = read_it; is_there = contains_at owner.wanted n wanted at; leads = refl } in
-          let known : Contains (folders_of es) wanted.folder = (found_all wanted.folder).1 (onward p.folder wanted.folder from leads) in
-          let h = place_there (values_of es) wanted.folder (subst (λ xs. Contains xs wanted.folder) (sym own) known) in
-          let lies : unwrap_or (value_of wanted.folder places) 0 ≡ h.0 = ap (λ ps. unwrap_or (value_of wanted.folder ps) 0) are ∙ ap (λ o. unwrap_or o 0) h.2 in
-          record {
-            entry = entry_at places wanted;
-            found = package_at (places_of (values_of es)) h.1;
-            entry_at = ap (λ (q : Package). slice_get q.entries n) same ∙ slice_get-map (entry_at places) owner.wanted n ∙ ap (λ o. option_map (entry_at places) o) at;
-            found_at = ap (λ k. slice_get ws.packages k) lies ∙ ap (λ ps. slice_get ps h.0) whole ∙ slice_get-map (package_at (places_of (values_of es))) (values_of es) h.0 ∙ ap (λ o. option_map (package_at (places_of (values_of es))) o) h.3;
-            there = h.4;
-          }
+      let e = each_theirs sources f m.0.found (places_of (values_of m.0.found)) p all.1 (subst (λ ps. Contains ps p) m.1.whole is) in
+      record { owner = e.0; places = places_of (values_of m.0.found); read = e.1; same = e.2 }

@@ -2,16 +2,7 @@
 
 ghost use Rattle.pb_workspace.specs.GlobWords.{DecidesGlobs};
 ghost use Rattle.pb_workspace.specs.Laws.{NamesDiffer, HasTarget, HasRoot, LooksAtSources, FoundAsLookedFor};
-ghost use Rattle.pb_workspace.specs.PackageFolders.{AreOfTheirFolders, AreTheLeastSet, FuelIsEnough};
-
-/// The folders of the packages of a workspace that was read are exactly the least set that holds the root package's,
-/// the members' and the folder of each path dependency of a package in the set (The Cargo Book, Workspaces, Specifying
-/// Dependencies). Each package is what the manifest in its folder says, and each of its entries leads to the package in
-/// the folder that it names.
-pub fn packages_are_the_least_set()
-    ensures folders { AreTheLeastSet }
-    ensures packages { AreOfTheirFolders }
-{}
+ghost use Rattle.pb_workspace.specs.PackageFolders.{FuelIsEnough};
 
 /// The number of rounds never ends the reading of a workspace: no more than 256 packages are read, and then 257 rounds
 /// and any greater number of them come to the same packages, or to the same fault.

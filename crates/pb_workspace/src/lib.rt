@@ -32,8 +32,8 @@ pub mod taken;
 pub mod wanted;
 
 pub use laws::{
-    found_binaries_are_looked_for, globs_stand_for_names, packages_are_the_least_set,
-    rounds_are_enough, workspaces_are_settled, workspaces_look_at_sources,
+    found_binaries_are_looked_for, globs_stand_for_names, rounds_are_enough,
+    workspaces_are_settled, workspaces_look_at_sources,
 };
 pub use loading::load;
 pub use normal_paths::workspace_has_paths;

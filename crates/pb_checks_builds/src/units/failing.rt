@@ -124,7 +124,7 @@ const TRIALS: &[Trial] = &[
         verb: "run",
         first: "0",
         rest: "",
-        told: "fault a.target.lib Device: same, fault a.target.lib Device: same, fault a.target.lib Device: same, fault a.target.lib Device: same, fault a.target.lib Device: same, fault a.target.lib Device: same, fault a.target.lib Device: same, ",
+        told: "fault a.target.lib Device: same, fault a.target.lib Device: same, fault a.target.lib Device: same, fault a.target.lib Device: same, fault a.target.lib Device: same, ",
     },
     Trial {
         steps: "run 0\nfile /w/a/src/n two",
@@ -159,7 +159,7 @@ const TRIALS: &[Trial] = &[
         verb: "turned",
         first: "0",
         rest: "1",
-        told: "fault a.target.lib Device: same; `/w/a/src/n` has changed, fault a.target.lib Device: same; `/w/a/src/n` has changed, fault a.target.lib Device: same; `/w/a/src/n` has changed, fault a.target.lib Device: same; `/w/a/src/n` has changed, fault a.target.lib Device: same; nothing is kept of it, fault a.target.lib CannotStart: same; nothing is kept of it, fault b.target.script Device: same; nothing is kept of it, fault b.target.script Device: same; nothing is kept of it, fault b.target.script Device: same; nothing is kept of it, fault b.target.script Device: same; nothing is kept of it, fault b.target.script Device: same; nothing is kept of it, same; fault a.target.lib Died: same; nothing is kept of it, same; fault a.target.lib Device: same; nothing is kept of it, same; fault a.target.lib Device: same; nothing is kept of it, same; fault a.target.lib Device: same; nothing is kept of it, same; fault a.target.lib Device: same; nothing is kept of it, same; fault a.target.lib Device: same; nothing is kept of it, ",
+        told: "fault a.target.lib Device: same; `/w/a/src/n` has changed, fault a.target.lib Device: same; `/w/a/src/n` has changed, fault a.target.lib Device: same; `/w/a/src/n` has changed, fault a.target.lib Device: same; `/w/a/src/n` has changed, fault a.target.lib Device: same; nothing is kept of it, fault a.target.lib CannotStart: same; nothing is kept of it, fault b.target.script Device: same; nothing is kept of it, fault b.target.script Device: same; nothing is kept of it, fault b.target.script Device: same; nothing is kept of it, same; fault a.target.lib Died: same; nothing is kept of it, same; fault a.target.lib Device: same; nothing is kept of it, same; fault a.target.lib Device: same; nothing is kept of it, same; fault a.target.lib Device: same; nothing is kept of it, same; fault a.target.lib Device: same; nothing is kept of it, same; fault a.target.lib Device: same; nothing is kept of it, ",
     },
 ];
 

@@ -3,6 +3,7 @@
 ghost use Rattle.std.specs.Prelude.{◌≡◌, IfOk, IfSome, Some, true, slice_get};
 ghost use Rattle.pb_place.specs.Children.{is_flying};
 ghost use Rattle.pb_place.specs.Memory.{counts_in};
+ghost use Rattle.pb_run.specs.Halves.{child_of};
 ghost use Rattle.pb_run.specs.Standing.{IsCommandOf, IsInOrder, records_folder};
 
 use crate::units::ready::{Bench, Told};
@@ -11,7 +12,7 @@ use pb_mini::Mini;
 use pb_place::{Memory, Place};
 use pb_project::{Project, unit_at};
 use pb_run::{
-    Beginning, Begun, Ran, Run, answer_unit, begin_unit, drop_unit, lines_of_unit, run_unit,
+    Awaited, Beginning, Begun, Ran, Run, answer_unit, begin_unit, drop_unit, lines_of_unit, run_unit,
 };
 use pb_store::Difference;
 use pb_unit::Planned;
@@ -111,11 +112,11 @@ pub fn run(
 
 /// Whether the child of a unit that has begun is in flight, where it has one.
 fn is_aloft(place: &Memory<Mini>, begun: &Begun) -> bool
-    ensures { result ≡ true → IfSome begun.now.launched (λ launched. is_flying launched.ticket (counts_in place.now).starts.flying ≡ true) }
+    ensures { result ≡ true → IfSome (child_of begun.now) (λ launched. is_flying launched.ticket (counts_in place.now).starts.flying ≡ true) }
 {
-    match &begun.launched {
-        Some(launched) => place.flies(launched.ticket),
-        None => true,
+    match &begun.awaited {
+        Awaited::Child(launched) => place.flies(launched.ticket),
+        Awaited::Record(_) => true,
     }
 }
 

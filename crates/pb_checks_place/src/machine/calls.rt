@@ -1,10 +1,10 @@
 //! Calls on a place of real files, each with what it must answer.
 
 use crate::machine::folders::{finish, fresh, path_in};
-use pb_data::{Items, Text};
+use pb_data::{Bytes, Items, Text};
 use pb_host::HostPlace;
 use pb_place::{PathText, Place, PlaceFault};
-use std::alloc::Global;
+use std::alloc::{AllocError, Global};
 use std::os::unix::fs::symlink;
 use std::test::Fail;
 
@@ -13,35 +13,53 @@ use std::test::Fail;
 pub(crate) type Step = (&'static str, &'static str, &'static str, &'static str);
 
 /// The name of a fault.
-fn fault_text(alloc: Global, fault: PlaceFault) -> Result<Text, Fail> {
+fn fault_text(alloc: Global, fault: PlaceFault) -> Result<Text, AllocError> {
     Ok(Text::new(format!(in alloc; "{fault:?}")?))
 }
 
+/// The text of a file, `none`, or `wrong` where it is no text.
+fn found_text(alloc: Global, found: &Option<Bytes>) -> Result<Text, AllocError> {
+    let text = match found {
+        Some(bytes) => str::from_utf8(bytes.as_slice()).unwrap_or("wrong"),
+        None => "none",
+    };
+    Text::from_str(alloc, text)
+}
+
 /// The text of a file that is read, `none`, or the fault.
-fn read<P: Place>(alloc: Global, place: &mut P, path: &PathText) -> Result<Text, Fail> {
+fn read<P: Place>(alloc: Global, place: &mut P, path: &PathText) -> Result<Text, AllocError> {
     match place.read(alloc, path) {
-        Ok(Some(bytes)) => Ok(Text::new(String::from_utf8(bytes.into_vec())?)),
-        Ok(None) => Ok(Text::from_str(alloc, "none")?),
+        Ok(found) => found_text(alloc, &found),
         Err(fault) => fault_text(alloc, fault),
     }
 }
 
 /// The names of paths below a folder, each with a space after it.
-fn names(alloc: Global, folder: &PathText, paths: &Items<PathText>) -> Result<Text, Fail> {
+fn names(alloc: Global, folder: &str, paths: &[PathText]) -> Result<Text, AllocError> {
     let mut text = String::new(alloc);
-    for path in paths.as_slice() {
-        text.push_str(path.as_str().strip_prefix(folder.as_str()).unwrap_or("?"))?;
+    for path in paths {
+        text.push_str(path.as_str().strip_prefix(folder).unwrap_or("?"))?;
         text.push_str(" ")?;
     }
     Ok(Text::new(text))
 }
 
-/// The names that are listed, or the fault.
-fn list<P: Place>(alloc: Global, place: &mut P, folder: &PathText) -> Result<Text, Fail> {
-    match place.list(alloc, folder) {
-        Ok(paths) => names(alloc, folder, &paths),
-        Err(fault) => fault_text(alloc, fault),
+/// The names that were listed, or the fault.
+fn listed(
+    alloc: Global,
+    folder: &PathText,
+    answer: &Result<Items<PathText>, PlaceFault>,
+) -> Result<Text, AllocError> {
+    match answer {
+        Ok(paths) => names(alloc, folder.as_str(), paths.as_slice()),
+        Err(fault) => fault_text(alloc, *fault),
     }
+}
+
+/// The names that are listed, or the fault.
+fn list<P: Place>(alloc: Global, place: &mut P, folder: &PathText) -> Result<Text, AllocError> {
+    let answer = place.list(alloc, folder);
+    listed(alloc, folder, &answer)
 }
 
 /// The names that are listed outside the folder of this name, or the fault.
@@ -52,30 +70,30 @@ fn list_outside<P: Place>(
     left_out: &str,
 ) -> Result<Text, Fail> {
     let left_out = path_in(alloc, folder, left_out)?;
-    match place.list_outside(alloc, folder, &left_out) {
-        Ok(paths) => names(alloc, folder, &paths),
-        Err(fault) => fault_text(alloc, fault),
-    }
+    let answer = place.list_outside(alloc, folder, &left_out);
+    Ok(listed(alloc, folder, &answer)?)
 }
 
 /// The names that are listed directly, or the fault.
-fn list_directly<P: Place>(alloc: Global, place: &mut P, folder: &PathText) -> Result<Text, Fail> {
-    match place.list_directly(alloc, folder) {
-        Ok(paths) => names(alloc, folder, &paths),
-        Err(fault) => fault_text(alloc, fault),
-    }
+fn list_directly<P: Place>(
+    alloc: Global,
+    place: &mut P,
+    folder: &PathText,
+) -> Result<Text, AllocError> {
+    let answer = place.list_directly(alloc, folder);
+    listed(alloc, folder, &answer)
 }
 
 /// `done`, or the fault.
-fn done(alloc: Global, answer: Result<(), PlaceFault>) -> Result<Text, Fail> {
+fn done(alloc: Global, answer: Result<(), PlaceFault>) -> Result<Text, AllocError> {
     match answer {
-        Ok(()) => Ok(Text::from_str(alloc, "done")?),
+        Ok(()) => Text::from_str(alloc, "done"),
         Err(fault) => fault_text(alloc, fault),
     }
 }
 
 /// How many calls failed, and how many came since the last of them.
-fn counts<P: Place>(alloc: Global, place: &P) -> Result<Text, Fail> {
+fn counts<P: Place>(alloc: Global, place: &P) -> Result<Text, AllocError> {
     let (failures, late) = (place.failures(), place.late());
     Ok(Text::new(format!(in alloc; "{failures} {late}")?))
 }
@@ -89,13 +107,13 @@ fn call<P: Place>(
     text: &str,
 ) -> Result<Text, Fail> {
     match call {
-        "read" => read(alloc, place, path),
-        "list" => list(alloc, place, path),
+        "read" => Ok(read(alloc, place, path)?),
+        "list" => Ok(list(alloc, place, path)?),
         "outside" => list_outside(alloc, place, path, text),
-        "directly" => list_directly(alloc, place, path),
-        "write" => done(alloc, place.write(alloc, path, text.as_bytes())),
-        "remove" => done(alloc, place.remove_tree(alloc, path)),
-        "counts" => counts(alloc, place),
+        "directly" => Ok(list_directly(alloc, place, path)?),
+        "write" => Ok(done(alloc, place.write(alloc, path, text.as_bytes()))?),
+        "remove" => Ok(done(alloc, place.remove_tree(alloc, path))?),
+        "counts" => Ok(counts(alloc, place)?),
         _ => Err(Fail::from("no such call")),
     }
 }

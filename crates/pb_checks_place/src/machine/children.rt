@@ -1,12 +1,12 @@
 //! Children: how they end, and what they are given.
 
 use crate::machine::calls::{Step, carry_out_here};
-use crate::machine::commands::{program, said, shell, shell_in};
+use crate::machine::commands::{Around, program, said_here, shell, shell_around, shell_in};
 use crate::machine::folders::{finish, fresh, path_in};
 use pb_data::{Items, Text};
 use pb_host::HostPlace;
-use pb_place::{Command, Ended, PathText, Place};
-use std::alloc::Global;
+use pb_place::{Command, Ended, PathText, Place, PlaceFault, StartFault};
+use std::alloc::{AllocError, Global};
 use std::test::Fail;
 
 /// Compares what a command gave with what is wanted.
@@ -18,9 +18,8 @@ fn compare(given: &str, wanted: &str) -> Result<(), Fail> {
 }
 
 /// Tries what a command gives at a place of its own.
-fn gives(rt: &HostRuntime, command: &Command, wanted: &str) -> Result<(), Fail> {
-    let mut place = HostPlace::new(rt.alloc(), rt);
-    let given = said(rt.alloc(), &mut place, command)?;
+fn gives(rt: &HostRuntime, command: Command, wanted: &str) -> Result<(), Fail> {
+    let given = said_here(rt, command)?;
     compare(given.as_str(), wanted)
 }
 
@@ -39,7 +38,7 @@ const ENDS: &[(&str, &str)] = &[
 /// Tries what the shell gives when it is told this.
 fn shell_gives(rt: &HostRuntime, words: &str, wanted: &str) -> Result<(), Fail> {
     let command = shell(rt.alloc(), words)?;
-    gives(rt, &command, wanted)
+    gives(rt, command, wanted)
 }
 
 #[test]
@@ -57,7 +56,7 @@ const MISSING: &[&str] = &["/no/such/program", "no_such_program", "/", ""];
 /// Tries that a program of this name does not start.
 fn is_missing(rt: &HostRuntime, name: &str) -> Result<(), Fail> {
     let command = program(rt.alloc(), name)?;
-    gives(rt, &command, "CannotStart 1 1")
+    gives(rt, command, "CannotStart 1 1")
 }
 
 #[test]
@@ -69,10 +68,9 @@ fn programs_that_are_missing(rt: HostRuntime) -> Result<(), Fail> {
 }
 
 /// How a child ends at a place of its own.
-fn end(rt: &HostRuntime, command: &Command) -> Result<Ended, Fail> {
+fn end(rt: &HostRuntime, command: Command) -> Result<Ended, StartFault> {
     let mut place = HostPlace::new(rt.alloc(), rt);
-    let ended = place.start(rt.alloc(), command)?;
-    Ok(ended)
+    place.start(rt.alloc(), &command)
 }
 
 /// Whether each of the two streams of a child has so many bytes.
@@ -83,7 +81,7 @@ fn have_length(ended: &Ended, length: usize) -> bool {
 /// Whether the shell writes so many bytes to each stream when it is told this.
 fn shell_writes(rt: &HostRuntime, words: &str, length: usize) -> Result<bool, Fail> {
     let command = shell(rt.alloc(), words)?;
-    let ended = end(rt, &command)?;
+    let ended = end(rt, command)?;
     Ok(have_length(&ended, length))
 }
 
@@ -100,27 +98,37 @@ fn add_pair(
     pairs: &mut Items<(Text, Text)>,
     name: &str,
     value: &str,
-) -> Result<(), Fail> {
+) -> Result<(), AllocError> {
     let name = Text::from_str(alloc, name)?;
     let value = Text::from_str(alloc, value)?;
-    pairs.push((name, value))?;
-    Ok(())
+    pairs.push((name, value))
 }
 
 /// Pairs as texts.
-fn texts(alloc: Global, pairs: &[(&str, &str)]) -> Result<Items<(Text, Text)>, Fail> {
+fn texts(alloc: Global, pairs: &[(&str, &str)]) -> Result<Items<(Text, Text)>, AllocError> {
     let mut made = Items::new(alloc);
     for pair in pairs {
-        add_pair(alloc, &mut made, pair.0, pair.1)?;
+        let (name, value) = *pair;
+        add_pair(alloc, &mut made, name, value)?;
     }
     Ok(made)
 }
 
+/// The root with pairs.
+fn with_pairs(alloc: Global, pairs: &[(&str, &str)]) -> Result<Around, Fail> {
+    let folder = PathText::parse(alloc, "/")?;
+    let pairs = texts(alloc, pairs)?;
+    Ok(Around {
+        folder,
+        pairs,
+        out: None,
+    })
+}
+
 /// A command of the shell with pairs.
 fn shell_with(alloc: Global, words: &str, pairs: &[(&str, &str)]) -> Result<Command, Fail> {
-    let pairs = texts(alloc, pairs)?;
-    let command = shell(alloc, words)?;
-    Ok(Command { pairs, ..command })
+    let around = with_pairs(alloc, pairs)?;
+    Ok(shell_around(alloc, words, around)?)
 }
 
 /// Tries what the shell gives with pairs.
@@ -131,7 +139,7 @@ fn shell_gives_with(
     wanted: &str,
 ) -> Result<(), Fail> {
     let command = shell_with(rt.alloc(), words, pairs)?;
-    gives(rt, &command, wanted)
+    gives(rt, command, wanted)
 }
 
 #[test]
@@ -141,10 +149,9 @@ fn pairs_go_over_inherited_variables(rt: HostRuntime) -> Result<(), Fail> {
 }
 
 /// The value of a variable at a place of its own.
-fn variable(rt: &HostRuntime, name: &str) -> Result<Option<Text>, Fail> {
+fn variable(rt: &HostRuntime, name: &str) -> Result<Option<Text>, PlaceFault> {
     let mut place = HostPlace::new(rt.alloc(), rt);
-    let value = place.variable(rt.alloc(), name)?;
-    Ok(value)
+    place.variable(rt.alloc(), name)
 }
 
 #[test]
@@ -175,7 +182,7 @@ fn gives_in(
     let folder = path_in(rt.alloc(), root, folder)?;
     let out = path_in(rt.alloc(), root, out)?;
     let command = shell_in(rt.alloc(), "echo x > out/made/f", folder, Some(out))?;
-    gives(rt, &command, wanted)
+    gives(rt, command, wanted)
 }
 
 const LEFT: &[Step] = &[("list", "", "", "/out/made/f ")];

@@ -2,21 +2,31 @@
 
 use crate::machine::broken::Broken;
 use crate::machine::calls::{Step, carry_out, carry_out_here};
-use crate::machine::commands::{said, shell, shell_in};
+use crate::machine::commands::{said, said_here, shell, shell_in};
 use crate::machine::folders::{finish, fresh, path_in};
 use pb_host::{HostPlace, HostView};
 use pb_place::{Command, PathText, Place, PlaceFault, View, ViewFault};
-use std::alloc::Global;
+use std::alloc::{AllocError, Global};
 use std::fs;
 use std::io::ErrorKind;
 use std::test::Fail;
+
+/// Carries steps out on a machine.
+fn carry_out_on(
+    rt: &HostRuntime,
+    machine: &Broken,
+    root: &PathText,
+    steps: &[Step],
+) -> Result<(), Fail> {
+    let mut place = HostPlace::new(rt.alloc(), machine);
+    carry_out(rt, &mut place, root, steps)
+}
 
 /// Carries steps out on a machine whose every call fails so.
 fn try_broken(rt: &HostRuntime, kind: ErrorKind, steps: &[Step]) -> Result<(), Fail> {
     let root = PathText::parse(rt.alloc(), "/a")?;
     let machine = Broken::new(rt.alloc(), kind);
-    let mut place = HostPlace::new(rt.alloc(), &machine);
-    carry_out(rt, &mut place, &root, steps)
+    carry_out_on(rt, &machine, &root, steps)
 }
 
 const OWN_FAULTS: &[Step] = &[
@@ -54,7 +64,7 @@ fn errors_of_a_machine(rt: HostRuntime) -> Result<(), Fail> {
 }
 
 /// What the start of a child gives on a machine.
-fn given(alloc: Global, machine: &Broken, child: &Command) -> Result<String, Fail> {
+fn given(alloc: Global, machine: &Broken, child: Command) -> Result<String, AllocError> {
     let mut place = HostPlace::new(alloc, machine);
     said(alloc, &mut place, child)
 }
@@ -62,7 +72,7 @@ fn given(alloc: Global, machine: &Broken, child: &Command) -> Result<String, Fai
 /// Whether the start of a child gives this on a machine.
 fn start_gives(alloc: Global, machine: &Broken, wanted: &str) -> Result<bool, Fail> {
     let child = shell(alloc, "exit 0")?;
-    let found = given(alloc, machine, &child)?;
+    let found = given(alloc, machine, child)?;
     Ok(found.as_str() == wanted)
 }
 
@@ -125,18 +135,12 @@ fn views(rt: HostRuntime) -> Result<(), Fail> {
     Ok(())
 }
 
-/// What a child does, whatever it gives.
-fn start(rt: &HostRuntime, child: &Command) -> Result<(), Fail> {
-    let mut place = HostPlace::new(rt.alloc(), rt);
-    said(rt.alloc(), &mut place, child)?;
-    Ok(())
-}
-
-/// What the shell does in a folder.
+/// What the shell does in a folder, whatever it gives.
 fn in_folder(rt: &HostRuntime, folder: &PathText, words: &str) -> Result<(), Fail> {
     let folder = path_in(rt.alloc(), folder, ".")?;
     let child = shell_in(rt.alloc(), words, folder, None)?;
-    start(rt, &child)
+    said_here(rt, child)?;
+    Ok(())
 }
 
 const SHUT: &[Step] = &[("write", "f", "x", "Write"), ("read", "f", "", "none")];

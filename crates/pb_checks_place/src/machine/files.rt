@@ -3,7 +3,7 @@
 use crate::machine::calls::{Step, try_steps};
 use crate::machine::folders::{finish, fresh, path_in};
 use pb_host::HostPlace;
-use pb_place::{PathText, Place};
+use pb_place::{PathText, Place, PlaceFault};
 use std::alloc::{AllocError, Global};
 use std::test::Fail;
 
@@ -92,19 +92,34 @@ fn deep_path(alloc: Global, root: &PathText, folders: u8) -> Result<PathText, Fa
 }
 
 /// Whether a folder is listed, once a file is written below it.
-fn lists(rt: &HostRuntime, root: &PathText, path: &PathText) -> Result<bool, Fail> {
+fn lists<P: Place>(
+    alloc: Global,
+    place: &mut P,
+    root: &PathText,
+    path: &PathText,
+) -> Result<bool, PlaceFault> {
+    place.write(alloc, path, b"")?;
+    Ok(place.list(alloc, root).is_ok())
+}
+
+/// The same at a place of its own.
+fn lists_here(rt: &HostRuntime, root: &PathText, path: &PathText) -> Result<bool, PlaceFault> {
     let mut place = HostPlace::new(rt.alloc(), rt);
-    place.write(rt.alloc(), path, b"")?;
-    Ok(place.list(rt.alloc(), root).is_ok())
+    lists(rt.alloc(), &mut place, root, path)
 }
 
 /// Whether a folder is listed below which a file lies in so many folders.
+fn lists_below(rt: &HostRuntime, root: &PathText, folders: u8) -> Result<bool, Fail> {
+    let path = deep_path(rt.alloc(), root, folders)?;
+    let is_listed = lists_here(rt, root, &path)?;
+    finish(rt, root)?;
+    Ok(is_listed)
+}
+
+/// The same in a folder of its own.
 fn lists_nested(rt: &HostRuntime, folders: u8) -> Result<bool, Fail> {
     let root = fresh(rt, "nested")?;
-    let path = deep_path(rt.alloc(), &root, folders)?;
-    let is_listed = lists(rt, &root, &path)?;
-    finish(rt, &root)?;
-    Ok(is_listed)
+    lists_below(rt, &root, folders)
 }
 
 /// How many folders lie one in another, and whether the listing bears it.

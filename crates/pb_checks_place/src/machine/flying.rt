@@ -1,5 +1,6 @@
 //! Children in flight on the machine: waited for in another order, killed, with much to say.
 
+use crate::flights::launch;
 use crate::machine::commands::{program, shell};
 use pb_host::HostPlace;
 use pb_place::{Ended, Place, StartFault};
@@ -11,8 +12,7 @@ type End = Option<(i32, usize)>;
 /// Spawns a child that the shell carries out.
 fn spawn(rt: &HostRuntime, place: &mut HostPlace<HostRuntime>, words: &str) -> Result<u64, Fail> {
     let command = shell(rt.alloc(), words)?;
-    let ticket = place.spawn(rt.alloc(), &command)?;
-    Ok(ticket)
+    Ok(launch(rt.alloc(), place, command)?)
 }
 
 /// What is told of an end.
@@ -37,7 +37,7 @@ fn finish(rt: &HostRuntime, place: &mut HostPlace<HostRuntime>, ticket: u64) -> 
 /// Whether a program that is not there does not start.
 fn misses(rt: &HostRuntime, place: &mut HostPlace<HostRuntime>) -> Result<bool, Fail> {
     let missing = program(rt.alloc(), "/no/such/program")?;
-    Ok(place.spawn(rt.alloc(), &missing) == Err(StartFault::CannotStart))
+    Ok(launch(rt.alloc(), place, missing) == Err(StartFault::CannotStart))
 }
 
 /// The ends of two children in flight at one time, of which the second is waited for first.

@@ -11,17 +11,25 @@ pub(crate) fn path_in(alloc: Global, folder: &PathText, name: &str) -> Result<Pa
     Ok(path)
 }
 
-/// An empty folder for a test.
-pub(crate) fn fresh(rt: &HostRuntime, name: &str) -> Result<PathText, Fail> {
-    let alloc = rt.alloc();
+/// Where a test's folder lies.
+fn place_of(rt: &HostRuntime, name: &str) -> Result<String, Fail> {
     let all = env::temp_dir(rt)?;
     let number = process::id(rt.process());
-    let text = format!(in alloc; "{}/pb_checks_place-{number}-{name}", all.as_str())?;
+    Ok(format!(in rt.alloc(); "{}/pb_checks_place-{number}-{name}", all.as_str())?)
+}
+
+/// An empty folder there.
+fn emptied(rt: &HostRuntime, text: &str) -> Result<PathText, Fail> {
     // what a run with this number left that was cut off
-    let _ = fs::remove_dir_all(rt, text.as_str());
-    fs::create_dir_all(rt, text.as_str())?;
-    let folder = PathText::parse(alloc, text.as_str())?;
-    Ok(folder)
+    let _ = fs::remove_dir_all(rt, text);
+    fs::create_dir_all(rt, text)?;
+    Ok(PathText::parse(rt.alloc(), text)?)
+}
+
+/// An empty folder for a test.
+pub(crate) fn fresh(rt: &HostRuntime, name: &str) -> Result<PathText, Fail> {
+    let text = place_of(rt, name)?;
+    emptied(rt, text.as_str())
 }
 
 /// Takes a test's folder away.

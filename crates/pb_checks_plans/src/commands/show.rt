@@ -3,7 +3,8 @@
 use pb_data::{Items, Text};
 use pb_directive::Directives;
 use pb_place::{Command, PathText};
-use pb_project::{Answered, InputName, UnitFault};
+use pb_project::{Answered, UnitFault};
+use pb_record::InputName;
 use std::alloc::Global;
 use std::test::Fail;
 

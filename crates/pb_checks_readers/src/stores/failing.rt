@@ -73,7 +73,6 @@ const TRIALS: &[(&str, &str, &str)] = &[
         "differs",
         "a file could not be read: same, a file could not be read: same, a file could not be read: same, a folder could not be listed: same, a file could not be read: same, a variable could not be read: same, a variable could not be read: same, a folder could not be listed: same, a file could not be read: same, ",
     ),
-    ("", "replay", "a file could not be read: same, "),
     ("", "drop", "a file or folder could not be removed: same, "),
     (
         "file /t/debug/a.target.lib.record/x",

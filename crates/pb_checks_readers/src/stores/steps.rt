@@ -5,8 +5,8 @@ use crate::stores::world::{put_file, put_first, replaced, take_away, text_at};
 use pb_data::Items;
 use pb_mini::Mini;
 use pb_place::{Command, Memory, PathText};
-use pb_project::InputName;
-use pb_store::{Replayed, Store};
+use pb_record::InputName;
+use pb_store::{Compared, Replayed, Store};
 use std::alloc::Global;
 use std::test::Fail;
 
@@ -44,8 +44,8 @@ fn tell_difference(
 ) -> Result<String, Fail> {
     let key = own_key(alloc)?;
     match store.differs(alloc, place, &key, command) {
-        Ok(Some(difference)) => Ok(format!(in alloc; "{difference}")?),
-        Ok(None) => Ok(String::from_str(alloc, "same")?),
+        Ok(Compared::Differs(difference)) => Ok(format!(in alloc; "{difference}")?),
+        Ok(Compared::Same(_)) => Ok(String::from_str(alloc, "same")?),
         Err(fault) => Ok(format!(in alloc; "{fault}")?),
     }
 }
@@ -115,21 +115,22 @@ fn tell_keep(
     )
 }
 
-/// What is given again, in words: the streams, and how many inputs there are.
+/// What is given again, in words: the streams, the status, and whether the record has a number.
 fn replay_words(alloc: Global, again: &Replayed) -> Result<String, Fail> {
     let stdout = str::from_utf8(again.ended.stdout.as_slice()).unwrap_or("wrong");
     let stderr = str::from_utf8(again.ended.stderr.as_slice()).unwrap_or("wrong");
     let status = again.ended.status;
-    let inputs = again.inputs.len();
-    Ok(format!(in alloc; "{stdout} {stderr} {status} {inputs}")?)
+    let numbered = if again.numbered { "numbered" } else { "without number" };
+    Ok(format!(in alloc; "{stdout} {stderr} {status} {numbered}")?)
 }
 
-/// What giving the unit's answer again tells.
+/// What the unit's record gives again, or what differs from it.
 fn tell_replay(alloc: Global, place: &mut Memory<Mini>, store: &Store) -> Result<String, Fail> {
     let key = own_key(alloc)?;
-    match store.replay(alloc, place, &key) {
-        Ok(Some(again)) => replay_words(alloc, &again),
-        Ok(None) => Ok(String::from_str(alloc, "none")?),
+    let command = command_with(alloc, "", "")?;
+    match store.differs(alloc, place, &key, &command) {
+        Ok(Compared::Same(again)) => replay_words(alloc, &again),
+        Ok(Compared::Differs(difference)) => Ok(format!(in alloc; "{difference}")?),
         Err(fault) => Ok(format!(in alloc; "{fault}")?),
     }
 }

@@ -229,17 +229,23 @@ fn numbers_are_next(rt: HostRuntime) -> Result<(), Fail> {
 
 /// Records that are dropped, kept, given again and migrated.
 const RECORDS: &[(&str, &str)] = &[
-    ("replay", "out err 0 4, "),
-    ("first\nreplay", "out err 0 4, "),
-    ("gone /t/debug/a.target.lib.record\nreplay", "none, "),
-    ("edit /t/debug/a.target.lib.record _a _c\nreplay", "none, "),
+    ("replay", "out err 0 numbered, "),
+    ("first\nreplay", "out err 0 without number, "),
+    (
+        "gone /t/debug/a.target.lib.record\nreplay",
+        "nothing is kept of it, ",
+    ),
+    (
+        "edit /t/debug/a.target.lib.record _a _c\nreplay",
+        "nothing is kept of it, ",
+    ),
     (
         "drop\ndiffers\nreplay",
-        "dropped 8, nothing is kept of it, none, ",
+        "dropped 8, nothing is kept of it, nothing is kept of it, ",
     ),
     (
         "drop\nkeep 8\ndiffers\nreplay\nopen",
-        "dropped 8, kept, same, out err 0 4, next 9, ",
+        "dropped 8, kept, same, out err 0 numbered, next 9, ",
     ),
     (
         "drop\nkeep 8\nshow /t/debug/a.target.lib.record",
@@ -255,7 +261,7 @@ const RECORDS: &[(&str, &str)] = &[
     ),
     (
         "first\nmigrate\nreplay\ndrop",
-        "migrated, out err 0 4, dropped 9, ",
+        "migrated, out err 0 numbered, dropped 9, ",
     ),
     (
         "migrate\nopen\ndiffers\ndrop",
@@ -287,7 +293,10 @@ fn spent(alloc: Global, steps: &str) -> Result<String, Fail> {
 
 /// Steps where no number is left.
 const SPENT: &[(&str, &str)] = &[
-    ("drop\nreplay", "no run number is left, out err 0 4, "),
+    (
+        "drop\nreplay",
+        "no run number is left, out err 0 numbered, ",
+    ),
     ("gone /t\ndrop", "no run number is left, "),
     (
         "first\nmigrate\ndiffers\nopen",

@@ -1,7 +1,7 @@
 use Rattle.std.proofs.Common.{◌≡◌, ◌++◌, map, filter}
 use Rattle.std.specs.Vec.Iter.{into_iter_items}
 use Rattle.pb_command.specs.Answers.{is_source}
-use Rattle.pb_project.specs.declared.answer.InputName.TheVariants.{Path}
+use Rattle.pb_record.specs.declared.record.InputName.TheVariants.{Path}
 use Rattle.pb_command.proofs.input_names.push_sources.Given as goal
 
 abbrev pub invariant-loop-path : goal.invariant-loop-path

@@ -1,6 +1,6 @@
 use Rattle.std.proofs.Common.{◌≡◌, ◌++◌, map}
 use Rattle.std.specs.Vec.Iter.{into_iter_items}
-use Rattle.pb_project.specs.declared.answer.InputName.TheVariants.{Variable}
+use Rattle.pb_record.specs.declared.record.InputName.TheVariants.{Variable}
 use Rattle.pb_command.proofs.input_names.push_variables.Given as goal
 
 abbrev pub invariant-loop-name : goal.invariant-loop-name

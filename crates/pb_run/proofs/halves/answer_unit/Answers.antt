@@ -1,8 +1,9 @@
-use Rattle.std.proofs.Common.{◌∙◌, Option, Some, None, ap, subst}
+use Rattle.std.proofs.Common.{◌∙◌, ap, subst}
 use Rattle.pb_place.specs.Children.{child_at}
 use Rattle.pb_place.specs.Counts.{Starts}
-use Rattle.pb_run.specs.Halves.{WritesTo, basis}
-use Rattle.pb_run.specs.declared.begun.Launched.{Launched}
+use Rattle.pb_run.specs.Halves.{WritesTo, basis, child_in, child_of}
+use Rattle.pb_run.specs.declared.begun.Awaited.{Awaited}
+use Rattle.pb_run.specs.declared.begun.Awaited.TheVariants as awaited
 use Rattle.pb_run.proofs.Kept.{flying_answer}
 use Rattle.pb_run.proofs.Reusing.{can_by_parts, flying_alone, no_child}
 use Rattle.pb_run.proofs.Writes.{stays_apart}
@@ -10,36 +11,36 @@ use Rattle.pb_run.proofs.halves.answer_unit.Goals as goal
 
 pub returns-in-Ok-clause-keeps : goal.returns-in-Ok-clause-keeps
 returns-in-Ok-clause-keeps g c footing read setup sources states done is told can =
-    c.in-Ok.ensures.keeps footing read setup sources states done is told (can_by_parts (basis footing read g.P.Place.child setup c.args.project.now sources) c.args.index c.args.begun c.args.store.now.next (g.P.Place.world c.args.place.now) (g.P.Place.counts c.args.place.now).starts.flying (g.P.Place.still c.args.place.now) c.args.unit.now.key (Some c.in-Some.launched) c.requires.named c.in-Some.is states done c.args.unit.now can)
+    c.in-Ok.ensures.keeps footing read setup sources states done is told (can_by_parts (basis footing read g.P.Place.child setup c.args.project.now sources) c.args.index c.args.begun c.args.store.now.next (g.P.Place.world c.args.place.now) (g.P.Place.counts c.args.place.now).starts.flying (g.P.Place.still c.args.place.now) c.args.unit.now.key (awaited.Child c.in-Child.launched) c.requires.named c.in-Child.is states done c.args.unit.now can)
 
 pub returns-in-Ok-clause-only : goal.returns-in-Ok-clause-only
 returns-in-Ok-clause-only g c told writes =
-    c.in-Ok.ensures.only told (subst (λ (o : Option Launched). WritesTo c.args.unit.now.out o (g.P.Place.counts c.args.place.now).starts.flying) c.in-Some.is writes)
+    c.in-Ok.ensures.only told (subst (λ (o : Awaited). WritesTo c.args.unit.now.out (child_in o) (g.P.Place.counts c.args.place.now).starts.flying) c.in-Child.is writes)
 
-pub returns-in-Some-clause-keeps : goal.returns-in-Some-clause-keeps
-returns-in-Some-clause-keeps g c footing read setup sources states done is told can =
-    c.in-Err.ensures.keeps footing read setup sources states done is told (can_by_parts (basis footing read g.P.Place.child setup c.args.project.now sources) c.args.index c.args.begun c.args.store.now.next (g.P.Place.world c.args.place.now) (g.P.Place.counts c.args.place.now).starts.flying (g.P.Place.still c.args.place.now) c.args.unit.now.key (Some c.in-Some.launched) c.requires.named c.in-Some.is states done c.args.unit.now can)
+pub returns-in-Child-clause-keeps : goal.returns-in-Child-clause-keeps
+returns-in-Child-clause-keeps g c footing read setup sources states done is told can =
+    c.in-Err.ensures.keeps footing read setup sources states done is told (can_by_parts (basis footing read g.P.Place.child setup c.args.project.now sources) c.args.index c.args.begun c.args.store.now.next (g.P.Place.world c.args.place.now) (g.P.Place.counts c.args.place.now).starts.flying (g.P.Place.still c.args.place.now) c.args.unit.now.key (awaited.Child c.in-Child.launched) c.requires.named c.in-Child.is states done c.args.unit.now can)
 
-pub returns-in-Some-clause-only : goal.returns-in-Some-clause-only
-returns-in-Some-clause-only g c told writes =
-    c.in-Err.ensures.only told (subst (λ (o : Option Launched). WritesTo c.args.unit.now.out o (g.P.Place.counts c.args.place.now).starts.flying) c.in-Some.is writes)
+pub returns-in-Child-clause-only : goal.returns-in-Child-clause-only
+returns-in-Child-clause-only g c told writes =
+    c.in-Err.ensures.only told (subst (λ (o : Awaited). WritesTo c.args.unit.now.out (child_in o) (g.P.Place.counts c.args.place.now).starts.flying) c.in-Child.is writes)
 
 pub returns-in-Ok-reuse-clause-keeps : goal.returns-in-Ok-reuse-clause-keeps
 returns-in-Ok-reuse-clause-keeps g c footing read setup sources states done is told can =
-    c.in-Ok-reuse.ensures.keeps footing read setup sources states done is told (can_by_parts (basis footing read g.P.Place.child setup c.args.project.now sources) c.args.index c.args.begun c.args.store.now.next (g.P.Place.world c.args.place.now) (g.P.Place.counts c.args.place.now).starts.flying (g.P.Place.still c.args.place.now) c.args.unit.now.key None c.requires.named c.in-None.is states done c.args.unit.now can)
+    c.in-Ok-reuse.ensures.keeps footing read setup sources states done is told (can_by_parts (basis footing read g.P.Place.child setup c.args.project.now sources) c.args.index c.args.begun c.args.store.now.next (g.P.Place.world c.args.place.now) (g.P.Place.counts c.args.place.now).starts.flying (g.P.Place.still c.args.place.now) c.args.unit.now.key (awaited.Record c.in-Record.again) c.requires.named c.in-Record.is states done c.args.unit.now can)
 
 pub returns-clause-keeps : goal.returns-clause-keeps
 returns-clause-keeps g c footing read setup sources states done is told can =
-    c.in-Err-reuse.ensures.keeps footing read setup sources states done is told (can_by_parts (basis footing read g.P.Place.child setup c.args.project.now sources) c.args.index c.args.begun c.args.store.now.next (g.P.Place.world c.args.place.now) (g.P.Place.counts c.args.place.now).starts.flying (g.P.Place.still c.args.place.now) c.args.unit.now.key None c.requires.named c.in-None.is states done c.args.unit.now can)
+    c.in-Err-reuse.ensures.keeps footing read setup sources states done is told (can_by_parts (basis footing read g.P.Place.child setup c.args.project.now sources) c.args.index c.args.begun c.args.store.now.next (g.P.Place.world c.args.place.now) (g.P.Place.counts c.args.place.now).starts.flying (g.P.Place.still c.args.place.now) c.args.unit.now.key (awaited.Record c.in-Record.again) c.requires.named c.in-Record.is states done c.args.unit.now can)
 
 pub returns-in-Ok-clause-stay : goal.returns-in-Ok-clause-stay
 returns-in-Ok-clause-stay g c ticket its apart there =
-    stays_apart c.args.begun.launched c.in-Some.launched c.in-Some.is (g.P.Place.counts c.args.place.now).starts.flying (g.P.Place.counts c.land.new.place).starts.flying ticket its (ap (λ (s : Starts). s.flying) c.in-Ok.ensures.takes.1) apart there
+    stays_apart (child_of c.args.begun) c.in-Child.launched (ap child_in c.in-Child.is) (g.P.Place.counts c.args.place.now).starts.flying (g.P.Place.counts c.land.new.place).starts.flying ticket its (ap (λ (s : Starts). s.flying) c.in-Ok.ensures.takes.1) apart there
 
-pub returns-in-Some-clause-stay : goal.returns-in-Some-clause-stay
-returns-in-Some-clause-stay g c ticket its apart there =
-    stays_apart c.args.begun.launched c.in-Some.launched c.in-Some.is (g.P.Place.counts c.args.place.now).starts.flying (g.P.Place.counts c.land.new.place).starts.flying ticket its
-    (flying_answer c.args.store.now.next c.args.unit.now.key c.in-Some.launched _ (g.P.Place.counts c.args.place.now).starts (g.P.Place.counts c.land.new.place).starts c.in-Err.ensures.takes.0) apart there
+pub returns-in-Child-clause-stay : goal.returns-in-Child-clause-stay
+returns-in-Child-clause-stay g c ticket its apart there =
+    stays_apart (child_of c.args.begun) c.in-Child.launched (ap child_in c.in-Child.is) (g.P.Place.counts c.args.place.now).starts.flying (g.P.Place.counts c.land.new.place).starts.flying ticket its
+    (flying_answer c.args.store.now.next c.args.unit.now.key c.in-Child.launched _ (g.P.Place.counts c.args.place.now).starts (g.P.Place.counts c.land.new.place).starts c.in-Err.ensures.takes.0) apart there
 
 pub returns-in-Ok-reuse-clause-stay : goal.returns-in-Ok-reuse-clause-stay
 returns-in-Ok-reuse-clause-stay g c ticket its apart there = ap (child_at ticket) (ap (λ (s : Starts). s.flying) c.in-Ok-reuse.ensures.takes.1) ∙ there
@@ -49,10 +50,10 @@ returns-clause-stay g c ticket its apart there =
     ap (child_at ticket) (flying_alone c.args.store.now.next c.args.unit.now.key _ (g.P.Place.counts c.args.place.now).starts (g.P.Place.counts c.reuse.new.place).starts c.in-Err-reuse.ensures.takes.0) ∙ there
 
 pub returns-in-Ok-clause-same : goal.returns-in-Ok-clause-same
-returns-in-Ok-clause-same g c read is told none has = no_child c.in-Some.launched c.args.begun.launched _ c.in-Some.is none
+returns-in-Ok-clause-same g c read is told none has = no_child c.in-Child.launched (child_of c.args.begun) _ (ap child_in c.in-Child.is) none
 
-pub returns-in-Some-clause-same : goal.returns-in-Some-clause-same
-returns-in-Some-clause-same g c read is told none has = no_child c.in-Some.launched c.args.begun.launched _ c.in-Some.is none
+pub returns-in-Child-clause-same : goal.returns-in-Child-clause-same
+returns-in-Child-clause-same g c read is told none has = no_child c.in-Child.launched (child_of c.args.begun) _ (ap child_in c.in-Child.is) none
 
 pub returns-in-Ok-reuse-clause-same : goal.returns-in-Ok-reuse-clause-same
 returns-in-Ok-reuse-clause-same g c read is told none has = c.reuse.ensures.same read is told has

@@ -1,12 +1,12 @@
 use Rattle.std.proofs.Common.{◌∙◌, Bool, slice_set, sym, subst}
 use Rattle.pb_flight.specs.declared.flight.State.TheVariants as state
 use Rattle.pb_run.specs.Causes.{RunsBy}
-use Rattle.pb_run.specs.Halves.{basis}
+use Rattle.pb_run.specs.Halves.{basis, child_of}
 use Rattle.pb_run.proofs.InTurn.{answer_tells, both_run, can_answer, keeps_once, lifted_flies, number_kept}
 use Rattle.pb_run.proofs.halves.run_unit.Goals as goal
 
 pub answer_unit-requires-clause-flies : goal.answer_unit-requires-clause-flies
-answer_unit-requires-clause-flies g c = lifted_flies c.in-Ok.made.begun.launched (g.P.Place.counts c.args.place.now).starts (g.P.Place.counts c.begin_unit.new.place).starts c.in-Ok.ensures.takes.1
+answer_unit-requires-clause-flies g c = lifted_flies (child_of c.in-Ok.made.begun) (g.P.Place.counts c.args.place.now).starts (g.P.Place.counts c.begin_unit.new.place).starts c.in-Ok.ensures.takes.1
 
 pub returns-in-Ok-answer_unit-clause-outcome : goal.returns-in-Ok-answer_unit-clause-outcome
 returns-in-Ok-answer_unit-clause-outcome g c footing read sources states is told can =
@@ -34,10 +34,10 @@ pub returns-in-Ok-answer_unit-clause-takes : goal.returns-in-Ok-answer_unit-clau
 returns-in-Ok-answer_unit-clause-takes g c = (
   c.in-Ok-answer_unit.ensures.takes.0 ∙ c.in-Ok.ensures.takes.0,
   subst (λ (flag : Bool). RunsBy flag (g.P.Place.counts c.args.place.now).starts (g.P.Place.counts c.answer_unit.new.place).starts) (sym c.in-Ok-answer_unit.ensures.started)
-      (both_run c.in-Ok.made.begun.launched (g.P.Place.counts c.args.place.now).starts (g.P.Place.counts c.begin_unit.new.place).starts (g.P.Place.counts c.answer_unit.new.place).starts c.in-Ok.ensures.takes.1 c.in-Ok-answer_unit.ensures.takes.1),
+      (both_run (child_of c.in-Ok.made.begun) (g.P.Place.counts c.args.place.now).starts (g.P.Place.counts c.begin_unit.new.place).starts (g.P.Place.counts c.answer_unit.new.place).starts c.in-Ok.ensures.takes.1 c.in-Ok-answer_unit.ensures.takes.1),
 )
 
 pub returns-in-Err-answer_unit-clause-takes : goal.returns-in-Err-answer_unit-clause-takes
 returns-in-Err-answer_unit-clause-takes g c =
-    answer_tells c.args.store.now.next c.begin_unit.new.store.next c.args.unit.now.key c.in-Ok.made.begun.launched c.in-Err-answer_unit.fault (g.P.Place.counts c.args.place.now) (g.P.Place.counts c.begin_unit.new.place) (g.P.Place.counts c.answer_unit.new.place)
-    c.in-Ok.ensures.takes (number_kept c.args.store.now.next c.begin_unit.new.store.next c.in-Ok.made.begun.launched _ c.in-Ok.ensures.number) c.in-Err-answer_unit.ensures.takes
+    answer_tells c.args.store.now.next c.begin_unit.new.store.next c.args.unit.now.key (child_of c.in-Ok.made.begun) c.in-Err-answer_unit.fault (g.P.Place.counts c.args.place.now) (g.P.Place.counts c.begin_unit.new.place) (g.P.Place.counts c.answer_unit.new.place)
+    c.in-Ok.ensures.takes (number_kept c.args.store.now.next c.begin_unit.new.store.next (child_of c.in-Ok.made.begun) _ c.in-Ok.ensures.number) c.in-Err-answer_unit.ensures.takes

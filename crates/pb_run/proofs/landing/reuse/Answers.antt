@@ -3,32 +3,41 @@ use Rattle.pb_command.specs.Judge.{judge}
 use Rattle.pb_place.specs.Counts.{Starts}
 use Rattle.pb_run.specs.Halves.{basis}
 use Rattle.pb_run.specs.Standing.{records_folder}
-use Rattle.pb_run.proofs.Reusing.{bad_unstarted, flying_alone, flying_follow, keeps_bad_again, keeps_renewed, keeps_unrenewed, keys_needed, others_renewed, others_unchanged, renewed_outcome, renewed_so, renewing_so, replay_outcome, reused_only, reused_same, reused_still}
+use Rattle.pb_run.proofs.Reusing.{flying_alone, flying_follow, keeps_bad_again, keeps_numbered, keeps_renewed, keeps_unrenewed, keys_needed, others_renewed, others_unchanged, renewed_outcome, renewed_so, renewing_so, replay_outcome, reused_only, reused_same, reused_still}
 use Rattle.pb_run.proofs.landing.reuse.Goals as goal
 
 pub returns-in-Err-clause-others : goal.returns-in-Err-clause-others
 returns-in-Err-clause-others g c footing read setup sources states done other its is told can apart =
-    others_unchanged (basis footing read g.P.Place.child setup c.args.project.now sources) c.requires.order c.args.index c.args.unit.now c.requires.unit c.args.unit.now.key c.args.command.now c.args.store.now.next (g.P.Place.world c.args.place.now) (g.P.Place.counts c.args.place.now).starts.flying (g.P.Place.still c.args.place.now) states done can other its (g.P.Place.world c.replay.new.place) (g.P.Place.counts c.replay.new.place).starts.flying (g.P.Place.still c.replay.new.place) apart (c.in-Err.ensures.same told)
-    (flying_follow c.args.unit.now.key _ (g.P.Place.counts c.args.place.now).starts (g.P.Place.counts c.replay.new.place).starts c.in-Err.ensures.takes.0) (c.in-Err.ensures.still told)
-
-pub returns-in-Err-judged_now-clause-others : goal.returns-in-Err-judged_now-clause-others
-returns-in-Err-judged_now-clause-others g c footing read setup sources states done other its is told can apart =
-    others_unchanged (basis footing read g.P.Place.child setup c.args.project.now sources) c.requires.order c.args.index c.args.unit.now c.requires.unit c.args.unit.now.key c.args.command.now c.args.store.now.next (g.P.Place.world c.args.place.now) (g.P.Place.counts c.args.place.now).starts.flying (g.P.Place.still c.args.place.now) states done can other its (g.P.Place.world c.judged_now.new.place) (g.P.Place.counts c.judged_now.new.place).starts.flying (g.P.Place.still c.judged_now.new.place) apart (c.in-Err-judged_now.ensures.same told ∙ c.in-Ok.ensures.same told)
-    (flying_follow c.args.unit.now.key _ (g.P.Place.counts c.replay.new.place).starts (g.P.Place.counts c.judged_now.new.place).starts c.in-Err-judged_now.ensures.takes.0 ∙ ap (λ (s : Starts). s.flying) c.in-Ok.ensures.takes.1) (λ t stood. c.in-Err-judged_now.ensures.still told t (c.in-Ok.ensures.still told t stood))
+    others_unchanged (basis footing read g.P.Place.child setup c.args.project.now sources) c.requires.order c.args.index c.args.unit.now c.requires.unit c.args.unit.now.key c.args.command.now c.args.again.now c.args.store.now.next (g.P.Place.world c.args.place.now) (g.P.Place.counts c.args.place.now).starts.flying (g.P.Place.still c.args.place.now) states done can other its (g.P.Place.world c.judged_now.new.place) (g.P.Place.counts c.judged_now.new.place).starts.flying (g.P.Place.still c.judged_now.new.place) apart (c.in-Err.ensures.same told)
+    (flying_follow c.args.unit.now.key _ (g.P.Place.counts c.args.place.now).starts (g.P.Place.counts c.judged_now.new.place).starts c.in-Err.ensures.takes.0) (c.in-Err.ensures.still told)
 
 pub returns-then-is_some-clause-outcome : goal.returns-then-is_some-clause-outcome
 returns-then-is_some-clause-outcome g c footing read setup sources states done is told can =
-    replay_outcome (basis footing read g.P.Place.child setup c.args.project.now sources) c.requires.order c.args.index c.args.unit.now c.requires.unit c.args.unit.now.key c.args.command.now c.args.store.now.next (g.P.Place.world c.args.place.now) (g.P.Place.counts c.args.place.now).starts.flying (g.P.Place.still c.args.place.now) states done can c.args.store.now.folder c.in-Ok.again c.in-Ok-judged_now.judgement (g.P.Place.world c.replay.new.place) (g.P.Place.world c.judged_now.new.place) c.unstarted.result c.requires.folder (c.in-Ok.ensures.same told) (c.in-Ok-judged_now.ensures.same told) (c.in-Ok.ensures.replayed read is told) (c.in-Ok-judged_now.ensures.judged told) c.unstarted.ensures
+    replay_outcome (basis footing read g.P.Place.child setup c.args.project.now sources) c.requires.order c.args.index c.args.unit.now c.requires.unit c.args.unit.now.key c.args.command.now c.args.again.now c.args.store.now.next (g.P.Place.world c.args.place.now) (g.P.Place.counts c.args.place.now).starts.flying (g.P.Place.still c.args.place.now) states done can c.in-Ok.judgement (g.P.Place.world c.judged_now.new.place) c.unstarted-ran.result (c.in-Ok.ensures.same told) (c.in-Ok.ensures.judged told) c.unstarted-ran.ensures
 
 pub returns-then-is_some-clause-keeps : goal.returns-then-is_some-clause-keeps
 returns-then-is_some-clause-keeps g c footing read setup sources states done is told can lines =
-    keeps_bad_again (basis footing read g.P.Place.child setup c.args.project.now sources) c.requires.order c.args.index c.args.unit.now c.requires.unit c.args.unit.now.key c.args.command.now c.args.store.now.next (g.P.Place.world c.args.place.now) (g.P.Place.counts c.args.place.now).starts.flying (g.P.Place.still c.args.place.now) states done can (g.P.Place.world c.judged_now.new.place) c.unstarted.result lines (c.in-Ok-judged_now.ensures.same told ∙ c.in-Ok.ensures.same told) (bad_unstarted c.unstarted.result c.in-Ok-judged_now.judgement.ran c.unstarted.ensures (sym c.is_some.ensures ∙ c.if-is_some.true))
-    (replay_outcome (basis footing read g.P.Place.child setup c.args.project.now sources) c.requires.order c.args.index c.args.unit.now c.requires.unit c.args.unit.now.key c.args.command.now c.args.store.now.next (g.P.Place.world c.args.place.now) (g.P.Place.counts c.args.place.now).starts.flying (g.P.Place.still c.args.place.now) states done can c.args.store.now.folder c.in-Ok.again c.in-Ok-judged_now.judgement (g.P.Place.world c.replay.new.place) (g.P.Place.world c.judged_now.new.place) c.unstarted.result c.requires.folder (c.in-Ok.ensures.same told) (c.in-Ok-judged_now.ensures.same told) (c.in-Ok.ensures.replayed read is told) (c.in-Ok-judged_now.ensures.judged told) c.unstarted.ensures)
+    keeps_bad_again (basis footing read g.P.Place.child setup c.args.project.now sources) c.requires.order c.args.index c.args.unit.now c.requires.unit c.args.unit.now.key c.args.command.now c.args.again.now c.args.store.now.next (g.P.Place.world c.args.place.now) (g.P.Place.counts c.args.place.now).starts.flying (g.P.Place.still c.args.place.now) states done can (g.P.Place.world c.judged_now.new.place) c.unstarted-ran.result lines (c.in-Ok.ensures.same told) (sym c.is_some.ensures ∙ c.if-is_some.true)
+    (replay_outcome (basis footing read g.P.Place.child setup c.args.project.now sources) c.requires.order c.args.index c.args.unit.now c.requires.unit c.args.unit.now.key c.args.command.now c.args.again.now c.args.store.now.next (g.P.Place.world c.args.place.now) (g.P.Place.counts c.args.place.now).starts.flying (g.P.Place.still c.args.place.now) states done can c.in-Ok.judgement (g.P.Place.world c.judged_now.new.place) c.unstarted-ran.result (c.in-Ok.ensures.same told) (c.in-Ok.ensures.judged told) c.unstarted-ran.ensures)
 
 pub returns-then-is_some-clause-others : goal.returns-then-is_some-clause-others
 returns-then-is_some-clause-others g c footing read setup sources states done other its is told can apart =
-    others_unchanged (basis footing read g.P.Place.child setup c.args.project.now sources) c.requires.order c.args.index c.args.unit.now c.requires.unit c.args.unit.now.key c.args.command.now c.args.store.now.next (g.P.Place.world c.args.place.now) (g.P.Place.counts c.args.place.now).starts.flying (g.P.Place.still c.args.place.now) states done can other its (g.P.Place.world c.judged_now.new.place) (g.P.Place.counts c.judged_now.new.place).starts.flying (g.P.Place.still c.judged_now.new.place) apart (c.in-Ok-judged_now.ensures.same told ∙ c.in-Ok.ensures.same told)
-    (ap (λ (s : Starts). s.flying) c.in-Ok-judged_now.ensures.takes.1 ∙ ap (λ (s : Starts). s.flying) c.in-Ok.ensures.takes.1) (λ t stood. c.in-Ok-judged_now.ensures.still told t (c.in-Ok.ensures.still told t stood))
+    others_unchanged (basis footing read g.P.Place.child setup c.args.project.now sources) c.requires.order c.args.index c.args.unit.now c.requires.unit c.args.unit.now.key c.args.command.now c.args.again.now c.args.store.now.next (g.P.Place.world c.args.place.now) (g.P.Place.counts c.args.place.now).starts.flying (g.P.Place.still c.args.place.now) states done can other its (g.P.Place.world c.judged_now.new.place) (g.P.Place.counts c.judged_now.new.place).starts.flying (g.P.Place.still c.judged_now.new.place) apart (c.in-Ok.ensures.same told)
+    (ap (λ (s : Starts). s.flying) c.in-Ok.ensures.takes.1) (c.in-Ok.ensures.still told)
+
+pub returns-then-again-clause-outcome : goal.returns-then-again-clause-outcome
+returns-then-again-clause-outcome g c footing read setup sources states done is told can =
+    replay_outcome (basis footing read g.P.Place.child setup c.args.project.now sources) c.requires.order c.args.index c.args.unit.now c.requires.unit c.args.unit.now.key c.args.command.now c.args.again.now c.args.store.now.next (g.P.Place.world c.args.place.now) (g.P.Place.counts c.args.place.now).starts.flying (g.P.Place.still c.args.place.now) states done can c.in-Ok.judgement (g.P.Place.world c.judged_now.new.place) c.unstarted-ran.result (c.in-Ok.ensures.same told) (c.in-Ok.ensures.judged told) c.unstarted-ran.ensures
+
+pub returns-then-again-clause-keeps : goal.returns-then-again-clause-keeps
+returns-then-again-clause-keeps g c footing read setup sources states done is told can lines =
+    keeps_numbered (basis footing read g.P.Place.child setup c.args.project.now sources) c.requires.order c.args.index c.args.unit.now c.requires.unit c.args.unit.now.key c.args.command.now c.args.again.now c.args.store.now.next (g.P.Place.world c.args.place.now) (g.P.Place.counts c.args.place.now).starts.flying (g.P.Place.still c.args.place.now) states done can (g.P.Place.world c.judged_now.new.place) c.unstarted-ran.result lines (c.in-Ok.ensures.same told) c.if-again.true
+    (replay_outcome (basis footing read g.P.Place.child setup c.args.project.now sources) c.requires.order c.args.index c.args.unit.now c.requires.unit c.args.unit.now.key c.args.command.now c.args.again.now c.args.store.now.next (g.P.Place.world c.args.place.now) (g.P.Place.counts c.args.place.now).starts.flying (g.P.Place.still c.args.place.now) states done can c.in-Ok.judgement (g.P.Place.world c.judged_now.new.place) c.unstarted-ran.result (c.in-Ok.ensures.same told) (c.in-Ok.ensures.judged told) c.unstarted-ran.ensures)
+
+pub returns-then-again-clause-others : goal.returns-then-again-clause-others
+returns-then-again-clause-others g c footing read setup sources states done other its is told can apart =
+    others_unchanged (basis footing read g.P.Place.child setup c.args.project.now sources) c.requires.order c.args.index c.args.unit.now c.requires.unit c.args.unit.now.key c.args.command.now c.args.again.now c.args.store.now.next (g.P.Place.world c.args.place.now) (g.P.Place.counts c.args.place.now).starts.flying (g.P.Place.still c.args.place.now) states done can other its (g.P.Place.world c.judged_now.new.place) (g.P.Place.counts c.judged_now.new.place).starts.flying (g.P.Place.still c.judged_now.new.place) apart (c.in-Ok.ensures.same told)
+    (ap (λ (s : Starts). s.flying) c.in-Ok.ensures.takes.1) (c.in-Ok.ensures.still told)
 
 pub migrate-requires-clause-keys : goal.migrate-requires-clause-keys
 migrate-requires-clause-keys g c =
@@ -36,43 +45,43 @@ migrate-requires-clause-keys g c =
 
 pub returns-in-Ok-migrate-clause-outcome : goal.returns-in-Ok-migrate-clause-outcome
 returns-in-Ok-migrate-clause-outcome g c footing read setup sources states done is told can =
-    renewed_outcome (basis footing read g.P.Place.child setup c.args.project.now sources) c.requires.order c.args.index c.args.unit.now c.requires.unit c.args.unit.now.key c.args.command.now c.args.store.now.next (g.P.Place.world c.args.place.now) (g.P.Place.counts c.args.place.now).starts.flying (g.P.Place.still c.args.place.now) states done can c.args.store.now.folder c.in-Ok.again c.in-Ok-judged_now.judgement (g.P.Place.world c.replay.new.place) (g.P.Place.world c.judged_now.new.place) (g.P.Place.world c.migrate.new.place) c.unstarted-in-Ok-migrate.result c.requires.folder (c.in-Ok.ensures.same told) (c.in-Ok-judged_now.ensures.same told) (c.in-Ok.ensures.replayed read is told) (c.in-Ok-judged_now.ensures.judged told) c.unstarted-in-Ok-migrate.ensures (c.in-Ok-migrate.ensures.only told)
+    renewed_outcome (basis footing read g.P.Place.child setup c.args.project.now sources) c.requires.order c.args.index c.args.unit.now c.requires.unit c.args.unit.now.key c.args.command.now c.args.again.now c.args.store.now.next (g.P.Place.world c.args.place.now) (g.P.Place.counts c.args.place.now).starts.flying (g.P.Place.still c.args.place.now) states done can c.args.store.now.folder c.in-Ok.judgement (g.P.Place.world c.judged_now.new.place) (g.P.Place.world c.migrate.new.place) c.unstarted-ran.result c.requires.folder (c.in-Ok.ensures.same told) (c.in-Ok.ensures.judged told) c.unstarted-ran.ensures (c.in-Ok-migrate.ensures.only told)
 
 pub returns-in-Ok-migrate-clause-keeps : goal.returns-in-Ok-migrate-clause-keeps
 returns-in-Ok-migrate-clause-keeps g c footing read setup sources states done is told can lines =
-    keeps_renewed (basis footing read g.P.Place.child setup c.args.project.now sources) c.requires.order c.args.index c.args.unit.now c.requires.unit c.args.unit.now.key c.args.command.now c.args.store.now.next (g.P.Place.world c.args.place.now) (g.P.Place.counts c.args.place.now).starts.flying (g.P.Place.still c.args.place.now) states done can (g.P.Place.world c.migrate.new.place) c.migrate.new.store.next
-    (renewing_so (basis footing read g.P.Place.child setup c.args.project.now sources) c.requires.order c.args.index c.args.unit.now c.requires.unit c.args.unit.now.key c.args.command.now c.args.store.now.next (g.P.Place.world c.args.place.now) (g.P.Place.counts c.args.place.now).starts.flying (g.P.Place.still c.args.place.now) states done can c.args.store.now.folder (g.P.Place.world c.judged_now.new.place) (g.P.Place.world c.migrate.new.place) c.migrate.new.store.next c.requires.folder (c.in-Ok-judged_now.ensures.same told ∙ c.in-Ok.ensures.same told)
+    keeps_renewed (basis footing read g.P.Place.child setup c.args.project.now sources) c.requires.order c.args.index c.args.unit.now c.requires.unit c.args.unit.now.key c.args.command.now c.args.again.now c.args.store.now.next (g.P.Place.world c.args.place.now) (g.P.Place.counts c.args.place.now).starts.flying (g.P.Place.still c.args.place.now) states done can (g.P.Place.world c.migrate.new.place) c.migrate.new.store.next
+    (renewing_so (basis footing read g.P.Place.child setup c.args.project.now sources) c.requires.order c.args.index c.args.unit.now c.requires.unit c.args.unit.now.key c.args.command.now c.args.again.now c.args.store.now.next (g.P.Place.world c.args.place.now) (g.P.Place.counts c.args.place.now).starts.flying (g.P.Place.still c.args.place.now) states done can c.args.store.now.folder (g.P.Place.world c.judged_now.new.place) (g.P.Place.world c.migrate.new.place) c.migrate.new.store.next c.requires.folder (c.in-Ok.ensures.same told)
     record {
       sound = λ r. c.in-Ok-migrate.ensures.sound read judge c.args.command.now r is told;
       ahead = λ r. c.in-Ok-migrate.ensures.ahead read judge c.args.command.now r is told;
       only = c.in-Ok-migrate.ensures.only told;
       left = c.in-Ok-migrate.ensures.left read is told;
-    }) c.unstarted-in-Ok-migrate.result lines
-    (renewed_so (basis footing read g.P.Place.child setup c.args.project.now sources) c.requires.order c.args.index c.args.unit.now c.requires.unit c.args.unit.now.key c.args.command.now c.args.store.now.next (g.P.Place.world c.args.place.now) (g.P.Place.counts c.args.place.now).starts.flying (g.P.Place.still c.args.place.now) states done can c.args.store.now.folder (g.P.Place.world c.judged_now.new.place) (g.P.Place.world c.migrate.new.place) c.requires.folder (c.in-Ok-judged_now.ensures.same told ∙ c.in-Ok.ensures.same told)
+    }) c.unstarted-ran.result lines
+    (renewed_so (basis footing read g.P.Place.child setup c.args.project.now sources) c.requires.order c.args.index c.args.unit.now c.requires.unit c.args.unit.now.key c.args.command.now c.args.again.now c.args.store.now.next (g.P.Place.world c.args.place.now) (g.P.Place.counts c.args.place.now).starts.flying (g.P.Place.still c.args.place.now) states done can c.args.store.now.folder (g.P.Place.world c.judged_now.new.place) (g.P.Place.world c.migrate.new.place) c.requires.folder (c.in-Ok.ensures.same told)
     record { stands = c.in-Ok-migrate.ensures.stands read is told; numbered_now = λ s. c.in-Ok-migrate.ensures.numbered read s is told })
-    (renewed_outcome (basis footing read g.P.Place.child setup c.args.project.now sources) c.requires.order c.args.index c.args.unit.now c.requires.unit c.args.unit.now.key c.args.command.now c.args.store.now.next (g.P.Place.world c.args.place.now) (g.P.Place.counts c.args.place.now).starts.flying (g.P.Place.still c.args.place.now) states done can c.args.store.now.folder c.in-Ok.again c.in-Ok-judged_now.judgement (g.P.Place.world c.replay.new.place) (g.P.Place.world c.judged_now.new.place) (g.P.Place.world c.migrate.new.place) c.unstarted-in-Ok-migrate.result c.requires.folder (c.in-Ok.ensures.same told) (c.in-Ok-judged_now.ensures.same told) (c.in-Ok.ensures.replayed read is told) (c.in-Ok-judged_now.ensures.judged told) c.unstarted-in-Ok-migrate.ensures (c.in-Ok-migrate.ensures.only told))
+    (renewed_outcome (basis footing read g.P.Place.child setup c.args.project.now sources) c.requires.order c.args.index c.args.unit.now c.requires.unit c.args.unit.now.key c.args.command.now c.args.again.now c.args.store.now.next (g.P.Place.world c.args.place.now) (g.P.Place.counts c.args.place.now).starts.flying (g.P.Place.still c.args.place.now) states done can c.args.store.now.folder c.in-Ok.judgement (g.P.Place.world c.judged_now.new.place) (g.P.Place.world c.migrate.new.place) c.unstarted-ran.result c.requires.folder (c.in-Ok.ensures.same told) (c.in-Ok.ensures.judged told) c.unstarted-ran.ensures (c.in-Ok-migrate.ensures.only told))
 
 pub returns-in-Ok-migrate-clause-others : goal.returns-in-Ok-migrate-clause-others
 returns-in-Ok-migrate-clause-others g c footing read setup sources states done other its is told can apart =
-    others_renewed (basis footing read g.P.Place.child setup c.args.project.now sources) c.requires.order c.args.index c.args.unit.now c.requires.unit c.args.unit.now.key c.args.command.now c.args.store.now.next (g.P.Place.world c.args.place.now) (g.P.Place.counts c.args.place.now).starts.flying (g.P.Place.still c.args.place.now) states done can (g.P.Place.world c.migrate.new.place) c.migrate.new.store.next
-    (renewing_so (basis footing read g.P.Place.child setup c.args.project.now sources) c.requires.order c.args.index c.args.unit.now c.requires.unit c.args.unit.now.key c.args.command.now c.args.store.now.next (g.P.Place.world c.args.place.now) (g.P.Place.counts c.args.place.now).starts.flying (g.P.Place.still c.args.place.now) states done can c.args.store.now.folder (g.P.Place.world c.judged_now.new.place) (g.P.Place.world c.migrate.new.place) c.migrate.new.store.next c.requires.folder (c.in-Ok-judged_now.ensures.same told ∙ c.in-Ok.ensures.same told)
+    others_renewed (basis footing read g.P.Place.child setup c.args.project.now sources) c.requires.order c.args.index c.args.unit.now c.requires.unit c.args.unit.now.key c.args.command.now c.args.again.now c.args.store.now.next (g.P.Place.world c.args.place.now) (g.P.Place.counts c.args.place.now).starts.flying (g.P.Place.still c.args.place.now) states done can (g.P.Place.world c.migrate.new.place) c.migrate.new.store.next
+    (renewing_so (basis footing read g.P.Place.child setup c.args.project.now sources) c.requires.order c.args.index c.args.unit.now c.requires.unit c.args.unit.now.key c.args.command.now c.args.again.now c.args.store.now.next (g.P.Place.world c.args.place.now) (g.P.Place.counts c.args.place.now).starts.flying (g.P.Place.still c.args.place.now) states done can c.args.store.now.folder (g.P.Place.world c.judged_now.new.place) (g.P.Place.world c.migrate.new.place) c.migrate.new.store.next c.requires.folder (c.in-Ok.ensures.same told)
     record {
       sound = λ r. c.in-Ok-migrate.ensures.sound read judge c.args.command.now r is told;
       ahead = λ r. c.in-Ok-migrate.ensures.ahead read judge c.args.command.now r is told;
       only = c.in-Ok-migrate.ensures.only told;
       left = c.in-Ok-migrate.ensures.left read is told;
     }) other its (g.P.Place.counts c.migrate.new.place).starts.flying (g.P.Place.still c.migrate.new.place) apart c.in-Ok-migrate.ensures.next
-    (ap (λ (s : Starts). s.flying) c.in-Ok-migrate.ensures.takes.1 ∙ ap (λ (s : Starts). s.flying) c.in-Ok-judged_now.ensures.takes.1 ∙ ap (λ (s : Starts). s.flying) c.in-Ok.ensures.takes.1)
-    (reused_still c.args.store.now.folder (records_folder c.args.project.now) c.args.unit.now.key (g.P.Place.counts c.args.place.now).starts.flying (g.P.Place.counts c.judged_now.new.place).starts.flying (g.P.Place.still c.args.place.now) (g.P.Place.still c.replay.new.place) (g.P.Place.still c.judged_now.new.place) (g.P.Place.still c.migrate.new.place) c.requires.folder (ap (λ (s : Starts). s.flying) c.in-Ok-judged_now.ensures.takes.1 ∙ ap (λ (s : Starts). s.flying) c.in-Ok.ensures.takes.1) (c.in-Ok.ensures.still told) (c.in-Ok-judged_now.ensures.still told) (c.in-Ok-migrate.ensures.still told))
+    (ap (λ (s : Starts). s.flying) c.in-Ok-migrate.ensures.takes.1 ∙ ap (λ (s : Starts). s.flying) c.in-Ok.ensures.takes.1)
+    (reused_still c.args.store.now.folder (records_folder c.args.project.now) c.args.unit.now.key (g.P.Place.counts c.args.place.now).starts.flying (g.P.Place.counts c.judged_now.new.place).starts.flying (g.P.Place.still c.args.place.now) (g.P.Place.still c.judged_now.new.place) (g.P.Place.still c.migrate.new.place) c.requires.folder (ap (λ (s : Starts). s.flying) c.in-Ok.ensures.takes.1) (c.in-Ok.ensures.still told) (c.in-Ok-migrate.ensures.still told))
 
 pub returns-in-Ok-migrate-clause-only : goal.returns-in-Ok-migrate-clause-only
 returns-in-Ok-migrate-clause-only g c told =
-    reused_only c.args.store.now.folder (records_folder c.args.project.now) c.args.unit.now.key (g.P.Place.world c.args.place.now) (g.P.Place.world c.judged_now.new.place) (g.P.Place.world c.migrate.new.place) c.requires.folder (c.in-Ok-judged_now.ensures.same told ∙ c.in-Ok.ensures.same told) (c.in-Ok-migrate.ensures.only told)
+    reused_only c.args.store.now.folder (records_folder c.args.project.now) c.args.unit.now.key (g.P.Place.world c.args.place.now) (g.P.Place.world c.judged_now.new.place) (g.P.Place.world c.migrate.new.place) c.requires.folder (c.in-Ok.ensures.same told) (c.in-Ok-migrate.ensures.only told)
 
 pub returns-clause-keeps : goal.returns-clause-keeps
 returns-clause-keeps g c footing read setup sources states done is told can =
-    keeps_unrenewed (basis footing read g.P.Place.child setup c.args.project.now sources) c.requires.order c.args.index c.args.unit.now c.requires.unit c.args.unit.now.key c.args.command.now c.args.store.now.next (g.P.Place.world c.args.place.now) (g.P.Place.counts c.args.place.now).starts.flying (g.P.Place.still c.args.place.now) states done can (g.P.Place.world c.migrate.new.place) c.migrate.new.store.next
-    (renewing_so (basis footing read g.P.Place.child setup c.args.project.now sources) c.requires.order c.args.index c.args.unit.now c.requires.unit c.args.unit.now.key c.args.command.now c.args.store.now.next (g.P.Place.world c.args.place.now) (g.P.Place.counts c.args.place.now).starts.flying (g.P.Place.still c.args.place.now) states done can c.args.store.now.folder (g.P.Place.world c.judged_now.new.place) (g.P.Place.world c.migrate.new.place) c.migrate.new.store.next c.requires.folder (c.in-Ok-judged_now.ensures.same told ∙ c.in-Ok.ensures.same told)
+    keeps_unrenewed (basis footing read g.P.Place.child setup c.args.project.now sources) c.requires.order c.args.index c.args.unit.now c.requires.unit c.args.unit.now.key c.args.command.now c.args.again.now c.args.store.now.next (g.P.Place.world c.args.place.now) (g.P.Place.counts c.args.place.now).starts.flying (g.P.Place.still c.args.place.now) states done can (g.P.Place.world c.migrate.new.place) c.migrate.new.store.next
+    (renewing_so (basis footing read g.P.Place.child setup c.args.project.now sources) c.requires.order c.args.index c.args.unit.now c.requires.unit c.args.unit.now.key c.args.command.now c.args.again.now c.args.store.now.next (g.P.Place.world c.args.place.now) (g.P.Place.counts c.args.place.now).starts.flying (g.P.Place.still c.args.place.now) states done can c.args.store.now.folder (g.P.Place.world c.judged_now.new.place) (g.P.Place.world c.migrate.new.place) c.migrate.new.store.next c.requires.folder (c.in-Ok.ensures.same told)
     record {
       sound = λ r. c.in-Err-migrate.ensures.sound read judge c.args.command.now r is told;
       ahead = λ r. c.in-Err-migrate.ensures.ahead read judge c.args.command.now r is told;
@@ -82,34 +91,33 @@ returns-clause-keeps g c footing read setup sources states done is told can =
 
 pub returns-clause-others : goal.returns-clause-others
 returns-clause-others g c footing read setup sources states done other its is told can apart =
-    others_renewed (basis footing read g.P.Place.child setup c.args.project.now sources) c.requires.order c.args.index c.args.unit.now c.requires.unit c.args.unit.now.key c.args.command.now c.args.store.now.next (g.P.Place.world c.args.place.now) (g.P.Place.counts c.args.place.now).starts.flying (g.P.Place.still c.args.place.now) states done can (g.P.Place.world c.migrate.new.place) c.migrate.new.store.next
-    (renewing_so (basis footing read g.P.Place.child setup c.args.project.now sources) c.requires.order c.args.index c.args.unit.now c.requires.unit c.args.unit.now.key c.args.command.now c.args.store.now.next (g.P.Place.world c.args.place.now) (g.P.Place.counts c.args.place.now).starts.flying (g.P.Place.still c.args.place.now) states done can c.args.store.now.folder (g.P.Place.world c.judged_now.new.place) (g.P.Place.world c.migrate.new.place) c.migrate.new.store.next c.requires.folder (c.in-Ok-judged_now.ensures.same told ∙ c.in-Ok.ensures.same told)
+    others_renewed (basis footing read g.P.Place.child setup c.args.project.now sources) c.requires.order c.args.index c.args.unit.now c.requires.unit c.args.unit.now.key c.args.command.now c.args.again.now c.args.store.now.next (g.P.Place.world c.args.place.now) (g.P.Place.counts c.args.place.now).starts.flying (g.P.Place.still c.args.place.now) states done can (g.P.Place.world c.migrate.new.place) c.migrate.new.store.next
+    (renewing_so (basis footing read g.P.Place.child setup c.args.project.now sources) c.requires.order c.args.index c.args.unit.now c.requires.unit c.args.unit.now.key c.args.command.now c.args.again.now c.args.store.now.next (g.P.Place.world c.args.place.now) (g.P.Place.counts c.args.place.now).starts.flying (g.P.Place.still c.args.place.now) states done can c.args.store.now.folder (g.P.Place.world c.judged_now.new.place) (g.P.Place.world c.migrate.new.place) c.migrate.new.store.next c.requires.folder (c.in-Ok.ensures.same told)
     record {
       sound = λ r. c.in-Err-migrate.ensures.sound read judge c.args.command.now r is told;
       ahead = λ r. c.in-Err-migrate.ensures.ahead read judge c.args.command.now r is told;
       only = c.in-Err-migrate.ensures.only told;
       left = c.in-Err-migrate.ensures.left read is told;
     }) other its (g.P.Place.counts c.migrate.new.place).starts.flying (g.P.Place.still c.migrate.new.place) apart c.in-Err-migrate.ensures.next
-    (flying_alone c.args.store.now.next c.args.unit.now.key _ (g.P.Place.counts c.judged_now.new.place).starts (g.P.Place.counts c.migrate.new.place).starts c.in-Err-migrate.ensures.takes.0 ∙ ap (λ (s : Starts). s.flying) c.in-Ok-judged_now.ensures.takes.1 ∙ ap (λ (s : Starts). s.flying) c.in-Ok.ensures.takes.1)
-    (reused_still c.args.store.now.folder (records_folder c.args.project.now) c.args.unit.now.key (g.P.Place.counts c.args.place.now).starts.flying (g.P.Place.counts c.judged_now.new.place).starts.flying (g.P.Place.still c.args.place.now) (g.P.Place.still c.replay.new.place) (g.P.Place.still c.judged_now.new.place) (g.P.Place.still c.migrate.new.place) c.requires.folder (ap (λ (s : Starts). s.flying) c.in-Ok-judged_now.ensures.takes.1 ∙ ap (λ (s : Starts). s.flying) c.in-Ok.ensures.takes.1) (c.in-Ok.ensures.still told) (c.in-Ok-judged_now.ensures.still told) (c.in-Err-migrate.ensures.still told))
+    (flying_alone c.args.store.now.next c.args.unit.now.key _ (g.P.Place.counts c.judged_now.new.place).starts (g.P.Place.counts c.migrate.new.place).starts c.in-Err-migrate.ensures.takes.0 ∙ ap (λ (s : Starts). s.flying) c.in-Ok.ensures.takes.1)
+    (reused_still c.args.store.now.folder (records_folder c.args.project.now) c.args.unit.now.key (g.P.Place.counts c.args.place.now).starts.flying (g.P.Place.counts c.judged_now.new.place).starts.flying (g.P.Place.still c.args.place.now) (g.P.Place.still c.judged_now.new.place) (g.P.Place.still c.migrate.new.place) c.requires.folder (ap (λ (s : Starts). s.flying) c.in-Ok.ensures.takes.1) (c.in-Ok.ensures.still told) (c.in-Err-migrate.ensures.still told))
 
 pub returns-clause-only : goal.returns-clause-only
 returns-clause-only g c told =
-    reused_only c.args.store.now.folder (records_folder c.args.project.now) c.args.unit.now.key (g.P.Place.world c.args.place.now) (g.P.Place.world c.judged_now.new.place) (g.P.Place.world c.migrate.new.place) c.requires.folder (c.in-Ok-judged_now.ensures.same told ∙ c.in-Ok.ensures.same told) (c.in-Err-migrate.ensures.only told)
+    reused_only c.args.store.now.folder (records_folder c.args.project.now) c.args.unit.now.key (g.P.Place.world c.args.place.now) (g.P.Place.world c.judged_now.new.place) (g.P.Place.world c.migrate.new.place) c.requires.folder (c.in-Ok.ensures.same told) (c.in-Err-migrate.ensures.only told)
 
 pub returns-in-Err-clause-same : goal.returns-in-Err-clause-same
-returns-in-Err-clause-same g c read is told has = c.in-Err.ensures.same told
-
-pub returns-in-Err-judged_now-clause-same : goal.returns-in-Err-judged_now-clause-same
-returns-in-Err-judged_now-clause-same g c read is told has = c.in-Err-judged_now.ensures.same told ∙ c.in-Ok.ensures.same told
+returns-in-Err-clause-same g c read is told has =
+    c.in-Err.ensures.same told
 
 pub returns-then-is_some-clause-same : goal.returns-then-is_some-clause-same
-returns-then-is_some-clause-same g c read is told has = c.in-Ok-judged_now.ensures.same told ∙ c.in-Ok.ensures.same told
+returns-then-is_some-clause-same g c read is told has =
+    c.in-Ok.ensures.same told
 
 pub returns-in-Ok-migrate-clause-same : goal.returns-in-Ok-migrate-clause-same
 returns-in-Ok-migrate-clause-same g c read is told has =
-    reused_same read c.args.store.now.folder (records_folder c.args.project.now) c.args.unit.now.key (g.P.Place.world c.args.place.now) (g.P.Place.world c.judged_now.new.place) (g.P.Place.world c.migrate.new.place) c.requires.folder (c.in-Ok-judged_now.ensures.same told ∙ c.in-Ok.ensures.same told) (c.migrate.ensures.same read is told) has
+    reused_same read c.args.store.now.folder (records_folder c.args.project.now) c.args.unit.now.key (g.P.Place.world c.args.place.now) (g.P.Place.world c.judged_now.new.place) (g.P.Place.world c.migrate.new.place) c.requires.folder (c.in-Ok.ensures.same told) (c.migrate.ensures.same read is told) has
 
 pub returns-clause-same : goal.returns-clause-same
 returns-clause-same g c read is told has =
-    reused_same read c.args.store.now.folder (records_folder c.args.project.now) c.args.unit.now.key (g.P.Place.world c.args.place.now) (g.P.Place.world c.judged_now.new.place) (g.P.Place.world c.migrate.new.place) c.requires.folder (c.in-Ok-judged_now.ensures.same told ∙ c.in-Ok.ensures.same told) (c.migrate.ensures.same read is told) has
+    reused_same read c.args.store.now.folder (records_folder c.args.project.now) c.args.unit.now.key (g.P.Place.world c.args.place.now) (g.P.Place.world c.judged_now.new.place) (g.P.Place.world c.migrate.new.place) c.requires.folder (c.in-Ok.ensures.same told) (c.migrate.ensures.same read is told) has

@@ -7,6 +7,7 @@ use Rattle.pb_answer.specs.declared.bad_unit.BadUnit.{BadUnit}
 use Rattle.pb_turns.specs.declared.crew.UnitCrew.{UnitCrew}
 use Rattle.pb_flight.specs.Events.{Gave}
 use Rattle.pb_flight.proofs.Lists.{injective, length_set}
+use Rattle.pb_run.specs.Halves.{child_of}
 use Rattle.pb_run.specs.Standing.{IsCommandOf}
 use Rattle.pb_run.specs.Telling.{unit_lines}
 use Rattle.pb_turns.specs.Crew.{IsOfPlan, place_of_unit}
@@ -49,7 +50,7 @@ returns-in-Err-clause-manned g c =
     let at_index = slice_get_read c.args.crew.now.aloft.items (length c.args.crew.now.aloft.items) c.args.index c.remove-unit.result refl
     (subst (λ n. c.args.index < n) (length-map c.args.crew.now.aloft.items place_of_unit) c.requires.within) c.remove-unit.ensures.value in
     manned_answered c.args.crew.now _ (g.P.Place.counts c.args.place.now) (g.P.Place.counts c.answer_unit.new.place) c.args.index c.remove-unit.result c.requires.manned at_index refl c.answer_unit.ensures.folder refl refl c.remove-unit.ensures.items c.answer_unit.ensures.next
-    (answer_fault_lands _ _ c.remove-unit.result.begun.launched c.in-Err.fault _ _ c.in-Err.ensures.takes.0)
+    (answer_fault_lands _ _ (child_of c.remove-unit.result.begun) c.in-Err.fault _ _ c.in-Err.ensures.takes.0)
 
 pub returns-in-Err-lines_of_unit-clause-manned : goal.returns-in-Err-lines_of_unit-clause-manned
 returns-in-Err-lines_of_unit-clause-manned g c =

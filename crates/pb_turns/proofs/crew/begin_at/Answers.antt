@@ -3,6 +3,7 @@ use Rattle.pb_flight.specs.Events.{Began}
 use Rattle.pb_flight.specs.Table.{if_so}
 use Rattle.pb_flight.proofs.Lists.{length_set}
 use Rattle.pb_place.proofs.Folders.{only_same}
+use Rattle.pb_run.specs.Halves.{child_of}
 use Rattle.pb_turns.specs.Moments.{moment}
 use Rattle.pb_turns.specs.Story.{Story}
 use Rattle.pb_turns.proofs.Beginning.{goes_lists, refused_happened, failed_happened, begun_happened, by_number}
@@ -30,7 +31,7 @@ returns-clause-manned g c =
     manned_begun c.args.crew.now _ (g.P.Place.counts c.args.place.now) (g.P.Place.counts c.begin_unit.new.place) record { unit = c.args.unit; begun = c.in-Ok-begin_unit.made.begun } c.requires.manned c.requires.grounded
     record { unit = c.index-as_slice-unit.result; there = there; key = c.in-Ok-begin_unit.ensures.unit; asks = (c.args.crew.now.setup, c.as_slice-2.result.now, c.in-Ok-begin_unit.ensures.asks) }
     refl c.begin_unit.ensures.folder refl (ap length c.note_begun.ensures.reasons ∙ length_set c.args.crew.now.reasons.items c.args.unit (Some c.in-Ok-begin_unit.made.difference)) (c.note_begun.ensures.aloft ∙ ap (λ items. items ++ record { unit = c.args.unit; begun = c.in-Ok-begin_unit.made.begun } ∷ []) c.make_room.ensures.aloft)
-    c.begin_unit.ensures.next c.in-Ok-begin_unit.ensures.takes.1 (by_number c.args.crew.now.store.next c.begin_unit.new.store.next c.in-Ok-begin_unit.made.begun.launched c.in-Ok-begin_unit.ensures.number)
+    c.begin_unit.ensures.next c.in-Ok-begin_unit.ensures.takes.1 (by_number c.args.crew.now.store.next c.begin_unit.new.store.next (child_of c.in-Ok-begin_unit.made.begun) c.in-Ok-begin_unit.ensures.number)
 
 pub returns-in-Err-clause-story : goal.returns-in-Err-clause-story
 returns-in-Err-clause-story g c = λ first at taken faults es given s flying lawful is_given may.
@@ -80,16 +81,16 @@ returns-clause-story g c = λ first at taken faults es given s flying lawful is_
     let new = moment (g.P.Place.world c.begin_unit.new.place) (g.P.Place.counts c.begin_unit.new.place) (g.P.Place.most c.begin_unit.new.place) taken faults in
     let more = c.note_begun.ensures.aloft ∙ ap (λ items. items ++ record { unit = c.args.unit; begun = c.in-Ok-begin_unit.made.begun } ∷ []) c.make_room.ensures.aloft in
     subst (λ flag. Story g.P.Place.tells g.P.Place.child first at record { setup = c.args.crew.now.setup; project = c.args.crew.now.project; store = c.begin_unit.new.store; done = c.args.crew.now.done; aloft = c.note_begun.new.aloft; started = c.note_begun.new.started; reasons = c.note_begun.new.reasons }
-    new (g.P.Place.still c.begin_unit.new.place) (Began c.args.unit flag ∷ es) given) (sym c.is_some-spawned.ensures) record {
+    new (g.P.Place.still c.begin_unit.new.place) (Began c.args.unit flag ∷ es) given) (sym c.has_child-spawned.ensures) record {
       setup = s.setup;
       project = s.project;
-      goes = goes_lists c.args.crew.now.project at new _ c.note_begun.new.started.items _ c.note_begun.new.aloft.items (Began c.args.unit (is_some c.in-Ok-begin_unit.made.begun.launched) ∷ es) given
-          (c.note_begun.ensures.started ∙ ap (λ l. l ++ if_so (is_some c.in-Ok-begin_unit.made.begun.launched) c.args.unit) c.make_room.ensures.started) more
+      goes = goes_lists c.args.crew.now.project at new _ c.note_begun.new.started.items _ c.note_begun.new.aloft.items (Began c.args.unit (is_some (child_of c.in-Ok-begin_unit.made.begun)) ∷ es) given
+          (c.note_begun.ensures.started ∙ ap (λ l. l ++ if_so (is_some (child_of c.in-Ok-begin_unit.made.begun)) c.args.unit) c.make_room.ensures.started) more
           (goes_begun c.args.crew.now.project at now new c.args.crew.now.started.items c.args.crew.now.aloft.items es given c.args.unit s.goes is_given may.untouched refl
           record { unit = c.args.unit; begun = c.in-Ok-begin_unit.made.begun } refl c.in-Ok-begin_unit.ensures.takes.0 c.in-Ok-begin_unit.ensures.takes.1
           (children_are (g.P.Place.counts c.args.place.now) c.args.crew.now.aloft.items c.requires.manned.tickets) c.in-Ok-begin_unit.ensures.most);
       changes = λ t. changes_more c.args.crew.now.project at.world c.args.crew.now.aloft.items es now.world new.world now.counts.starts.flying new.counts.starts.flying (s.changes t) (λ index a at. flying_of c.args.crew.now (g.P.Place.counts c.args.place.now) index a c.requires.manned at)
-          c.args.unit c.index-as_slice-unit.result there may.untouched (c.begin_unit.ensures.only t) c.begin_unit.ensures.stay (is_some c.in-Ok-begin_unit.made.begun.launched)
+          c.args.unit c.index-as_slice-unit.result there may.untouched (c.begin_unit.ensures.only t) c.begin_unit.ensures.stay (is_some (child_of c.in-Ok-begin_unit.made.begun))
           record { unit = c.args.unit; begun = c.in-Ok-begin_unit.made.begun } c.note_begun.new.aloft.items refl more (c.in-Ok-begin_unit.ensures.writes t);
       happened = begun_happened g.P.Place.tells g.P.Place.child first c.args.crew.now at now new (g.P.Place.still c.args.place.now) (g.P.Place.still c.begin_unit.new.place)
           es given c.args.unit c.index-as_slice-unit.result c.requires.manned.order there s may c.begin_unit.new.store.next c.as_slice-2.result.now c.as_slice-2.ensures.value

@@ -1,4 +1,5 @@
 use Rattle.std.proofs.Common.{refl, inl, length}
+use Rattle.pb_run.specs.Halves.{child_of}
 use Rattle.std.proofs.lemmas.Option.{slice_get_read}
 use Rattle.pb_turns.proofs.Landing.{drops_land, happened_dropped, changes_dropped}
 use Rattle.pb_turns.proofs.Manning.{flying_of, manned_answered}
@@ -13,7 +14,7 @@ pub returns-clause-manned : goal.returns-clause-manned
 returns-clause-manned g c =
     let at = slice_get_read c.args.crew.now.aloft.items (length c.args.crew.now.aloft.items) 0 c.remove-aloft.result refl c.requires.some c.remove-aloft.ensures.value in
     manned_answered c.args.crew.now _ (g.P.Place.counts c.args.place.now) (g.P.Place.counts c.drop_unit.new.place) 0 c.remove-aloft.result c.requires.manned at refl refl refl refl c.remove-aloft.ensures.items (inl refl)
-    (drops_land c.remove-aloft.result.begun.launched _ _ c.drop_unit.ensures.counts)
+    (drops_land (child_of c.remove-aloft.result.begun) _ _ c.drop_unit.ensures.counts)
 
 pub returns-clause-happened : goal.returns-clause-happened
 returns-clause-happened g c = λ b es tells project h.

@@ -1,0 +1,195 @@
+-- An answer is judged just so.
+use Rattle.std.proofs.Common.{inl, inr, ◌≡◌, ◌≢◌, ◌⊎◌, ◌∙◌, ℕ, Bool, true, false, ◌||◌, if◌then◌else◌, List, [], ◌∷◌, ◌++◌, Option, Some, None, pos, Result, Ok, Err, refl, sym, ap, subst}
+use Rattle.std.proofs.lemmas.Bool.Decides.{Decides-int_eq}
+use Rattle.std.specs.List.{flat_map, list_any}
+use Rattle.std.specs.Ordering.{int_eq}
+use Rattle.pb_command.specs.Answers.{answered_by, changed_path, changed_variable, compile_answered, ended_fault, info_in, info_inputs, inputs_of, is_error, is_too_long, paths_from, read_info, read_or_none, rerun_inputs, run_answered, said_in, said_inputs, unless_error, unless_fault}
+use Rattle.pb_data.specs.Gives.{◌>>=◌, lifted}
+use Rattle.pb_data.specs.Mentions.{once}
+use Rattle.pb_directive.specs.DepInfo.{dep_info_of}
+use Rattle.pb_directive.specs.Directives.{directives_of}
+use Rattle.pb_directive.specs.declared.dep_info.DepInfo.{DepInfo}
+use Rattle.pb_directive.specs.declared.directive.Directive.{Directive}
+use Rattle.pb_directive.specs.declared.fault.LineFault.{LineFault}
+use Rattle.pb_place.specs.declared.command.Command.{Command}
+use Rattle.pb_place.specs.declared.command.Ended.{Ended}
+use Rattle.pb_project.specs.Targets.{folder_of, is_run}
+use Rattle.pb_project.specs.declared.answer.Answered.{Answered}
+use Rattle.pb_project.specs.declared.fault.UnitFault.{UnitFault}
+use Rattle.pb_project.specs.declared.fault.UnitFault.TheVariants as unit_fault
+use Rattle.pb_unit.specs.declared.unit.What.{What}
+use Rattle.pb_unit.specs.declared.unit.What.TheVariants.{Lib, Bin, Script, Run}
+use Rattle.pb_command_laws.specs.Judged as words
+use Rattle.pb_command_laws.specs.Judged.{EndedWell, IsInfo, IsTold, IsAnswer, AnswersSay}
+
+abbrev pub Answer : Type 0
+Answer = Result Answered UnitFault
+
+module _ (what : What) (c : Command) (folder : List ℕ) (e : Ended) (dep_info : Option (List ℕ)) where
+  abbrev pub answer : Answer
+  answer = unless_fault (ended_fault e) (answered_by what c folder e dep_info)
+
+  -- how it ended
+  abbrev long : Bool
+  long = is_too_long e.stdout || is_too_long e.stderr
+
+  abbrev by_status : Option UnitFault
+  by_status = if int_eq e.status (pos 0) then None else Some (unit_fault.Status e.status)
+
+  well_so : EndedWell e → answer ≡ answered_by what c folder e dep_info
+  well_so well =
+      ap (λ o. unless_fault o (answered_by what c folder e dep_info))
+      (ap (λ b. if b then Some unit_fault.OutputTooLong else by_status) well.0 ∙ ap (λ b. if b then None else Some (unit_fault.Status e.status)) ((Decides-int_eq e.status (pos 0)).1 well.1))
+
+  kind_so : answered_by what c folder e dep_info ≡ (if is_run what then run_answered c folder e else compile_answered c dep_info)
+  kind_so = by what
+    where
+      by : (w : What) → answered_by w c folder e dep_info ≡ (if is_run w then run_answered c folder e else compile_answered c dep_info)
+      by Lib = refl
+      by (Bin name) = refl
+      by Script = refl
+      by Run = refl
+
+  compile_so : is_run what ≡ false → answered_by what c folder e dep_info ≡ compile_answered c dep_info
+  compile_so is = kind_so ∙ ap (λ b. if b then run_answered c folder e else compile_answered c dep_info) is
+
+  run_so : is_run what ≡ true → answered_by what c folder e dep_info ≡ run_answered c folder e
+  run_so is = kind_so ∙ ap (λ b. if b then run_answered c folder e else compile_answered c dep_info) is
+
+  -- what it tells
+  info_so : (info : DepInfo) → IsInfo dep_info info → read_info dep_info ≡ Ok info
+  info_so info (bytes, there, short, read) = ap read_info there ∙ ap (λ b. if b then Err unit_fault.NoDepInfo else info_in bytes) short ∙ ap read_or_none read
+
+  said_so : (said : List Directive) → directives_of e.stdout ≡ Ok said → list_any is_error said ≡ false → said_in e ≡ Ok said
+  said_so said read fine = ap (λ (r : Result (List Directive) LineFault). lifted unit_fault.Directive r >>= unless_error) read ∙ ap (λ b. if b then Err unit_fault.ScriptError else Ok said) fine
+
+  abbrev with_inputs : Option (List Directive) → List (List ℕ) → List (List ℕ) → Answer
+  with_inputs said paths variables = inputs_of c paths variables >>= (λ inputs. Ok record { directives = said; inputs = inputs })
+
+  rerun_so : (paths variables : List (List ℕ)) → paths ++ variables ≢ [] → rerun_inputs c folder paths variables ≡ inputs_of c (paths_from folder paths) (once variables)
+  rerun_so [] [] some = absurd (some refl)
+  rerun_so [] (name ∷ names) some = refl
+  rerun_so (path ∷ paths) names some = refl
+
+  told_so : (said : Option (List Directive)) (paths variables : List (List ℕ)) → IsTold what c folder e dep_info said paths variables → answered_by what c folder e dep_info ≡ with_inputs said paths variables
+  told_so _ _ _ (words.compile is info read) =
+      compile_so is ∙ ap (λ (r : Result DepInfo UnitFault). r >>= (λ i. info_inputs c i >>= (λ inputs. Ok record { directives = None; inputs = inputs }))) (info_so info read)
+  told_so _ _ _ (words.run is said read fine some) =
+      run_so is ∙ ap (λ (r : Result (List Directive) UnitFault). r >>= (λ s. said_inputs c folder s >>= (λ inputs. Ok record { directives = Some s; inputs = inputs }))) (said_so said read fine)
+      ∙ ap (λ r. r >>= (λ inputs. Ok record { directives = Some said; inputs = inputs })) (rerun_so (flat_map changed_path said) (flat_map changed_variable said) some)
+  told_so _ _ _ (words.run_alone is said read fine no_path no_variable) =
+      run_so is ∙ ap (λ (r : Result (List Directive) UnitFault). r >>= (λ s. said_inputs c folder s >>= (λ inputs. Ok record { directives = Some s; inputs = inputs }))) (said_so said read fine)
+      ∙ (λ i. rerun_inputs c folder (no_path i) (no_variable i) >>= (λ inputs. Ok record { directives = Some said; inputs = inputs }))
+
+  abbrev InfoView : Type 0
+  InfoView = ((info : DepInfo) × IsInfo dep_info info) ⊎ ((read_info dep_info ≡ Err unit_fault.NoDepInfo) × ((info : DepInfo) → IsInfo dep_info info → ⊥))
+
+  same_bytes : (bytes : List ℕ) → dep_info ≡ Some bytes → (info : DepInfo) (is : IsInfo dep_info info) → bytes ≡ is.0
+  same_bytes bytes at info is = let both : Some bytes ≡ Some is.0 = sym at ∙ is.1 in cc
+
+  info_view : InfoView
+  info_view = by dep_info refl
+    where
+      by_read : (bytes : List ℕ) → dep_info ≡ Some bytes → is_too_long bytes ≡ false → (r : Result DepInfo LineFault) → dep_info_of bytes ≡ r → InfoView
+      by_read bytes at short (Ok info) read = inl (info, (bytes, at, short, read))
+      by_read bytes at short (Err fault) read =
+          inr (
+            ap read_info at ∙ ap (λ b. if b then Err unit_fault.NoDepInfo else info_in bytes) short ∙ ap read_or_none read,
+            λ info is. (let other : Err fault ≡ Ok info = sym read ∙ ap dep_info_of (same_bytes bytes at info is) ∙ is.3 in cc),
+          )
+
+      by_length : (bytes : List ℕ) → dep_info ≡ Some bytes → (b : Bool) → is_too_long bytes ≡ b → InfoView
+      by_length bytes at true long_so =
+          inr (
+            ap read_info at ∙ ap (λ b. if b then Err unit_fault.NoDepInfo else info_in bytes) long_so,
+            λ info is. (let other : true ≡ false = sym long_so ∙ ap is_too_long (same_bytes bytes at info is) ∙ is.2 in cc),
+          )
+      by_length bytes at false short = by_read bytes at short (dep_info_of bytes) refl
+
+      by : (o : Option (List ℕ)) → dep_info ≡ o → InfoView
+      by None at = inr (ap read_info at, λ info is. (let other : None ≡ Some is.0 = sym at ∙ is.1 in cc))
+      by (Some bytes) at = by_length bytes at (is_too_long bytes) refl
+
+  -- each case is the answer
+  pub answer_so : (a : Answer) → IsAnswer what c folder e dep_info a → answer ≡ a
+  answer_so _ (words.too_long is) = ap (λ b. unless_fault (if b then Some unit_fault.OutputTooLong else by_status) (answered_by what c folder e dep_info)) is
+  answer_so _ (words.status short is) =
+      ap (λ b. unless_fault (if b then Some unit_fault.OutputTooLong else by_status) (answered_by what c folder e dep_info)) short ∙ by (int_eq e.status (pos 0)) refl
+    where
+      by : (b : Bool) → int_eq e.status (pos 0) ≡ b → unless_fault (if b then None else Some (unit_fault.Status e.status)) (answered_by what c folder e dep_info) ≡ Err (unit_fault.Status e.status)
+      by true at = absurd (is ((Decides-int_eq e.status (pos 0)).0 at))
+      by false at = refl
+  answer_so _ (words.no_dep_info well is none) =
+      well_so well ∙ compile_so is ∙ ap (λ (r : Result DepInfo UnitFault). r >>= (λ i. info_inputs c i >>= (λ inputs. Ok record { directives = None; inputs = inputs }))) (unread none)
+    where
+      unread : ((info : DepInfo) → IsInfo dep_info info → ⊥) → read_info dep_info ≡ Err unit_fault.NoDepInfo
+      unread none = elim info_view [ inl i ↦ absurd (none i.0 i.1) | inr bad ↦ bad.0 ]
+  answer_so _ (words.bad_line well is fault read) =
+      well_so well ∙ run_so is
+      ∙ ap (λ (r : Result (List Directive) LineFault). (lifted unit_fault.Directive r >>= unless_error) >>= (λ s. said_inputs c folder s >>= (λ inputs. Ok record { directives = Some s; inputs = inputs }))) read
+  answer_so _ (words.script_error well is said read some) =
+      well_so well ∙ run_so is
+      ∙ ap (λ (r : Result (List Directive) LineFault). (lifted unit_fault.Directive r >>= unless_error) >>= (λ s. said_inputs c folder s >>= (λ inputs. Ok record { directives = Some s; inputs = inputs }))) read
+      ∙ ap (λ b. (if b then Err unit_fault.ScriptError else Ok said) >>= (λ s. said_inputs c folder s >>= (λ inputs. Ok record { directives = Some s; inputs = inputs }))) some
+  answer_so _ (words.refused well said paths variables told fault inputs) = well_so well ∙ told_so said paths variables told ∙ ap (λ r. r >>= (λ inputs. Ok record { directives = said; inputs = inputs })) inputs
+  answer_so _ (words.good well paths variables answered told inputs) =
+      well_so well ∙ told_so answered.directives paths variables told ∙ ap (λ r. r >>= (λ inputs. Ok record { directives = answered.directives; inputs = inputs })) inputs
+
+  -- and one of the cases is there
+  abbrev pub Is : Answer → Type 0
+  Is a = IsAnswer what c folder e dep_info a
+
+  found : (a : Answer) → Is a → Is answer
+  found a is = subst Is (sym (answer_so a is)) is
+
+  by_inputs : EndedWell e → (said : Option (List Directive)) (paths variables : List (List ℕ)) → IsTold what c folder e dep_info said paths variables → Is answer
+  by_inputs well said paths variables told = by (inputs_of c paths variables) refl
+    where
+      by : (r : _) → inputs_of c paths variables ≡ r → Is answer
+      by (Ok inputs) at = found _ (words.good well paths variables (record { directives = said; inputs = inputs }) told at)
+      by (Err fault) at = found _ (words.refused well said paths variables told fault at)
+
+  by_lines : EndedWell e → is_run what ≡ true → (said : List Directive) → directives_of e.stdout ≡ Ok said → list_any is_error said ≡ false → Is answer
+  by_lines well is said read fine = by (flat_map changed_path said) (flat_map changed_variable said) refl refl
+    where
+      apart : (x : List ℕ) (xs : List (List ℕ)) → x ∷ xs ≢ []
+      apart x xs same = cc
+
+      by : (paths variables : List (List ℕ)) → flat_map changed_path said ≡ paths → flat_map changed_variable said ≡ variables → Is answer
+      by [] [] one other = by_inputs well (Some said) (folder ∷ []) [] (words.run_alone is said read fine one other)
+      by [] (name ∷ names) one other =
+          by_inputs well (Some said) _ _ (words.run is said read fine (λ empty. apart name names (sym (λ i. one i ++ other i) ∙ empty)))
+      by (path ∷ paths) variables one other =
+          by_inputs well (Some said) _ _ (words.run is said read fine (λ empty. apart path (paths ++ variables) (sym (λ i. one i ++ other i) ∙ empty)))
+
+  by_said : EndedWell e → is_run what ≡ true → (r : Result (List Directive) LineFault) → directives_of e.stdout ≡ r → Is answer
+  by_said well is (Err fault) read = found _ (words.bad_line well is fault read)
+  by_said well is (Ok said) read = by (list_any is_error said) refl
+    where
+      by : (b : Bool) → list_any is_error said ≡ b → Is answer
+      by true some = found _ (words.script_error well is said read some)
+      by false fine = by_lines well is said read fine
+
+  by_kind : EndedWell e → (b : Bool) → is_run what ≡ b → Is answer
+  by_kind well true is = by_said well is (directives_of e.stdout) refl
+  by_kind well false is = elim info_view [
+    | inl i ↦ by_inputs well None _ _ (words.compile is i.0 i.1)
+    | inr bad ↦ found _ (words.no_dep_info well is bad.1)
+  ]
+
+  by_end : long ≡ false → (b : Bool) → int_eq e.status (pos 0) ≡ b → Is answer
+  by_end short true at = by_kind (short, (Decides-int_eq e.status (pos 0)).0 at) (is_run what) refl
+  by_end short false at = found _ (words.status short (λ same. (let other : true ≡ false = sym ((Decides-int_eq e.status (pos 0)).1 same) ∙ at in cc)))
+
+  by_length : (b : Bool) → long ≡ b → Is answer
+  by_length true is = found _ (words.too_long is)
+  by_length false short = by_end short (int_eq e.status (pos 0)) refl
+
+  pub answer_view : Is answer
+  answer_view = by_length long refl
+
+pub answers_say : AnswersSay
+answers_say project u c e dep_info a = (
+  λ same. subst (IsAnswer u.unit.what c (folder_of project u) e dep_info) same (answer_view u.unit.what c (folder_of project u) e dep_info),
+  answer_so u.unit.what c (folder_of project u) e dep_info a,
+)

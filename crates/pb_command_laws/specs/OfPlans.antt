@@ -1,0 +1,48 @@
+-- What the commands of a plan's units are: for a unit that stands in the plan of its project, all in one (The Cargo Book, cargo build, Build Scripts, Environment Variables, Specifying Dependencies).
+use Rattle.std.specs.Prelude.{◌≡◌, ℕ, true, false, ◌&&◌, ◌++◌, codes, is_some, List, [], Option, Some, None}
+use Rattle.pb_command.specs.Command.{command_of}
+use Rattle.pb_project.specs.declared.project.Setup.{Setup}
+use Rattle.pb_directive.specs.declared.directive.Directive.{Directive}
+use Rattle.pb_package.specs.Settled.{IsSettled}
+use Rattle.pb_package.specs.declared.package.Package.{Package}
+use Rattle.pb_place.specs.Paths.{below, is_path}
+use Rattle.pb_place.specs.declared.command.Command.{Command}
+use Rattle.pb_project.specs.Targets.{is_run, said_at, source_by, unit_at}
+use Rattle.pb_project.specs.declared.project.Project.{Project}
+use Rattle.pb_unit.specs.Units.{unit}
+use Rattle.pb_unit.specs.declared.plan.Planned.{Planned}
+use Rattle.pb_unit.specs.declared.unit.What.TheVariants.{Run, Script}
+use Rattle.pb_command_laws.specs.Compiles.{CompileSays, hears}
+use Rattle.pb_command_laws.specs.Planned.{IsWanted, StandsInPlan, folder_of}
+use Rattle.pb_command_laws.specs.Reading.{said_by}
+use Rattle.pb_command_laws.specs.Starts.{StartsCompiler, StartsScript}
+use Rattle.pb_command_laws.specs.Variables.{CompileHas, RunHas}
+
+-- what a compile hears of its package's script: a library or a binary the lines of the run on its own side, whose files have this folder
+pub data Hears (project : Project) (u : Planned) (p : Package) (done : List (Option (List Directive))) : List Directive → Option (List ℕ) → Type 0 where
+  nothing : (is : (hears u.unit.what && is_some p.script) ≡ false) → Hears project u p done [] None
+  own_run : (is : (hears u.unit.what && is_some p.script) ≡ true) (place : ℕ) (run : Planned) (there : unit_at project place ≡ Some run) (same : run.unit ≡ unit u.unit.owner u.unit.side Run) → Hears project u p done (said_at done place) (Some run.out)
+
+pub record IsCompile (setup : Setup) (project : Project) (u : Planned) (done : List (Option (List Directive))) (p : Package) (command : Command) : Type 0 where
+  pub starts : StartsCompiler setup project u command
+  pub lines : List Directive
+  pub ran : Option (List ℕ)
+  pub hears : Hears project u p done lines ran
+  pub has : CompileHas setup project u p command lines ran
+  pub said : List (List ℕ × List ℕ)
+  pub words : said_by command.words ≡ said ++ said_by setup.flags
+  pub says : CompileSays project u done p lines (IsWanted project u p) said
+
+-- a run starts the script of its package on its side
+pub record IsRun (setup : Setup) (project : Project) (u : Planned) (done : List (Option (List Directive))) (p : Package) (command : Command) : Type 0 where
+  pub starts : StartsScript setup project u p (Some (below (folder_of project (unit u.unit.owner u.unit.side Script)) (codes "build_script_build"))) command
+  pub has : RunHas setup project u done p command
+
+-- The laws. The package is one of a workspace that was read, and its source has a normalised absolute path.
+
+abbrev pub CompilesOfPlans : Type 0
+CompilesOfPlans = (setup : Setup) (project : Project) (u : Planned) (done : List (Option (List Directive))) (p : Package)
+    → IsSettled project.workspace → StandsInPlan project u p → is_run u.unit.what ≡ false → is_path (source_by p u.unit.what) ≡ true → IsCompile setup project u done p (command_of setup project u done)
+
+abbrev pub RunsOfPlans : Type 0
+RunsOfPlans = (setup : Setup) (project : Project) (u : Planned) (done : List (Option (List Directive))) (p : Package) → StandsInPlan project u p → is_run u.unit.what ≡ true → IsRun setup project u done p (command_of setup project u done)
