@@ -22,6 +22,9 @@ LAWS = """
 --but=pb_soundness.Sound.Sound=NothingIsSound,OutsideLaw
 """.split()
 
+# the rows of units, their lines and summary; the project and the version of the compiler; refusals, and the finish line
+FROM_NOTHING = "Rows.rows_of Rows.said_from Rows.summary_of Planning.IsProject Result.toolchain_of Ending.NoneBegan Ending.Closes".split()
+
 top = os.path.dirname(os.path.dirname(os.path.abspath(__file__)))
 HEAD = re.compile(r"^(?:abbrev |unfoldable |opaque )*(?:pub )?(?:(record|data|ruleset) )?(\S+)(?: |$)")
 WORD = re.compile(r"[^\s(){}\[\],;.:=→λ≡×∷]+")
@@ -114,8 +117,23 @@ for it in sys.argv[1:] + (LAWS if "--laws" in sys.argv else []):
         old, _, new = it[6:].partition("=")
         instead[named(old)] = {named(part) for part in new.split(",") if part}
 starts = [named(it) for it in words] or [named("pb_build.Headline.Headline")]
-count(below(starts, {}), "with all definitions")
+laws = list(set().union(*instead.values())) if instead else []
+stops = {old: set() for old in instead}
+
+
+def told(title, seen, stops):
+    """Counts definitions; with `--beyond` those on which a build from nothing does not stand, each with its lines."""
+    if "--beyond" not in sys.argv:
+        return count(seen, title)
+    nothing = [named(it) for it in FROM_NOTHING]
+    said = set().union(*[instead[it] for it in below(nothing, {}) & set(stops)])
+    left = seen - below([*nothing, *said], stops)
+    count(left, f"{title}, beyond a build from nothing")
+    for crate in sorted({it.split(".")[0] for it in left}):
+        own = sorted(it for it in left if it.startswith(crate + "."))
+        print(f"  {crate}: " + ", ".join(f"{it.split('.', 1)[1]} {len(lines[it])}" for it in own))
+
+
+told("with all definitions", below(starts, {}), {})
 if instead:
-    laws = set().union(*instead.values())
-    stops = {old: set() for old in instead}
-    count(below(starts + list(laws), stops), "with the laws in their place")
+    told("with the laws in their place", below(starts + laws, stops), stops)
