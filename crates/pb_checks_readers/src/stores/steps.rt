@@ -120,7 +120,11 @@ fn replay_words(alloc: Global, again: &Replayed) -> Result<String, Fail> {
     let stdout = str::from_utf8(again.ended.stdout.as_slice()).unwrap_or("wrong");
     let stderr = str::from_utf8(again.ended.stderr.as_slice()).unwrap_or("wrong");
     let status = again.ended.status;
-    let numbered = if again.numbered { "numbered" } else { "without number" };
+    let numbered = if again.numbered {
+        "numbered"
+    } else {
+        "without number"
+    };
     Ok(format!(in alloc; "{stdout} {stderr} {status} {numbered}")?)
 }
 

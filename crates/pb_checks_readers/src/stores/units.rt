@@ -7,8 +7,7 @@ ghost use Rattle.pb_soundness.specs.Records.{is_key, out_of};
 use crate::stores::world::{OWN, replaced};
 use pb_data::{Bytes, Items, Text, TryCopy};
 use pb_place::{Command, Ended, PathFault, PathText, RelativePath};
-use pb_record::InputName;
-use pb_record::{Asked, Record, read_record};
+use pb_record::{Asked, InputName, Record, read_record};
 use std::alloc::{AllocError, Global};
 use std::test::Fail;
 
