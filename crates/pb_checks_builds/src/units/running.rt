@@ -12,7 +12,8 @@ use pb_mini::Mini;
 use pb_place::{Memory, Place};
 use pb_project::{Project, unit_at};
 use pb_run::{
-    Awaited, Beginning, Begun, Ran, Run, answer_unit, begin_unit, drop_unit, lines_of_unit, run_unit,
+    Awaited, Beginning, Begun, Ran, Run, answer_unit, begin_unit, drop_unit, lines_of_unit,
+    run_unit,
 };
 use pb_store::Difference;
 use pb_unit::Planned;
