@@ -9,7 +9,7 @@ out. `--laws` takes all laws of LAWS: of records and true records these say only
 import glob, os, re, sys
 
 LAWS = """
---but=pb_manifest.Document.manifest_of=ReadsManifests,DocumentsSayOne
+--but=pb_manifest_reader.Document.manifest_of=ReadsManifests,DocumentsSayOne
 --but=pb_workspace.Loaded.workspace_of=WorkspacesAreRead,WorkspacesAreOne
 --but=pb_workspace.Globs.matches=DecidesGlobs
 --but=pb_command.Command.command_of=CompilesOfPlans,RunsOfPlans

@@ -1,6 +1,6 @@
 #!/usr/bin/env bash
 # Times `read_manifest` beside `toml::table_from_str` on manifests of about 1 MiB, in one run.
-# It builds a small program in a folder of its own, over copies of the two crates, and takes away
+# It builds a small program in a folder of its own, over copies of the crates, and takes away
 # the folder at the end. Prints a line a manifest: its kind, its bytes, both times (the least of
 # fifteen, in microseconds of processor time) and their quotient.
 set -euo pipefail
@@ -8,20 +8,19 @@ top="$(cd "$(dirname "$0")/.." && pwd)"
 folder="$(mktemp -d)"
 trap 'rm -rf "$folder"' EXIT
 mkdir -p "$folder/crates/bench_manifest/src" "$folder/data"
-cp -r "$top/crates/pb_data" "$top/crates/pb_manifest" "$folder/crates/"
-rm -rf "$folder/crates/pb_manifest/src/tests" "$folder/crates/pb_manifest/src/tests.rt"
-sed -i '/^#\[cfg(test)\]$/d; /^mod tests;$/d' "$folder/crates/pb_manifest/src/lib.rt"
+cp -r "$top/crates/pb_data" "$top/crates/pb_manifest" "$top/crates/pb_manifest_reader" "$folder/crates/"
 cat > "$folder/crates.txt" <<'LIST'
 pb_data: indexmap
-pb_manifest: pb_data semver thiserror toml toml_parser
-bench_manifest: pb_manifest toml anyhow
+pb_manifest: pb_data semver thiserror
+pb_manifest_reader: pb_data pb_manifest semver toml toml_parser
+bench_manifest: pb_manifest_reader toml anyhow
 LIST
 cat > "$folder/crates/bench_manifest/src/main.rt" <<'PROGRAM'
 //! Times the manifest reader beside the TOML reader.
 #![tactic(auto)]
 
 use anyhow::Result;
-use pb_manifest::read_manifest;
+use pb_manifest_reader::read_manifest;
 use std::env;
 use std::fs;
 use std::time::{CpuClock, Duration};

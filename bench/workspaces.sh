@@ -9,8 +9,8 @@
 #
 # Prints a line a size, and the exponents. What is measured and how is said in `measured.sh`.
 set -euo pipefail
-crates="pb_closure pb_data pb_manifest pb_package pb_place pb_workspace"
-uses="pb_data pb_manifest pb_place pb_workspace"
+crates="pb_closure pb_data pb_manifest pb_manifest_reader pb_package pb_place pb_workspace"
+uses="pb_data pb_manifest_reader pb_place pb_workspace"
 . "$(dirname "$0")/measured.sh"
 program <<'PROGRAM'
 //! Measures the loader.
@@ -20,7 +20,7 @@ mod child;
 
 use anyhow::Result;
 use child::Silent;
-use pb_manifest::read_manifest;
+use pb_manifest_reader::read_manifest;
 use pb_place::{Memory, PathText};
 use pb_workspace::load;
 use std::env;

@@ -9,8 +9,9 @@ use pb_data::{Items, Text, TryCopy};
 use pb_manifest::letters::{has_zero, is_crate_name, is_feature_name, is_name};
 use pb_manifest::{
     CrateType, Edition, Key, Library, ManifestFault, PathSource, Readme, Requirement, Version,
-    WrittenPath, crate_name, crate_type_texts, library_name, read_manifest,
+    WrittenPath, crate_name, crate_type_texts, library_name,
 };
+use pb_manifest_reader::read_manifest;
 use show::shown;
 use std::alloc::{AllocError, Global};
 use std::process::Abort;

@@ -1,16 +1,8 @@
-pub mod Binaries
-pub mod Dependencies
-pub mod Document
 pub mod Features
-pub mod FirstFaults
 pub mod Keys
 pub mod Laws
 pub mod Letters
 pub mod Library
-pub mod OwnKeys
 pub mod Package
-pub mod Profiles
-pub mod Promises
 pub mod Values
 pub mod Versions
-pub mod Workspace

@@ -1,22 +1,9 @@
 //! What the tables of dependencies say (The Cargo Book, Specifying Dependencies and Workspaces).
 
-ghost use Rattle.std.specs.Prelude.{◌≡◌, false};
-ghost use Rattle.toml.specs.View.{view, table_view};
-ghost use Rattle.pb_manifest.specs.Values.{Gives, each_entry};
-ghost use Rattle.pb_manifest.specs.Dependencies.{own_path, last_keys, source_of, dependency_keys, dependency_of, dependencies_at};
-
-use crate::entry::{
-    FirstKeys, LastKeys, at_path, first_keys, refused_where, version_and_workspace,
-};
-use crate::fault::ManifestFault;
-use crate::key::Key;
-use crate::letters::is_name;
-use crate::values::{has, path_at, table_at, takes_workspace};
 use crate::version::Requirement;
 use crate::written_path::WrittenPath;
 use pb_data::{Items, Text, TryCopy};
 use std::alloc::{AllocError, Global};
-use toml::{Table, Value};
 
 /// The package that an entry with a path asks for.
 #[derive(Drop)]
@@ -93,123 +80,4 @@ pub struct WorkspaceDependency {
     pub source: WorkspaceSource,
     /// The features that it asks for, in the manifest's order.
     pub features: Items<Text>,
-}
-
-/// The path of an entry: none beside `workspace = true`, and else it has to be there.
-fn own_path(taken: bool, path: Option<WrittenPath>) -> Result<Option<WrittenPath>, ManifestFault>
-    ensures { result ≡ own_path taken path }
-{
-    if taken {
-        return Ok(None);
-    }
-    match path {
-        Some(path) => Ok(Some(path)),
-        None => Err(ManifestFault::UnsupportedSource),
-    }
-}
-
-/// The keys of an entry from `path` to `workspace`.
-fn last_keys(alloc: Global, table: &Table) -> Result<LastKeys, ManifestFault>
-    ensures { Gives result (last_keys (table_view table.now)) }
-{
-    let path = own_path(takes_workspace(table), path_at(alloc, table, Key::Path)?)?;
-    refused_where(has(table, Key::Registry))?;
-    let version = version_and_workspace(alloc, table)?;
-    Ok(LastKeys { path, version })
-}
-
-/// Where an entry comes from.
-fn source_of(
-    default_features: Option<bool>,
-    package: Option<Text>,
-    version: Option<Requirement>,
-    path: Option<WrittenPath>,
-) -> Source
-    ensures { result ≡ source_of default_features «package» version path }
-{
-    match path {
-        Some(path) => Source::Path(at_path(default_features, package, version, path)),
-        None => Source::Workspace {
-            default_features: default_features.unwrap_or(false),
-        },
-    }
-}
-
-/// An entry that is a table.
-fn dependency_keys(alloc: Global, name: &str, table: &Table) -> Result<Dependency, ManifestFault>
-    ensures { Gives result (dependency_keys name.now (table_view table.now)) }
-{
-    let first = first_keys(alloc, false, table)?;
-    let last = last_keys(alloc, table)?;
-    let key = Text::from_str(alloc, name)?;
-    let FirstKeys {
-        default_features,
-        features,
-        optional,
-        package,
-    } = first;
-    let LastKeys { path, version } = last;
-    Ok(Dependency {
-        key,
-        source: source_of(default_features, package, version, path),
-        optional,
-        features,
-    })
-}
-
-/// An entry of the table at a key. One that is a version has no path.
-#[tactic(auto, unfolding(crate::specs::Dependencies::dependency_of))]
-fn dependency_of(
-    alloc: Global,
-    key: Key,
-    name: &str,
-    value: &Value,
-) -> Result<Dependency, ManifestFault>
-    ensures { Gives result (dependency_of key name.now (view value.now)) }
-{
-    if !is_name(name) {
-        return Err(ManifestFault::BadName);
-    }
-    if value.as_str().is_some() {
-        return Err(ManifestFault::UnsupportedSource);
-    }
-    match value.as_table() {
-        Some(table) => {
-            let dependency = dependency_keys(alloc, name, table)?;
-            Ok(dependency)
-        }
-        None => Err(ManifestFault::BadKind(key)),
-    }
-}
-
-/// The entries of a table, in byte order of their keys.
-fn each_dependency(
-    alloc: Global,
-    key: Key,
-    table: &Table,
-) -> Result<Items<Dependency>, ManifestFault>
-    ensures { Gives result (each_entry (dependency_of key) (table_view table.now)) }
-{
-    let mut dependencies = Items::new(alloc);
-    for (name, value) in table {
-        dependencies.push(dependency_of(alloc, key, name.as_str(), value)?)?;
-    }
-    Ok(dependencies)
-}
-
-/// The entries of `[dependencies]` or `[build-dependencies]`; none where the table is not there.
-pub(crate) fn dependencies_at(
-    alloc: Global,
-    key: Key,
-    table: &Table,
-) -> Result<Items<Dependency>, ManifestFault>
-    ensures { Gives result (dependencies_at key (table_view table.now)) }
-{
-    match table_at(table, key)? {
-        None => Ok(Items::new(alloc)),
-        Some(entries) => {
-            let dependencies = each_dependency(alloc, key, entries)?;
-            Ok(dependencies)
-        }
-    }
 }

@@ -1,13 +1,11 @@
-//! The manifest reader: what the bytes of a `Cargo.toml` say, by The Cargo Book.
+//! What a manifest says, by The Cargo Book: its types, and why one is refused.
 //!
-//! `read_manifest` is the whole of it. Its contract names one definition, `manifest_of` of
-//! `specs/Document.antt`, which is put together of one small definition a table and a key.
+//! `pb_manifest_reader` reads one. What a type's values may be, its fields say; a version, a
+//! requirement and a path are kept by their types.
 #![tactic(auto)]
 
 pub mod crate_names;
 pub mod dependency;
-pub mod document;
-mod entry;
 pub mod fault;
 pub mod feature;
 pub mod inherited;
@@ -17,18 +15,13 @@ pub mod letters;
 pub mod manifest;
 pub mod package;
 pub mod profile;
-mod profile_values;
-mod shared_dependency;
 pub mod spelling;
 pub mod target;
-mod values;
 pub mod version;
-mod workspace;
 pub mod written_path;
 
 pub use crate_names::{crate_name, library_name};
 pub use dependency::{Dependency, PathSource, Source, WorkspaceDependency, WorkspaceSource};
-pub use document::{GREATEST_LENGTH, read_manifest};
 pub use fault::ManifestFault;
 pub use feature::{Feature, FeatureItem};
 pub use inherited::{Inheritable, Inherited};

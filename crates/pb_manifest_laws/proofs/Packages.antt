@@ -8,9 +8,12 @@ use Rattle.toml.specs.Data.{Data, string, boolean, Members, as_table}
 use Rattle.pb_data.specs.Gives.{◌>>=◌}
 use Rattle.pb_manifest.specs.Keys.{spelled}
 use Rattle.pb_manifest.specs.Letters.{is_name}
-use Rattle.pb_manifest.specs.Package.{package_of, package_from, first_keys, middle_keys, last_keys, name_at, name_in, edition_of, edition_in, edition_text, inherited_edition_at, build_at, build_in, readme_of, inheritable_readme_at, resolver_at, resolver_in}
-use Rattle.pb_manifest.specs.Values.{Read, optional, value_at, text_of, text_at, truth_at, truth_of, texts_of, inheritable_in, inheritable_text_at, inheritable_texts_at, zero_free}
-use Rattle.pb_manifest.specs.Versions.{inherited_version_at, version_of, version_in, is_version, zero}
+use Rattle.pb_manifest.specs.Package.{edition_text}
+use Rattle.pb_manifest_reader.specs.Package.{package_of, package_from, first_keys, middle_keys, last_keys, name_at, name_in, edition_of, edition_in, inherited_edition_at, build_at, build_in, readme_of, inheritable_readme_at, resolver_at, resolver_in}
+use Rattle.pb_manifest.specs.Values.{Read}
+use Rattle.pb_manifest_reader.specs.Values.{optional, value_at, text_of, text_at, truth_at, truth_of, texts_of, inheritable_in, inheritable_text_at, inheritable_texts_at, zero_free}
+use Rattle.pb_manifest.specs.Versions.{version_in, is_version}
+use Rattle.pb_manifest_reader.specs.Versions.{inherited_version_at, version_of, zero}
 use Rattle.pb_manifest.specs.declared.fault.ManifestFault.TheVariants.{BadKind, BadName, BadVersion}
 use Rattle.pb_manifest.specs.declared.inherited.Inheritable.{Inheritable}
 use Rattle.pb_manifest.specs.declared.inherited.Inheritable.TheVariants as inheritable
@@ -25,7 +28,7 @@ use Rattle.pb_manifest.specs.declared.package.Edition.TheVariants.{E2015, E2018,
 use Rattle.pb_manifest.specs.declared.package.Package.{Package}
 use Rattle.pb_manifest.specs.declared.package.Readme.{Readme}
 use Rattle.pb_manifest.specs.declared.package.Readme.TheVariants as readme
-use Rattle.pb_manifest.proofs.Came.{came}
+use Rattle.pb_manifest_reader.proofs.Came.{came}
 use Rattle.pb_manifest_laws.specs.Laws.{ReadsPackages}
 use Rattle.pb_manifest_laws.specs.Packages.{edition, IsBuild, readme_value, IsVersion, IsResolver, absent, second, third, IsPackageTable}
 use Rattle.pb_manifest_laws.specs.Values.{texts, Holds, HoldsOrTakes}

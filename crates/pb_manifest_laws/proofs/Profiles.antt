@@ -10,8 +10,8 @@ use Rattle.pb_closure.proofs.Membership.{none, cases}
 use Rattle.toml.specs.Data.{Data, string, integer, boolean, table, Members, as_bool, as_str, as_table}
 use Rattle.pb_data.specs.Gives.{◌>>=◌, some_or}
 use Rattle.pb_manifest.specs.Keys.{spelled}
-use Rattle.pb_manifest.specs.Profiles.{opt_level_in, debug_in, lto_in, strip_in, panic_in, codegen_units_in, profile_value, profile_keys, profile_table, override_of, overrides_at, build_override_in, build_override_at, may_be_profile, profile_of_table, profile_of}
-use Rattle.pb_manifest.specs.Values.{optional, value_at}
+use Rattle.pb_manifest_reader.specs.Profiles.{opt_level_in, debug_in, lto_in, strip_in, panic_in, codegen_units_in, profile_value, profile_keys, profile_table, override_of, overrides_at, build_override_in, build_override_at, may_be_profile, profile_of_table, profile_of}
+use Rattle.pb_manifest_reader.specs.Values.{optional, value_at}
 use Rattle.pb_manifest.specs.declared.fault.ManifestFault.TheVariants.{BadProfile}
 use Rattle.pb_manifest.specs.declared.key.Key.TheVariants as key
 use Rattle.pb_manifest.specs.declared.profile.OptLevel.{OptLevel}
@@ -27,7 +27,7 @@ use Rattle.pb_manifest.specs.declared.profile.Strip.TheVariants as strip
 use Rattle.pb_manifest.specs.declared.profile.ProfileKeys.{ProfileKeys}
 use Rattle.pb_manifest.specs.declared.profile.ProfileOverride.{ProfileOverride}
 use Rattle.pb_manifest.specs.declared.profile.Profile.{Profile}
-use Rattle.pb_manifest.proofs.Came.{came}
+use Rattle.pb_manifest_reader.proofs.Came.{came}
 use Rattle.pb_manifest_laws.specs.Laws.{ReadsSettings, ReadsProfiles}
 use Rattle.pb_manifest_laws.specs.Profiles.{opt_levels, debug_infos, ltos, strips, panics, HoldsOne, AreSettings, IsOverrideEntry, IsProfileEntry}
 use Rattle.pb_manifest_laws.specs.Values.{Holds}

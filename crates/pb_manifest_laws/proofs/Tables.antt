@@ -2,9 +2,10 @@
 use Rattle.std.proofs.Common.{◌≡◌, ◌↔◌, ◌∙◌, ℕ, List, [], ◌∷◌, Option, Some, None, Ok, refl, sym, ap, subst}
 use Rattle.toml.specs.Data.{Data, string, integer, float, boolean, datetime, array, table, Items, no_items, item, Members, no_members, member, as_table}
 use Rattle.pb_data.specs.Gives.{◌>>=◌, some_or}
-use Rattle.pb_manifest.specs.Values.{Read, optional, each, each_entry, entries_of}
+use Rattle.pb_manifest.specs.Values.{Read}
+use Rattle.pb_manifest_reader.specs.Values.{optional, each, each_entry, entries_of}
 use Rattle.pb_manifest.specs.declared.fault.ManifestFault.{ManifestFault}
-use Rattle.pb_manifest.proofs.Came.{came}
+use Rattle.pb_manifest_reader.proofs.Came.{came}
 use Rattle.pb_manifest_laws.specs.Values.{AreEntries, AreItems, AreEntriesAt, IsTableAt}
 
 -- entries

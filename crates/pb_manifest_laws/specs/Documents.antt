@@ -3,7 +3,7 @@ use Rattle.std.specs.Prelude.{◌≡◌, ◌≤◌, ℕ, true, is_some, length, 
 use Rattle.std.specs.Str.{is_utf8}
 use Rattle.toml.specs.Data.{Data, array, table, Members, get_member}
 use Rattle.toml.specs.Parse.{parse_document}
-use Rattle.pb_manifest.specs.Values.{keys_of}
+use Rattle.pb_manifest_reader.specs.Values.{keys_of}
 use Rattle.pb_manifest.specs.declared.manifest.Manifest.{Manifest}
 use Rattle.pb_manifest.specs.declared.target.Binary.{Binary}
 use Rattle.pb_manifest_laws.specs.Dependencies.{IsDependencyEntry}

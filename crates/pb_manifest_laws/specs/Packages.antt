@@ -2,11 +2,11 @@
 use Rattle.std.specs.Prelude.{◌≡◌, ℕ, true, false, List, map, codes, Option, Some, None, IfSome}
 use Rattle.std.specs.List.{AllByRecursion}
 use Rattle.toml.specs.Data.{Data, string, boolean, array, Members, get_member}
-use Rattle.pb_manifest.specs.Laws.{item_text}
+use Rattle.pb_manifest_reader.specs.Laws.{item_text}
 use Rattle.pb_manifest.specs.Letters.{is_name, is_crate_name, is_feature_name}
 use Rattle.pb_manifest.specs.Library.{crate_type_text}
 use Rattle.pb_manifest.specs.Package.{edition_text}
-use Rattle.pb_manifest.specs.Promises.{IsItem}
+use Rattle.pb_manifest_reader.specs.Promises.{IsItem}
 use Rattle.pb_manifest.specs.Versions.{is_version}
 use Rattle.pb_manifest.specs.declared.inherited.Inherited.{Inherited}
 use Rattle.pb_manifest.specs.declared.inherited.Inherited.TheVariants.{Written, Workspace}

@@ -1,7 +1,7 @@
 -- What `[profile.*]` says, key by key (The Cargo Book, Profiles).
 use Rattle.std.specs.Prelude.{◌≡◌, ◌≤◌, ℕ, pos, true, false, List, [], ◌∷◌, codes, Option, Some, None, IfSome, Contains}
 use Rattle.toml.specs.Data.{Data, string, integer, boolean, table, Members, get_member}
-use Rattle.pb_manifest.specs.Profiles.{may_be_profile}
+use Rattle.pb_manifest_reader.specs.Profiles.{may_be_profile}
 use Rattle.pb_manifest.specs.declared.profile.OptLevel.{OptLevel}
 use Rattle.pb_manifest.specs.declared.profile.OptLevel.TheVariants.{Zero, One, Two, Three, Size, SmallestSize}
 use Rattle.pb_manifest.specs.declared.profile.DebugInfo.{DebugInfo}

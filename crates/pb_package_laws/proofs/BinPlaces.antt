@@ -11,7 +11,7 @@ use Rattle.pb_closure.proofs.Membership.{none, head, tail, cases, to_kept, from_
 use Rattle.pb_manifest.specs.Features.{parted}
 use Rattle.pb_manifest.specs.Letters as letters
 use Rattle.pb_manifest.proofs.Parting.{parted_around}
-use Rattle.pb_manifest.proofs.Spelled.{parted_some}
+use Rattle.pb_manifest.proofs.Parting.{parted_some}
 use Rattle.pb_package.proofs.NamesInPaths.{no_slash, no_dot, without}
 use Rattle.pb_package.specs.declared.package.Binary.{Binary}
 use Rattle.pb_place.proofs.MapLemmas.{among_keys, get-kept, same_bytes}

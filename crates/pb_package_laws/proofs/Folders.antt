@@ -10,7 +10,7 @@ use Rattle.pb_manifest.specs.declared.dependency.PathSource.{PathSource}
 use Rattle.pb_manifest.specs.declared.dependency.Source.TheVariants as source
 use Rattle.pb_manifest.specs.declared.dependency.WorkspaceDependency.{WorkspaceDependency}
 use Rattle.pb_manifest.specs.declared.dependency.WorkspaceSource.TheVariants as shared
-use Rattle.pb_manifest.specs.Promises.{IsWorkspaceTable}
+use Rattle.pb_manifest_reader.specs.Promises.{IsWorkspaceTable}
 use Rattle.pb_manifest.specs.declared.manifest.Manifest.{Manifest}
 use Rattle.pb_manifest.specs.declared.manifest.WorkspaceTable.{WorkspaceTable}
 use Rattle.pb_package.specs.declared.package.DependencyKind.TheVariants.{Normal, Build as ForScript}

@@ -19,7 +19,7 @@ use Rattle.pb_manifest.specs.declared.manifest.WorkspacePackage.{WorkspacePackag
 use Rattle.pb_manifest.specs.declared.package.Package.{Package as Written}
 use Rattle.pb_manifest.specs.declared.target.CrateType.{CrateType}
 use Rattle.pb_manifest.specs.declared.target.Library.{Library as WrittenLibrary}
-use Rattle.pb_manifest.proofs.Manifests.{manifest_is}
+use Rattle.pb_manifest_reader.proofs.Manifests.{manifest_is}
 use Rattle.pb_package.specs.declared.package.About.{About}
 use Rattle.pb_package.specs.declared.package.Binary.{Binary}
 use Rattle.pb_package.specs.declared.package.DependencyKind.{DependencyKind}

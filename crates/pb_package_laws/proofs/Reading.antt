@@ -4,7 +4,7 @@ use Rattle.std.specs.FinMap as finite
 use Rattle.std.specs.List.{AllByRecursion}
 use Rattle.pb_closure.proofs.Membership.{none, cases}
 use Rattle.pb_data.specs.Gives.{◌>>=◌, lifted}
-use Rattle.pb_manifest.specs.Document.{manifest_of}
+use Rattle.pb_manifest_reader.specs.Document.{manifest_of}
 use Rattle.pb_manifest.specs.declared.manifest.Manifest.{Manifest}
 use Rattle.pb_manifest.specs.declared.package.Package.{Package as Written}
 use Rattle.pb_package.specs.declared.fault.LoadFault.TheVariants.{Manifest as InManifest}

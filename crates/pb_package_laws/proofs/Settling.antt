@@ -3,7 +3,7 @@ use Rattle.std.proofs.Common.{◌≡◌, ◌∙◌, ℕ, Bool, true, false, if�
 use Rattle.std.specs.List.{AllByRecursion}
 use Rattle.pb_manifest.specs.Letters.{is_name}
 use Rattle.pb_manifest.specs.Library.{library_name}
-use Rattle.pb_manifest.specs.Promises.{IsBinary, IsManifest, IsPackage}
+use Rattle.pb_manifest_reader.specs.Promises.{IsBinary, IsManifest, IsPackage}
 use Rattle.pb_manifest.specs.declared.feature.Feature.{Feature}
 use Rattle.pb_manifest.specs.declared.feature.FeatureItem.{FeatureItem}
 use Rattle.pb_manifest.specs.declared.manifest.Manifest.{Manifest}

@@ -9,8 +9,8 @@ use Rattle.std.specs.Str.{bytes_eq}
 use Rattle.pb_closure.specs.Closure.{onward}
 use Rattle.std.proofs.lemmas.List.Elements.{Contains-append_left, Contains-append_right}
 use Rattle.pb_data.specs.Gives.{◌>>=◌}
-use Rattle.pb_manifest.proofs.Manifests.{manifest_is}
-use Rattle.pb_manifest.specs.Promises.{IsManifest, IsPackage}
+use Rattle.pb_manifest_reader.proofs.Manifests.{manifest_is}
+use Rattle.pb_manifest_reader.specs.Promises.{IsManifest, IsPackage}
 use Rattle.pb_manifest.specs.declared.manifest.Manifest.{Manifest}
 use Rattle.pb_manifest.specs.declared.manifest.WorkspacePackage.{WorkspacePackage}
 use Rattle.pb_manifest.specs.declared.manifest.WorkspaceTable.{WorkspaceTable}

@@ -3,7 +3,7 @@ use Rattle.std.specs.Prelude.{◌≡◌, ℕ, Bool, true, is_some, List, Option,
 use Rattle.std.specs.FinMap as finite
 use Rattle.std.specs.List.{find}
 use Rattle.std.specs.Option.{option_map}
-use Rattle.pb_manifest.specs.Document.{manifest_of}
+use Rattle.pb_manifest_reader.specs.Document.{manifest_of}
 use Rattle.pb_manifest.specs.declared.manifest.Manifest.{Manifest}
 use Rattle.pb_place.specs.Paths.{below, is_path}
 use Rattle.pb_place.specs.World.{World}

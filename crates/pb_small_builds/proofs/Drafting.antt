@@ -4,9 +4,9 @@ use Rattle.std.specs.FinMap.{get}
 use Rattle.std.specs.List.{AllByRecursion}
 use Rattle.std.specs.List.Sorted.{IsStrictlySortedBy}
 use Rattle.pb_data.specs.Gives.{lifted}
-use Rattle.pb_manifest.specs.Document.{manifest_of}
+use Rattle.pb_manifest_reader.specs.Document.{manifest_of}
 use Rattle.pb_manifest.specs.Letters.{is_name}
-use Rattle.pb_manifest.specs.Promises.{IsBinary, IsBuild, IsManifest, IsPackage, IsSharedDependency}
+use Rattle.pb_manifest_reader.specs.Promises.{IsBinary, IsBuild, IsManifest, IsPackage, IsSharedDependency}
 use Rattle.pb_manifest.specs.declared.dependency.Dependency.{Dependency}
 use Rattle.pb_manifest.specs.declared.fault.ManifestFault.{ManifestFault}
 use Rattle.pb_manifest.specs.declared.feature.Feature.{Feature}

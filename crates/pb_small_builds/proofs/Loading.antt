@@ -4,7 +4,7 @@ use Rattle.std.specs.Prelude.{filter}
 use Rattle.std.specs.List.{AllByRecursion}
 use Rattle.std.specs.List.Sorted.{IsStrictlySortedBy}
 use Rattle.pb_closure.specs.Closure.{start, onward}
-use Rattle.pb_manifest.specs.Promises.{IsPath, IsSharedDependency, IsWorkspaceTable}
+use Rattle.pb_manifest_reader.specs.Promises.{IsPath, IsSharedDependency, IsWorkspaceTable}
 use Rattle.pb_manifest.specs.declared.manifest.WorkspaceTable.{WorkspaceTable}
 use Rattle.pb_manifest.specs.declared.package.Package.{Package as WrittenPackage}
 use Rattle.pb_order.proofs.Elements.{contains_cases, contains_map, contains_head, contains_none, contains_tail, filter_contains, map_contains}

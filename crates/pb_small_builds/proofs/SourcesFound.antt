@@ -6,7 +6,7 @@ use Rattle.std.specs.Str.{bytes_eq}
 use Rattle.std.proofs.lemmas.Slice.Eq.{bytes_eq-Decides}
 use Rattle.pb_manifest.specs.Letters.{is_name}
 use Rattle.pb_manifest.specs.Library.{library_name}
-use Rattle.pb_manifest.specs.Promises.{IsBinary, IsBuild, IsLibrary, IsPath}
+use Rattle.pb_manifest_reader.specs.Promises.{IsBinary, IsBuild, IsLibrary, IsPath}
 use Rattle.pb_manifest.specs.declared.package.Build.{Build}
 use Rattle.pb_manifest.specs.declared.package.Build.TheVariants as build
 use Rattle.pb_manifest.specs.declared.target.Binary.{Binary as WrittenBinary}

@@ -3,7 +3,7 @@ use Rattle.std.proofs.Common.{◌≡◌, Bool, true, false, cond, List, [], ◌�
 use Rattle.std.specs.List.{AllByRecursion, find}
 use Rattle.std.specs.Str.{bytes_eq}
 use Rattle.pb_data.specs.Gives.{◌>>=◌, some_or}
-use Rattle.pb_manifest.specs.Promises.{IsDependency, IsSharedDependency, IsSharedSource, IsSource}
+use Rattle.pb_manifest_reader.specs.Promises.{IsDependency, IsSharedDependency, IsSharedSource, IsSource}
 use Rattle.pb_manifest.specs.declared.dependency.Dependency.{Dependency}
 use Rattle.pb_manifest.specs.declared.dependency.Source.{Source}
 use Rattle.pb_manifest.specs.declared.dependency.Source.TheVariants.{Path, Workspace}

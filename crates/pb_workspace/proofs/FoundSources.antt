@@ -10,7 +10,7 @@ use Rattle.std.specs.Str.{bytes_eq}
 use Rattle.pb_closure.proofs.Membership.{none, head, tail, cases}
 use Rattle.pb_manifest.specs.Features.{parted}
 use Rattle.pb_manifest.specs.Letters as letters
-use Rattle.pb_manifest.proofs.Spelled.{parted_none, parted_some}
+use Rattle.pb_manifest.proofs.Parting.{parted_none, parted_some}
 use Rattle.pb_package.proofs.NamesInPaths.{no_dot, unlike}
 use Rattle.pb_package.specs.declared.package.Binary.{Binary}
 use Rattle.pb_place.specs.Paths.{below, inside, is_below, is_name, is_path, is_relative, parts_of, slashed}

@@ -5,7 +5,7 @@ use Rattle.std.specs.Str.{bytes_eq}
 use Rattle.pb_data.specs.Gives.{◌>>=◌, lifted}
 use Rattle.pb_place.specs.Paths.{below}
 use Rattle.pb_place.specs.World.{World}
-use Rattle.pb_manifest.specs.Document.{manifest_of}
+use Rattle.pb_manifest_reader.specs.Document.{manifest_of}
 use Rattle.pb_manifest.specs.declared.fault.ManifestFault.TheVariants.{BadKind}
 use Rattle.pb_manifest.specs.declared.key.Key.TheVariants as key
 use Rattle.pb_manifest.specs.declared.manifest.Manifest.{Manifest as ManifestRead}

@@ -4,7 +4,7 @@ ghost use Rattle.std.specs.Prelude.{◌≡◌, All, IfErr, IfOk, IsTrue, OnOk, f
 ghost use Rattle.pb_place.specs.World.{from_nothing};
 ghost use Rattle.pb_place.specs.Paths.{below};
 ghost use Rattle.pb_manifest.specs.Letters.{is_name};
-ghost use Rattle.pb_manifest.specs.Promises.{IsManifest};
+ghost use Rattle.pb_manifest_reader.specs.Promises.{IsManifest};
 ghost use Rattle.pb_workspace.specs.ByFolder.{folders_of, with_folders};
 ghost use Rattle.pb_workspace.specs.LookedAt.{Looks, looked, package_looked, file_looked, folder_looked, one_looked, all_looked, round_looked, rounds_looked};
 ghost use Rattle.pb_workspace.specs.Causes.{is_failure, is_outside, Told, Reads};
@@ -20,7 +20,8 @@ use crate::settling::Given;
 use crate::source::{own_path, source};
 use crate::wanted::{Standing, Wanted};
 use pb_data::{Bytes, Items, TryCopy};
-use pb_manifest::{Key, Manifest, ManifestFault, Package, Profile, WorkspaceTable, read_manifest};
+use pb_manifest::{Key, Manifest, ManifestFault, Package, Profile, WorkspaceTable};
+use pb_manifest_reader::read_manifest;
 use pb_package::LoadFault;
 use pb_place::{PathText, Place};
 use std::alloc::{AllocError, Global};

@@ -3,7 +3,8 @@
 use crate::workspaces::places::PLACES;
 use crate::workspaces::profiles::PROFILES;
 use pb_data::{Items, Text};
-use pb_manifest::{Edition, ManifestFault, Profile, Version, read_manifest};
+use pb_manifest::{Edition, ManifestFault, Profile, Version};
+use pb_manifest_reader::read_manifest;
 use pb_package::{
     About, BinariesByName, DefaultMembers, EntriesByKey, FeaturesByName, Package, Side, Workspace,
 };

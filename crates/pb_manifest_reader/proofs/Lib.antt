@@ -1,0 +1,15 @@
+pub mod Came
+pub mod Entries
+pub mod Firsts
+pub mod Items
+pub mod Looks
+pub mod Loops
+pub mod Manifests
+pub mod Named
+pub mod Names
+pub mod Promises
+pub mod Sorted
+pub mod Spelled
+pub mod Tables
+pub mod Yields
+pub mod Zero

@@ -1,0 +1,189 @@
+//! Reads `[profile]` (The Cargo Book, Profiles).
+
+ghost use Rattle.std.specs.Prelude.{◌≡◌, Ok, Err, IfOk, IfErr};
+ghost use Rattle.toml.specs.Data.{as_str};
+ghost use Rattle.toml.specs.View.{view, table_view};
+ghost use Rattle.pb_manifest.specs.Values.{Gives};
+ghost use Rattle.pb_manifest_reader.specs.Values.{each_entry};
+ghost use Rattle.pb_manifest_reader.specs.Profiles.{profile_value, profile_keys, profile_table, override_of, overrides_at, build_override_at, is_built_in, may_be_profile, profile_of_table, profile_of, profiles_at};
+ghost use Rattle.pb_manifest.specs.declared.key.Key.TheVariants as key;
+
+use crate::profile_values::{
+    codegen_units_at, debug_at, lto_at, opt_level_at, panic_at, strip_at, truth_at,
+};
+use crate::values::value_at;
+use pb_data::{Items, Text};
+use pb_manifest::letters::is_name;
+use pb_manifest::{Key, ManifestFault, Profile, ProfileKeys, ProfileOverride};
+use std::alloc::Global;
+use toml::{Table, Value};
+
+/// What `inherits` says, where it is there.
+fn inherits_at(alloc: Global, table: &Table) -> Result<Option<Text>, ManifestFault>
+    ensures { Gives result (profile_value as_str key.Inherits (table_view table.now)) }
+{
+    match value_at(table, Key::Inherits) {
+        None => Ok(None),
+        Some(value) => match value.as_str() {
+            Some(text) => {
+                let name = Text::from_str(alloc, text)?;
+                Ok(Some(name))
+            }
+            None => Err(ManifestFault::BadProfile),
+        },
+    }
+}
+
+/// The keys that a profile or an override sets.
+fn profile_keys(table: &Table) -> Result<ProfileKeys, ManifestFault>
+    ensures { result ≡ profile_keys (table_view table.now) }
+{
+    let codegen_units = codegen_units_at(table)?;
+    let debug = debug_at(table)?;
+    let debug_assertions = truth_at(table, Key::DebugAssertions)?;
+    let lto = lto_at(table)?;
+    let opt_level = opt_level_at(table)?;
+    let overflow_checks = truth_at(table, Key::OverflowChecks)?;
+    let panic = panic_at(table)?;
+    let rpath = truth_at(table, Key::Rpath)?;
+    let strip = strip_at(table)?;
+    Ok(ProfileKeys {
+        codegen_units,
+        debug,
+        debug_assertions,
+        lto,
+        opt_level,
+        overflow_checks,
+        panic,
+        rpath,
+        strip,
+    })
+}
+
+/// A table.
+fn profile_table<'a>(value: &'a Value) -> Result<&'a Table, ManifestFault>
+    ensures ok { IfOk result (λ t. profile_table (view value.now) ≡ Ok (table_view t.now)) }
+    ensures err { IfErr result (λ e. profile_table (view value.now) ≡ Err e) }
+{
+    match value.as_table() {
+        Some(table) => Ok(table),
+        None => Err(ManifestFault::BadProfile),
+    }
+}
+
+/// An override by a package's name.
+#[tactic(auto, unfolding(crate::specs::Profiles::override_of))]
+fn override_of(alloc: Global, name: &str, value: &Value) -> Result<ProfileOverride, ManifestFault>
+    ensures { Gives result (override_of name.now (view value.now)) }
+{
+    let keys = profile_keys(profile_table(value)?)?;
+    let name = Text::from_str(alloc, name)?;
+    Ok(ProfileOverride { name, keys })
+}
+
+/// The overrides of a table, in byte order of their names.
+fn each_override(alloc: Global, table: &Table) -> Result<Items<ProfileOverride>, ManifestFault>
+    ensures { Gives result (each_entry override_of (table_view table.now)) }
+{
+    let mut overrides = Items::new(alloc);
+    for (name, value) in table {
+        overrides.push(override_of(alloc, name.as_str(), value)?)?;
+    }
+    Ok(overrides)
+}
+
+/// The overrides by packages' names; none where there is no table of them.
+fn overrides_at(alloc: Global, table: &Table) -> Result<Items<ProfileOverride>, ManifestFault>
+    ensures { Gives result (overrides_at (table_view table.now)) }
+{
+    match value_at(table, Key::Package) {
+        None => Ok(Items::new(alloc)),
+        Some(value) => {
+            let overrides = each_override(alloc, profile_table(value)?)?;
+            Ok(overrides)
+        }
+    }
+}
+
+/// The override for build scripts and what they depend on, where it is there.
+fn build_override_at(table: &Table) -> Result<Option<ProfileKeys>, ManifestFault>
+    ensures { result ≡ build_override_at (table_view table.now) }
+{
+    match value_at(table, Key::BuildOverride) {
+        None => Ok(None),
+        Some(value) => {
+            let keys = profile_keys(profile_table(value)?)?;
+            Ok(Some(keys))
+        }
+    }
+}
+
+/// Whether a profile is there without being written.
+#[tactic(auto, unfolding(crate::specs::Profiles::is_built_in))]
+fn is_built_in(name: &str) -> bool
+    ensures { result ≡ is_built_in name.now }
+{
+    name == "dev" || name == "release" || name == "test" || name == "bench"
+}
+
+/// Whether a profile of this name may be written, given what `inherits` says.
+#[tactic(auto, unfolding(crate::specs::Profiles::may_be_profile))]
+fn may_be_profile(name: &str, inherits: &Option<Text>) -> bool
+    ensures { result ≡ may_be_profile name.now inherits.now }
+{
+    is_built_in(name) || (is_name(name) && name != "debug" && inherits.is_some())
+}
+
+/// A profile that is a table.
+fn profile_of_table(alloc: Global, name: &str, table: &Table) -> Result<Profile, ManifestFault>
+    ensures { Gives result (profile_of_table name.now (table_view table.now)) }
+{
+    let build_override = build_override_at(table)?;
+    let keys = profile_keys(table)?;
+    let inherits = inherits_at(alloc, table)?;
+    let packages = overrides_at(alloc, table)?;
+    if !may_be_profile(name, &inherits) {
+        return Err(ManifestFault::BadProfile);
+    }
+    let name = Text::from_str(alloc, name)?;
+    Ok(Profile {
+        name,
+        keys,
+        inherits,
+        packages,
+        build_override,
+    })
+}
+
+/// A profile.
+#[tactic(auto, unfolding(crate::specs::Profiles::profile_of))]
+fn profile_of(alloc: Global, name: &str, value: &Value) -> Result<Profile, ManifestFault>
+    ensures { Gives result (profile_of name.now (view value.now)) }
+{
+    let profile = profile_of_table(alloc, name, profile_table(value)?)?;
+    Ok(profile)
+}
+
+/// The profiles of a table, in byte order of their names.
+fn each_profile(alloc: Global, table: &Table) -> Result<Items<Profile>, ManifestFault>
+    ensures { Gives result (each_entry profile_of (table_view table.now)) }
+{
+    let mut profiles = Items::new(alloc);
+    for (name, value) in table {
+        profiles.push(profile_of(alloc, name.as_str(), value)?)?;
+    }
+    Ok(profiles)
+}
+
+/// The table `[profile]`; none where it is not there.
+pub(crate) fn profiles_at(alloc: Global, table: &Table) -> Result<Items<Profile>, ManifestFault>
+    ensures { Gives result (profiles_at (table_view table.now)) }
+{
+    match value_at(table, Key::Profile) {
+        None => Ok(Items::new(alloc)),
+        Some(value) => {
+            let profiles = each_profile(alloc, profile_table(value)?)?;
+            Ok(profiles)
+        }
+    }
+}

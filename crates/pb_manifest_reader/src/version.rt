@@ -1,0 +1,115 @@
+//! Reads the key `version`: of a package, of a workspace, of a dependency.
+
+ghost use Rattle.std.specs.Prelude.{◌≡◌, IfOk, Ok, map};
+ghost use Rattle.toml.specs.View.{view, table_view};
+ghost use Rattle.pb_manifest.specs.Values.{Gives};
+ghost use Rattle.pb_manifest_reader.specs.Values.{written_or_taken, inheritable_at, or_default};
+ghost use Rattle.pb_manifest_reader.specs.Versions.{version_of, requirement_of, version_at, requirement_at, inherited_version_at, zero};
+ghost use Rattle.pb_manifest.specs.declared.key.Key.TheVariants as key;
+
+use crate::values::{is_taken, text_of, value_at};
+use pb_data::Text;
+use pb_manifest::{Inheritable, Inherited, Key, ManifestFault, Requirement, Version};
+use std::alloc::Global;
+use toml::{Table, Value};
+
+/// A version.
+fn version_of(alloc: Global, value: &Value) -> Result<Version, ManifestFault>
+    ensures { Gives result (version_of (view value.now)) }
+{
+    let text = text_of(alloc, value, Key::Version)?;
+    let version = Version::read(alloc, text)?;
+    Ok(version)
+}
+
+/// The version at `version`, where it is there.
+pub(crate) fn version_at(alloc: Global, table: &Table) -> Result<Option<Version>, ManifestFault>
+    ensures { Gives result (version_at (table_view table.now)) }
+{
+    match value_at(table, Key::Version) {
+        None => Ok(None),
+        Some(value) => {
+            let version = version_of(alloc, value)?;
+            Ok(Some(version))
+        }
+    }
+}
+
+/// A requirement.
+pub(crate) fn requirement_of(alloc: Global, value: &Value) -> Result<Requirement, ManifestFault>
+    ensures { Gives result (requirement_of (view value.now)) }
+{
+    let text = text_of(alloc, value, Key::Version)?;
+    let requirement = Requirement::read(alloc, text)?;
+    Ok(requirement)
+}
+
+/// The requirement at `version`, where it is there.
+pub(crate) fn requirement_at(
+    alloc: Global,
+    table: &Table,
+) -> Result<Option<Requirement>, ManifestFault>
+    ensures { Gives result (requirement_at (table_view table.now)) }
+{
+    match value_at(table, Key::Version) {
+        None => Ok(None),
+        Some(value) => {
+            let requirement = requirement_of(alloc, value)?;
+            Ok(Some(requirement))
+        }
+    }
+}
+
+/// A version, or `{ workspace = true }`.
+fn version_or_taken(alloc: Global, value: &Value) -> Result<Inheritable<Version>, ManifestFault>
+    ensures { Gives result (written_or_taken key.Version version_of (view value.now)) }
+{
+    if is_taken(value, Key::Version)? {
+        return Ok(Inheritable::Workspace);
+    }
+    let version = version_of(alloc, value)?;
+    Ok(Inheritable::Written(version))
+}
+
+/// The version at `version`, or that it is taken from the workspace.
+fn inheritable_version_at(
+    alloc: Global,
+    table: &Table,
+) -> Result<Inheritable<Version>, ManifestFault>
+    ensures { Gives result (inheritable_at key.Version version_of (table_view table.now)) }
+{
+    match value_at(table, Key::Version) {
+        None => Ok(Inheritable::Absent),
+        Some(value) => {
+            let version = version_or_taken(alloc, value)?;
+            Ok(version)
+        }
+    }
+}
+
+/// The version that a package has where none is written.
+#[tactic(auto, using(crate::proofs::Zero::zero_is_version))]
+fn zero(alloc: Global) -> Result<Version, ManifestFault>
+    ensures { Gives result (Ok zero) }
+{
+    let text = Text::from_str(alloc, "0.0.0")?;
+    let version = Version::read(alloc, text)?;
+    Ok(version)
+}
+
+/// The version of a package: 0.0.0 where none is written.
+pub(crate) fn inherited_version_at(
+    alloc: Global,
+    table: &Table,
+) -> Result<Inherited<Version>, ManifestFault>
+    ensures { Gives result (inherited_version_at (table_view table.now)) }
+{
+    match inheritable_version_at(alloc, table)? {
+        Inheritable::Written(version) => Ok(Inherited::Written(version)),
+        Inheritable::Workspace => Ok(Inherited::Workspace),
+        Inheritable::Absent => {
+            let version = zero(alloc)?;
+            Ok(Inherited::Written(version))
+        }
+    }
+}
