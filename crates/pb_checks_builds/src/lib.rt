@@ -1,5 +1,5 @@
-//! Tests of what data cannot say: sessions over sinks that fail, builds over a place whose calls fail, and runs of units
-//! by themselves. All else of builds and programs is tested by the examples.
+//! Tests of what data cannot say: builds over a place whose calls fail, and runs of units by themselves. All else of
+//! builds and programs is tested by the examples.
 #![tactic(auto)]
 
 #[cfg(test)]
@@ -8,7 +8,5 @@ mod building;
 mod failing;
 #[cfg(test)]
 mod old;
-#[cfg(test)]
-mod sinks;
 #[cfg(test)]
 mod units;
