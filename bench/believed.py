@@ -30,6 +30,11 @@ LAWS = """
 --but=pb_project.Targets.source_by=UnitsMakeTargets,PlansHaveTargets
 --but=pb_project.Targets.made_file_of=UnitsMakeTargets,PlansHaveTargets,RunsMakeNone
 --but=pb_project.Targets.dep_info_of=UnitsMakeTargets,PlansHaveTargets,RunsMakeNone
+--but=pb_message.Message.lines_of=LinesFollow,ArtifactsAreObjects,NotesAreObjects,ExecutedAreObjects,DiagnosticsAreCopied
+--but=pb_message.Message.line_of=LinesFollow
+--but=pb_message.Message.finish_line=EndsAreObjects
+--but=pb_message.Diagnostics.diagnostics_of=CompilersSay
+--but=pb_message.Diagnostics.plain_lines_of=CompilersSay
 """.split()
 
 # the rows of units, their lines and summary; the project and the version of the compiler; refusals, and the finish line
