@@ -20,6 +20,21 @@ LAWS = """
 --but=pb_package.Settled.IsSettled=AllAreSettled
 --but=pb_record.Parts.Reads=HasOneReading,HasReading
 --but=pb_soundness.Sound.Sound=NothingIsSound,OutsideLaw
+--but=pb_feature.Resolved.is_active=FeaturesAreOne
+--but=pb_feature.Resolved.features_at=FeaturesAreOne
+--but=pb_feature.Resolved.is_enabled=FeaturesAreOne
+--but=pb_profile.Line.line_of=LinesAreThese
+--but=pb_unit.Units.needs=NeedsAreThese
+--but=pb_project.Targets.crate_name_of=UnitsMakeTargets,PlansHaveTargets
+--but=pb_project.Targets.crate_types=UnitsMakeTargets,PlansHaveTargets
+--but=pb_project.Targets.source_by=UnitsMakeTargets,PlansHaveTargets
+--but=pb_project.Targets.made_file_of=UnitsMakeTargets,PlansHaveTargets,RunsMakeNone
+--but=pb_project.Targets.dep_info_of=UnitsMakeTargets,PlansHaveTargets,RunsMakeNone
+--but=pb_message.Message.lines_of=LinesFollow,ArtifactsAreObjects,NotesAreObjects,ExecutedAreObjects,DiagnosticsAreCopied
+--but=pb_message.Message.line_of=LinesFollow
+--but=pb_message.Message.finish_line=EndsAreObjects
+--but=pb_message.Diagnostics.diagnostics_of=CompilersSay
+--but=pb_message.Diagnostics.plain_lines_of=CompilersSay
 """.split()
 
 # the rows of units, their lines and summary; the project and the version of the compiler; refusals, and the finish line

@@ -1,12 +1,14 @@
 -- What each message line is: one JSON object for each reason, without spaces, and then a line feed (The Cargo Book, External Tools).
 use Rattle.std.specs.Prelude.{◌≡◌, ℕ, Bool, false, if◌then◌else◌, codes, List, [], ◌∷◌, ◌++◌, map}
+use Rattle.std.specs.List.{flat_map}
 use Rattle.pb_manifest.specs.Package.{edition_text}
 use Rattle.pb_manifest.specs.declared.profile.DebugInfo.{DebugInfo}
 use Rattle.pb_manifest.specs.declared.profile.DebugInfo.TheVariants.{Nothing, Limited, Full, LineTablesOnly, LineDirectivesOnly}
-use Rattle.pb_message.specs.Message.{package_id, level_text, line_of, finish_line}
+use Rattle.pb_message.specs.Message.{package_id, level_text, line_of, lines_of, finish_line}
 use Rattle.pb_message.specs.declared.message.Artifact.{Artifact}
 use Rattle.pb_message.specs.declared.message.Executed.{Executed}
 use Rattle.pb_message.specs.declared.message.Level.{Level}
+use Rattle.pb_message.specs.declared.message.Message.{Message}
 use Rattle.pb_message.specs.declared.message.Message.TheVariants.{CompilerMessage, CompilerArtifact, BuildScriptNote, BuildScriptExecuted}
 use Rattle.pb_message.specs.declared.subject.Subject.{Subject}
 use Rattle.pb_message.specs.declared.subject.Target.{Target}
@@ -103,3 +105,7 @@ EndsAreObjects = (success : Bool) → IsLine (finish_line success) (finished suc
 abbrev pub DiagnosticsAreCopied : Type 0
 DiagnosticsAreCopied = (s : Subject) (fresh : Bool) (text : List ℕ)
     → (front : List ℕ) × (line_of s fresh (CompilerMessage text) ≡ front ++ text ++ codes "}\n") × ((message : Data) → compact_text (diagnostic s message) ≡ front ++ compact_text message ++ codes "}")
+
+-- the lines of messages, one after another
+abbrev pub LinesFollow : Type 0
+LinesFollow = (s : Subject) (fresh : Bool) (messages : List Message) → lines_of s fresh messages ≡ flat_map (line_of s fresh) messages

@@ -1,7 +1,9 @@
-//! Message lines are JSON objects: for each reason, which members it has (The Cargo Book, External Tools).
+//! Message lines are JSON objects: for each reason, which members it has; and what a compiler's lines say (The Cargo Book,
+//! External Tools).
 #![tactic(auto)]
 
-ghost use Rattle.pb_message_objects.specs.Objects.{ArtifactsAreObjects, NotesAreObjects, ExecutedAreObjects, EndsAreObjects, DiagnosticsAreCopied};
+ghost use Rattle.pb_message_objects.specs.Objects.{ArtifactsAreObjects, NotesAreObjects, ExecutedAreObjects, EndsAreObjects, DiagnosticsAreCopied, LinesFollow};
+ghost use Rattle.pb_message_objects.specs.Streams.{CompilersSay};
 
 /// A law: each message line is the text of one object without spaces, with these members in this order, and a line
 /// feed. A compiler's diagnostic is copied byte for byte to where its member `message` stands.
@@ -11,4 +13,14 @@ pub fn lines_are_objects()
     ensures executed { ExecutedAreObjects }
     ensures ends { EndsAreObjects }
     ensures diagnostics { DiagnosticsAreCopied }
+{}
+
+/// A law: the lines of messages stand one after another.
+pub fn lines_follow()
+    ensures { LinesFollow }
+{}
+
+/// A law: which lines of a compiler's standard error are diagnostics, and what the others say.
+pub fn compilers_say()
+    ensures { CompilersSay }
 {}

@@ -1,0 +1,5 @@
+pub mod Resolving
+pub mod Needing
+pub mod Inheriting
+pub mod Making
+pub mod Having

@@ -1,0 +1,5 @@
+use Rattle.pb_plan_laws.proofs.Inheriting.{lines_are}
+use Rattle.pb_plan_laws.proofs.lines_are_these.Goals as goal
+
+pub returns : goal.returns
+returns c = lines_are

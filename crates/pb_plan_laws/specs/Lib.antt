@@ -1,0 +1,4 @@
+pub mod Features
+pub mod Needs
+pub mod Profiles
+pub mod Targets
