@@ -1,10 +1,11 @@
 -- Which variables a run has.
-use Rattle.std.proofs.Common.{◌≡◌, ℕ, ◌||◌, Bool, true, false, cond, codes, List, [], ◌∷◌, ◌++◌, map, Option, Some, None, unwrap_or, refl, ◌∙◌, ap}
-use Rattle.std.specs.List.{flat_map, cons_option, list_any, join_by}
+use Rattle.std.proofs.Common.{◌≡◌, ℕ, ◌||◌, Bool, true, false, cond, codes, List, [], ◌∷◌, ◌++◌, map, Option, Some, None, unwrap_or, refl, sym, ◌∙◌, ap, subst}
+use Rattle.std.specs.List.{AllByRecursion, IsDistinct, flat_map, cons_option, list_any, join_by}
 use Rattle.std.specs.Option.{option_or}
 use Rattle.std.specs.Str.{bytes_eq}
-use Rattle.pb_data.proofs.MentionLemmas.{is_mentioned-once}
-use Rattle.pb_data.proofs.TableLemmas.{names-table_of}
+use Rattle.std.proofs.lemmas.Slice.Eq.{bytes_eq-Decides}
+use Rattle.pb_data.proofs.MentionLemmas.{is_mentioned-once, once-IsDistinct}
+use Rattle.pb_data.proofs.TableLemmas.{names-table_of, value-table_of}
 use Rattle.pb_data.specs.Mentions.{is_mentioned}
 use Rattle.pb_data.specs.Table.{value_at, names_of, last_value}
 use Rattle.pb_directive.specs.Metadata.{in_capitals, dep_pair, dep_name, passed, dep_pairs}
@@ -44,7 +45,34 @@ passed_unnamed links (d ∷ said) name off = by d (passed_unnamed links said nam
     by (Metadata key value) later = ap (λ r. r || is_mentioned (names_of (passed links said)) name) (not_begun (codes "DEP_") name (dep_name links key) refl off) ∙ later
     by _ later = later
 
-handed_none : (links : Option (List ℕ)) (said : List Directive) (name : List ℕ) → begins (codes "DEP_") name ≡ false → last_value name (handed_on links said) ≡ None
+-- as the code keeps it, in a table
+abbrev tabled_on : Option (List ℕ) → List Directive → List Pair
+tabled_on None said = []
+tabled_on (Some links) said = dep_pairs links said
+
+-- of names that stand once each value is the last
+unnamed : (x : List ℕ) (names : List (List ℕ)) → AllByRecursion (λ y. bytes_eq x y ≡ false) names → is_mentioned names x ≡ false
+unnamed x [] all = refl
+unnamed x (y ∷ names) all = ap (λ r. r || is_mentioned names x) all.0 ∙ unnamed x names all.1
+
+last_of_once : (name : List ℕ) (pairs : List Pair) → IsDistinct bytes_eq (names_of pairs) → value_at name pairs ≡ last_value name pairs
+unfolding IsDistinct
+last_of_once name [] apart = refl
+last_of_once name (pair ∷ pairs) apart = by (bytes_eq name pair.0) refl (last_of_once name pairs apart.1)
+  where
+    by : (r : Bool) → bytes_eq name pair.0 ≡ r → value_at name pairs ≡ last_value name pairs → cond r (Some pair.1) (value_at name pairs) ≡ cond r (Some (unwrap_or (last_value name pairs) pair.1)) (last_value name pairs)
+    by true is rest =
+        let off : is_mentioned (names_of pairs) name ≡ false = subst (λ n. is_mentioned (names_of pairs) n ≡ false) (sym ((bytes_eq-Decides name pair.0).0 is)) (unnamed pair.0 (names_of pairs) apart.0) in
+        ap (λ l. Some (unwrap_or l pair.1)) (sym (last_none name pairs off))
+    by false is rest = rest
+
+tabled_last : (links : Option (List ℕ)) (said : List Directive) (name : List ℕ) → last_value name (tabled_on links said) ≡ last_value name (handed_on links said)
+tabled_last None said name = refl
+tabled_last (Some links) said name =
+    sym (last_of_once name (dep_pairs links said) (subst (IsDistinct bytes_eq) (sym (names-table_of (passed links said))) (once-IsDistinct (names_of (passed links said)))))
+    ∙ value-table_of (passed links said) name
+
+handed_none : (links : Option (List ℕ)) (said : List Directive) (name : List ℕ) → begins (codes "DEP_") name ≡ false → last_value name (tabled_on links said) ≡ None
 handed_none None said name off = refl
 handed_none (Some links) said name off =
     last_none name (dep_pairs links said)
@@ -52,7 +80,7 @@ handed_none (Some links) said name off =
 
 module _ (project : Project) (done : Lines) where
   abbrev at_place : ℕ → List Pair
-  at_place place = handed_on (links_of_run project (unit_at project place)) (said_at done place)
+  at_place place = tabled_on (links_of_run project (unit_at project place)) (said_at done place)
 
   all_none : (places : List ℕ) (name : List ℕ) → begins (codes "DEP_") name ≡ false → last_value name (flat_map at_place places) ≡ None
   all_none [] name off = refl
@@ -60,11 +88,19 @@ module _ (project : Project) (done : Lines) where
       last-append name (at_place place) (flat_map at_place places)
       ∙ (λ i. option_or (all_none places name off i) (handed_none (links_of_run project (unit_at project place)) (said_at done place) name off i))
 
-  same_links : (p : Option Package) (said : List Directive) → linked_pairs (links_in p) said ≡ handed_on (links_of p) said
+  all_last : (places : List ℕ) (name : List ℕ)
+      → last_value name (flat_map at_place places) ≡ last_value name (flat_map (λ place. handed_on (links_of_run project (unit_at project place)) (said_at done place)) places)
+  all_last [] name = refl
+  all_last (place ∷ places) name =
+      let links = links_of_run project (unit_at project place) in
+      last-append name (at_place place) (flat_map at_place places) ∙ (λ i. option_or (all_last places name i) (tabled_last links (said_at done place) name i))
+      ∙ sym (last-append name (handed_on links (said_at done place)) (flat_map (λ q. handed_on (links_of_run project (unit_at project q)) (said_at done q)) places))
+
+  same_links : (p : Option Package) (said : List Directive) → linked_pairs (links_in p) said ≡ tabled_on (links_of p) said
   same_links None said = refl
   same_links (Some p) said = of p.links
     where
-      of : (links : Option (List ℕ)) → linked_pairs links said ≡ handed_on links said
+      of : (links : Option (List ℕ)) → linked_pairs links said ≡ tabled_on links said
       of None = refl
       of (Some links) = refl
 
@@ -72,11 +108,11 @@ module _ (project : Project) (done : Lines) where
   unfolding passed_at
   same_place place = by (unit_at project place)
     where
-      by : (u : Option Planned) → passed_by project u (said_at done place) ≡ handed_on (links_of_run project u) (said_at done place)
+      by : (u : Option Planned) → passed_by project u (said_at done place) ≡ tabled_on (links_of_run project u) (said_at done place)
       by None = refl
       by (Some u) = kind (is_run u.unit.what)
         where
-          kind : (r : Bool) → cond r (linked_pairs (links_in (package_of project u)) (said_at done place)) [] ≡ handed_on (cond r (links_of (package_of project u)) None) (said_at done place)
+          kind : (r : Bool) → cond r (linked_pairs (links_in (package_of project u)) (said_at done place)) [] ≡ tabled_on (cond r (links_of (package_of project u)) None) (said_at done place)
           kind true = same_links (package_of project u) (said_at done place)
           kind false = refl
 
@@ -139,7 +175,7 @@ module _ (setup : Setup) (project : Project) (unit : Planned) (done : Lines) (p 
   building = building_pairs setup project unit
 
   abbrev handed : List Pair
-  handed = handed_to project unit done
+  handed = flat_map (at_place project done) unit.needs
 
   own : (what : What) → is_run what ≡ true → own_pairs setup project unit done p what ≡ run_pairs setup project unit done p
   own Lib is = absurd (cc)
@@ -213,12 +249,12 @@ module _ (setup : Setup) (project : Project) (unit : Planned) (done : Lines) (p 
       ∙ (λ i. option_or (no_handed whole refl i) (option_or (no_building whole refl i) (option_or (features_on names name i) (option_or (no_links whole refl i) (front_none setup p whole refl i)))))
       ∙ or_none (cond (is_mentioned (map in_capitals names) name) (Some (codes "1")) None)
 
-  metadata_are : (name : List ℕ) → IsSet command [] (codes "DEP_" ++ name) (last_value (codes "DEP_" ++ name) handed)
+  metadata_are : (name : List ℕ) → IsSet command [] (codes "DEP_" ++ name) (last_value (codes "DEP_" ++ name) (handed_to project unit done))
   metadata_are name =
       let whole = codes "DEP_" ++ name in
       value whole
       ∙ (λ i. option_or (last_value whole handed) (option_or (no_building whole refl i) (option_or (features_none names whole refl i) (option_or (no_links whole refl i) (front_none setup p whole refl i)))))
-      ∙ or_none (last_value whole handed)
+      ∙ or_none (last_value whole handed) ∙ all_last project done unit.needs whole
 
   pub run_has : RunHas setup project unit done p command
   run_has = record {

@@ -7,7 +7,7 @@ use Rattle.std.specs.Str.{bytes_eq}
 use Rattle.semver.specs.Parse.{version_parts}
 use Rattle.pb_data.specs.Mentions.{is_mentioned}
 use Rattle.pb_data.specs.Table.{value_at, last_value}
-use Rattle.pb_directive.specs.Metadata.{in_capitals, dep_pairs}
+use Rattle.pb_directive.specs.Metadata.{in_capitals, passed}
 use Rattle.pb_directive.specs.declared.directive.Directive.{Directive}
 use Rattle.pb_directive.specs.declared.directive.Directive.TheVariants.{Env}
 use Rattle.pb_feature.specs.Resolved.{features_at}
@@ -116,7 +116,7 @@ links_of_run project (Some u) = if is_run u.unit.what then links_of (package_of 
 -- the metadata of lines, as variables of a package that links this
 abbrev pub handed_on : Option (List ℕ) → List Directive → List (List ℕ × List ℕ)
 handed_on None said = []
-handed_on (Some links) said = dep_pairs links said
+handed_on (Some links) said = passed links said
 
 -- the metadata of each run that a unit needs, in plan order
 abbrev pub handed_to : Project → Planned → List (Option (List Directive)) → List (List ℕ × List ℕ)
