@@ -122,12 +122,6 @@ const LINES: &[(&[u8], &str)] = &[
     ),
 ];
 
-#[test]
-fn lines_and_prefixes(rt: HostRuntime) -> Result<(), Fail> {
-    assert_outputs(&rt, rt.alloc(), LINES)?;
-    Ok(())
-}
-
 /// Outputs of scripts, and what they say: keys and values.
 const KEYS: &[(&[u8], &str)] = &[
     (b"cargo::rerun-if-changed=build.rs", "changed<build.rs><>;"),
@@ -172,42 +166,32 @@ const KEYS: &[(&[u8], &str)] = &[
     (b"cargo::warning=", "warning<><>;"),
 ];
 
-#[test]
-fn keys_and_values(rt: HostRuntime) -> Result<(), Fail> {
-    assert_outputs(&rt, rt.alloc(), KEYS)?;
-    Ok(())
-}
-
-/// Lines with a value that the key may not have.
-const BAD_VALUES: &[&[u8]] = &[
-    b"cargo:rerun-if-changed=",
-    b"cargo::rerun-if-env-changed=A\0",
-    b"cargo::rerun-if-env-changed==",
-    b"cargo::rustc-link-arg-bins=\0",
-    b"cargo::rustc-link-arg-cdylib=\0",
-    b"cargo::rustc-link-arg-tests=\0",
-    b"cargo::rustc-link-arg-examples=\0",
-    b"cargo::rustc-link-arg-benches=\0",
-    b"cargo::rustc-link-arg-bin=a=\0",
-    b"cargo::rustc-link-arg-bin=\0=a",
-    b"cargo::rustc-link-lib=",
-    b"cargo::rustc-link-lib=a\0",
-    b"cargo::rustc-link-search=a\0",
-    b"cargo::rustc-cfg=a\0",
-    b"cargo::rustc-check-cfg=",
-    b"cargo::rustc-check-cfg=a\0",
-    b"cargo::rustc-flags=-la\0",
-    b"cargo::rustc-env=A=\0",
-    b"cargo::rustc-env=\0=a",
-    b"cargo::metadata==a",
-    b"cargo::metadata=a=\0",
-    b"cargo::metadata=\0=a",
-    b"cargo::metadata",
-    b"cargo::unknown",
-];
-
-/// Lines that are near to those, and what they say.
-const NEAR_VALUES: &[(&[u8], &str)] = &[
+/// Lines with a value that their key may not have, and lines that are near to those.
+const VALUES: &[(&[u8], &str)] = &[
+    (b"cargo:rerun-if-changed=", "BadValue 1"),
+    (b"cargo::rerun-if-env-changed=A\0", "BadValue 1"),
+    (b"cargo::rerun-if-env-changed==", "BadValue 1"),
+    (b"cargo::rustc-link-arg-bins=\0", "BadValue 1"),
+    (b"cargo::rustc-link-arg-cdylib=\0", "BadValue 1"),
+    (b"cargo::rustc-link-arg-tests=\0", "BadValue 1"),
+    (b"cargo::rustc-link-arg-examples=\0", "BadValue 1"),
+    (b"cargo::rustc-link-arg-benches=\0", "BadValue 1"),
+    (b"cargo::rustc-link-arg-bin=a=\0", "BadValue 1"),
+    (b"cargo::rustc-link-arg-bin=\0=a", "BadValue 1"),
+    (b"cargo::rustc-link-lib=", "BadValue 1"),
+    (b"cargo::rustc-link-lib=a\0", "BadValue 1"),
+    (b"cargo::rustc-link-search=a\0", "BadValue 1"),
+    (b"cargo::rustc-cfg=a\0", "BadValue 1"),
+    (b"cargo::rustc-check-cfg=", "BadValue 1"),
+    (b"cargo::rustc-check-cfg=a\0", "BadValue 1"),
+    (b"cargo::rustc-flags=-la\0", "BadValue 1"),
+    (b"cargo::rustc-env=A=\0", "BadValue 1"),
+    (b"cargo::rustc-env=\0=a", "BadValue 1"),
+    (b"cargo::metadata==a", "BadValue 1"),
+    (b"cargo::metadata=a=\0", "BadValue 1"),
+    (b"cargo::metadata=\0=a", "BadValue 1"),
+    (b"cargo::metadata", "BadValue 1"),
+    (b"cargo::unknown", "BadValue 1"),
     (b"cargo::rustc-flags=-L", "BadFlag 1"),
     (b"cargo::rustc-flags=-l", "BadFlag 1"),
     (b"cargo::rustc-flags=-L a -L", "BadFlag 1"),
@@ -221,11 +205,10 @@ const NEAR_VALUES: &[(&[u8], &str)] = &[
 ];
 
 #[test]
-fn values_that_a_key_may_not_have(rt: HostRuntime) -> Result<(), Fail> {
-    for (place, line) in BAD_VALUES.iter().enumerate() {
-        assert!(rt; says(rt.alloc(), *line, "BadValue 1")?, "case {place}");
-    }
-    assert_outputs(&rt, rt.alloc(), NEAR_VALUES)?;
+fn outputs(rt: HostRuntime) -> Result<(), Fail> {
+    assert_outputs(&rt, rt.alloc(), LINES)?;
+    assert_outputs(&rt, rt.alloc(), KEYS)?;
+    assert_outputs(&rt, rt.alloc(), VALUES)?;
     Ok(())
 }
 
@@ -293,7 +276,7 @@ const RULES: &[(&[u8], &str)] = &[
 ];
 
 /// Whether dep-info names this.
-fn tells(alloc: Global, dep_info: &[u8], wanted: &str) -> Result<bool, AllocError> {
+pub fn tells(alloc: Global, dep_info: &[u8], wanted: &str) -> Result<bool, AllocError> {
     let found = names_in(alloc, dep_info)?;
     Ok(found.as_str() == wanted)
 }
@@ -333,9 +316,10 @@ fn are_warning(directives: &[Directive], length: usize) -> bool {
     }
 }
 
-/// Whether a script's output says one warning, of this length.
-fn warns_at_length(alloc: Global, output: &[u8], length: usize) -> Result<bool, LineFault> {
-    let directives = read_directives(alloc, output)?;
+/// Whether a warning of this length is read.
+fn warns_at_length(alloc: Global, length: usize) -> Result<bool, Fail> {
+    let output = of_bytes(alloc, b"cargo::warning=", b'w', length)?;
+    let directives = read_directives(alloc, output.as_slice())?;
     Ok(are_warning(directives.as_slice(), length))
 }
 
@@ -347,29 +331,18 @@ fn are_one_text(texts: &[Text], length: usize) -> bool {
     }
 }
 
-/// Whether dep-info names one path, of this length.
-fn names_at_length(alloc: Global, dep_info: &[u8], length: usize) -> Result<bool, LineFault> {
-    let info = read_dep_info(alloc, dep_info)?;
+/// Whether dep-info that names one path of this length is read.
+fn names_at_length(alloc: Global, length: usize) -> Result<bool, Fail> {
+    let dep_info = of_bytes(alloc, b"o: ", b'w', length)?;
+    let info = read_dep_info(alloc, dep_info.as_slice())?;
     Ok(are_one_text(info.words.as_slice(), length))
 }
 
 #[test]
-fn long_plain_lines(rt: HostRuntime) -> Result<(), Fail> {
+fn long_lines(rt: HostRuntime) -> Result<(), Fail> {
     assert!(rt; plain_line_is_read(rt.alloc(), 4_194_304)?);
-    Ok(())
-}
-
-#[test]
-fn long_warnings(rt: HostRuntime) -> Result<(), Fail> {
-    let output = of_bytes(rt.alloc(), b"cargo::warning=", b'w', 4_194_289)?;
-    assert!(rt; warns_at_length(rt.alloc(), output.as_slice(), 4_194_289)?);
-    Ok(())
-}
-
-#[test]
-fn long_paths(rt: HostRuntime) -> Result<(), Fail> {
-    let dep_info = of_bytes(rt.alloc(), b"o: ", b'w', 4_194_301)?;
-    assert!(rt; names_at_length(rt.alloc(), dep_info.as_slice(), 4_194_301)?);
+    assert!(rt; warns_at_length(rt.alloc(), 4_194_289)?);
+    assert!(rt; names_at_length(rt.alloc(), 4_194_301)?);
     Ok(())
 }
 
@@ -384,13 +357,17 @@ fn count_words(alloc: Global, info: DepInfo) -> Result<usize, AllocError> {
     Ok(words.len())
 }
 
+/// Whether dep-info has so many words, of which this is one.
+fn names_word(alloc: Global, dep_info: &[u8], name: &str, count: usize) -> Result<bool, Fail> {
+    let name = Text::from_str(alloc, name)?;
+    let info = read_dep_info(alloc, dep_info)?;
+    let is_word = is_word_alone(&info, &name);
+    Ok(count_words(alloc, info)? == count && is_word)
+}
+
 #[test]
 fn mentions_give_items(rt: HostRuntime) -> Result<(), Fail> {
-    let name = Text::from_str(rt.alloc(), "a")?;
-    let info = read_dep_info(rt.alloc(), b"o: b a b")?;
-    let is_word = is_word_alone(&info, &name);
-    let count = count_words(rt.alloc(), info)?;
-    assert!(rt; is_word && count == 2);
+    assert!(rt; names_word(rt.alloc(), b"o: b a b", "a", 2)?);
     Ok(())
 }
 

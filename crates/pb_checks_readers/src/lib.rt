@@ -7,6 +7,8 @@
 #[cfg(test)]
 mod data;
 #[cfg(test)]
+mod dice;
+#[cfg(test)]
 mod directives;
 #[cfg(test)]
 mod faults;

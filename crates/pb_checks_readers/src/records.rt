@@ -1,5 +1,6 @@
 //! Records as text: worked examples, texts that are none, and texts made at random.
 
+use crate::dice::Dice;
 use pb_data::Bytes;
 use pb_record::{Needed, Record, read_record, write_record};
 use std::alloc::{AllocError, Global};
@@ -52,15 +53,6 @@ const RECORDS: &[&str] = &[
     "record 1\n1\na\n1\nm\n0\n1\n/\n1\n1\nN\n1\nv\n2\n/z\n2\n/t\n0\n\n1\n2\n/t\n1\nv\n1\nX\n0\n1\n1\nb\n1\n1\nf\n3\n1\n2\n0\n\n0\n\nend\n",
 ];
 
-#[test]
-fn records_go_there_and_back(rt: HostRuntime) -> Result<(), Fail> {
-    for case in RECORDS {
-        let text = *case;
-        assert!(rt; is_record(rt.alloc(), text.as_bytes())?, "{text}");
-    }
-    Ok(())
-}
-
 /// Whether a record has the run number of the largest one, and no needed units.
 fn is_largest(kept: &Record) -> bool {
     match &kept.needed {
@@ -69,62 +61,90 @@ fn is_largest(kept: &Record) -> bool {
     }
 }
 
+/// Whether a record has the parts that the largest one says.
+fn has_its_parts(kept: &Record) -> bool {
+    kept.key.as_str() == "z.target.lib"
+        && kept.asked.program.as_str() == "m"
+        && kept.asked.out.as_str() == "/z"
+        && is_largest(kept)
+}
+
+/// Whether the largest record says its parts.
+fn says_its_parts(alloc: Global) -> Result<bool, AllocError> {
+    match read_record(alloc, LARGEST.as_bytes())? {
+        Some(kept) => Ok(has_its_parts(&kept)),
+        None => Ok(false),
+    }
+}
+
 #[test]
 fn record_says_its_parts(rt: HostRuntime) -> Result<(), Fail> {
-    let kept = read_record(rt.alloc(), LARGEST.as_bytes())?.ok_or("none")?;
-    assert!(rt; kept.key.as_str() == "z.target.lib");
-    assert!(rt; kept.asked.program.as_str() == "m");
-    assert!(rt; kept.asked.out.as_str() == "/z");
-    assert!(rt; is_largest(&kept));
+    assert!(rt; says_its_parts(rt.alloc())?);
     Ok(())
 }
 
-/// Whether each first part of a text, and the text with one byte more, is that of no record.
-fn stands_alone(alloc: Global, text: &[u8]) -> Result<bool, AllocError> {
+/// Whether each first part of a text is that of no record.
+fn is_torn_anywhere(alloc: Global, text: &[u8]) -> Result<bool, AllocError> {
     for end in 0..text.len() {
         if !is_none(alloc, &text[..end])? {
-            return Ok(false);
-        }
-    }
-    let mut longer = text.to_vec(alloc)?;
-    longer.push(b'\n')?;
-    let is_none = is_none(alloc, longer.as_slice())?;
-    Ok(is_none)
-}
-
-/// Whether a text with one byte changed is that of no record, or of one that is written so again.
-fn stands_changed(alloc: Global, text: &[u8], at: usize) -> Result<bool, AllocError> {
-    for byte in b"\0\n019af/\xff" {
-        let mut changed = text.to_vec(alloc)?;
-        if at < changed.len() {
-            changed[at] = *byte;
-        }
-        if !is_none_or_record(alloc, changed.as_slice())? {
             return Ok(false);
         }
     }
     Ok(true)
 }
 
-#[test]
-fn records_stand_alone(rt: HostRuntime) -> Result<(), Fail> {
-    for case in RECORDS {
-        let text = *case;
-        assert!(rt; stands_alone(rt.alloc(), text.as_bytes())?, "{text}");
+/// Whether a text with one byte more is that of no record.
+fn is_none_longer(alloc: Global, text: &[u8]) -> Result<bool, AllocError> {
+    let mut longer = text.to_vec(alloc)?;
+    longer.push(b'\n')?;
+    is_none(alloc, longer.as_slice())
+}
+
+/// Whether a text with this byte at a place is that of no record, or of one that is written so again.
+fn stands_with(alloc: Global, text: &[u8], at: usize, byte: u8) -> Result<bool, AllocError> {
+    let mut changed = text.to_vec(alloc)?;
+    if at < changed.len() {
+        changed[at] = byte;
     }
-    Ok(())
+    is_none_or_record(alloc, changed.as_slice())
+}
+
+/// The same of each of some bytes at each place of a text.
+fn stands_changed(alloc: Global, text: &[u8]) -> Result<bool, AllocError> {
+    for at in 0..text.len() {
+        for byte in b"\0\n019af/\xff" {
+            if !stands_with(alloc, text, at, *byte)? {
+                return Ok(false);
+            }
+        }
+    }
+    Ok(true)
+}
+
+/// What is wrong with the text of a record as it is, torn, with a byte more, or with a byte changed; nothing where it
+/// stands.
+fn wrong_with(alloc: Global, text: &[u8]) -> Result<&'static str, AllocError> {
+    if !is_record(alloc, text)? {
+        return Ok("as it is");
+    }
+    if !is_torn_anywhere(alloc, text)? {
+        return Ok("torn");
+    }
+    if !is_none_longer(alloc, text)? {
+        return Ok("longer");
+    }
+    Ok(if stands_changed(alloc, text)? {
+        ""
+    } else {
+        "changed"
+    })
 }
 
 #[test]
-fn records_changed(rt: HostRuntime) -> Result<(), Fail> {
+fn records_go_there_and_back(rt: HostRuntime) -> Result<(), Fail> {
     for case in RECORDS {
         let text = *case;
-        for at in 0..text.len() {
-            assert!(rt;
-                stands_changed(rt.alloc(), text.as_bytes(), at)?,
-                "{at} of {text}"
-            );
-        }
+        assert_eq!(rt; wrong_with(rt.alloc(), text.as_bytes())?, "", "{text}");
     }
     Ok(())
 }
@@ -167,47 +187,24 @@ fn replaced(alloc: Global, old: &str, new: &str) -> Result<String, AllocError> {
     Ok(made)
 }
 
+/// Whether the largest record with something put in place of something in it is none.
+fn is_none_with(alloc: Global, old: &str, new: &str) -> Result<bool, AllocError> {
+    let made = replaced(alloc, old, new)?;
+    is_none(alloc, made.as_bytes())
+}
+
+/// A record whose key is no UTF-8.
+const NO_TEXT: &[u8] =
+    b"record 2\n1\n1\n\xff\n1\nm\n0\n1\n/\n0\n2\n/z\n2\n/t\n0\n\n0\n0\n0\n0\n\n0\n\nend\n";
+
 #[test]
 fn wrong_texts_are_none(rt: HostRuntime) -> Result<(), Fail> {
     for case in WRONG {
         let (old, new) = *case;
-        let made = replaced(rt.alloc(), old, new)?;
-        assert!(rt; is_none(rt.alloc(), made.as_bytes())?, "{new}");
+        assert!(rt; is_none_with(rt.alloc(), old, new)?, "{new}");
     }
-    assert!(rt;
-        is_none(
-            rt.alloc(),
-            b"record 2\n1\n1\n\xff\n1\nm\n0\n1\n/\n0\n2\n/z\n2\n/t\n0\n\n0\n0\n0\n0\n\n0\n\nend\n"
-        )?
-    );
+    assert!(rt; is_none(rt.alloc(), NO_TEXT)?);
     Ok(())
-}
-
-/// A small generator of numbers, the same in each run.
-#[derive(Drop)]
-struct Dice {
-    state: u64,
-}
-
-impl Dice {
-    /// A number below another one; 0 where that is 0.
-    fn below(&mut self, limit: usize) -> usize {
-        self.state = self
-            .state
-            .wrapping_mul(6_364_136_223_846_793_005)
-            .wrapping_add(1_442_695_040_888_963_407);
-        let rolled = (self.state >> 33) as usize;
-        if limit == 0 { 0 } else { rolled % limit }
-    }
-
-    /// One of some texts.
-    fn pick<'a>(&mut self, from: &[&'a str]) -> &'a str {
-        let at = self.below(from.len());
-        match from.get(at) {
-            Some(text) => *text,
-            None => "",
-        }
-    }
 }
 
 /// Texts that may stand anywhere.
@@ -389,16 +386,17 @@ fn random_record(alloc: Global, dice: &mut Dice) -> Result<String, AllocError> {
     Ok(out)
 }
 
+/// Whether such a text is that of a record.
+fn random_is_record(alloc: Global, dice: &mut Dice) -> Result<bool, AllocError> {
+    let text = random_record(alloc, dice)?;
+    is_record(alloc, text.as_bytes())
+}
+
 #[test]
 fn random_records(rt: HostRuntime) -> Result<(), Fail> {
     let mut dice = Dice { state: 1 };
-    for _ in 0..200 {
-        let text = random_record(rt.alloc(), &mut dice)?;
-        assert!(rt;
-            is_record(rt.alloc(), text.as_bytes())?,
-            "{}",
-            text.as_str()
-        );
+    for number in 0..200 {
+        assert!(rt; random_is_record(rt.alloc(), &mut dice)?, "record {number}");
     }
     Ok(())
 }
@@ -415,9 +413,14 @@ fn large_record(alloc: Global, size: usize) -> Result<Vec<u8>, AllocError> {
     Ok(made)
 }
 
+/// Whether the text of a record with one file of so many bytes is that of a record.
+fn large_is_record(alloc: Global, size: usize) -> Result<bool, AllocError> {
+    let text = large_record(alloc, size)?;
+    is_record(alloc, text.as_slice())
+}
+
 #[test]
 fn large_records(rt: HostRuntime) -> Result<(), Fail> {
-    let text = large_record(rt.alloc(), 4_194_304)?;
-    assert!(rt; is_record(rt.alloc(), text.as_slice())?);
+    assert!(rt; large_is_record(rt.alloc(), 4_194_304)?);
     Ok(())
 }

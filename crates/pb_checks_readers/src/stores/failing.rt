@@ -1,56 +1,78 @@
 //! Calls of the store in which one call of the place fails, each call in turn.
 
-use crate::stores::steps::{call, make_steps, open, tell_differs};
-use crate::stores::world::prepare;
+use crate::stores::steps::{begin, call, make_steps, tell_differs};
 use pb_mini::Mini;
 use pb_place::{Memory, Place};
 use pb_store::Store;
-use std::alloc::Global;
+use std::alloc::{AllocError, Global};
 use std::test::Fail;
 
-/// Makes a call with the call of the place of this number failing, and tells its fault and what differs then; nothing
-/// where no call failed.
+/// Adds what a call told, and what differs after it.
+fn put_told(out: &mut String, told: &str, is_late: bool, after: &str) -> Result<(), AllocError> {
+    out.push_str(told)?;
+    if is_late {
+        out.push_str(" (wrong: a call came after it)")?;
+    }
+    out.push_str(": ")?;
+    out.push_str(after)?;
+    out.push_str(", ")
+}
+
+/// Makes a call with the call of the place of this number failing, and adds its fault and what differs then. Whether
+/// a call failed.
 fn fail_at(
     alloc: Global,
     place: &mut Memory<Mini>,
     store: &mut Store,
     verb: &str,
     number: u64,
-) -> Result<String, Fail> {
+    out: &mut String,
+) -> Result<bool, Fail> {
     place.fuse(number);
-    let mut told = call(alloc, place, store, verb, "8", "8")?;
+    let told = call(alloc, place, store, verb, "8", "8")?;
     place.fuse(0);
     if place.failures() == 0 {
-        return Ok(String::new(alloc));
+        return Ok(false);
     }
-    if place.late() > 0 {
-        told.push_str(" (wrong: a call came after it)")?;
-    }
+    let is_late = place.late() > 0;
     let after = tell_differs(alloc, place, store, "", "")?;
-    told.push_str(": ")?;
-    told.push_str(after.as_str())?;
-    told.push_str(", ")?;
-    Ok(told)
+    put_told(out, told.as_str(), is_late, after.as_str())?;
+    Ok(true)
 }
 
-/// The same in a fresh place, after these steps.
-fn try_at(alloc: Global, steps: &str, verb: &str, number: u64) -> Result<String, Fail> {
+/// The same at a place that is prepared, after these steps.
+fn try_in(
+    alloc: Global,
+    place: &mut Memory<Mini>,
+    steps: &str,
+    verb: &str,
+    number: u64,
+    out: &mut String,
+) -> Result<bool, Fail> {
+    let mut store = begin(alloc, place)?;
+    make_steps(alloc, place, &mut store, steps)?;
+    fail_at(alloc, place, &mut store, verb, number, out)
+}
+
+/// The same in a fresh place.
+fn try_at(
+    alloc: Global,
+    steps: &str,
+    verb: &str,
+    number: u64,
+    out: &mut String,
+) -> Result<bool, Fail> {
     let mut place = Memory::new(alloc, Mini);
-    prepare(alloc, &mut place)?;
-    let mut store = open(alloc, &mut place)?;
-    make_steps(alloc, &mut place, &mut store, steps)?;
-    fail_at(alloc, &mut place, &mut store, verb, number)
+    try_in(alloc, &mut place, steps, verb, number, out)
 }
 
 /// Lets each call of the place fail in turn, until none does.
 fn each_fails(alloc: Global, steps: &str, verb: &str) -> Result<String, Fail> {
     let mut told = String::new(alloc);
     for number in 1..100u64 {
-        let said = try_at(alloc, steps, verb, number)?;
-        if said.is_empty() {
+        if !try_at(alloc, steps, verb, number, &mut told)? {
             return Ok(told);
         }
-        told.push_str(said.as_str())?;
     }
     told.push_str("wrong: it does not end")?;
     Ok(told)
