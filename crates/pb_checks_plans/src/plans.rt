@@ -1,20 +1,19 @@
 //! Plans, against a table of plans written by hand.
 
-ghost use Rattle.std.specs.Prelude.{IfOk};
+ghost use Rattle.std.specs.Prelude.{◌<◌, All, length};
 ghost use Rattle.pb_package.specs.Settled.{IsSettled};
 
-use crate::asking::{files_in, options_of, parts_of};
+use crate::asking::{options_of, parts_of, workspace_of};
 use crate::cases::CASES;
 use crate::script_cases::SCRIPT_CASES;
 use crate::show::{shown_fault, shown_plan, shown_texts};
-use pb_checks_files::workspace_in;
 use pb_data::Text;
 use pb_feature::resolve;
 use pb_manifest::OptLevel;
-use pb_package::{Side, Workspace};
+use pb_package::{Selection, Side, Workspace};
 use pb_unit::{Plan, PlanFault, Unit, What};
 use pb_workspace::selected;
-use std::alloc::Global;
+use std::alloc::{AllocError, Global};
 use std::process::Abort;
 use std::test::Fail;
 
@@ -26,13 +25,21 @@ fn profile_in(words: &str) -> &str {
     }
 }
 
-/// The workspace of these files.
-fn workspace_of(alloc: Global, files: &str) -> Result<Workspace, Fail>
-    ensures { IfOk result IsSettled }
+/// A root manifest in `/w`, all of whose folders with a manifest are members.
+const ROOT: &str = "@ /w/Cargo.toml\n[workspace]\nmembers = [\"*\"]\n";
+
+/// The plan of a selection.
+fn planned(
+    alloc: Global,
+    workspace: &Workspace,
+    selection: &Selection,
+    words: &str,
+) -> Result<Result<Plan, PlanFault>, Fail>
+    requires settled { IsSettled workspace.now }
+    requires within { All (λ place. place < length workspace.now.packages) selection.now.packages }
 {
-    let mut memory = files_in(alloc, files)?;
-    let workspace = workspace_in(alloc, &mut memory)??;
-    Ok(workspace)
+    let features = resolve(alloc, workspace, selection)?;
+    Ok(Plan::plan(alloc, workspace, &features, selection, profile_in(words)))
 }
 
 /// The plan of a workspace.
@@ -43,24 +50,43 @@ fn plan_of(
 ) -> Result<Result<Plan, PlanFault>, Fail>
     requires { IsSettled workspace.now }
 {
-    let options = options_of(alloc, words)?;
+    let options = options_of(alloc, words, " ")?;
     let selection = selected(alloc, workspace, &options)?;
-    let features = resolve(alloc, workspace, &selection)?;
-    Ok(Plan::plan(alloc, workspace, &features, &selection, profile_in(words)))
+    planned(alloc, workspace, &selection, words)
 }
 
 /// What an answer is shown as.
-fn shown(alloc: Global, answer: Result<Plan, PlanFault>, words: &str) -> Result<String, Fail> {
+fn shown(
+    alloc: Global,
+    answer: &Result<Plan, PlanFault>,
+    words: &str,
+) -> Result<String, AllocError> {
     match answer {
         Err(fault) => shown_fault(alloc, fault),
         Ok(plan) => {
             if words.contains("!missing") {
                 shown_texts(alloc, plan.without_library())
             } else {
-                shown_plan(alloc, &plan, words.contains("!whole"))
+                shown_plan(alloc, plan, words.contains("!whole"))
             }
         }
     }
+}
+
+/// What the plan of a workspace is shown as.
+fn answer_to(alloc: Global, workspace: &Workspace, words: &str) -> Result<String, Fail>
+    requires { IsSettled workspace.now }
+{
+    let answer = plan_of(alloc, workspace, words)?;
+    Ok(shown(alloc, &answer, words)?)
+}
+
+/// Whether it is shown as this.
+fn is_answered(alloc: Global, workspace: &Workspace, words: &str, want: &str) -> Result<bool, Fail>
+    requires { IsSettled workspace.now }
+{
+    let answer = answer_to(alloc, workspace, words)?;
+    Ok(answer.as_str() == want)
 }
 
 /// Asks the questions about a workspace, one a line, each with its answer behind ` = `. How many there were.
@@ -75,9 +101,7 @@ fn ask_all(
     let mut count = 0usize;
     for line in questions.lines() {
         if let Some((words, want)) = line.split_once(" = ") {
-            let answer = plan_of(alloc, workspace, words)?;
-            let answer = shown(alloc, answer, words)?;
-            assert_eq!(rt; answer.as_str(), want);
+            assert!(rt; is_answered(alloc, workspace, words, want)?, "{line}");
             count = count.saturating_add(1);
         }
     }
@@ -89,7 +113,7 @@ fn try_case(rt: &impl Abort, alloc: Global, case: &str) -> Result<usize, Fail> {
     let Some((files, questions)) = parts_of(case) else {
         return Ok(0);
     };
-    let workspace = workspace_of(alloc, files)?;
+    let workspace = workspace_of(alloc, ROOT, files)?;
     ask_all(rt, alloc, &workspace, questions)
 }
 
@@ -105,17 +129,12 @@ fn try_cases(rt: &impl Abort, alloc: Global, cases: &str) -> Result<usize, Fail>
 #[test]
 fn plans(rt: HostRuntime) -> Result<(), Fail> {
     assert_eq!(rt; try_cases(&rt, rt.alloc(), CASES)?, 53);
-    Ok(())
-}
-
-#[test]
-fn plans_with_scripts(rt: HostRuntime) -> Result<(), Fail> {
     assert_eq!(rt; try_cases(&rt, rt.alloc(), SCRIPT_CASES)?, 25);
     Ok(())
 }
 
 /// The files of a package with so many binaries.
-fn many_binaries(alloc: Global, count: usize) -> Result<String, Fail> {
+fn many_binaries(alloc: Global, count: usize) -> Result<String, AllocError> {
     let mut files = String::from_str(alloc, "@ /w/a/Cargo.toml\npackage.name = \"a\"\n")?;
     for number in 0..count {
         let file = format!(in alloc; "@ /w/a/src/bin/b{number}.rs\n")?;
@@ -124,17 +143,30 @@ fn many_binaries(alloc: Global, count: usize) -> Result<String, Fail> {
     Ok(files)
 }
 
+/// How many units a plan has, or the fault.
+fn shown_count(alloc: Global, answer: &Result<Plan, PlanFault>) -> Result<String, AllocError> {
+    match answer {
+        Ok(plan) => {
+            let count = plan.units().len();
+            format!(in alloc; "{count} units")
+        }
+        Err(fault) => shown_fault(alloc, fault),
+    }
+}
+
+/// How the plan of the package of a workspace ends.
+fn end_of(alloc: Global, workspace: &Workspace) -> Result<String, Fail>
+    requires { IsSettled workspace.now }
+{
+    let answer = plan_of(alloc, workspace, "a")?;
+    Ok(shown_count(alloc, &answer)?)
+}
+
 /// How the plan of a package with so many binaries ends.
 fn with_binaries(alloc: Global, count: usize) -> Result<String, Fail> {
     let files = many_binaries(alloc, count)?;
-    let workspace = workspace_of(alloc, files.as_str())?;
-    match plan_of(alloc, &workspace, "a")? {
-        Ok(plan) => {
-            let count = plan.units().len();
-            Ok(format!(in alloc; "{count} units")?)
-        }
-        answer => shown(alloc, answer, ""),
-    }
+    let workspace = workspace_of(alloc, ROOT, files.as_str())?;
+    end_of(alloc, &workspace)
 }
 
 /// Whether the plan of a package with so many binaries ends like this.
@@ -173,7 +205,7 @@ const FOLDERS_AND_LEVELS: &str = r#"/w/target/release/b.host.lib Zero
 "#;
 
 /// The folder and the optimisation of each unit.
-fn folders_and_levels(alloc: Global, plan: &Plan) -> Result<String, Fail> {
+fn folders_and_levels(alloc: Global, plan: &Plan) -> Result<String, AllocError> {
     let mut shown = String::new(alloc);
     for planned in plan.units() {
         shown.push_str(planned.out.as_str())?;
@@ -185,7 +217,7 @@ fn folders_and_levels(alloc: Global, plan: &Plan) -> Result<String, Fail> {
 }
 
 /// Whether these are the folders and levels of a plan, and a place behind its five units has nothing.
-fn has_folders(alloc: Global, plan: &Plan) -> Result<bool, Fail> {
+fn has_folders(alloc: Global, plan: &Plan) -> Result<bool, AllocError> {
     let found = folders_and_levels(alloc, plan)?;
     Ok(
         found.as_str() == FOLDERS_AND_LEVELS
@@ -195,43 +227,58 @@ fn has_folders(alloc: Global, plan: &Plan) -> Result<bool, Fail> {
     )
 }
 
-/// Whether the plan of `BOTH_SIDES` under the profile `bench` has these folders and levels.
-fn both_have_folders(alloc: Global) -> Result<bool, Fail> {
-    let workspace = workspace_of(alloc, BOTH_SIDES)?;
-    let plan = plan_of(alloc, &workspace, "a @bench")??;
-    has_folders(alloc, &plan)
+/// Whether the plan of a workspace under the profile `bench` has these folders and levels.
+fn bench_has_folders(alloc: Global, workspace: &Workspace) -> Result<bool, Fail>
+    requires { IsSettled workspace.now }
+{
+    match plan_of(alloc, workspace, "a @bench")? {
+        Ok(plan) => Ok(has_folders(alloc, &plan)?),
+        Err(_) => Ok(false),
+    }
 }
 
-#[test]
-fn folders_and_settings(rt: HostRuntime) -> Result<(), Fail> {
-    assert!(rt; both_have_folders(rt.alloc())?);
-    Ok(())
-}
-
-/// The key of a unit of the packages of `BOTH_SIDES`.
-fn key_of(alloc: Global, unit: &Unit) -> Result<Text, Fail> {
-    let workspace = workspace_of(alloc, BOTH_SIDES)?;
-    Ok(unit.key(alloc, &workspace)?)
-}
-
-/// Whether this is the key of a unit of the packages of `BOTH_SIDES`.
+/// Whether this is the key of a unit.
 fn has_key(
     alloc: Global,
-    owner: usize,
-    side: Side,
-    what: What,
+    workspace: &Workspace,
+    unit: &Unit,
     wanted: &str,
-) -> Result<bool, Fail> {
-    let unit = Unit { owner, side, what };
-    let key = key_of(alloc, &unit)?;
+) -> Result<bool, AllocError> {
+    let key = unit.key(alloc, workspace)?;
     Ok(key.as_str() == wanted)
 }
 
+/// A binary of the package `b` on the host.
+fn binary(alloc: Global) -> Result<Unit, AllocError> {
+    let name = Text::from_str(alloc, "x_1")?;
+    Ok(Unit {
+        owner: 1,
+        side: Side::Host,
+        what: What::Bin(name),
+    })
+}
+
+/// Whether the keys of a unit, and of one of no package, are right.
+fn has_keys(alloc: Global, workspace: &Workspace) -> Result<bool, AllocError> {
+    let run = Unit {
+        owner: 2,
+        side: Side::Target,
+        what: What::Run,
+    };
+    let is_run = has_key(alloc, workspace, &run, ".target.run")?;
+    let binary = binary(alloc)?;
+    Ok(is_run && has_key(alloc, workspace, &binary, "b.host.bin-x_1")?)
+}
+
+/// Whether the folders, levels and keys of `BOTH_SIDES` are right.
+fn are_both_right(alloc: Global) -> Result<bool, Fail> {
+    let workspace = workspace_of(alloc, ROOT, BOTH_SIDES)?;
+    let has_keys = has_keys(alloc, &workspace)?;
+    Ok(bench_has_folders(alloc, &workspace)? && has_keys)
+}
+
 #[test]
-fn keys(rt: HostRuntime) -> Result<(), Fail> {
-    let alloc = rt.alloc();
-    let binary = What::Bin(Text::from_str(alloc, "x_1")?);
-    assert!(rt; has_key(alloc, 1, Side::Host, binary, "b.host.bin-x_1")?);
-    assert!(rt; has_key(alloc, 2, Side::Target, What::Run, ".target.run")?);
+fn folders_settings_and_keys(rt: HostRuntime) -> Result<(), Fail> {
+    assert!(rt; are_both_right(rt.alloc())?);
     Ok(())
 }

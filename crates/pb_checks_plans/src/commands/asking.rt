@@ -1,6 +1,6 @@
 //! Questions about the units of a project, and their answers.
 
-use crate::commands::making::{done_of, file_of};
+use crate::commands::making::file_of;
 use crate::commands::show::{
     shown_answer, shown_pair, shown_pairs, shown_path, shown_rest, shown_tail, shown_words,
 };
@@ -18,27 +18,29 @@ use std::test::Fail;
 #[derive(Drop)]
 pub struct Case<'a> {
     /// What its words ask for.
-    pub setup: Setup,
+    pub setup: &'a Setup,
     /// The project.
-    pub project: Project,
+    pub project: &'a Project,
     /// What its runs have said.
-    pub done: Vec<Option<Directives>>,
+    pub done: &'a [Option<Directives>],
     /// Its files.
     pub memory: &'a Memory<Silent>,
 }
 
-/// The setup that words ask for: `-FLAG` for the compiler's flags and `%WORD` for the runner.
-pub fn setup_of(alloc: Global, words: &str) -> Result<Setup, Fail> {
-    let mut flags = Items::new(alloc);
-    let mut runner = Items::new(alloc);
+/// The words that begin with a mark; `%` is taken off.
+fn words_with(alloc: Global, words: &str, mark: &str) -> Result<Items<Text>, AllocError> {
+    let mut found = Items::new(alloc);
     for word in words.split(' ') {
-        if word.starts_with("-") {
-            flags.push(Text::from_str(alloc, word)?)?;
-        }
-        if let Some(word) = word.strip_prefix("%") {
-            runner.push(Text::from_str(alloc, word)?)?;
+        if word.starts_with(mark) {
+            let word = word.strip_prefix("%").unwrap_or(word);
+            found.push(Text::from_str(alloc, word)?)?;
         }
     }
+    Ok(found)
+}
+
+/// A setup with these flags of the compiler and this runner.
+fn setup_with(alloc: Global, flags: Items<Text>, runner: Items<Text>) -> Result<Setup, AllocError> {
     let tool = Text::from_str(alloc, "tool")?;
     let rustc = Text::from_str(alloc, "rustc")?;
     let toolchain = Bytes::from_slice(alloc, b"rustc 1\nhost: \nhost: mini-os\nhost: other\n")?;
@@ -51,27 +53,16 @@ pub fn setup_of(alloc: Global, words: &str) -> Result<Setup, Fail> {
     })
 }
 
-/// A case of a project.
-pub fn case_of<'a>(
-    alloc: Global,
-    memory: &'a Memory<Silent>,
-    project: Project,
-    words: &str,
-) -> Result<Case<'a>, Fail> {
-    let setup = setup_of(alloc, words)?;
-    let done = done_of(alloc, memory, &project)?;
-    Ok(Case {
-        setup,
-        project,
-        done,
-        memory,
-    })
+/// The setup that words ask for: `-FLAG` for the compiler's flags and `%WORD` for the runner.
+pub fn setup_of(alloc: Global, words: &str) -> Result<Setup, AllocError> {
+    let flags = words_with(alloc, words, "-")?;
+    let runner = words_with(alloc, words, "%")?;
+    setup_with(alloc, flags, runner)
 }
 
 /// The command of a unit.
 fn command_in(alloc: Global, case: &Case, unit: &Planned) -> Result<Command, AllocError> {
-    let done = case.done.as_slice();
-    command(alloc, &case.setup, &case.project, unit, done)
+    command(alloc, case.setup, case.project, unit, case.done)
 }
 
 /// What a unit has printed, by its file in `/said`.
@@ -93,28 +84,28 @@ fn end_of(alloc: Global, case: &Case, unit: &Planned, status: i32) -> Result<End
     })
 }
 
-/// What such an end gives. The dep-info is the unit's file in `/info`.
+/// What such an end gives, with this dep-info.
 fn judged(
     alloc: Global,
     case: &Case,
     unit: &Planned,
-    command: &Command,
     end: &Ended,
-) -> Result<String, Fail> {
-    let info = file_of(alloc, case.memory, "/info", unit)?;
-    let answer = answered(alloc, &case.project, unit, command, end, info.as_ref());
-    shown_answer(alloc, answer)
+    info: Option<&Bytes>,
+) -> Result<String, AllocError> {
+    let command = command_in(alloc, case, unit)?;
+    let answer = answered(alloc, case.project, unit, &command, end, info);
+    shown_answer(alloc, &answer)
 }
 
-/// What an answer of this status gives.
+/// What an answer of this status gives. The dep-info is the unit's file in `/info`.
 fn answer_in(alloc: Global, case: &Case, unit: &Planned, status: i32) -> Result<String, Fail> {
-    let command = command_in(alloc, case, unit)?;
     let end = end_of(alloc, case, unit, status)?;
-    judged(alloc, case, unit, &command, &end)
+    let info = file_of(alloc, case.memory, "/info", unit)?;
+    Ok(judged(alloc, case, unit, &end, info.as_ref())?)
 }
 
 /// A part of a command.
-fn part_in(alloc: Global, command: &Command, what: &str) -> Result<String, Fail> {
+fn part_of(alloc: Global, command: &Command, what: &str) -> Result<String, AllocError> {
     match what {
         "words" => shown_words(alloc, command.words.as_slice()),
         "tail" => shown_tail(alloc, command.words.as_slice()),
@@ -124,17 +115,38 @@ fn part_in(alloc: Global, command: &Command, what: &str) -> Result<String, Fail>
     }
 }
 
+/// A part of the command of a unit.
+fn part_in(alloc: Global, case: &Case, unit: &Planned, what: &str) -> Result<String, AllocError> {
+    let command = command_in(alloc, case, unit)?;
+    part_of(alloc, &command, what)
+}
+
+/// The file that a unit makes.
+fn file_in(alloc: Global, case: &Case, unit: &Planned) -> Result<String, AllocError> {
+    let path = made_file(alloc, case.project, unit)?;
+    shown_path(alloc, &path)
+}
+
+/// Its dep-info.
+fn info_in(alloc: Global, case: &Case, unit: &Planned) -> Result<String, AllocError> {
+    let path = dep_info_path(alloc, case.project, unit)?;
+    shown_path(alloc, &path)
+}
+
+/// The name of its crate.
+fn crate_in(alloc: Global, case: &Case, unit: &Planned) -> Result<String, AllocError> {
+    let name: Text = crate_name_of(alloc, case.project, unit)?;
+    Ok(name.into_string())
+}
+
 /// The answer to a question about a unit.
 pub fn asked(alloc: Global, case: &Case, unit: &Planned, what: &str) -> Result<String, Fail> {
     match what {
         "good" => answer_in(alloc, case, unit, 0),
         "bad" => answer_in(alloc, case, unit, 1),
-        "file" => shown_path(alloc, &made_file(alloc, &case.project, unit)?),
-        "info" => shown_path(alloc, &dep_info_path(alloc, &case.project, unit)?),
-        "crate" => {
-            let name: Text = crate_name_of(alloc, &case.project, unit)?;
-            Ok(name.into_string())
-        }
-        _ => part_in(alloc, &command_in(alloc, case, unit)?, what),
+        "file" => Ok(file_in(alloc, case, unit)?),
+        "info" => Ok(info_in(alloc, case, unit)?),
+        "crate" => Ok(crate_in(alloc, case, unit)?),
+        _ => Ok(part_in(alloc, case, unit, what)?),
     }
 }

@@ -1,24 +1,22 @@
 //! Commands and answers as texts.
 
-use pb_data::{Items, Text};
+use pb_data::Text;
 use pb_directive::Directives;
 use pb_place::{Command, PathText};
 use pb_project::{Answered, UnitFault};
 use pb_record::InputName;
-use std::alloc::Global;
-use std::test::Fail;
+use std::alloc::{AllocError, Global};
 
 /// Adds a text behind others.
-fn add(out: &mut String, text: &str) -> Result<(), Fail> {
+fn add(out: &mut String, text: &str) -> Result<(), AllocError> {
     if !out.is_empty() {
         out.push_str(" ")?;
     }
-    out.push_str(text)?;
-    Ok(())
+    out.push_str(text)
 }
 
 /// Words, with spaces between them.
-pub fn shown_words(alloc: Global, words: &[Text]) -> Result<String, Fail> {
+pub fn shown_words(alloc: Global, words: &[Text]) -> Result<String, AllocError> {
     let mut out = String::new(alloc);
     for word in words {
         add(&mut out, word.as_str())?;
@@ -27,7 +25,7 @@ pub fn shown_words(alloc: Global, words: &[Text]) -> Result<String, Fail> {
 }
 
 /// The words behind the one that says what a panic does.
-pub fn shown_tail(alloc: Global, words: &[Text]) -> Result<String, Fail> {
+pub fn shown_tail(alloc: Global, words: &[Text]) -> Result<String, AllocError> {
     let mut out = String::new(alloc);
     let mut behind = false;
     for word in words {
@@ -39,41 +37,44 @@ pub fn shown_tail(alloc: Global, words: &[Text]) -> Result<String, Fail> {
     Ok(out)
 }
 
-/// A value, with `~` for each byte 0x1f.
-fn shown_value(alloc: Global, value: &str) -> Result<String, Fail> {
-    let mut out = String::new(alloc);
+/// Adds a value, with `~` for each byte 0x1f.
+fn put_value(out: &mut String, value: &str) -> Result<(), AllocError> {
+    let mut before = "";
     for part in value.split('\u{1f}') {
-        if !out.is_empty() {
-            out.push_str("~")?;
-        }
+        out.push_str(before)?;
         out.push_str(part)?;
+        before = "~";
     }
-    Ok(out)
+    Ok(())
 }
 
 /// Names and values, with spaces between them.
-pub fn shown_pairs(alloc: Global, pairs: &[(Text, Text)]) -> Result<String, Fail> {
+pub fn shown_pairs(alloc: Global, pairs: &[(Text, Text)]) -> Result<String, AllocError> {
     let mut out = String::new(alloc);
     for (name, value) in pairs {
-        let value = shown_value(alloc, value.as_str())?;
-        let pair = format!(in alloc; "{}={}", name.as_str(), value.as_str())?;
-        add(&mut out, pair.as_str())?;
+        add(&mut out, name.as_str())?;
+        out.push_str("=")?;
+        put_value(&mut out, value.as_str())?;
     }
     Ok(out)
 }
 
 /// The value of a name, or `-` where it is not set.
-pub fn shown_pair(alloc: Global, pairs: &[(Text, Text)], wanted: &str) -> Result<String, Fail> {
+pub fn shown_pair(
+    alloc: Global,
+    pairs: &[(Text, Text)],
+    wanted: &str,
+) -> Result<String, AllocError> {
     for (name, value) in pairs {
         if name.as_str() == wanted {
-            return Ok(String::from_str(alloc, value.as_str())?);
+            return String::from_str(alloc, value.as_str());
         }
     }
-    Ok(String::from_str(alloc, "-")?)
+    String::from_str(alloc, "-")
 }
 
 /// Paths, with spaces between them.
-fn shown_paths(alloc: Global, paths: &[PathText]) -> Result<String, Fail> {
+fn shown_paths(alloc: Global, paths: &[PathText]) -> Result<String, AllocError> {
     let mut out = String::new(alloc);
     for path in paths {
         add(&mut out, path.as_str())?;
@@ -82,15 +83,15 @@ fn shown_paths(alloc: Global, paths: &[PathText]) -> Result<String, Fail> {
 }
 
 /// A path, or `-`.
-pub fn shown_path(alloc: Global, path: &Option<PathText>) -> Result<String, Fail> {
+pub fn shown_path(alloc: Global, path: &Option<PathText>) -> Result<String, AllocError> {
     match path {
-        Some(path) => Ok(String::from_str(alloc, path.as_str())?),
-        None => Ok(String::from_str(alloc, "-")?),
+        Some(path) => String::from_str(alloc, path.as_str()),
+        None => String::from_str(alloc, "-"),
     }
 }
 
 /// The program of a command, its folders, and what it reads behind a bar.
-pub fn shown_rest(alloc: Global, command: &Command) -> Result<String, Fail> {
+pub fn shown_rest(alloc: Global, command: &Command) -> Result<String, AllocError> {
     let out = match &command.out {
         Some(out) => out.as_str(),
         None => "-",
@@ -99,54 +100,53 @@ pub fn shown_rest(alloc: Global, command: &Command) -> Result<String, Fail> {
     let program = command.program.as_str();
     let folder = command.folder.as_str();
     let target = command.target.as_str();
-    Ok(format!(in alloc; "{program} {folder} {out} {target} | {reads}")?)
+    format!(in alloc; "{program} {folder} {out} {target} | {reads}")
 }
 
-/// Inputs: paths, and the names of variables behind a `$`.
-fn shown_inputs(alloc: Global, inputs: &Items<InputName>) -> Result<String, Fail> {
-    let mut out = String::new(alloc);
-    for input in inputs.as_slice() {
-        match input {
-            InputName::Path(path) => add(&mut out, path.as_str())?,
-            InputName::Variable(name) => {
-                let name = format!(in alloc; "${}", name.as_str())?;
-                add(&mut out, name.as_str())?;
-            }
+/// Adds an input: a path, or the name of a variable behind a `$`.
+fn put_input(out: &mut String, input: &InputName) -> Result<(), AllocError> {
+    match input {
+        InputName::Path(path) => add(out, path.as_str()),
+        InputName::Variable(name) => {
+            add(out, "$")?;
+            out.push_str(name.as_str())
         }
     }
-    Ok(out)
 }
 
-/// A fault by its name.
-fn shown_fault(alloc: Global, fault: UnitFault) -> Result<String, Fail> {
-    match fault {
-        UnitFault::ForeignInput(path) => {
-            Ok(format!(in alloc; "ForeignInput({})", path.as_str())?)
-        }
-        other => Ok(format!(in alloc; "{other:?}")?),
-    }
-}
-
-/// How many directives there are, or `-`.
-fn shown_count(alloc: Global, directives: &Option<Directives>) -> Result<String, Fail> {
+/// Adds how many directives there are, or `-`.
+fn put_count(
+    alloc: Global,
+    out: &mut String,
+    directives: &Option<Directives>,
+) -> Result<(), AllocError> {
     match directives {
-        Some(said) => Ok(said.len().to_string(alloc)?),
-        None => Ok(String::from_str(alloc, "-")?),
+        Some(said) => {
+            let count = said.len().to_string(alloc)?;
+            out.push_str(count.as_str())
+        }
+        None => out.push_str("-"),
     }
 }
 
 /// What a good answer gives: how many directives there are, and the inputs.
-fn shown_good(alloc: Global, answer: &Answered) -> Result<String, Fail> {
-    let mut out = shown_count(alloc, &answer.directives)?;
-    let inputs = shown_inputs(alloc, &answer.inputs)?;
-    add(&mut out, inputs.as_str())?;
+fn shown_good(alloc: Global, answer: &Answered) -> Result<String, AllocError> {
+    let mut out = String::new(alloc);
+    put_count(alloc, &mut out, &answer.directives)?;
+    for input in answer.inputs.as_slice() {
+        put_input(&mut out, input)?;
+    }
     Ok(out)
 }
 
-/// What an answer gives, or its fault.
-pub fn shown_answer(alloc: Global, answer: Result<Answered, UnitFault>) -> Result<String, Fail> {
+/// What an answer gives, or its fault by its name.
+pub fn shown_answer(
+    alloc: Global,
+    answer: &Result<Answered, UnitFault>,
+) -> Result<String, AllocError> {
     match answer {
-        Ok(answer) => shown_good(alloc, &answer),
-        Err(fault) => shown_fault(alloc, fault),
+        Ok(answer) => shown_good(alloc, answer),
+        Err(UnitFault::ForeignInput(path)) => format!(in alloc; "ForeignInput({})", path.as_str()),
+        Err(fault) => format!(in alloc; "{fault:?}"),
     }
 }

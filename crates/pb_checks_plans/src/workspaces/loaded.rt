@@ -1,37 +1,26 @@
 //! Workspaces, by a table of files with the packages that are loaded or the refusal.
 
+use crate::asking::{options_of, parts_of};
 use crate::workspaces::cases::CASES;
 use crate::workspaces::show::shown;
-use pb_checks_files::{Silent, no_options, put_files, workspace_in};
-use pb_data::Text;
-use pb_package::{LoadFault, Options, Selection, Workspace};
-use pb_place::{Memory, PathText, Place};
+use pb_checks_files::{Silent, put_files, workspace_in};
+use pb_package::{LoadFault, Selection, Workspace};
+use pb_place::{Memory, PathFault, PathText, Place};
 use pb_workspace::{load, selected};
-use std::alloc::Global;
+use std::alloc::{AllocError, Global};
 use std::process::Abort;
 use std::test::Fail;
 
-/// Adds what a word asks for: `-p NAME`, all members for `*`, or nothing for `-`.
-fn add_word(alloc: Global, options: &mut Options, word: &str) -> Result<(), Fail> {
-    if word == "*" {
-        options.workspace = true;
-    } else if word != "-" {
-        options.packages.push(Text::from_str(alloc, word)?)?;
-    }
-    Ok(())
-}
-
-/// The options of a build for which a word asks.
-fn options_of(alloc: Global, word: &str) -> Result<Options, Fail> {
-    let mut options = no_options(alloc)?;
-    add_word(alloc, &mut options, word)?;
-    Ok(options)
+/// Adds a place.
+fn put_place(alloc: Global, out: &mut String, place: usize) -> Result<(), AllocError> {
+    let place = format!(in alloc; " {place}")?;
+    out.push_str(place.as_str())
 }
 
 /// Adds places.
-fn put_places(alloc: Global, places: &[usize], out: &mut String) -> Result<(), Fail> {
+fn put_places(alloc: Global, places: &[usize], out: &mut String) -> Result<(), AllocError> {
     for place in places {
-        out.push_str(format!(in alloc; " {place}")?.as_str())?;
+        put_place(alloc, out, *place)?;
     }
     Ok(())
 }
@@ -41,10 +30,13 @@ fn put_selected(
     alloc: Global,
     answer: &Result<Selection, LoadFault>,
     out: &mut String,
-) -> Result<(), Fail> {
+) -> Result<(), AllocError> {
     match answer {
         Ok(selection) => put_places(alloc, selection.packages.as_slice(), out),
-        Err(fault) => Ok(out.push_str(format!(in alloc; " {fault:?}")?.as_str())?),
+        Err(fault) => {
+            let fault = format!(in alloc; " {fault:?}")?;
+            out.push_str(fault.as_str())
+        }
     }
 }
 
@@ -55,8 +47,9 @@ fn put_selection(
     word: &str,
     out: &mut String,
 ) -> Result<(), Fail> {
-    let options = options_of(alloc, word)?;
-    put_selected(alloc, &selected(alloc, workspace, &options), out)
+    let options = options_of(alloc, word, " ")?;
+    let answer = selected(alloc, workspace, &options);
+    Ok(put_selected(alloc, &answer, out)?)
 }
 
 /// Adds a line for each word that stands for a selection: `WORD =` and what is selected.
@@ -86,27 +79,33 @@ fn told(alloc: Global, answer: &Result<Workspace, LoadFault>, words: &str) -> Re
     Ok(out)
 }
 
-/// What a case of these files answers: the workspace, and a line for each word that stands for a selection.
-fn answered(alloc: Global, files: &str, words: &str) -> Result<String, Fail> {
-    let mut memory = Memory::new(alloc, Silent);
-    put_files(alloc, &mut memory, files)?;
-    told(alloc, &workspace_in(alloc, &mut memory)?, words)
+/// What files that are put at a place answer: the workspace, and a line for each word that stands for a selection.
+fn answered_at(
+    alloc: Global,
+    memory: &mut Memory<Silent>,
+    files: &str,
+    words: &str,
+) -> Result<String, Fail> {
+    put_files(alloc, memory, files)?;
+    let answer = workspace_in(alloc, memory)?;
+    told(alloc, &answer, words)
 }
 
-/// Tries one case: a name and words of selections, files, and after a line `---` the answer.
+/// Whether files answer this.
+fn is_answered(alloc: Global, files: &str, words: &str, want: &str) -> Result<bool, Fail> {
+    let mut memory = Memory::new(alloc, Silent);
+    let answer = answered_at(alloc, &mut memory, files, words)?;
+    Ok(answer.as_str() == want)
+}
+
+/// Tries one case: a name and words of selections, files, and after a line `---` the answer. Whether it is one.
 fn try_case(rt: &impl Abort, alloc: Global, case: &str) -> Result<bool, Fail> {
-    let Some((head, rest)) = case.split_once('\n') else {
+    let Some((files, want)) = parts_of(case) else {
         return Ok(false);
     };
-    let Some((files, want)) = rest.split_once("---\n") else {
-        return Ok(false);
-    };
-    let words = match head.split_once(": ") {
-        Some((_, words)) => words,
-        None => "",
-    };
-    let answer = answered(alloc, files, words)?;
-    assert_eq!(rt; answer.as_str(), want);
+    let head = case.lines().next().unwrap_or("");
+    let (_, words) = head.split_once(": ").unwrap_or((head, ""));
+    assert!(rt; is_answered(alloc, files, words, want)?, "{case}");
     Ok(true)
 }
 
@@ -152,18 +151,22 @@ fn count_in(answer: &Result<Workspace, LoadFault>) -> usize {
     }
 }
 
-/// How many packages are loaded of what is at a place.
-fn count_found(alloc: Global, memory: &mut Memory<Silent>) -> Result<usize, Fail> {
-    Ok(count_in(&workspace_in(alloc, memory)?))
+/// How many packages are loaded of a root and so many members that are put at a place, how many calls of the place
+/// failed, and how many children were started.
+fn count_loaded_at(
+    alloc: Global,
+    memory: &mut Memory<Silent>,
+    count: usize,
+) -> Result<(usize, u64, u64), Fail> {
+    put_many(alloc, memory, count)?;
+    let answer = workspace_in(alloc, memory)?;
+    Ok((count_in(&answer), memory.failures(), memory.starts()))
 }
 
-/// How many packages are loaded of a root and so many members, how many calls of the place failed, and how many
-/// children were started.
+/// The same at a place of its own.
 fn count_loaded(alloc: Global, count: usize) -> Result<(usize, u64, u64), Fail> {
     let mut memory = Memory::new(alloc, Silent);
-    put_many(alloc, &mut memory, count)?;
-    let found = count_found(alloc, &mut memory)?;
-    Ok((found, memory.failures(), memory.starts()))
+    count_loaded_at(alloc, &mut memory, count)
 }
 
 #[test]
@@ -181,29 +184,39 @@ const TWO_MANIFESTS: &str =
 fn finds_none(
     alloc: Global,
     memory: &mut Memory<Silent>,
-    manifest: &PathText,
-    target: &PathText,
-) -> bool {
-    let answer = load(alloc, memory, manifest, target);
-    matches!(answer, Err(LoadFault::NoManifest(_)))
-}
-
-/// Whether there is no manifest at a path, of the package of `TWO_MANIFESTS`.
-fn is_no_manifest(alloc: Global, manifest: &str, target: &str) -> Result<bool, Fail> {
+    manifest: &str,
+    target: &str,
+) -> Result<bool, PathFault> {
     let manifest = PathText::parse(alloc, manifest)?;
     let target = PathText::parse(alloc, target)?;
-    let mut memory = Memory::new(alloc, Silent);
-    put_files(alloc, &mut memory, TWO_MANIFESTS)?;
-    Ok(finds_none(alloc, &mut memory, &manifest, &target))
+    let answer = load(alloc, memory, &manifest, &target);
+    Ok(matches!(answer, Err(LoadFault::NoManifest(_))))
+}
+
+/// Manifests and target folders, and whether there is no manifest there, of the package of `TWO_MANIFESTS`.
+const ROOTS: &[(&str, &str, bool)] = &[
+    ("/w/Cargo.toml", "/w/target", false),
+    ("/w/other.toml", "/w/target", true),
+    ("/w/Cargo.toml", "/w", true),
+    ("/w/Cargo.toml", "/w/Cargo.toml", true),
+    ("/v/Cargo.toml", "/w/target", true),
+];
+
+/// How many of them are so, up to the first that is not.
+fn count_roots(alloc: Global, memory: &mut Memory<Silent>) -> Result<usize, PathFault> {
+    put_files(alloc, memory, TWO_MANIFESTS)?;
+    for (count, case) in ROOTS.iter().enumerate() {
+        let (manifest, target, is_none) = *case;
+        if finds_none(alloc, memory, manifest, target)? != is_none {
+            return Ok(count);
+        }
+    }
+    Ok(ROOTS.len())
 }
 
 #[test]
 fn roots_that_are_no_manifest(rt: HostRuntime) -> Result<(), Fail> {
-    let alloc = rt.alloc();
-    assert!(rt; !is_no_manifest(alloc, "/w/Cargo.toml", "/w/target")?);
-    assert!(rt; is_no_manifest(alloc, "/w/other.toml", "/w/target")?);
-    assert!(rt; is_no_manifest(alloc, "/w/Cargo.toml", "/w")?);
-    assert!(rt; is_no_manifest(alloc, "/w/Cargo.toml", "/w/Cargo.toml")?);
-    assert!(rt; is_no_manifest(alloc, "/v/Cargo.toml", "/w/target")?);
+    let mut memory = Memory::new(rt.alloc(), Silent);
+    assert_eq!(rt; count_roots(rt.alloc(), &mut memory)?, 5);
     Ok(())
 }

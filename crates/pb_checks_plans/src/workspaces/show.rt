@@ -1,11 +1,11 @@
 //! A workspace as lines of text: what is there, defaults left out.
 
-use pb_data::{Items, Text};
-use pb_manifest::{Edition, Feature, FeatureItem, Profile};
+use pb_data::Text;
+use pb_manifest::{CrateType, Edition, Feature, FeatureItem, Profile};
 use pb_package::{
     About, Binary, DefaultMembers, DependencyKind, Entry, Library, LoadFault, Package, Workspace,
 };
-use std::alloc::Global;
+use std::alloc::{AllocError, Global};
 use std::fmt::Write;
 use std::test::Fail;
 
@@ -38,37 +38,55 @@ fn put_packages(out: &mut String, packages: &[Package]) -> Result<(), Fail> {
     Ok(())
 }
 
-fn put_root(out: &mut String, root: Option<usize>) -> Result<(), Fail> {
-    match root {
-        Some(place) => writeln!(out, "root {place}")?,
-        None => {}
+/// Puts texts one after another.
+fn put(out: &mut String, texts: &[&str]) -> Result<(), AllocError> {
+    for text in texts {
+        out.push_str(*text)?;
     }
     Ok(())
 }
 
-fn put_places(out: &mut String, places: &[usize]) -> Result<(), Fail> {
-    write!(out, "default")?;
-    for place in places {
-        write!(out, " {place}")?;
+/// Puts texts, each behind a space.
+fn put_texts(out: &mut String, texts: &[Text]) -> Result<(), AllocError> {
+    for text in texts {
+        put(out, &[" ", text.as_str()])?;
     }
-    writeln!(out, "")?;
     Ok(())
+}
+
+/// Puts a number behind a space.
+fn put_number(out: &mut String, number: usize) -> Result<(), Fail> {
+    write!(out, " {number}")?;
+    Ok(())
+}
+
+fn put_root(out: &mut String, root: Option<usize>) -> Result<(), Fail> {
+    match root {
+        Some(place) => put_places(out, "root", &[place]),
+        None => Ok(()),
+    }
+}
+
+/// Puts a line of a word and places.
+fn put_places(out: &mut String, word: &str, places: &[usize]) -> Result<(), Fail> {
+    put(out, &[word])?;
+    for place in places {
+        put_number(out, *place)?;
+    }
+    Ok(put(out, &["\n"])?)
 }
 
 fn put_default(out: &mut String, members: &DefaultMembers) -> Result<(), Fail> {
     match members {
         DefaultMembers::Unwritten => Ok(()),
-        DefaultMembers::Unknown => {
-            writeln!(out, "default unknown")?;
-            Ok(())
-        }
-        DefaultMembers::Named(places) => put_places(out, places.as_slice()),
+        DefaultMembers::Unknown => Ok(put(out, &["default unknown\n"])?),
+        DefaultMembers::Named(places) => put_places(out, "default", places.as_slice()),
     }
 }
 
-fn put_profiles(out: &mut String, profiles: &[Profile]) -> Result<(), Fail> {
+fn put_profiles(out: &mut String, profiles: &[Profile]) -> Result<(), AllocError> {
     for profile in profiles {
-        writeln!(out, "profile {}", profile.name.as_str())?;
+        put(out, &["profile ", profile.name.as_str(), "\n"])?;
     }
     Ok(())
 }
@@ -77,7 +95,7 @@ fn put_workspace(out: &mut String, workspace: &Workspace) -> Result<(), Fail> {
     put_packages(out, workspace.packages.as_slice())?;
     put_root(out, workspace.root_package)?;
     put_default(out, &workspace.default_members)?;
-    put_profiles(out, workspace.profiles.as_slice())
+    Ok(put_profiles(out, workspace.profiles.as_slice())?)
 }
 
 fn edition_text(edition: Edition) -> &'static str {
@@ -89,24 +107,27 @@ fn edition_text(edition: Edition) -> &'static str {
     }
 }
 
-fn put_head(out: &mut String, found: &Package) -> Result<(), Fail> {
-    let version = found.version.text().as_str();
-    let edition = edition_text(found.edition);
-    let folder = found.folder.as_str();
-    let name = found.name.as_str();
-    write!(out, "{folder} {name} {version} {edition}")?;
-    if !found.is_member {
-        write!(out, " other")?;
+/// Puts a word where it holds.
+fn put_word(out: &mut String, word: &str, holds: bool) -> Result<(), AllocError> {
+    if holds {
+        return put(out, &[word]);
     }
-    writeln!(out, "")?;
     Ok(())
 }
 
-fn put_links(out: &mut String, links: &Option<Text>) -> Result<(), Fail> {
-    if let Some(links) = links {
-        writeln!(out, "  links {}", links.as_str())?;
+fn put_head(out: &mut String, found: &Package) -> Result<(), AllocError> {
+    put(out, &[found.folder.as_str(), " ", found.name.as_str()])?;
+    put(out, &[" ", found.version.text().as_str()])?;
+    put(out, &[" ", edition_text(found.edition)])?;
+    put_word(out, " other", !found.is_member)?;
+    put(out, &["\n"])
+}
+
+fn put_links(out: &mut String, links: &Option<Text>) -> Result<(), AllocError> {
+    match links {
+        Some(links) => put(out, &["  links ", links.as_str(), "\n"]),
+        None => Ok(()),
     }
-    Ok(())
 }
 
 fn put_entries(out: &mut String, entries: &[Entry]) -> Result<(), Fail> {
@@ -116,16 +137,16 @@ fn put_entries(out: &mut String, entries: &[Entry]) -> Result<(), Fail> {
     Ok(())
 }
 
-fn put_features(out: &mut String, features: &[Feature]) -> Result<(), Fail> {
+fn put_features(out: &mut String, features: &[Feature]) -> Result<(), AllocError> {
     for feature in features {
         put_feature(out, feature)?;
     }
     Ok(())
 }
 
-fn put_development(out: &mut String, keys: &[Text]) -> Result<(), Fail> {
+fn put_development(out: &mut String, keys: &[Text]) -> Result<(), AllocError> {
     for key in keys {
-        writeln!(out, "  dev {}", key.as_str())?;
+        put(out, &["  dev ", key.as_str(), "\n"])?;
     }
     Ok(())
 }
@@ -137,17 +158,17 @@ fn put_package(out: &mut String, found: &Package) -> Result<(), Fail> {
     put_targets(out, found)?;
     put_entries(out, found.entries.as_slice())?;
     put_features(out, found.features.as_slice())?;
-    put_development(out, found.development.as_slice())
+    Ok(put_development(out, found.development.as_slice())?)
 }
 
-fn put_said(out: &mut String, name: &str, text: &Text) -> Result<(), Fail> {
-    if text.as_str() != "" {
-        writeln!(out, "  {name} {}", text.as_str())?;
+fn put_said(out: &mut String, name: &str, text: &Text) -> Result<(), AllocError> {
+    if text.as_str() == "" {
+        return Ok(());
     }
-    Ok(())
+    put(out, &["  ", name, " ", text.as_str(), "\n"])
 }
 
-fn put_about(out: &mut String, about: &About) -> Result<(), Fail> {
+fn put_about(out: &mut String, about: &About) -> Result<(), AllocError> {
     put_said(out, "authors", &about.authors)?;
     put_said(out, "description", &about.description)?;
     put_said(out, "homepage", &about.homepage)?;
@@ -158,24 +179,35 @@ fn put_about(out: &mut String, about: &About) -> Result<(), Fail> {
     put_said(out, "rust-version", &about.rust_version)
 }
 
-fn put_library(out: &mut String, library: &Library) -> Result<(), Fail> {
-    let name = library.name.as_str();
-    let source = library.source.as_str();
-    write!(out, "  lib {name} {source}")?;
-    for crate_type in library.crate_types.as_slice() {
-        write!(out, " {crate_type:?}")?;
-    }
-    writeln!(out, "")?;
+/// Puts the name of a crate type.
+fn put_type(out: &mut String, crate_type: CrateType) -> Result<(), Fail> {
+    write!(out, " {crate_type:?}")?;
     Ok(())
 }
 
-fn put_binary(out: &mut String, binary: &Binary) -> Result<(), Fail> {
-    let name = binary.name.as_str();
-    let source = binary.source.as_str();
-    write!(out, "  bin {name} {source}")?;
-    put_texts(out, &binary.required_features)?;
-    writeln!(out, "")?;
-    Ok(())
+fn put_library(out: &mut String, library: &Library) -> Result<(), Fail> {
+    put(
+        out,
+        &[
+            "  lib ",
+            library.name.as_str(),
+            " ",
+            library.source.as_str(),
+        ],
+    )?;
+    for crate_type in library.crate_types.as_slice() {
+        put_type(out, *crate_type)?;
+    }
+    Ok(put(out, &["\n"])?)
+}
+
+fn put_binary(out: &mut String, binary: &Binary) -> Result<(), AllocError> {
+    put(
+        out,
+        &["  bin ", binary.name.as_str(), " ", binary.source.as_str()],
+    )?;
+    put_texts(out, binary.required_features.as_slice())?;
+    put(out, &["\n"])
 }
 
 fn put_targets(out: &mut String, found: &Package) -> Result<(), Fail> {
@@ -185,55 +217,54 @@ fn put_targets(out: &mut String, found: &Package) -> Result<(), Fail> {
     for binary in found.binaries.as_slice() {
         put_binary(out, binary)?;
     }
-    if let Some(script) = &found.script {
-        writeln!(out, "  script {}", script.as_str())?;
+    match &found.script {
+        Some(script) => Ok(put(out, &["  script ", script.as_str(), "\n"])?),
+        None => Ok(()),
     }
-    Ok(())
 }
 
-fn put_texts(out: &mut String, texts: &Items<Text>) -> Result<(), Fail> {
-    for text in texts.as_slice() {
-        write!(out, " {}", text.as_str())?;
+/// Puts the key of an entry behind the word of its table.
+fn put_key(out: &mut String, entry: &Entry) -> Result<(), AllocError> {
+    match entry.kind {
+        DependencyKind::Normal => put(out, &["  dep ", entry.key.as_str()]),
+        DependencyKind::Build => put(out, &["  build-dep ", entry.key.as_str()]),
     }
-    Ok(())
+}
+
+/// Puts what is written of an entry besides its key and its package.
+fn put_rest(out: &mut String, entry: &Entry) -> Result<(), AllocError> {
+    put_word(out, " renamed", entry.renamed)?;
+    put_word(out, " optional", entry.optional)?;
+    put_word(out, " no-default", !entry.default_features)?;
+    put_texts(out, entry.features.as_slice())?;
+    put(out, &["\n"])
 }
 
 fn put_entry(out: &mut String, entry: &Entry) -> Result<(), Fail> {
-    let table = match entry.kind {
-        DependencyKind::Normal => "dep",
-        DependencyKind::Build => "build-dep",
-    };
-    write!(out, "  {table} {} {}", entry.key.as_str(), entry.to)?;
-    if entry.renamed {
-        write!(out, " renamed")?;
-    }
-    if entry.optional {
-        write!(out, " optional")?;
-    }
-    if !entry.default_features {
-        write!(out, " no-default")?;
-    }
-    put_texts(out, &entry.features)?;
-    writeln!(out, "")?;
-    Ok(())
+    put_key(out, entry)?;
+    put_number(out, entry.to)?;
+    Ok(put_rest(out, entry)?)
 }
 
-fn put_feature(out: &mut String, feature: &Feature) -> Result<(), Fail> {
-    write!(out, "  feature {}", feature.name.as_str())?;
-    for item in feature.items.as_slice() {
-        match item {
-            FeatureItem::Own(name) => write!(out, " {}", name.as_str())?,
-            FeatureItem::Dependency(name) => write!(out, " dep:{}", name.as_str())?,
-            FeatureItem::Of {
-                dependency,
-                feature,
-            } => write!(out, " {}/{}", dependency.as_str(), feature.as_str())?,
-            FeatureItem::OfEnabled {
-                dependency,
-                feature,
-            } => write!(out, " {}?/{}", dependency.as_str(), feature.as_str())?,
-        }
+fn put_item(out: &mut String, item: &FeatureItem) -> Result<(), AllocError> {
+    match item {
+        FeatureItem::Own(name) => put(out, &[" ", name.as_str()]),
+        FeatureItem::Dependency(name) => put(out, &[" dep:", name.as_str()]),
+        FeatureItem::Of {
+            dependency,
+            feature,
+        } => put(out, &[" ", dependency.as_str(), "/", feature.as_str()]),
+        FeatureItem::OfEnabled {
+            dependency,
+            feature,
+        } => put(out, &[" ", dependency.as_str(), "?/", feature.as_str()]),
     }
-    writeln!(out, "")?;
-    Ok(())
+}
+
+fn put_feature(out: &mut String, feature: &Feature) -> Result<(), AllocError> {
+    put(out, &["  feature ", feature.name.as_str()])?;
+    for item in feature.items.as_slice() {
+        put_item(out, item)?;
+    }
+    put(out, &["\n"])
 }
