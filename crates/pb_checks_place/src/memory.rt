@@ -4,7 +4,6 @@ use super::echo::{Echo, say};
 use pb_data::{Bytes, Text};
 use pb_place::{Ended, Memory, PathText, Place};
 use std::alloc::{AllocError, Global};
-use std::process::Abort;
 use std::test::Fail;
 
 /// The path that a text says.
@@ -244,15 +243,11 @@ fn first_wrong<'a>(alloc: Global, lines: &'a str, starts: u64) -> Result<Option<
     first_wrong_in(alloc, &mut memory, lines, starts)
 }
 
-/// Asserts that there is none.
-fn assert_lines(rt: &impl Abort, alloc: Global, lines: &str, starts: u64) -> Result<(), Fail> {
-    assert_eq!(rt; first_wrong(alloc, lines, starts)?, None);
-    Ok(())
-}
-
-#[test]
-fn lists_and_reads(rt: HostRuntime) -> Result<(), Fail> {
-    let lines = "list|/w/target||/w/target/dep /w/target/dep/lib /w/target/hidden \n\
+/// Lines of calls, and how many of them start a child.
+const CALLS: &[(&str, u64)] = &[
+    // Lists and reads.
+    (
+        "list|/w/target||/w/target/dep /w/target/dep/lib /w/target/hidden \n\
         list|/w/a||/w/a/b \n\
         list|/w/a/b||\n\
         list|/x||\n\
@@ -260,38 +255,35 @@ fn lists_and_reads(rt: HostRuntime) -> Result<(), Fail> {
         read|/w/a/b||inside\n\
         read|/w||none\n\
         file|/w/ab||longer\n\
-        file|/w/abc||none";
-    assert_lines(&rt, rt.alloc(), lines, 0)
-}
-
-#[test]
-fn lists_outside(rt: HostRuntime) -> Result<(), Fail> {
-    let lines = "list_outside|/|/w/target|/w/a /w/a/b /w/ab \n\
+        file|/w/abc||none",
+        0,
+    ),
+    // Lists outside a folder.
+    (
+        "list_outside|/|/w/target|/w/a /w/a/b /w/ab \n\
         list_outside|/w|/w/a|/w/ab /w/target /w/target/dep /w/target/dep/lib /w/target/hidden \n\
         list_outside|/w|/w/ab/c|/w/a /w/a/b /w/ab /w/target /w/target/dep /w/target/dep/lib /w/target/hidden \n\
         list_outside|/w/target|/w/target/dep|/w/target/hidden \n\
         list_outside|/w/target|/w/target|\n\
         list_outside|/w/target|/w|\n\
-        list_outside|/x|/w|";
-    assert_lines(&rt, rt.alloc(), lines, 0)
-}
-
-#[test]
-fn lists_directly(rt: HostRuntime) -> Result<(), Fail> {
-    let lines = "list_directly|/w/target||/w/target/dep /w/target/hidden \n\
+        list_outside|/x|/w|",
+        0,
+    ),
+    // Lists the files directly in a folder.
+    (
+        "list_directly|/w/target||/w/target/dep /w/target/hidden \n\
         list_directly|/w||/w/a /w/ab /w/target \n\
         list_directly|/||\n\
         list_directly|/w/a||/w/a/b \n\
         list_directly|/w/a/b||\n\
         list_directly|/x||\n\
         write|/f||done\n\
-        list_directly|/||/f ";
-    assert_lines(&rt, rt.alloc(), lines, 0)
-}
-
-#[test]
-fn writes_and_removes(rt: HostRuntime) -> Result<(), Fail> {
-    let lines = "remove_tree|/w/target||done\n\
+        list_directly|/||/f ",
+        0,
+    ),
+    // Writes and removes.
+    (
+        "remove_tree|/w/target||done\n\
         list|/||/w/a /w/a/b /w/ab \n\
         remove_tree|/w/a||done\n\
         remove_tree|/w/nothing||done\n\
@@ -303,13 +295,12 @@ fn writes_and_removes(rt: HostRuntime) -> Result<(), Fail> {
         read|/w/ab||\n\
         read|/||root\n\
         remove_tree|/||done\n\
-        read|/||none";
-    assert_lines(&rt, rt.alloc(), lines, 0)
-}
-
-#[test]
-fn edits(rt: HostRuntime) -> Result<(), Fail> {
-    let lines = "put|/w/a|again|done\n\
+        read|/||none",
+        0,
+    ),
+    // Edits of a session.
+    (
+        "put|/w/a|again|done\n\
         file|/w/a||again\n\
         remove|/w/a||done\n\
         file|/w/a||none\n\
@@ -322,13 +313,12 @@ fn edits(rt: HostRuntime) -> Result<(), Fail> {
         set||a=b|done\n\
         unset|NAME||done\n\
         variable|NAME||none\n\
-        variable|||a=b";
-    assert_lines(&rt, rt.alloc(), lines, 0)
-}
-
-#[test]
-fn starts(rt: HostRuntime) -> Result<(), Fail> {
-    let lines = "start|/w/a||7 beside value\n\
+        variable|||a=b",
+        0,
+    ),
+    // Starts of a child.
+    (
+        "start|/w/a||7 beside value\n\
         list|/||/w/a /w/a/b /w/ab /w/target /w/target/dep /w/target/dep/lib /w/target/hidden /w/target/out/a /w/target/out/d/b \n\
         read|/w/target/out/a||beside\n\
         read|/w/target/out/d/b||beside\n\
@@ -339,6 +329,16 @@ fn starts(rt: HostRuntime) -> Result<(), Fail> {
         start|/w/target/dep||7  value\n\
         start|/w/target/dep/lib||7 read value\n\
         set|NAME||done\n\
-        start|/w/nothing||7  ";
-    assert_lines(&rt, rt.alloc(), lines, 7)
+        start|/w/nothing||7  ",
+        7,
+    ),
+];
+
+#[test]
+fn calls(rt: HostRuntime) -> Result<(), Fail> {
+    for case in CALLS {
+        let (lines, starts) = *case;
+        assert_eq!(rt; first_wrong(rt.alloc(), lines, starts)?, None);
+    }
+    Ok(())
 }

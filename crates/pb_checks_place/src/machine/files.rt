@@ -2,6 +2,7 @@
 
 use crate::machine::calls::{Step, try_steps};
 use crate::machine::folders::{finish, fresh, path_in};
+use crate::machine::links::{CIRCLE, DIRECTLY, LEFT_OUT, NOWHERE, SOMEWHERE, THE_LINK_ALONE};
 use pb_host::HostPlace;
 use pb_place::{PathText, Place, PlaceFault};
 use std::alloc::{AllocError, Global};
@@ -19,11 +20,6 @@ const WRITTEN: &[Step] = &[
     ("counts", "", "", "0 0"),
 ];
 
-#[test]
-fn written_and_read(rt: HostRuntime) -> Result<(), Fail> {
-    try_steps(&rt, "written", WRITTEN)
-}
-
 const LISTED: &[Step] = &[
     ("write", "a/c/d", "", "done"),
     ("write", "a/b", "", "done"),
@@ -36,11 +32,6 @@ const LISTED: &[Step] = &[
     ("list", "no", "", ""),
     ("counts", "", "", "0 0"),
 ];
-
-#[test]
-fn listed_in_byte_order(rt: HostRuntime) -> Result<(), Fail> {
-    try_steps(&rt, "listed", LISTED)
-}
 
 const REMOVED: &[Step] = &[
     ("write", "a/c/d", "", "done"),
@@ -55,11 +46,6 @@ const REMOVED: &[Step] = &[
     ("counts", "", "", "0 0"),
 ];
 
-#[test]
-fn removed(rt: HostRuntime) -> Result<(), Fail> {
-    try_steps(&rt, "removed", REMOVED)
-}
-
 const IN_THE_WAY: &[Step] = &[
     ("write", "f", "x", "done"),
     ("write", "", "", "Write"),
@@ -70,9 +56,27 @@ const IN_THE_WAY: &[Step] = &[
     ("counts", "", "", "3 1"),
 ];
 
+/// The names of folders, and the steps that are carried out in each.
+const FOLDERS: &[(&str, &[Step])] = &[
+    ("written", WRITTEN),
+    ("listed", LISTED),
+    ("removed", REMOVED),
+    ("way", IN_THE_WAY),
+    ("links", SOMEWHERE),
+    ("alone", THE_LINK_ALONE),
+    ("nowhere", NOWHERE),
+    ("circle", CIRCLE),
+    ("left-out", LEFT_OUT),
+    ("directly", DIRECTLY),
+];
+
 #[test]
-fn what_is_in_the_way(rt: HostRuntime) -> Result<(), Fail> {
-    try_steps(&rt, "way", IN_THE_WAY)
+fn files_and_links(rt: HostRuntime) -> Result<(), Fail> {
+    for case in FOLDERS {
+        let (name, steps) = *case;
+        try_steps(&rt, name, steps)?;
+    }
+    Ok(())
 }
 
 /// The name of a file in so many folders, one in another.

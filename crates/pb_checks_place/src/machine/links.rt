@@ -1,9 +1,9 @@
 //! Links: those that lead somewhere are followed, but for removals; those that lead nowhere count as absent.
 
-use crate::machine::calls::{Step, try_steps};
-use std::test::Fail;
+use crate::machine::calls::Step;
 
-const SOMEWHERE: &[Step] = &[
+/// Links that lead somewhere.
+pub(crate) const SOMEWHERE: &[Step] = &[
     ("write", "outside/f", "x", "done"),
     ("write", "inside/a", "", "done"),
     ("link", "inside/folder", "../outside", "done"),
@@ -15,12 +15,8 @@ const SOMEWHERE: &[Step] = &[
     ("counts", "", "", "0 0"),
 ];
 
-#[test]
-fn links_that_lead_somewhere(rt: HostRuntime) -> Result<(), Fail> {
-    try_steps(&rt, "links", SOMEWHERE)
-}
-
-const THE_LINK_ALONE: &[Step] = &[
+/// A link is removed alone.
+pub(crate) const THE_LINK_ALONE: &[Step] = &[
     ("write", "outside/f", "x", "done"),
     ("link", "folder", "outside", "done"),
     ("list", "folder", "", "/f "),
@@ -29,12 +25,8 @@ const THE_LINK_ALONE: &[Step] = &[
     ("counts", "", "", "0 0"),
 ];
 
-#[test]
-fn a_link_is_removed_alone(rt: HostRuntime) -> Result<(), Fail> {
-    try_steps(&rt, "alone", THE_LINK_ALONE)
-}
-
-const NOWHERE: &[Step] = &[
+/// Links that lead nowhere.
+pub(crate) const NOWHERE: &[Step] = &[
     ("link", "dangling", "no/such/file", "done"),
     ("link", "itself", "itself", "done"),
     ("link", "device", "/dev/null", "done"),
@@ -46,12 +38,8 @@ const NOWHERE: &[Step] = &[
     ("counts", "", "", "0 0"),
 ];
 
-#[test]
-fn links_that_lead_nowhere(rt: HostRuntime) -> Result<(), Fail> {
-    try_steps(&rt, "nowhere", NOWHERE)
-}
-
-const CIRCLE: &[Step] = &[
+/// Links in a circle.
+pub(crate) const CIRCLE: &[Step] = &[
     ("link", "here", ".", "done"),
     ("link", "again", ".", "done"),
     ("list", "", "", "List"),
@@ -60,12 +48,8 @@ const CIRCLE: &[Step] = &[
     ("counts", "", "", "1 1"),
 ];
 
-#[test]
-fn links_in_a_circle(rt: HostRuntime) -> Result<(), Fail> {
-    try_steps(&rt, "circle", CIRCLE)
-}
-
-const LEFT_OUT: &[Step] = &[
+/// A folder that is left out.
+pub(crate) const LEFT_OUT: &[Step] = &[
     ("write", "a/f", "x", "done"),
     ("write", "t/g", "x", "done"),
     ("link", "t/here", ".", "done"),
@@ -76,12 +60,8 @@ const LEFT_OUT: &[Step] = &[
     ("counts", "", "", "2 0"),
 ];
 
-#[test]
-fn a_folder_that_is_left_out(rt: HostRuntime) -> Result<(), Fail> {
-    try_steps(&rt, "left-out", LEFT_OUT)
-}
-
-const DIRECTLY: &[Step] = &[
+/// Files directly in a folder.
+pub(crate) const DIRECTLY: &[Step] = &[
     ("write", "b", "x", "done"),
     ("write", "a", "x", "done"),
     ("write", "deep/f", "x", "done"),
@@ -96,8 +76,3 @@ const DIRECTLY: &[Step] = &[
     ("directly", "none", "", ""),
     ("counts", "", "", "1 4"),
 ];
-
-#[test]
-fn files_directly_in_a_folder(rt: HostRuntime) -> Result<(), Fail> {
-    try_steps(&rt, "directly", DIRECTLY)
-}
