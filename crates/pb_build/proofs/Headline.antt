@@ -35,12 +35,12 @@ use Rattle.pb_turns.specs.Crew.{needs_of}
 use Rattle.pb_turns.specs.Ends.{TurnsEnd, StandsWhole, StandsCut, Stands, nothing_said, rows_in}
 use Rattle.pb_turns.specs.Moments.{Heard, Moment}
 use Rattle.pb_turns.specs.Rows.{Row, to_first_bad, is_bad, fault_in, said_from}
-use Rattle.pb_turns.specs.Story.{states_in, untouched, Stops, AllBeganFor}
+use Rattle.pb_turns.specs.Story.{states_in, untouched, Stops, StopsAt, AllBeganFor}
 use Rattle.pb_unit.specs.declared.plan.Planned.{Planned}
 use Rattle.pb_workspace.proofs.Accepted.{target_kept}
 use Rattle.pb_build.specs.Ending.{Works, Builds, NoneBegan}
 use Rattle.pb_build.specs.Environment.{environment_of}
-use Rattle.pb_build.specs.Headline.{records_of, RestsOn, UnitsOf, LinesBefore, GivesUnits, LeavesRecords, Gives, Headline}
+use Rattle.pb_build.specs.Headline.{records_of, RestsOn, UnitsOf, FailsAt, LinesBefore, GivesUnits, LeavesRecords, Gives, Headline}
 use Rattle.pb_build.specs.Planning.{IsProject}
 use Rattle.pb_build.specs.Result.{toolchain_of, setup_of}
 
@@ -193,11 +193,21 @@ module _ (footing : Footing) (read : Reading) (reading : IsReading read) (child 
         first_lines : (bytes told : List ℕ) → bytes ≡ told → Appends mid.heard.taken stop.heard.taken bytes → Appends old.heard.taken new.heard.taken told
         first_lines bytes told same taken = since es bytes told same (subst (λ (h : Heard). Appends mid.heard.taken h.taken bytes) (sym after) taken)
 
+        fails_at : (key : List ℕ) → StopsAt project mid stop key es → FailsAt project es (rows_in b) key old.heard.taken new.heard.taken
+        fails_at key by = record {
+          place = by.place;
+          unit = by.unit;
+          there = by.there;
+          named = by.named;
+          flies = by.flies;
+          lines = first_lines (due (states_in project es)) _ stands.lines by.lines;
+        }
+
         lines_before : (fault : BuildFault) → Stops fault project mid stop es → LinesBefore fault project es (rows_in b) old.heard.taken new.heard.taken
         lines_before (Plan why) stops = stops.by
         lines_before Toolchain stops = stops.by
-        lines_before (Child key fault) stops = first_lines (due (states_in project es)) _ stands.lines stops.by.lines
-        lines_before (Device key fault) stops = first_lines (due (states_in project es)) _ stands.lines stops.by.lines
+        lines_before (Child key fault) stops = fails_at key stops.by
+        lines_before (Device key fault) stops = fails_at key stops.by
         lines_before Sink stops = let ((n, taken), faults) = stops.by in (n, first_lines (take n (due (states_in project es))) _ (ap (take n) stands.lines) taken)
         lines_before OutOfMemory stops = let ((n, taken), faults) = stops.by in (n, first_lines (due_first n (states_in project es)) _ (stands.first_lines n) taken)
 
@@ -207,6 +217,7 @@ module _ (footing : Footing) (read : Reading) (reading : IsReading read) (child 
           let whole : StandsWhole b ends.es ends.reasons summary mid.world new.world = ends.told refl footing read sources reading (kept_first footing rests) in (
             record {
               units = units_by ends.es;
+              finished = ends.finished;
               reasons = ends.reasons;
               answer = whole.answer;
               lines = since ends.es (due (states_in project ends.es)) _ (all_lines ends.es whole.stands whole.all) ends.lines;

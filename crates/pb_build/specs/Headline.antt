@@ -7,7 +7,8 @@ use Rattle.pb_answer.specs.declared.summary.Summary.{Summary}
 use Rattle.pb_command.specs.Judge.{judge}
 use Rattle.pb_directive.specs.declared.directive.Directive.{Directive}
 use Rattle.pb_flight.specs.Events.{Event}
-use Rattle.pb_flight.specs.Table.{count_due}
+use Rattle.pb_flight.specs.Table.{count_due, is_finished}
+use Rattle.pb_flight.specs.declared.flight.State.TheVariants.{Begun}
 use Rattle.pb_message.specs.declared.message.Message.{Message}
 use Rattle.pb_package.specs.declared.options.Options.{Options}
 use Rattle.pb_place.specs.Folders.{files_in}
@@ -15,6 +16,7 @@ use Rattle.pb_place.specs.Paths.{below}
 use Rattle.pb_place.specs.World.{World, Map, Answers, from_nothing}
 use Rattle.pb_profile.specs.Line.{folder_of}
 use Rattle.pb_answer.specs.declared.bad_unit.BadUnit.{BadUnit}
+use Rattle.pb_project.specs.Targets.{unit_at}
 use Rattle.pb_project.specs.declared.project.Project.{Project}
 use Rattle.pb_record.specs.Parts.{IsReading}
 use Rattle.pb_run.specs.Halves.{Footing, OnRecords, OnNothing, Basis, basis, IsHonestOnUnits}
@@ -65,9 +67,10 @@ basis_of footing read child options w units =
 abbrev pub rows_for : (child : Answers) (options : Options) (w : World) → UnitsOf child options w → List Row
 rows_for child options w units = rows_of child (setup_of options (environment_of options w.variables) units.toolchain) units.project (from_nothing (environment_of options w.variables).target w)
 
--- all these have answered: the summary and the lines are those of what they give from nothing, and say of each whether a child was started for it; the folder of each good one holds exactly its files; and for each unit that began a child was started exactly where something differed from its record, which the summary names
+-- all these have begun and answered: the summary and the lines are those of what they give from nothing, and say of each whether a child was started for it; the folder of each good one holds exactly its files; and for each unit that began a child was started exactly where something differed from its record, which the summary names
 pub record GivesAll (footing : Footing) (read : Reading) (child : Answers) (options : Options) (summary : Summary) (old new : Moment) : Type 0 where
   pub units : UnitsOf child options old.world
+  pub finished : is_finished (states_in units.project units.es) ≡ true
   pub reasons : Reasons
   pub answer : summary ≡ summary_of units.project units.es reasons (rows_for child options old.world units)
   pub lines : Appends old.heard.taken new.heard.taken (said_from units.project units.es 0 (rows_for child options old.world units))
@@ -75,12 +78,21 @@ pub record GivesAll (footing : Footing) (read : Reading) (child : Answers) (opti
       → slice_get (rows_for child options old.world units) place ≡ Some record { unit = u; outcome = Good made directives messages } → files_in u.out new.world.files ≡ made
   pub began : AllBeganFor (basis_of footing read child options old.world units) units.es reasons old.world
 
--- the lines that were handed out before a fault came: those of the longest row of units that had answered; of these bytes the first so many, where the sink failed; of these units the first so many, where memory was refused
+-- a call for the unit of this key failed, which has begun and not answered: the lines are those of the longest row of units that have answered
+pub record FailsAt (project : Project) (es : List (Event BadUnit)) (rows : List Row) (key : List ℕ) (old new : Option (List ℕ)) : Type 0 where
+  pub place : ℕ
+  pub unit : Planned
+  pub there : unit_at project place ≡ Some unit
+  pub named : unit.key ≡ key
+  pub flies : slice_get (states_in project es) place ≡ Some Begun
+  pub lines : Appends old new (said_from project es 0 (take (count_due (states_in project es)) rows))
+
+-- the lines that were handed out before a fault came: of the bytes of these units the first so many, where the sink failed; of these units the first so many, where memory was refused
 abbrev pub LinesBefore : BuildFault → Project → List (Event BadUnit) → List Row → Option (List ℕ) → Option (List ℕ) → Type 0
 LinesBefore (Plan why) project es rows old new = ⊥
 LinesBefore Toolchain project es rows old new = ⊥
-LinesBefore (Child key fault) project es rows old new = Appends old new (said_from project es 0 (take (count_due (states_in project es)) rows))
-LinesBefore (Device key fault) project es rows old new = Appends old new (said_from project es 0 (take (count_due (states_in project es)) rows))
+LinesBefore (Child key fault) project es rows old new = FailsAt project es rows key old new
+LinesBefore (Device key fault) project es rows old new = FailsAt project es rows key old new
 LinesBefore Sink project es rows old new = (n : ℕ) × Appends old new (take n (said_from project es 0 (take (count_due (states_in project es)) rows)))
 LinesBefore OutOfMemory project es rows old new = (n : ℕ) × Appends old new (said_from project es 0 (take n (take (count_due (states_in project es)) rows)))
 
