@@ -219,6 +219,7 @@ module _ (footing : Footing) (read : Reading) (reading : IsReading read) (child 
               units = units_by ends.es;
               finished = ends.finished;
               reasons = ends.reasons;
+              unnoted = ends.unnoted;
               answer = whole.answer;
               lines = since ends.es (due (states_in project ends.es)) _ (all_lines ends.es whole.stands whole.all) ends.lines;
               files = file_holds ends.es whole.stands whole.all;

@@ -8,7 +8,7 @@ use Rattle.pb_command.specs.Judge.{judge}
 use Rattle.pb_directive.specs.declared.directive.Directive.{Directive}
 use Rattle.pb_flight.specs.Events.{Event}
 use Rattle.pb_flight.specs.Table.{count_due, is_finished}
-use Rattle.pb_flight.specs.declared.flight.State.TheVariants.{Begun}
+use Rattle.pb_flight.specs.declared.flight.State.TheVariants.{Untouched, Begun}
 use Rattle.pb_message.specs.declared.message.Message.{Message}
 use Rattle.pb_package.specs.declared.options.Options.{Options}
 use Rattle.pb_place.specs.Folders.{files_in}
@@ -67,11 +67,12 @@ basis_of footing read child options w units =
 abbrev pub rows_for : (child : Answers) (options : Options) (w : World) → UnitsOf child options w → List Row
 rows_for child options w units = rows_of child (setup_of options (environment_of options w.variables) units.toolchain) units.project (from_nothing (environment_of options w.variables).target w)
 
--- all these have begun and answered: the summary and the lines are those of what they give from nothing, and say of each whether a child was started for it; the folder of each good one holds exactly its files; and for each unit that began a child was started exactly where something differed from its record, which the summary names
+-- all these have begun and answered: the summary and the lines are those of what they give from nothing, and say of each whether a child was started for it; the folder of each good one holds exactly its files; and for each unit that began a child was started exactly where something differed from its record, which the summary names, as it names no other unit
 pub record GivesAll (footing : Footing) (read : Reading) (child : Answers) (options : Options) (summary : Summary) (old new : Moment) : Type 0 where
   pub units : UnitsOf child options old.world
   pub finished : is_finished (states_in units.project units.es) ≡ true
   pub reasons : Reasons
+  pub unnoted : (place : ℕ) → slice_get (states_in units.project units.es) place ≡ Some Untouched → slice_get reasons place ≡ Some None
   pub answer : summary ≡ summary_of units.project units.es reasons (rows_for child options old.world units)
   pub lines : Appends old.heard.taken new.heard.taken (said_from units.project units.es 0 (rows_for child options old.world units))
   pub files : (place : ℕ) (u : Planned) (made : Map) (directives : Option (List Directive)) (messages : List Message)

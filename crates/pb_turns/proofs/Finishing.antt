@@ -1,7 +1,8 @@
 -- How the units of a project end, from the story of their crew.
-use Rattle.std.proofs.Common.{◌≡◌, ◌∙◌, ◌+◌, ◌<◌, Bool, true, List, [], ◌∷◌, ℕ, zero, suc, Option, Some, Contains, IsTrue, refl, sym, ap, subst, inl, arith, slice_get, map, take, length, is_none}
+use Rattle.std.proofs.Common.{◌≡◌, ◌∙◌, ◌+◌, ◌<◌, Bool, true, List, [], ◌∷◌, ℕ, zero, suc, Option, Some, None, Contains, IsTrue, refl, sym, ap, subst, inl, arith, slice_get, map, take, length, is_none}
 use Rattle.std.proofs.lemmas.List.{length-map}
 use Rattle.std.proofs.lemmas.Bool.{false≢true}
+use Rattle.std.proofs.lemmas.Option.{slice_get_within}
 use Rattle.std.specs.Io.KnownBytes.{Appends}
 use Rattle.std.specs.List.{AllByRecursion}
 use Rattle.pb_answer.specs.declared.fault.BuildFault.{BuildFault}
@@ -41,6 +42,7 @@ use Rattle.pb_turns.specs.declared.crew.UnitCrew.{UnitCrew}
 use Rattle.pb_turns.proofs.Changing.{changes_first}
 use Rattle.pb_turns.proofs.Counting.{appends_none, stops_refused}
 use Rattle.pb_turns.proofs.States.{due_all}
+use Rattle.pb_turns.proofs.Unbegun.{none_noted}
 use Rattle.pb_turns.proofs.Telling.{AllTold, Ended, all_good_at, due_told, first_told, ended_of, success_of}
 use Rattle.pb_unit.specs.declared.plan.Planned.{Planned}
 
@@ -100,6 +102,7 @@ story_first tells child c at still aloft started = record {
     λ place has. absurd (none_begun c.project place has),
   );
   quiet = λ t f r s reading keeps none numbered. refl;
+  unnoted = λ place at. refl;
 }
 
 -- What stands.
@@ -244,8 +247,8 @@ module _ {S : Type 0} (tells : Bool) (child : Answers) (Turns : S → List ℕ �
         subst (λ (x : Heard). Appends at.heard.taken x.taken (due (states_in first.project es))) (sym heard)
         (subst (Appends at.heard.taken mid.heard.taken) (due_all table.given (states_in c.project es) (flown.given_are ∙ ap count_due states_are) ∙ ap (λ (p : Project). due (states_in p es)) story.project) story.goes.lines)
 
-    pub ends_whole : EndsWhole tells child Turns first.setup first.project first.store.next from last summary at new
-    ends_whole = record {
+    pub ends_whole : first.reasons.items ≡ map (λ (u : Planned). None) first.project.plan.planned → EndsWhole tells child Turns first.setup first.project first.store.next from last summary at new
+    ends_whole empty = record {
       es = es;
       flies = flown.flies;
       finished = ap is_finished (sym flown.states_are) ∙ finished;
@@ -256,6 +259,10 @@ module _ {S : Type 0} (tells : Bool) (child : Answers) (Turns : S → List ℕ �
       reasons = d.reasons.items;
       differences = ap (λ (s : Summary). s.differences) now_is ∙ ap (differences_at d.reasons.items) started_is;
       kept = ap (λ (s : Summary). s.kept) now_is ∙ ap (λ (p : Project). kept_of p.plan.planned d.reasons.items) story.project;
+      unnoted = λ place at_place.
+          let less : place < length first.project.plan.planned = subst (λ (n : ℕ). place < n) (length_states (needs_of first.project) es ∙ length-map first.project.plan.planned (λ (u : Planned). u.needs)) (slice_get_within (states_in first.project es) place Untouched at_place) in
+          ap (λ (items : Reasons). slice_get items place) (ap (λ (x : UnitCrew). x.reasons.items) same)
+          ∙ (story.unnoted place (ap (λ (p : Project). slice_get (states_in p es) place) story.project ∙ at_place) ∙ (ap (λ (items : Reasons). slice_get items place) empty ∙ none_noted first.project.plan.planned place less));
       lines = lines_are;
       faults = ap (λ (x : Heard). x.faults) heard ∙ story.goes.faults;
       mid = mid.counts;

@@ -11,6 +11,7 @@ pub mod Beginning
 pub mod Answering
 pub mod Landing
 pub mod Noting
+pub mod Unbegun
 pub mod Telling
 pub mod Finishing
 pub mod Repeating

@@ -78,6 +78,13 @@ module _ {F : Type 0} where
   pub another : (ss : List (State F)) (u v : ℕ) → slice_get ss u ≡ Some Untouched → HasBegun ss v → u ≢ v
   another ss u v at (s, there, begun) same = not_untouched s (injective (sym there ∙ ap (slice_get ss) (sym same) ∙ at)) begun
 
+  -- one that has not begun after one more has, had not, and is another
+  pub untouched_cases : (ss : List (State F)) (u v : ℕ) (s t : State F) → slice_get ss u ≡ Some s → is_untouched t ≡ false → slice_get (slice_set ss u t) v ≡ Some Untouched → (u ≢ v) × (slice_get ss v ≡ Some Untouched)
+  untouched_cases ss u v s t there set at = elim (cases_eq u v) [
+    | inl same ↦ absurd (not_untouched t (injective (sym (get_set_same ss u s t there) ∙ ap (slice_get (slice_set ss u t)) same ∙ at)) set)
+    | inr ne ↦ (ne, sym (get_set_other ss u v t ne) ∙ at)
+  ]
+
   -- what has answered, after one more has begun
   pub answered_before : (ss : List (State F)) (u v : ℕ) (a : Answer F) (s : State F) → slice_get ss u ≡ Some s → slice_get (slice_set ss u Begun) v ≡ Some (Answered a) → (u ≢ v) × (slice_get ss v ≡ Some (Answered a))
   answered_before ss u v a s there at = elim (cases_eq u v) [

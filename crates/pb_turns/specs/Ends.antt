@@ -9,7 +9,7 @@ use Rattle.pb_flight.specs.Events.{Event, Anything, started_by, peak}
 use Rattle.pb_flight.specs.Steps.{Flies, Anyhow}
 use Rattle.pb_flight.specs.Table.{due, due_first, count_due, is_finished, is_good_at}
 use Rattle.pb_flight.specs.declared.flight.Answer.{Answer}
-use Rattle.pb_flight.specs.declared.flight.State.TheVariants.{Answered}
+use Rattle.pb_flight.specs.declared.flight.State.TheVariants.{Untouched, Answered}
 use Rattle.pb_place.specs.Counts.{Counts, counted_finish}
 use Rattle.pb_place.specs.World.{World, Answers}
 use Rattle.pb_place.specs.declared.command.Ended.{Ended}
@@ -74,7 +74,7 @@ pub record StandsCut (b : Basis) (es : List (Event BadUnit)) (old new : World) :
   pub reasons : Reasons
   pub began : AllBeganFor b before reasons old
 
--- the units came to their end; where it is a success each of them has answered and is good
+-- the units came to their end; where it is a success each of them has answered and is good; nothing is noted of a unit that has not begun
 pub record EndsWhole {S : Type 0} (tells : Bool) (child : Answers) (Turns : S → List ℕ → List ℕ → Step → S → Type 0) (setup : Setup) (project : Project) (next : Option ℕ) (from last : S) (summary : Summary) (old new : Moment) : Type 0 where
   pub es : List (Event BadUnit)
   pub flies : Flies Turns (needs_of project) Anyhow Anything from es last
@@ -84,6 +84,7 @@ pub record EndsWhole {S : Type 0} (tells : Bool) (child : Answers) (Turns : S �
   pub reasons : Reasons
   pub differences : summary.differences ≡ differences_of es reasons
   pub kept : summary.kept ≡ kept_of project.plan.planned reasons
+  pub unnoted : (place : ℕ) → slice_get (states_in project es) place ≡ Some Untouched → slice_get reasons place ≡ Some None
   pub lines : Appends old.heard.taken new.heard.taken (due (states_in project es))
   pub faults : new.heard.faults ≡ old.heard.faults
   pub mid : Counts

@@ -8,7 +8,7 @@ use Rattle.pb_answer.specs.declared.fault.BuildFault.TheVariants.{Plan, Toolchai
 use Rattle.pb_directive.specs.declared.directive.Directive.{Directive}
 use Rattle.pb_flight.specs.declared.flight.Answer.{Answer}
 use Rattle.pb_flight.specs.declared.flight.State.{State}
-use Rattle.pb_flight.specs.declared.flight.State.TheVariants.{Begun, Answered}
+use Rattle.pb_flight.specs.declared.flight.State.TheVariants.{Untouched, Begun, Answered}
 use Rattle.pb_flight.specs.Events.{Event, Began, Gave, started_by, launched_after, states_after, peak}
 use Rattle.pb_flight.specs.Laws.{HasBegun}
 use Rattle.pb_flight.specs.Table.{due_first, due, are_good}
@@ -157,6 +157,10 @@ pub record Happened (b : Basis) (done : List (Option (List Directive))) (aloft :
 abbrev pub IsQuiet : Basis → List (Event BadUnit) → World → World → Type 0
 IsQuiet b es first now = started_by es ≡ [] → NoneLacksNumber b first → now ≡ first
 
+-- of a unit that has not begun the same is noted as at first
+abbrev pub NotesBegun : Project → List (Event BadUnit) → Reasons → Reasons → Type 0
+NotesBegun project es first now = (place : ℕ) → slice_get (states_in project es) place ≡ Some Untouched → slice_get now place ≡ slice_get first place
+
 -- The story.
 
 -- where no unit has begun
@@ -178,6 +182,7 @@ pub record Story (tells : Bool) (child : Answers) (first : UnitCrew) (at : Momen
   pub happened : IsTrue tells
       → FromFirst child first at c (λ b. Happened b c.done.items c.aloft.items c.store.next es now.world now.counts.starts.flying still × AllBeganFor b es c.reasons.items at.world)
   pub quiet : IsTrue tells → FromFirst child first at c (λ b. IsQuiet b es at.world now.world)
+  pub unnoted : NotesBegun c.project es first.reasons.items c.reasons.items
 
 -- the events before a beginning that failed
 abbrev pub IsBeginning : List (Event BadUnit) → List (Event BadUnit) → Type 0

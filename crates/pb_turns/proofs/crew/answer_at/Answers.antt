@@ -21,6 +21,7 @@ use Rattle.pb_turns.proofs.Lists.{all_get, get_map, map_removed}
 use Rattle.pb_turns.proofs.Manning.{answer_fault_lands, flying_of, manned_answered}
 use Rattle.pb_turns.proofs.Quiet.{answered_quiet}
 use Rattle.pb_turns.proofs.Reaching.{there_of}
+use Rattle.pb_turns.proofs.Unbegun.{notes_answered}
 use Rattle.pb_turns.proofs.crew.answer_at.Goals as goal
 
 pub answer_unit-requires-clause-asks : goal.answer_unit-requires-clause-asks
@@ -153,4 +154,5 @@ returns-clause-story g c = λ first at taken faults es given unit s flying lawfu
           c.in-Ok.ran c.in-Ok.ensures.outcome c.in-Ok.ensures.keeps c.in-Ok.ensures.directives c.in-Ok-lines_of_unit.lines c.remove-unit.new.self.items c.note_answer.new.done.items c.remove-unit.ensures.items c.note_answer.ensures.done
           c.in-Ok.ensures.started (c.in-Ok-lines_of_unit.ensures ∙ ap (λ ms. unit_lines c.args.crew.now.project c.index-as_slice-unit.result c.in-Ok.ran.started ms) c.as_slice-2.ensures);
       quiet = answered_quiet g.P.Place.tells g.P.Place.child first c.args.crew.now at now new (g.P.Place.still c.args.place.now) es given s c.args.index c.remove-unit.result c.index-as_slice-unit.result there at_index answer c.answer_unit.ensures.same;
+      unnoted = notes_answered c.args.crew.now.project es first.reasons.items c.args.crew.now.reasons.items c.remove-unit.result.unit answer begun s.unnoted;
     })

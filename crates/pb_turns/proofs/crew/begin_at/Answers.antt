@@ -12,6 +12,7 @@ use Rattle.pb_turns.proofs.Counting.{goes_begun, stops_begun, stops_refused_begu
 use Rattle.pb_turns.proofs.Manning.{manned_same, manned_begun, begin_fault_flies, flying_of}
 use Rattle.pb_turns.proofs.Quiet.{begun_quiet}
 use Rattle.pb_turns.proofs.Reaching.{there_at, there_some, within_reasons}
+use Rattle.pb_turns.proofs.Unbegun.{notes_begun}
 use Rattle.pb_turns.proofs.crew.begin_at.Goals as goal
 
 pub begin_unit-requires-clause-unit : goal.begin_unit-requires-clause-unit
@@ -97,4 +98,6 @@ returns-clause-story g c = λ first at taken faults es given s flying lawful is_
           c.begin_unit.ensures.keeps c.begin_unit.ensures.others c.in-Ok-begin_unit.made.begun c.note_begun.new.aloft.items c.in-Ok-begin_unit.made.difference c.note_begun.new.reasons.items more c.in-Ok-begin_unit.ensures.begun c.in-Ok-begin_unit.ensures.differs
           c.in-Ok-begin_unit.ensures.spawned (within_reasons c.args.crew.now c.args.unit c.requires.manned.reasoned c.requires.unit) c.note_begun.ensures.reasons;
       quiet = begun_quiet g.P.Place.tells g.P.Place.child first c.args.crew.now at now new (g.P.Place.still c.args.place.now) es given c.args.unit s c.in-Ok-begin_unit.made.begun c.in-Ok-begin_unit.ensures.same;
+      unnoted = notes_begun c.args.crew.now.project es first.reasons.items c.args.crew.now.reasons.items c.note_begun.new.reasons.items c.args.unit (is_some (child_of c.in-Ok-begin_unit.made.begun)) (Some c.in-Ok-begin_unit.made.difference) may.untouched
+          c.note_begun.ensures.reasons s.unnoted;
     }

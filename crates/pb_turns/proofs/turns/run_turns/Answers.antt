@@ -39,6 +39,7 @@ returns-in-Ok-sum_up g c =
     ends_whole g.P.Place.tells g.P.Place.child g.T.Turn.turns first c.drive-driven.new.crew c.drain.new.crew c.args.turn.now c.drive-driven.new.turn at mid new (g.P.Place.still c.drive-driven.new.place) (g.P.Place.still c.drain.new.place) es said
     c.drain.ensures.drained c.drain.ensures.landed refl c.drain.ensures.same c.drain.ensures.changes c.drain.ensures.happened
     c.drive-driven.new.flight _ flown story c.in-Ok-driven.ensures.finished c.drain.ensures.most c.in-Ok-sum_up.summary c.in-Ok-sum_up.ensures
+    (c.in-Ok-nothing_noted-2.ensures ∙ ap (map (λ (u : Planned). None)) c.as_slice-2.ensures)
 
 pub returns-in-Ok-driven : goal.returns-in-Ok-driven
 returns-in-Ok-driven g c =

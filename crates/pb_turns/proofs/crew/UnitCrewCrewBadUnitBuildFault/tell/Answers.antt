@@ -11,6 +11,7 @@ returns-then-write_all-clause-story g c = λ first first_place first_out es give
   changes = s.changes;
   happened = s.happened;
   quiet = s.quiet;
+  unnoted = s.unnoted;
 }
 
 pub returns-else-write_all-clause-story : goal.returns-else-write_all-clause-story
