@@ -5,10 +5,10 @@ ghost use Rattle.pb_place.specs.Paths.{is_below, is_at_or_below};
 ghost use Rattle.std.specs.Option.{option_copied};
 ghost use Rattle.pb_host.specs.Listing.{AreBelow, AreOutside, AreOrdered, StaysBelow, is_left_out};
 
-use crate::reading::{Standing, says_absent, standing_at, standing_of};
+use crate::reading::{Standing, says_absent, standing_of};
 use crate::writing::fault_of;
 use pb_data::{Items, Text, TryCopy};
-use pb_place::{PathText, PlaceFault, RelativePath, ViewFault};
+use pb_place::{PathText, PlaceFault, RelativePath};
 use std::alloc::Global;
 use std::rt::Files;
 use std::{fs, io};
@@ -122,7 +122,12 @@ fn take_entry<R: Files + AllocGlobal>(
     Ok(())
 }
 
-/// Files the entries of a folder.
+/// Whether an error says that there is no such folder, and the folder is the one that is listed: it need not be there.
+fn may_be_absent(here: &Waiting, error: &io::Error) -> bool {
+    here.depth == 0 && says_absent(error)
+}
+
+/// Files the entries of a folder. Where the one that is listed is not there, it has none.
 fn take_folder<R: Files + AllocGlobal>(
     runtime: &R,
     alloc: Global,
@@ -136,6 +141,7 @@ fn take_folder<R: Files + AllocGlobal>(
 {
     let entries = match fs::read_dir(&runtime, here.folder.as_str()) {
         Ok(entries) => entries,
+        Err(error) if may_be_absent(here, &error) => return Ok(()),
         Err(error) => return Err(fault_of(error, PlaceFault::List)),
     };
     for entry in entries {
@@ -181,7 +187,7 @@ fn says_no_text(error: &io::Error) -> bool {
     error.kind() == io::ErrorKind::InvalidFilename
 }
 
-/// Files the entries of a folder whose names are UTF-8.
+/// Files the entries of a folder whose names are UTF-8. Where the one that is listed is not there, it has none.
 fn take_named<R: Files + AllocGlobal>(
     runtime: &R,
     alloc: Global,
@@ -193,6 +199,7 @@ fn take_named<R: Files + AllocGlobal>(
 {
     let entries = match fs::read_dir(&runtime, here.folder.as_str()) {
         Ok(entries) => entries,
+        Err(error) if may_be_absent(here, &error) => return Ok(()),
         Err(error) => return Err(fault_of(error, PlaceFault::List)),
     };
     for entry in entries {
@@ -226,18 +233,6 @@ fn files_here<R: Files + AllocGlobal>(
     Ok(found.files)
 }
 
-/// Whether a folder stands at a path, links followed. List where it cannot be told.
-fn is_folder<R: Files>(runtime: &R, path: &PathText) -> Result<bool, PlaceFault>
-    ensures { IfErr result (λ e. e ≢ PlaceFault.OutOfMemory → e ≡ PlaceFault.List) }
-{
-    match standing_at(runtime, path.as_str()) {
-        Ok(Standing::Folder) => Ok(true),
-        Ok(_) => Ok(false),
-        Err(ViewFault::Failed) => Err(PlaceFault::List),
-        Err(ViewFault::OutOfMemory) => Err(PlaceFault::OutOfMemory),
-    }
-}
-
 /// The paths of all files below a folder that are not left out, in byte order; none where no folder stands at the path.
 fn files_listed<R: Files + AllocGlobal>(
     runtime: &R,
@@ -250,9 +245,6 @@ fn files_listed<R: Files + AllocGlobal>(
     ensures ordered { IfOk result AreOrdered }
     ensures fault { IfErr result (λ e. e ≢ PlaceFault.OutOfMemory → e ≡ PlaceFault.List) }
 {
-    if !is_folder(runtime, folder)? {
-        return Ok(Items::new(alloc));
-    }
     let mut files = files_found(runtime, alloc, left_out, folder)?;
     files.sort()?;
     Ok(Items::from_vec(files))
@@ -305,9 +297,6 @@ pub(crate) fn files_directly<R: Files + AllocGlobal>(
     ensures ordered { IfOk result AreOrdered }
     ensures fault { IfErr result (λ e. e ≢ PlaceFault.OutOfMemory → e ≡ PlaceFault.List) }
 {
-    if !is_folder(runtime, folder)? {
-        return Ok(Items::new(alloc));
-    }
     let mut here = files_here(runtime, alloc, folder)?;
     here.sort()?;
     Ok(Items::from_vec(here))

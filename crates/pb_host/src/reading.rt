@@ -7,7 +7,7 @@ ghost use Rattle.pb_place.specs.declared.child.ViewFault.TheVariants as view_fau
 use pb_data::{Bytes, Text};
 use pb_place::ViewFault;
 use std::env::VarError;
-use std::io::ErrorKind;
+use std::io::{ErrorKind, Read};
 use std::rt::{Env, Files};
 use std::{env, fs, io};
 
@@ -66,6 +66,15 @@ pub(crate) fn standing_at<R: Files>(runtime: &R, path: &str) -> Result<Standing,
     }
 }
 
+/// The bytes of a file that had so many a moment ago. Room for these is made at once, so that a file that stands still
+/// is read in one call and its end in another.
+fn bytes_at<R: Files + AllocGlobal>(runtime: &R, path: &str, length: u64) -> io::Result<Vec<u8>> {
+    let mut file = fs::open(runtime, path)?;
+    let mut bytes = Vec::with_capacity(runtime.alloc(), length as usize)?;
+    file.read_to_end(&mut bytes)?;
+    Ok(bytes)
+}
+
 /// The bytes of a file, or none where no file stands at the path. Failed where it cannot be read, and where it is
 /// too long.
 pub(crate) fn file_at<R: Files + AllocGlobal>(
@@ -74,7 +83,7 @@ pub(crate) fn file_at<R: Files + AllocGlobal>(
 ) -> Result<Option<Bytes>, ViewFault> {
     match standing_at(runtime, path)? {
         Standing::File(length) if length > MOST_BYTES => Err(ViewFault::Failed),
-        Standing::File(_) => match fs::read(runtime, path) {
+        Standing::File(length) => match bytes_at(runtime, path, length) {
             Ok(bytes) => Ok(Some(Bytes::new(bytes))),
             Err(error) => Err(fault_of(error)),
         },
