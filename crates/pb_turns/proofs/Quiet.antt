@@ -3,7 +3,6 @@ use Rattle.std.proofs.Common.{◌≡◌, ◌∙◌, ◌++◌, Bool, true, false,
 use Rattle.std.proofs.lemmas.Bool.{false≢true}
 use Rattle.pb_flight.specs.declared.flight.Answer.{Answer}
 use Rattle.pb_flight.specs.Events.{Event, Began, Gave, started_by}
-use Rattle.pb_flight.specs.Table.{if_so}
 use Rattle.pb_place.specs.World.{World, Answers}
 use Rattle.pb_project.specs.Targets.{unit_at}
 use Rattle.pb_answer.specs.declared.bad_unit.BadUnit.{BadUnit}
@@ -16,7 +15,7 @@ use Rattle.pb_soundness.specs.Records.{Reading, record_at}
 use Rattle.pb_store.specs.Migrating.{lacks_number}
 use Rattle.pb_turns.specs.Moments.{Moment}
 use Rattle.pb_turns.specs.Rows.{is_started}
-use Rattle.pb_turns.specs.Story.{FliesSo, FromFirst, IsQuiet, NoneLacksNumber, Story}
+use Rattle.pb_turns.specs.Story.{FliesSo, FromFirst, IsQuiet, Story}
 use Rattle.pb_turns.specs.declared.crew.Aloft.{Aloft}
 use Rattle.pb_turns.specs.declared.crew.UnitCrew.{UnitCrew}
 use Rattle.pb_turns.proofs.Lists.{all_get}

@@ -2,10 +2,9 @@
 use Rattle.std.proofs.Common.{◌≡◌, ◌⊎◌, ◌∙◌, inl, inr, Bool, true, false, not, List, [], ◌∷◌, ℕ, Option, Some, None, Result, Ok, Err, Contains, refl, sym, ap, subst, is_some, append-nil, map, length}
 use Rattle.std.proofs.lemmas.Bool.{false≢true}
 use Rattle.std.specs.List.{AllByRecursion, flat_map}
-use Rattle.pb_flight.specs.declared.flight.Answer.{Answer}
 use Rattle.pb_flight.specs.declared.flight.State.TheVariants.{Untouched, Begun, Answered}
 use Rattle.pb_flight.specs.declared.turn.Step.{Step}
-use Rattle.pb_flight.specs.Events.{Event, Began, Gave, Anything, IsLawful, MayBegin, nothing, begin, answer, started_by, states_after}
+use Rattle.pb_flight.specs.Events.{Event, Began, Anything, IsLawful, MayBegin, nothing, begin, answer, started_by, states_after}
 use Rattle.pb_flight.specs.Laws.{HasBegun}
 use Rattle.pb_flight.specs.Steps.{Anyhow}
 use Rattle.pb_flight.proofs.Lists.{injective, contains_head, contains_tail}
@@ -35,7 +34,7 @@ use Rattle.pb_turns.specs.Crew.{needs_of, ticket_of_child}
 use Rattle.pb_turns.specs.Ends.{Dropped}
 use Rattle.pb_turns.specs.Laws.{EachHasRecord, LeavesRecords, StartsNothing, StartsNoneAgain}
 use Rattle.pb_turns.specs.Rows.{is_started}
-use Rattle.pb_turns.specs.Story.{AllBeganFor, NoneLacksNumber, started_before, states_in, upped}
+use Rattle.pb_turns.specs.Story.{NoneLacksNumber, started_before, states_in, upped}
 use Rattle.pb_turns.proofs.Happening.{before_now, before_other, started_now, started_other}
 use Rattle.pb_turns.proofs.States.{another, begun_more, begun_now}
 use Rattle.pb_unit.specs.declared.plan.Planned.{Planned}

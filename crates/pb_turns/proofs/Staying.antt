@@ -1,5 +1,5 @@
 -- What units that have begun rest on stays, where another unit begins, answers or is dropped.
-use Rattle.std.proofs.Common.{◌≡◌, ◌≢◌, ◌∙◌, ◌||◌, inl, inr, Bool, true, false, List, [], ◌∷◌, ℕ, Option, Some, None, Contains, refl, sym, ap, subst, slice_get, slice_set, is_some}
+use Rattle.std.proofs.Common.{◌≡◌, ◌≢◌, ◌∙◌, ◌||◌, inl, inr, Bool, true, false, List, [], ◌∷◌, ℕ, Option, Some, None, refl, sym, ap, subst, slice_get, slice_set, is_some}
 use Rattle.std.proofs.lemmas.Bool.{cases_Bool, cases_eq, false≢true}
 use Rattle.std.specs.FinMap as finite
 use Rattle.pb_flight.specs.declared.flight.State.TheVariants.{Untouched, Begun}
@@ -9,18 +9,18 @@ use Rattle.pb_flight.specs.Table.{is_good_at}
 use Rattle.pb_flight.proofs.Handing.{began_lawful}
 use Rattle.pb_flight.proofs.Lists.{injective, get_set_other}
 use Rattle.pb_flight.proofs.Ready.{good_at}
-use Rattle.pb_place.specs.Paths.{below, is_below, is_at_or_below}
+use Rattle.pb_place.specs.Paths.{below, is_at_or_below}
 use Rattle.pb_place.specs.World.{World, ChangesOnly}
 use Rattle.pb_place.specs.declared.child_in_flight.ChildInFlight.{ChildInFlight}
 use Rattle.pb_place.proofs.Within.{at_itself, below_then_at, goes_below, not_below_itself}
 use Rattle.pb_project.specs.Targets.{unit_at}
 use Rattle.pb_answer.specs.declared.bad_unit.BadUnit.{BadUnit}
 use Rattle.pb_project.specs.declared.project.Project.{Project}
-use Rattle.pb_run.specs.Halves.{Basis, WritesTo, records_in, child_of}
+use Rattle.pb_run.specs.Halves.{Basis, WritesTo, records_in}
 use Rattle.pb_run.specs.Standing.{IsInOrder, records_folder}
 use Rattle.pb_run.specs.declared.begun.Launched.{Launched}
 use Rattle.pb_soundness.specs.Apart.{is_of}
-use Rattle.pb_soundness.specs.Records.{Reading, out_of, place_of, record_at}
+use Rattle.pb_soundness.specs.Records.{out_of, place_of}
 use Rattle.pb_soundness.proofs.Places.{record_same}
 use Rattle.pb_store.specs.Migrating.{lacks_number}
 use Rattle.pb_store.specs.declared.difference.Difference.{Difference}
