@@ -9,58 +9,29 @@
 # `measured.sh`.
 set -euo pipefail
 crates="pb_closure pb_data pb_feature pb_manifest pb_manifest_reader pb_package pb_place pb_workspace"
-uses="pb_data pb_feature pb_place pb_workspace"
+uses="pb_data pb_feature pb_package pb_place pb_workspace"
 . "$(dirname "$0")/measured.sh"
 program <<'PROGRAM'
 //! Measures the features.
 #![tactic(auto)]
 
 mod child;
+mod files;
+mod measuring;
+mod workspace;
 
-ghost use Rattle.std.specs.Prelude.{IfOk};
 ghost use Rattle.pb_package.specs.Settled.{IsSettled};
 
 use anyhow::Result;
 use child::Silent;
-use pb_data::{Items, Text};
+use files::put;
+use measuring::{number_in, since, word_in};
 use pb_feature::{Features, resolve};
-use pb_place::{Memory, PathText};
-use pb_workspace::{Options, Side, Workspace, load, selected};
-use std::alloc::Global;
+use pb_place::Memory;
+use pb_workspace::{Options, Side, Workspace, selected};
 use std::env;
-use std::time::{CpuClock, Duration};
-
-/// The microseconds of processor time since a start.
-fn since(rt: &HostRuntime, start: Duration) -> Result<u128> {
-    let now = rt.thread_cpu_time()?;
-    match now.checked_sub(start) {
-        Some(passed) => Ok(passed.as_micros()),
-        None => Ok(u128::MAX),
-    }
-}
-
-/// Puts a file.
-fn put(rt: &HostRuntime, memory: &mut Memory<Silent>, path: &str, text: &str) -> Result<()> {
-    let path = PathText::parse(rt.alloc(), path)?;
-    memory.put(rt.alloc(), &path, text.as_bytes())?;
-    Ok(())
-}
-
-/// A number that a word says, or 0.
-fn number_in(words: &[String], place: usize) -> usize {
-    match words.get(place) {
-        Some(word) => word.as_str().parse::<usize>().unwrap_or(0),
-        None => 0,
-    }
-}
-
-/// The shape that the words name.
-fn shape_in(words: &[String]) -> &str {
-    match words.get(1) {
-        Some(word) => word.as_str(),
-        None => "",
-    }
-}
+use std::time::CpuClock;
+use workspace::{options_of, workspace_in};
 
 /// A package with so many features, each of which lists the next one, features of two entries in two forms and one of the
 /// entries.
@@ -126,35 +97,6 @@ fn put_shape(rt: &HostRuntime, memory: &mut Memory<Silent>, shape: &str, count: 
     put_chain(rt, memory, count.max(2), 100)
 }
 
-/// The workspace in `/w`.
-fn workspace_in(rt: &HostRuntime, memory: &mut Memory<Silent>) -> Result<Workspace>
-    ensures { IfOk result IsSettled }
-{
-    let manifest = PathText::parse(rt.alloc(), "/w/Cargo.toml")?;
-    let target = PathText::parse(rt.alloc(), "/w/target")?;
-    let workspace = load(memory, rt.alloc(), &manifest, &target)?;
-    Ok(workspace)
-}
-
-/// The options of a build of the root package with all its features.
-fn options_of(alloc: Global) -> Result<Options> {
-    Ok(Options {
-        manifest: PathText::parse(alloc, "/w/Cargo.toml")?,
-        packages: Items::new(alloc),
-        workspace: false,
-        features: Items::new(alloc),
-        all_features: true,
-        no_default_features: false,
-        profile: Text::from_str(alloc, "dev")?,
-        lib: false,
-        bins: false,
-        bin: Items::new(alloc),
-        target_dir: None,
-        runner: Items::new(alloc),
-        tool: Text::from_str(alloc, "tool")?,
-    })
-}
-
 /// How many features are on.
 fn features_on(features: &Features, workspace: &Workspace) -> usize {
     let mut sum = 0usize;
@@ -180,7 +122,7 @@ fn main(rt: HostRuntime) -> Result<()> {
     let words: Vec<String> = env::args(&rt)?.collect(rt.alloc())?;
     let count = number_in(words.as_slice(), 2);
     let calls = number_in(words.as_slice(), 3);
-    let shape = shape_in(words.as_slice());
+    let shape = word_in(words.as_slice(), 1);
     let mut memory = Memory::new(rt.alloc(), Silent);
     put_shape(&rt, &mut memory, shape, count)?;
     let workspace = workspace_in(&rt, &mut memory)?;

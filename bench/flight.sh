@@ -17,39 +17,17 @@ program <<'PROGRAM'
 //! Measures flights.
 #![tactic(auto)]
 
+mod measuring;
+
 ghost use Rattle.std.specs.Prelude.{◌<◌, length, Contains};
 
 use anyhow::Result;
+use measuring::{number_in, since, word_in};
 use pb_data::{Bytes, Items};
 use pb_flight::{Answer, First, Flight, Jobs, Step, Turn};
 use std::alloc::{AllocError, Global};
 use std::env;
-use std::time::{CpuClock, Duration};
-
-/// The microseconds of processor time since a start.
-fn since(rt: &HostRuntime, start: Duration) -> Result<u128> {
-    let now = rt.thread_cpu_time()?;
-    match now.checked_sub(start) {
-        Some(passed) => Ok(passed.as_micros()),
-        None => Ok(u128::MAX),
-    }
-}
-
-/// A number that a word says, or 0.
-fn number_in(words: &[String], place: usize) -> usize {
-    match words.get(place) {
-        Some(word) => word.as_str().parse::<usize>().unwrap_or(0),
-        None => 0,
-    }
-}
-
-/// The shape that the words name.
-fn shape_in(words: &[String]) -> &str {
-    match words.get(1) {
-        Some(word) => word.as_str(),
-        None => "",
-    }
-}
+use std::time::CpuClock;
 
 /// What a unit of a chain needs: the script the library of the package before on the host's side, its run the script,
 /// and the library the run and the library of the package before on its side. The units of a package are both scripts,
@@ -169,7 +147,7 @@ fn main(rt: HostRuntime) -> Result<()> {
     let words: Vec<String> = env::args(&rt)?.collect(rt.alloc())?;
     let count = number_in(words.as_slice(), 2);
     let calls = number_in(words.as_slice(), 3);
-    let shape = shape_in(words.as_slice());
+    let shape = word_in(words.as_slice(), 1);
     let units = if shape == "chain" { count.saturating_mul(6) } else { count };
     let mut least = u128::MAX;
     let mut answer = 0usize;

@@ -1,6 +1,7 @@
 # Parts that the scripts share which measure one call of a crate over workspaces in memory: they read this file. A script
 # sets `crates` (those that are copied) and `uses` (those that its program stands on), writes the program's `main` with
-# `program`, and then calls `measured SHAPE COUNT..` for each shape.
+# `program`, and then calls `measured SHAPE COUNT..` for each shape. Of the modules `measuring`, `child`, `files` and
+# `workspace` those lie beside `main` that it names.
 #
 # The program is called with a shape, a count and how often the call is made, and prints how large the answer is and the
 # least time of a call, in microseconds of processor time; here of five. Instructions (as valgrind counts them) and memory
@@ -10,6 +11,105 @@ top="$(cd "$(dirname "${BASH_SOURCE[0]}")/.." && pwd)"
 folder="$(mktemp -d)"
 trap 'rm -rf "$folder"' EXIT
 
+# What the programs share: `measuring`, the time of a call and the words of the command line; `files`, files in memory;
+# `workspace`, the workspace among them and a build of it.
+modules() {
+    cat > "$1/measuring.rt" <<'MEASURING'
+//! The time of a call, and the words of the command line.
+
+use anyhow::Result;
+use std::time::{CpuClock, Duration};
+
+/// The microseconds of processor time since a start.
+pub fn since(rt: &HostRuntime, start: Duration) -> Result<u128> {
+    let now = rt.thread_cpu_time()?;
+    match now.checked_sub(start) {
+        Some(passed) => Ok(passed.as_micros()),
+        None => Ok(u128::MAX),
+    }
+}
+
+/// A word, or an empty one.
+pub fn word_in(words: &[String], place: usize) -> &str {
+    match words.get(place) {
+        Some(word) => word.as_str(),
+        None => "",
+    }
+}
+
+/// A number that a word says, or 0.
+pub fn number_in(words: &[String], place: usize) -> usize {
+    word_in(words, place).parse::<usize>().unwrap_or(0)
+}
+MEASURING
+    if grep -q '^mod child;' "$1/main.rt"; then cp "$top/crates/pb_checks_files/src/child.rt" "$1/"; fi
+    if grep -q '^mod files;' "$1/main.rt"; then files "$1"; fi
+    if grep -q '^mod workspace;' "$1/main.rt"; then workspace "$1"; fi
+}
+
+files() {
+    cat > "$1/files.rt" <<'FILES'
+//! Files in memory.
+
+use crate::child::Silent;
+use anyhow::Result;
+use pb_place::{Memory, PathText};
+
+/// Puts a file.
+pub fn put(rt: &HostRuntime, memory: &mut Memory<Silent>, path: &str, text: &str) -> Result<()> {
+    let path = PathText::parse(rt.alloc(), path)?;
+    memory.put(rt.alloc(), &path, text.as_bytes())?;
+    Ok(())
+}
+FILES
+}
+
+workspace() {
+    cat > "$1/workspace.rt" <<'WORKSPACE'
+//! The workspace in `/w`, and a build of it.
+
+ghost use Rattle.std.specs.Prelude.{IfOk};
+ghost use Rattle.pb_package.specs.Settled.{IsSettled};
+
+use crate::child::Silent;
+use anyhow::Result;
+use pb_data::{Items, Text};
+use pb_place::{Memory, PathText};
+use pb_workspace::{Options, Workspace, load};
+use std::alloc::Global;
+
+/// The workspace.
+pub fn workspace_in(rt: &HostRuntime, memory: &mut Memory<Silent>) -> Result<Workspace>
+    ensures { IfOk result IsSettled }
+{
+    let manifest = PathText::parse(rt.alloc(), "/w/Cargo.toml")?;
+    let target = PathText::parse(rt.alloc(), "/w/target")?;
+    let workspace = load(rt.alloc(), memory, &manifest, &target)?;
+    Ok(workspace)
+}
+
+/// The options of a build of its root package with all features.
+pub fn options_of(alloc: Global) -> Result<Options> {
+    Ok(Options {
+        manifest: PathText::parse(alloc, "/w/Cargo.toml")?,
+        packages: Items::new(alloc),
+        workspace: false,
+        features: Items::new(alloc),
+        all_features: true,
+        no_default_features: false,
+        profile: Text::from_str(alloc, "dev")?,
+        lib: false,
+        bins: false,
+        bin: Items::new(alloc),
+        target_dir: None,
+        runner: Items::new(alloc),
+        tool: Text::from_str(alloc, "tool")?,
+        jobs: 1,
+    })
+}
+WORKSPACE
+}
+
 program() {
     mkdir -p "$folder/crates/measure/src"
     for crate in $crates; do
@@ -18,8 +118,8 @@ program() {
         grep "^$crate:" "$top/crates.txt" >> "$folder/crates.txt"
     done
     echo "measure: $uses anyhow" >> "$folder/crates.txt"
-    case " $uses " in *" pb_place "*) cp "$top/crates/pb_checks_files/src/child.rt" "$folder/crates/measure/src/" ;; esac
     cat > "$folder/crates/measure/src/main.rt"
+    modules "$folder/crates/measure/src"
     (cd "$folder/crates/measure" && ${TRY:-} rt "${MODE:-run}" -- none 0 0) > "$folder/built" 2>&1 || {
         tail -40 "$folder/built"
         exit 1

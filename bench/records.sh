@@ -23,38 +23,16 @@ program <<'PROGRAM'
 //! Measures records.
 #![tactic(auto)]
 
+mod measuring;
+
 use anyhow::Result;
+use measuring::{number_in, since, word_in};
 use pb_data::Bytes;
 use pb_record::{Record, read_record, write_record};
 use std::alloc::AllocError;
 use std::env;
 use std::fs;
-use std::time::{CpuClock, Duration};
-
-/// The microseconds of processor time since a start.
-fn since(rt: &HostRuntime, start: Duration) -> Result<u128> {
-    let now = rt.thread_cpu_time()?;
-    match now.checked_sub(start) {
-        Some(passed) => Ok(passed.as_micros()),
-        None => Ok(u128::MAX),
-    }
-}
-
-/// A number that a word says, or 0.
-fn number_in(words: &[String], place: usize) -> usize {
-    match words.get(place) {
-        Some(word) => word.as_str().parse::<usize>().unwrap_or(0),
-        None => 0,
-    }
-}
-
-/// The word at a place.
-fn word_in(words: &[String], place: usize) -> &str {
-    match words.get(place) {
-        Some(word) => word.as_str(),
-        None => "",
-    }
-}
+use std::time::CpuClock;
 
 /// The record that a text is.
 fn record_of(rt: &HostRuntime, text: &[u8]) -> Result<Record> {

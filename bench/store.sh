@@ -29,48 +29,25 @@ ghost use Rattle.pb_record.specs.Sorted.{are_sorted};
 ghost use Rattle.pb_soundness.specs.Records.{is_key, out_of};
 
 mod child;
+mod measuring;
 
 use anyhow::Result;
 use child::Silent;
+use measuring::{number_in, since, word_in};
 use pb_data::{Bytes, Items, Text, TryCopy};
 use pb_place::{Command, Ended, Memory, PathFault, PathText, RelativePath};
 use pb_record::InputName;
 use pb_record::{Asked, Record, read_record};
-use pb_store::Store;
+use pb_store::{Compared, Store};
 use std::alloc::{AllocError, Global};
 use std::env;
-use std::time::{CpuClock, Duration};
+use std::time::CpuClock;
 
 /// What stands in a record between its number and its inputs, of a key that is behind its length.
 const ASKED: &str = "5\nrustc\n0\n2\n/w\n0\n21\n/t/debug/a.target.lib\n2\n/t\n0\n\n0\n";
 
 /// What stands behind the needed units.
 const END: &str = "0\n\n0\n\nend\n";
-
-/// The microseconds of processor time since a start.
-fn since(rt: &HostRuntime, start: Duration) -> Result<u128> {
-    let now = rt.thread_cpu_time()?;
-    match now.checked_sub(start) {
-        Some(passed) => Ok(passed.as_micros()),
-        None => Ok(u128::MAX),
-    }
-}
-
-/// A number that a word says, or 0.
-fn number_in(words: &[String], place: usize) -> usize {
-    match words.get(place) {
-        Some(word) => word.as_str().parse::<usize>().unwrap_or(0),
-        None => 0,
-    }
-}
-
-/// The shape that the words name.
-fn shape_in(words: &[String]) -> &str {
-    match words.get(1) {
-        Some(word) => word.as_str(),
-        None => "",
-    }
-}
 
 /// So many KiB.
 fn filler(alloc: Global, count: usize) -> Result<String, AllocError> {
@@ -368,7 +345,7 @@ fn call_differs(
     let start = rt.thread_cpu_time()?;
     let found = store.differs(rt.alloc(), place, &key, command)?;
     let spent = since(rt, start)?;
-    Ok((spent, if found.is_none() { count } else { 0 }))
+    Ok((spent, if matches!(found, Compared::Same(_)) { count } else { 0 }))
 }
 
 /// Keeps the unit's record, with these inputs.
@@ -453,7 +430,7 @@ fn main(rt: HostRuntime) -> Result<()> {
     let words: Vec<String> = env::args(&rt)?.collect(rt.alloc())?;
     let count = number_in(words.as_slice(), 2);
     let number = number_in(words.as_slice(), 3);
-    let shape = shape_in(words.as_slice());
+    let shape = word_in(words.as_slice(), 1);
     if number == 0 {
         prepare_alone(&rt, shape, count)?;
     }

@@ -17,46 +17,19 @@ program <<'PROGRAM'
 #![tactic(auto)]
 
 mod child;
+mod files;
+mod measuring;
 
 use anyhow::Result;
 use child::Silent;
+use files::put;
+use measuring::{number_in, since, word_in};
 use pb_manifest_reader::read_manifest;
 use pb_place::{Memory, PathText};
 use pb_workspace::load;
 use std::env;
-use std::time::{CpuClock, Duration};
+use std::time::CpuClock;
 
-/// The microseconds of processor time since a start.
-fn since(rt: &HostRuntime, start: Duration) -> Result<u128> {
-    let now = rt.thread_cpu_time()?;
-    match now.checked_sub(start) {
-        Some(passed) => Ok(passed.as_micros()),
-        None => Ok(u128::MAX),
-    }
-}
-
-/// Puts a file.
-fn put(rt: &HostRuntime, memory: &mut Memory<Silent>, path: &str, text: &str) -> Result<()> {
-    let path = PathText::parse(rt.alloc(), path)?;
-    memory.put(rt.alloc(), &path, text.as_bytes())?;
-    Ok(())
-}
-
-/// A number that a word says, or 0.
-fn number_in(words: &[String], place: usize) -> usize {
-    match words.get(place) {
-        Some(word) => word.as_str().parse::<usize>().unwrap_or(0),
-        None => 0,
-    }
-}
-
-/// The shape that the words name.
-fn shape_in(words: &[String]) -> &str {
-    match words.get(1) {
-        Some(word) => word.as_str(),
-        None => "",
-    }
-}
 /// The manifest of a member, with 200 features.
 fn manifest_of(rt: &HostRuntime, number: usize) -> Result<String> {
     let alloc = rt.alloc();
@@ -157,7 +130,7 @@ fn load_one(rt: &HostRuntime, memory: &mut Memory<Silent>) -> Result<(u128, usiz
     let manifest = PathText::parse(alloc, "/w/Cargo.toml")?;
     let target = PathText::parse(alloc, "/w/target")?;
     let start = rt.thread_cpu_time()?;
-    let loaded = load(memory, alloc, &manifest, &target);
+    let loaded = load(alloc, memory, &manifest, &target);
     let spent = since(rt, start)?;
     match loaded {
         Ok(workspace) => Ok((spent, workspace.packages.len())),
@@ -177,7 +150,7 @@ fn main(rt: HostRuntime) -> Result<()> {
     let words: Vec<String> = env::args(&rt)?.collect(rt.alloc())?;
     let count = number_in(words.as_slice(), 2);
     let calls = number_in(words.as_slice(), 3);
-    let shape = shape_in(words.as_slice());
+    let shape = word_in(words.as_slice(), 1);
     let mut memory = Memory::new(rt.alloc(), Silent);
     put_shape(&rt, &mut memory, shape, count)?;
     let texts = texts_of(&rt, if shape == "read" { count } else { 0 })?;
