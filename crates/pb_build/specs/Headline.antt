@@ -64,14 +64,14 @@ ByTurns {S} Turns from project es = (last : S) × Flies Turns (needs_of project)
 
 -- with as many units in flight as the options say, of which those begin that are picked
 abbrev pub ByPick : {S : Type 0} → (S → List ℕ → ℕ → S → Type 0) → Options → S → Project → List (Event BadUnit) → Type 0
-ByPick {S} Picks options pick project es = let from : Jobs S = record { pick = pick; jobs = options.jobs } in ByTurns (TurnsOfJobs Picks) from project es
+ByPick {S} Picks options pick = let from : Jobs S = record { pick = pick; jobs = options.jobs } in ByTurns (TurnsOfJobs Picks) from
 
 -- of those that may begin the first in plan order does; the last does
 abbrev pub ByFirst : Options → Project → List (Event BadUnit) → Type 0
-ByFirst options project es = let pick : First = record {} in ByPick PicksFirstOf options pick project es
+ByFirst options = let pick : First = record {} in ByPick PicksFirstOf options pick
 
 abbrev pub ByLast : Options → Project → List (Event BadUnit) → Type 0
-ByLast options project es = let pick : Last = record {} in ByPick PicksLastOf options pick project es
+ByLast options = let pick : Last = record {} in ByPick PicksLastOf options pick
 
 -- What it gives.
 

@@ -40,8 +40,8 @@ Picked child options Last result old new = BuildsLast true child options result 
 
 -- its schedule
 abbrev pub ByPicked : PickBy → Options → Project → List (Event BadUnit) → Type 0
-ByPicked First options project es = ByFirst options project es
-ByPicked Last options project es = ByLast options project es
+ByPicked First options = ByFirst options
+ByPicked Last options = ByLast options
 
 -- a step: an edit; a failure that is prepared, of which nothing is seen yet; or a build, which keeps the headline and adds its answer
 abbrev pub Carries : Answers → SessionStep → Point → Point → Type 0
