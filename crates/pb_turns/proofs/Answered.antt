@@ -163,22 +163,25 @@ module _ (b : Basis) (done : List (Option (List Directive))) (aloft : List Aloft
         gave = given_after;
       }
 
-      pub began_after : (reasons : Reasons) (first : World) → AllBeganFor b es reasons first → AllBeganFor b (Gave a.unit answer ∷ es) reasons first
-      began_after reasons first began place has = elim (begun_cases (states_in b.project es) a.unit place (Answered answer) has) [
+      pub began_after : (reasons : Reasons) (first now : World) → AllBeganFor b es reasons first now → AllBeganFor b (Gave a.unit answer ∷ es) reasons first now
+      began_after reasons first now began place has = elim (begun_cases (states_in b.project es) a.unit place (Answered answer) has) [
         | inl same ↦ went place (began place (Begun, subst (λ n. slice_get (states_in b.project es) n ≡ Some Begun) same so.state, refl))
         | inr before ↦ went place (began place before)
       ]
         where
-          went : (n : ℕ) → BeganFor b es reasons first n → BeganFor b (Gave a.unit answer ∷ es) reasons first n
+          went : (n : ℕ) → BeganFor b es reasons first now n → BeganFor b (Gave a.unit answer ∷ es) reasons first now n
           went n f = record {
             unit = f.unit;
             there = f.there;
             world = f.world;
             sources_stay = f.sources_stay;
             record_stays = f.record_stays;
+            reaches = good_set (states_in b.project es) a.unit Begun (Answered answer) f.unit.reaches so.state refl f.reaches;
+            reached_stay = f.reached_stay;
             difference = f.difference;
             named = f.named;
             started = f.started;
             noted = f.noted;
+            kept_stays = f.kept_stays;
             unstarted = f.unstarted;
           }

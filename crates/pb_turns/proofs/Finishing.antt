@@ -14,11 +14,12 @@ use Rattle.pb_flight.specs.declared.flight.State.{State}
 use Rattle.pb_flight.specs.declared.flight.State.TheVariants.{Untouched, Begun, Answered}
 use Rattle.pb_flight.specs.declared.turn.Step.{Step}
 use Rattle.pb_flight.specs.Driving.{IsFlown}
-use Rattle.pb_flight.specs.Events.{Event, Began, Gave, Anything, started_by, states_after}
+use Rattle.pb_flight.specs.Events.{Event, Began, Gave, Anything, IsLawful, started_by, states_after}
 use Rattle.pb_flight.specs.Steps.{Flies, nothing, Anyhow}
 use Rattle.pb_flight.specs.Laws.{HasBegun, IsInPlanOrder}
 use Rattle.pb_flight.specs.Table.{Table, is_untouched, is_good_at, due, count_due, is_finished, first_bad}
 use Rattle.pb_flight.proofs.Lists.{injective, clash, length_set}
+use Rattle.pb_flight.proofs.Stepping.{steps_are_lawful}
 use Rattle.pb_place.specs.World.{World, Answers}
 use Rattle.pb_place.specs.declared.child_in_flight.ChildInFlight.{ChildInFlight}
 use Rattle.pb_project.specs.Targets.{unit_at}
@@ -35,7 +36,7 @@ use Rattle.pb_turns.specs.Crew.{needs_of, launched_of, ticket_of_child}
 use Rattle.pb_turns.specs.Ends.{rows_in, nothing_said, Stands, StandsWhole, StandsCut, EndsWhole, EndsCut, Grounding, Dropped, Drained}
 use Rattle.pb_turns.specs.Moments.{Moment, Heard}
 use Rattle.pb_turns.specs.Rows.{summary_of, started_keys, is_started, messages_in, bad_of, directives_told, Reasons, key_told, said_told, differences_of, kept_of}
-use Rattle.pb_turns.specs.Story.{states_in, untouched, Stops, Changes, Happened, AllBeganFor, Story, StoryEnds, OnlyOf}
+use Rattle.pb_turns.specs.Story.{states_in, untouched, Stops, Changes, Happened, AllBeganFor, IsBeginning, Story, StoryEnds, OnlyOf}
 use Rattle.pb_turns.specs.Summing.{summary_by, bad_told, noted_of, count_told, keys_at, differences_at}
 use Rattle.pb_turns.specs.declared.crew.Aloft.{Aloft}
 use Rattle.pb_turns.specs.declared.crew.UnitCrew.{UnitCrew}
@@ -92,6 +93,7 @@ story_first tells child c at still aloft started = record {
     starts = refl;
     most = omega arith;
   };
+  numbers = refl;
   changes = λ t. changes_first c.project at.world c.aloft.items at.counts.starts.flying aloft;
   happened = λ t f r s reading keeps. (
     record {
@@ -131,7 +133,7 @@ module _ (b : Basis) (done : List (Option (List Directive))) (aloft : List Aloft
     first_lines = λ n. first_told b.project es n 0 b.project.plan.planned (outcomes_in b) done (states_in b.project es) all_told;
   }
 
-  module _ (finished : is_finished (states_in b.project es) ≡ true) (long : length (states_in b.project es) ≡ length b.project.plan.planned) (reasons : Reasons) (first : World) (began : AllBeganFor b es reasons first) where
+  module _ (finished : is_finished (states_in b.project es) ≡ true) (long : length (states_in b.project es) ≡ length b.project.plan.planned) (reasons : Reasons) (first : World) (began : AllBeganFor b es reasons first w) where
     ended : Ended b.project es b.project.plan.planned (outcomes_in b) done (states_in b.project es)
     ended = ended_of b.project es 0 b.project.plan.planned (outcomes_in b) done (states_in b.project es) long finished all_told
 
@@ -180,7 +182,9 @@ module _ {S : Type 0} (tells : Bool) (child : Answers) (Turns : S → List ℕ �
     (said : first.done.items ≡ nothing_said first.project) (drained : Drained mid.counts new.counts) (landed : new.counts.starts.flying ≡ []) (heard : new.heard ≡ mid.heard) (same : d ≡ record c { aloft = d.aloft })
     (changes : (fw : World) (events : List (Event BadUnit)) → IsTrue tells → Changes c.project fw c.aloft.items events mid.world mid.counts.starts.flying → Changes c.project fw d.aloft.items events new.world new.counts.starts.flying)
     (happened : (b : Basis) (events : List (Event BadUnit)) → IsTrue tells → b.project ≡ c.project → Happened b c.done.items c.aloft.items c.store.next events mid.world mid.counts.starts.flying still
-    → Happened b d.done.items d.aloft.items d.store.next events new.world new.counts.starts.flying still') where
+    → Happened b d.done.items d.aloft.items d.store.next events new.world new.counts.starts.flying still')
+    (begun : (b : Basis) (events before : List (Event BadUnit)) (reasons : Reasons) (fw : World) → IsTrue tells → b.project ≡ c.project → IsLawful (needs_of b.project) events → IsBeginning before events
+    → Happened b c.done.items c.aloft.items c.store.next events mid.world mid.counts.starts.flying still → AllBeganFor b before reasons fw mid.world → AllBeganFor b before reasons fw new.world) where
   -- what a basis keeps at first
   abbrev Since : (Basis → Type 0) → Setup → Project → Type 0
   Since Stand setup project = IsTrue tells → (f : Footing) (r : Reading) (sources : World) → IsReading r → Keeps (basis f r child setup project sources) (untouched project) first.done.items first.store.next at.world → Stand (basis f r child setup project sources)
@@ -190,6 +194,9 @@ module _ {S : Type 0} (tells : Bool) (child : Answers) (Turns : S → List ℕ �
       subst (λ (s : Setup). Since Stand s first.project) setup (subst (λ (p : Project). Since Stand c.setup p) project since) t f r sources reading
       (subst (λ ds. Keeps (basis f r child first.setup first.project sources) (untouched first.project) ds first.store.next at.world) (sym said) keeps)
 
+  lawful : c.project ≡ first.project → Flies Turns (needs_of first.project) Anyhow Anything from es last → IsLawful (needs_of c.project) es
+  lawful project flies = subst (λ (p : Project). IsLawful (needs_of p) es) (sym project) (steps_are_lawful Turns (needs_of first.project) Anyhow Anything from es last flies)
+
   pub ends_cut : (fault : BuildFault) → Flies Turns (needs_of first.project) Anyhow Anything from es last → StoryEnds tells child fault first at c mid still es → EndsCut tells child Turns first.setup first.project first.store.next from fault at new
   ends_cut fault flies ends = record {
     es = es;
@@ -198,6 +205,7 @@ module _ {S : Type 0} (tells : Bool) (child : Answers) (Turns : S → List ℕ �
     mid = mid;
     heard = heard;
     stops = subst (λ (p : Project). Stops fault p at mid es) ends.project ends.stops;
+    spent = ends.spent;
     drained = drained;
     landed = landed;
     only = λ t. subst (λ (p : Project). OnlyOf p es at.world new.world) ends.project (changes at.world es t (ends.changes t)).only;
@@ -208,7 +216,7 @@ module _ {S : Type 0} (tells : Bool) (child : Answers) (Turns : S → List ℕ �
           before = ends.before;
           begins = ends.begins;
           reasons = c.reasons.items;
-          began = began;
+          began = begun (basis f r child c.setup c.project sources) es ends.before c.reasons.items at.world t refl (lawful ends.project flies) ends.begins h began;
         });
   }
 
@@ -218,6 +226,7 @@ module _ {S : Type 0} (tells : Bool) (child : Answers) (Turns : S → List ℕ �
     setup = s.setup;
     project = s.project;
     stops = stops_refused c.project at mid mid c.started.items c.aloft.items es given s.goes refl refl refl;
+    spent = tt;
     before = es;
     begins = inl refl;
     changes = s.changes;
@@ -276,7 +285,8 @@ module _ {S : Type 0} (tells : Bool) (child : Answers) (Turns : S → List ℕ �
           let (h, began) = story.happened t f r sources reading keeps in
           stands_whole (basis f r child c.setup c.project sources) d.done.items d.aloft.items d.store.next es new.world new.counts.starts.flying still' (happened (basis f r child c.setup c.project sources) es t refl h)
           (ap is_finished (sym states_are) ∙ finished) (length_states (needs_of c.project) es ∙ length-map c.project.plan.planned (λ (u : Planned). u.needs)) d.reasons.items at.world
-          (subst (λ (items : Reasons). AllBeganFor (basis f r child c.setup c.project sources) es items at.world) (sym (ap (λ (x : UnitCrew). x.reasons.items) same)) began) d.started.items started_is summary now_is);
+          (subst (λ (items : Reasons). AllBeganFor (basis f r child c.setup c.project sources) es items at.world new.world) (sym (ap (λ (x : UnitCrew). x.reasons.items) same))
+          (begun (basis f r child c.setup c.project sources) es es c.reasons.items at.world t refl (lawful story.project flown.flies) (inl refl) h began)) d.started.items started_is summary now_is);
     }
 
 -- memory is refused before a unit begins
@@ -289,6 +299,7 @@ ends_before tells child Turns setup project next from at none = record {
   mid = at;
   heard = refl;
   stops = record { by = ((0, appends_none at.heard.taken), refl); cause = refl; starts = refl };
+  spent = tt;
   drained = subst (λ fs. Dropped (map ticket_of_child fs) at.counts at.counts) (sym none) refl;
   landed = none;
   only = λ t. record { variables = refl; files = λ q outside. refl };

@@ -1,15 +1,16 @@
 -- What has happened, where nothing, a beginning or an answer comes next.
-use Rattle.std.proofs.Common.{◌≡◌, ◌≢◌, ◌∙◌, ◌++◌, inl, inr, Bool, true, List, [], ◌∷◌, ℕ, Option, Some, None, if◌then◌else◌, refl, sym, ap, subst, slice_get, slice_set, eq-eqb, is_some, ◌<◌, length}
-use Rattle.std.proofs.lemmas.Bool.{ne_eqb}
+use Rattle.std.proofs.Common.{◌≡◌, ◌≢◌, ◌∙◌, ◌++◌, inl, inr, Bool, true, false, List, [], ◌∷◌, ℕ, Option, Some, None, Contains, if◌then◌else◌, refl, sym, ap, subst, slice_get, slice_set, eq-eqb, is_some, ◌<◌, length}
+use Rattle.std.proofs.lemmas.Bool.{ne_eqb, false≢true}
 use Rattle.std.specs.FinMap as finite
 use Rattle.pb_directive.specs.declared.directive.Directive.{Directive}
 use Rattle.pb_flight.specs.declared.flight.Answer.{Answer}
 use Rattle.pb_flight.specs.declared.flight.State.TheVariants.{Untouched, Begun}
 use Rattle.pb_flight.specs.Events.{Event, Began, MayBegin, started_by}
 use Rattle.pb_flight.specs.Laws.{HasBegun}
-use Rattle.pb_flight.specs.Table.{are_good}
+use Rattle.pb_flight.specs.Table.{is_good_at, are_good}
 use Rattle.pb_flight.proofs.Lists.{injective, get_set_same, get_set_other}
-use Rattle.pb_place.specs.World.{World}
+use Rattle.pb_flight.proofs.Ready.{good_at}
+use Rattle.pb_place.specs.World.{World, ChangesOnly}
 use Rattle.pb_place.specs.declared.child_in_flight.ChildInFlight.{ChildInFlight}
 use Rattle.pb_project.specs.Targets.{unit_at}
 use Rattle.pb_answer.specs.declared.bad_unit.BadUnit.{BadUnit}
@@ -18,6 +19,7 @@ use Rattle.pb_run.specs.Halves.{Basis, Keeps, IsBegun, CanBegin, BeginsApart, co
 use Rattle.pb_run.specs.Standing.{IsInOrder, records_folder}
 use Rattle.pb_run.specs.Telling.{unit_lines}
 use Rattle.pb_run.specs.declared.begun.Begun.{Begun as unit_begun}
+use Rattle.pb_soundness.specs.Apart.{is_of}
 use Rattle.pb_soundness.specs.Records.{place_of}
 use Rattle.pb_store.specs.Differences.{FirstDifference}
 use Rattle.pb_store.specs.declared.difference.Difference.{Difference}
@@ -26,7 +28,7 @@ use Rattle.pb_turns.specs.Rows.{is_started, messages_in, Reasons}
 use Rattle.pb_turns.specs.Story.{states_in, Happened, HasGiven, FliesSo, AllBeganFor, BeganFor, IsQuiet, OnlyOf, started_before}
 use Rattle.pb_turns.specs.declared.crew.Aloft.{Aloft}
 use Rattle.pb_turns.proofs.Lists.{all_more, all_as, get_put}
-use Rattle.pb_turns.proofs.Reaching.{can_begin, place_outside_other}
+use Rattle.pb_turns.proofs.Reaching.{can_begin, not_of_two, place_outside_other}
 use Rattle.pb_turns.proofs.States.{good_set, begun_cases, another, answered_before}
 use Rattle.pb_unit.specs.declared.plan.Planned.{Planned}
 
@@ -50,10 +52,14 @@ one_unit project place u v at there = injective (sym at ∙ there)
 none_some : {A : Type 0} (x : A) → None ≡ Some x → ⊥
 none_some x e = cc
 
+pub none_of : {A : Type 0} (o : Option A) → is_some o ≡ false → o ≡ None
+none_of None is = refl
+none_of (Some x) is = absurd (false≢true (sym is))
+
 -- A unit begins.
 
 module _ (b : Basis) (order : IsInOrder b.project) (first : World) (done : List (Option (List Directive))) (aloft : List Aloft) (next next' : Option ℕ) (es : List (Event BadUnit)) (w w' : World)
-    (flying flying' : List ChildInFlight) (still still' : ℕ → Type 0) (reasons : Reasons) (h : Happened b done aloft next es w flying still) (began : AllBeganFor b es reasons first) (only_first : OnlyOf b.project es first w)
+    (flying flying' : List ChildInFlight) (still still' : ℕ → Type 0) (reasons : Reasons) (h : Happened b done aloft next es w flying still) (began : AllBeganFor b es reasons first w) (only_first : OnlyOf b.project es first w)
     (unit : ℕ) (u : Planned) (there : unit_at b.project unit ≡ Some u) (may : MayBegin (needs_of b.project) (states_in b.project es) unit) where
   pub can : CanBegin b (states_in b.project es) done unit u next w
   can = can_begin b order (states_in b.project es) done next w h.keeps unit u there may
@@ -121,43 +127,58 @@ module _ (b : Basis) (order : IsInOrder b.project) (first : World) (done : List 
         gave = happened_begun.gave;
       }
 
-      module _ (difference : Option Difference) (named : FirstDifference b.read (records_folder b.project) u.key a.begun.command w difference) (differs : is_some (child_of a.begun) ≡ is_some difference) (within : unit < length reasons) (quiet : IsQuiet b es first w) where
+      module _ (difference : Option Difference) (named : FirstDifference b.read (records_folder b.project) u.key a.begun.command w difference) (differs : is_some (child_of a.begun) ≡ is_some difference) (within : unit < length reasons) (quiet : IsQuiet b es first w)
+          (only : ChangesOnly (is_of (records_folder b.project) u.key) w w') (same : child_of a.begun ≡ None → w' ≡ w) (began_now : AllBeganFor b es reasons first w') where
         stays : finite.get w.files (place_of (records_folder b.project) u.key) ≡ finite.get first.files (place_of (records_folder b.project) u.key)
         stays = only_first.files (place_of (records_folder b.project) u.key) (λ place v has at. place_outside_other b.project order place unit v u at there (λ e. another (states_in b.project es) unit place may.untouched has (sym e)))
 
         its_command : a.begun.command ≡ command_in b unit u
         its_command = begun_so.command ∙ ap (command_in b unit) (one_unit b.project unit begun_so.unit u begun_so.there there)
 
-        own_began : BeganFor b (Began unit spawned ∷ es) (slice_set reasons unit (Some difference)) first unit
+        ne_begun : (place : ℕ) → HasBegun (states_in b.project es) place → unit ≢ place
+        ne_begun place has = another (states_in b.project es) unit place may.untouched has
+
+        ne_good : (p : ℕ) → Contains u.reaches p → unit ≢ p
+        ne_good p among same_place = false≢true (ap is_good_at (sym may.untouched) ∙ ap (λ n. is_good_at (slice_get (states_in b.project es) n)) same_place ∙ good_at (states_in b.project es) u.reaches p can.reaches among)
+
+        own_began : BeganFor b (Began unit spawned ∷ es) (slice_set reasons unit (Some difference)) first w' unit
         own_began = record {
           unit = u;
           there = there;
           world = w;
           sources_stay = h.keeps.sources_stay;
           record_stays = stays;
+          reaches = good_set (states_in b.project es) unit Untouched Begun u.reaches may.untouched refl can.reaches;
+          reached_stay = λ p v q among at inside. sym (only.files q (not_of_two b.project order p unit v u at there (λ e. ne_good p among (sym e)) q inside));
           difference = difference;
           named = subst (λ c. FirstDifference b.read (records_folder b.project) u.key c w difference) its_command named;
           started = started_now es unit spawned ∙ flag ∙ differs;
           noted = get_put reasons unit (Some difference) within;
+          kept_stays = λ none numbered q inside.
+              ap (λ (v : World). finite.get v.files q) (same (none_of (child_of a.begun) (differs ∙ ap (λ (o : Option Difference). is_some o) none)))
+              ∙ only_first.files q (λ place v has at. not_of_two b.project order unit place u v there at (ne_begun place has) q inside);
           unstarted = λ none. quiet (sym (before_now es unit spawned) ∙ none);
         }
 
-        old_began : (place : ℕ) → HasBegun (states_in b.project es) place → BeganFor b (Began unit spawned ∷ es) (slice_set reasons unit (Some difference)) first place
-        old_began place has = let f = began place has in record {
+        old_began : (place : ℕ) → HasBegun (states_in b.project es) place → BeganFor b (Began unit spawned ∷ es) (slice_set reasons unit (Some difference)) first w' place
+        old_began place has = let f = began_now place has in record {
           unit = f.unit;
           there = f.there;
           world = f.world;
           sources_stay = f.sources_stay;
           record_stays = f.record_stays;
+          reaches = good_set (states_in b.project es) unit Untouched Begun f.unit.reaches may.untouched refl f.reaches;
+          reached_stay = f.reached_stay;
           difference = f.difference;
           named = f.named;
-          started = started_other es unit place spawned (another (states_in b.project es) unit place may.untouched has) ∙ f.started;
-          noted = get_set_other reasons unit place (Some difference) (another (states_in b.project es) unit place may.untouched has) ∙ f.noted;
-          unstarted = λ none. f.unstarted (sym (before_other es unit place spawned (another (states_in b.project es) unit place may.untouched has)) ∙ none);
+          started = started_other es unit place spawned (ne_begun place has) ∙ f.started;
+          noted = get_set_other reasons unit place (Some difference) (ne_begun place has) ∙ f.noted;
+          kept_stays = f.kept_stays;
+          unstarted = λ none. f.unstarted (sym (before_other es unit place spawned (ne_begun place has)) ∙ none);
         }
 
-        pub began_more : AllBeganFor b (Began unit spawned ∷ es) (slice_set reasons unit (Some difference)) first
+        pub began_more : AllBeganFor b (Began unit spawned ∷ es) (slice_set reasons unit (Some difference)) first w'
         began_more place has = elim (begun_cases (states_in b.project es) unit place Begun has) [
-          | inl same ↦ subst (BeganFor b (Began unit spawned ∷ es) (slice_set reasons unit (Some difference)) first) same own_began
+          | inl same_place ↦ subst (BeganFor b (Began unit spawned ∷ es) (slice_set reasons unit (Some difference)) first w') same_place own_began
           | inr before ↦ old_began place before
         ]

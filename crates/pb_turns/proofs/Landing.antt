@@ -4,7 +4,7 @@ use Rattle.std.specs.List.{remove}
 use Rattle.std.specs.Prelude.{IfSome}
 use Rattle.pb_directive.specs.declared.directive.Directive.{Directive}
 use Rattle.pb_flight.specs.declared.flight.State.{State}
-use Rattle.pb_flight.specs.Events.{Event}
+use Rattle.pb_flight.specs.Events.{Event, IsLawful}
 use Rattle.pb_place.specs.Children.{child_at}
 use Rattle.pb_place.specs.Counts.{Counts, counted_finish, landed}
 use Rattle.pb_place.specs.Paths.{is_at_or_below}
@@ -22,16 +22,19 @@ use Rattle.pb_run.specs.Standing.{IsInOrder, records_folder}
 use Rattle.pb_run.specs.declared.begun.Begun.{Begun as unit_begun}
 use Rattle.pb_run.specs.declared.begun.Launched.{Launched}
 use Rattle.pb_run.proofs.Spawning.{out_within, widen}
+use Rattle.pb_run.proofs.Writes.{begun_writes}
 use Rattle.pb_soundness.specs.Apart.{is_of}
 use Rattle.pb_soundness.specs.Records.{out_of}
-use Rattle.pb_turns.specs.Crew.{IsManned, IsOfPlan}
-use Rattle.pb_turns.specs.Story.{states_in, Changes, Happened}
+use Rattle.pb_turns.specs.Crew.{needs_of, IsManned, IsOfPlan}
+use Rattle.pb_turns.specs.Rows.{Reasons}
+use Rattle.pb_turns.specs.Story.{states_in, AllBeganFor, Changes, FliesSo, Happened, IsBeginning}
 use Rattle.pb_turns.specs.declared.crew.Aloft.{Aloft}
 use Rattle.pb_turns.specs.declared.crew.UnitCrew.{UnitCrew}
 use Rattle.pb_turns.proofs.Answered as answered
 use Rattle.pb_turns.proofs.Changing.{its_writes, changes_less}
 use Rattle.pb_turns.proofs.Lists.{all_get}
 use Rattle.pb_turns.proofs.Manning.{flying_of}
+use Rattle.pb_turns.proofs.Staying.{dropped_beside, none_dropped}
 use Rattle.pb_unit.specs.declared.plan.Planned.{Planned}
 use Rattle.std.proofs.Common.{Result, Ok, Err}
 
@@ -76,3 +79,17 @@ changes_dropped c counts manned first es w w' flying' index a at aloft' is old o
     changes_less c.project first c.aloft.items es w w' counts.starts.flying flying' old flies index a at of_plan.unit of_plan.there manned.units_apart manned.tickets_apart
     (widen (is_at_or_below (out_of (records_folder c.project) of_plan.unit.key)) (is_of (records_folder c.project) of_plan.unit.key) w w' (out_within (records_folder c.project) of_plan.unit.key)
     (subst (λ o. ChangesOnly (is_at_or_below o) w w') (manned.order.folders a.unit of_plan.unit of_plan.there) (only of_plan.unit.out writes))) stay aloft' is
+
+pub began_dropped : (b : Basis) (c : UnitCrew) (counts : Counts) (manned : IsManned c counts) (project : b.project ≡ c.project) (es before : List (Event BadUnit)) (reasons : Reasons) (first w w' : World) (still : ℕ → Type 0)
+    (index : ℕ) (a : Aloft) (at : slice_get c.aloft.items index ≡ Some a) (lawful : IsLawful (needs_of b.project) es) (begins : IsBeginning before es) (h : Happened b c.done.items c.aloft.items c.store.next es w counts.starts.flying still)
+    → ((out : List ℕ) → WritesTo out (child_of a.begun) counts.starts.flying → ChangesOnly (is_at_or_below out) w w') → AllBeganFor b before reasons first w → AllBeganFor b before reasons first w'
+began_dropped b c counts manned project es before reasons first w w' still index a at lawful begins h only began =
+    let of_plan : IsOfPlan c.project a = all_get (IsOfPlan c.project) c.aloft.items index a manned.units at in
+    let there : unit_at b.project a.unit ≡ Some of_plan.unit = ap (λ (p : Project). unit_at p a.unit) project ∙ of_plan.there in
+    let order : IsInOrder b.project = subst IsInOrder (sym project) manned.order in
+    let so : FliesSo b es c.store.next w counts.starts.flying still a = all_get (FliesSo b es c.store.next w counts.starts.flying still) c.aloft.items index a h.begun at in
+    let writes : WritesTo of_plan.unit.out (child_of a.begun) counts.starts.flying = begun_writes b order a.unit of_plan.unit there a.begun c.store.next w counts.starts.flying still so.begun_so in
+    dropped_beside b order before es reasons first w w' a.unit of_plan.unit there lawful begins so.state (child_of a.begun) so.started
+    (widen (is_at_or_below (out_of (records_folder b.project) of_plan.unit.key)) (is_of (records_folder b.project) of_plan.unit.key) w w' (out_within (records_folder b.project) of_plan.unit.key)
+    (subst (λ o. ChangesOnly (is_at_or_below o) w w') (order.folders a.unit of_plan.unit there) (only of_plan.unit.out writes)))
+    (λ none. none_dropped (child_of a.begun) counts.starts.flying w w' none only) began

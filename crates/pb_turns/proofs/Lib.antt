@@ -4,6 +4,7 @@ pub mod States
 pub mod Quiet
 pub mod Reaching
 pub mod Happening
+pub mod Staying
 pub mod Answered
 pub mod Changing
 pub mod Counting
@@ -11,6 +12,7 @@ pub mod Beginning
 pub mod Answering
 pub mod Landing
 pub mod Noting
+pub mod Numbering
 pub mod Unbegun
 pub mod Telling
 pub mod Finishing

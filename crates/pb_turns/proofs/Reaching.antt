@@ -1,5 +1,5 @@
 -- What a unit that may begin reaches is good; and whose paths are whose.
-use Rattle.std.proofs.Common.{◌≡◌, ◌≢◌, ◌∙◌, ◌<◌, ◌||◌, inl, inr, true, false, List, [], ◌∷◌, ℕ, zero, suc, Option, Some, Contains, refl, sym, ap, subst, arith, slice_get, get_or, map, length}
+use Rattle.std.proofs.Common.{◌≡◌, ◌≢◌, ◌⊎◌, ◌∙◌, ◌<◌, ◌||◌, inl, inr, Bool, true, false, List, [], ◌∷◌, ℕ, zero, suc, Option, Some, Contains, refl, sym, ap, subst, arith, slice_get, get_or, map, length}
 use Rattle.std.proofs.lemmas.List.{length-map}
 use Rattle.std.proofs.lemmas.Option.{slice_get_read, slice_get_within}
 use Rattle.pb_directive.specs.declared.directive.Directive.{Directive}
@@ -8,8 +8,10 @@ use Rattle.pb_flight.specs.Events.{MayBegin}
 use Rattle.pb_flight.specs.Table.{is_good_at, are_good}
 use Rattle.pb_flight.proofs.Lists.{injective, clash}
 use Rattle.pb_flight.proofs.Ready.{good_at, all_good}
+use Rattle.pb_place.specs.Folders.{LieApart}
 use Rattle.pb_place.specs.Paths.{is_at_or_below}
 use Rattle.pb_place.specs.World.{World}
+use Rattle.pb_place.proofs.Within.{share_no_path}
 use Rattle.pb_project.specs.Targets.{unit_at}
 use Rattle.pb_answer.specs.declared.bad_unit.BadUnit.{BadUnit}
 use Rattle.pb_project.specs.declared.project.Project.{Project}
@@ -19,7 +21,7 @@ use Rattle.pb_run.proofs.Recorded.{read_reached, reached_read, keys_differ, plac
 use Rattle.pb_run.proofs.Shown.{each_of}
 use Rattle.pb_soundness.specs.Apart.{is_of}
 use Rattle.pb_soundness.specs.Records.{out_of, place_of}
-use Rattle.pb_soundness.proofs.Places.{one_key, place_outside, places_differ}
+use Rattle.pb_soundness.proofs.Places.{one_key, place_outside, places_differ, outs_apart, out_place_apart}
 use Rattle.pb_turns.specs.Crew.{needs_of}
 use Rattle.pb_unit.specs.declared.plan.Planned.{Planned}
 use Rattle.pb_turns.specs.declared.crew.UnitCrew.{UnitCrew}
@@ -65,6 +67,38 @@ module _ (project : Project) (order : IsInOrder project) where
       let left : is_at_or_below (out_of (records_folder project) u.key) (place_of (records_folder project) v.key) ≡ false = place_outside (records_folder project) u.key v.key (order.keys i u at_i) (order.keys j v at_j) in
       ap (λ b. b || is_at_or_below (place_of (records_folder project) u.key) (place_of (records_folder project) v.key)) left
       ∙ places_differ (records_folder project) u.key v.key (order.keys i u at_i) (order.keys j v at_j) (keys_differ project order i j u v at_i at_j apart)
+
+one_of : (x y : Bool) → x || y ≡ true → (x ≡ true) ⊎ (y ≡ true)
+one_of true y h = inl refl
+one_of false y h = inr h
+
+neither : (x y : Bool) → x ≡ false → y ≡ false → x || y ≡ false
+neither x y p q = ap (λ z. z || y) p ∙ q
+
+module _ (project : Project) (order : IsInOrder project) (i j : ℕ) (u v : Planned) (at_i : unit_at project i ≡ Some u) (at_j : unit_at project j ≡ Some v) (ne : i ≢ j) where
+  keys : u.key ≢ v.key
+  keys = keys_differ project order i j u v at_i at_j ne
+
+  outs : LieApart (out_of (records_folder project) u.key) (out_of (records_folder project) v.key)
+  outs = outs_apart (records_folder project) u.key v.key order.folder (order.keys i u at_i) (order.keys j v at_j) keys
+
+  out_place : LieApart (out_of (records_folder project) u.key) (place_of (records_folder project) v.key)
+  out_place = out_place_apart (records_folder project) u.key v.key order.folder (order.keys i u at_i) (order.keys j v at_j)
+
+  place_out : LieApart (out_of (records_folder project) v.key) (place_of (records_folder project) u.key)
+  place_out = out_place_apart (records_folder project) v.key u.key order.folder (order.keys j v at_j) (order.keys i u at_i)
+
+  -- no path is of two units
+  pub not_of_two : (q : List ℕ) → is_of (records_folder project) u.key q ≡ true → is_of (records_folder project) v.key q ≡ false
+  not_of_two q its = elim (one_of (is_at_or_below (out_of (records_folder project) u.key) q) (is_at_or_below (place_of (records_folder project) u.key) q) its) [
+    | inl at ↦ neither _ _
+        (share_no_path (out_of (records_folder project) u.key) (out_of (records_folder project) v.key) q outs.first outs.second outs.not_below_first outs.not_below_second at)
+        (share_no_path (out_of (records_folder project) u.key) (place_of (records_folder project) v.key) q out_place.first out_place.second out_place.not_below_first out_place.not_below_second at)
+    | inr at ↦ neither _ _
+        (share_no_path (place_of (records_folder project) u.key) (out_of (records_folder project) v.key) q place_out.second place_out.first place_out.not_below_second place_out.not_below_first at)
+        (share_no_path (place_of (records_folder project) u.key) (place_of (records_folder project) v.key) q place_out.second out_place.second
+        (places_differ (records_folder project) u.key v.key (order.keys i u at_i) (order.keys j v at_j) keys) (places_differ (records_folder project) v.key u.key (order.keys j v at_j) (order.keys i u at_i) (λ e. keys (sym e))) at)
+  ]
 
 module _ (b : Basis) (order : IsInOrder b.project) (states : List (State BadUnit)) (done : List (Option (List Directive))) (next : Option ℕ) (w : World) (keeps : Keeps b states done next w)
     (place : ℕ) (u : Planned) (there : unit_at b.project place ≡ Some u) (may : MayBegin (needs_of b.project) states place) where

@@ -112,7 +112,7 @@ first_start needs _ (answer es u given before flying gives) = elim (first_start 
 
 -- the first one began in the first world, where nothing differed of its unit
 pub starts_nothing : StartsNothing
-starts_nothing b es reasons first lawful began each = elim (first_start (needs_of b.project) es lawful) [
+starts_nothing b es reasons first now lawful began each = elim (first_start (needs_of b.project) es lawful) [
   | inl none ↦ none
   | inr f ↦
       let g = began f.place f.begun in
@@ -146,7 +146,7 @@ leaves_records Turns child setup project next from last summary old new ends suc
 pub starts_none_again : {S : Type 0} (Turns : S → List ℕ → List ℕ → Step → S → Type 0) → StartsNoneAgain Turns
 starts_none_again Turns child setup project next from last summary old new ends footing read sources reading keeps each =
     let whole = ends.told refl footing read sources reading keeps in
-    let none : started_by ends.es ≡ [] = starts_nothing (basis footing read child setup project sources) ends.es ends.reasons old.world (steps_are_lawful Turns (needs_of project) Anyhow Anything from ends.es last ends.flies) whole.began each in (
+    let none : started_by ends.es ≡ [] = starts_nothing (basis footing read child setup project sources) ends.es ends.reasons old.world new.world (steps_are_lawful Turns (needs_of project) Anyhow Anything from ends.es last ends.flies) whole.began each in (
       dropped_count (map ticket_of_child ends.mid.starts.flying) ends.mid new.counts ends.drained ∙ ends.starts ∙ ap (λ places. upped (length places) old.counts.starts.count) none,
       ends.started ∙ ap (λ places. flat_map (λ place. key_in (unit_at project place)) places) none,
     )

@@ -25,7 +25,7 @@ use Rattle.pb_soundness.specs.Records.{Reading}
 use Rattle.pb_turns.specs.Crew.{needs_of, ticket_of_child}
 use Rattle.pb_turns.specs.Moments.{Moment}
 use Rattle.pb_turns.specs.Rows.{Reasons, Row, rows_of, said_from, started_keys, differences_of, kept_of, summary_of}
-use Rattle.pb_turns.specs.Story.{states_in, untouched, upped, Stops, OnlyOf, AllBeganFor, HasGiven, IsBeginning}
+use Rattle.pb_turns.specs.Story.{states_in, untouched, upped, Stops, Spends, OnlyOf, AllBeganFor, HasGiven, IsBeginning}
 use Rattle.pb_unit.specs.declared.plan.Planned.{Planned}
 
 -- the children of these tickets were asked for their ends, in this order, their answers were dropped, and nothing else was called
@@ -64,7 +64,7 @@ pub record StandsWhole (b : Basis) (es : List (Event BadUnit)) (reasons : Reason
   pub stands : Stands b es new
   pub all : count_due (states_in b.project es) ≡ length (rows_in b)
   pub answer : summary ≡ summary_of b.project es reasons (rows_in b)
-  pub began : AllBeganFor b es reasons old
+  pub began : AllBeganFor b es reasons old new
 
 -- a fault ended it
 pub record StandsCut (b : Basis) (es : List (Event BadUnit)) (old new : World) : Type 0 where
@@ -72,7 +72,7 @@ pub record StandsCut (b : Basis) (es : List (Event BadUnit)) (old new : World) :
   pub before : List (Event BadUnit)
   pub begins : IsBeginning before es
   pub reasons : Reasons
-  pub began : AllBeganFor b before reasons old
+  pub began : AllBeganFor b before reasons old new
 
 -- the units came to their end; where it is a success each of them has answered and is good; nothing is noted of a unit that has not begun
 pub record EndsWhole {S : Type 0} (tells : Bool) (child : Answers) (Turns : S → List ℕ → List ℕ → Step → S → Type 0) (setup : Setup) (project : Project) (next : Option ℕ) (from last : S) (summary : Summary) (old new : Moment) : Type 0 where
@@ -104,6 +104,7 @@ pub record EndsCut {S : Type 0} (tells : Bool) (child : Answers) (Turns : S → 
   pub mid : Moment
   pub heard : new.heard ≡ mid.heard
   pub stops : Stops fault project old mid es
+  pub spent : Spends fault next es
   pub drained : Drained mid.counts new.counts
   pub landed : new.counts.starts.flying ≡ []
   pub only : IsTrue tells → OnlyOf project es old.world new.world

@@ -24,7 +24,7 @@ EachHasRecord b w = (place : ℕ) (u : Planned) → unit_at b.project place ≡ 
 
 -- where each unit has its record at first, no child is started
 abbrev pub StartsNothing : Type 0
-StartsNothing = (b : Basis) (es : List (Event BadUnit)) (reasons : Reasons) (first : World) → IsLawful (needs_of b.project) es → AllBeganFor b es reasons first → EachHasRecord b first → started_by es ≡ []
+StartsNothing = (b : Basis) (es : List (Event BadUnit)) (reasons : Reasons) (first now : World) → IsLawful (needs_of b.project) es → AllBeganFor b es reasons first now → EachHasRecord b first → started_by es ≡ []
 
 -- units that came to a good end over records leave each its record
 abbrev pub LeavesRecords : {S : Type 0} → (S → List ℕ → List ℕ → Step → S → Type 0) → Type 0

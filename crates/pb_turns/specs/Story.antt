@@ -1,10 +1,11 @@
 -- What has happened while the units of a build began and answered.
-use Rattle.std.specs.Prelude.{◌≡◌, ◌⊎◌, ◌==◌, ◌∷◌, [], ℕ, zero, suc, max, Bool, true, false, if◌then◌else◌, List, length, take, Option, Some, is_some, IsTrue, slice_get}
+use Rattle.std.specs.Prelude.{◌≡◌, ◌⊎◌, ◌==◌, ◌∷◌, [], ℕ, zero, suc, max, Bool, true, false, if◌then◌else◌, List, length, take, Option, Some, None, is_some, Contains, IsTrue, slice_get}
 use Rattle.std.specs.FinMap as finite
 use Rattle.std.specs.Io.KnownBytes.{Appends}
 use Rattle.std.specs.List.{AllByRecursion}
 use Rattle.pb_answer.specs.declared.fault.BuildFault.{BuildFault}
 use Rattle.pb_answer.specs.declared.fault.BuildFault.TheVariants.{Plan, Toolchain, Child, Device, Sink, OutOfMemory}
+use Rattle.pb_answer.specs.declared.fault.DeviceFault.TheVariants.{Place, NumbersSpent}
 use Rattle.pb_directive.specs.declared.directive.Directive.{Directive}
 use Rattle.pb_flight.specs.declared.flight.Answer.{Answer}
 use Rattle.pb_flight.specs.declared.flight.State.{State}
@@ -25,9 +26,10 @@ use Rattle.pb_run.specs.Outcome.{Outcome, directives_in}
 use Rattle.pb_run.specs.Standing.{records_folder}
 use Rattle.pb_run.specs.Telling.{unit_lines}
 use Rattle.pb_soundness.specs.Apart.{is_of}
+use Rattle.pb_soundness.specs.Numbers.{after}
 use Rattle.pb_soundness.specs.Records.{Reading, place_of}
 use Rattle.pb_store.specs.Differences.{FirstDifference}
-use Rattle.pb_store.specs.Migrating.{lacks_number}
+use Rattle.pb_store.specs.Migrating.{TakesNumber, lacks_number}
 use Rattle.pb_store.specs.declared.difference.Difference.{Difference}
 use Rattle.pb_turns.specs.Crew.{needs_of, launched_of}
 use Rattle.pb_turns.specs.Moments.{Moment}
@@ -82,6 +84,23 @@ pub record Stops (fault : BuildFault) (project : Project) (first now : Moment) (
   pub cause : HasCause fault first.counts now.counts
   pub starts : now.counts.starts.count ≡ upped (length (started_by es)) first.counts.starts.count
 
+-- the next run number after these events, by the next one at first: a unit that begins takes a number where a child is started for it, and none where none is; one that answers takes one or none
+abbrev pub NumbersGiven : List (Event BadUnit) → Option ℕ → Option ℕ → Type 0
+NumbersGiven [] first now = now ≡ first
+NumbersGiven (Began unit true ∷ es) first now = (number : ℕ) × NumbersGiven es first (Some number) × (now ≡ after number)
+NumbersGiven (Began unit false ∷ es) first now = NumbersGiven es first now
+NumbersGiven (Gave unit answer ∷ es) first now = (before : Option ℕ) × NumbersGiven es first before × TakesNumber before now
+
+-- where a fault says that no run number is left, all were given
+abbrev pub Spends : BuildFault → Option ℕ → List (Event BadUnit) → Type 0
+Spends (Plan why) first es = Unit {0}
+Spends Toolchain first es = Unit {0}
+Spends (Child key fault) first es = Unit {0}
+Spends (Device key (Place fault)) first es = Unit {0}
+Spends (Device key NumbersSpent) first es = NumbersGiven es first None
+Spends Sink first es = Unit {0}
+Spends OutOfMemory first es = Unit {0}
+
 -- What the place says, where it tells its maps.
 
 -- the unit at a place gave its outcome from nothing: its fault, its lines, which say whether a child was started for it, and its directives, which are noted
@@ -104,22 +123,25 @@ started_before (Gave unit answer ∷ es) place = started_before es place
 abbrev pub NoneLacksNumber : Basis → World → Type 0
 NoneLacksNumber b w = (place : ℕ) (u : Planned) → unit_at b.project place ≡ Some u → lacks_number (records_in b w u.key) ≡ false
 
--- what differed first of the unit at a place when it began, in a world with the same sources in which its record's text was as at first; a child was started for it exactly where something differed, and that is noted. That world was the first one, where no child had been started yet and no record lacked a number at first
-pub record BeganFor (b : Basis) (es : List (Event BadUnit)) (reasons : Reasons) (first : World) (place : ℕ) : Type 0 where
+-- what differed first of the unit at a place when it began, in a world with the same sources in which its record's text was as at first, and in which the folders and records of the units that it reaches, all of which have answered and are good, stood as they stand now; a child was started for it exactly where something differed, and that is noted. Where nothing differed and its record had a number at first, its own folder and record stand now as at first. That world was the first one, where no child had been started yet and no record lacked a number at first
+pub record BeganFor (b : Basis) (es : List (Event BadUnit)) (reasons : Reasons) (first now : World) (place : ℕ) : Type 0 where
   pub unit : Planned
   pub there : unit_at b.project place ≡ Some unit
   pub world : World
   pub sources_stay : from_nothing b.project.workspace.target world ≡ b.sources
   pub record_stays : finite.get world.files (place_of (records_folder b.project) unit.key) ≡ finite.get first.files (place_of (records_folder b.project) unit.key)
+  pub reaches : are_good (states_in b.project es) unit.reaches ≡ true
+  pub reached_stay : (p : ℕ) (v : Planned) (q : List ℕ) → Contains unit.reaches p → unit_at b.project p ≡ Some v → is_of (records_folder b.project) v.key q ≡ true → finite.get world.files q ≡ finite.get now.files q
   pub difference : Option Difference
   pub named : FirstDifference b.read (records_folder b.project) unit.key (command_in b place unit) world difference
   pub started : is_started es place ≡ is_some difference
   pub noted : slice_get reasons place ≡ Some (Some difference)
+  pub kept_stays : difference ≡ None → lacks_number (records_in b first unit.key) ≡ false → (q : List ℕ) → is_of (records_folder b.project) unit.key q ≡ true → finite.get now.files q ≡ finite.get first.files q
   pub unstarted : started_before es place ≡ [] → NoneLacksNumber b first → world ≡ first
 
 -- each unit that has begun did so for what differed of it
-abbrev pub AllBeganFor : Basis → List (Event BadUnit) → Reasons → World → Type 0
-AllBeganFor b es reasons first = (place : ℕ) → HasBegun (states_in b.project es) place → BeganFor b es reasons first place
+abbrev pub AllBeganFor : Basis → List (Event BadUnit) → Reasons → World → World → Type 0
+AllBeganFor b es reasons first now = (place : ℕ) → HasBegun (states_in b.project es) place → BeganFor b es reasons first now place
 
 -- a path is in no folder and no record's place of the units that have begun
 abbrev pub IsOutside : Project → List (Event BadUnit) → List ℕ → Type 0
@@ -178,23 +200,25 @@ pub record Story (tells : Bool) (child : Answers) (first : UnitCrew) (at : Momen
   pub setup : c.setup ≡ first.setup
   pub project : c.project ≡ first.project
   pub goes : Goes c.project at now c.started.items c.aloft.items es given
+  pub numbers : NumbersGiven es first.store.next c.store.next
   pub changes : IsTrue tells → Changes c.project at.world c.aloft.items es now.world now.counts.starts.flying
   pub happened : IsTrue tells
-      → FromFirst child first at c (λ b. Happened b c.done.items c.aloft.items c.store.next es now.world now.counts.starts.flying still × AllBeganFor b es c.reasons.items at.world)
+      → FromFirst child first at c (λ b. Happened b c.done.items c.aloft.items c.store.next es now.world now.counts.starts.flying still × AllBeganFor b es c.reasons.items at.world now.world)
   pub quiet : IsTrue tells → FromFirst child first at c (λ b. IsQuiet b es at.world now.world)
   pub unnoted : NotesBegun c.project es first.reasons.items c.reasons.items
 
--- the events before a beginning that failed
+-- these events, or those before the unit that began last, where nothing came after its beginning
 abbrev pub IsBeginning : List (Event BadUnit) → List (Event BadUnit) → Type 0
 IsBeginning before es = (es ≡ before) ⊎ ((unit : ℕ) × (spawned : Bool) × (es ≡ Began unit spawned ∷ before))
 
--- and where a fault has ended it; of a unit that failed to begin it is not said what differed
+-- and where a fault has ended it; of the unit that began last, where nothing came after its beginning, it may not be said what differed
 pub record StoryEnds (tells : Bool) (child : Answers) (fault : BuildFault) (first : UnitCrew) (at : Moment) (c : UnitCrew) (now : Moment) (still : ℕ → Type 0) (es : List (Event BadUnit)) : Type 0 where
   pub setup : c.setup ≡ first.setup
   pub project : c.project ≡ first.project
   pub stops : Stops fault c.project at now es
+  pub spent : Spends fault first.store.next es
   pub before : List (Event BadUnit)
   pub begins : IsBeginning before es
   pub changes : IsTrue tells → Changes c.project at.world c.aloft.items es now.world now.counts.starts.flying
   pub happened : IsTrue tells
-      → FromFirst child first at c (λ b. Happened b c.done.items c.aloft.items c.store.next es now.world now.counts.starts.flying still × AllBeganFor b before c.reasons.items at.world)
+      → FromFirst child first at c (λ b. Happened b c.done.items c.aloft.items c.store.next es now.world now.counts.starts.flying still × AllBeganFor b before c.reasons.items at.world now.world)

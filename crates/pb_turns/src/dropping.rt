@@ -1,14 +1,15 @@
 //! Children in flight at the end of a build: each is asked for its end, and its answer is dropped.
 
 ghost use Rattle.std.specs.Prelude.{◌≡◌, ◌<◌, [], ℕ, List, length, IsTrue};
-ghost use Rattle.pb_flight.specs.Events.{Event};
+ghost use Rattle.pb_flight.specs.Events.{Event, IsLawful};
 ghost use Rattle.pb_place.specs.Counts.{Counts};
 ghost use Rattle.pb_place.specs.World.{World};
 ghost use Rattle.pb_answer.specs.declared.bad_unit.BadUnit.{BadUnit};
 ghost use Rattle.pb_run.specs.Halves.{Basis};
-ghost use Rattle.pb_turns.specs.Crew.{tickets_of, IsManned};
+ghost use Rattle.pb_turns.specs.Crew.{needs_of, tickets_of, IsManned};
 ghost use Rattle.pb_turns.specs.Ends.{Dropped, Drained};
-ghost use Rattle.pb_turns.specs.Story.{Changes, Happened};
+ghost use Rattle.pb_turns.specs.Rows.{Reasons};
+ghost use Rattle.pb_turns.specs.Story.{AllBeganFor, Changes, Happened, IsBeginning};
 
 use crate::crew::UnitCrew;
 use pb_place::Place;
@@ -29,6 +30,9 @@ fn drop_first<P: Place>(alloc: Global, crew: &mut UnitCrew, place: &mut P)
     ensures happened { (b : Basis) (es : List (Event BadUnit)) → IsTrue P.tells → b.project ≡ crew.old.project
         → Happened b crew.old.done.items crew.old.aloft.items crew.old.store.next es (P.world place.old) (P.counts place.old).starts.flying (P.still place.old)
         → Happened b crew.new.done.items crew.new.aloft.items crew.new.store.next es (P.world place.new) (P.counts place.new).starts.flying (P.still place.new) }
+    ensures began { (b : Basis) (es before : List (Event BadUnit)) (reasons : Reasons) (first : World) → IsTrue P.tells → b.project ≡ crew.old.project → IsLawful (needs_of b.project) es → IsBeginning before es
+        → Happened b crew.old.done.items crew.old.aloft.items crew.old.store.next es (P.world place.old) (P.counts place.old).starts.flying (P.still place.old)
+        → AllBeganFor b before reasons first (P.world place.old) → AllBeganFor b before reasons first (P.world place.new) }
 {
     let aloft = crew.aloft.remove(0);
     drop_unit(alloc, place, &aloft.begun);
@@ -46,6 +50,9 @@ pub(crate) fn drain<P: Place>(alloc: Global, crew: &mut UnitCrew, place: &mut P)
     ensures happened { (b : Basis) (es : List (Event BadUnit)) → IsTrue P.tells → b.project ≡ crew.old.project
         → Happened b crew.old.done.items crew.old.aloft.items crew.old.store.next es (P.world place.old) (P.counts place.old).starts.flying (P.still place.old)
         → Happened b crew.new.done.items crew.new.aloft.items crew.new.store.next es (P.world place.new) (P.counts place.new).starts.flying (P.still place.new) }
+    ensures began { (b : Basis) (es before : List (Event BadUnit)) (reasons : Reasons) (first : World) → IsTrue P.tells → b.project ≡ crew.old.project → IsLawful (needs_of b.project) es → IsBeginning before es
+        → Happened b crew.old.done.items crew.old.aloft.items crew.old.store.next es (P.world place.old) (P.counts place.old).starts.flying (P.still place.old)
+        → AllBeganFor b before reasons first (P.world place.old) → AllBeganFor b before reasons first (P.world place.new) }
 {
     while !crew.aloft.is_empty() {
         drop_first(alloc, crew, place);

@@ -10,6 +10,7 @@ use Rattle.pb_turns.proofs.Beginning.{goes_lists, refused_happened, failed_happe
 use Rattle.pb_turns.proofs.Changing.{changes_begun, changes_more}
 use Rattle.pb_turns.proofs.Counting.{goes_begun, stops_begun, stops_refused_begun, children_are}
 use Rattle.pb_turns.proofs.Manning.{manned_same, manned_begun, begin_fault_flies, flying_of}
+use Rattle.pb_turns.proofs.Numbering.{numbers_begun}
 use Rattle.pb_turns.proofs.Quiet.{begun_quiet}
 use Rattle.pb_turns.proofs.Reaching.{there_at, there_some, within_reasons}
 use Rattle.pb_turns.proofs.Unbegun.{notes_begun}
@@ -43,6 +44,7 @@ returns-in-Err-clause-story g c = λ first at taken faults es given s flying law
         setup = s.setup;
         project = s.project;
         stops = stops_refused_begun c.args.crew.now.project at now now c.args.crew.now.started.items c.args.crew.now.aloft.items es given c.args.unit s.goes is_given may.untouched refl refl;
+        spent = tt;
         before = es;
         begins = inr (c.args.unit, false, refl);
         changes = λ t. changes_begun c.args.crew.now.project at.world c.args.crew.now.aloft.items es now.world now.world now.counts.starts.flying now.counts.starts.flying (s.changes t) (λ index a at. flying_of c.args.crew.now (g.P.Place.counts c.args.place.now) index a c.requires.manned at)
@@ -54,15 +56,16 @@ returns-in-Err-clause-story g c = λ first at taken faults es given s flying law
 pub returns-in-Err-begin_unit-clause-story : goal.returns-in-Err-begin_unit-clause-story
 returns-in-Err-begin_unit-clause-story g c = λ first at taken faults es given s flying lawful is_given may.
     let there = there_at c.args.crew.now.project.plan.planned c.as_slice.result.now c.args.unit c.index-as_slice-unit.result c.requires.unit c.as_slice.ensures c.index-as_slice-unit.is in
-    let (spawned, stops) = stops_begun c.args.crew.now.project at (moment (g.P.Place.world c.args.place.now) (g.P.Place.counts c.args.place.now) (g.P.Place.most c.args.place.now) taken faults)
+    let (spawned, stops, spent) = stops_begun c.args.crew.now.project at (moment (g.P.Place.world c.args.place.now) (g.P.Place.counts c.args.place.now) (g.P.Place.most c.args.place.now) taken faults)
     (moment (g.P.Place.world c.begin_unit.new.place) (g.P.Place.counts c.begin_unit.new.place) (g.P.Place.most c.begin_unit.new.place) taken faults)
-    c.args.crew.now.started.items c.args.crew.now.aloft.items es given c.args.unit s.goes is_given may.untouched refl c.index-as_slice-unit.result there c.args.crew.now.store.next c.in-Err-begin_unit.fault
-    c.in-Err-begin_unit.ensures.takes.0 c.in-Err-begin_unit.ensures.takes.1 in (
+    c.args.crew.now.started.items c.args.crew.now.aloft.items es given c.args.unit s.goes is_given may.untouched refl c.index-as_slice-unit.result there c.args.crew.now.store.next first.store.next c.in-Err-begin_unit.fault
+    s.numbers c.in-Err-begin_unit.ensures.takes.0 c.in-Err-begin_unit.ensures.takes.1 in (
       spawned,
       record {
         setup = s.setup;
         project = s.project;
         stops = stops;
+        spent = spent;
         before = es;
         begins = inr (c.args.unit, spawned, refl);
         changes = λ t. changes_begun c.args.crew.now.project at.world c.args.crew.now.aloft.items es (g.P.Place.world c.args.place.now) (g.P.Place.world c.begin_unit.new.place) (g.P.Place.counts c.args.place.now).starts.flying (g.P.Place.counts c.begin_unit.new.place).starts.flying
@@ -71,7 +74,7 @@ returns-in-Err-begin_unit-clause-story g c = λ first at taken faults es given s
         happened = failed_happened g.P.Place.tells g.P.Place.child first c.args.crew.now at (moment (g.P.Place.world c.args.place.now) (g.P.Place.counts c.args.place.now) (g.P.Place.most c.args.place.now) taken faults)
             (moment (g.P.Place.world c.begin_unit.new.place) (g.P.Place.counts c.begin_unit.new.place) (g.P.Place.most c.begin_unit.new.place) taken faults) (g.P.Place.still c.args.place.now) (g.P.Place.still c.begin_unit.new.place)
             es given c.args.unit c.index-as_slice-unit.result c.requires.manned.order there s may c.begin_unit.new.store.next c.as_slice-2.result.now c.as_slice-2.ensures.value
-            c.begin_unit.ensures.keeps c.begin_unit.ensures.others spawned c.make_room.new.aloft.items c.make_room.ensures.aloft;
+            c.begin_unit.ensures.keeps c.begin_unit.ensures.others c.begin_unit.ensures.only spawned c.make_room.new.aloft.items c.make_room.ensures.aloft;
       },
     )
 
@@ -90,13 +93,14 @@ returns-clause-story g c = λ first at taken faults es given s flying lawful is_
           (goes_begun c.args.crew.now.project at now new c.args.crew.now.started.items c.args.crew.now.aloft.items es given c.args.unit s.goes is_given may.untouched refl
           record { unit = c.args.unit; begun = c.in-Ok-begin_unit.made.begun } refl c.in-Ok-begin_unit.ensures.takes.0 c.in-Ok-begin_unit.ensures.takes.1
           (children_are (g.P.Place.counts c.args.place.now) c.args.crew.now.aloft.items c.requires.manned.tickets) c.in-Ok-begin_unit.ensures.most);
+      numbers = numbers_begun es first.store.next c.args.crew.now.store.next c.begin_unit.new.store.next c.args.unit (child_of c.in-Ok-begin_unit.made.begun) c.in-Ok-begin_unit.ensures.number s.numbers;
       changes = λ t. changes_more c.args.crew.now.project at.world c.args.crew.now.aloft.items es now.world new.world now.counts.starts.flying new.counts.starts.flying (s.changes t) (λ index a at. flying_of c.args.crew.now (g.P.Place.counts c.args.place.now) index a c.requires.manned at)
           c.args.unit c.index-as_slice-unit.result there may.untouched (c.begin_unit.ensures.only t) c.begin_unit.ensures.stay (is_some (child_of c.in-Ok-begin_unit.made.begun))
           record { unit = c.args.unit; begun = c.in-Ok-begin_unit.made.begun } c.note_begun.new.aloft.items refl more (c.in-Ok-begin_unit.ensures.writes t);
       happened = begun_happened g.P.Place.tells g.P.Place.child first c.args.crew.now at now new (g.P.Place.still c.args.place.now) (g.P.Place.still c.begin_unit.new.place)
           es given c.args.unit c.index-as_slice-unit.result c.requires.manned.order there s may c.begin_unit.new.store.next c.as_slice-2.result.now c.as_slice-2.ensures.value
-          c.begin_unit.ensures.keeps c.begin_unit.ensures.others c.in-Ok-begin_unit.made.begun c.note_begun.new.aloft.items c.in-Ok-begin_unit.made.difference c.note_begun.new.reasons.items more c.in-Ok-begin_unit.ensures.begun c.in-Ok-begin_unit.ensures.differs
-          c.in-Ok-begin_unit.ensures.spawned (within_reasons c.args.crew.now c.args.unit c.requires.manned.reasoned c.requires.unit) c.note_begun.ensures.reasons;
+          c.begin_unit.ensures.keeps c.begin_unit.ensures.others c.begin_unit.ensures.only c.in-Ok-begin_unit.made.begun c.note_begun.new.aloft.items c.in-Ok-begin_unit.made.difference c.note_begun.new.reasons.items more c.in-Ok-begin_unit.ensures.begun c.in-Ok-begin_unit.ensures.differs
+          c.in-Ok-begin_unit.ensures.spawned (within_reasons c.args.crew.now c.args.unit c.requires.manned.reasoned c.requires.unit) c.in-Ok-begin_unit.ensures.same c.note_begun.ensures.reasons;
       quiet = begun_quiet g.P.Place.tells g.P.Place.child first c.args.crew.now at now new (g.P.Place.still c.args.place.now) es given c.args.unit s c.in-Ok-begin_unit.made.begun c.in-Ok-begin_unit.ensures.same;
       unnoted = notes_begun c.args.crew.now.project es first.reasons.items c.args.crew.now.reasons.items c.note_begun.new.reasons.items c.args.unit (is_some (child_of c.in-Ok-begin_unit.made.begun)) (Some c.in-Ok-begin_unit.made.difference) may.untouched
           c.note_begun.ensures.reasons s.unnoted;

@@ -7,6 +7,7 @@ returns g c = λ first first_place last_place first_out last_out es given s. rec
   setup = s.setup;
   project = s.project;
   stops = stops_refused _ _ _ _ _ _ _ _ s.goes refl refl refl;
+  spent = tt;
   before = es;
   begins = inl refl;
   changes = s.changes;

@@ -1,0 +1,149 @@
+-- What units that have begun rest on stays, where another unit begins, answers or is dropped.
+use Rattle.std.proofs.Common.{◌≡◌, ◌≢◌, ◌∙◌, ◌||◌, inl, inr, Bool, true, false, List, [], ◌∷◌, ℕ, Option, Some, None, Contains, refl, sym, ap, subst, slice_get, slice_set, is_some}
+use Rattle.std.proofs.lemmas.Bool.{cases_Bool, cases_eq, false≢true}
+use Rattle.std.specs.FinMap as finite
+use Rattle.pb_flight.specs.declared.flight.State.TheVariants.{Untouched, Begun}
+use Rattle.pb_flight.specs.Events.{Event, Began, IsLawful}
+use Rattle.pb_flight.specs.Laws.{HasBegun}
+use Rattle.pb_flight.specs.Table.{is_good_at}
+use Rattle.pb_flight.proofs.Handing.{began_lawful}
+use Rattle.pb_flight.proofs.Lists.{injective, get_set_other}
+use Rattle.pb_flight.proofs.Ready.{good_at}
+use Rattle.pb_place.specs.Paths.{below, is_below, is_at_or_below}
+use Rattle.pb_place.specs.World.{World, ChangesOnly}
+use Rattle.pb_place.specs.declared.child_in_flight.ChildInFlight.{ChildInFlight}
+use Rattle.pb_place.proofs.Within.{at_itself, below_then_at, goes_below, not_below_itself}
+use Rattle.pb_project.specs.Targets.{unit_at}
+use Rattle.pb_answer.specs.declared.bad_unit.BadUnit.{BadUnit}
+use Rattle.pb_project.specs.declared.project.Project.{Project}
+use Rattle.pb_run.specs.Halves.{Basis, WritesTo, records_in, child_of}
+use Rattle.pb_run.specs.Standing.{IsInOrder, records_folder}
+use Rattle.pb_run.specs.declared.begun.Launched.{Launched}
+use Rattle.pb_soundness.specs.Apart.{is_of}
+use Rattle.pb_soundness.specs.Records.{Reading, out_of, place_of, record_at}
+use Rattle.pb_soundness.proofs.Places.{record_same}
+use Rattle.pb_store.specs.Migrating.{lacks_number}
+use Rattle.pb_store.specs.declared.difference.Difference.{Difference}
+use Rattle.pb_turns.specs.Crew.{needs_of}
+use Rattle.pb_turns.specs.Rows.{Reasons, is_started}
+use Rattle.pb_turns.specs.Story.{states_in, AllBeganFor, BeganFor, IsBeginning}
+use Rattle.pb_turns.proofs.Happening.{none_of, started_other}
+use Rattle.pb_turns.proofs.Reaching.{not_of_two}
+use Rattle.pb_turns.proofs.States.{another}
+use Rattle.pb_unit.specs.declared.plan.Planned.{Planned}
+
+-- A child that is not there changes nothing.
+
+-- a path is not below one that goes on from it
+not_below_more : (q : List ℕ) → is_at_or_below (below q (0 ∷ [])) q ≡ false
+not_below_more q = elim (cases_Bool (is_at_or_below (below q (0 ∷ [])) q)) [
+  | inl at ↦ absurd (false≢true (sym (not_below_itself q) ∙ below_then_at q (below q (0 ∷ [])) q (goes_below q (0 ∷ []) (λ e. cc)) at))
+  | inr outside ↦ outside
+]
+
+-- where no child is there to be dropped, each file stays
+pub none_dropped : (o : Option Launched) (flying : List ChildInFlight) (w w' : World) → o ≡ None → ((out : List ℕ) → WritesTo out o flying → ChangesOnly (is_at_or_below out) w w') → (q : List ℕ) → finite.get w'.files q ≡ finite.get w.files q
+none_dropped None flying w w' none only q = (only (below q (0 ∷ [])) tt).files q (not_below_more q)
+none_dropped (Some l) flying w w' none only q = cc
+
+-- A unit in flight had begun before a beginning that came after its own.
+
+pub record FlewBefore (project : Project) (before : List (Event BadUnit)) (place : ℕ) (spawned : Bool) : Type 0 where
+  pub not_good : is_good_at (slice_get (states_in project before) place) ≡ false
+  pub started : HasBegun (states_in project before) place → is_started before place ≡ spawned
+
+flew_last : (project : Project) (before : List (Event BadUnit)) (unit place : ℕ) (new spawned : Bool) → slice_get (states_in project before) unit ≡ Some Untouched
+    → slice_get (slice_set (states_in project before) unit Begun) place ≡ Some Begun → is_started (Began unit new ∷ before) place ≡ spawned → FlewBefore project before place spawned
+flew_last project before unit place new spawned untouched state started = record {
+  not_good = elim (cases_eq unit place) [
+    | inl same ↦ ap is_good_at (ap (slice_get (states_in project before)) (sym same) ∙ untouched)
+    | inr ne ↦ ap is_good_at (sym (get_set_other (states_in project before) unit place Begun ne) ∙ state)
+  ];
+  started = λ has. sym (started_other before unit place new (another (states_in project before) unit place untouched has)) ∙ started;
+}
+
+pub flew_before : (project : Project) (before es : List (Event BadUnit)) (place : ℕ) (spawned : Bool) → IsLawful (needs_of project) es → IsBeginning before es
+    → slice_get (states_in project es) place ≡ Some Begun → is_started es place ≡ spawned → FlewBefore project before place spawned
+flew_before project before es place spawned lawful (inl same) state started = subst (λ (x : List (Event BadUnit)). FlewBefore project x place spawned) same record {
+  not_good = ap is_good_at state;
+  started = λ has. started;
+}
+flew_before project before es place spawned lawful (inr (unit, new, is)) state started =
+    let (lawful_before, may) = began_lawful (needs_of project) _ before unit new (subst (IsLawful (needs_of project)) is lawful) in
+    flew_last project before unit place new spawned may.untouched (subst (λ (x : List (Event BadUnit)). slice_get (states_in project x) place ≡ Some Begun) is state)
+    (subst (λ (x : List (Event BadUnit)). is_started x place ≡ spawned) is started)
+
+second : (x y : Bool) → y ≡ true → x || y ≡ true
+second true y h = refl
+second false y h = h
+
+-- a unit's record stands at a path of the unit
+pub place_its_own : (folder key : List ℕ) → is_of folder key (place_of folder key) ≡ true
+place_its_own folder key = second (is_at_or_below (out_of folder key) (place_of folder key)) _ (at_itself (place_of folder key) (place_of folder key) refl)
+
+-- A unit has done something: it is none that has answered and is good, and where it has begun without a child and its record had a number at first, each file stays.
+module _ (b : Basis) (order : IsInOrder b.project) (es : List (Event BadUnit)) (reasons : Reasons) (first w w' : World) (i : ℕ) (u : Planned) (there : unit_at b.project i ≡ Some u)
+    (only : ChangesOnly (is_of (records_folder b.project) u.key) w w') (not_good : is_good_at (slice_get (states_in b.project es) i) ≡ false)
+    (own : HasBegun (states_in b.project es) i → BeganFor b es reasons first w i → is_started es i ≡ false → lacks_number (records_in b first u.key) ≡ false → (q : List ℕ) → finite.get w'.files q ≡ finite.get w.files q) where
+  kept_now : (place : ℕ) → HasBegun (states_in b.project es) place → (f : BeganFor b es reasons first w place) → f.difference ≡ None → lacks_number (records_in b first f.unit.key) ≡ false
+      → (q : List ℕ) → is_of (records_folder b.project) f.unit.key q ≡ true → finite.get w'.files q ≡ finite.get w.files q
+  kept_now place has f none numbered q inside = elim (cases_eq place i) [
+    | inl same ↦
+        let is : f.unit ≡ u = injective (sym f.there ∙ ap (unit_at b.project) same ∙ there) in
+        own (subst (HasBegun (states_in b.project es)) same has) (subst (BeganFor b es reasons first w) same f)
+        (ap (is_started es) (sym same) ∙ f.started ∙ ap (λ (o : Option Difference). is_some o) none) (subst (λ (x : Planned). lacks_number (records_in b first x.key) ≡ false) is numbered) q
+    | inr ne ↦ only.files q (not_of_two b.project order place i f.unit u f.there there ne q inside)
+  ]
+
+  good_other : (p : ℕ) → is_good_at (slice_get (states_in b.project es) p) ≡ true → p ≢ i
+  good_other p good same = false≢true (sym not_good ∙ ap (λ n. is_good_at (slice_get (states_in b.project es) n)) (sym same) ∙ good)
+
+  -- the others rest on the same
+  pub began_on : AllBeganFor b es reasons first w → AllBeganFor b es reasons first w'
+  began_on began place has = let f = began place has in record {
+    unit = f.unit;
+    there = f.there;
+    world = f.world;
+    sources_stay = f.sources_stay;
+    record_stays = f.record_stays;
+    reaches = f.reaches;
+    reached_stay = λ p v q among at inside.
+        f.reached_stay p v q among at inside ∙ sym (only.files q (not_of_two b.project order p i v u at there (good_other p (good_at (states_in b.project es) f.unit.reaches p f.reaches among)) q inside));
+    difference = f.difference;
+    named = f.named;
+    started = f.started;
+    noted = f.noted;
+    kept_stays = λ none numbered q inside. kept_now place has f none numbered q inside ∙ f.kept_stays none numbered q inside;
+    unstarted = f.unstarted;
+  }
+
+-- a unit that has begun without a child, and whose record had a number at first, has that record now
+pub numbered_now : (b : Basis) (es : List (Event BadUnit)) (reasons : Reasons) (first w : World) (i : ℕ) (u : Planned) → unit_at b.project i ≡ Some u → BeganFor b es reasons first w i → is_started es i ≡ false
+    → lacks_number (records_in b first u.key) ≡ false → lacks_number (records_in b w u.key) ≡ false
+numbered_now b es reasons first w i u there f unstarted numbered =
+    let is : f.unit ≡ u = injective (sym f.there ∙ there) in
+    let none : f.difference ≡ None = none_of f.difference (sym f.started ∙ unstarted) in
+    let stays = f.kept_stays none (subst (λ (x : Planned). lacks_number (records_in b first x.key) ≡ false) (sym is) numbered) (place_of (records_folder b.project) f.unit.key) (place_its_own (records_folder b.project) f.unit.key) in
+    ap lacks_number (record_same b.read (records_folder b.project) first.files w.files u.key (subst (λ (x : Planned). finite.get w.files (place_of (records_folder b.project) x.key) ≡ finite.get first.files (place_of (records_folder b.project) x.key)) is stays)) ∙ numbered
+
+-- a beginning
+pub began_beside : (b : Basis) (order : IsInOrder b.project) (es : List (Event BadUnit)) (reasons : Reasons) (first w w' : World) (i : ℕ) (u : Planned) → unit_at b.project i ≡ Some u → slice_get (states_in b.project es) i ≡ Some Untouched
+    → ChangesOnly (is_of (records_folder b.project) u.key) w w' → AllBeganFor b es reasons first w → AllBeganFor b es reasons first w'
+began_beside b order es reasons first w w' i u there untouched only =
+    began_on b order es reasons first w w' i u there only (ap is_good_at untouched) (λ has f. absurd (another (states_in b.project es) i i untouched has refl))
+
+-- an answer, or a fault in its place
+pub answered_beside : (b : Basis) (order : IsInOrder b.project) (es : List (Event BadUnit)) (reasons : Reasons) (first w w' : World) (i : ℕ) (u : Planned) → unit_at b.project i ≡ Some u → slice_get (states_in b.project es) i ≡ Some Begun
+    → (o : Option Launched) → is_started es i ≡ is_some o → ChangesOnly (is_of (records_folder b.project) u.key) w w' → (o ≡ None → lacks_number (records_in b w u.key) ≡ false → w' ≡ w)
+    → AllBeganFor b es reasons first w → AllBeganFor b es reasons first w'
+answered_beside b order es reasons first w w' i u there state o started only same =
+    began_on b order es reasons first w w' i u there only (ap is_good_at state) (λ has f unstarted numbered q.
+    ap (λ (v : World). finite.get v.files q) (same (none_of o (sym started ∙ unstarted)) (numbered_now b es reasons first w i u there f unstarted numbered)))
+
+-- a child dropped
+pub dropped_beside : (b : Basis) (order : IsInOrder b.project) (before es : List (Event BadUnit)) (reasons : Reasons) (first w w' : World) (i : ℕ) (u : Planned) → unit_at b.project i ≡ Some u → IsLawful (needs_of b.project) es → IsBeginning before es
+    → slice_get (states_in b.project es) i ≡ Some Begun → (o : Option Launched) → is_started es i ≡ is_some o → ChangesOnly (is_of (records_folder b.project) u.key) w w' → (o ≡ None → (q : List ℕ) → finite.get w'.files q ≡ finite.get w.files q)
+    → AllBeganFor b before reasons first w → AllBeganFor b before reasons first w'
+dropped_beside b order before es reasons first w w' i u there lawful begins state o started only same =
+    let flew = flew_before b.project before es i (is_some o) lawful begins state started in
+    began_on b order before reasons first w w' i u there only flew.not_good (λ has f unstarted numbered. same (none_of o (sym (flew.started has) ∙ unstarted)))
