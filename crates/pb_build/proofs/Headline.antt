@@ -17,13 +17,10 @@ use Rattle.pb_flight.specs.declared.flight.State.TheVariants.{Untouched, Begun, 
 use Rattle.pb_flight.specs.declared.turn.Step.{Step}
 use Rattle.pb_message.specs.declared.message.Message.{Message}
 use Rattle.pb_package.specs.declared.options.Options.{Options}
-use Rattle.pb_place.specs.Counts.{Counts, Starts, up, up_starts, counted_finish}
+use Rattle.pb_place.specs.Counts.{Counts, Starts, up, up_starts}
 use Rattle.pb_place.specs.Folders.{files_in}
 use Rattle.pb_place.specs.Paths.{below}
 use Rattle.pb_place.specs.World.{World, Map, Answers, from_nothing}
-use Rattle.pb_place.specs.declared.command.Ended.{Ended}
-use Rattle.pb_place.specs.declared.place.StartFault.{StartFault}
-use Rattle.pb_place.specs.declared.place.StartFault.TheVariants as start
 use Rattle.pb_profile.specs.Line.{folder_of}
 use Rattle.pb_answer.specs.declared.bad_unit.BadUnit.{BadUnit}
 use Rattle.pb_project.specs.declared.project.Project.{Project}
@@ -37,10 +34,11 @@ use Rattle.pb_soundness.specs.Sound.{Sound}
 use Rattle.pb_store.specs.Opening.{next_in}
 use Rattle.pb_store.proofs.Ahead.{opened_ahead}
 use Rattle.pb_turns.specs.Crew.{needs_of, ticket_of_child}
-use Rattle.pb_turns.specs.Ends.{TurnsEnd, Drained, Dropped, StandsWhole, StandsCut, Stands, nothing_said, rows_in}
+use Rattle.pb_turns.specs.Ends.{TurnsEnd, Drained, StandsWhole, StandsCut, Stands, nothing_said, rows_in}
 use Rattle.pb_turns.specs.Moments.{Heard, Moment}
 use Rattle.pb_turns.specs.Rows.{Row, to_first_bad, is_bad, fault_in, said_from}
-use Rattle.pb_turns.specs.Story.{states_in, untouched, upped, Stops, StopsAt, AllBeganFor}
+use Rattle.pb_turns.specs.Story.{states_in, untouched, upped, Stops, StopsAt, AllBeganFor, Spends}
+use Rattle.pb_turns.proofs.Repeating.{dropped_count}
 use Rattle.pb_unit.specs.declared.plan.Planned.{Planned}
 use Rattle.pb_workspace.proofs.Accepted.{target_kept}
 use Rattle.pb_build.specs.Ending.{Works, Builds, NoneBegan}
@@ -70,18 +68,6 @@ first_kept b next w sources holds = record {
   closed = λ place u good there. absurd (none_good (needs_of b.project) place good);
   records = holds;
 }
-
--- asking for the ends of children starts none
-finish_count : (ticket : ℕ) (result : Result Ended StartFault) (old : Counts) → (counted_finish ticket result old).starts.count ≡ old.starts.count
-finish_count ticket (Ok ended) old = refl
-finish_count ticket (Err start.CannotStart) old = refl
-finish_count ticket (Err start.Died) old = refl
-finish_count ticket (Err start.Capture) old = refl
-finish_count ticket (Err start.OutOfMemory) old = refl
-
-dropped_count : (tickets : List ℕ) (old new : Counts) → Dropped tickets old new → new.starts.count ≡ old.starts.count
-dropped_count [] old new same = ap (λ (c : Counts). c.starts.count) same
-dropped_count (ticket ∷ tickets) old new (result, may, more) = dropped_count tickets (counted_finish ticket result old) new more ∙ finish_count ticket result old
 
 -- The rows of units that have answered.
 
@@ -248,7 +234,7 @@ module _ (footing : Footing) (read : Reading) (reading : IsReading read) (child 
               answer = whole.answer;
               lines = since ends.es (due (states_in project ends.es)) _ (all_lines ends.es whole.stands whole.all) ends.lines;
               files = file_holds ends.es whole.stands whole.all;
-              began = subst (λ (w : World). AllBeganFor b ends.es ends.reasons w) stays whole.began;
+              began = subst (λ (w : World). AllBeganFor b ends.es ends.reasons w new.world) stays whole.began;
             },
             leaves footing ends.es whole.stands,
           )
@@ -258,11 +244,12 @@ module _ (footing : Footing) (read : Reading) (reading : IsReading read) (child 
               units = units_by ends.es;
               flies = (ends.last, ends.flies);
               starts = counted ends.es ends.mid.counts ends.stops.starts ends.drained;
+              spent = subst (λ (n : Option ℕ). Spends fault n ends.es) (is_next ∙ ap (λ (f : List ℕ). next_in read f old.world) (same_folder options old.world project is)) ends.spent;
               lines = lines_before ends.es cut.stands ends.mid ends.heard fault ends.stops;
               before = cut.before;
               begins = cut.begins;
               reasons = cut.reasons;
-              began = subst (λ (w : World). AllBeganFor b cut.before cut.reasons w) stays cut.began;
+              began = subst (λ (w : World). AllBeganFor b cut.before cut.reasons w new.world) stays cut.began;
             },
             leaves footing ends.es cut.stands,
           )

@@ -29,10 +29,11 @@ use Rattle.pb_run.specs.Halves.{Footing, OnRecords, OnNothing, Basis, basis, IsH
 use Rattle.pb_run.specs.Outcome.{Good}
 use Rattle.pb_soundness.specs.Records.{Reading, record_at}
 use Rattle.pb_soundness.specs.Sound.{Sound}
+use Rattle.pb_store.specs.Opening.{next_in}
 use Rattle.pb_turns.specs.Crew.{needs_of}
 use Rattle.pb_turns.specs.Moments.{Heard, Moment}
 use Rattle.pb_turns.specs.Rows.{Row, Reasons, rows_of, said_from, summary_of}
-use Rattle.pb_turns.specs.Story.{states_in, upped, AllBeganFor, IsBeginning}
+use Rattle.pb_turns.specs.Story.{states_in, upped, AllBeganFor, IsBeginning, Spends}
 use Rattle.pb_unit.specs.declared.plan.Planned.{Planned}
 use Rattle.pb_build.specs.Ending.{NoneBegan, PicksFirstOf, PicksLastOf, Closes}
 use Rattle.pb_build.specs.Environment.{environment_of}
@@ -66,10 +67,11 @@ ByTurns {S} Turns from project es = (last : S) × Flies Turns (needs_of project)
 abbrev pub ByPick : {S : Type 0} → (S → List ℕ → ℕ → S → Type 0) → Options → S → Project → List (Event BadUnit) → Type 0
 ByPick {S} Picks options pick = let from : Jobs S = record { pick = pick; jobs = options.jobs } in ByTurns (TurnsOfJobs Picks) from
 
--- of those that may begin the first in plan order does; the last does
+-- of those that may begin the first in plan order does
 abbrev pub ByFirst : Options → Project → List (Event BadUnit) → Type 0
 ByFirst options = let pick : First = record {} in ByPick PicksFirstOf options pick
 
+-- the last does
 abbrev pub ByLast : Options → Project → List (Event BadUnit) → Type 0
 ByLast options = let pick : Last = record {} in ByPick PicksLastOf options pick
 
@@ -103,7 +105,7 @@ pub record GivesAll (footing : Footing) (read : Reading) (child : Answers) (Sche
   pub lines : Appends old.heard.taken new.heard.taken (said_from units.project units.es 0 (rows_for child options old.world units))
   pub files : (place : ℕ) (u : Planned) (made : Map) (directives : Option (List Directive)) (messages : List Message)
       → slice_get (rows_for child options old.world units) place ≡ Some record { unit = u; outcome = Good made directives messages } → files_in u.out new.world.files ≡ made
-  pub began : AllBeganFor (basis_of footing read child options old.world units) units.es reasons old.world
+  pub began : AllBeganFor (basis_of footing read child options old.world units) units.es reasons old.world new.world
 
 -- a call for the unit of this key failed, which has begun and not answered: the lines are those of the longest row of units that have answered
 pub record FailsAt (project : Project) (es : List (Event BadUnit)) (rows : List Row) (key : List ℕ) (old new : Option (List ℕ)) : Type 0 where
@@ -123,16 +125,17 @@ LinesBefore (Device key fault) project es rows old new = FailsAt project es rows
 LinesBefore Sink project es rows old new = (n : ℕ) × Appends old new (take n (said_from project es 0 (take (count_due (states_in project es)) rows)))
 LinesBefore OutOfMemory project es rows old new = (n : ℕ) × Appends old new (said_from project es 0 (take n (take (count_due (states_in project es)) rows)))
 
--- a fault came at a unit, at the sink, or for want of memory, with such events and so many starts; of a unit that failed to begin it is not said what differed
+-- a fault came at a unit, at the sink, or for want of memory, with such events and so many starts; for want of a run number, where from the next one of the records on all were given; of the unit that began last, where nothing came after its beginning, it may not be said what differed
 pub record GivesFirst (footing : Footing) (read : Reading) (child : Answers) (Schedule : Project → List (Event BadUnit) → Type 0) (options : Options) (fault : BuildFault) (old new : Moment) : Type 0 where
   pub units : UnitsOf child options old.world
   pub flies : Schedule units.project units.es
   pub starts : new.counts.starts.count ≡ upped (length (started_by units.es)) (up old.counts.starts.count)
+  pub spent : Spends fault (next_in read (records_of options old.world.variables) old.world) units.es
   pub lines : LinesBefore fault units.project units.es (rows_for child options old.world units) old.heard.taken new.heard.taken
   pub before : List (Event BadUnit)
   pub begins : IsBeginning before units.es
   pub reasons : Reasons
-  pub began : AllBeganFor (basis_of footing read child options old.world units) before reasons old.world
+  pub began : AllBeganFor (basis_of footing read child options old.world units) before reasons old.world new.world
 
 -- what was given when the finish line was due
 abbrev pub GivesUnits : Footing → Reading → Answers → (Project → List (Event BadUnit) → Type 0) → Options → Result Summary BuildFault → Moment → Moment → Type 0
