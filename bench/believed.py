@@ -1,10 +1,11 @@
 #!/usr/bin/env python3
 """What a reader of a promise has to believe: `believed.py [NAME] [--laws] [--but=NAME=NAME,.. ..]` counts the definitions of
-`specs/` on which one stands (`Headline` of pb_build where none is named), with all that they stand on in turn, and their
-lines without comments, imports and empty lines, by crate. `--but=NAME=NAME,..` counts, in place of what one definition
-stands on, the statements of the laws that say it in other words; a reader who believes the laws reads these. Names are
-CRATE.File.name, or a last part that is there once. What std, the toolchain's crates and the types of the code say is left
-out. `--laws` takes all laws of LAWS: of records and true records these say only what a build needs of them.
+`specs/` on which one stands, with all that they stand on in turn, and their lines without comments, imports and empty
+lines, by crate. Where none is named it is `Headline` of pb_build with `ByFirst`, the schedule of `build`.
+`--but=NAME=NAME,..` counts, in place of what one definition stands on, the statements of the laws that say it in other
+words; a reader who believes the laws reads these. Names are CRATE.File.name, or a last part that is there once. What std,
+the toolchain's crates and the types of the code say is left out. `--laws` takes all laws of LAWS: of records and true
+records these say only what a build needs of them.
 """
 import glob, os, re, sys
 
@@ -131,7 +132,7 @@ for it in sys.argv[1:] + (LAWS if "--laws" in sys.argv else []):
     if it.startswith("--but="):
         old, _, new = it[6:].partition("=")
         instead[named(old)] = {named(part) for part in new.split(",") if part}
-starts = [named(it) for it in words] or [named("pb_build.Headline.Headline")]
+starts = [named(it) for it in words] or [named("pb_build.Headline.Headline"), named("pb_build.Headline.ByFirst")]
 laws = list(set().union(*instead.values())) if instead else []
 stops = {old: set() for old in instead}
 

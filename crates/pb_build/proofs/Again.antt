@@ -90,7 +90,7 @@ module _ {S : Type 0} (read : Reading) (reading : IsReading read) (child : Answe
         stays = units.prepares.stays refl;
         keeps = λ on. subst (λ (w : World). Keeps (basis OnRecords read child (setup_of options (environment_of options old.world.variables) is.toolchain) project (from_nothing (environment_of options old.world.variables).target old.world)) (untouched project) (nothing_said project) units.prepared.store.next w)
             (sym (units.prepares.stays refl))
-            (rests_first read child options old.world project is.toolchain is.project is.says units.prepared.store.next (is.ahead OnRecords read (from_nothing (environment_of options old.world.variables).target old.world) reading) OnRecords on);
+            (rests_first read child options old.world project is.toolchain is.project is.says units.prepared.store.next (is.next read reading) OnRecords on);
         ends = subst (λ (s : Setup). EndsWhole true child Turns s project units.prepared.store.next from last summary units.mid record new { heard = heard }) is.setup units.ends;
       }
 

@@ -9,7 +9,7 @@ use Rattle.pb_answer.specs.declared.fault.BuildFault.TheVariants.{Plan, Toolchai
 use Rattle.pb_answer.specs.declared.summary.Summary.{Summary}
 use Rattle.pb_command.specs.Judge.{judge}
 use Rattle.pb_directive.specs.declared.directive.Directive.{Directive}
-use Rattle.pb_flight.specs.Events.{Event}
+use Rattle.pb_flight.specs.Events.{Event, started_by}
 use Rattle.pb_flight.specs.Table.{due, due_first, count_due, is_good_at}
 use Rattle.pb_flight.specs.declared.flight.Answer.{Answer}
 use Rattle.pb_flight.specs.declared.flight.State.{State}
@@ -17,6 +17,7 @@ use Rattle.pb_flight.specs.declared.flight.State.TheVariants.{Untouched, Begun, 
 use Rattle.pb_flight.specs.declared.turn.Step.{Step}
 use Rattle.pb_message.specs.declared.message.Message.{Message}
 use Rattle.pb_package.specs.declared.options.Options.{Options}
+use Rattle.pb_place.specs.Counts.{Counts, Starts, up, up_starts}
 use Rattle.pb_place.specs.Folders.{files_in}
 use Rattle.pb_place.specs.Paths.{below}
 use Rattle.pb_place.specs.World.{World, Map, Answers, from_nothing}
@@ -28,19 +29,21 @@ use Rattle.pb_record.specs.Parts.{IsReading}
 use Rattle.pb_run.specs.Halves.{Footing, OnRecords, OnNothing, Basis, basis, outcomes_in, Keeps, HoldsBy}
 use Rattle.pb_run.specs.Outcome.{Outcome, Good}
 use Rattle.pb_run.specs.Standing.{records_folder}
-use Rattle.pb_soundness.specs.Numbers.{IsAhead}
 use Rattle.pb_soundness.specs.Records.{Reading, record_at}
 use Rattle.pb_soundness.specs.Sound.{Sound}
-use Rattle.pb_turns.specs.Crew.{needs_of}
-use Rattle.pb_turns.specs.Ends.{TurnsEnd, StandsWhole, StandsCut, Stands, nothing_said, rows_in}
+use Rattle.pb_store.specs.Opening.{next_in}
+use Rattle.pb_store.proofs.Ahead.{opened_ahead}
+use Rattle.pb_turns.specs.Crew.{needs_of, ticket_of_child}
+use Rattle.pb_turns.specs.Ends.{TurnsEnd, Drained, StandsWhole, StandsCut, Stands, nothing_said, rows_in}
 use Rattle.pb_turns.specs.Moments.{Heard, Moment}
 use Rattle.pb_turns.specs.Rows.{Row, to_first_bad, is_bad, fault_in, said_from}
-use Rattle.pb_turns.specs.Story.{states_in, untouched, Stops, StopsAt, AllBeganFor}
+use Rattle.pb_turns.specs.Story.{states_in, untouched, upped, Stops, StopsAt, AllBeganFor, Spends}
+use Rattle.pb_turns.proofs.Repeating.{dropped_count}
 use Rattle.pb_unit.specs.declared.plan.Planned.{Planned}
 use Rattle.pb_workspace.proofs.Accepted.{target_kept}
 use Rattle.pb_build.specs.Ending.{Works, Builds, NoneBegan}
 use Rattle.pb_build.specs.Environment.{environment_of}
-use Rattle.pb_build.specs.Headline.{records_of, RestsOn, UnitsOf, FailsAt, LinesBefore, GivesUnits, LeavesRecords, Gives, Headline}
+use Rattle.pb_build.specs.Headline.{records_of, RestsOn, ByTurns, UnitsOf, FailsAt, LinesBefore, GivesUnits, LeavesRecords, Gives, Headline}
 use Rattle.pb_build.specs.Planning.{IsProject}
 use Rattle.pb_build.specs.Result.{toolchain_of, setup_of}
 
@@ -109,7 +112,7 @@ same_folder options w project is = ap₂ (λ (t n : List ℕ). below t (folder_o
 -- what a build rests on is what the halves of units keep at first
 module _ (read : Reading) (child : Answers) (options : Options) (w : World) (project : Project) (toolchain : List ℕ) (is : IsProject options (environment_of options w.variables).target w project)
     (says : toolchain_of child (environment_of options w.variables) project (from_nothing (environment_of options w.variables).target w) ≡ Some toolchain) (next : Option ℕ)
-    (ahead : IsAhead (record_at read (records_folder project) w.files) next) where
+    (is_next : next ≡ next_in read (records_folder project) w) where
   abbrev its_basis : Footing → Basis
   its_basis f = basis f read child (setup_of options (environment_of options w.variables) toolchain) project (from_nothing (environment_of options w.variables).target w)
 
@@ -117,7 +120,7 @@ module _ (read : Reading) (child : Answers) (options : Options) (w : World) (pro
   holds OnRecords (sound, honest) = record {
     honest = honest read project toolchain is says;
     sound = subst (λ (f : List ℕ). Sound read judge child f w.files) (sym (same_folder options w project is)) sound;
-    ahead = ahead;
+    ahead = opened_ahead read (records_folder project) w next is_next;
     recorded = λ place good. absurd (none_good (needs_of project) place good);
   }
   holds OnNothing none = λ place u there state. subst (λ (f : List ℕ). record_at read f w.files u.key ≡ None) (sym (same_folder options w project is)) (none u.key)
@@ -133,13 +136,13 @@ module _ (footing : Footing) (read : Reading) (reading : IsReading read) (child 
   stay_true OnNothing old new none same = tt
 
   module _ {S : Type 0} (Turns : S → List ℕ → List ℕ → Step → S → Type 0) (from last : S) where
-    none_gives : (result : Result Summary BuildFault) (old new : Moment) → NoneBegan true child options result old new → GivesUnits footing read child options result old new
+    none_gives : (result : Result Summary BuildFault) (old new : Moment) → NoneBegan true child options result old new → GivesUnits footing read child (ByTurns Turns from) options result old new
     none_gives (Ok summary) old new none = absurd (no_fault none.answer)
     none_gives (Err fault) old new none = inl none
 
     module _ (project : Project) (toolchain : List ℕ) (old mid new : Moment) (is : IsProject options (environment_of options old.world.variables).target old.world project)
         (says : toolchain_of child (environment_of options old.world.variables) project (from_nothing (environment_of options old.world.variables).target old.world) ≡ Some toolchain) (next : Option ℕ)
-        (ahead : IsAhead (record_at read (records_folder project) old.world.files) next) (stays : mid.world ≡ old.world) (heard : mid.heard ≡ old.heard) (rests : RestsOn footing read child options old.world) where
+        (is_next : next ≡ next_in read (records_folder project) old.world) (stays : mid.world ≡ old.world) (queried : mid.counts.starts ≡ up_starts old.counts.starts) (heard : mid.heard ≡ old.heard) (rests : RestsOn footing read child options old.world) where
       abbrev setup : Setup
       setup = setup_of options (environment_of options old.world.variables) toolchain
 
@@ -150,10 +153,16 @@ module _ (footing : Footing) (read : Reading) (reading : IsReading read) (child 
       b = basis footing read child setup project sources
 
       kept_first : (f : Footing) → RestsOn f read child options old.world → Keeps (basis f read child setup project sources) (untouched project) (nothing_said project) next mid.world
-      kept_first f on = subst (λ (w : World). Keeps (basis f read child setup project sources) (untouched project) (nothing_said project) next w) (sym stays) (rests_first read child options old.world project toolchain is says next ahead f on)
+      kept_first f on = subst (λ (w : World). Keeps (basis f read child setup project sources) (untouched project) (nothing_said project) next w) (sym stays) (rests_first read child options old.world project toolchain is says next is_next f on)
 
       abbrev units_by : List (Event BadUnit) → UnitsOf child options old.world
       units_by es = record { project = project; toolchain = toolchain; is = is; says = says; es = es }
+
+      -- the children that were started since the start
+      counted : (es : List (Event BadUnit)) (stop : Counts) → stop.starts.count ≡ upped (length (started_by es)) mid.counts.starts.count → Drained stop new.counts
+          → new.counts.starts.count ≡ upped (length (started_by es)) (up old.counts.starts.count)
+      counted es stop starts drained =
+          dropped_count (map ticket_of_child stop.starts.flying) stop new.counts drained ∙ (starts ∙ ap (λ (s : Starts). upped (length (started_by es)) s.count) queried)
 
       leaves : (f : Footing) (es : List (Event BadUnit)) → Stands (basis f read child setup project sources) es new.world → LeavesRecords f read child options old.world new.world
       leaves OnRecords es stands = subst (λ (f : List ℕ). Sound read judge child f new.world.files) (same_folder options old.world project is) stands.keeps.records.sound
@@ -212,18 +221,20 @@ module _ (footing : Footing) (read : Reading) (reading : IsReading read) (child 
         lines_before OutOfMemory stops = let ((n, taken), faults) = stops.by in (n, first_lines (due_first n (states_in project es)) _ (stands.first_lines n) taken)
 
       turns_give : (result : Result Summary BuildFault) → TurnsEnd true child Turns setup project next from last result mid new
-          → GivesUnits footing read child options result old new × LeavesRecords footing read child options old.world new.world
+          → GivesUnits footing read child (ByTurns Turns from) options result old new × LeavesRecords footing read child options old.world new.world
       turns_give (Ok summary) ends =
           let whole : StandsWhole b ends.es ends.reasons summary mid.world new.world = ends.told refl footing read sources reading (kept_first footing rests) in (
             record {
               units = units_by ends.es;
+              flies = (last, ends.flies);
+              starts = counted ends.es ends.mid ends.starts ends.drained;
               finished = ends.finished;
               reasons = ends.reasons;
               unnoted = ends.unnoted;
               answer = whole.answer;
               lines = since ends.es (due (states_in project ends.es)) _ (all_lines ends.es whole.stands whole.all) ends.lines;
               files = file_holds ends.es whole.stands whole.all;
-              began = subst (λ (w : World). AllBeganFor b ends.es ends.reasons w) stays whole.began;
+              began = subst (λ (w : World). AllBeganFor b ends.es ends.reasons w new.world) stays whole.began;
             },
             leaves footing ends.es whole.stands,
           )
@@ -231,33 +242,36 @@ module _ (footing : Footing) (read : Reading) (reading : IsReading read) (child 
           let cut : StandsCut b ends.es mid.world new.world = ends.told refl footing read sources reading (kept_first footing rests) in (
             inr record {
               units = units_by ends.es;
+              flies = (ends.last, ends.flies);
+              starts = counted ends.es ends.mid.counts ends.stops.starts ends.drained;
+              spent = subst (λ (n : Option ℕ). Spends fault n ends.es) (is_next ∙ ap (λ (f : List ℕ). next_in read f old.world) (same_folder options old.world project is)) ends.spent;
               lines = lines_before ends.es cut.stands ends.mid ends.heard fault ends.stops;
               before = cut.before;
               begins = cut.begins;
               reasons = cut.reasons;
-              began = subst (λ (w : World). AllBeganFor b cut.before cut.reasons w) stays cut.began;
+              began = subst (λ (w : World). AllBeganFor b cut.before cut.reasons w new.world) stays cut.began;
             },
             leaves footing ends.es cut.stands,
           )
 
     works_give : (result : Result Summary BuildFault) (old new : Moment) → RestsOn footing read child options old.world → Works true child Turns options from last result old new
-        → GivesUnits footing read child options result old new × LeavesRecords footing read child options old.world new.world
+        → GivesUnits footing read child (ByTurns Turns from) options result old new × LeavesRecords footing read child options old.world new.world
     works_give result old new rests (inl none) = (none_gives result old new none, stay_true footing old.world new.world rests (none.stays refl))
     works_give result old new rests (inr units) =
         let project = units.prepared.project in
         let is = units.prepares.is refl in
         turns_give project is.toolchain old units.mid new is.project is.says units.prepared.store.next
-        (is.ahead footing read (from_nothing (environment_of options old.world.variables).target old.world) reading) (units.prepares.stays refl) units.heard rests result
+        (is.next read reading) (units.prepares.stays refl) units.prepares.starts units.heard rests result
         (subst (λ (s : Setup). TurnsEnd true child Turns s project units.prepared.store.next from last result units.mid new) is.setup units.ends)
 
-    builds_give : (result : Result Summary BuildFault) (old new : Moment) → RestsOn footing read child options old.world → Builds true child Turns options from last result old new → Gives footing read child options result old new
+    builds_give : (result : Result Summary BuildFault) (old new : Moment) → RestsOn footing read child options old.world → Builds true child Turns options from last result old new → Gives footing read child (ByTurns Turns from) options result old new
     builds_give result old new rests builds =
         let (units, records) = works_give builds.inner old record new { heard = builds.heard } rests builds.works in
         record { inner = builds.inner; heard = builds.heard; units = units; closes = builds.closes; records = records }
 
 -- the headline, of every build
 pub headline : {S : Type 0} (tells : Bool) (child : Answers) (Turns : S → List ℕ → List ℕ → Step → S → Type 0) (options : Options) (from last : S) (result : Result Summary BuildFault) (old new : Moment)
-    → Builds tells child Turns options from last result old new → Headline tells child options result old new
+    → Builds tells child Turns options from last result old new → Headline tells child (ByTurns Turns from) options result old new
 headline true child Turns options from last result old new builds told footing read reading rests = builds_give footing read reading child options Turns from last result old new rests builds
 headline false child Turns options from last result old new builds told footing read reading rests = absurd (told_false told)
   where

@@ -10,9 +10,8 @@ use Rattle.pb_package.specs.declared.options.Options.{Options}
 use Rattle.pb_project.specs.declared.project.Project.{Project}
 use Rattle.pb_run.specs.Causes.{HasCause}
 use Rattle.pb_run.specs.Standing.{records_folder}
-use Rattle.pb_soundness.specs.Numbers.{IsAhead}
-use Rattle.pb_soundness.specs.Records.{record_at}
 use Rattle.pb_store.specs.Causes.{FailsToOpen}
+use Rattle.pb_store.specs.Opening.{next_in}
 use Rattle.pb_store.specs.declared.fault.OpenFault.{OpenFault}
 use Rattle.pb_store.specs.declared.fault.OpenFault.TheVariants as open_fault
 use Rattle.pb_workspace.proofs.Accepted.{target_kept}
@@ -152,7 +151,7 @@ prepared_of child options environment project v w prepared same is of_world read
       says = subst (λ (env : Environment). toolchain_of child env prepared.project (from_nothing env.target w) ≡ Some ready.toolchain) is says;
       setup = ready.setup ∙ ap (λ env. setup_of options env ready.toolchain) is;
       project = subst (λ (env : Environment). IsProject options env.target w prepared.project) is at;
-      ahead = λ footing read sources reading.
-          subst (λ (x : World). IsAhead (record_at read (records_folder prepared.project) x.files) prepared.store.next) same
-          (subst (λ (p : Project). IsAhead (record_at read (records_folder p) v.files) prepared.store.next) (sym ready.project_is) (ready.ahead read reading));
+      next = λ read reading.
+          subst (λ (x : World). prepared.store.next ≡ next_in read (records_folder prepared.project) x) same
+          (subst (λ (p : Project). prepared.store.next ≡ next_in read (records_folder p) v) (sym ready.project_is) (ready.next read reading));
     }

@@ -1,5 +1,5 @@
 -- The records of a folder stay true over a session's steps.
-use Rattle.std.proofs.Common.{◌≡◌, ◌∙◌, ℕ, Bool, true, false, not, cond, List, [], ◌∷◌, Option, Some, None, Result, Ok, Err, inl, inr, refl, sym, ap, subst}
+use Rattle.std.proofs.Common.{◌≡◌, ◌∙◌, ℕ, Bool, true, false, not, cond, if◌then◌else◌, List, [], ◌∷◌, Option, Some, None, Result, Ok, Err, inl, inr, refl, sym, ap, subst}
 use Rattle.std.proofs.lemmas.Bool.{cases_Bool, false≢true}
 use Rattle.std.proofs.lemmas.Slice.Eq.{bytes_eq-Decides}
 use Rattle.std.specs.FinMap.{get, get-insert}
@@ -13,7 +13,7 @@ use Rattle.pb_package.specs.declared.options.Options.{Options}
 use Rattle.pb_place.specs.Paths.{is_at_or_below}
 use Rattle.pb_place.specs.World.{World, Answers, AgreeBut, written, removed, is_same_path}
 use Rattle.pb_place.proofs.MapLemmas.{get-kept, same_bytes}
-use Rattle.pb_place.proofs.Within.{at_itself}
+use Rattle.pb_place.proofs.Within.{at_below, at_itself, at_then_below}
 use Rattle.pb_answer.specs.declared.bad_unit.BadUnit.{BadUnit}
 use Rattle.pb_project.specs.declared.project.Project.{Project}
 use Rattle.pb_project.specs.declared.project.Setup.{Setup}
@@ -24,9 +24,10 @@ use Rattle.pb_session.specs.declared.pick.PickBy.{PickBy}
 use Rattle.pb_session.specs.declared.pick.PickBy.TheVariants.{First, Last}
 use Rattle.pb_session.specs.declared.step.SessionStep.{SessionStep}
 use Rattle.pb_session.specs.declared.step.SessionStep.TheVariants.{Write, Remove, Set, Unset, Build, Die, Fuse}
-use Rattle.pb_soundness.specs.Records.{Reading}
+use Rattle.pb_soundness.specs.Records.{Reading, if_of_key, is_key, place_of, read_text, record_at}
 use Rattle.pb_soundness.specs.Sound.{Sound}
 use Rattle.pb_soundness.proofs.Four.{outside}
+use Rattle.pb_soundness.proofs.Places.{place_in}
 use Rattle.pb_turns.specs.Ends.{TurnsEnd}
 use Rattle.pb_turns.specs.Moments.{Moment}
 use Rattle.pb_turns.specs.Story.{OnlyOf}
@@ -68,6 +69,12 @@ picked_within child options Last result old new (pick, (last, builds)) = builds_
 
 -- A step.
 
+pub nothing_is_sound : NothingIsSound
+nothing_is_sound read child folder files none = record { each = λ key r at. absurd (clash (sym (none key) ∙ at)) }
+  where
+    clash : {A : Type 0} {x : A} → None ≡ Some x → ⊥
+    clash e = cc
+
 module _ (read : Reading) (reading : IsReading read) (child : Answers) (folder : List ℕ) where
   abbrev IsSound : World → Type 0
   IsSound w = Sound read judge child folder w.files
@@ -86,9 +93,23 @@ module _ (read : Reading) (reading : IsReading read) (child : Answers) (folder :
   removed_sound path w apart = outside read judge child folder w.files (removed path w).files
       (λ q within. get-kept w.files (λ p. not (is_at_or_below path p)) q ∙ ap (λ (b : Bool). cond (not b) (get w.files q) None) (apart q within))
 
+  -- a folder that was removed whole has no record
+  none_left : (path : List ℕ) (w : World) → is_at_or_below path folder ≡ true → (key : List ℕ) → record_at read folder (removed path w).files key ≡ None
+  unfolding record_at
+  none_left path w above key = by (is_key key) refl
+    where
+      by : (b : Bool) → is_key key ≡ b → (if b then if_of_key key (read_text read (get (removed path w).files (place_of folder key))) else None) ≡ None
+      by true is =
+          ap (λ (o : Option (List ℕ)). if_of_key key (read_text read o))
+          (get-kept w.files (λ p. not (is_at_or_below path p)) (place_of folder key)
+          ∙ ap (λ (b : Bool). cond (not b) (get w.files (place_of folder key)) None) (at_below path (place_of folder key) (at_then_below path folder (place_of folder key) above (place_in folder key is))))
+      by false is = refl
+
   step_sound : (step : SessionStep) (before after : Point) → Spares child folder step before.moment.world → Carries child step before after → IsSound before.moment.world → IsSound after.moment.world
   step_sound (Write path text) before after out (e, same) sound = subst (λ (m : Moment). IsSound m.world) (sym e) (written_sound path text before.moment.world out sound)
-  step_sound (Remove path) before after apart (e, same) sound = subst (λ (m : Moment). IsSound m.world) (sym e) (removed_sound path before.moment.world apart sound)
+  step_sound (Remove path) before after (inl above) (e, same) sound =
+      subst (λ (m : Moment). IsSound m.world) (sym e) (nothing_is_sound read child folder (removed path before.moment.world).files (none_left path before.moment.world above))
+  step_sound (Remove path) before after (inr apart) (e, same) sound = subst (λ (m : Moment). IsSound m.world) (sym e) (removed_sound path before.moment.world apart sound)
   step_sound (Set name value) before after out (e, same) sound = subst (λ (m : Moment). IsSound m.world) (sym e) sound
   step_sound (Unset name) before after out (e, same) sound = subst (λ (m : Moment). IsSound m.world) (sym e) sound
   step_sound (Die key death) before after out same sound = subst (λ (p : Point). IsSound p.moment.world) (sym same) sound
@@ -105,12 +126,6 @@ module _ (read : Reading) (reading : IsReading read) (child : Answers) (folder :
   course_sound (step ∷ steps) before after (spares, (mid, taken, rest)) sound = course_sound steps mid after rest (step_sound step before mid spares taken sound)
 
 -- The laws.
-
-pub nothing_is_sound : NothingIsSound
-nothing_is_sound read child folder files none = record { each = λ key r at. absurd (clash (sym (none key) ∙ at)) }
-  where
-    clash : {A : Type 0} {x : A} → None ≡ Some x → ⊥
-    clash e = cc
 
 pub records_stay_true : RecordsStayTrue
 records_stay_true read child folder steps before after reading course sound = course_sound read reading child folder steps before after course sound

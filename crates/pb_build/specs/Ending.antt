@@ -18,10 +18,9 @@ use Rattle.pb_place.specs.declared.place.Failure.TheVariants.{Called, Started}
 use Rattle.pb_project.specs.declared.project.Project.{Project}
 use Rattle.pb_record.specs.Parts.{IsReading}
 use Rattle.pb_run.specs.Causes.{FailedLast, NoStart, Takes}
-use Rattle.pb_run.specs.Halves.{Footing, basis, records_in}
-use Rattle.pb_run.specs.Standing.{IsInOrder}
-use Rattle.pb_soundness.specs.Numbers.{IsAhead}
+use Rattle.pb_run.specs.Standing.{IsInOrder, records_folder}
 use Rattle.pb_soundness.specs.Records.{Reading}
+use Rattle.pb_store.specs.Opening.{next_in}
 use Rattle.pb_turns.specs.Ends.{TurnsEnd}
 use Rattle.pb_turns.specs.Moments.{Heard, Moment}
 use Rattle.pb_build.specs.Causes.{MayPlan, NamesCall}
@@ -66,13 +65,13 @@ FailsBefore tells child options (Device name device.NumbersSpent) w old new = �
 FailsBefore tells child options Sink w old new = ⊥
 FailsBefore tells child options OutOfMemory w old new = ((new.starts ≡ old.starts) ⊎ (new.starts ≡ up_starts old.starts)) × (new.failures ≡ old.failures)
 
--- what a build's units start from: the project of this world and how it is compiled; and a next run number above all that its records have or name
+-- what a build's units start from: the project of this world and how it is compiled; and as next run number the one above the greatest that its records have or name
 pub record IsPrepared (child : Answers) (options : Options) (w : World) (prepared : Prepared) : Type 0 where
   pub toolchain : List ℕ
   pub says : toolchain_of child (environment_of options w.variables) prepared.project (from_nothing (environment_of options w.variables).target w) ≡ Some toolchain
   pub setup : prepared.setup ≡ setup_of options (environment_of options w.variables) toolchain
   pub project : IsProject options (environment_of options w.variables).target w prepared.project
-  pub ahead : (footing : Footing) (read : Reading) (sources : World) → IsReading read → IsAhead (records_in (basis footing read child prepared.setup prepared.project sources) w) prepared.store.next
+  pub next : (read : Reading) → IsReading read → prepared.store.next ≡ next_in read (records_folder prepared.project) w
 
 -- they start after one query of the compiler, which answered; the project is in order, and nothing was changed
 pub record Prepares (tells : Bool) (child : Answers) (options : Options) (prepared : Prepared) (old new : World) (before now : Counts) (most : ℕ) (after : ℕ) : Type 0 where

@@ -1,16 +1,22 @@
 -- The headline: what a build gives that rests on true records and an honest child, or on no record.
-use Rattle.std.specs.Prelude.{◌≡◌, ◌⊎◌, ℕ, Bool, true, List, take, Option, Some, None, IsTrue, Result, Ok, Err, slice_get}
+use Rattle.std.specs.Prelude.{◌≡◌, ◌⊎◌, ℕ, Bool, true, List, length, take, Option, Some, None, IsTrue, Result, Ok, Err, slice_get}
 use Rattle.std.specs.Io.KnownBytes.{Appends}
 use Rattle.pb_answer.specs.declared.fault.BuildFault.{BuildFault}
 use Rattle.pb_answer.specs.declared.fault.BuildFault.TheVariants.{Plan, Toolchain, Child, Device, Sink, OutOfMemory}
 use Rattle.pb_answer.specs.declared.summary.Summary.{Summary}
 use Rattle.pb_command.specs.Judge.{judge}
 use Rattle.pb_directive.specs.declared.directive.Directive.{Directive}
-use Rattle.pb_flight.specs.Events.{Event}
+use Rattle.pb_flight.specs.Events.{Event, Anything, started_by}
+use Rattle.pb_flight.specs.Steps.{Flies, Anyhow, TurnsOfJobs}
 use Rattle.pb_flight.specs.Table.{count_due, is_finished}
 use Rattle.pb_flight.specs.declared.flight.State.TheVariants.{Untouched, Begun}
+use Rattle.pb_flight.specs.declared.turn.First.{First}
+use Rattle.pb_flight.specs.declared.turn.Jobs.{Jobs}
+use Rattle.pb_flight.specs.declared.turn.Last.{Last}
+use Rattle.pb_flight.specs.declared.turn.Step.{Step}
 use Rattle.pb_message.specs.declared.message.Message.{Message}
 use Rattle.pb_package.specs.declared.options.Options.{Options}
+use Rattle.pb_place.specs.Counts.{up}
 use Rattle.pb_place.specs.Folders.{files_in}
 use Rattle.pb_place.specs.Paths.{below}
 use Rattle.pb_place.specs.World.{World, Map, Answers, from_nothing}
@@ -23,11 +29,13 @@ use Rattle.pb_run.specs.Halves.{Footing, OnRecords, OnNothing, Basis, basis, IsH
 use Rattle.pb_run.specs.Outcome.{Good}
 use Rattle.pb_soundness.specs.Records.{Reading, record_at}
 use Rattle.pb_soundness.specs.Sound.{Sound}
+use Rattle.pb_store.specs.Opening.{next_in}
+use Rattle.pb_turns.specs.Crew.{needs_of}
 use Rattle.pb_turns.specs.Moments.{Heard, Moment}
 use Rattle.pb_turns.specs.Rows.{Row, Reasons, rows_of, said_from, summary_of}
-use Rattle.pb_turns.specs.Story.{states_in, AllBeganFor, IsBeginning}
+use Rattle.pb_turns.specs.Story.{states_in, upped, AllBeganFor, IsBeginning, Spends}
 use Rattle.pb_unit.specs.declared.plan.Planned.{Planned}
-use Rattle.pb_build.specs.Ending.{NoneBegan, Closes}
+use Rattle.pb_build.specs.Ending.{NoneBegan, PicksFirstOf, PicksLastOf, Closes}
 use Rattle.pb_build.specs.Environment.{environment_of}
 use Rattle.pb_build.specs.Planning.{IsProject}
 use Rattle.pb_build.specs.Result.{toolchain_of, setup_of}
@@ -49,6 +57,24 @@ abbrev pub RestsOn : Footing → Reading → Answers → Options → World → T
 RestsOn OnRecords read child options w = Sound read judge child (records_of options w.variables) w.files × IsHonestBuild child options w
 RestsOn OnNothing read child options w = (key : List ℕ) → record_at read (records_of options w.variables) w.files key ≡ None
 
+-- Its schedule: which events the units of a project may have.
+
+-- the steps are those that a turn says, along a chain of its states from this one
+abbrev pub ByTurns : {S : Type 0} → (S → List ℕ → List ℕ → Step → S → Type 0) → S → Project → List (Event BadUnit) → Type 0
+ByTurns {S} Turns from project es = (last : S) × Flies Turns (needs_of project) Anyhow Anything from es last
+
+-- with as many units in flight as the options say, of which those begin that are picked
+abbrev pub ByPick : {S : Type 0} → (S → List ℕ → ℕ → S → Type 0) → Options → S → Project → List (Event BadUnit) → Type 0
+ByPick {S} Picks options pick = let from : Jobs S = record { pick = pick; jobs = options.jobs } in ByTurns (TurnsOfJobs Picks) from
+
+-- of those that may begin the first in plan order does
+abbrev pub ByFirst : Options → Project → List (Event BadUnit) → Type 0
+ByFirst options = let pick : First = record {} in ByPick PicksFirstOf options pick
+
+-- the last does
+abbrev pub ByLast : Options → Project → List (Event BadUnit) → Type 0
+ByLast options = let pick : Last = record {} in ByPick PicksLastOf options pick
+
 -- What it gives.
 
 -- the units of a build: those of the project that it finds, with the version that the compiler says; and the events in which they began and answered
@@ -67,9 +93,11 @@ basis_of footing read child options w units =
 abbrev pub rows_for : (child : Answers) (options : Options) (w : World) → UnitsOf child options w → List Row
 rows_for child options w units = rows_of child (setup_of options (environment_of options w.variables) units.toolchain) units.project (from_nothing (environment_of options w.variables).target w)
 
--- all these have begun and answered: the summary and the lines are those of what they give from nothing, and say of each whether a child was started for it; the folder of each good one holds exactly its files; and for each unit that began a child was started exactly where something differed from its record, which the summary names, as it names no other unit
-pub record GivesAll (footing : Footing) (read : Reading) (child : Answers) (options : Options) (summary : Summary) (old new : Moment) : Type 0 where
+-- all these have begun and answered, by the schedule, and one child was started for the query and one for each unit that began with one: the summary and the lines are those of what they give from nothing, and say of each whether a child was started for it; the folder of each good one holds exactly its files; and for each unit that began a child was started exactly where something differed from its record, which the summary names, as it names no other unit
+pub record GivesAll (footing : Footing) (read : Reading) (child : Answers) (Schedule : Project → List (Event BadUnit) → Type 0) (options : Options) (summary : Summary) (old new : Moment) : Type 0 where
   pub units : UnitsOf child options old.world
+  pub flies : Schedule units.project units.es
+  pub starts : new.counts.starts.count ≡ upped (length (started_by units.es)) (up old.counts.starts.count)
   pub finished : is_finished (states_in units.project units.es) ≡ true
   pub reasons : Reasons
   pub unnoted : (place : ℕ) → slice_get (states_in units.project units.es) place ≡ Some Untouched → slice_get reasons place ≡ Some None
@@ -77,7 +105,7 @@ pub record GivesAll (footing : Footing) (read : Reading) (child : Answers) (opti
   pub lines : Appends old.heard.taken new.heard.taken (said_from units.project units.es 0 (rows_for child options old.world units))
   pub files : (place : ℕ) (u : Planned) (made : Map) (directives : Option (List Directive)) (messages : List Message)
       → slice_get (rows_for child options old.world units) place ≡ Some record { unit = u; outcome = Good made directives messages } → files_in u.out new.world.files ≡ made
-  pub began : AllBeganFor (basis_of footing read child options old.world units) units.es reasons old.world
+  pub began : AllBeganFor (basis_of footing read child options old.world units) units.es reasons old.world new.world
 
 -- a call for the unit of this key failed, which has begun and not answered: the lines are those of the longest row of units that have answered
 pub record FailsAt (project : Project) (es : List (Event BadUnit)) (rows : List Row) (key : List ℕ) (old new : Option (List ℕ)) : Type 0 where
@@ -97,19 +125,22 @@ LinesBefore (Device key fault) project es rows old new = FailsAt project es rows
 LinesBefore Sink project es rows old new = (n : ℕ) × Appends old new (take n (said_from project es 0 (take (count_due (states_in project es)) rows)))
 LinesBefore OutOfMemory project es rows old new = (n : ℕ) × Appends old new (said_from project es 0 (take n (take (count_due (states_in project es)) rows)))
 
--- a fault came at a unit, at the sink, or for want of memory; of a unit that failed to begin it is not said what differed
-pub record GivesFirst (footing : Footing) (read : Reading) (child : Answers) (options : Options) (fault : BuildFault) (old new : Moment) : Type 0 where
+-- a fault came at a unit, at the sink, or for want of memory, with such events and so many starts; for want of a run number, where from the next one of the records on all were given; of the unit that began last, where nothing came after its beginning, it may not be said what differed
+pub record GivesFirst (footing : Footing) (read : Reading) (child : Answers) (Schedule : Project → List (Event BadUnit) → Type 0) (options : Options) (fault : BuildFault) (old new : Moment) : Type 0 where
   pub units : UnitsOf child options old.world
+  pub flies : Schedule units.project units.es
+  pub starts : new.counts.starts.count ≡ upped (length (started_by units.es)) (up old.counts.starts.count)
+  pub spent : Spends fault (next_in read (records_of options old.world.variables) old.world) units.es
   pub lines : LinesBefore fault units.project units.es (rows_for child options old.world units) old.heard.taken new.heard.taken
   pub before : List (Event BadUnit)
   pub begins : IsBeginning before units.es
   pub reasons : Reasons
-  pub began : AllBeganFor (basis_of footing read child options old.world units) before reasons old.world
+  pub began : AllBeganFor (basis_of footing read child options old.world units) before reasons old.world new.world
 
 -- what was given when the finish line was due
-abbrev pub GivesUnits : Footing → Reading → Answers → Options → Result Summary BuildFault → Moment → Moment → Type 0
-GivesUnits footing read child options (Ok summary) old new = GivesAll footing read child options summary old new
-GivesUnits footing read child options (Err fault) old new = NoneBegan true child options (Err fault) old new ⊎ GivesFirst footing read child options fault old new
+abbrev pub GivesUnits : Footing → Reading → Answers → (Project → List (Event BadUnit) → Type 0) → Options → Result Summary BuildFault → Moment → Moment → Type 0
+GivesUnits footing read child Schedule options (Ok summary) old new = GivesAll footing read child Schedule options summary old new
+GivesUnits footing read child Schedule options (Err fault) old new = NoneBegan true child options (Err fault) old new ⊎ GivesFirst footing read child Schedule options fault old new
 
 -- the records are true again
 abbrev pub LeavesRecords : Footing → Reading → Answers → Options → World → World → Type 0
@@ -117,13 +148,13 @@ LeavesRecords OnRecords read child options old new = Sound read judge child (rec
 LeavesRecords OnNothing read child options old new = Unit {0}
 
 -- what a build gives, however it ends: its units, the finish line, and true records
-pub record Gives (footing : Footing) (read : Reading) (child : Answers) (options : Options) (result : Result Summary BuildFault) (old new : Moment) : Type 0 where
+pub record Gives (footing : Footing) (read : Reading) (child : Answers) (Schedule : Project → List (Event BadUnit) → Type 0) (options : Options) (result : Result Summary BuildFault) (old new : Moment) : Type 0 where
   pub inner : Result Summary BuildFault
   pub heard : Heard
-  pub units : GivesUnits footing read child options inner old record new { heard = heard }
+  pub units : GivesUnits footing read child Schedule options inner old record new { heard = heard }
   pub closes : Closes inner result heard new.heard
   pub records : LeavesRecords footing read child options old.world new.world
 
 -- The headline: whatever a build rests on, over a place that tells its maps, it gives what the present workspace gives from nothing.
-abbrev pub Headline : Bool → Answers → Options → Result Summary BuildFault → Moment → Moment → Type 0
-Headline tells child options result old new = IsTrue tells → (footing : Footing) (read : Reading) → IsReading read → RestsOn footing read child options old.world → Gives footing read child options result old new
+abbrev pub Headline : Bool → Answers → (Project → List (Event BadUnit) → Type 0) → Options → Result Summary BuildFault → Moment → Moment → Type 0
+Headline tells child Schedule options result old new = IsTrue tells → (footing : Footing) (read : Reading) → IsReading read → RestsOn footing read child options old.world → Gives footing read child Schedule options result old new

@@ -13,16 +13,16 @@ use Rattle.pb_soundness.specs.Records.{Reading, record_at}
 use Rattle.pb_soundness.specs.Sound.{Sound}
 use Rattle.pb_build.specs.declared.sessions.Answer.{Answer}
 use Rattle.pb_build.specs.Headline.{records_of, IsHonestBuild, Gives}
-use Rattle.pb_build.specs.Session.{Point, Carries}
+use Rattle.pb_build.specs.Session.{Point, Carries, ByPicked}
 
 -- no path is at or below both
 abbrev pub ShareNoPath : List ℕ → List ℕ → Type 0
 ShareNoPath folder other = (q : List ℕ) → is_at_or_below folder q ≡ true → is_at_or_below other q ≡ false
 
--- a step spares the records of a folder: an edit outside of it; a build that keeps its records there, whose child is honest; or one that keeps them apart from it
+-- a step spares the records of a folder: an edit outside of it, or one that removes it whole; a build that keeps its records there, whose child is honest; or one that keeps them apart from it
 abbrev pub Spares : Answers → List ℕ → SessionStep → World → Type 0
 Spares child folder (Write path text) w = is_at_or_below folder path ≡ false
-Spares child folder (Remove path) w = ShareNoPath folder path
+Spares child folder (Remove path) w = (is_at_or_below path folder ≡ true) ⊎ ShareNoPath folder path
 Spares child folder (Set name value) w = ⊤
 Spares child folder (Unset name) w = ⊤
 Spares child folder (Die key death) w = ⊤
@@ -48,4 +48,4 @@ abbrev pub AnyBuildGives : Type 0
 AnyBuildGives = (read : Reading) (child : Answers) (options : Options) (pick : PickBy) (steps : List SessionStep) (before mid after : Point) → IsReading read
     → SparingCourse child (records_of options mid.moment.world.variables) steps before mid → Sound read judge child (records_of options mid.moment.world.variables) before.moment.world.files
     → IsHonestBuild child options mid.moment.world → Carries child (Build options pick) mid after
-    → (answer : Answer) × (after.answers ≡ mid.answers ++ answer ∷ []) × Gives OnRecords read child options answer.result mid.moment after.moment
+    → (answer : Answer) × (after.answers ≡ mid.answers ++ answer ∷ []) × Gives OnRecords read child (ByPicked pick options) options answer.result mid.moment after.moment

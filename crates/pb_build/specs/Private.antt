@@ -18,8 +18,8 @@ use Rattle.pb_project.specs.declared.project.Project.{Project}
 use Rattle.pb_record.specs.Parts.{IsReading}
 use Rattle.pb_run.specs.Causes.{device_fault}
 use Rattle.pb_run.specs.Standing.{records_folder}
-use Rattle.pb_soundness.specs.Numbers.{IsAhead}
-use Rattle.pb_soundness.specs.Records.{Reading, record_at}
+use Rattle.pb_soundness.specs.Records.{Reading}
+use Rattle.pb_store.specs.Opening.{next_in}
 use Rattle.pb_store.specs.declared.fault.OpenFault.{OpenFault}
 use Rattle.pb_store.specs.declared.fault.OpenFault.TheVariants as open_fault
 use Rattle.pb_unit.specs.Plan as plan
@@ -75,13 +75,13 @@ abbrev pub unopened : OpenFault → BuildFault
 unopened (open_fault.Place path fault) = device_fault path fault
 unopened open_fault.OutOfMemory = OutOfMemory
 
--- the compiler said its version, and the records' next number is above all that they have or name
+-- the compiler said its version, and the next run number is that of the records
 pub record IsReadyFor (child : Answers) (options : Options) (environment : Environment) (project : Project) (w : World) (prepared : Prepared) : Type 0 where
   pub toolchain : List ℕ
   pub says : toolchain_of child environment project (from_nothing project.workspace.target w) ≡ Some toolchain
   pub setup : prepared.setup ≡ setup_of options environment toolchain
   pub project_is : prepared.project ≡ project
-  pub ahead : (read : Reading) → IsReading read → IsAhead (record_at read (records_folder project) w.files) prepared.store.next
+  pub next : (read : Reading) → IsReading read → prepared.store.next ≡ next_in read (records_folder project) w
 
 -- where the compiler does not say it
 abbrev pub IsSilentFault : Answers → Environment → Project → World → BuildFault → Type 0

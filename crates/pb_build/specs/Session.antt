@@ -2,8 +2,11 @@
 use Rattle.std.specs.Prelude.{◌≡◌, ◌↔◌, ⊤, ℕ, true, List, [], ◌∷◌, ◌++◌, Option, Result}
 use Rattle.pb_place.specs.World.{World, Answers, written, removed}
 use Rattle.pb_place.specs.Memory.{Held, counts_in, set, unset}
+use Rattle.pb_answer.specs.declared.bad_unit.BadUnit.{BadUnit}
 use Rattle.pb_answer.specs.declared.fault.BuildFault.{BuildFault}
 use Rattle.pb_answer.specs.declared.summary.Summary.{Summary}
+use Rattle.pb_flight.specs.Events.{Event}
+use Rattle.pb_project.specs.declared.project.Project.{Project}
 use Rattle.pb_session.specs.declared.pick.PickBy.{PickBy}
 use Rattle.pb_session.specs.declared.pick.PickBy.TheVariants.{First, Last}
 use Rattle.pb_session.specs.declared.step.SessionStep.{SessionStep}
@@ -12,7 +15,7 @@ use Rattle.pb_build.specs.declared.sessions.Answer.{Answer}
 use Rattle.pb_build.specs.Ending.{BuildsFirst, BuildsLast}
 use Rattle.pb_turns.specs.Moments.{Moment, moment}
 use Rattle.pb_build.specs.Environment.{environment_of}
-use Rattle.pb_build.specs.Headline.{Headline}
+use Rattle.pb_build.specs.Headline.{ByFirst, ByLast, Headline}
 use Rattle.pb_build.specs.Kept.{SourcesStay}
 use Rattle.pb_build.specs.Result.{BuildResult, IsResult}
 use Rattle.pb_package.specs.declared.options.Options.{Options}
@@ -35,6 +38,11 @@ abbrev pub Picked : Answers → Options → PickBy → Result Summary BuildFault
 Picked child options First result old new = BuildsFirst true child options result old new
 Picked child options Last result old new = BuildsLast true child options result old new
 
+-- its schedule
+abbrev pub ByPicked : PickBy → Options → Project → List (Event BadUnit) → Type 0
+ByPicked First options = ByFirst options
+ByPicked Last options = ByLast options
+
 -- a step: an edit; a failure that is prepared, of which nothing is seen yet; or a build, which keeps the headline and adds its answer
 abbrev pub Carries : Answers → SessionStep → Point → Point → Type 0
 Carries child (Write path text) before after = Edits (written path text before.moment.world) before after
@@ -46,7 +54,7 @@ Carries child (Fuse number) before after = after ≡ before
 Carries child (Build options pick) before after =
     (answer : Answer) × Picked child options pick answer.result before.moment after.moment
     × SourcesStay (environment_of options before.moment.world.variables).target before.moment.world after.moment.world
-    × Headline true child options answer.result before.moment after.moment × (after.answers ≡ before.answers ++ answer ∷ [])
+    × Headline true child (ByPicked pick options) options answer.result before.moment after.moment × (after.answers ≡ before.answers ++ answer ∷ [])
 
 -- the steps were taken in turn
 abbrev pub Course : Answers → List SessionStep → Point → Point → Type 0

@@ -5,7 +5,7 @@ ghost use Rattle.pb_record.specs.Parts.{IsReading};
 ghost use Rattle.pb_build.specs.Causes.{MayPlan, MayReady, NamesCall};
 ghost use Rattle.pb_build.specs.Ending.{FailsBefore, IsPlanOf, PlansFrom, Prepares, Works, Closes, Builds, BuildsBy, BuildsFirst};
 ghost use Rattle.pb_build.specs.Environment.{environment_of};
-ghost use Rattle.pb_build.specs.Headline.{Headline};
+ghost use Rattle.pb_build.specs.Headline.{ByTurns, ByPick, ByFirst, Headline};
 ghost use Rattle.pb_build.specs.Kept.{SourcesStay};
 ghost use Rattle.pb_build.specs.Planning.{IsProject, IsToldRefusal};
 ghost use Rattle.pb_build.specs.Private.{IsReadyFor, IsSilentFault, IsUnrefused, unopened};
@@ -13,8 +13,8 @@ ghost use Rattle.pb_build.specs.Result.{setup_of};
 ghost use Rattle.pb_run.specs.Causes.{Takes, NoStart, OneStart};
 ghost use Rattle.pb_run.specs.Standing.{IsInOrder, records_folder};
 ghost use Rattle.pb_project.specs.declared.project.Project.{Project};
-ghost use Rattle.pb_soundness.specs.Numbers.{IsAhead};
-ghost use Rattle.pb_soundness.specs.Records.{Reading, record_at};
+ghost use Rattle.pb_soundness.specs.Records.{Reading};
+ghost use Rattle.pb_store.specs.Opening.{next_in};
 ghost use Rattle.pb_turns.specs.Moments.{Moment, moment};
 
 use crate::environment::{Environment, environment_of};
@@ -93,7 +93,7 @@ fn unopened(fault: OpenFault) -> BuildFault
 fn opened<P: Place>(alloc: Global, place: &mut P, project: &Project) -> Result<Store, BuildFault>
     requires order { IsInOrder project.now }
     ensures folder { IfOk result (λ store. store.folder ≡ records_folder project.now) }
-    ensures ahead { (read : Reading) → IsReading read → IsTrue P.tells → IfOk result (λ store. IsAhead (record_at read (records_folder project.now) (P.world place.old).files) store.next) }
+    ensures next { (read : Reading) → IsReading read → IsTrue P.tells → IfOk result (λ store. store.next ≡ next_in read (records_folder project.now) (P.world place.old)) }
     ensures same { IsTrue P.tells → P.world place.new ≡ P.world place.old }
     ensures most { P.most place.new ≡ P.most place.old }
     ensures takes { Takes NoStart MayPlan result (P.counts place.old) (P.counts place.new) }
@@ -330,7 +330,7 @@ pub fn build_turns<P: Place, O: Out, T: Turn>(
     requires none { (P.counts place.old).starts.flying ≡ [] }
     ensures builds { Builds P.tells P.child T.turns options.now turn.old turn.new result
         (moment (P.world place.old) (P.counts place.old) (P.most place.old) (O.taken out.old) (O.faults out.old)) (moment (P.world place.new) (P.counts place.new) (P.most place.new) (O.taken out.new) (O.faults out.new)) }
-    ensures headline { Headline P.tells P.child options.now result
+    ensures headline { Headline P.tells P.child (ByTurns T.turns turn.old) options.now result
         (moment (P.world place.old) (P.counts place.old) (P.most place.old) (O.taken out.old) (O.faults out.old)) (moment (P.world place.new) (P.counts place.new) (P.most place.new) (O.taken out.new) (O.faults out.new)) }
     ensures kept { IsTrue P.tells → SourcesStay (environment_of options.now (P.world place.old).variables).target (P.world place.old) (P.world place.new) }
     ensures landed { (P.counts place.new).starts.flying ≡ [] }
@@ -351,7 +351,7 @@ pub fn build_with<P: Place, O: Out, K: Pick + Drop>(
     requires none { (P.counts place.old).starts.flying ≡ [] }
     ensures builds { BuildsBy P.tells P.child K.picks options.now pick result
         (moment (P.world place.old) (P.counts place.old) (P.most place.old) (O.taken out.old) (O.faults out.old)) (moment (P.world place.new) (P.counts place.new) (P.most place.new) (O.taken out.new) (O.faults out.new)) }
-    ensures headline { Headline P.tells P.child options.now result
+    ensures headline { Headline P.tells P.child (ByPick K.picks options.now pick) options.now result
         (moment (P.world place.old) (P.counts place.old) (P.most place.old) (O.taken out.old) (O.faults out.old)) (moment (P.world place.new) (P.counts place.new) (P.most place.new) (O.taken out.new) (O.faults out.new)) }
     ensures kept { IsTrue P.tells → SourcesStay (environment_of options.now (P.world place.old).variables).target (P.world place.old) (P.world place.new) }
     ensures landed { (P.counts place.new).starts.flying ≡ [] }
@@ -373,7 +373,7 @@ pub fn build<P: Place, O: Out>(
     requires none { (P.counts place.old).starts.flying ≡ [] }
     ensures builds { BuildsFirst P.tells P.child options.now result
         (moment (P.world place.old) (P.counts place.old) (P.most place.old) (O.taken out.old) (O.faults out.old)) (moment (P.world place.new) (P.counts place.new) (P.most place.new) (O.taken out.new) (O.faults out.new)) }
-    ensures headline { Headline P.tells P.child options.now result
+    ensures headline { Headline P.tells P.child (ByFirst options.now) options.now result
         (moment (P.world place.old) (P.counts place.old) (P.most place.old) (O.taken out.old) (O.faults out.old)) (moment (P.world place.new) (P.counts place.new) (P.most place.new) (O.taken out.new) (O.faults out.new)) }
     ensures kept { IsTrue P.tells → SourcesStay (environment_of options.now (P.world place.old).variables).target (P.world place.old) (P.world place.new) }
     ensures landed { (P.counts place.new).starts.flying ≡ [] }

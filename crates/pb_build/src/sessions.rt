@@ -5,7 +5,7 @@ ghost use Rattle.pb_session.specs.declared.step.SessionStep.TheVariants.{Build};
 ghost use Rattle.pb_build.specs.Environment.{environment_of};
 ghost use Rattle.pb_build.specs.Headline.{Headline};
 ghost use Rattle.pb_build.specs.Kept.{SourcesStay};
-ghost use Rattle.pb_build.specs.Session.{Picked, Carries, Course, point};
+ghost use Rattle.pb_build.specs.Session.{Picked, ByPicked, Carries, Course, point};
 ghost use Rattle.pb_place.specs.Memory.{counts_in};
 ghost use Rattle.pb_turns.specs.Moments.{moment};
 
@@ -36,7 +36,7 @@ fn built<C: Child, O: Out>(
     requires none { (counts_in memory.old).starts.flying ≡ [] }
     ensures picked { Picked C.answers options.now pick result
         (moment memory.old.world (counts_in memory.old) memory.old.most (O.taken out.old) (O.faults out.old)) (moment memory.new.world (counts_in memory.new) memory.new.most (O.taken out.new) (O.faults out.new)) }
-    ensures headline { Headline true C.answers options.now result
+    ensures headline { Headline true C.answers (ByPicked pick options.now) options.now result
         (moment memory.old.world (counts_in memory.old) memory.old.most (O.taken out.old) (O.faults out.old)) (moment memory.new.world (counts_in memory.new) memory.new.most (O.taken out.new) (O.faults out.new)) }
     ensures kept { SourcesStay (environment_of options.now memory.old.world.variables).target memory.old.world memory.new.world }
     ensures landed { (counts_in memory.new).starts.flying ≡ [] }

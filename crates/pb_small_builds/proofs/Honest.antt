@@ -1,5 +1,11 @@
 -- The small compiler is an honest child of a build with these words; so the headline has no premise on the child.
-use Rattle.std.proofs.Common.{◌≡◌, inl, inr, ℕ, List, [], ◌∷◌, Some, take, refl, sym, subst}
+use Rattle.std.proofs.Common.{◌≡◌, inl, inr, ℕ, true, List, [], ◌∷◌, Some, take, Result, refl, sym, subst}
+use Rattle.pb_answer.specs.declared.bad_unit.BadUnit.{BadUnit}
+use Rattle.pb_answer.specs.declared.fault.BuildFault.{BuildFault}
+use Rattle.pb_answer.specs.declared.summary.Summary.{Summary}
+use Rattle.pb_command.specs.Judge.{judge}
+use Rattle.pb_flight.specs.Events.{Event}
+use Rattle.pb_flight.specs.declared.turn.Step.{Step}
 use Rattle.pb_honesty.specs.Honest.{CanTell, IsOfProject, small_compiler}
 use Rattle.pb_honesty.proofs.Viewing.{small_compiler_is_honest}
 use Rattle.pb_package.specs.declared.options.Options.{Options}
@@ -10,11 +16,15 @@ use Rattle.pb_run.specs.Halves.{OnRecords, command_in, basis}
 use Rattle.pb_run.specs.Outcome.{directives_of, outcomes}
 use Rattle.pb_session.specs.declared.step.SessionStep.{SessionStep}
 use Rattle.pb_session.specs.declared.step.SessionStep.TheVariants.{Write, Remove, Set, Unset, Build, Die, Fuse}
+use Rattle.pb_record.specs.Parts.{IsReading}
+use Rattle.pb_soundness.specs.Records.{Reading}
+use Rattle.pb_soundness.specs.Sound.{Sound}
+use Rattle.pb_turns.specs.Moments.{Moment}
 use Rattle.pb_unit.specs.Plan.{IsPlan}
 use Rattle.pb_unit.specs.declared.plan.Planned.{Planned}
 use Rattle.pb_workspace.proofs.Accepted.{target_kept}
 use Rattle.pb_build.specs.Environment.{environment_of}
-use Rattle.pb_build.specs.Headline.{records_of}
+use Rattle.pb_build.specs.Headline.{records_of, ByTurns, Gives, Headline}
 use Rattle.pb_build.specs.Lasting.{AnyBuildGives, SparingCourse, Spares}
 use Rattle.pb_build.specs.Planning.{IsProject}
 use Rattle.pb_build.specs.Result.{setup_of}
@@ -56,8 +66,13 @@ small_builds_are_honest options w small read project toolchain is says place u v
     (subst (CanTell (command_in (basis OnRecords read small_compiler (setup_of options (environment_of options w.variables) toolchain) project (from_nothing (environment_of options w.variables).target w)) place u)) (sym seen)
     (small.tells project toolchain is says place u at))
 
-pub small_builds_give : SmallBuildsGive
-small_builds_give read options result old new reading headline small sound = headline refl OnRecords read reading (sound, small_builds_are_honest options old.world small)
+-- whatever the schedule
+pub small_gives : (Schedule : Project → List (Event BadUnit) → Type 0) (read : Reading) (options : Options) (result : Result Summary BuildFault) (old new : Moment) → IsReading read → Headline true small_compiler Schedule options result old new
+    → IsSmallBuild options old.world → Sound read judge small_compiler (records_of options old.world.variables) old.world.files → Gives OnRecords read small_compiler Schedule options result old new
+small_gives Schedule read options result old new reading headline small sound = headline refl OnRecords read reading (sound, small_builds_are_honest options old.world small)
+
+pub small_builds_give : {S : Type 0} (Turns : S → List ℕ → List ℕ → Step → S → Type 0) → SmallBuildsGive Turns
+small_builds_give Turns read from options result old new = small_gives (ByTurns Turns from) read options result old new
 
 -- sessions
 spares : (folder : List ℕ) (step : SessionStep) (w : World) → SparesBySmall folder step w → Spares small_compiler folder step w

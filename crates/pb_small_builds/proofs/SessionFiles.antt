@@ -36,11 +36,11 @@ use Rattle.pb_turns.specs.Moments.{Moment}
 use Rattle.pb_workspace.proofs.FoldersPut.{opened}
 use Rattle.pb_build.specs.Headline.{IsHonestBuild, records_of}
 use Rattle.pb_build.specs.Lasting.{NothingIsSound, RecordsStayTrue, ShareNoPath, Spares}
-use Rattle.pb_build.specs.Session.{Course, Point, Carries}
+use Rattle.pb_build.specs.Session.{Course, Point, Carries, ByPicked}
 use Rattle.pb_small_builds.specs.Laws.{SessionFilesGive}
 use Rattle.pb_small_builds.specs.Small.{AllGive, AllTold, FilesHavePaths, IsSmallBuild, IsToldBuild, IsToldStep, StepGives}
 use Rattle.pb_small_builds.proofs.Folders.{Named, lie_apart, lies_within, profile_named}
-use Rattle.pb_small_builds.proofs.Honest.{small_builds_are_honest, small_builds_give}
+use Rattle.pb_small_builds.proofs.Honest.{small_builds_are_honest, small_gives}
 use Rattle.pb_small_builds.proofs.Placing.{target_at}
 use Rattle.pb_small_builds.proofs.SourcesFound.{At}
 
@@ -212,7 +212,8 @@ module _ (target : List ℕ) where
 
     spares_so : (name : List ℕ) (step : SessionStep) (w : World) → Named name → HasWords step → SourcesAt w → IsToldStep target step w → Spares small_compiler (below target name) step w
     spares_so name (Write path text) w named words files told = outside_within target (below target name) path (lies_within target name named) told
-    spares_so name (Remove path) w named words files told = λ q inside. told q (at_or_below_on target (below target name) q (lies_within target name named) inside)
+    spares_so name (Remove path) w named words files (inl above) = inl (at_or_below_on path target (below target name) above (lies_within target name named))
+    spares_so name (Remove path) w named words files (inr apart) = inr (λ q inside. apart q (at_or_below_on target (below target name) q (lies_within target name named) inside))
     spares_so name (Set n value) w named words files told = tt
     spares_so name (Unset n) w named words files told = tt
     spares_so name (Die key death) w named words files told = tt
@@ -239,7 +240,7 @@ module _ (target : List ℕ) where
     step_gives (Build options pick) before after words files told (answer, picked, stays, headline, answers) sound = (
       answer,
       answers,
-      small_builds_give read options answer.result before.moment after.moment reading headline (small_of options before.moment.world words.0 words.1 files told)
+      small_gives (ByPicked pick options) read options answer.result before.moment after.moment reading headline (small_of options before.moment.world words.0 words.1 files told)
           (subst (λ folder. Sound read judge small_compiler folder before.moment.world.files) (sym (folder_is options before.moment.world told)) (sound (folder_of options.profile) (profile_named options.profile told.profile))),
     )
 

@@ -4,6 +4,7 @@ use Rattle.std.specs.FinMap as finite
 use Rattle.pb_answer.specs.declared.fault.BuildFault.{BuildFault}
 use Rattle.pb_answer.specs.declared.summary.Summary.{Summary}
 use Rattle.pb_command.specs.Judge.{judge}
+use Rattle.pb_flight.specs.declared.turn.Step.{Step}
 use Rattle.pb_honesty.specs.Honest.{small_compiler}
 use Rattle.pb_package.specs.declared.options.Options.{Options}
 use Rattle.pb_place.specs.World.{World}
@@ -16,8 +17,8 @@ use Rattle.pb_session.specs.declared.step.SessionStep.TheVariants.{Build}
 use Rattle.pb_soundness.specs.Records.{Reading}
 use Rattle.pb_soundness.specs.Sound.{Sound}
 use Rattle.pb_turns.specs.Moments.{Moment}
-use Rattle.pb_build.specs.Headline.{records_of, IsHonestBuild, Gives, Headline}
-use Rattle.pb_build.specs.Session.{Point, Carries, Course}
+use Rattle.pb_build.specs.Headline.{records_of, IsHonestBuild, ByTurns, Gives, Headline}
+use Rattle.pb_build.specs.Session.{Point, Carries, Course, ByPicked}
 use Rattle.pb_build.specs.declared.sessions.Answer.{Answer}
 use Rattle.pb_small_builds.specs.Small.{AllGive, AllTold, IsSmallBuild, SmallCourse}
 
@@ -26,16 +27,16 @@ abbrev pub SmallBuildsAreHonest : Type 0
 SmallBuildsAreHonest = (options : Options) (w : World) → IsSmallBuild options w → IsHonestBuild small_compiler options w
 
 -- Over a place that tells its maps and whose child is the small compiler, a build with these words that rests on true records gives what the present workspace gives from nothing, however it ends.
-abbrev pub SmallBuildsGive : Type 0
-SmallBuildsGive = (read : Reading) (options : Options) (result : Result Summary BuildFault) (old new : Moment) → IsReading read → Headline true small_compiler options result old new
-    → IsSmallBuild options old.world → Sound read judge small_compiler (records_of options old.world.variables) old.world.files → Gives OnRecords read small_compiler options result old new
+abbrev pub SmallBuildsGive : {S : Type 0} → (S → List ℕ → List ℕ → Step → S → Type 0) → Type 0
+SmallBuildsGive {S} Turns = (read : Reading) (from : S) (options : Options) (result : Result Summary BuildFault) (old new : Moment) → IsReading read → Headline true small_compiler (ByTurns Turns from) options result old new
+    → IsSmallBuild options old.world → Sound read judge small_compiler (records_of options old.world.variables) old.world.files → Gives OnRecords read small_compiler (ByTurns Turns from) options result old new
 
 -- Any edits outside of the folder of its records, any such builds between: a build of a session with the small compiler gives it too, where the records of that folder were true before the steps.
 abbrev pub SmallSessionsGive : Type 0
 SmallSessionsGive = (read : Reading) (options : Options) (pick : PickBy) (steps : List SessionStep) (before mid after : Point) → IsReading read
     → Sound read judge small_compiler (records_of options mid.moment.world.variables) before.moment.world.files → SmallCourse (records_of options mid.moment.world.variables) steps before mid
     → IsSmallBuild options mid.moment.world → Carries small_compiler (Build options pick) mid after
-    → (answer : Answer) × (after.answers ≡ mid.answers ++ answer ∷ []) × Gives OnRecords read small_compiler options answer.result mid.moment after.moment
+    → (answer : Answer) × (after.answers ≡ mid.answers ++ answer ∷ []) × Gives OnRecords read small_compiler (ByPicked pick options) options answer.result mid.moment after.moment
 
 -- So does each build of a session file that begins without files, of which no more is asked than the file leaves open.
 abbrev pub SessionFilesGive : Type 0

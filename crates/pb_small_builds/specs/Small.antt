@@ -21,7 +21,7 @@ use Rattle.pb_build.specs.Headline.{records_of, Gives}
 use Rattle.pb_build.specs.Lasting.{ShareNoPath, Spares}
 use Rattle.pb_build.specs.Planning.{IsProject}
 use Rattle.pb_build.specs.Result.{toolchain_of, setup_of}
-use Rattle.pb_build.specs.Session.{Point, Carries, Course}
+use Rattle.pb_build.specs.Session.{Point, Carries, Course, ByPicked}
 use Rattle.pb_build.specs.declared.sessions.Answer.{Answer}
 
 -- One build.
@@ -50,7 +50,7 @@ pub record IsSmallBuild (options : Options) (w : World) : Type 0 where
 
 -- Sessions.
 
--- a step spares the records of a folder: an edit outside of it; or a build with these words, that keeps its records there or apart from it
+-- a step spares the records of a folder: an edit that does; or a build with these words, that keeps its records there or apart from it
 abbrev pub SparesBySmall : List ℕ → SessionStep → World → Type 0
 SparesBySmall folder (Build options pick) w = IsSmallBuild options w × ((records_of options w.variables ≡ folder) ⊎ ShareNoPath folder (records_of options w.variables))
 SparesBySmall folder step w = Spares small_compiler folder step w
@@ -69,10 +69,10 @@ pub record IsToldBuild (target : List ℕ) (options : Options) (w : World) : Typ
   pub flags : is_mentioned (environment_of options w.variables).flags (codes "--extern") ≡ false
   pub tells : CanTellBuild options w
 
--- of a step: an edit is one outside of the target folder
+-- of a step: an edit is one outside of the target folder, or removes that folder whole
 abbrev pub IsToldStep : List ℕ → SessionStep → World → Type 0
 IsToldStep target (Write path text) w = is_at_or_below target path ≡ false
-IsToldStep target (Remove path) w = ShareNoPath target path
+IsToldStep target (Remove path) w = (is_at_or_below path target ≡ true) ⊎ ShareNoPath target path
 IsToldStep target (Build options pick) w = IsToldBuild target options w
 IsToldStep target step w = ⊤
 
@@ -83,7 +83,7 @@ AllTold target (step ∷ steps) before after course = IsToldStep target step bef
 
 -- a build among the steps gives what the workspace of that time gives from nothing, or a fault with the first of its lines
 abbrev pub StepGives : Reading → SessionStep → Point → Point → Type 0
-StepGives read (Build options pick) before after = (answer : Answer) × (after.answers ≡ before.answers ++ answer ∷ []) × Gives OnRecords read small_compiler options answer.result before.moment after.moment
+StepGives read (Build options pick) before after = (answer : Answer) × (after.answers ≡ before.answers ++ answer ∷ []) × Gives OnRecords read small_compiler (ByPicked pick options) options answer.result before.moment after.moment
 StepGives read step before after = ⊤
 
 -- and so does each

@@ -3,6 +3,8 @@
 
 ghost use Rattle.pb_small_builds.specs.Laws.{SmallBuildsAreHonest, SmallBuildsGive, SmallSessionsGive, SessionFilesGive};
 
+use pb_flight::Turn;
+
 /// A law: the small compiler is an honest child of each build whose words are as follows. The manifest and the files of
 /// the sources have normalised absolute paths; `RUSTFLAGS` gives no `--extern`; the runner is `--run` behind a name; and
 /// whatever a unit reads has a name that can be told on one line.
@@ -10,18 +12,18 @@ pub fn small_builds_are_honest()
     ensures { SmallBuildsAreHonest }
 {}
 
-/// A law: with the small compiler as the child, a build of these words that rests on true records gives what the present
-/// workspace gives from nothing, however it ends, and leaves true records.
-pub fn small_builds_give()
-    ensures { SmallBuildsGive }
+/// A law: with the small compiler as the child, a build of these words, by whatever turn, that rests on true records
+/// gives what the present workspace gives from nothing, however it ends, and leaves true records.
+pub fn small_builds_give<T: Turn>()
+    ensures { SmallBuildsGive T.turns }
 {}
 
 /// A law: after any edits outside of the folder of its records, and any builds of these words, a build of a session with
 /// the small compiler gives what the present workspace gives from nothing, or a fault with the first of its lines.
 ///
 /// Where the session is one of a file and begins without files, each of its builds does, and less is asked: edits stay
-/// out of the target folder, which all builds share; a profile has the letters of names; `RUSTFLAGS` gives no `--extern`;
-/// and what is read can be told. The file itself says the rest.
+/// out of the target folder, which all builds share, or remove it whole; a profile has the letters of names;
+/// `RUSTFLAGS` gives no `--extern`; and what is read can be told. The file itself says the rest.
 pub fn small_sessions_give()
     ensures records { SmallSessionsGive }
     ensures files { SessionFilesGive }

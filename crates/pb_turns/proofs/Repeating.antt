@@ -131,7 +131,7 @@ finish_count ticket (Err start.Died) old = refl
 finish_count ticket (Err start.Capture) old = refl
 finish_count ticket (Err start.OutOfMemory) old = refl
 
-dropped_count : (tickets : List ℕ) (old new : Counts) → Dropped tickets old new → new.starts.count ≡ old.starts.count
+pub dropped_count : (tickets : List ℕ) (old new : Counts) → Dropped tickets old new → new.starts.count ≡ old.starts.count
 dropped_count [] old new dropped = ap (λ (c : Counts). c.starts.count) dropped
 dropped_count (ticket ∷ tickets) old new (result, may, more) = dropped_count tickets (counted_finish ticket result old) new more ∙ finish_count ticket result old
 

@@ -4,7 +4,7 @@ use Rattle.pb_turns.specs.Moments.{moment}
 use Rattle.pb_build.specs.Environment.{environment_of}
 use Rattle.pb_build.specs.Headline.{Headline}
 use Rattle.pb_build.specs.Kept.{SourcesStay}
-use Rattle.pb_build.specs.Session.{Picked}
+use Rattle.pb_build.specs.Session.{Picked, ByPicked}
 use Rattle.pb_build.proofs.sessions.add_build.Goals as goal
 
 pub returns-clause-taken : goal.returns-clause-taken
@@ -17,6 +17,6 @@ returns-clause-taken g c =
       record { result = c.built-result.result },
       subst (λ (m : Held). Picked g.C.Child.answers options c.args.pick c.built-result.result old (moment m.world (counts_in m) m.most taken faults)) (sym c.fuse.ensures) c.built-result.ensures.picked,
       subst (λ (m : Held). SourcesStay (environment_of options before.world.variables).target before.world m.world) (sym c.fuse.ensures) c.built-result.ensures.kept,
-      subst (λ (m : Held). Headline true g.C.Child.answers options c.built-result.result old (moment m.world (counts_in m) m.most taken faults)) (sym c.fuse.ensures) c.built-result.ensures.headline,
+      subst (λ (m : Held). Headline true g.C.Child.answers (ByPicked c.args.pick options) options c.built-result.result old (moment m.world (counts_in m) m.most taken faults)) (sym c.fuse.ensures) c.built-result.ensures.headline,
       c.in_ok-push.ensures.ok,
     )
