@@ -2,7 +2,7 @@
 use Rattle.std.specs.Prelude.{◌≡◌, ◌⊎◌, ℕ, Bool, true, List, length, take, Option, Some, None, IsTrue, Result, Ok, Err, slice_get}
 use Rattle.std.specs.Io.KnownBytes.{Appends}
 use Rattle.pb_answer.specs.declared.fault.BuildFault.{BuildFault}
-use Rattle.pb_answer.specs.declared.fault.BuildFault.TheVariants.{Plan, Toolchain, Child, Device, Sink, OutOfMemory}
+use Rattle.pb_answer.specs.declared.fault.BuildFault.TheVariants.{Child, Device, Sink, OutOfMemory}
 use Rattle.pb_answer.specs.declared.summary.Summary.{Summary}
 use Rattle.pb_command.specs.Judge.{judge}
 use Rattle.pb_directive.specs.declared.directive.Directive.{Directive}
@@ -118,12 +118,11 @@ pub record FailsAt (project : Project) (es : List (Event BadUnit)) (rows : List 
 
 -- the lines that were handed out before a fault came: of the bytes of these units the first so many, where the sink failed; of these units the first so many, where memory was refused
 abbrev pub LinesBefore : BuildFault → Project → List (Event BadUnit) → List Row → Option (List ℕ) → Option (List ℕ) → Type 0
-LinesBefore (Plan why) project es rows old new = ⊥
-LinesBefore Toolchain project es rows old new = ⊥
 LinesBefore (Child key fault) project es rows old new = FailsAt project es rows key old new
 LinesBefore (Device key fault) project es rows old new = FailsAt project es rows key old new
 LinesBefore Sink project es rows old new = (n : ℕ) × Appends old new (take n (said_from project es 0 (take (count_due (states_in project es)) rows)))
 LinesBefore OutOfMemory project es rows old new = (n : ℕ) × Appends old new (said_from project es 0 (take n (take (count_due (states_in project es)) rows)))
+LinesBefore fault project es rows old new = ⊥
 
 -- a fault came at a unit, at the sink, or for want of memory, with such events and so many starts; for want of a run number, where from the next one of the records on all were given; of the unit that began last, where nothing came after its beginning, it may not be said what differed
 pub record GivesFirst (footing : Footing) (read : Reading) (child : Answers) (Schedule : Project → List (Event BadUnit) → Type 0) (options : Options) (fault : BuildFault) (old new : Moment) : Type 0 where

@@ -5,7 +5,7 @@ use Rattle.std.specs.Io.KnownBytes.{Appends}
 use Rattle.std.specs.List.{AllByRecursion}
 use Rattle.pb_answer.specs.declared.fault.BuildFault.{BuildFault}
 use Rattle.pb_answer.specs.declared.fault.BuildFault.TheVariants.{Plan, Toolchain, Child, Device, Sink, OutOfMemory}
-use Rattle.pb_answer.specs.declared.fault.DeviceFault.TheVariants.{Place, NumbersSpent}
+use Rattle.pb_answer.specs.declared.fault.DeviceFault.TheVariants.{NumbersSpent}
 use Rattle.pb_directive.specs.declared.directive.Directive.{Directive}
 use Rattle.pb_flight.specs.declared.flight.Answer.{Answer}
 use Rattle.pb_flight.specs.declared.flight.State.{State}
@@ -93,13 +93,8 @@ NumbersGiven (Gave unit answer ∷ es) first now = (before : Option ℕ) × Numb
 
 -- where a fault says that no run number is left, all were given
 abbrev pub Spends : BuildFault → Option ℕ → List (Event BadUnit) → Type 0
-Spends (Plan why) first es = Unit {0}
-Spends Toolchain first es = Unit {0}
-Spends (Child key fault) first es = Unit {0}
-Spends (Device key (Place fault)) first es = Unit {0}
 Spends (Device key NumbersSpent) first es = NumbersGiven es first None
-Spends Sink first es = Unit {0}
-Spends OutOfMemory first es = Unit {0}
+Spends fault first es = Unit {0}
 
 -- What the place says, where it tells its maps.
 
