@@ -94,58 +94,77 @@ fn after_fault(failure: Failure, counters: Counters) -> Counters {
     }
 }
 
-#[test]
-fn calls_that_pass(rt: HostRuntime) {
-    let most = u64::MAX;
-    // the late calls and the failures before a call, and the late calls after it
-    for (late, failures, want) in [(0, 0, 0), (0, 1, 1), (4, 2, 5), (most, 1, most)] {
-        let before = of_numbers(failures, 3, late);
-        let after = of_numbers(failures, 3, want);
-        assert!(rt; after_call(Ok(()), before) == after);
-        assert!(rt; after_call(Err(PlaceFault::OutOfMemory), before) == after);
-        let begun = of_numbers(failures, 4, want);
-        assert!(rt; after_start(Ok(()), before) == begun);
-        assert!(rt; after_start(Err(StartFault::OutOfMemory), before) == begun);
-    }
+/// The late calls and the failures before a call, and the late calls after it.
+const LATE: &[(u64, u64, u64)] = &[(0, 0, 0), (0, 1, 1), (4, 2, 5), (u64::MAX, 1, u64::MAX)];
+
+/// Whether calls and starts that do not fail, or want memory, give these counters.
+fn pass(late: u64, failures: u64, want: u64) -> bool {
+    let before = of_numbers(failures, 3, late);
+    let after = of_numbers(failures, 3, want);
+    let begun = of_numbers(failures, 4, want);
+    after_call(Ok(()), before) == after
+        && after_call(Err(PlaceFault::OutOfMemory), before) == after
+        && after_start(Ok(()), before) == begun
+        && after_start(Err(StartFault::OutOfMemory), before) == begun
 }
 
-#[test]
-fn calls_that_fail(rt: HostRuntime) {
-    for fault in [
-        PlaceFault::Read,
-        PlaceFault::List,
-        PlaceFault::Write,
-        PlaceFault::Remove,
-        PlaceFault::Variable,
-    ] {
-        assert!(rt;
-            after_call(Err(fault), of_numbers(1, 3, 9))
-                == after_fault(Failure::Called(fault), of_numbers(2, 3, 0))
-        );
-    }
-    for fault in [
-        StartFault::CannotStart,
-        StartFault::Died,
-        StartFault::Capture,
-    ] {
-        assert!(rt;
-            after_start(Err(fault), of_numbers(0, 3, 0))
-                == after_fault(Failure::Started(fault), of_numbers(1, 4, 0))
-        );
-    }
+/// Faults of calls.
+const CALLED: &[PlaceFault] = &[
+    PlaceFault::Read,
+    PlaceFault::List,
+    PlaceFault::Write,
+    PlaceFault::Remove,
+    PlaceFault::Variable,
+];
+
+/// Whether a call that fails so is counted.
+fn is_counted(fault: PlaceFault) -> bool {
+    after_call(Err(fault), of_numbers(1, 3, 9))
+        == after_fault(Failure::Called(fault), of_numbers(2, 3, 0))
 }
 
-#[test]
-fn counters_that_are_full(rt: HostRuntime) {
+/// Faults of starts.
+const STARTED: &[StartFault] = &[
+    StartFault::CannotStart,
+    StartFault::Died,
+    StartFault::Capture,
+];
+
+/// Whether a start that fails so is counted.
+fn start_is_counted(fault: StartFault) -> bool {
+    after_start(Err(fault), of_numbers(0, 3, 0))
+        == after_fault(Failure::Started(fault), of_numbers(1, 4, 0))
+}
+
+/// Whether full counters stay so after a call and a start that fail.
+fn full_stay() -> bool {
     let full = of_numbers(u64::MAX, u64::MAX, 9);
     let failed = of_numbers(u64::MAX, u64::MAX, 0);
     let read = Failure::Called(PlaceFault::Read);
     let died = Failure::Started(StartFault::Died);
-    assert!(rt; after_call(Err(PlaceFault::Read), full) == after_fault(read, failed));
-    assert!(rt; after_start(Err(StartFault::Died), full) == after_fault(died, failed));
-    // a call that passes, and want of memory, leave the last fault
+    after_call(Err(PlaceFault::Read), full) == after_fault(read, failed)
+        && after_start(Err(StartFault::Died), full) == after_fault(died, failed)
+}
+
+/// Whether a call that passes, and want of memory, leave the last fault.
+fn last_stays() -> bool {
+    let read = Failure::Called(PlaceFault::Read);
     let before = after_fault(read, of_numbers(1, 0, 0));
     let after = after_fault(read, of_numbers(1, 0, 1));
-    assert!(rt; after_call(Ok(()), before) == after);
-    assert!(rt; after_call(Err(PlaceFault::OutOfMemory), before) == after);
+    after_call(Ok(()), before) == after && after_call(Err(PlaceFault::OutOfMemory), before) == after
+}
+
+#[test]
+fn calls_are_counted(rt: HostRuntime) {
+    for case in LATE {
+        let (late, failures, want) = *case;
+        assert!(rt; pass(late, failures, want), "{late} {failures}");
+    }
+    for fault in CALLED {
+        assert!(rt; is_counted(*fault), "{fault:?}");
+    }
+    for fault in STARTED {
+        assert!(rt; start_is_counted(*fault), "{fault:?}");
+    }
+    assert!(rt; full_stay() && last_stays());
 }

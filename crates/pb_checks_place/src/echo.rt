@@ -123,16 +123,11 @@ fn command_of(
 
 /// A command for the child: it says the file at `folder` and the variable NAME, and writes into `out`. Of the target
 /// folder `/w/target` it sees what lies below `/w/target/dep`.
-pub fn say_into(alloc: Global, folder: &str, out: PathText) -> Result<Command, PathFault> {
-    let program = Text::from_str(alloc, "NAME")?;
+pub fn say(alloc: Global, folder: &str, out: &str) -> Result<Command, PathFault> {
     let folder = PathText::parse(alloc, folder)?;
+    let out = PathText::parse(alloc, out)?;
     let target = PathText::parse(alloc, "/w/target")?;
     let reads = one_path(alloc, "/w/target/dep")?;
+    let program = Text::from_str(alloc, "NAME")?;
     Ok(command_of(alloc, program, folder, out, target, reads))
-}
-
-/// The same, into `/w/target/out`.
-pub fn say(alloc: Global, folder: &str) -> Result<Command, PathFault> {
-    let out = PathText::parse(alloc, "/w/target/out")?;
-    say_into(alloc, folder, out)
 }

@@ -139,84 +139,46 @@ fn torn_in_memory<C: Child>(
     memory.write(alloc, path, bytes)
 }
 
-/// Whether a write that is to fail does.
-fn tears(alloc: Global, memory: &mut Memory<Echo>, path: &PathText) -> bool {
-    torn_in_memory(alloc, memory, path, b"12345") == Err(PlaceFault::Write)
-}
-
-/// Whether a file that is written at a path is read there.
-fn writes(alloc: Global, memory: &mut Memory<Echo>, path: &PathText) -> Result<bool, Fail> {
-    let found = written_then_read(alloc, memory, path, b"one")?;
-    Ok(found.is_some())
-}
-
-/// Whether one file is listed below a folder, where it is written.
-fn lists(
-    alloc: Global,
-    memory: &mut Memory<Echo>,
-    path: &PathText,
-    folder: &PathText,
-) -> Result<bool, Fail> {
-    let paths = written_then_listed(alloc, memory, path, folder)?;
-    Ok(paths.len() == 1)
-}
-
-/// Whether no file is read at a path, once a folder is removed.
-fn removes(
-    alloc: Global,
-    memory: &mut Memory<Echo>,
-    path: &PathText,
-    folder: &PathText,
-) -> Result<bool, Fail> {
-    let found = removed_then_read(alloc, memory, folder, path)?;
-    Ok(found.is_none())
-}
-
-/// Whether a child that says the file at a path says what was written there.
-fn says(alloc: Global, memory: &mut Memory<Echo>, path: &PathText) -> Result<bool, Fail> {
-    let command = say(alloc, path.as_str())?;
-    let ended = written_started_removed(alloc, memory, path, b"two", &command)?;
-    Ok(ended.stdout.as_slice() == b"two".as_slice())
-}
-
-/// Whether a child runs again.
-fn runs(alloc: Global, memory: &mut Memory<Echo>) -> Result<bool, Fail> {
-    let command = say(alloc, "/w/a")?;
-    let ended = start_in_memory(alloc, memory, &command)?;
-    Ok(ended.status == 7)
-}
-
-/// Whether a child that ran has left a file.
-fn has_left(alloc: Global, memory: &mut Memory<Echo>) -> Result<bool, Fail> {
-    let path = PathText::parse(alloc, "/w/target/out/a")?;
-    let found = read_in_memory(alloc, memory, &path)?;
-    Ok(found.is_some())
-}
-
-/// Whether each of these holds, one after another.
+/// Whether each of these holds, one after another, where a child says the file at a path and leaves another.
 fn hold_in_turn(
     alloc: Global,
     memory: &mut Memory<Echo>,
     path: &PathText,
     folder: &PathText,
+    command: &Command,
 ) -> Result<bool, Fail> {
-    Ok(
-        writes(alloc, memory, path)?
-            && lists(alloc, memory, path, folder)?
-            && removes(alloc, memory, path, folder)?
-            && tears(alloc, memory, path)
-            && says(alloc, memory, path)?
-            && runs(alloc, memory)?
-            && has_left(alloc, memory)?,
-    )
+    let is_read = written_then_read(alloc, memory, path, b"one")?.is_some();
+    let listed = written_then_listed(alloc, memory, path, folder)?.len();
+    let is_gone = removed_then_read(alloc, memory, folder, path)?.is_none();
+    let is_torn = torn_in_memory(alloc, memory, path, b"12345") == Err(PlaceFault::Write);
+    let says_two = written_started_removed(alloc, memory, path, b"two", command)?
+        .stdout
+        .as_slice()
+        == b"two".as_slice();
+    let status = start_in_memory(alloc, memory, command)?.status;
+    Ok(is_read && listed == 1 && is_gone && is_torn && says_two && status == 7)
+}
+
+/// Whether all hold at a place in memory.
+fn hold(alloc: Global, memory: &mut Memory<Echo>) -> Result<bool, Fail> {
+    let folder = PathText::parse(alloc, "/w")?;
+    let path = PathText::parse(alloc, "/w/a")?;
+    let command = say(alloc, "/w/a", "/w/target/out")?;
+    hold_in_turn(alloc, memory, &path, &folder, &command)
+}
+
+/// Whether the file is there that the child leaves.
+fn is_left(alloc: Global, memory: &mut Memory<Echo>) -> Result<bool, Fail> {
+    let path = PathText::parse(alloc, "/w/target/out/a")?;
+    let found = read_in_memory(alloc, memory, &path)?;
+    Ok(found.is_some())
 }
 
 #[test]
-fn at_a_place_in_memory(rt: HostRuntime) -> Result<(), Fail> {
+fn clauses_of_a_place(rt: HostRuntime) -> Result<(), Fail> {
     let mut memory = Memory::new(rt.alloc(), Echo);
-    let folder = PathText::parse(rt.alloc(), "/w")?;
-    let path = PathText::parse(rt.alloc(), "/w/a")?;
-    let hold = hold_in_turn(rt.alloc(), &mut memory, &path, &folder)?;
-    assert!(rt; hold && memory.starts() == 2);
+    let hold = hold(rt.alloc(), &mut memory)?;
+    let is_left = is_left(rt.alloc(), &mut memory)?;
+    assert!(rt; hold && is_left && memory.starts() == 2);
     Ok(())
 }

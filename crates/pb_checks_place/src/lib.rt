@@ -25,3 +25,5 @@ mod memory;
 mod paths;
 #[cfg(test)]
 mod sinks;
+#[cfg(test)]
+mod told;

@@ -1,344 +1,305 @@
 //! A place in memory, by each of its calls.
 
-use super::echo::{Echo, say};
-use pb_data::{Bytes, Text};
-use pb_place::{Ended, Memory, PathText, Place};
+ghost use Rattle.std.specs.Prelude.{◌≢◌};
+ghost use Rattle.pb_place.specs.declared.place.StartFault.{StartFault};
+
+use crate::calls::CHANGES;
+use crate::echo::{Echo, say};
+use crate::flights::{DEATHS, FLIGHTS, FUSES, HALVES, ORDERS, STARTS_OF_TWO_CALLS};
+use crate::told::{self, Step, compare, done, end_text, file_text, numbers, path_in, said};
+use pb_place::{Memory, PathText, Place, Seen, StartFault};
 use std::alloc::{AllocError, Global};
-use std::process::Abort;
 use std::test::Fail;
 
-/// The path that a text says.
-fn at(alloc: Global, text: &str) -> Result<PathText, Fail> {
-    Ok(PathText::parse(alloc, text)?)
-}
+/// A place in memory whose calls are seen.
+type Tried = Seen<Memory<Echo>>;
 
-/// The text of some bytes, `none`, or `wrong` where they are no text.
-fn text_of(alloc: Global, found: &Option<Bytes>) -> Result<Text, AllocError> {
-    let text = match found {
-        Some(bytes) => str::from_utf8(bytes.as_slice()).unwrap_or("wrong"),
-        None => "none",
-    };
-    Text::from_str(alloc, text)
-}
-
-/// The file at a path that is read, or `none`.
-pub fn read<P: Place>(alloc: Global, place: &mut P, path: &str) -> Result<Text, Fail> {
-    let path = at(alloc, path)?;
-    let found = place.read(alloc, &path)?;
-    Ok(text_of(alloc, &found)?)
-}
-
-/// Paths, a space after each.
-fn spaced(alloc: Global, paths: &[PathText]) -> Result<Text, Fail> {
-    let mut text = String::new(alloc);
-    for path in paths {
-        text.push_str(path.as_str())?;
-        text.push_str(" ")?;
-    }
-    Ok(Text::new(text))
-}
-
-/// The paths of the files below a folder, a space after each.
-fn list<P: Place>(alloc: Global, place: &mut P, folder: &str) -> Result<Text, Fail> {
-    let folder = at(alloc, folder)?;
-    let paths = place.list(alloc, &folder)?;
-    spaced(alloc, paths.as_slice())
-}
-
-/// The paths of the files below a folder but those at or below another path, a space after each.
-fn list_outside<P: Place>(
-    alloc: Global,
-    place: &mut P,
-    folder: &str,
-    left_out: &str,
-) -> Result<Text, Fail> {
-    let folder = at(alloc, folder)?;
-    let left_out = at(alloc, left_out)?;
-    let paths = place.list_outside(alloc, &folder, &left_out)?;
-    spaced(alloc, paths.as_slice())
-}
-
-/// The paths of the files directly in a folder, a space after each.
-fn list_directly<P: Place>(alloc: Global, place: &mut P, folder: &str) -> Result<Text, Fail> {
-    let folder = at(alloc, folder)?;
-    let paths = place.list_directly(alloc, &folder)?;
-    spaced(alloc, paths.as_slice())
-}
-
-/// The value of a variable, or `none`.
-fn variable<P: Place>(alloc: Global, place: &mut P, name: &str) -> Result<Text, Fail> {
-    match place.variable(alloc, name)? {
-        Some(value) => Ok(value),
-        None => Ok(Text::from_str(alloc, "none")?),
+/// The fault of this name, `Capture` for all other words.
+fn death_of(name: &str) -> StartFault
+    ensures { result ≢ StartFault.OutOfMemory }
+{
+    match name {
+        "CannotStart" => StartFault::CannotStart,
+        "Died" => StartFault::Died,
+        _ => StartFault::Capture,
     }
 }
 
-/// How a child ended: its status, its output and its errors, with spaces between them.
-fn said(alloc: Global, ended: &Ended) -> Result<Text, Fail> {
-    let status = ended.status;
-    let stdout = str::from_utf8(ended.stdout.as_slice()).unwrap_or("wrong");
-    let stderr = str::from_utf8(ended.stderr.as_slice()).unwrap_or("wrong");
-    Ok(Text::new(format!(in alloc; "{status} {stdout} {stderr}")?))
-}
-
-/// What a child says that looks at a path.
-fn start<P: Place>(alloc: Global, place: &mut P, path: &str) -> Result<Text, Fail> {
-    let command = say(alloc, path)?;
-    let ended = place.start(alloc, &command)?;
-    said(alloc, &ended)
-}
-
-/// `done`, once a call did not fail.
-fn done(alloc: Global, answer: Result<(), Fail>) -> Result<Text, Fail> {
-    answer?;
-    Ok(Text::from_str(alloc, "done")?)
-}
-
-/// Writes a file as a place does.
-pub fn write<P: Place>(alloc: Global, place: &mut P, path: &str, text: &str) -> Result<(), Fail> {
-    let path = at(alloc, path)?;
-    Ok(place.write(alloc, &path, text.as_bytes())?)
-}
-
-/// Removes files as a place does.
-pub fn remove_tree<P: Place>(alloc: Global, place: &mut P, path: &str) -> Result<(), Fail> {
-    let path = at(alloc, path)?;
-    Ok(place.remove_tree(alloc, &path)?)
-}
-
-/// Puts a file as a session does.
-pub fn put(alloc: Global, memory: &mut Memory<Echo>, path: &str, text: &str) -> Result<(), Fail> {
-    let path = at(alloc, path)?;
-    Ok(memory.put(alloc, &path, text.as_bytes())?)
-}
-
-/// Removes files as a session does.
-fn remove(alloc: Global, memory: &mut Memory<Echo>, path: &str) -> Result<(), Fail> {
-    let path = at(alloc, path)?;
-    Ok(memory.remove(alloc, &path)?)
-}
-
-/// Sets a variable as a session does.
-fn set(alloc: Global, memory: &mut Memory<Echo>, name: &str, value: &str) -> Result<(), Fail> {
-    Ok(memory.set(alloc, name, value)?)
-}
-
-/// Takes a variable away as a session does.
-fn unset(alloc: Global, memory: &mut Memory<Echo>, name: &str) -> Result<(), Fail> {
-    Ok(memory.unset(alloc, name)?)
-}
-
-/// The file at a path, or `none`.
-fn file(alloc: Global, memory: &Memory<Echo>, path: &str) -> Result<Text, Fail> {
-    let path = at(alloc, path)?;
-    let found = memory.file(alloc, &path)?;
-    Ok(text_of(alloc, &found)?)
-}
-
-/// What a call of a place answers.
-fn call<P: Place>(
-    alloc: Global,
-    place: &mut P,
-    call: &str,
-    name: &str,
-    text: &str,
-) -> Result<Text, Fail> {
-    match call {
-        "read" => read(alloc, place, name),
-        "list" => list(alloc, place, name),
-        "list_outside" => list_outside(alloc, place, name, text),
-        "list_directly" => list_directly(alloc, place, name),
-        "write" => done(alloc, write(alloc, place, name, text)),
-        "remove_tree" => done(alloc, remove_tree(alloc, place, name)),
-        "variable" => variable(alloc, place, name),
-        "start" => start(alloc, place, name),
-        _ => Err(Fail::from("no such call")),
-    }
-}
-
-/// What a call of a place in memory answers.
-fn answer(
+/// Edits a place as a session does.
+fn edit(
     alloc: Global,
     memory: &mut Memory<Echo>,
-    name: &str,
-    words: (&str, &str),
-) -> Result<Text, Fail> {
-    match words.0 {
-        "put" => done(alloc, put(alloc, memory, name, words.1)),
-        "remove" => done(alloc, remove(alloc, memory, name)),
-        "set" => done(alloc, set(alloc, memory, name, words.1)),
-        "unset" => done(alloc, unset(alloc, memory, name)),
-        "file" => file(alloc, memory, name),
-        _ => call(alloc, memory, words.0, name, words.1),
-    }
-}
-
-/// Files in a folder and below a file, and in the target folder `/w/target`.
-const FILES: &[(&str, &str)] = &[
-    ("/w/target/hidden", "hidden"),
-    ("/w/ab", "longer"),
-    ("/w/target/dep/lib", "read"),
-    ("/w/target/dep", "folder"),
-    ("/w/a", "beside"),
-    ("/w/target", "target"),
-    ("/w/a/b", "inside"),
-];
-
-/// Puts these files, and sets a variable.
-fn furnish(alloc: Global, memory: &mut Memory<Echo>) -> Result<(), Fail> {
-    for file in FILES {
-        let (path, text) = *file;
-        put(alloc, memory, path, text)?;
-    }
-    set(alloc, memory, "NAME", "value")
-}
-
-/// The counters of a place: failures, starts and late calls.
-fn counters<P: Place>(place: &P) -> (u64, u64, u64) {
-    (place.failures(), place.starts(), place.late())
-}
-
-/// Whether a line `CALL|NAME|TEXT|ANSWER` tells what the call answers.
-fn is_answered(alloc: Global, memory: &mut Memory<Echo>, line: &str) -> Result<bool, Fail> {
-    let mut parts = line.split('|');
-    let word = parts.next().unwrap_or("");
-    let name = parts.next().unwrap_or("");
-    let text = parts.next().unwrap_or("");
-    let want = parts.next().unwrap_or("no answer");
-    let told = answer(alloc, memory, name, (word, text))?;
-    Ok(told.as_str() == want && parts.next().is_none())
-}
-
-/// Makes the calls of some lines in turn, and gives the first line that tells another answer.
-fn first_wrong_line<'a>(
-    alloc: Global,
-    memory: &mut Memory<Echo>,
-    lines: &'a str,
-) -> Result<Option<&'a str>, Fail> {
-    for line in lines.lines() {
-        if !is_answered(alloc, memory, line)? {
-            return Ok(Some(line));
+    step: &Step,
+    path: &PathText,
+) -> Result<(), AllocError> {
+    match step.0 {
+        "put" => memory.put(alloc, path, step.2.as_bytes()),
+        "forget" => memory.remove(alloc, path),
+        "set" => memory.set(alloc, step.1, step.2),
+        "unset" => memory.unset(alloc, step.1),
+        "die" => memory.die(alloc, step.1, death_of(step.2)),
+        _ => {
+            memory.fuse(step.1.parse::<u64>().unwrap_or(0));
+            Ok(())
         }
     }
-    Ok(None)
 }
 
-/// The same at a place that is furnished, where none of the calls fails, and so many start a child: else `counters`.
-fn first_wrong_in<'a>(
-    alloc: Global,
-    memory: &mut Memory<Echo>,
-    lines: &'a str,
-    starts: u64,
-) -> Result<Option<&'a str>, Fail> {
-    furnish(alloc, memory)?;
-    let wrong = first_wrong_line(alloc, memory, lines)?;
-    if wrong.is_none() && counters(memory) != (0, starts, 0) {
-        return Ok(Some("counters"));
+/// Starts or spawns a child that looks at a path: how it ended, or its ticket, or the fault.
+fn begin(alloc: Global, place: &mut Tried, step: &Step) -> Result<String, Fail> {
+    let command = say(alloc, step.1, step.2)?;
+    if step.0 == "start" {
+        return Ok(said(alloc, place, &command)?);
     }
-    Ok(wrong)
+    match place.spawn(alloc, &command) {
+        Ok(ticket) => Ok(format!(in alloc; "{ticket}")?),
+        Err(fault) => Ok(format!(in alloc; "{fault:?}")?),
+    }
 }
 
-/// The same at a place of its own.
-fn first_wrong<'a>(alloc: Global, lines: &'a str, starts: u64) -> Result<Option<&'a str>, Fail> {
-    let mut memory = Memory::new(alloc, Echo);
-    first_wrong_in(alloc, &mut memory, lines, starts)
+/// How the child of a ticket ended.
+fn finish(alloc: Global, memory: &mut Memory<Echo>, ticket: u64) -> Result<String, AllocError> {
+    if !memory.flies(ticket) {
+        return String::from_str(alloc, "no child");
+    }
+    end_text(alloc, memory.finish(alloc, ticket))
 }
 
-/// Asserts that there is none.
-fn assert_lines(rt: &impl Abort, alloc: Global, lines: &str, starts: u64) -> Result<(), Fail> {
-    assert_eq!(rt; first_wrong(alloc, lines, starts)?, None);
+/// What a step answers. `seen` tells how many calls came after the first that failed.
+fn answer(
+    alloc: Global,
+    place: &mut Tried,
+    step: &Step,
+    paths: (&PathText, &PathText),
+) -> Result<String, Fail> {
+    let memory = &mut place.place;
+    match step.0 {
+        "put" | "forget" | "set" | "unset" | "die" | "fuse" => {
+            edit(alloc, memory, step, paths.0)?;
+            Ok(done(alloc, Ok(()))?)
+        }
+        "file" => Ok(file_text(alloc, Ok(memory.file(alloc, paths.0)?))?),
+        "finish" => Ok(finish(alloc, memory, step.1.parse::<u64>().unwrap_or(9))?),
+        "seen" => Ok(numbers(alloc, place.failures(), place.after)?),
+        "start" | "spawn" => begin(alloc, place, step),
+        _ => Ok(told::answer(alloc, place, "", step, paths)?),
+    }
+}
+
+/// Carries a step out, and compares the answer.
+fn try_step(alloc: Global, place: &mut Tried, root: &PathText, step: &Step) -> Result<(), Fail> {
+    let path = path_in(alloc, root, step.1)?;
+    let other = path_in(alloc, root, step.2)?;
+    let said = answer(alloc, place, step, (&path, &other))?;
+    compare(step, said.as_str())
+}
+
+/// Carries steps out, and compares the answers.
+fn try_steps(
+    alloc: Global,
+    place: &mut Tried,
+    root: &PathText,
+    steps: &[Step],
+) -> Result<(), Fail> {
+    for step in steps {
+        try_step(alloc, place, root, step)?;
+    }
     Ok(())
 }
 
-#[test]
-fn lists_and_reads(rt: HostRuntime) -> Result<(), Fail> {
-    let lines = "list|/w/target||/w/target/dep /w/target/dep/lib /w/target/hidden \n\
-        list|/w/a||/w/a/b \n\
-        list|/w/a/b||\n\
-        list|/x||\n\
-        read|/w/a||beside\n\
-        read|/w/a/b||inside\n\
-        read|/w||none\n\
-        file|/w/ab||longer\n\
-        file|/w/abc||none";
-    assert_lines(&rt, rt.alloc(), lines, 0)
+/// Carries the parts of a script out, one after another.
+fn try_parts(
+    alloc: Global,
+    place: &mut Tried,
+    root: &PathText,
+    parts: &[&[Step]],
+) -> Result<(), Fail> {
+    for steps in parts {
+        try_steps(alloc, place, root, *steps)?;
+    }
+    Ok(())
 }
 
-#[test]
-fn lists_outside(rt: HostRuntime) -> Result<(), Fail> {
-    let lines = "list_outside|/|/w/target|/w/a /w/a/b /w/ab \n\
-        list_outside|/w|/w/a|/w/ab /w/target /w/target/dep /w/target/dep/lib /w/target/hidden \n\
-        list_outside|/w|/w/ab/c|/w/a /w/a/b /w/ab /w/target /w/target/dep /w/target/dep/lib /w/target/hidden \n\
-        list_outside|/w/target|/w/target/dep|/w/target/hidden \n\
-        list_outside|/w/target|/w/target|\n\
-        list_outside|/w/target|/w|\n\
-        list_outside|/x|/w|";
-    assert_lines(&rt, rt.alloc(), lines, 0)
+/// Carries a script out at a place of its own.
+fn try_script(alloc: Global, parts: &[&[Step]]) -> Result<(), Fail> {
+    let root = PathText::parse(alloc, "/")?;
+    let mut place = Seen::new(Memory::new(alloc, Echo));
+    try_parts(alloc, &mut place, &root, parts)
 }
 
-#[test]
-fn lists_directly(rt: HostRuntime) -> Result<(), Fail> {
-    let lines = "list_directly|/w/target||/w/target/dep /w/target/hidden \n\
-        list_directly|/w||/w/a /w/ab /w/target \n\
-        list_directly|/||\n\
-        list_directly|/w/a||/w/a/b \n\
-        list_directly|/w/a/b||\n\
-        list_directly|/x||\n\
-        write|/f||done\n\
-        list_directly|/||/f ";
-    assert_lines(&rt, rt.alloc(), lines, 0)
+/// Carries scripts out, each at a place of its own.
+fn try_scripts(alloc: Global, scripts: &[&[&[Step]]]) -> Result<(), Fail> {
+    for parts in scripts {
+        try_script(alloc, *parts)?;
+    }
+    Ok(())
 }
 
-#[test]
-fn writes_and_removes(rt: HostRuntime) -> Result<(), Fail> {
-    let lines = "remove_tree|/w/target||done\n\
-        list|/||/w/a /w/a/b /w/ab \n\
-        remove_tree|/w/a||done\n\
-        remove_tree|/w/nothing||done\n\
-        list|/||/w/ab \n\
-        write|/w/b/c|new|done\n\
-        write|/w/ab||done\n\
-        write|/|root|done\n\
-        list|/||/w/ab /w/b/c \n\
-        read|/w/ab||\n\
-        read|/||root\n\
-        remove_tree|/||done\n\
-        read|/||none";
-    assert_lines(&rt, rt.alloc(), lines, 0)
-}
+/// Files in a folder and below a file, and in the target folder `/w/target`, and a variable.
+const FURNISHED: &[Step] = &[
+    ("put", "/w/target/hidden", "hidden", "done"),
+    ("put", "/w/ab", "longer", "done"),
+    ("put", "/w/target/dep/lib", "read", "done"),
+    ("put", "/w/target/dep", "folder", "done"),
+    ("put", "/w/a", "beside", "done"),
+    ("put", "/w/target", "target", "done"),
+    ("put", "/w/a/b", "inside", "done"),
+    ("set", "NAME", "value", "done"),
+];
+
+/// Lists and reads.
+const LISTS_AND_READS: &[Step] = &[
+    (
+        "list",
+        "/w/target",
+        "",
+        "/w/target/dep /w/target/dep/lib /w/target/hidden ",
+    ),
+    ("list", "/w/a", "", "/w/a/b "),
+    ("list", "/w/a/b", "", ""),
+    ("list", "/x", "", ""),
+    ("read", "/w/a", "", "beside"),
+    ("read", "/w/a/b", "", "inside"),
+    ("read", "/w", "", "none"),
+    ("file", "/w/ab", "", "longer"),
+    ("file", "/w/abc", "", "none"),
+    ("counts", "", "", "0 0"),
+    ("starts", "", "", "0 0"),
+];
+
+/// Lists outside a folder.
+const LISTS_OUTSIDE: &[Step] = &[
+    ("outside", "/", "/w/target", "/w/a /w/a/b /w/ab "),
+    (
+        "outside",
+        "/w",
+        "/w/a",
+        "/w/ab /w/target /w/target/dep /w/target/dep/lib /w/target/hidden ",
+    ),
+    (
+        "outside",
+        "/w",
+        "/w/ab/c",
+        "/w/a /w/a/b /w/ab /w/target /w/target/dep /w/target/dep/lib /w/target/hidden ",
+    ),
+    ("outside", "/w/target", "/w/target/dep", "/w/target/hidden "),
+    ("outside", "/w/target", "/w/target", ""),
+    ("outside", "/w/target", "/w", ""),
+    ("outside", "/x", "/w", ""),
+    ("counts", "", "", "0 0"),
+    ("starts", "", "", "0 0"),
+];
+
+/// Lists the files directly in a folder.
+const LISTS_DIRECTLY: &[Step] = &[
+    (
+        "directly",
+        "/w/target",
+        "",
+        "/w/target/dep /w/target/hidden ",
+    ),
+    ("directly", "/w", "", "/w/a /w/ab /w/target "),
+    ("directly", "/", "", ""),
+    ("directly", "/w/a", "", "/w/a/b "),
+    ("directly", "/w/a/b", "", ""),
+    ("directly", "/x", "", ""),
+    ("write", "/f", "", "done"),
+    ("directly", "/", "", "/f "),
+    ("counts", "", "", "0 0"),
+    ("starts", "", "", "0 0"),
+];
+
+/// Writes and removes.
+const WRITES_AND_REMOVES: &[Step] = &[
+    ("remove", "/w/target", "", "done"),
+    ("list", "/", "", "/w/a /w/a/b /w/ab "),
+    ("remove", "/w/a", "", "done"),
+    ("remove", "/w/nothing", "", "done"),
+    ("list", "/", "", "/w/ab "),
+    ("write", "/w/b/c", "new", "done"),
+    ("write", "/w/ab", "", "done"),
+    ("write", "/", "root", "done"),
+    ("list", "/", "", "/w/ab /w/b/c "),
+    ("read", "/w/ab", "", ""),
+    ("read", "/", "", "root"),
+    ("remove", "/", "", "done"),
+    ("read", "/", "", "none"),
+    ("counts", "", "", "0 0"),
+    ("starts", "", "", "0 0"),
+];
+
+/// Edits of a session.
+const EDITS: &[Step] = &[
+    ("put", "/w/a", "again", "done"),
+    ("file", "/w/a", "", "again"),
+    ("forget", "/w/a", "", "done"),
+    ("file", "/w/a", "", "none"),
+    ("file", "/w/a/b", "", "none"),
+    ("file", "/w/ab", "", "longer"),
+    ("variable", "NAME", "", "value"),
+    ("variable", "OTHER", "", "none"),
+    ("set", "NAME", "", "done"),
+    ("variable", "NAME", "", ""),
+    ("set", "", "a=b", "done"),
+    ("unset", "NAME", "", "done"),
+    ("variable", "NAME", "", "none"),
+    ("variable", "", "", "a=b"),
+    ("counts", "", "", "0 0"),
+    ("starts", "", "", "0 0"),
+];
+
+/// Starts of a child.
+const STARTS: &[Step] = &[
+    ("start", "/w/a", "/w/target/out", "7(beside)(value) 1 0"),
+    (
+        "list",
+        "/",
+        "",
+        "/w/a /w/a/b /w/ab /w/target /w/target/dep /w/target/dep/lib /w/target/hidden /w/target/out/a /w/target/out/d/b ",
+    ),
+    ("read", "/w/target/out/a", "", "beside"),
+    ("read", "/w/target/out/d/b", "", "beside"),
+    ("start", "/w/a/b", "/w/target/out", "7(inside)(value) 2 0"),
+    ("read", "/w/target/out/d/b", "", "inside"),
+    ("start", "/w/target", "/w/target/out", "7()(value) 3 0"),
+    (
+        "start",
+        "/w/target/hidden",
+        "/w/target/out",
+        "7()(value) 4 0",
+    ),
+    ("start", "/w/target/dep", "/w/target/out", "7()(value) 5 0"),
+    (
+        "start",
+        "/w/target/dep/lib",
+        "/w/target/out",
+        "7(read)(value) 6 0",
+    ),
+    ("set", "NAME", "", "done"),
+    ("start", "/w/nothing", "/w/target/out", "7()() 7 0"),
+    ("counts", "", "", "0 0"),
+    ("starts", "", "", "7 1"),
+];
+
+/// The calls, each kind at a place of its own.
+const CALLS: &[&[&[Step]]] = &[
+    &[FURNISHED, LISTS_AND_READS],
+    &[FURNISHED, LISTS_OUTSIDE],
+    &[FURNISHED, LISTS_DIRECTLY],
+    &[FURNISHED, WRITES_AND_REMOVES],
+    &[FURNISHED, EDITS],
+    &[FURNISHED, STARTS],
+    &[CHANGES],
+];
 
 #[test]
-fn edits(rt: HostRuntime) -> Result<(), Fail> {
-    let lines = "put|/w/a|again|done\n\
-        file|/w/a||again\n\
-        remove|/w/a||done\n\
-        file|/w/a||none\n\
-        file|/w/a/b||none\n\
-        file|/w/ab||longer\n\
-        variable|NAME||value\n\
-        variable|OTHER||none\n\
-        set|NAME||done\n\
-        variable|NAME||\n\
-        set||a=b|done\n\
-        unset|NAME||done\n\
-        variable|NAME||none\n\
-        variable|||a=b";
-    assert_lines(&rt, rt.alloc(), lines, 0)
-}
-
-#[test]
-fn starts(rt: HostRuntime) -> Result<(), Fail> {
-    let lines = "start|/w/a||7 beside value\n\
-        list|/||/w/a /w/a/b /w/ab /w/target /w/target/dep /w/target/dep/lib /w/target/hidden /w/target/out/a /w/target/out/d/b \n\
-        read|/w/target/out/a||beside\n\
-        read|/w/target/out/d/b||beside\n\
-        start|/w/a/b||7 inside value\n\
-        read|/w/target/out/d/b||inside\n\
-        start|/w/target||7  value\n\
-        start|/w/target/hidden||7  value\n\
-        start|/w/target/dep||7  value\n\
-        start|/w/target/dep/lib||7 read value\n\
-        set|NAME||done\n\
-        start|/w/nothing||7  ";
-    assert_lines(&rt, rt.alloc(), lines, 7)
+fn at_a_place_in_memory(rt: HostRuntime) -> Result<(), Fail> {
+    try_scripts(rt.alloc(), CALLS)?;
+    try_scripts(rt.alloc(), ORDERS)?;
+    try_scripts(rt.alloc(), DEATHS)?;
+    try_scripts(rt.alloc(), FUSES)?;
+    try_scripts(rt.alloc(), HALVES)?;
+    try_scripts(rt.alloc(), STARTS_OF_TWO_CALLS)?;
+    try_scripts(rt.alloc(), FLIGHTS)?;
+    Ok(())
 }

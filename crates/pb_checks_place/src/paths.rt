@@ -7,6 +7,9 @@ use pb_place::{
 use std::alloc::{AllocError, Global};
 use std::test::Fail;
 
+/// Two texts, of which the second may say nothing, and what comes of them.
+type Case = (&'static str, &'static str, &'static str);
+
 /// Whether an answer has this text, or a fault of this name.
 fn says(answer: &Result<PathText, PathFault>, wanted: &str) -> bool {
     match answer {
@@ -17,45 +20,44 @@ fn says(answer: &Result<PathText, PathFault>, wanted: &str) -> bool {
     }
 }
 
-const PARSES: &[(&str, &str)] = &[
-    ("/", "/"),
-    ("/w", "/w"),
-    ("/w/./a/../b", "/w/b"),
-    ("/w/a/", "/w/a"),
-    ("//w///a//", "/w/a"),
-    ("/..", "/"),
-    ("/../../w", "/w"),
-    ("/w/../..", "/"),
-    ("/w/...", "/w/..."),
-    ("/w/.a/..b", "/w/.a/..b"),
-    ("/é/ x", "/é/ x"),
-    ("", "NotAbsolute"),
-    ("w", "NotAbsolute"),
-    ("./w", "NotAbsolute"),
-    ("../w", "NotAbsolute"),
-    ("\0", "NotAbsolute"),
-    ("w/\0", "NotAbsolute"),
-    ("/\0", "BadByte"),
-    ("/w\0/..", "BadByte"),
-];
-
-#[test]
-fn parses(rt: HostRuntime) -> Result<(), Fail> {
-    for case in PARSES {
-        let (text, wanted) = *case;
-        let answer = PathText::parse(rt.alloc(), text);
-        assert!(rt; says(&answer, wanted), "of {text}");
-    }
-    Ok(())
+/// Whether a text is parsed to this.
+fn parses_to(alloc: Global, text: &str, wanted: &str) -> Result<bool, PathFault> {
+    let answer = PathText::parse(alloc, text);
+    Ok(says(&answer, wanted))
 }
+
+/// Texts, and the path or the fault of each.
+const PARSES: &[Case] = &[
+    ("/", "", "/"),
+    ("/w", "", "/w"),
+    ("/w/./a/../b", "", "/w/b"),
+    ("/w/a/", "", "/w/a"),
+    ("//w///a//", "", "/w/a"),
+    ("/..", "", "/"),
+    ("/../../w", "", "/w"),
+    ("/w/../..", "", "/"),
+    ("/w/...", "", "/w/..."),
+    ("/w/.a/..b", "", "/w/.a/..b"),
+    ("/é/ x", "", "/é/ x"),
+    ("", "", "NotAbsolute"),
+    ("w", "", "NotAbsolute"),
+    ("./w", "", "NotAbsolute"),
+    ("../w", "", "NotAbsolute"),
+    ("\0", "", "NotAbsolute"),
+    ("w/\0", "", "NotAbsolute"),
+    ("/\0", "", "BadByte"),
+    ("/w\0/..", "", "BadByte"),
+];
 
 /// Whether a text in a folder gives this.
 fn joins_to(alloc: Global, folder: &str, text: &str, wanted: &str) -> Result<bool, PathFault> {
     let folder = PathText::parse(alloc, folder)?;
-    Ok(says(&folder.join(alloc, text), wanted))
+    let answer = folder.join(alloc, text);
+    Ok(says(&answer, wanted))
 }
 
-const JOINS: &[(&str, &str, &str)] = &[
+/// Folders and texts, and the path of the text in the folder.
+const JOINS: &[Case] = &[
     ("/w", "a/b", "/w/a/b"),
     ("/w", "../x", "/x"),
     ("/w", "../../../x", "/x"),
@@ -71,51 +73,38 @@ const JOINS: &[(&str, &str, &str)] = &[
     ("/w", "/\0", "BadByte"),
 ];
 
-#[test]
-fn joins(rt: HostRuntime) -> Result<(), Fail> {
-    for case in JOINS {
-        let (folder, text, wanted) = *case;
-        assert!(rt; joins_to(rt.alloc(), folder, text, wanted)?, "of {text}");
+/// Where a path lies: `below` a folder, or the folder `itself`, or `outside`; `wrong` where it is below it but does not
+/// start with it.
+fn place_of(path: &PathText, folder: &PathText) -> &'static str {
+    match (path.is_below(folder), path.starts_with(folder)) {
+        (true, true) => "below",
+        (false, true) => "itself",
+        (false, false) => "outside",
+        (true, false) => "wrong",
     }
-    Ok(())
 }
 
-/// Whether a path is below a folder, and whether it is the folder or below it.
-fn nests(path: &PathText, folder: &PathText) -> (bool, bool) {
-    (path.is_below(folder), path.starts_with(folder))
-}
-
-/// The same of texts.
-fn nested(alloc: Global, path: &str, folder: &str) -> Result<(bool, bool), PathFault> {
+/// Whether a path lies so to a folder.
+fn lies(alloc: Global, path: &str, folder: &str, wanted: &str) -> Result<bool, PathFault> {
     let path = PathText::parse(alloc, path)?;
     let folder = PathText::parse(alloc, folder)?;
-    Ok(nests(&path, &folder))
+    Ok(place_of(&path, &folder) == wanted)
 }
 
-const BEGINNINGS: &[(&str, &str, bool, bool)] = &[
-    ("/w/a", "/w/a", false, true),
-    ("/w/a/b", "/w/a", true, true),
-    ("/w/a/b/c", "/w/a", true, true),
-    ("/w/ab", "/w/a", false, false),
-    ("/w/a", "/w/ab", false, false),
-    ("/w", "/w/a", false, false),
-    ("/w/A", "/w/a", false, false),
-    ("/", "/", false, true),
-    ("/w", "/", true, true),
-    ("/w/a", "/", true, true),
-    ("/", "/w", false, false),
+/// Paths and folders, and where the path lies.
+const BEGINNINGS: &[Case] = &[
+    ("/w/a", "/w/a", "itself"),
+    ("/w/a/b", "/w/a", "below"),
+    ("/w/a/b/c", "/w/a", "below"),
+    ("/w/ab", "/w/a", "outside"),
+    ("/w/a", "/w/ab", "outside"),
+    ("/w", "/w/a", "outside"),
+    ("/w/A", "/w/a", "outside"),
+    ("/", "/", "itself"),
+    ("/w", "/", "below"),
+    ("/w/a", "/", "below"),
+    ("/", "/w", "outside"),
 ];
-
-#[test]
-fn beginnings(rt: HostRuntime) -> Result<(), Fail> {
-    // a path, a folder, whether it is below the folder, and whether it is the folder or below it
-    for case in BEGINNINGS {
-        let (path, folder, is_below, starts) = *case;
-        let found = nested(rt.alloc(), path, folder)?;
-        assert!(rt; found.0 == is_below && found.1 == starts, "of {path}");
-    }
-    Ok(())
-}
 
 /// Whether the folder of a path is this, taken of a copy of it.
 fn is_in(alloc: Global, path: &str, wanted: &str) -> Result<bool, PathFault> {
@@ -125,17 +114,8 @@ fn is_in(alloc: Global, path: &str, wanted: &str) -> Result<bool, PathFault> {
     Ok(folder.as_str() == wanted)
 }
 
-const FOLDERS: &[(&str, &str)] = &[("/w/a/b", "/w/a"), ("/w", "/"), ("/", "/")];
-
-#[test]
-fn folders(rt: HostRuntime) -> Result<(), Fail> {
-    for case in FOLDERS {
-        let (path, wanted) = *case;
-        assert!(rt; is_in(rt.alloc(), path, wanted)?, "of {path}");
-    }
-    parsing_keeps_paths();
-    Ok(())
-}
+/// Paths, and the folder of each.
+const FOLDERS: &[Case] = &[("/w/a/b", "", "/w/a"), ("/w", "", "/"), ("/", "", "/")];
 
 /// Whether a relative path in a folder is this one, of a copy of it.
 fn is_below(
@@ -158,13 +138,8 @@ fn has_inside(alloc: Global, folder: &str, text: &str, wanted: &str) -> Result<b
     }
 }
 
-/// Whether a relative path that is known to be one has its name's text.
-fn is_known(alloc: Global) -> Result<bool, AllocError> {
-    let path = RelativePath::name(alloc, "a.rlib")?;
-    Ok(path.as_str() == "a.rlib")
-}
-
-const RELATIVE_PATHS: &[(&str, &str, &str)] = &[
+/// Folders and texts, and the path of the relative path in the folder.
+const RELATIVE_PATHS: &[Case] = &[
     ("/w", "a", "/w/a"),
     ("/w", "a/b.d", "/w/a/b.d"),
     ("/", "a", "/a"),
@@ -179,16 +154,6 @@ const RELATIVE_PATHS: &[(&str, &str, &str)] = &[
     ("/w", "a//b", "none"),
     ("/w", "a\0", "none"),
 ];
-
-#[test]
-fn relative_paths(rt: HostRuntime) -> Result<(), Fail> {
-    for case in RELATIVE_PATHS {
-        let (folder, text, wanted) = *case;
-        assert!(rt; has_inside(rt.alloc(), folder, text, wanted)?, "of {text}");
-    }
-    assert!(rt; is_known(rt.alloc())?);
-    Ok(())
-}
 
 /// Whether what a path is inside a folder is this; `none` where it is not below it.
 fn has_part(
@@ -215,13 +180,8 @@ fn is_taken_apart(
     Ok(has_part(alloc, &folder, &path, wanted)?)
 }
 
-/// Whether the last part of a path is this.
-fn ends_in(alloc: Global, path: &str, wanted: &str) -> Result<bool, PathFault> {
-    let path = PathText::parse(alloc, path)?;
-    Ok(path.last_part() == wanted)
-}
-
-const PATHS_TAKEN_APART: &[(&str, &str, &str)] = &[
+/// Folders and paths, and what the path is inside the folder.
+const PATHS_TAKEN_APART: &[Case] = &[
     ("/w", "/w/a/b", "a/b"),
     ("/", "/w/a", "w/a"),
     ("/w", "/w", "none"),
@@ -229,32 +189,89 @@ const PATHS_TAKEN_APART: &[(&str, &str, &str)] = &[
     ("/w/a", "/w", "none"),
 ];
 
-const LAST_PARTS: &[(&str, &str)] = &[("/", ""), ("/w", "w"), ("/w/a.b", "a.b")];
-
-#[test]
-fn paths_taken_apart(rt: HostRuntime) -> Result<(), Fail> {
-    for case in PATHS_TAKEN_APART {
-        let (folder, path, wanted) = *case;
-        assert!(rt;
-            is_taken_apart(rt.alloc(), folder, path, wanted)?,
-            "of {path}"
-        );
-    }
-    for case in LAST_PARTS {
-        let (path, wanted) = *case;
-        assert!(rt; ends_in(rt.alloc(), path, wanted)?, "of {path}");
-    }
-    paths_join_again();
-    folders_nest();
-    Ok(())
+/// Whether the last part of a path is this.
+fn ends_in(alloc: Global, path: &str, wanted: &str) -> Result<bool, PathFault> {
+    let path = PathText::parse(alloc, path)?;
+    Ok(path.last_part() == wanted)
 }
 
-/// Whether a text is a path, and keeps its bytes as one.
-fn is_path(alloc: Global, text: &str) -> Result<bool, AllocError> {
+/// Paths, and the last part of each.
+const LAST_PARTS: &[Case] = &[("/", "", ""), ("/w", "", "w"), ("/w/a.b", "", "a.b")];
+
+/// Whether a text is a `path`, and keeps its bytes as one, or is `none`.
+fn is_path(alloc: Global, text: &str, wanted: &str) -> Result<bool, PathFault> {
     match PathText::of(Text::from_str(alloc, text)?) {
-        Some(path) => Ok(path.as_str() == text),
-        None => Ok(false),
+        Some(path) => Ok(path.as_str() == text && wanted == "path"),
+        None => Ok(wanted == "none"),
     }
+}
+
+/// Texts, and whether each is a path.
+const TEXTS_THAT_ARE_PATHS: &[Case] = &[
+    ("/", "", "path"),
+    ("/w/a", "", "path"),
+    ("", "", "none"),
+    ("w", "", "none"),
+    ("/w/", "", "none"),
+    ("//", "", "none"),
+    ("/w/../a", "", "none"),
+    ("/w\0", "", "none"),
+];
+
+/// What is asked of two texts.
+#[derive(Clone, Copy)]
+enum Asked {
+    Parse,
+    Join,
+    Place,
+    Folder,
+    Below,
+    Inside,
+    LastPart,
+    IsPath,
+}
+
+/// All tables.
+const TABLES: &[(Asked, &[Case])] = &[
+    (Asked::Parse, PARSES),
+    (Asked::Join, JOINS),
+    (Asked::Place, BEGINNINGS),
+    (Asked::Folder, FOLDERS),
+    (Asked::Below, RELATIVE_PATHS),
+    (Asked::Inside, PATHS_TAKEN_APART),
+    (Asked::LastPart, LAST_PARTS),
+    (Asked::IsPath, TEXTS_THAT_ARE_PATHS),
+];
+
+/// Whether a question about two texts has this answer.
+fn is_right(alloc: Global, asked: Asked, case: &Case) -> Result<bool, PathFault> {
+    let (first, second, wanted) = *case;
+    match asked {
+        Asked::Parse => parses_to(alloc, first, wanted),
+        Asked::Join => joins_to(alloc, first, second, wanted),
+        Asked::Place => lies(alloc, first, second, wanted),
+        Asked::Folder => is_in(alloc, first, wanted),
+        Asked::Below => has_inside(alloc, first, second, wanted),
+        Asked::Inside => is_taken_apart(alloc, first, second, wanted),
+        Asked::LastPart => ends_in(alloc, first, wanted),
+        Asked::IsPath => is_path(alloc, first, wanted),
+    }
+}
+
+/// How many cases of a table are right, up to the first that is not.
+fn count_right(alloc: Global, asked: Asked, cases: &[Case]) -> Result<usize, PathFault> {
+    for (count, case) in cases.iter().enumerate() {
+        if !is_right(alloc, asked, case)? {
+            return Ok(count);
+        }
+    }
+    Ok(cases.len())
+}
+
+/// Whether a relative path that is known to be one has its name's text.
+fn is_known(alloc: Global) -> Result<bool, AllocError> {
+    let path = RelativePath::name(alloc, "a.rlib")?;
+    Ok(path.as_str() == "a.rlib")
 }
 
 /// Whether a path stands before another.
@@ -264,23 +281,17 @@ fn stands_before(alloc: Global, low: &str, high: &str) -> Result<bool, PathFault
     Ok(low < high)
 }
 
-const TEXTS_THAT_ARE_PATHS: &[(&str, bool)] = &[
-    ("/", true),
-    ("/w/a", true),
-    ("", false),
-    ("w", false),
-    ("/w/", false),
-    ("//", false),
-    ("/w/../a", false),
-    ("/w\0", false),
-];
-
 #[test]
-fn texts_that_are_paths(rt: HostRuntime) -> Result<(), Fail> {
-    for case in TEXTS_THAT_ARE_PATHS {
-        let (text, wanted) = *case;
-        assert_eq!(rt; is_path(rt.alloc(), text)?, wanted, "of {text}");
+fn paths(rt: HostRuntime) -> Result<(), Fail> {
+    for (number, table) in TABLES.iter().enumerate() {
+        let (asked, cases) = *table;
+        let count = count_right(rt.alloc(), asked, cases)?;
+        assert_eq!(rt; count, cases.len(), "table {number}");
     }
+    assert!(rt; is_known(rt.alloc())?);
     assert!(rt; stands_before(rt.alloc(), "/a", "/a.b")?);
+    parsing_keeps_paths();
+    paths_join_again();
+    folders_nest();
     Ok(())
 }

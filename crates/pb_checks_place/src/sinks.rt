@@ -2,7 +2,6 @@
 
 use pb_place::{Out, Over};
 use std::io::{self, Write};
-use std::test::Fail;
 
 /// A writer that takes at most three bytes of each write, then none of one, and then fails.
 #[derive(Drop)]
@@ -30,18 +29,14 @@ fn takes<O: Out>(sink: &mut O, bytes: &str, taken: Option<usize>, failures: u64)
     sink.write(bytes.as_bytes()) == taken && sink.failures() == failures
 }
 
-const OVER_BYTES: &[(&str, usize)] = &[("ab", 2), ("", 0), ("c", 1)];
+/// What is written to bytes, how many are taken, and the failures after it.
+const OVER_BYTES: &[(&str, Option<usize>, u64)] = &[
+    ("ab", Some(2), 0),
+    ("", Some(0), 0),
+    ("c", Some(1), 0),
+];
 
-#[test]
-fn over_bytes(rt: HostRuntime) -> Result<(), Fail> {
-    let mut sink = Over::new(Vec::new(rt.alloc()));
-    for case in OVER_BYTES {
-        let (bytes, taken) = *case;
-        assert!(rt; takes(&mut sink, bytes, Some(taken), 0), "of {bytes}");
-    }
-    Ok(())
-}
-
+/// The same of a tiring writer.
 const OVER_A_TIRING_WRITER: &[(&str, Option<usize>, u64)] = &[
     ("abcd", Some(3), 0),
     ("d", Some(0), 1),
@@ -49,13 +44,19 @@ const OVER_A_TIRING_WRITER: &[(&str, Option<usize>, u64)] = &[
     ("", None, 3),
 ];
 
-#[test]
-fn over_a_tiring_writer(rt: HostRuntime) -> Result<(), Fail> {
-    let mut sink = Over::new(Tiring { writes: 0 });
-    // what is written, how many bytes are taken, and the failures after it
-    for case in OVER_A_TIRING_WRITER {
+/// Whether each write takes what it is to take.
+fn takes_all<O: Out>(sink: &mut O, cases: &[(&str, Option<usize>, u64)]) -> bool {
+    for case in cases {
         let (bytes, taken, failures) = *case;
-        assert!(rt; takes(&mut sink, bytes, taken, failures), "of {bytes}");
+        if !takes(sink, bytes, taken, failures) {
+            return false;
+        }
     }
-    Ok(())
+    true
+}
+
+#[test]
+fn sinks(rt: HostRuntime) {
+    assert!(rt; takes_all(&mut Over::new(Vec::new(rt.alloc())), OVER_BYTES));
+    assert!(rt; takes_all(&mut Over::new(Tiring { writes: 0 }), OVER_A_TIRING_WRITER));
 }

@@ -1,7 +1,7 @@
 //! Plans of packages without scripts: the manifests and the other files of the folders in `/w`, each behind a line `@ PATH`, and after a line
 //! `---` what is asked for and the plan or the refusal, written by hand from the rules: the units in order, each with its
 //! key and its level, and where `!whole` is asked for with the places of what it needs and reaches. A name stands for
-//! `-p`, `feat:NAME` for `--features`, `lib`, `bins` and `bin:NAME` for `--lib`, `--bins` and `--bin`, `@NAME` for a
+//! `-p`, `f:TEXT` for `--features`, `lib`, `bins` and `bin:NAME` for `--lib`, `--bins` and `--bin`, `@NAME` for a
 //! profile; `!missing` asks for the dependencies without a library.
 
 /// The cases.
@@ -49,7 +49,7 @@ package.name = "x"
 @ /w/x/src/lib.rs
 ---
 p = p.target.lib 0
-p feat:withx = x.target.lib 0; p.target.lib 1
+p f:withx = x.target.lib 0; p.target.lib 1
 === a circle of two
 @ /w/a/Cargo.toml
 package.name = "a"
@@ -183,9 +183,9 @@ required-features = ["f"]
 @ /w/a/src/bin/y.rs
 ---
 a = a.target.lib 0; a.target.bin-y 1
-a feat:f = a.target.lib 0; a.target.bin-x 1; a.target.bin-y 1
+a f:f = a.target.lib 0; a.target.bin-x 1; a.target.bin-y 1
 a bin:x = NothingToBuild
-a bin:x feat:f = a.target.lib 0; a.target.bin-x 1
+a bin:x f:f = a.target.lib 0; a.target.bin-x 1
 === a diamond
 @ /w/a/Cargo.toml
 package.name = "a"

@@ -1,20 +1,19 @@
 //! Plans, against a table of plans written by hand.
 
-ghost use Rattle.std.specs.Prelude.{IfOk};
+ghost use Rattle.std.specs.Prelude.{◌<◌, All, length};
 ghost use Rattle.pb_package.specs.Settled.{IsSettled};
 
-use crate::asking::{files_in, options_of, parts_of};
+use crate::asking::{options_of, parts_of, workspace_of};
 use crate::cases::CASES;
 use crate::script_cases::SCRIPT_CASES;
-use crate::show::{shown_fault, shown_plan, shown_texts};
-use pb_checks_files::workspace_in;
+use crate::show::{put_fault, put_plan, put_texts};
+use pb_checks_files::Shown;
 use pb_data::Text;
 use pb_feature::resolve;
-use pb_manifest::OptLevel;
-use pb_package::{Side, Workspace};
+use pb_package::{Selection, Side, Workspace};
 use pb_unit::{Plan, PlanFault, Unit, What};
 use pb_workspace::selected;
-use std::alloc::Global;
+use std::alloc::{AllocError, Global};
 use std::process::Abort;
 use std::test::Fail;
 
@@ -26,13 +25,21 @@ fn profile_in(words: &str) -> &str {
     }
 }
 
-/// The workspace of these files.
-fn workspace_of(alloc: Global, files: &str) -> Result<Workspace, Fail>
-    ensures { IfOk result IsSettled }
+/// A root manifest in `/w`, all of whose folders with a manifest are members.
+const ROOT: &str = "@ /w/Cargo.toml\n[workspace]\nmembers = [\"*\"]\n";
+
+/// The plan of a selection.
+fn planned(
+    alloc: Global,
+    workspace: &Workspace,
+    selection: &Selection,
+    words: &str,
+) -> Result<Result<Plan, PlanFault>, Fail>
+    requires settled { IsSettled workspace.now }
+    requires within { All (λ place. place < length workspace.now.packages) selection.now.packages }
 {
-    let mut memory = files_in(alloc, files)?;
-    let workspace = workspace_in(alloc, &mut memory)??;
-    Ok(workspace)
+    let features = resolve(alloc, workspace, selection)?;
+    Ok(Plan::plan(alloc, workspace, &features, selection, profile_in(words)))
 }
 
 /// The plan of a workspace.
@@ -43,24 +50,33 @@ fn plan_of(
 ) -> Result<Result<Plan, PlanFault>, Fail>
     requires { IsSettled workspace.now }
 {
-    let options = options_of(alloc, words)?;
+    let options = options_of(alloc, words, " ")?;
     let selection = selected(alloc, workspace, &options)?;
-    let features = resolve(alloc, workspace, &selection)?;
-    Ok(Plan::plan(alloc, workspace, &features, &selection, profile_in(words)))
+    planned(alloc, workspace, &selection, words)
 }
 
-/// What an answer is shown as.
-fn shown(alloc: Global, answer: Result<Plan, PlanFault>, words: &str) -> Result<String, Fail> {
+/// Puts what an answer is shown as.
+fn put_answer(out: &mut Shown, answer: &Result<Plan, PlanFault>, words: &str) {
     match answer {
-        Err(fault) => shown_fault(alloc, fault),
+        Err(fault) => put_fault(out, fault),
         Ok(plan) => {
             if words.contains("!missing") {
-                shown_texts(alloc, plan.without_library())
+                put_texts(out, plan.without_library());
             } else {
-                shown_plan(alloc, &plan, words.contains("!whole"))
+                put_plan(out, plan, words.contains("!whole"));
             }
         }
     }
+}
+
+/// Whether the plan of a workspace is shown as this.
+fn is_answered(alloc: Global, workspace: &Workspace, words: &str, want: &str) -> Result<bool, Fail>
+    requires { IsSettled workspace.now }
+{
+    let answer = plan_of(alloc, workspace, words)?;
+    let mut out = Shown::new(alloc);
+    put_answer(&mut out, &answer, words);
+    Ok(out.says(want))
 }
 
 /// Asks the questions about a workspace, one a line, each with its answer behind ` = `. How many there were.
@@ -75,9 +91,7 @@ fn ask_all(
     let mut count = 0usize;
     for line in questions.lines() {
         if let Some((words, want)) = line.split_once(" = ") {
-            let answer = plan_of(alloc, workspace, words)?;
-            let answer = shown(alloc, answer, words)?;
-            assert_eq!(rt; answer.as_str(), want);
+            assert!(rt; is_answered(alloc, workspace, words, want)?, "{line}");
             count = count.saturating_add(1);
         }
     }
@@ -89,7 +103,7 @@ fn try_case(rt: &impl Abort, alloc: Global, case: &str) -> Result<usize, Fail> {
     let Some((files, questions)) = parts_of(case) else {
         return Ok(0);
     };
-    let workspace = workspace_of(alloc, files)?;
+    let workspace = workspace_of(alloc, ROOT, files)?;
     ask_all(rt, alloc, &workspace, questions)
 }
 
@@ -102,52 +116,40 @@ fn try_cases(rt: &impl Abort, alloc: Global, cases: &str) -> Result<usize, Fail>
     Ok(count)
 }
 
-#[test]
-fn plans(rt: HostRuntime) -> Result<(), Fail> {
-    assert_eq!(rt; try_cases(&rt, rt.alloc(), CASES)?, 53);
-    Ok(())
-}
-
-#[test]
-fn plans_with_scripts(rt: HostRuntime) -> Result<(), Fail> {
-    assert_eq!(rt; try_cases(&rt, rt.alloc(), SCRIPT_CASES)?, 25);
-    Ok(())
-}
-
 /// The files of a package with so many binaries.
-fn many_binaries(alloc: Global, count: usize) -> Result<String, Fail> {
-    let mut files = String::from_str(alloc, "@ /w/a/Cargo.toml\npackage.name = \"a\"\n")?;
+fn many_binaries(alloc: Global, count: u64) -> Result<String, AllocError> {
+    let mut files = Shown::new(alloc);
+    files.put(&["@ /w/a/Cargo.toml\npackage.name = \"a\"\n"]);
     for number in 0..count {
-        let file = format!(in alloc; "@ /w/a/src/bin/b{number}.rs\n")?;
-        files.push_str(file.as_str())?;
+        files.put(&["@ /w/a/src/bin/b"]);
+        files.put_number(number);
+        files.put(&[".rs\n"]);
     }
-    Ok(files)
+    files.whole()
 }
 
-/// How the plan of a package with so many binaries ends.
-fn with_binaries(alloc: Global, count: usize) -> Result<String, Fail> {
+/// Whether a plan has so many units; none for too many.
+fn has_units(answer: &Result<Plan, PlanFault>, wanted: Option<usize>) -> bool {
+    match answer {
+        Ok(plan) => wanted == Some(plan.units().len()),
+        Err(PlanFault::TooManyUnits) => wanted.is_none(),
+        Err(_) => false,
+    }
+}
+
+/// Whether the plan of the package of a workspace has so many units.
+fn plans_units(alloc: Global, workspace: &Workspace, wanted: Option<usize>) -> Result<bool, Fail>
+    requires { IsSettled workspace.now }
+{
+    let answer = plan_of(alloc, workspace, "a")?;
+    Ok(has_units(&answer, wanted))
+}
+
+/// Whether the plan of a package with so many binaries has so many units.
+fn binaries_give(alloc: Global, count: u64, wanted: Option<usize>) -> Result<bool, Fail> {
     let files = many_binaries(alloc, count)?;
-    let workspace = workspace_of(alloc, files.as_str())?;
-    match plan_of(alloc, &workspace, "a")? {
-        Ok(plan) => {
-            let count = plan.units().len();
-            Ok(format!(in alloc; "{count} units")?)
-        }
-        answer => shown(alloc, answer, ""),
-    }
-}
-
-/// Whether the plan of a package with so many binaries ends like this.
-fn ends_so(alloc: Global, count: usize, wanted: &str) -> Result<bool, Fail> {
-    let end = with_binaries(alloc, count)?;
-    Ok(end.as_str() == wanted)
-}
-
-#[test]
-fn number_of_units(rt: HostRuntime) -> Result<(), Fail> {
-    assert!(rt; ends_so(rt.alloc(), 4096, "4096 units")?);
-    assert!(rt; ends_so(rt.alloc(), 4097, "TooManyUnits")?);
-    Ok(())
+    let workspace = workspace_of(alloc, ROOT, files.as_str())?;
+    plans_units(alloc, &workspace, wanted)
 }
 
 /// A package with a script, and one that it needs on both sides.
@@ -172,66 +174,76 @@ const FOLDERS_AND_LEVELS: &str = r#"/w/target/release/b.host.lib Zero
 /w/target/release/a.target.lib Three
 "#;
 
-/// The folder and the optimisation of each unit.
-fn folders_and_levels(alloc: Global, plan: &Plan) -> Result<String, Fail> {
-    let mut shown = String::new(alloc);
-    for planned in plan.units() {
-        shown.push_str(planned.out.as_str())?;
-        let level: OptLevel = planned.settings.opt_level;
-        let level = format!(in alloc; " {level:?}\n")?;
-        shown.push_str(level.as_str())?;
-    }
-    Ok(shown)
-}
-
 /// Whether these are the folders and levels of a plan, and a place behind its five units has nothing.
-fn has_folders(alloc: Global, plan: &Plan) -> Result<bool, Fail> {
-    let found = folders_and_levels(alloc, plan)?;
-    Ok(
-        found.as_str() == FOLDERS_AND_LEVELS
-            && plan.level(5) == 0
-            && plan.needs(5).is_empty()
-            && plan.reaches(5).is_empty(),
-    )
+fn has_folders(alloc: Global, plan: &Plan) -> bool {
+    let mut shown = Shown::new(alloc);
+    for planned in plan.units() {
+        shown.put(&[planned.out.as_str(), " "]);
+        shown.put_value(&planned.settings.opt_level);
+        shown.put(&["\n"]);
+    }
+    shown.says(FOLDERS_AND_LEVELS)
+        && plan.level(5) == 0
+        && plan.needs(5).is_empty()
+        && plan.reaches(5).is_empty()
 }
 
-/// Whether the plan of `BOTH_SIDES` under the profile `bench` has these folders and levels.
-fn both_have_folders(alloc: Global) -> Result<bool, Fail> {
-    let workspace = workspace_of(alloc, BOTH_SIDES)?;
-    let plan = plan_of(alloc, &workspace, "a @bench")??;
-    has_folders(alloc, &plan)
+/// Whether the plan of a workspace under the profile `bench` has these folders and levels.
+fn bench_has_folders(alloc: Global, workspace: &Workspace) -> Result<bool, Fail>
+    requires { IsSettled workspace.now }
+{
+    match plan_of(alloc, workspace, "a @bench")? {
+        Ok(plan) => Ok(has_folders(alloc, &plan)),
+        Err(_) => Ok(false),
+    }
 }
 
-#[test]
-fn folders_and_settings(rt: HostRuntime) -> Result<(), Fail> {
-    assert!(rt; both_have_folders(rt.alloc())?);
-    Ok(())
-}
-
-/// The key of a unit of the packages of `BOTH_SIDES`.
-fn key_of(alloc: Global, unit: &Unit) -> Result<Text, Fail> {
-    let workspace = workspace_of(alloc, BOTH_SIDES)?;
-    Ok(unit.key(alloc, &workspace)?)
-}
-
-/// Whether this is the key of a unit of the packages of `BOTH_SIDES`.
+/// Whether this is the key of a unit.
 fn has_key(
     alloc: Global,
-    owner: usize,
-    side: Side,
-    what: What,
+    workspace: &Workspace,
+    unit: &Unit,
     wanted: &str,
-) -> Result<bool, Fail> {
-    let unit = Unit { owner, side, what };
-    let key = key_of(alloc, &unit)?;
+) -> Result<bool, AllocError> {
+    let key = unit.key(alloc, workspace)?;
     Ok(key.as_str() == wanted)
 }
 
+/// A binary of the package `b` on the host.
+fn binary(alloc: Global) -> Result<Unit, AllocError> {
+    let name = Text::from_str(alloc, "x_1")?;
+    Ok(Unit {
+        owner: 1,
+        side: Side::Host,
+        what: What::Bin(name),
+    })
+}
+
+/// Whether the keys of a unit, and of one of no package, are right.
+fn has_keys(alloc: Global, workspace: &Workspace) -> Result<bool, AllocError> {
+    let run = Unit {
+        owner: 2,
+        side: Side::Target,
+        what: What::Run,
+    };
+    let is_run = has_key(alloc, workspace, &run, ".target.run")?;
+    let binary = binary(alloc)?;
+    Ok(is_run && has_key(alloc, workspace, &binary, "b.host.bin-x_1")?)
+}
+
+/// Whether the folders, levels and keys of `BOTH_SIDES` are right.
+fn are_both_right(alloc: Global) -> Result<bool, Fail> {
+    let workspace = workspace_of(alloc, ROOT, BOTH_SIDES)?;
+    let has_keys = has_keys(alloc, &workspace)?;
+    Ok(bench_has_folders(alloc, &workspace)? && has_keys)
+}
+
 #[test]
-fn keys(rt: HostRuntime) -> Result<(), Fail> {
-    let alloc = rt.alloc();
-    let binary = What::Bin(Text::from_str(alloc, "x_1")?);
-    assert!(rt; has_key(alloc, 1, Side::Host, binary, "b.host.bin-x_1")?);
-    assert!(rt; has_key(alloc, 2, Side::Target, What::Run, ".target.run")?);
+fn plans(rt: HostRuntime) -> Result<(), Fail> {
+    assert_eq!(rt; try_cases(&rt, rt.alloc(), CASES)?, 53);
+    assert_eq!(rt; try_cases(&rt, rt.alloc(), SCRIPT_CASES)?, 25);
+    assert!(rt; binaries_give(rt.alloc(), 4096, Some(4096))?);
+    assert!(rt; binaries_give(rt.alloc(), 4097, None)?);
+    assert!(rt; are_both_right(rt.alloc())?);
     Ok(())
 }

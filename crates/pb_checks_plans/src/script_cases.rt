@@ -1,7 +1,7 @@
 //! Plans of packages with scripts: the manifests and the other files of the folders in `/w`, each behind a line `@ PATH`, and after a line
 //! `---` what is asked for and the plan or the refusal, written by hand from the rules: the units in order, each with its
 //! key and its level, and where `!whole` is asked for with the places of what it needs and reaches. A name stands for
-//! `-p`, `feat:NAME` for `--features`, `lib`, `bins` and `bin:NAME` for `--lib`, `--bins` and `--bin`, `@NAME` for a
+//! `-p`, `f:TEXT` for `--features`, `lib`, `bins` and `bin:NAME` for `--lib`, `--bins` and `--bin`, `@NAME` for a
 //! profile; `!missing` asks for the dependencies without a library.
 
 /// The cases.
@@ -234,5 +234,5 @@ package.name = "b"
 @ /w/b/src/lib.rs
 ---
 a = a.target.script 0; a.target.run 1; a.target.lib 2
-a feat:on = b.host.lib 0; a.target.script 1; a.target.run 2; a.target.lib 3
+a f:on = b.host.lib 0; a.target.script 1; a.target.run 2; a.target.lib 3
 "#;

@@ -3,7 +3,6 @@
 use pb_data::{Bytes, Items, Mentions, Table, Text, TryCopy};
 use std::alloc::{AllocError, Global};
 use std::cmp::Ordering;
-use std::process::Abort;
 use std::test::Fail;
 
 /// Whether items are the texts that stand in another one, with spaces between them.
@@ -49,18 +48,6 @@ const ORDERS: &[(&str, &str, Ordering)] = &[
     ("\u{e9}", "\u{e9}", Ordering::Equal),
 ];
 
-#[test]
-fn texts_have_byte_order(rt: HostRuntime) -> Result<(), Fail> {
-    for case in ORDERS {
-        let (first, second, wanted) = *case;
-        assert!(rt;
-            is_ordered(rt.alloc(), first, second, wanted)?,
-            "{first} beside {second}"
-        );
-    }
-    Ok(())
-}
-
 /// Mentions a word.
 fn mention(alloc: Global, mentions: &mut Mentions, word: &str) -> Result<(), AllocError> {
     let word = Text::from_str(alloc, word)?;
@@ -99,12 +86,11 @@ fn become_items(alloc: Global, mentions: Mentions, wanted: &str) -> Result<bool,
     Ok(are(&items, wanted))
 }
 
-#[test]
-fn mentions_stand_once(rt: HostRuntime) -> Result<(), Fail> {
-    let mentions = mentions_of(rt.alloc(), "b a b c a")?;
-    assert!(rt; mentions_one(rt.alloc(), &mentions, "a", "d")?);
-    assert!(rt; become_items(rt.alloc(), mentions, "b a c")?);
-    Ok(())
+/// Whether words that are mentioned stand once.
+fn words_stand_once(alloc: Global) -> Result<bool, AllocError> {
+    let mentions = mentions_of(alloc, "b a b c a")?;
+    let is_one = mentions_one(alloc, &mentions, "a", "d")?;
+    Ok(become_items(alloc, mentions, "b a c")? && is_one)
 }
 
 /// Names and values that are put into a table one after another.
@@ -137,13 +123,15 @@ fn has_value(alloc: Global, table: &Table<u8>, name: &str, wanted: u8) -> Result
 /// Names, and the value of each in the table; 0 where it has none.
 const VALUES: &[(&str, u8)] = &[("a", 2), ("b", 3), ("c", 4), ("d", 0)];
 
-/// Asserts the value of each name in a table.
-fn assert_values(rt: &impl Abort, alloc: Global, table: &Table<u8>) -> Result<(), AllocError> {
+/// Whether each name has its value in a table.
+fn has_values(alloc: Global, table: &Table<u8>) -> Result<bool, AllocError> {
     for case in VALUES {
         let (name, value) = *case;
-        assert!(rt; has_value(alloc, table, name, value)?, "of {name}");
+        if !has_value(alloc, table, name, value)? {
+            return Ok(false);
+        }
     }
-    Ok(())
+    Ok(true)
 }
 
 /// Whether entries have these names, in this order.
@@ -169,12 +157,11 @@ fn has_names(
     Ok(is_counted && are_named(entries.as_slice(), wanted))
 }
 
-#[test]
-fn tables_keep_the_first_place_and_the_last_value(rt: HostRuntime) -> Result<(), Fail> {
-    let table = filled_table(rt.alloc())?;
-    assert_values(&rt, rt.alloc(), &table)?;
-    assert!(rt; has_names(rt.alloc(), table, 3, "b a c")?);
-    Ok(())
+/// Whether a table keeps the first place and the last value of each name.
+fn table_keeps(alloc: Global) -> Result<bool, AllocError> {
+    let table = filled_table(alloc)?;
+    let is_right = has_values(alloc, &table)?;
+    Ok(has_names(alloc, table, 3, "b a c")? && is_right)
 }
 
 /// Whether a copy of bytes equals them, and fewer bytes do not.
@@ -183,12 +170,11 @@ fn equals_its_copy(alloc: Global, bytes: &Bytes, fewer: &Bytes) -> Result<bool, 
     Ok(copy == *bytes && fewer != bytes)
 }
 
-#[test]
-fn bytes_equal_their_copy(rt: HostRuntime) -> Result<(), Fail> {
-    let bytes = Bytes::from_slice(rt.alloc(), &[0, 255, 7])?;
-    let fewer = Bytes::from_slice(rt.alloc(), &[0, 255])?;
-    assert!(rt; equals_its_copy(rt.alloc(), &bytes, &fewer)?);
-    Ok(())
+/// The same of what is written here.
+fn bytes_are_copied(alloc: Global) -> Result<bool, AllocError> {
+    let bytes = Bytes::from_slice(alloc, &[0, 255, 7])?;
+    let fewer = Bytes::from_slice(alloc, &[0, 255])?;
+    equals_its_copy(alloc, &bytes, &fewer)
 }
 
 /// A text, and bytes where there are some.
@@ -236,10 +222,24 @@ fn none_are_empty(alloc: Global) -> bool {
     none.is_empty()
 }
 
+/// Whether entries are copied.
+fn items_are_copied(alloc: Global) -> Result<bool, AllocError> {
+    let items = entries(alloc)?;
+    are_copied(alloc, &items)
+}
+
 #[test]
-fn items_equal_their_copy(rt: HostRuntime) -> Result<(), Fail> {
-    assert!(rt; none_are_empty(rt.alloc()));
-    let items = entries(rt.alloc())?;
-    assert!(rt; are_copied(rt.alloc(), &items)?);
+fn orders_and_values(rt: HostRuntime) -> Result<(), Fail> {
+    for case in ORDERS {
+        let (first, second, wanted) = *case;
+        assert!(rt;
+            is_ordered(rt.alloc(), first, second, wanted)?,
+            "{first} beside {second}"
+        );
+    }
+    assert!(rt; words_stand_once(rt.alloc())?);
+    assert!(rt; table_keeps(rt.alloc())?);
+    assert!(rt; bytes_are_copied(rt.alloc())?);
+    assert!(rt; items_are_copied(rt.alloc())? && none_are_empty(rt.alloc()));
     Ok(())
 }

@@ -1,6 +1,6 @@
 //! What the readers answer, against worked examples.
 
-use crate::shown::{put_call, put_each};
+use pb_checks_files::Shown;
 use pb_data::{Text, TryCopy};
 use pb_directive::{
     DepInfo, Directive, Directives, LineFault, laws, read_dep_info, read_directives,
@@ -9,67 +9,70 @@ use std::alloc::{AllocError, Global};
 use std::process::Abort;
 use std::test::Fail;
 
-fn put_directive(out: &mut String, directive: &Directive) -> Result<(), AllocError> {
+fn put_directive(out: &mut Shown, directive: &Directive) {
     match directive {
-        Directive::RerunIfChanged(path) => put_call(out, "changed", path.as_str(), ""),
-        Directive::RerunIfEnvChanged(name) => put_call(out, "env-changed", name.as_str(), ""),
-        Directive::LinkArg(flag) => put_call(out, "arg", flag.as_str(), ""),
-        Directive::LinkArgBins(flag) => put_call(out, "arg-bins", flag.as_str(), ""),
-        Directive::LinkArgCdylib(flag) => put_call(out, "arg-cdylib", flag.as_str(), ""),
-        Directive::LinkArgTests(flag) => put_call(out, "arg-tests", flag.as_str(), ""),
-        Directive::LinkArgExamples(flag) => put_call(out, "arg-examples", flag.as_str(), ""),
-        Directive::LinkArgBenches(flag) => put_call(out, "arg-benches", flag.as_str(), ""),
-        Directive::LinkArgBin(name, flag) => put_call(out, "arg-bin", name.as_str(), flag.as_str()),
-        Directive::LinkLib(name) => put_call(out, "lib", name.as_str(), ""),
-        Directive::LinkSearch(folder) => put_call(out, "search", folder.as_str(), ""),
-        Directive::Cfg(condition) => put_call(out, "cfg", condition.as_str(), ""),
-        Directive::CheckCfg(condition) => put_call(out, "check-cfg", condition.as_str(), ""),
-        Directive::Env(name, value) => put_call(out, "env", name.as_str(), value.as_str()),
-        Directive::Metadata(key, value) => put_call(out, "metadata", key.as_str(), value.as_str()),
-        Directive::Warning(text) => put_call(out, "warning", text.as_str(), ""),
-        Directive::Error(text) => put_call(out, "error", text.as_str(), ""),
+        Directive::RerunIfChanged(path) => out.put_call("changed", path.as_str(), ""),
+        Directive::RerunIfEnvChanged(name) => out.put_call("env-changed", name.as_str(), ""),
+        Directive::LinkArg(flag) => out.put_call("arg", flag.as_str(), ""),
+        Directive::LinkArgBins(flag) => out.put_call("arg-bins", flag.as_str(), ""),
+        Directive::LinkArgCdylib(flag) => out.put_call("arg-cdylib", flag.as_str(), ""),
+        Directive::LinkArgTests(flag) => out.put_call("arg-tests", flag.as_str(), ""),
+        Directive::LinkArgExamples(flag) => out.put_call("arg-examples", flag.as_str(), ""),
+        Directive::LinkArgBenches(flag) => out.put_call("arg-benches", flag.as_str(), ""),
+        Directive::LinkArgBin(name, flag) => out.put_call("arg-bin", name.as_str(), flag.as_str()),
+        Directive::LinkLib(name) => out.put_call("lib", name.as_str(), ""),
+        Directive::LinkSearch(folder) => out.put_call("search", folder.as_str(), ""),
+        Directive::Cfg(condition) => out.put_call("cfg", condition.as_str(), ""),
+        Directive::CheckCfg(condition) => out.put_call("check-cfg", condition.as_str(), ""),
+        Directive::Env(name, value) => out.put_call("env", name.as_str(), value.as_str()),
+        Directive::Metadata(key, value) => out.put_call("metadata", key.as_str(), value.as_str()),
+        Directive::Warning(text) => out.put_call("warning", text.as_str(), ""),
+        Directive::Error(text) => out.put_call("error", text.as_str(), ""),
     }
 }
 
-fn show(alloc: Global, directives: &Directives) -> Result<String, AllocError> {
-    let mut shown = String::new(alloc);
+fn put_fault(out: &mut Shown, fault: LineFault) {
+    let (name, line) = match fault {
+        LineFault::NotText(line) => ("NotText ", line),
+        LineFault::UnknownKey(line) => ("UnknownKey ", line),
+        LineFault::BadValue(line) => ("BadValue ", line),
+        LineFault::BadFlag(line) => ("BadFlag ", line),
+        LineFault::OutOfMemory => ("OutOfMemory ", 0),
+    };
+    out.put(&[name]);
+    out.put_number(line);
+}
+
+fn put_directives(out: &mut Shown, directives: &Directives) {
     for directive in directives.as_slice() {
-        put_directive(&mut shown, directive)?;
-        shown.push_str(";")?;
-    }
-    Ok(shown)
-}
-
-fn show_fault(alloc: Global, fault: LineFault) -> Result<String, AllocError> {
-    match fault {
-        LineFault::NotText(line) => format!(in alloc; "NotText {line}"),
-        LineFault::UnknownKey(line) => format!(in alloc; "UnknownKey {line}"),
-        LineFault::BadValue(line) => format!(in alloc; "BadValue {line}"),
-        LineFault::BadFlag(line) => format!(in alloc; "BadFlag {line}"),
-        LineFault::OutOfMemory => format!(in alloc; "OutOfMemory"),
+        put_directive(out, directive);
+        out.put(&[";"]);
     }
 }
 
+/// What a copy of the directives in some bytes is, or why there are none.
 fn directives_in(alloc: Global, bytes: &[u8]) -> Result<String, AllocError> {
+    let mut shown = Shown::new(alloc);
     match read_directives(alloc, bytes) {
-        Ok(directives) => show(alloc, &directives.copy(alloc)?),
-        Err(fault) => show_fault(alloc, fault),
+        Ok(directives) => put_directives(&mut shown, &directives.copy(alloc)?),
+        Err(fault) => put_fault(&mut shown, fault),
     }
+    shown.whole()
 }
 
-fn show_names(alloc: Global, info: &DepInfo) -> Result<String, AllocError> {
-    let mut shown = String::new(alloc);
-    put_each(&mut shown, info.words.as_slice(), ";")?;
-    shown.push_str(" ")?;
-    put_each(&mut shown, info.variables.as_slice(), ";")?;
-    Ok(shown)
+fn put_names(out: &mut Shown, info: &DepInfo) {
+    out.put_each("", info.words.as_slice(), ";");
+    out.put(&[" "]);
+    out.put_each("", info.variables.as_slice(), ";");
 }
 
 fn names_in(alloc: Global, bytes: &[u8]) -> Result<String, AllocError> {
+    let mut shown = Shown::new(alloc);
     match read_dep_info(alloc, bytes) {
-        Ok(info) => show_names(alloc, &info),
-        Err(fault) => show_fault(alloc, fault),
+        Ok(info) => put_names(&mut shown, &info),
+        Err(fault) => put_fault(&mut shown, fault),
     }
+    shown.whole()
 }
 
 /// Whether a script's output says this.
@@ -122,12 +125,6 @@ const LINES: &[(&[u8], &str)] = &[
     ),
 ];
 
-#[test]
-fn lines_and_prefixes(rt: HostRuntime) -> Result<(), Fail> {
-    assert_outputs(&rt, rt.alloc(), LINES)?;
-    Ok(())
-}
-
 /// Outputs of scripts, and what they say: keys and values.
 const KEYS: &[(&[u8], &str)] = &[
     (b"cargo::rerun-if-changed=build.rs", "changed<build.rs><>;"),
@@ -172,42 +169,32 @@ const KEYS: &[(&[u8], &str)] = &[
     (b"cargo::warning=", "warning<><>;"),
 ];
 
-#[test]
-fn keys_and_values(rt: HostRuntime) -> Result<(), Fail> {
-    assert_outputs(&rt, rt.alloc(), KEYS)?;
-    Ok(())
-}
-
-/// Lines with a value that the key may not have.
-const BAD_VALUES: &[&[u8]] = &[
-    b"cargo:rerun-if-changed=",
-    b"cargo::rerun-if-env-changed=A\0",
-    b"cargo::rerun-if-env-changed==",
-    b"cargo::rustc-link-arg-bins=\0",
-    b"cargo::rustc-link-arg-cdylib=\0",
-    b"cargo::rustc-link-arg-tests=\0",
-    b"cargo::rustc-link-arg-examples=\0",
-    b"cargo::rustc-link-arg-benches=\0",
-    b"cargo::rustc-link-arg-bin=a=\0",
-    b"cargo::rustc-link-arg-bin=\0=a",
-    b"cargo::rustc-link-lib=",
-    b"cargo::rustc-link-lib=a\0",
-    b"cargo::rustc-link-search=a\0",
-    b"cargo::rustc-cfg=a\0",
-    b"cargo::rustc-check-cfg=",
-    b"cargo::rustc-check-cfg=a\0",
-    b"cargo::rustc-flags=-la\0",
-    b"cargo::rustc-env=A=\0",
-    b"cargo::rustc-env=\0=a",
-    b"cargo::metadata==a",
-    b"cargo::metadata=a=\0",
-    b"cargo::metadata=\0=a",
-    b"cargo::metadata",
-    b"cargo::unknown",
-];
-
-/// Lines that are near to those, and what they say.
-const NEAR_VALUES: &[(&[u8], &str)] = &[
+/// Lines with a value that their key may not have, and lines that are near to those.
+const VALUES: &[(&[u8], &str)] = &[
+    (b"cargo:rerun-if-changed=", "BadValue 1"),
+    (b"cargo::rerun-if-env-changed=A\0", "BadValue 1"),
+    (b"cargo::rerun-if-env-changed==", "BadValue 1"),
+    (b"cargo::rustc-link-arg-bins=\0", "BadValue 1"),
+    (b"cargo::rustc-link-arg-cdylib=\0", "BadValue 1"),
+    (b"cargo::rustc-link-arg-tests=\0", "BadValue 1"),
+    (b"cargo::rustc-link-arg-examples=\0", "BadValue 1"),
+    (b"cargo::rustc-link-arg-benches=\0", "BadValue 1"),
+    (b"cargo::rustc-link-arg-bin=a=\0", "BadValue 1"),
+    (b"cargo::rustc-link-arg-bin=\0=a", "BadValue 1"),
+    (b"cargo::rustc-link-lib=", "BadValue 1"),
+    (b"cargo::rustc-link-lib=a\0", "BadValue 1"),
+    (b"cargo::rustc-link-search=a\0", "BadValue 1"),
+    (b"cargo::rustc-cfg=a\0", "BadValue 1"),
+    (b"cargo::rustc-check-cfg=", "BadValue 1"),
+    (b"cargo::rustc-check-cfg=a\0", "BadValue 1"),
+    (b"cargo::rustc-flags=-la\0", "BadValue 1"),
+    (b"cargo::rustc-env=A=\0", "BadValue 1"),
+    (b"cargo::rustc-env=\0=a", "BadValue 1"),
+    (b"cargo::metadata==a", "BadValue 1"),
+    (b"cargo::metadata=a=\0", "BadValue 1"),
+    (b"cargo::metadata=\0=a", "BadValue 1"),
+    (b"cargo::metadata", "BadValue 1"),
+    (b"cargo::unknown", "BadValue 1"),
     (b"cargo::rustc-flags=-L", "BadFlag 1"),
     (b"cargo::rustc-flags=-l", "BadFlag 1"),
     (b"cargo::rustc-flags=-L a -L", "BadFlag 1"),
@@ -220,15 +207,6 @@ const NEAR_VALUES: &[(&[u8], &str)] = &[
     (b"cargo:warning=w", "warning<w><>;"),
 ];
 
-#[test]
-fn values_that_a_key_may_not_have(rt: HostRuntime) -> Result<(), Fail> {
-    for (place, line) in BAD_VALUES.iter().enumerate() {
-        assert!(rt; says(rt.alloc(), *line, "BadValue 1")?, "case {place}");
-    }
-    assert_outputs(&rt, rt.alloc(), NEAR_VALUES)?;
-    Ok(())
-}
-
 /// What the first so many bytes of the line `cargo::rustc-cfg=ab` say, but for all of them.
 fn said_by_prefix(end: usize) -> &'static str {
     if end < 7 {
@@ -238,16 +216,6 @@ fn said_by_prefix(end: usize) -> &'static str {
     } else {
         "cfg<a><>;"
     }
-}
-
-#[test]
-fn prefixes_of_a_line(rt: HostRuntime) -> Result<(), Fail> {
-    let line = b"cargo::rustc-cfg=ab";
-    for end in 0..line.len() {
-        let wanted = said_by_prefix(end);
-        assert!(rt; says(rt.alloc(), &line[..end], wanted)?, "{end} bytes");
-    }
-    Ok(())
 }
 
 /// Dep-info, and what it names.
@@ -293,13 +261,21 @@ const RULES: &[(&[u8], &str)] = &[
 ];
 
 /// Whether dep-info names this.
-fn tells(alloc: Global, dep_info: &[u8], wanted: &str) -> Result<bool, AllocError> {
+pub fn tells(alloc: Global, dep_info: &[u8], wanted: &str) -> Result<bool, AllocError> {
     let found = names_in(alloc, dep_info)?;
     Ok(found.as_str() == wanted)
 }
 
 #[test]
-fn rules_and_variables(rt: HostRuntime) -> Result<(), Fail> {
+fn outputs_and_dep_info(rt: HostRuntime) -> Result<(), Fail> {
+    assert_outputs(&rt, rt.alloc(), LINES)?;
+    assert_outputs(&rt, rt.alloc(), KEYS)?;
+    assert_outputs(&rt, rt.alloc(), VALUES)?;
+    let line = b"cargo::rustc-cfg=ab";
+    for end in 0..line.len() {
+        let wanted = said_by_prefix(end);
+        assert!(rt; says(rt.alloc(), &line[..end], wanted)?, "{end} bytes");
+    }
     for (place, case) in RULES.iter().enumerate() {
         let (dep_info, wanted) = *case;
         assert!(rt;
@@ -333,9 +309,10 @@ fn are_warning(directives: &[Directive], length: usize) -> bool {
     }
 }
 
-/// Whether a script's output says one warning, of this length.
-fn warns_at_length(alloc: Global, output: &[u8], length: usize) -> Result<bool, LineFault> {
-    let directives = read_directives(alloc, output)?;
+/// Whether a warning of this length is read.
+fn warns_at_length(alloc: Global, length: usize) -> Result<bool, Fail> {
+    let output = of_bytes(alloc, b"cargo::warning=", b'w', length)?;
+    let directives = read_directives(alloc, output.as_slice())?;
     Ok(are_warning(directives.as_slice(), length))
 }
 
@@ -347,30 +324,11 @@ fn are_one_text(texts: &[Text], length: usize) -> bool {
     }
 }
 
-/// Whether dep-info names one path, of this length.
-fn names_at_length(alloc: Global, dep_info: &[u8], length: usize) -> Result<bool, LineFault> {
-    let info = read_dep_info(alloc, dep_info)?;
+/// Whether dep-info that names one path of this length is read.
+fn names_at_length(alloc: Global, length: usize) -> Result<bool, Fail> {
+    let dep_info = of_bytes(alloc, b"o: ", b'w', length)?;
+    let info = read_dep_info(alloc, dep_info.as_slice())?;
     Ok(are_one_text(info.words.as_slice(), length))
-}
-
-#[test]
-fn long_plain_lines(rt: HostRuntime) -> Result<(), Fail> {
-    assert!(rt; plain_line_is_read(rt.alloc(), 4_194_304)?);
-    Ok(())
-}
-
-#[test]
-fn long_warnings(rt: HostRuntime) -> Result<(), Fail> {
-    let output = of_bytes(rt.alloc(), b"cargo::warning=", b'w', 4_194_289)?;
-    assert!(rt; warns_at_length(rt.alloc(), output.as_slice(), 4_194_289)?);
-    Ok(())
-}
-
-#[test]
-fn long_paths(rt: HostRuntime) -> Result<(), Fail> {
-    let dep_info = of_bytes(rt.alloc(), b"o: ", b'w', 4_194_301)?;
-    assert!(rt; names_at_length(rt.alloc(), dep_info.as_slice(), 4_194_301)?);
-    Ok(())
 }
 
 /// Whether a name is among the words of dep-info, and not among its variables.
@@ -384,14 +342,12 @@ fn count_words(alloc: Global, info: DepInfo) -> Result<usize, AllocError> {
     Ok(words.len())
 }
 
-#[test]
-fn mentions_give_items(rt: HostRuntime) -> Result<(), Fail> {
-    let name = Text::from_str(rt.alloc(), "a")?;
-    let info = read_dep_info(rt.alloc(), b"o: b a b")?;
+/// Whether dep-info has so many words, of which this is one.
+fn names_word(alloc: Global, dep_info: &[u8], name: &str, count: usize) -> Result<bool, Fail> {
+    let name = Text::from_str(alloc, name)?;
+    let info = read_dep_info(alloc, dep_info)?;
     let is_word = is_word_alone(&info, &name);
-    let count = count_words(rt.alloc(), info)?;
-    assert!(rt; is_word && count == 2);
-    Ok(())
+    Ok(count_words(alloc, info)? == count && is_word)
 }
 
 /// Faults of a line, and what they are in words.
@@ -409,17 +365,8 @@ fn reads(alloc: Global, fault: LineFault, wanted: &str) -> Result<bool, AllocErr
     Ok(words.as_str() == wanted)
 }
 
-#[test]
-fn faults_in_words(rt: HostRuntime) -> Result<(), Fail> {
-    for case in FAULTS_IN_WORDS {
-        let (fault, wanted) = *case;
-        assert!(rt; reads(rt.alloc(), fault, wanted)?, "{wanted}");
-    }
-    Ok(())
-}
-
-#[test]
-fn laws_are_named(_rt: HostRuntime) {
+/// Each law, called once.
+fn laws_are_named() {
     laws::directives_concatenate();
     laws::names_concatenate();
     laws::other_lines_say_nothing();
@@ -430,4 +377,18 @@ fn laws_are_named(_rt: HostRuntime) {
     pb_data::table::table_names::<Text>();
     pb_data::table::table_values::<Text>();
     pb_data::table::table_joins::<Text>();
+}
+
+#[test]
+fn long_lines_words_and_laws(rt: HostRuntime) -> Result<(), Fail> {
+    assert!(rt; plain_line_is_read(rt.alloc(), 4_194_304)?);
+    assert!(rt; warns_at_length(rt.alloc(), 4_194_289)?);
+    assert!(rt; names_at_length(rt.alloc(), 4_194_301)?);
+    assert!(rt; names_word(rt.alloc(), b"o: b a b", "a", 2)?);
+    for case in FAULTS_IN_WORDS {
+        let (fault, wanted) = *case;
+        assert!(rt; reads(rt.alloc(), fault, wanted)?, "{wanted}");
+    }
+    laws_are_named();
+    Ok(())
 }

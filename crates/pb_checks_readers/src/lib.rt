@@ -7,6 +7,8 @@
 #[cfg(test)]
 mod data;
 #[cfg(test)]
+mod dice;
+#[cfg(test)]
 mod directives;
 #[cfg(test)]
 mod faults;
@@ -28,8 +30,6 @@ mod records;
 mod results;
 #[cfg(test)]
 mod sessions;
-#[cfg(test)]
-mod shown;
 #[cfg(test)]
 mod stores;
 #[cfg(test)]

@@ -17,19 +17,14 @@ use std::alloc::{AllocError, Global};
 use std::process::Abort;
 use std::test::Fail;
 
-/// The answer to a manifest in one line.
-fn answer_to(alloc: Global, manifest: &[u8]) -> Result<String, Fail> {
-    shown(alloc, &read_manifest(alloc, manifest))
-}
-
-/// Whether the answer to a manifest is this.
-fn says(alloc: Global, manifest: &[u8], wanted: &str) -> Result<bool, Fail> {
-    let answer = answer_to(alloc, manifest)?;
+/// Whether the answer to a manifest, in one line, is this.
+fn says(alloc: Global, manifest: &[u8], wanted: &str) -> Result<bool, AllocError> {
+    let answer = shown(alloc, read_manifest(alloc, manifest))?;
     Ok(answer.as_str() == wanted)
 }
 
 /// Asserts the answers to the manifests of a table. How many there are.
-fn assert_answers(rt: &impl Abort, alloc: Global, cases: &str) -> Result<usize, Fail> {
+fn assert_answers(rt: &impl Abort, alloc: Global, cases: &str) -> Result<usize, AllocError> {
     let mut count = 0usize;
     for case in cases.split("=== ") {
         if let Some((wanted, manifest)) = case.split_once('\n') {
@@ -38,14 +33,6 @@ fn assert_answers(rt: &impl Abort, alloc: Global, cases: &str) -> Result<usize, 
         }
     }
     Ok(count)
-}
-
-#[test]
-fn manifests(rt: HostRuntime) -> Result<(), Fail> {
-    for case in CASES {
-        assert!(rt; assert_answers(&rt, rt.alloc(), *case)? >= 25);
-    }
-    Ok(())
 }
 
 /// As many line feeds.
@@ -58,103 +45,75 @@ fn blank(alloc: Global, length: usize) -> Result<Vec<u8>, AllocError> {
 }
 
 /// Whether the answer to as many line feeds is this.
-fn blank_says(alloc: Global, length: usize, wanted: &str) -> Result<bool, Fail> {
+fn blank_says(alloc: Global, length: usize, wanted: &str) -> Result<bool, AllocError> {
     let bytes = blank(alloc, length)?;
     says(alloc, bytes.as_slice(), wanted)
 }
 
-/// How many line feeds there are, and the answer to them.
-const SIZES: &[(usize, &str)] = &[(1_048_576, "BadKind(Package)"), (1_048_577, "TooLarge")];
-
 #[test]
-fn sizes(rt: HostRuntime) -> Result<(), Fail> {
-    for case in SIZES {
-        let (length, wanted) = *case;
-        assert!(rt; blank_says(rt.alloc(), length, wanted)?, "{wanted}");
+fn manifests(rt: HostRuntime) -> Result<(), Fail> {
+    for case in CASES {
+        assert!(rt; assert_answers(&rt, rt.alloc(), *case)? >= 25);
     }
+    assert!(rt; blank_says(rt.alloc(), 1_048_576, "BadKind(Package)")?);
+    assert!(rt; blank_says(rt.alloc(), 1_048_577, "TooLarge")?);
+    assert!(rt; says(rt.alloc(), b"name = \"\xff\"", "NotToml")?);
+    assert!(rt; says(rt.alloc(), b"\x00", "NotToml")?);
+    assert!(rt; says(rt.alloc(), b"\xef\xbb", "NotToml")?);
     Ok(())
 }
 
-const BYTES_THAT_ARE_NO_TEXT: &[&[u8]] = &[b"name = \"\xff\"", b"\x00", b"\xef\xbb"];
-
-#[test]
-fn bytes_that_are_no_text(rt: HostRuntime) -> Result<(), Fail> {
-    for case in BYTES_THAT_ARE_NO_TEXT {
-        assert!(rt; says(rt.alloc(), *case, "NotToml")?);
-    }
-    Ok(())
+/// Whether a text has the letters of a package's, of a crate's and of a feature's name, and whether it has a byte zero.
+fn letters_of(text: &str) -> (bool, bool, bool, bool) {
+    (
+        is_name(text),
+        is_crate_name(text),
+        is_feature_name(text),
+        has_zero(text),
+    )
 }
 
-/// Whether a text has the letters of a package's, of a crate's and of a feature's name.
-fn are_letters(text: &str) -> (bool, bool, bool) {
-    (is_name(text), is_crate_name(text), is_feature_name(text))
-}
-
-/// Texts, and whether each has the letters of a package's, a crate's and a feature's name.
-const LETTERS: &[(&str, bool, bool, bool)] = &[
-    ("a", true, true, true),
-    ("z", true, true, true),
-    ("A", true, true, true),
-    ("Z", true, true, true),
-    ("0", true, true, true),
-    ("9", true, true, true),
-    ("_", true, true, true),
-    ("-", true, false, false),
-    ("+", false, false, false),
-    (".", false, false, false),
-    ("@", false, false, false),
-    ("[", false, false, false),
-    ("`", false, false, false),
-    ("{", false, false, false),
-    ("/", false, false, false),
-    (":", false, false, false),
-    (" ", false, false, false),
-    ("\0", false, false, false),
-    ("\u{e9}", false, false, false),
-    ("", false, false, false),
-    ("az", true, true, true),
-    ("AZ", true, true, true),
-    ("09", true, true, true),
-    ("a_", true, true, true),
-    ("a-", true, false, true),
-    ("a+", false, false, true),
-    ("a.", false, false, true),
-    ("a@", false, false, false),
-    ("a[", false, false, false),
-    ("a`", false, false, false),
-    ("a{", false, false, false),
-    ("a/", false, false, false),
-    ("a:", false, false, false),
-    ("a ", false, false, false),
-    ("a\0", false, false, false),
-    ("a\u{e9}", false, false, false),
+/// Texts, whether each has the letters of a package's, a crate's and a feature's name, and whether it has a byte zero.
+const LETTERS: &[(&str, bool, bool, bool, bool)] = &[
+    ("a", true, true, true, false),
+    ("z", true, true, true, false),
+    ("A", true, true, true, false),
+    ("Z", true, true, true, false),
+    ("0", true, true, true, false),
+    ("9", true, true, true, false),
+    ("_", true, true, true, false),
+    ("-", true, false, false, false),
+    ("+", false, false, false, false),
+    (".", false, false, false, false),
+    ("@", false, false, false, false),
+    ("[", false, false, false, false),
+    ("`", false, false, false, false),
+    ("{", false, false, false, false),
+    ("/", false, false, false, false),
+    (":", false, false, false, false),
+    (" ", false, false, false, false),
+    ("\0", false, false, false, true),
+    ("\u{e9}", false, false, false, false),
+    ("", false, false, false, false),
+    ("az", true, true, true, false),
+    ("AZ", true, true, true, false),
+    ("09", true, true, true, false),
+    ("a_", true, true, true, false),
+    ("a-", true, false, true, false),
+    ("a+", false, false, true, false),
+    ("a.", false, false, true, false),
+    ("a@", false, false, false, false),
+    ("a[", false, false, false, false),
+    ("a`", false, false, false, false),
+    ("a{", false, false, false, false),
+    ("a/", false, false, false, false),
+    ("a:", false, false, false, false),
+    ("a ", false, false, false, false),
+    ("a\0", false, false, false, true),
+    ("a\u{e9}", false, false, false, false),
+    ("\0a", false, false, false, true),
+    ("a\u{1}", false, false, false, false),
 ];
-
-#[test]
-fn letters(rt: HostRuntime) {
-    for case in LETTERS {
-        let (text, package, library, feature) = *case;
-        assert!(rt; are_letters(text) == (package, library, feature), "{text}");
-    }
-}
-
-/// Texts, and whether each has a byte zero.
-const BYTE_ZERO: &[(&str, bool)] = &[
-    ("\0", true),
-    ("a\0", true),
-    ("\0a", true),
-    ("", false),
-    ("0", false),
-    ("a\u{1}", false),
-];
-
-#[test]
-fn byte_zero(rt: HostRuntime) {
-    for case in BYTE_ZERO {
-        let (text, wanted) = *case;
-        assert!(rt; has_zero(text) == wanted, "of {text}");
-    }
-}
 
 /// The version that a text says.
 fn version_of(alloc: Global, text: &str) -> Result<Version, ManifestFault> {
@@ -162,11 +121,10 @@ fn version_of(alloc: Global, text: &str) -> Result<Version, ManifestFault> {
     Version::read(alloc, text)
 }
 
-#[test]
-fn versions(rt: HostRuntime) -> Result<(), Fail> {
-    let version = version_of(rt.alloc(), "1.2.3")?;
-    assert_eq!(rt; version.number().minor, 2);
-    Ok(())
+/// The middle number of the version that a text says.
+fn minor_of(alloc: Global, text: &str) -> Result<u64, ManifestFault> {
+    let version = version_of(alloc, text)?;
+    Ok(version.number().minor)
 }
 
 /// The requirement that a text says.
@@ -175,11 +133,10 @@ fn requirement_of(alloc: Global, text: &str) -> Result<Requirement, ManifestFaul
     Requirement::read(alloc, text)
 }
 
-#[test]
-fn requirements(rt: HostRuntime) -> Result<(), Fail> {
-    let requirement = requirement_of(rt.alloc(), ">=1, <2")?;
-    assert_eq!(rt; requirement.parsed().comparators.len(), 2);
-    Ok(())
+/// How many comparisons the requirement that a text says has.
+fn count_comparisons(alloc: Global, text: &str) -> Result<usize, ManifestFault> {
+    let requirement = requirement_of(alloc, text)?;
+    Ok(requirement.parsed().comparators.len())
 }
 
 /// Faults, and what they are in words.
@@ -218,15 +175,6 @@ fn reads(alloc: Global, fault: ManifestFault, wanted: &str) -> Result<bool, Allo
     Ok(words.as_str() == wanted)
 }
 
-#[test]
-fn faults_in_words(rt: HostRuntime) -> Result<(), Fail> {
-    for case in FAULTS_IN_WORDS {
-        let (fault, wanted) = *case;
-        assert!(rt; reads(rt.alloc(), fault, wanted)?, "{wanted}");
-    }
-    Ok(())
-}
-
 /// Requirements, versions, and whether they match.
 const MATCHES: &[(&str, &str, bool)] = &[
     ("1", "1.2.3", true),
@@ -257,21 +205,6 @@ fn texts_match(alloc: Global, requirement: &str, version: &str) -> Result<bool, 
     Ok(copies_match(alloc, &requirement, &version)?)
 }
 
-#[test]
-fn requirements_match(rt: HostRuntime) -> Result<(), Fail> {
-    for case in MATCHES {
-        let (requirement, version, wanted) = *case;
-        assert!(rt;
-            texts_match(rt.alloc(), requirement, version)? == wanted,
-            "{requirement} of {version}"
-        );
-    }
-    Ok(())
-}
-
-/// Names of packages, and of their crates.
-const CRATES: &[(&str, &str)] = &[("a-b--c", "a_b__c"), ("ab", "ab")];
-
 /// Whether the crate of a package of this name has this one.
 fn has_crate(alloc: Global, package: &str, wanted: &str) -> Result<bool, AllocError> {
     let found = crate_name(alloc, package)?;
@@ -294,16 +227,10 @@ fn library_named(alloc: Global, name: &str) -> Result<Library, AllocError> {
     })
 }
 
-#[test]
-fn crates_have_names(rt: HostRuntime) -> Result<(), Fail> {
-    for case in CRATES {
-        let (package, wanted) = *case;
-        assert!(rt; has_crate(rt.alloc(), package, wanted)?, "of {package}");
-    }
-    assert!(rt; has_library(rt.alloc(), &None, "a_b")?);
-    let library = Some(library_named(rt.alloc(), "own")?);
-    assert!(rt; has_library(rt.alloc(), &library, "own")?);
-    Ok(())
+/// Whether the library of a package of the name `a-b` that says this name has it.
+fn library_has(alloc: Global, name: &str) -> Result<bool, AllocError> {
+    let library = Some(library_named(alloc, name)?);
+    has_library(alloc, &library, name)
 }
 
 /// Whether crate types have these texts; `lib` where there is none.
@@ -312,15 +239,16 @@ fn have_texts(alloc: Global, types: &[CrateType], wanted: &[&str]) -> Result<boo
     Ok(texts.as_slice() == wanted)
 }
 
-#[test]
-fn spellings(rt: HostRuntime) -> Result<(), Fail> {
-    assert_eq!(rt; Edition::E2015.text(), "2015");
-    assert_eq!(rt; Edition::E2024.text(), "2024");
-    assert_eq!(rt; CrateType::Bin.text(), "bin");
+/// Whether editions and crate types have their spellings.
+fn are_spelled(alloc: Global) -> Result<bool, AllocError> {
     let types: &[CrateType] = &[CrateType::Rlib, CrateType::Lib];
-    assert!(rt; have_texts(rt.alloc(), types, &["rlib", "lib"])?);
-    assert!(rt; have_texts(rt.alloc(), &[], &["lib"])?);
-    Ok(())
+    Ok(
+        Edition::E2015.text() == "2015"
+            && Edition::E2024.text() == "2024"
+            && CrateType::Bin.text() == "bin"
+            && have_texts(alloc, types, &["rlib", "lib"])?
+            && have_texts(alloc, &[], &["lib"])?,
+    )
 }
 
 /// Whether a text can be written as a path.
@@ -362,7 +290,37 @@ fn readme_is_copied(alloc: Global, path: &str) -> Result<bool, AllocError> {
 }
 
 #[test]
-fn copies(rt: HostRuntime) -> Result<(), Fail> {
+fn letters_versions_and_words(rt: HostRuntime) -> Result<(), Fail> {
+    for case in LETTERS {
+        let (text, package, library, feature, zero) = *case;
+        assert!(rt;
+            letters_of(text) == (package, library, feature, zero),
+            "{text}"
+        );
+    }
+    for case in FAULTS_IN_WORDS {
+        let (fault, wanted) = *case;
+        assert!(rt; reads(rt.alloc(), fault, wanted)?, "{wanted}");
+    }
+    for case in MATCHES {
+        let (requirement, version, wanted) = *case;
+        assert!(rt;
+            texts_match(rt.alloc(), requirement, version)? == wanted,
+            "{requirement} of {version}"
+        );
+    }
+    assert!(rt; minor_of(rt.alloc(), "1.2.3")? == 2);
+    assert!(rt; count_comparisons(rt.alloc(), ">=1, <2")? == 2);
+    Ok(())
+}
+
+#[test]
+fn names_spellings_and_copies(rt: HostRuntime) -> Result<(), Fail> {
+    assert!(rt; has_crate(rt.alloc(), "a-b--c", "a_b__c")?);
+    assert!(rt; has_crate(rt.alloc(), "ab", "ab")?);
+    assert!(rt; has_library(rt.alloc(), &None, "a_b")?);
+    assert!(rt; library_has(rt.alloc(), "own")?);
+    assert!(rt; are_spelled(rt.alloc())?);
     assert!(rt; !is_path(rt.alloc(), "a\0")?);
     assert!(rt; source_is_copied(rt.alloc(), "../a b")?);
     assert!(rt; readme_is_copied(rt.alloc(), "R")?);

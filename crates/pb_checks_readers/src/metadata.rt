@@ -1,17 +1,17 @@
 //! The metadata that scripts pass on, against a worked example.
 
-use crate::shown::put;
+use pb_checks_files::Shown;
 use pb_data::{Items, Table, Text};
 use pb_directive::{dep_pairs, read_directives};
 use std::alloc::{AllocError, Global};
 use std::test::Fail;
 
 fn show_pairs(alloc: Global, pairs: &Items<(Text, Text)>) -> Result<String, AllocError> {
-    let mut shown = String::new(alloc);
+    let mut shown = Shown::new(alloc);
     for (name, value) in pairs.as_slice() {
-        put(&mut shown, &[name.as_str(), "=", value.as_str(), ";"])?;
+        shown.put(&[name.as_str(), "=", value.as_str(), ";"]);
     }
-    Ok(shown)
+    shown.whole()
 }
 
 /// What a script of `z-libß` passes on.
@@ -50,11 +50,16 @@ fn are_all(alloc: Global, pairs: Table<Text>, wanted: &str) -> Result<bool, Allo
     Ok(shown.as_str() == wanted)
 }
 
+/// Whether what a script of `z-libß` passes on is right.
+fn is_passed_on(alloc: Global) -> Result<bool, Fail> {
+    let pairs = passed_on(alloc)?;
+    let is_right = is_right(alloc, &pairs)?;
+    let wanted = "DEP_Z_LIBSS_ROOT_DIR=/s;DEP_Z_LIBSS_B=1;";
+    Ok(are_all(alloc, pairs, wanted)? && is_right)
+}
+
 #[test]
 fn metadata_is_passed_on(rt: HostRuntime) -> Result<(), Fail> {
-    let pairs = passed_on(rt.alloc())?;
-    assert!(rt; is_right(rt.alloc(), &pairs)?);
-    let wanted = "DEP_Z_LIBSS_ROOT_DIR=/s;DEP_Z_LIBSS_B=1;";
-    assert!(rt; are_all(rt.alloc(), pairs, wanted)?);
+    assert!(rt; is_passed_on(rt.alloc())?);
     Ok(())
 }

@@ -5,6 +5,7 @@ mod command_lines;
 mod compiles;
 mod read_back;
 mod runs;
+mod tables;
 mod variables;
 mod verbs;
 mod views;

@@ -1,5 +1,7 @@
 //! Records as text: worked examples, texts that are none, and texts made at random.
 
+use crate::dice::Dice;
+use pb_checks_files::Shown;
 use pb_data::Bytes;
 use pb_record::{Needed, Record, read_record, write_record};
 use std::alloc::{AllocError, Global};
@@ -52,15 +54,6 @@ const RECORDS: &[&str] = &[
     "record 1\n1\na\n1\nm\n0\n1\n/\n1\n1\nN\n1\nv\n2\n/z\n2\n/t\n0\n\n1\n2\n/t\n1\nv\n1\nX\n0\n1\n1\nb\n1\n1\nf\n3\n1\n2\n0\n\n0\n\nend\n",
 ];
 
-#[test]
-fn records_go_there_and_back(rt: HostRuntime) -> Result<(), Fail> {
-    for case in RECORDS {
-        let text = *case;
-        assert!(rt; is_record(rt.alloc(), text.as_bytes())?, "{text}");
-    }
-    Ok(())
-}
-
 /// Whether a record has the run number of the largest one, and no needed units.
 fn is_largest(kept: &Record) -> bool {
     match &kept.needed {
@@ -69,64 +62,77 @@ fn is_largest(kept: &Record) -> bool {
     }
 }
 
-#[test]
-fn record_says_its_parts(rt: HostRuntime) -> Result<(), Fail> {
-    let kept = read_record(rt.alloc(), LARGEST.as_bytes())?.ok_or("none")?;
-    assert!(rt; kept.key.as_str() == "z.target.lib");
-    assert!(rt; kept.asked.program.as_str() == "m");
-    assert!(rt; kept.asked.out.as_str() == "/z");
-    assert!(rt; is_largest(&kept));
-    Ok(())
+/// Whether a record has the parts that the largest one says.
+fn has_its_parts(kept: &Record) -> bool {
+    kept.key.as_str() == "z.target.lib"
+        && kept.asked.program.as_str() == "m"
+        && kept.asked.out.as_str() == "/z"
+        && is_largest(kept)
 }
 
-/// Whether each first part of a text, and the text with one byte more, is that of no record.
-fn stands_alone(alloc: Global, text: &[u8]) -> Result<bool, AllocError> {
+/// Whether the largest record says its parts.
+fn says_its_parts(alloc: Global) -> Result<bool, AllocError> {
+    match read_record(alloc, LARGEST.as_bytes())? {
+        Some(kept) => Ok(has_its_parts(&kept)),
+        None => Ok(false),
+    }
+}
+
+/// Whether each first part of a text is that of no record.
+fn is_torn_anywhere(alloc: Global, text: &[u8]) -> Result<bool, AllocError> {
     for end in 0..text.len() {
         if !is_none(alloc, &text[..end])? {
-            return Ok(false);
-        }
-    }
-    let mut longer = text.to_vec(alloc)?;
-    longer.push(b'\n')?;
-    let is_none = is_none(alloc, longer.as_slice())?;
-    Ok(is_none)
-}
-
-/// Whether a text with one byte changed is that of no record, or of one that is written so again.
-fn stands_changed(alloc: Global, text: &[u8], at: usize) -> Result<bool, AllocError> {
-    for byte in b"\0\n019af/\xff" {
-        let mut changed = text.to_vec(alloc)?;
-        if at < changed.len() {
-            changed[at] = *byte;
-        }
-        if !is_none_or_record(alloc, changed.as_slice())? {
             return Ok(false);
         }
     }
     Ok(true)
 }
 
-#[test]
-fn records_stand_alone(rt: HostRuntime) -> Result<(), Fail> {
-    for case in RECORDS {
-        let text = *case;
-        assert!(rt; stands_alone(rt.alloc(), text.as_bytes())?, "{text}");
-    }
-    Ok(())
+/// Whether a text with one byte more is that of no record.
+fn is_none_longer(alloc: Global, text: &[u8]) -> Result<bool, AllocError> {
+    let mut longer = text.to_vec(alloc)?;
+    longer.push(b'\n')?;
+    is_none(alloc, longer.as_slice())
 }
 
-#[test]
-fn records_changed(rt: HostRuntime) -> Result<(), Fail> {
-    for case in RECORDS {
-        let text = *case;
-        for at in 0..text.len() {
-            assert!(rt;
-                stands_changed(rt.alloc(), text.as_bytes(), at)?,
-                "{at} of {text}"
-            );
+/// Whether a text with this byte at a place is that of no record, or of one that is written so again.
+fn stands_with(alloc: Global, text: &[u8], at: usize, byte: u8) -> Result<bool, AllocError> {
+    let mut changed = text.to_vec(alloc)?;
+    if at < changed.len() {
+        changed[at] = byte;
+    }
+    is_none_or_record(alloc, changed.as_slice())
+}
+
+/// The same of each of some bytes at each place of a text.
+fn stands_changed(alloc: Global, text: &[u8]) -> Result<bool, AllocError> {
+    for at in 0..text.len() {
+        for byte in b"\0\n019af/\xff" {
+            if !stands_with(alloc, text, at, *byte)? {
+                return Ok(false);
+            }
         }
     }
-    Ok(())
+    Ok(true)
+}
+
+/// What is wrong with the text of a record as it is, torn, with a byte more, or with a byte changed; nothing where it
+/// stands.
+fn wrong_with(alloc: Global, text: &[u8]) -> Result<&'static str, AllocError> {
+    if !is_record(alloc, text)? {
+        return Ok("as it is");
+    }
+    if !is_torn_anywhere(alloc, text)? {
+        return Ok("torn");
+    }
+    if !is_none_longer(alloc, text)? {
+        return Ok("longer");
+    }
+    Ok(if stands_changed(alloc, text)? {
+        ""
+    } else {
+        "changed"
+    })
 }
 
 /// What is put in a record that has nothing in its lists, in place of which of its lines, so that it is none.
@@ -155,60 +161,21 @@ const WRONG: &[(&str, &str)] = &[
 
 /// The text of a record with something put in place of something in it, once.
 fn replaced(alloc: Global, old: &str, new: &str) -> Result<String, AllocError> {
-    let mut made = String::new(alloc);
-    match LARGEST.split_once(old) {
-        Some((before, behind)) => {
-            made.push_str(before)?;
-            made.push_str(new)?;
-            made.push_str(behind)?;
-        }
-        None => made.push_str(LARGEST)?,
-    }
-    Ok(made)
+    let (before, behind) = LARGEST.split_once(old).unwrap_or((LARGEST, ""));
+    let mut made = Shown::new(alloc);
+    made.put(&[before, new, behind]);
+    made.whole()
 }
 
-#[test]
-fn wrong_texts_are_none(rt: HostRuntime) -> Result<(), Fail> {
-    for case in WRONG {
-        let (old, new) = *case;
-        let made = replaced(rt.alloc(), old, new)?;
-        assert!(rt; is_none(rt.alloc(), made.as_bytes())?, "{new}");
-    }
-    assert!(rt;
-        is_none(
-            rt.alloc(),
-            b"record 2\n1\n1\n\xff\n1\nm\n0\n1\n/\n0\n2\n/z\n2\n/t\n0\n\n0\n0\n0\n0\n\n0\n\nend\n"
-        )?
-    );
-    Ok(())
+/// Whether the largest record with something put in place of something in it is none.
+fn is_none_with(alloc: Global, old: &str, new: &str) -> Result<bool, AllocError> {
+    let made = replaced(alloc, old, new)?;
+    is_none(alloc, made.as_bytes())
 }
 
-/// A small generator of numbers, the same in each run.
-#[derive(Drop)]
-struct Dice {
-    state: u64,
-}
-
-impl Dice {
-    /// A number below another one; 0 where that is 0.
-    fn below(&mut self, limit: usize) -> usize {
-        self.state = self
-            .state
-            .wrapping_mul(6_364_136_223_846_793_005)
-            .wrapping_add(1_442_695_040_888_963_407);
-        let rolled = (self.state >> 33) as usize;
-        if limit == 0 { 0 } else { rolled % limit }
-    }
-
-    /// One of some texts.
-    fn pick<'a>(&mut self, from: &[&'a str]) -> &'a str {
-        let at = self.below(from.len());
-        match from.get(at) {
-            Some(text) => *text,
-            None => "",
-        }
-    }
-}
+/// A record whose key is no UTF-8.
+const NO_TEXT: &[u8] =
+    b"record 2\n1\n1\n\xff\n1\nm\n0\n1\n/\n0\n2\n/z\n2\n/t\n0\n\n0\n0\n0\n0\n\n0\n\nend\n";
 
 /// Texts that may stand anywhere.
 const TEXTS: &[&str] = &[
@@ -242,165 +209,140 @@ const SORTED: &[&str] = &["", "A", "AB", "B", "a", "\u{e9}"];
 const NUMBERS: &[&str] = &["0", "1", "9", "10", "4294967296", "18446744073709551615"];
 
 /// Adds a block.
-fn put_block(alloc: Global, out: &mut String, text: &str) -> Result<(), AllocError> {
-    let length = text.len();
-    let made = format!(in alloc; "{length}\n{text}\n")?;
-    out.push_str(made.as_str())
-}
-
-/// Adds a number.
-fn put_number(out: &mut String, number: &str) -> Result<(), AllocError> {
-    out.push_str(number)?;
-    out.push_str("\n")
+fn put_block(out: &mut Shown, text: &str) {
+    out.put_number(text.len() as u64);
+    out.put(&["\n", text, "\n"]);
 }
 
 /// Adds how many there are, and tells it.
-fn put_count(alloc: Global, out: &mut String, dice: &mut Dice) -> Result<usize, AllocError> {
+fn put_count(out: &mut Shown, dice: &mut Dice) -> usize {
     let count = dice.below(4);
-    let made = format!(in alloc; "{count}\n")?;
-    out.push_str(made.as_str())?;
-    Ok(count)
+    out.put_number(count as u64);
+    out.put(&["\n"]);
+    count
 }
 
 /// Adds a list of blocks.
-fn put_blocks(
-    alloc: Global,
-    out: &mut String,
-    dice: &mut Dice,
-    from: &[&str],
-) -> Result<(), AllocError> {
-    let count = put_count(alloc, out, dice)?;
-    for _ in 0..count {
-        put_block(alloc, out, dice.pick(from))?;
+fn put_blocks(out: &mut Shown, dice: &mut Dice, from: &[&str]) {
+    for _ in 0..put_count(out, dice) {
+        put_block(out, dice.pick(from));
     }
-    Ok(())
 }
 
 /// Adds a list of files of a folder.
-fn put_files(alloc: Global, out: &mut String, dice: &mut Dice) -> Result<(), AllocError> {
-    let count = put_count(alloc, out, dice)?;
-    for _ in 0..count {
-        put_block(alloc, out, dice.pick(NAMES))?;
-        put_block(alloc, out, dice.pick(TEXTS))?;
+fn put_files(out: &mut Shown, dice: &mut Dice) {
+    for _ in 0..put_count(out, dice) {
+        put_block(out, dice.pick(NAMES));
+        put_block(out, dice.pick(TEXTS));
     }
-    Ok(())
 }
 
-/// Adds variables, sorted by name.
-fn put_pairs(alloc: Global, out: &mut String, dice: &mut Dice) -> Result<(), AllocError> {
-    let mut count = 0u64;
-    let mut made = String::new(alloc);
+/// Adds some of the variables, sorted by name.
+fn put_pairs(out: &mut Shown, dice: &mut Dice) {
+    let mut chosen = dice.below(64) as u64;
+    out.put_number(chosen.count_ones() as u64);
+    out.put(&["\n"]);
     for name in SORTED {
-        if dice.below(2) == 0 && count < 100 {
-            count += 1;
-            put_block(alloc, &mut made, *name)?;
-            put_block(alloc, &mut made, dice.pick(TEXTS))?;
+        if chosen % 2 == 1 {
+            put_block(out, *name);
+            put_block(out, dice.pick(TEXTS));
         }
+        chosen /= 2;
     }
-    let said = format!(in alloc; "{count}\n")?;
-    out.push_str(said.as_str())?;
-    out.push_str(made.as_str())
 }
 
 /// Adds an input.
-fn put_input(alloc: Global, out: &mut String, dice: &mut Dice) -> Result<(), AllocError> {
+fn put_input(out: &mut Shown, dice: &mut Dice) {
     match dice.below(4) {
         0 => {
-            out.push_str("f\n")?;
-            put_block(alloc, out, dice.pick(PATHS))?;
-            put_block(alloc, out, dice.pick(TEXTS))
+            out.put(&["f\n"]);
+            put_block(out, dice.pick(PATHS));
+            put_block(out, dice.pick(TEXTS));
         }
         1 => {
-            out.push_str("t\n")?;
-            put_block(alloc, out, dice.pick(PATHS))?;
-            put_files(alloc, out, dice)
+            out.put(&["t\n"]);
+            put_block(out, dice.pick(PATHS));
+            put_files(out, dice);
         }
         2 => {
-            out.push_str("v\n")?;
-            put_block(alloc, out, dice.pick(TEXTS))?;
-            out.push_str("0\n")
+            out.put(&["v\n"]);
+            put_block(out, dice.pick(TEXTS));
+            out.put(&["0\n"]);
         }
         _ => {
-            out.push_str("v\n")?;
-            put_block(alloc, out, dice.pick(TEXTS))?;
-            out.push_str("1\n")?;
-            put_block(alloc, out, dice.pick(TEXTS))
+            out.put(&["v\n"]);
+            put_block(out, dice.pick(TEXTS));
+            out.put(&["1\n"]);
+            put_block(out, dice.pick(TEXTS));
         }
     }
 }
 
 /// Adds a list of inputs.
-fn put_inputs(alloc: Global, out: &mut String, dice: &mut Dice) -> Result<(), AllocError> {
-    let count = put_count(alloc, out, dice)?;
-    for _ in 0..count {
-        put_input(alloc, out, dice)?;
+fn put_inputs(out: &mut Shown, dice: &mut Dice) {
+    for _ in 0..put_count(out, dice) {
+        put_input(out, dice);
     }
-    Ok(())
 }
 
 /// Adds the key and what was asked.
-fn put_asked(alloc: Global, out: &mut String, dice: &mut Dice) -> Result<(), AllocError> {
-    put_block(alloc, out, dice.pick(TEXTS))?;
-    put_block(alloc, out, dice.pick(TEXTS))?;
-    put_blocks(alloc, out, dice, TEXTS)?;
-    put_block(alloc, out, dice.pick(PATHS))?;
-    put_pairs(alloc, out, dice)?;
-    put_block(alloc, out, dice.pick(PATHS))?;
-    put_block(alloc, out, dice.pick(PATHS))?;
-    put_block(alloc, out, dice.pick(TEXTS))?;
-    put_blocks(alloc, out, dice, PATHS)
+fn put_asked(out: &mut Shown, dice: &mut Dice) {
+    put_block(out, dice.pick(TEXTS));
+    put_block(out, dice.pick(TEXTS));
+    put_blocks(out, dice, TEXTS);
+    put_block(out, dice.pick(PATHS));
+    put_pairs(out, dice);
+    put_block(out, dice.pick(PATHS));
+    put_block(out, dice.pick(PATHS));
+    put_block(out, dice.pick(TEXTS));
+    put_blocks(out, dice, PATHS);
 }
 
 /// Adds the needed units, with numbers or with copies.
-fn put_needed(
-    alloc: Global,
-    out: &mut String,
-    dice: &mut Dice,
-    numbered: bool,
-) -> Result<(), AllocError> {
-    let count = put_count(alloc, out, dice)?;
-    for _ in 0..count {
-        put_block(alloc, out, dice.pick(TEXTS))?;
+fn put_needed(out: &mut Shown, dice: &mut Dice, numbered: bool) {
+    for _ in 0..put_count(out, dice) {
+        put_block(out, dice.pick(TEXTS));
         if numbered {
-            put_number(out, dice.pick(NUMBERS))?;
+            out.put(&[dice.pick(NUMBERS), "\n"]);
         } else {
-            put_files(alloc, out, dice)?;
+            put_files(out, dice);
         }
     }
-    Ok(())
 }
 
 /// The text of a record made at random.
 fn random_record(alloc: Global, dice: &mut Dice) -> Result<String, AllocError> {
-    let mut out = String::new(alloc);
+    let mut out = Shown::new(alloc);
     let numbered = dice.below(2) == 0;
     if numbered {
-        out.push_str("record 2\n")?;
-        put_number(&mut out, dice.pick(NUMBERS))?;
+        out.put(&["record 2\n", dice.pick(NUMBERS), "\n"]);
     } else {
-        out.push_str("record 1\n")?;
+        out.put(&["record 1\n"]);
     }
-    put_asked(alloc, &mut out, dice)?;
-    put_inputs(alloc, &mut out, dice)?;
-    put_needed(alloc, &mut out, dice, numbered)?;
-    put_block(alloc, &mut out, dice.pick(TEXTS))?;
-    put_block(alloc, &mut out, dice.pick(TEXTS))?;
-    out.push_str("end\n")?;
-    Ok(out)
+    put_asked(&mut out, dice);
+    put_inputs(&mut out, dice);
+    put_needed(&mut out, dice, numbered);
+    put_block(&mut out, dice.pick(TEXTS));
+    put_block(&mut out, dice.pick(TEXTS));
+    out.put(&["end\n"]);
+    out.whole()
 }
 
-#[test]
-fn random_records(rt: HostRuntime) -> Result<(), Fail> {
+/// Whether such a text is that of a record.
+fn random_is_record(alloc: Global, dice: &mut Dice) -> Result<bool, AllocError> {
+    let text = random_record(alloc, dice)?;
+    is_record(alloc, text.as_bytes())
+}
+
+/// Whether so many such texts are.
+fn random_are_records(alloc: Global, count: u64) -> Result<bool, AllocError> {
     let mut dice = Dice { state: 1 };
-    for _ in 0..200 {
-        let text = random_record(rt.alloc(), &mut dice)?;
-        assert!(rt;
-            is_record(rt.alloc(), text.as_bytes())?,
-            "{}",
-            text.as_str()
-        );
+    for _ in 0..count {
+        if !random_is_record(alloc, &mut dice)? {
+            return Ok(false);
+        }
     }
-    Ok(())
+    Ok(true)
 }
 
 /// The text of a record with one file of so many bytes.
@@ -415,9 +357,25 @@ fn large_record(alloc: Global, size: usize) -> Result<Vec<u8>, AllocError> {
     Ok(made)
 }
 
+/// Whether the text of a record with one file of so many bytes is that of a record.
+fn large_is_record(alloc: Global, size: usize) -> Result<bool, AllocError> {
+    let text = large_record(alloc, size)?;
+    is_record(alloc, text.as_slice())
+}
+
 #[test]
-fn large_records(rt: HostRuntime) -> Result<(), Fail> {
-    let text = large_record(rt.alloc(), 4_194_304)?;
-    assert!(rt; is_record(rt.alloc(), text.as_slice())?);
+fn records(rt: HostRuntime) -> Result<(), Fail> {
+    assert!(rt; says_its_parts(rt.alloc())?);
+    for case in RECORDS {
+        let text = *case;
+        assert_eq!(rt; wrong_with(rt.alloc(), text.as_bytes())?, "", "{text}");
+    }
+    for case in WRONG {
+        let (old, new) = *case;
+        assert!(rt; is_none_with(rt.alloc(), old, new)?, "{new}");
+    }
+    assert!(rt; is_none(rt.alloc(), NO_TEXT)?);
+    assert!(rt; random_are_records(rt.alloc(), 200)?);
+    assert!(rt; large_is_record(rt.alloc(), 4_194_304)?);
     Ok(())
 }

@@ -3,11 +3,8 @@
 ghost use Rattle.std.specs.Prelude.{◌≡◌};
 ghost use Rattle.pb_answer.specs.Faults.{is_outside};
 
-use crate::faults::{
-    build_fault, child_fault, device_fault, keys, refused_manifest, refused_plan,
-    refused_workspace, unit_fault,
-};
-use pb_answer::{BuildFault, Refusal, Summary, result_line};
+use crate::faults::{Bad, Ending, build_fault, keys, unit_fault};
+use pb_answer::{BuildFault, Summary, result_line};
 use pb_data::{Bytes, Items, Text};
 use pb_directive::LineFault;
 use pb_feature::FeatureFault;
@@ -15,7 +12,6 @@ use pb_manifest::{Key, ManifestFault};
 use pb_place::{PathFault, PlaceFault, StartFault};
 use pb_profile::ProfileFault;
 use pb_project::UnitFault;
-use pb_unit::PlanFault;
 use std::alloc::{AllocError, Global};
 use std::test::Fail;
 
@@ -29,343 +25,126 @@ fn says(
     Ok(line.as_str() == wanted)
 }
 
-/// Whether the line of a build that came to its end is this: `bad` has the key of the first bad unit and its fault.
-fn ends_with(
-    alloc: Global,
-    bad: Option<(Text, UnitFault)>,
-    started: &str,
-    wanted: &str,
-) -> Result<bool, AllocError> {
-    let summary = Summary {
+/// The key of the first bad unit, `a.target.lib`, and its fault.
+fn bad_unit(alloc: Global, bad: Option<Bad>) -> Result<Option<(Text, UnitFault)>, PathFault> {
+    let Some(bad) = bad else {
+        return Ok(None);
+    };
+    let unit = Text::from_str(alloc, "a.target.lib")?;
+    let fault = unit_fault(alloc, bad)?;
+    Ok(Some((unit, fault)))
+}
+
+/// What a build that came to its end says.
+fn summary(alloc: Global, bad: Option<(Text, UnitFault)>, started: Items<Text>) -> Summary {
+    Summary {
         success: bad.is_none(),
         bad,
         said: Bytes::new(Vec::new(alloc)),
-        started: keys(alloc, started)?,
+        started,
         differences: Items::new(alloc),
         kept: Items::new(alloc),
         directives: Items::new(alloc),
-    };
-    says(alloc, &Ok(summary), wanted)
+    }
 }
 
-/// The keys of what was started, and the line where all is good.
-const GOOD_ENDS: &[(&str, &str)] = &[
-    ("", "ok started=-"),
-    ("a.target.lib", "ok started=a.target.lib"),
+/// Whether the line of a build that came to its end is this.
+fn ends_with(
+    alloc: Global,
+    bad: Option<Bad>,
+    started: &str,
+    wanted: &str,
+) -> Result<bool, PathFault> {
+    let started = keys(alloc, started)?;
+    let bad = bad_unit(alloc, bad)?;
+    Ok(says(alloc, &Ok(summary(alloc, bad, started)), wanted)?)
+}
+
+/// The fault of the first bad unit, where there is one, the keys of what was started, and the line.
+const ENDS: &[(Option<Bad>, &str, &str)] = &[
+    (None, "", "ok started=-"),
+    (None, "a.target.lib", "ok started=a.target.lib"),
     (
+        None,
         "b.host.run a.target.lib",
         "ok started=b.host.run,a.target.lib",
     ),
     (
+        None,
         "a.host.lib b.bin-c a.target.script",
         "ok started=a.host.lib,b.bin-c,a.target.script",
     ),
-];
-
-#[test]
-fn good_ends(rt: HostRuntime) -> Result<(), Fail> {
-    for case in GOOD_ENDS {
-        let (started, wanted) = *case;
-        assert!(rt; ends_with(rt.alloc(), None, started, wanted)?, "{wanted}");
-    }
-    Ok(())
-}
-
-/// Whether the line of a build with this fault of a unit is this.
-fn ends_badly(
-    alloc: Global,
-    fault: UnitFault,
-    started: &str,
-    wanted: &str,
-) -> Result<bool, AllocError> {
-    let unit = Text::from_str(alloc, "a.target.lib")?;
-    ends_with(alloc, Some((unit, fault)), started, wanted)
-}
-
-/// The number of a status, the keys of what was started, and the line.
-const STATUSES: &[(i32, &str, &str)] = &[
     (
-        1,
+        Some(Bad::Status(1)),
         "a.target.lib",
         "bad a.target.lib Status(1) started=a.target.lib",
     ),
-    (-9, "", "bad a.target.lib Status(-9) started=-"),
     (
-        -2_147_483_648,
+        Some(Bad::Status(-9)),
+        "",
+        "bad a.target.lib Status(-9) started=-",
+    ),
+    (
+        Some(Bad::Status(-2_147_483_648)),
         "b",
         "bad a.target.lib Status(-2147483648) started=b",
     ),
     (
-        2_147_483_647,
+        Some(Bad::Status(2_147_483_647)),
         "b.target.lib a.target.lib",
         "bad a.target.lib Status(2147483647) started=b.target.lib,a.target.lib",
     ),
-];
-
-#[test]
-fn bad_statuses(rt: HostRuntime) -> Result<(), Fail> {
-    for case in STATUSES {
-        let (status, started, wanted) = *case;
-        let fault = UnitFault::Status(status);
-        assert!(rt; ends_badly(rt.alloc(), fault, started, wanted)?, "{wanted}");
-    }
-    Ok(())
-}
-
-/// What is wrong with a line of a script's output, and the result line.
-const BAD_LINES: &[(LineFault, &str)] = &[
     (
-        LineFault::NotText(1),
+        Some(Bad::Line(LineFault::NotText(1))),
+        "",
         "bad a.target.lib Directive(NotText) started=-",
     ),
     (
-        LineFault::UnknownKey(2),
+        Some(Bad::Line(LineFault::UnknownKey(2))),
+        "",
         "bad a.target.lib Directive(UnknownKey) started=-",
     ),
     (
-        LineFault::BadValue(3),
+        Some(Bad::Line(LineFault::BadValue(3))),
+        "",
         "bad a.target.lib Directive(BadValue) started=-",
     ),
     (
-        LineFault::BadFlag(4),
+        Some(Bad::Line(LineFault::BadFlag(4))),
+        "",
         "bad a.target.lib Directive(BadFlag) started=-",
     ),
     (
-        LineFault::OutOfMemory,
+        Some(Bad::Line(LineFault::OutOfMemory)),
+        "",
         "bad a.target.lib Directive(OutOfMemory) started=-",
     ),
-];
-
-#[test]
-fn bad_lines(rt: HostRuntime) -> Result<(), Fail> {
-    for case in BAD_LINES {
-        let (fault, wanted) = *case;
-        let fault = UnitFault::Directive(fault);
-        assert!(rt; ends_badly(rt.alloc(), fault, "", wanted)?, "{wanted}");
-    }
-    Ok(())
-}
-
-/// The other faults of a unit, and the line.
-const BAD_ENDS: &[(&str, &str)] = &[
-    ("ScriptError", "bad a.target.lib ScriptError started=b"),
-    ("NoDepInfo", "bad a.target.lib NoDepInfo started=b"),
-    ("ForeignInput", "bad a.target.lib ForeignInput started=b"),
-    ("OutputTooLong", "bad a.target.lib OutputTooLong started=b"),
-    ("OutOfMemory", "bad a.target.lib OutOfMemory started=b"),
-];
-
-/// Whether the line of a build with the fault of this name is this.
-fn ends_badly_by(alloc: Global, name: &str, wanted: &str) -> Result<bool, PathFault> {
-    let fault = unit_fault(alloc, name)?;
-    Ok(ends_badly(alloc, fault, "b", wanted)?)
-}
-
-#[test]
-fn bad_ends(rt: HostRuntime) -> Result<(), Fail> {
-    for case in BAD_ENDS {
-        let (name, wanted) = *case;
-        assert!(rt; ends_badly_by(rt.alloc(), name, wanted)?, "{wanted}");
-    }
-    Ok(())
-}
-
-/// Whether the line of a build that ended with this fault is this.
-fn fails_with(alloc: Global, fault: BuildFault, wanted: &str) -> Result<bool, AllocError> {
-    says(alloc, &Err(fault), wanted)
-}
-
-/// Faults of a manifest, and the line.
-const REFUSED_MANIFESTS: &[(ManifestFault, &str)] = &[
-    (ManifestFault::NotToml, "refused NotToml"),
-    (ManifestFault::BadKind(Key::Package), "refused BadKind"),
-    (ManifestFault::BadName, "refused BadName"),
-    (ManifestFault::BadVersion, "refused BadVersion"),
-    (ManifestFault::UnsupportedTable, "refused UnsupportedTable"),
     (
-        ManifestFault::UnsupportedSource,
-        "refused UnsupportedSource",
+        Some(Bad::Named("ScriptError")),
+        "b",
+        "bad a.target.lib ScriptError started=b",
     ),
     (
-        ManifestFault::UnsupportedCrateType,
-        "refused UnsupportedCrateType",
-    ),
-    (ManifestFault::BadProfile, "refused BadProfile"),
-    (ManifestFault::BadFeature, "refused BadFeature"),
-    (ManifestFault::TooLarge, "refused TooLarge"),
-    (ManifestFault::OldResolver, "refused OldResolver"),
-    (ManifestFault::OutOfMemory, "refused OutOfMemory"),
-];
-
-/// Whether the line of a build whose manifest has this fault is this.
-fn refuses_manifest(alloc: Global, fault: ManifestFault, wanted: &str) -> Result<bool, PathFault> {
-    let fault = refused_manifest(alloc, fault)?;
-    Ok(fails_with(alloc, fault, wanted)?)
-}
-
-#[test]
-fn refused_manifests(rt: HostRuntime) -> Result<(), Fail> {
-    for case in REFUSED_MANIFESTS {
-        let (fault, wanted) = *case;
-        assert!(rt; refuses_manifest(rt.alloc(), fault, wanted)?, "{wanted}");
-    }
-    Ok(())
-}
-
-/// Faults of a workspace, and the line.
-const REFUSED_WORKSPACES: &[(&str, &str)] = &[
-    ("NoManifest", "refused NoManifest"),
-    ("SameName", "refused SameName"),
-    ("NameMismatch", "refused NameMismatch"),
-    ("VersionMismatch", "refused VersionMismatch"),
-    ("LinksTwice", "refused LinksTwice"),
-    ("LinksWithoutScript", "refused LinksWithoutScript"),
-    ("NoInherited", "refused NoInherited"),
-    ("TooMany", "refused TooMany"),
-    ("SameBinary", "refused SameBinary"),
-    ("Place", "refused Place"),
-    ("NoSuchPackage", "refused NoSuchPackage"),
-    ("OutOfMemory", "refused OutOfMemory"),
-];
-
-/// Whether the line of a build whose workspace has the fault of this name is this.
-fn refuses_workspace(alloc: Global, name: &str, wanted: &str) -> Result<bool, PathFault> {
-    let fault = refused_workspace(alloc, name)?;
-    Ok(fails_with(alloc, fault, wanted)?)
-}
-
-#[test]
-fn refused_workspaces(rt: HostRuntime) -> Result<(), Fail> {
-    for case in REFUSED_WORKSPACES {
-        let (name, wanted) = *case;
-        assert!(rt; refuses_workspace(rt.alloc(), name, wanted)?, "{wanted}");
-    }
-    Ok(())
-}
-
-/// Faults of features, and the line.
-const REFUSED_FEATURES: &[(FeatureFault, &str)] = &[
-    (FeatureFault::NoSuchFeature, "refused NoSuchFeature"),
-    (FeatureFault::NoSuchDependency, "refused NoSuchDependency"),
-    (FeatureFault::NotOptional, "refused NotOptional"),
-    (FeatureFault::OutOfMemory, "refused OutOfMemory"),
-];
-
-#[test]
-fn refused_features(rt: HostRuntime) -> Result<(), Fail> {
-    for case in REFUSED_FEATURES {
-        let (fault, wanted) = *case;
-        let fault = BuildFault::Plan(Refusal::Feature(fault));
-        assert!(rt; fails_with(rt.alloc(), fault, wanted)?, "{wanted}");
-    }
-    Ok(())
-}
-
-/// Faults of a profile, and the line.
-const REFUSED_PROFILES: &[(ProfileFault, &str)] = &[
-    (ProfileFault::NoSuchProfile, "refused NoSuchProfile"),
-    (ProfileFault::InheritsCycle, "refused InheritsCycle"),
-    (ProfileFault::NotInOverride, "refused NotInOverride"),
-    (ProfileFault::OutOfMemory, "refused OutOfMemory"),
-];
-
-#[test]
-fn refused_profiles(rt: HostRuntime) -> Result<(), Fail> {
-    for case in REFUSED_PROFILES {
-        let (fault, wanted) = *case;
-        let fault = BuildFault::Plan(Refusal::Plan(PlanFault::Profile(fault)));
-        assert!(rt; fails_with(rt.alloc(), fault, wanted)?, "{wanted}");
-    }
-    Ok(())
-}
-
-/// Faults of a plan, and the line.
-const REFUSED_PLANS: &[(&str, &str)] = &[
-    ("Cycle", "refused Cycle"),
-    ("TooManyUnits", "refused TooManyUnits"),
-    ("NothingToBuild", "refused NothingToBuild"),
-    ("OutOfMemory", "refused OutOfMemory"),
-];
-
-/// Whether the line of a build whose plan has the fault of this name is this.
-fn refuses_plan(alloc: Global, name: &str, wanted: &str) -> Result<bool, AllocError> {
-    let fault = refused_plan(alloc, name)?;
-    fails_with(alloc, fault, wanted)
-}
-
-#[test]
-fn refused_plans(rt: HostRuntime) -> Result<(), Fail> {
-    for case in REFUSED_PLANS {
-        let (name, wanted) = *case;
-        assert!(rt; refuses_plan(rt.alloc(), name, wanted)?, "{wanted}");
-    }
-    Ok(())
-}
-
-/// The key of a child, why it gave no answer, and the line.
-const FAULTS_OF_CHILDREN: &[(&str, StartFault, &str)] = &[
-    ("-vV", StartFault::CannotStart, "fault -vV CannotStart"),
-    ("a.target.lib", StartFault::Died, "fault a.target.lib Died"),
-    (
-        "a.target.lib",
-        StartFault::Capture,
-        "fault a.target.lib Capture",
+        Some(Bad::Named("NoDepInfo")),
+        "b",
+        "bad a.target.lib NoDepInfo started=b",
     ),
     (
-        "a.target.lib",
-        StartFault::OutOfMemory,
-        "fault a.target.lib OutOfMemory",
+        Some(Bad::Named("ForeignInput")),
+        "b",
+        "bad a.target.lib ForeignInput started=b",
+    ),
+    (
+        Some(Bad::Named("OutputTooLong")),
+        "b",
+        "bad a.target.lib OutputTooLong started=b",
+    ),
+    (
+        Some(Bad::Named("OutOfMemory")),
+        "b",
+        "bad a.target.lib OutOfMemory started=b",
     ),
 ];
-
-/// Whether the line of a build whose child of this key gave no answer is this.
-fn child_fails(
-    alloc: Global,
-    key: &str,
-    fault: StartFault,
-    wanted: &str,
-) -> Result<bool, AllocError> {
-    let fault = child_fault(alloc, key, fault)?;
-    fails_with(alloc, fault, wanted)
-}
-
-#[test]
-fn faults_of_children(rt: HostRuntime) -> Result<(), Fail> {
-    for case in FAULTS_OF_CHILDREN {
-        let (key, fault, wanted) = *case;
-        assert!(rt; child_fails(rt.alloc(), key, fault, wanted)?, "{wanted}");
-    }
-    Ok(())
-}
-
-/// Faults of a build, and the line.
-const FAULTS: &[(&str, &str)] = &[
-    ("Toolchain", "fault -vV Toolchain"),
-    ("Sink", "fault sink Sink"),
-    ("OutOfMemory", "fault memory OutOfMemory"),
-];
-
-/// Whether the line of a build with the fault of this name is this.
-fn build_fails(alloc: Global, name: &str, wanted: &str) -> Result<bool, AllocError> {
-    let fault = build_fault(alloc, name)?;
-    fails_with(alloc, fault, wanted)
-}
-
-/// Whether the line of a build that could not read a manifest is this.
-fn device_fails(alloc: Global, wanted: &str) -> Result<bool, AllocError> {
-    let fault = device_fault(alloc, "/w/Cargo.toml", PlaceFault::Read)?;
-    fails_with(alloc, fault, wanted)
-}
-
-#[test]
-fn faults(rt: HostRuntime) -> Result<(), Fail> {
-    for case in FAULTS {
-        let (name, wanted) = *case;
-        assert!(rt; build_fails(rt.alloc(), name, wanted)?, "{wanted}");
-    }
-    assert!(rt; device_fails(rt.alloc(), "fault /w/Cargo.toml Device")?);
-    Ok(())
-}
 
 /// Whether a fault comes from outside the rules.
 fn is_outside(fault: &BuildFault) -> bool
@@ -379,27 +158,199 @@ fn is_outside(fault: &BuildFault) -> bool
     }
 }
 
-/// Whether the fault of this name comes from outside the rules.
-fn is_outside_by_name(alloc: Global, name: &str) -> Result<bool, AllocError> {
-    let fault = build_fault(alloc, name)?;
-    Ok(is_outside(&fault))
+/// Whether the line of a build that ended with this fault is this.
+fn fails_with(alloc: Global, fault: BuildFault, wanted: &str) -> Result<bool, AllocError> {
+    says(alloc, &Err(fault), wanted)
 }
 
-/// Faults of a build, and whether each comes from outside the rules.
-const ORIGINS: &[(&str, bool)] = &[
-    ("Child", true),
-    ("Device", true),
-    ("Sink", true),
-    ("OutOfMemory", true),
-    ("Plan", false),
-    ("Toolchain", false),
+/// Whether the line of a build that ended so is this, and its fault comes from outside the rules or does not.
+fn is_told(
+    alloc: Global,
+    ending: Ending,
+    wanted: &str,
+    is_from_outside: bool,
+) -> Result<bool, PathFault> {
+    let fault = build_fault(alloc, ending)?;
+    let is_right = is_outside(&fault) == is_from_outside;
+    Ok(fails_with(alloc, fault, wanted)? && is_right)
+}
+
+/// Faults of a build, the line of each, and whether it comes from outside the rules.
+const FAULTS: &[(Ending, &str, bool)] = &[
+    (
+        Ending::Manifest(ManifestFault::NotToml),
+        "refused NotToml",
+        false,
+    ),
+    (
+        Ending::Manifest(ManifestFault::BadKind(Key::Package)),
+        "refused BadKind",
+        false,
+    ),
+    (
+        Ending::Manifest(ManifestFault::BadName),
+        "refused BadName",
+        false,
+    ),
+    (
+        Ending::Manifest(ManifestFault::BadVersion),
+        "refused BadVersion",
+        false,
+    ),
+    (
+        Ending::Manifest(ManifestFault::UnsupportedTable),
+        "refused UnsupportedTable",
+        false,
+    ),
+    (
+        Ending::Manifest(ManifestFault::UnsupportedSource),
+        "refused UnsupportedSource",
+        false,
+    ),
+    (
+        Ending::Manifest(ManifestFault::UnsupportedCrateType),
+        "refused UnsupportedCrateType",
+        false,
+    ),
+    (
+        Ending::Manifest(ManifestFault::BadProfile),
+        "refused BadProfile",
+        false,
+    ),
+    (
+        Ending::Manifest(ManifestFault::BadFeature),
+        "refused BadFeature",
+        false,
+    ),
+    (
+        Ending::Manifest(ManifestFault::TooLarge),
+        "refused TooLarge",
+        false,
+    ),
+    (
+        Ending::Manifest(ManifestFault::OldResolver),
+        "refused OldResolver",
+        false,
+    ),
+    (
+        Ending::Manifest(ManifestFault::OutOfMemory),
+        "refused OutOfMemory",
+        false,
+    ),
+    (Ending::Load("NoManifest"), "refused NoManifest", false),
+    (Ending::Load("SameName"), "refused SameName", false),
+    (Ending::Load("NameMismatch"), "refused NameMismatch", false),
+    (
+        Ending::Load("VersionMismatch"),
+        "refused VersionMismatch",
+        false,
+    ),
+    (Ending::Load("LinksTwice"), "refused LinksTwice", false),
+    (
+        Ending::Load("LinksWithoutScript"),
+        "refused LinksWithoutScript",
+        false,
+    ),
+    (Ending::Load("NoInherited"), "refused NoInherited", false),
+    (Ending::Load("TooMany"), "refused TooMany", false),
+    (Ending::Load("SameBinary"), "refused SameBinary", false),
+    (Ending::Load("Place"), "refused Place", false),
+    (
+        Ending::Load("NoSuchPackage"),
+        "refused NoSuchPackage",
+        false,
+    ),
+    (Ending::Load("OutOfMemory"), "refused OutOfMemory", false),
+    (
+        Ending::Feature(FeatureFault::NoSuchFeature),
+        "refused NoSuchFeature",
+        false,
+    ),
+    (
+        Ending::Feature(FeatureFault::NoSuchDependency),
+        "refused NoSuchDependency",
+        false,
+    ),
+    (
+        Ending::Feature(FeatureFault::NotOptional),
+        "refused NotOptional",
+        false,
+    ),
+    (
+        Ending::Feature(FeatureFault::OutOfMemory),
+        "refused OutOfMemory",
+        false,
+    ),
+    (
+        Ending::Profile(ProfileFault::NoSuchProfile),
+        "refused NoSuchProfile",
+        false,
+    ),
+    (
+        Ending::Profile(ProfileFault::InheritsCycle),
+        "refused InheritsCycle",
+        false,
+    ),
+    (
+        Ending::Profile(ProfileFault::NotInOverride),
+        "refused NotInOverride",
+        false,
+    ),
+    (
+        Ending::Profile(ProfileFault::OutOfMemory),
+        "refused OutOfMemory",
+        false,
+    ),
+    (Ending::Plan("Cycle"), "refused Cycle", false),
+    (Ending::Plan("TooManyUnits"), "refused TooManyUnits", false),
+    (
+        Ending::Plan("NothingToBuild"),
+        "refused NothingToBuild",
+        false,
+    ),
+    (Ending::Plan("OutOfMemory"), "refused OutOfMemory", false),
+    (
+        Ending::Child("-vV", StartFault::CannotStart),
+        "fault -vV CannotStart",
+        true,
+    ),
+    (
+        Ending::Child("a.target.lib", StartFault::Died),
+        "fault a.target.lib Died",
+        true,
+    ),
+    (
+        Ending::Child("a.target.lib", StartFault::Capture),
+        "fault a.target.lib Capture",
+        true,
+    ),
+    (
+        Ending::Child("a.target.lib", StartFault::OutOfMemory),
+        "fault a.target.lib OutOfMemory",
+        true,
+    ),
+    (Ending::Toolchain, "fault -vV Toolchain", false),
+    (Ending::Sink, "fault sink Sink", true),
+    (Ending::OutOfMemory, "fault memory OutOfMemory", true),
+    (
+        Ending::Device("/w/Cargo.toml", PlaceFault::Read),
+        "fault /w/Cargo.toml Device",
+        true,
+    ),
 ];
 
 #[test]
-fn outside(rt: HostRuntime) -> Result<(), Fail> {
-    for case in ORIGINS {
-        let (name, wanted) = *case;
-        assert_eq!(rt; is_outside_by_name(rt.alloc(), name)?, wanted, "{name}");
+fn result_lines(rt: HostRuntime) -> Result<(), Fail> {
+    for case in ENDS {
+        let (bad, started, wanted) = *case;
+        assert!(rt; ends_with(rt.alloc(), bad, started, wanted)?, "{wanted}");
+    }
+    for case in FAULTS {
+        let (ending, wanted, is_from_outside) = *case;
+        assert!(rt;
+            is_told(rt.alloc(), ending, wanted, is_from_outside)?,
+            "{wanted}"
+        );
     }
     Ok(())
 }

@@ -1,6 +1,6 @@
 //! What session files say, against worked examples.
 
-use crate::shown::{put, put_call, put_each};
+use pb_checks_files::Shown;
 use pb_data::Text;
 use pb_package::Options;
 use pb_place::StartFault;
@@ -9,97 +9,82 @@ use std::alloc::{AllocError, Global};
 use std::test::Fail;
 
 /// Puts the texts of an option in words: its name, and each text with a bar behind it; nothing where there is none.
-fn put_texts(out: &mut String, name: &str, texts: &[Text]) -> Result<(), AllocError> {
-    if texts.is_empty() {
-        return Ok(());
+fn put_texts(out: &mut Shown, name: &str, texts: &[Text]) {
+    if !texts.is_empty() {
+        out.put(&[" ", name, "="]);
+        out.put_each("", texts, "|");
     }
-    put(out, &[" ", name, "="])?;
-    put_each(out, texts, "|")
 }
 
 /// Puts the name of an option that is on, with a space before it.
-fn put_switch(out: &mut String, name: &str, is_on: bool) -> Result<(), AllocError> {
+fn put_switch(out: &mut Shown, name: &str, is_on: bool) {
     if is_on {
-        put(out, &[" ", name])?;
+        out.put(&[" ", name]);
     }
-    Ok(())
 }
 
 /// Puts how many units may be in flight at one time, where that is not one, and which of those that may begin does,
 /// where that is not the first.
-fn put_turns(alloc: Global, out: &mut String, jobs: u64, pick: &PickBy) -> Result<(), AllocError> {
+fn put_turns(out: &mut Shown, jobs: u64, pick: &PickBy) {
     if jobs != 1 {
-        let jobs = format!(in alloc; " jobs={jobs}")?;
-        out.push_str(jobs.as_str())?;
+        out.put(&[" jobs="]);
+        out.put_number(jobs);
     }
     match pick {
-        PickBy::First => Ok(()),
-        PickBy::Last => out.push_str(" last"),
+        PickBy::First => {}
+        PickBy::Last => out.put(&[" last"]),
     }
 }
 
 /// Puts the options of a build in words.
-fn put_build(
-    alloc: Global,
-    out: &mut String,
-    options: &Options,
-    pick: &PickBy,
-) -> Result<(), AllocError> {
-    put_call(
-        out,
-        "build",
-        options.manifest.as_str(),
-        options.profile.as_str(),
-    )?;
-    put_switch(out, "workspace", options.workspace)?;
-    put_switch(out, "all_features", options.all_features)?;
-    put_switch(out, "no_default_features", options.no_default_features)?;
-    put_switch(out, "lib", options.lib)?;
-    put_switch(out, "bins", options.bins)?;
-    put_texts(out, "packages", options.packages.as_slice())?;
-    put_texts(out, "features", options.features.as_slice())?;
-    put_texts(out, "bin", options.bin.as_slice())?;
-    put_turns(alloc, out, options.jobs, pick)
+fn put_build(out: &mut Shown, options: &Options, pick: &PickBy) {
+    out.put_call("build", options.manifest.as_str(), options.profile.as_str());
+    put_switch(out, "workspace", options.workspace);
+    put_switch(out, "all_features", options.all_features);
+    put_switch(out, "no_default_features", options.no_default_features);
+    put_switch(out, "lib", options.lib);
+    put_switch(out, "bins", options.bins);
+    put_texts(out, "packages", options.packages.as_slice());
+    put_texts(out, "features", options.features.as_slice());
+    put_texts(out, "bin", options.bin.as_slice());
+    put_turns(out, options.jobs, pick);
 }
 
-/// Puts how a start fails in words, by what it answers.
-fn put_die(out: &mut String, key: &str, death: &Death) -> Result<(), AllocError> {
-    let fault = match death.fault() {
+/// How a start fails in words, by what it answers.
+fn death_text(death: &Death) -> &'static str {
+    match death.fault() {
         StartFault::CannotStart => "cannot start",
         StartFault::Died => "died",
         StartFault::Capture => "capture",
         StartFault::OutOfMemory => "memory",
-    };
-    put_call(out, "die", key, fault)
-}
-
-/// Puts a fuse in words.
-fn put_fuse(alloc: Global, out: &mut String, number: u64) -> Result<(), AllocError> {
-    let number = format!(in alloc; "{number}")?;
-    put_call(out, "fuse", number.as_str(), "")
+    }
 }
 
 /// Puts a step in words.
-fn put_step(alloc: Global, out: &mut String, step: &SessionStep) -> Result<(), AllocError> {
+fn put_step(out: &mut Shown, step: &SessionStep) {
     match step {
-        SessionStep::Write(path, text) => put_call(out, "write", path.as_str(), text.as_str()),
-        SessionStep::Remove(path) => put_call(out, "remove", path.as_str(), ""),
-        SessionStep::Set(name, value) => put_call(out, "set", name.as_str(), value.as_str()),
-        SessionStep::Unset(name) => put_call(out, "unset", name.as_str(), ""),
-        SessionStep::Build(options, pick) => put_build(alloc, out, options, pick),
-        SessionStep::Die(key, death) => put_die(out, key.as_str(), death),
-        SessionStep::Fuse(number) => put_fuse(alloc, out, *number),
+        SessionStep::Write(path, text) => out.put_call("write", path.as_str(), text.as_str()),
+        SessionStep::Remove(path) => out.put_call("remove", path.as_str(), ""),
+        SessionStep::Set(name, value) => out.put_call("set", name.as_str(), value.as_str()),
+        SessionStep::Unset(name) => out.put_call("unset", name.as_str(), ""),
+        SessionStep::Build(options, pick) => put_build(out, options, pick),
+        SessionStep::Die(key, death) => out.put_call("die", key.as_str(), death_text(death)),
+        SessionStep::Fuse(number) => {
+            out.put(&["fuse<"]);
+            out.put_number(*number);
+            out.put(&["><>"]);
+        }
     }
 }
 
 /// Steps in words, each with `;` behind it.
 fn steps_shown(alloc: Global, steps: &[SessionStep]) -> Result<String, AllocError> {
-    let mut shown = String::new(alloc);
+    let mut shown = Shown::new(alloc);
     for step in steps {
-        put_step(alloc, &mut shown, step)?;
-        shown.push_str(";")?;
+        put_step(&mut shown, step);
+        shown.put(&[";"]);
     }
-    Ok(shown)
+    shown.whole()
 }
 
 /// The steps of a session in words, or `bad`.
@@ -117,8 +102,8 @@ fn says(alloc: Global, session: &[u8], wanted: &str) -> Result<bool, AllocError>
     Ok(found.as_str() == wanted)
 }
 
-/// Session files and their steps.
-const GOOD: &[(&str, &str)] = &[
+/// Session files, and their steps or that they are no session.
+const SESSIONS: &[(&str, &str)] = &[
     ("[]", ""),
     (" [ ] ", ""),
     (r#"[{"write":["/w/a.rs","x\n"]}]"#, "write</w/a.rs><x\n>;"),
@@ -167,107 +152,78 @@ const GOOD: &[(&str, &str)] = &[
     ),
     (r#"[{"unset":"a","unset":"b"}]"#, "unset<b><>;"),
     (r#"[{"fuse":1.0,"fuse":2}]"#, "fuse<2><>;"),
+    // Files that are no session.
+    ("", "bad"),
+    ("[", "bad"),
+    ("{}", "bad"),
+    ("null", "bad"),
+    (r#"{"build":{}}"#, "bad"),
+    ("[[]]", "bad"),
+    ("[{}]", "bad"),
+    ("[1]", "bad"),
+    (r#"[{"build":{}}] x"#, "bad"),
+    (r#"[{"build":{},"unset":"a"}]"#, "bad"),
+    (r#"[{"Build":{}}]"#, "bad"),
+    (r#"[{"fly":{}}]"#, "bad"),
+    (r#"[{"build":null}]"#, "bad"),
+    (r#"[{"build":[]}]"#, "bad"),
+    (r#"[{"build":{"manifest":null}}]"#, "bad"),
+    (r#"[{"build":{"manifest":"Cargo.toml"}}]"#, "bad"),
+    (r#"[{"build":{"manifest":"/w/\u0000"}}]"#, "bad"),
+    (r#"[{"write":"/a"}]"#, "bad"),
+    (r#"[{"write":["/a"]}]"#, "bad"),
+    (r#"[{"write":["/a","b","c"]}]"#, "bad"),
+    (r#"[{"write":["a","b"]}]"#, "bad"),
+    (r#"[{"write":["/a",1]}]"#, "bad"),
+    (r#"[{"remove":""}]"#, "bad"),
+    (r#"[{"remove":["/a"]}]"#, "bad"),
+    (r#"[{"set":["a"]}]"#, "bad"),
+    (r#"[{"set":["a",true]}]"#, "bad"),
+    (r#"[{"unset":["a"]}]"#, "bad"),
+    (r#"[{"unset":1}]"#, "bad"),
+    (r#"[{"set":"a"}]"#, "bad"),
+    (r#"[{"set":["a","b","c"]}]"#, "bad"),
+    (r#"[{"set":{"a":"b"}}]"#, "bad"),
+    (r#"[{"remove":1}]"#, "bad"),
+    (r#"[{"remove":"/\u0000"}]"#, "bad"),
+    (r#"[{"write":["/a\u0000","b"]}]"#, "bad"),
+    (r#"[{"write":[1,"b"]}]"#, "bad"),
+    (r#"[{"write":[]}]"#, "bad"),
+    (r#"[{"":{}}]"#, "bad"),
+    (r#"[{"build":"/w/Cargo.toml"}]"#, "bad"),
+    (r#"[{"build":{"Manifest":"/a"}}]"#, "bad"),
+    (r#"[{"build":{"":"/a"}}]"#, "bad"),
+    (r#"[null]"#, "bad"),
+    (r#"[{"die":"a"}]"#, "bad"),
+    (r#"[{"die":[]}]"#, "bad"),
+    (r#"[{"die":["a"]}]"#, "bad"),
+    (r#"[{"die":["a","X"]}]"#, "bad"),
+    (r#"[{"die":["a",""]}]"#, "bad"),
+    (r#"[{"die":["a","died"]}]"#, "bad"),
+    (r#"[{"die":["a","OutOfMemory"]}]"#, "bad"),
+    (r#"[{"die":["a","Died","b"]}]"#, "bad"),
+    (r#"[{"die":["Died","a"]}]"#, "bad"),
+    (r#"[{"die":[1,"Died"]}]"#, "bad"),
+    (r#"[{"die":["a",null]}]"#, "bad"),
+    (r#"[{"die":{"a":"Died"}}]"#, "bad"),
+    (r#"[{"Die":["a","Died"]}]"#, "bad"),
+    (r#"[{"fuse":1.0}]"#, "bad"),
+    (r#"[{"fuse":1e1}]"#, "bad"),
+    (r#"[{"fuse":1E0}]"#, "bad"),
+    (r#"[{"fuse":0.0}]"#, "bad"),
+    (r#"[{"fuse":-0}]"#, "bad"),
+    (r#"[{"fuse":-1}]"#, "bad"),
+    (r#"[{"fuse":01}]"#, "bad"),
+    (r#"[{"fuse":+1}]"#, "bad"),
+    (r#"[{"fuse":18446744073709551616}]"#, "bad"),
+    (r#"[{"fuse":99999999999999999999999}]"#, "bad"),
+    (r#"[{"fuse":"1"}]"#, "bad"),
+    (r#"[{"fuse":[1]}]"#, "bad"),
+    (r#"[{"fuse":null}]"#, "bad"),
+    (r#"[{"fuse":true}]"#, "bad"),
+    (r#"[{"fuse":1,"build":{}}]"#, "bad"),
+    (r#"[{"build":{}},{"write":["a","b"]}]"#, "bad"),
 ];
-
-#[test]
-fn sessions(rt: HostRuntime) -> Result<(), Fail> {
-    for case in GOOD {
-        let (session, wanted) = *case;
-        assert!(rt; says(rt.alloc(), session.as_bytes(), wanted)?, "{session}");
-    }
-    Ok(())
-}
-
-/// Files that are no session.
-const BAD: &[&str] = &[
-    "",
-    "[",
-    "{}",
-    "null",
-    r#"{"build":{}}"#,
-    "[[]]",
-    "[{}]",
-    "[1]",
-    r#"[{"build":{}}] x"#,
-    r#"[{"build":{},"unset":"a"}]"#,
-    r#"[{"Build":{}}]"#,
-    r#"[{"fly":{}}]"#,
-    r#"[{"build":null}]"#,
-    r#"[{"build":[]}]"#,
-    r#"[{"build":{"manifest":null}}]"#,
-    r#"[{"build":{"manifest":"Cargo.toml"}}]"#,
-    r#"[{"build":{"manifest":"/w/\u0000"}}]"#,
-    r#"[{"write":"/a"}]"#,
-    r#"[{"write":["/a"]}]"#,
-    r#"[{"write":["/a","b","c"]}]"#,
-    r#"[{"write":["a","b"]}]"#,
-    r#"[{"write":["/a",1]}]"#,
-    r#"[{"remove":""}]"#,
-    r#"[{"remove":["/a"]}]"#,
-    r#"[{"set":["a"]}]"#,
-    r#"[{"set":["a",true]}]"#,
-    r#"[{"unset":["a"]}]"#,
-    r#"[{"unset":1}]"#,
-    r#"[{"set":"a"}]"#,
-    r#"[{"set":["a","b","c"]}]"#,
-    r#"[{"set":{"a":"b"}}]"#,
-    r#"[{"remove":1}]"#,
-    r#"[{"remove":"/\u0000"}]"#,
-    r#"[{"write":["/a\u0000","b"]}]"#,
-    r#"[{"write":[1,"b"]}]"#,
-    r#"[{"write":[]}]"#,
-    r#"[{"":{}}]"#,
-    r#"[{"build":"/w/Cargo.toml"}]"#,
-    r#"[{"build":{"Manifest":"/a"}}]"#,
-    r#"[{"build":{"":"/a"}}]"#,
-    r#"[null]"#,
-    r#"[{"die":"a"}]"#,
-    r#"[{"die":[]}]"#,
-    r#"[{"die":["a"]}]"#,
-    r#"[{"die":["a","X"]}]"#,
-    r#"[{"die":["a",""]}]"#,
-    r#"[{"die":["a","died"]}]"#,
-    r#"[{"die":["a","OutOfMemory"]}]"#,
-    r#"[{"die":["a","Died","b"]}]"#,
-    r#"[{"die":["Died","a"]}]"#,
-    r#"[{"die":[1,"Died"]}]"#,
-    r#"[{"die":["a",null]}]"#,
-    r#"[{"die":{"a":"Died"}}]"#,
-    r#"[{"Die":["a","Died"]}]"#,
-    r#"[{"fuse":1.0}]"#,
-    r#"[{"fuse":1e1}]"#,
-    r#"[{"fuse":1E0}]"#,
-    r#"[{"fuse":0.0}]"#,
-    r#"[{"fuse":-0}]"#,
-    r#"[{"fuse":-1}]"#,
-    r#"[{"fuse":01}]"#,
-    r#"[{"fuse":+1}]"#,
-    r#"[{"fuse":18446744073709551616}]"#,
-    r#"[{"fuse":99999999999999999999999}]"#,
-    r#"[{"fuse":"1"}]"#,
-    r#"[{"fuse":[1]}]"#,
-    r#"[{"fuse":null}]"#,
-    r#"[{"fuse":true}]"#,
-    r#"[{"fuse":1,"build":{}}]"#,
-    r#"[{"build":{}},{"write":["a","b"]}]"#,
-];
-
-#[test]
-fn bad_sessions(rt: HostRuntime) -> Result<(), Fail> {
-    for case in BAD {
-        let session = *case;
-        assert!(rt; says(rt.alloc(), session.as_bytes(), "bad")?, "{session}");
-    }
-    assert!(rt; says(rt.alloc(), b"[{\"unset\":\"\xff\"}]", "bad")?);
-    Ok(())
-}
-
-#[test]
-fn bad_sessions_in_words(rt: HostRuntime) -> Result<(), Fail> {
-    let words = format!(in rt.alloc(); "{}", BadSession::BadForm)?;
-    assert_eq!(rt; words.as_str(), "bad session");
-    Ok(())
-}
 
 /// The options of a build, and what they say.
 const OPTIONS: &[(&str, &str)] = &[
@@ -335,6 +291,47 @@ const OPTIONS: &[(&str, &str)] = &[
         r#"{"bin":["x"],"lib":true,"features":["f"],"packages":["p"],"workspace":true}"#,
         "build</w/Cargo.toml><dev> workspace lib packages=p| features=f| bin=x|;",
     ),
+    // Options that no build may have: a key of a wrong type, and keys that a session does not know.
+    (r#"{"manifest":["/a"]}"#, "bad"),
+    (r#"{"profile":1}"#, "bad"),
+    (r#"{"profile":null}"#, "bad"),
+    (r#"{"profile":["dev"]}"#, "bad"),
+    (r#"{"packages":"a"}"#, "bad"),
+    (r#"{"packages":null}"#, "bad"),
+    (r#"{"packages":["a",1]}"#, "bad"),
+    (r#"{"features":"a"}"#, "bad"),
+    (r#"{"features":{"a":"b"}}"#, "bad"),
+    (r#"{"features":[true]}"#, "bad"),
+    (r#"{"bin":"a"}"#, "bad"),
+    (r#"{"bin":true}"#, "bad"),
+    (r#"{"bin":[["a"]]}"#, "bad"),
+    (r#"{"workspace":1}"#, "bad"),
+    (r#"{"workspace":"true"}"#, "bad"),
+    (r#"{"workspace":null}"#, "bad"),
+    (r#"{"all_features":["a"]}"#, "bad"),
+    (r#"{"no_default_features":0}"#, "bad"),
+    (r#"{"lib":"lib"}"#, "bad"),
+    (r#"{"lib":{}}"#, "bad"),
+    (r#"{"bins":["a"]}"#, "bad"),
+    (r#"{"pick":"middle"}"#, "bad"),
+    (r#"{"pick":""}"#, "bad"),
+    (r#"{"pick":"First"}"#, "bad"),
+    (r#"{"pick":["first"]}"#, "bad"),
+    (r#"{"pick":0}"#, "bad"),
+    (r#"{"pick":null}"#, "bad"),
+    (r#"{"jobs":"2"}"#, "bad"),
+    (r#"{"jobs":1.0}"#, "bad"),
+    (r#"{"jobs":1e1}"#, "bad"),
+    (r#"{"jobs":-0}"#, "bad"),
+    (r#"{"jobs":-1}"#, "bad"),
+    (r#"{"jobs":18446744073709551616}"#, "bad"),
+    (r#"{"jobs":[2]}"#, "bad"),
+    (r#"{"jobs":null}"#, "bad"),
+    (r#"{"jobs":true}"#, "bad"),
+    (r#"{"target_dir":"/t"}"#, "bad"),
+    (r#"{"runner":["mini"]}"#, "bad"),
+    (r#"{"tool":"cargo"}"#, "bad"),
+    (r#"{"all-features":true}"#, "bad"),
 ];
 
 /// Whether a session of one build with these options says this.
@@ -343,78 +340,18 @@ fn build_says(alloc: Global, options: &str, wanted: &str) -> Result<bool, AllocE
     says(alloc, session.as_bytes(), wanted)
 }
 
-#[test]
-fn options(rt: HostRuntime) -> Result<(), Fail> {
-    for case in OPTIONS {
-        let (options, wanted) = *case;
-        assert!(rt; build_says(rt.alloc(), options, wanted)?, "{options}");
-    }
-    Ok(())
-}
-
-/// Options that no build may have: a key of a wrong type, and keys that a session does not know.
-const BAD_OPTIONS: &[&str] = &[
-    r#"{"manifest":["/a"]}"#,
-    r#"{"profile":1}"#,
-    r#"{"profile":null}"#,
-    r#"{"profile":["dev"]}"#,
-    r#"{"packages":"a"}"#,
-    r#"{"packages":null}"#,
-    r#"{"packages":["a",1]}"#,
-    r#"{"features":"a"}"#,
-    r#"{"features":{"a":"b"}}"#,
-    r#"{"features":[true]}"#,
-    r#"{"bin":"a"}"#,
-    r#"{"bin":true}"#,
-    r#"{"bin":[["a"]]}"#,
-    r#"{"workspace":1}"#,
-    r#"{"workspace":"true"}"#,
-    r#"{"workspace":null}"#,
-    r#"{"all_features":["a"]}"#,
-    r#"{"no_default_features":0}"#,
-    r#"{"lib":"lib"}"#,
-    r#"{"lib":{}}"#,
-    r#"{"bins":["a"]}"#,
-    r#"{"pick":"middle"}"#,
-    r#"{"pick":""}"#,
-    r#"{"pick":"First"}"#,
-    r#"{"pick":["first"]}"#,
-    r#"{"pick":0}"#,
-    r#"{"pick":null}"#,
-    r#"{"jobs":"2"}"#,
-    r#"{"jobs":1.0}"#,
-    r#"{"jobs":1e1}"#,
-    r#"{"jobs":-0}"#,
-    r#"{"jobs":-1}"#,
-    r#"{"jobs":18446744073709551616}"#,
-    r#"{"jobs":[2]}"#,
-    r#"{"jobs":null}"#,
-    r#"{"jobs":true}"#,
-    r#"{"target_dir":"/t"}"#,
-    r#"{"runner":["mini"]}"#,
-    r#"{"tool":"cargo"}"#,
-    r#"{"all-features":true}"#,
-];
-
-#[test]
-fn bad_options(rt: HostRuntime) -> Result<(), Fail> {
-    for case in BAD_OPTIONS {
-        let options = *case;
-        assert!(rt; build_says(rt.alloc(), options, "bad")?, "{options}");
-    }
-    Ok(())
-}
-
 /// What no key of a session changes: the words before a build script, the builder's name, and that no target folder
 /// is asked for.
 fn fixed_shown(alloc: Global, options: &Options) -> Result<String, AllocError> {
-    let mut shown = String::new(alloc);
-    shown.push_str(options.tool.as_str())?;
-    put_texts(&mut shown, "runner", options.runner.as_slice())?;
-    let is_asked = options.target_dir.is_some();
-    shown.push_str(if is_asked { " true" } else { " false" })?;
-    Ok(shown)
+    let mut shown = Shown::new(alloc);
+    shown.put(&[options.tool.as_str()]);
+    put_texts(&mut shown, "runner", options.runner.as_slice());
+    put_switch(&mut shown, "target_dir", options.target_dir.is_some());
+    shown.whole()
 }
+
+/// A session of one build.
+const FIXED: &[u8] = br#"[{"build":{"profile":"release"}}]"#;
 
 /// Whether steps are one build, of which no key changes this.
 fn have_fixed(alloc: Global, steps: &[SessionStep], wanted: &str) -> Result<bool, AllocError> {
@@ -433,10 +370,24 @@ fn has_fixed(alloc: Global, session: &[u8], wanted: &str) -> Result<bool, BadSes
     Ok(have_fixed(alloc, steps.as_slice(), wanted)?)
 }
 
+/// Whether what is no session is this in words.
+fn bad_reads(alloc: Global, wanted: &str) -> Result<bool, AllocError> {
+    let words = format!(in alloc; "{}", BadSession::BadForm)?;
+    Ok(words.as_str() == wanted)
+}
+
 #[test]
-fn fixed_options(rt: HostRuntime) -> Result<(), Fail> {
-    let session = br#"[{"build":{"profile":"release"}}]"#;
-    let wanted = "cargo runner=mini|--run| false";
-    assert!(rt; has_fixed(rt.alloc(), session, wanted)?);
+fn sessions_and_options(rt: HostRuntime) -> Result<(), Fail> {
+    for case in SESSIONS {
+        let (session, wanted) = *case;
+        assert!(rt; says(rt.alloc(), session.as_bytes(), wanted)?, "{session}");
+    }
+    for case in OPTIONS {
+        let (options, wanted) = *case;
+        assert!(rt; build_says(rt.alloc(), options, wanted)?, "{options}");
+    }
+    assert!(rt; has_fixed(rt.alloc(), FIXED, "cargo runner=mini|--run|")?);
+    assert!(rt; says(rt.alloc(), b"[{\"unset\":\"\xff\"}]", "bad")?);
+    assert!(rt; bad_reads(rt.alloc(), "bad session")?);
     Ok(())
 }

@@ -1,6 +1,6 @@
 //! What faults are in words, against worked examples.
 
-use crate::faults::{build_fault, refused_manifest, refused_workspace, unit_fault};
+use crate::faults::{Bad, Ending, build_fault, unit_fault};
 use pb_answer::BuildFault;
 use pb_directive::LineFault;
 use pb_manifest::{Key, ManifestFault};
@@ -15,59 +15,25 @@ fn build_reads(alloc: Global, fault: BuildFault, wanted: &str) -> Result<bool, A
     Ok(words.as_str() == wanted)
 }
 
+/// Whether the fault of a build that ended so is this in words.
+fn ending_reads(alloc: Global, ending: Ending, wanted: &str) -> Result<bool, PathFault> {
+    let fault = build_fault(alloc, ending)?;
+    Ok(build_reads(alloc, fault, wanted)?)
+}
+
 /// Faults of a build, and what they are in words.
-const BUILD_WORDS: &[(&str, &str)] = &[
-    ("Plan", "there is nothing to build"),
-    ("Toolchain", "the compiler does not say its host"),
-    ("Sink", "the message lines cannot be written"),
-    ("OutOfMemory", "out of memory"),
+const BUILD_WORDS: &[(Ending, &str)] = &[
+    (Ending::Plan("NothingToBuild"), "there is nothing to build"),
+    (Ending::Toolchain, "the compiler does not say its host"),
+    (Ending::Sink, "the message lines cannot be written"),
+    (Ending::OutOfMemory, "out of memory"),
+    (Ending::Load("NoManifest"), "no manifest at `/w/Cargo.toml`"),
+    (Ending::Load("NoInherited"), "a key is not there to inherit"),
+    (
+        Ending::Manifest(ManifestFault::BadKind(Key::LicenseFile)),
+        "the manifest at `/w/m/Cargo.toml` is refused: `license-file` has a value that it may not have",
+    ),
 ];
-
-/// Whether the fault of this name is this in words.
-fn reads(alloc: Global, name: &str, wanted: &str) -> Result<bool, AllocError> {
-    let fault = build_fault(alloc, name)?;
-    build_reads(alloc, fault, wanted)
-}
-
-#[test]
-fn build_words(rt: HostRuntime) -> Result<(), Fail> {
-    for case in BUILD_WORDS {
-        let (name, wanted) = *case;
-        assert!(rt; reads(rt.alloc(), name, wanted)?, "{wanted}");
-    }
-    Ok(())
-}
-
-/// Faults of a workspace, and what they are in words.
-const WORKSPACE_WORDS: &[(&str, &str)] = &[
-    ("NoManifest", "no manifest at `/w/Cargo.toml`"),
-    ("NoInherited", "a key is not there to inherit"),
-];
-
-/// Whether the fault of a workspace that has this name is this in words.
-fn workspace_reads(alloc: Global, name: &str, wanted: &str) -> Result<bool, PathFault> {
-    let fault = refused_workspace(alloc, name)?;
-    Ok(build_reads(alloc, fault, wanted)?)
-}
-
-/// Whether the fault of a manifest is this in words.
-fn manifest_reads(alloc: Global, fault: ManifestFault, wanted: &str) -> Result<bool, PathFault> {
-    let fault = refused_manifest(alloc, fault)?;
-    Ok(build_reads(alloc, fault, wanted)?)
-}
-
-#[test]
-fn workspace_words(rt: HostRuntime) -> Result<(), Fail> {
-    for case in WORKSPACE_WORDS {
-        let (name, wanted) = *case;
-        assert!(rt; workspace_reads(rt.alloc(), name, wanted)?, "{wanted}");
-    }
-    let bad = ManifestFault::BadKind(Key::LicenseFile);
-    let wanted =
-        "the manifest at `/w/m/Cargo.toml` is refused: `license-file` has a value that it may not have";
-    assert!(rt; manifest_reads(rt.alloc(), bad, wanted)?);
-    Ok(())
-}
 
 /// Whether a fault of a unit is this in words.
 fn unit_reads(alloc: Global, fault: UnitFault, wanted: &str) -> Result<bool, AllocError> {
@@ -75,31 +41,38 @@ fn unit_reads(alloc: Global, fault: UnitFault, wanted: &str) -> Result<bool, All
     Ok(words.as_str() == wanted)
 }
 
-/// Faults of a unit, and what they are in words.
-const UNIT_WORDS: &[(&str, &str)] = &[
-    ("ScriptError", "the script told of an error"),
-    ("NoDepInfo", "no dep-info that can be read"),
-    ("ForeignInput", "`/w/target/x` lies in the target folder"),
-    ("OutputTooLong", "a stream is too long"),
-    ("OutOfMemory", "out of memory"),
-];
-
-/// Whether the fault of a unit that has this name is this in words.
-fn unit_reads_by_name(alloc: Global, name: &str, wanted: &str) -> Result<bool, PathFault> {
-    let fault = unit_fault(alloc, name)?;
+/// Whether the fault of a unit is this in words.
+fn bad_reads(alloc: Global, bad: Bad, wanted: &str) -> Result<bool, PathFault> {
+    let fault = unit_fault(alloc, bad)?;
     Ok(unit_reads(alloc, fault, wanted)?)
 }
 
+/// Faults of a unit, and what they are in words.
+const UNIT_WORDS: &[(Bad, &str)] = &[
+    (Bad::Named("ScriptError"), "the script told of an error"),
+    (Bad::Named("NoDepInfo"), "no dep-info that can be read"),
+    (
+        Bad::Named("ForeignInput"),
+        "`/w/target/x` lies in the target folder",
+    ),
+    (Bad::Named("OutputTooLong"), "a stream is too long"),
+    (Bad::Named("OutOfMemory"), "out of memory"),
+    (Bad::Status(-1), "the child ended with status -1"),
+    (
+        Bad::Line(LineFault::BadValue(3)),
+        "a line of the script's output is refused: line 3 has a bad value",
+    ),
+];
+
 #[test]
-fn unit_words(rt: HostRuntime) -> Result<(), Fail> {
-    for case in UNIT_WORDS {
-        let (name, wanted) = *case;
-        assert!(rt; unit_reads_by_name(rt.alloc(), name, wanted)?, "{wanted}");
+fn words(rt: HostRuntime) -> Result<(), Fail> {
+    for case in BUILD_WORDS {
+        let (ending, wanted) = *case;
+        assert!(rt; ending_reads(rt.alloc(), ending, wanted)?, "{wanted}");
     }
-    let status = UnitFault::Status(-1);
-    assert!(rt; unit_reads(rt.alloc(), status, "the child ended with status -1")?);
-    let line = UnitFault::Directive(LineFault::BadValue(3));
-    let wanted = "a line of the script's output is refused: line 3 has a bad value";
-    assert!(rt; unit_reads(rt.alloc(), line, wanted)?);
+    for case in UNIT_WORDS {
+        let (bad, wanted) = *case;
+        assert!(rt; bad_reads(rt.alloc(), bad, wanted)?, "{wanted}");
+    }
     Ok(())
 }

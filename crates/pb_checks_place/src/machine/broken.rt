@@ -27,12 +27,12 @@ impl Broken {
         }
     }
 
-    /// A machine that starts children, and fails so where it reads what they write.
-    pub(crate) fn starting(memory: Global, kind: ErrorKind) -> Broken {
+    /// A machine that may start children, and then fails so where it reads what they write.
+    pub(crate) fn starting(memory: Global, kind: ErrorKind, starts: bool) -> Broken {
         Broken {
             kind,
             memory,
-            starts: true,
+            starts,
         }
     }
 

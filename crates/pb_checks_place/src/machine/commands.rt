@@ -1,67 +1,19 @@
 //! Commands for children, and what comes of them.
 
+use crate::told::{path_in, said};
 use pb_data::{Bytes, Items, Text};
 use pb_host::HostPlace;
-use pb_place::{Command, Ended, PathFault, PathText, Place, StartFault};
+use pb_place::{Command, PathText};
 use std::alloc::{AllocError, Global};
+use std::test::Fail;
 
-/// Where a child starts, what it is given, and where it writes.
-#[derive(Drop)]
-pub(crate) struct Around {
-    /// The folder in which it starts.
-    pub(crate) folder: PathText,
-    /// Its pairs.
-    pub(crate) pairs: Items<(Text, Text)>,
-    /// Its output folder, or none.
-    pub(crate) out: Option<PathText>,
-}
+/// A child: its program, what the shell is told (no words where that is empty), the folder in which it starts, its
+/// output folder (none where that is empty), and its pairs.
+pub(crate) type Asked<'a> = (&'a str, &'a str, &'a str, &'a str, &'a [(&'a str, &'a str)]);
 
-/// The root, with no pairs and no output folder.
-fn plain(alloc: Global) -> Result<Around, PathFault> {
-    let folder = PathText::parse(alloc, "/")?;
-    Ok(Around {
-        folder,
-        pairs: Items::new(alloc),
-        out: None,
-    })
-}
-
-/// A command that sees nothing of a target folder.
-fn command_of(
-    alloc: Global,
-    program: Text,
-    words: Items<Text>,
-    around: Around,
-    target: PathText,
-) -> Command {
-    Command {
-        program,
-        words,
-        folder: around.folder,
-        pairs: around.pairs,
-        out: around.out,
-        target,
-        toolchain: Bytes::new(Vec::new(alloc)),
-        reads: Items::new(alloc),
-    }
-}
-
-/// A command of a program with these words.
-fn program_with(
-    alloc: Global,
-    name: &str,
-    words: Items<Text>,
-    around: Around,
-) -> Result<Command, PathFault> {
-    let program = Text::from_str(alloc, name)?;
-    let target = PathText::parse(alloc, "/no/target")?;
-    Ok(command_of(alloc, program, words, around, target))
-}
-
-/// A command of a program without words, in the root, with no pairs and no output folder.
-pub(crate) fn program(alloc: Global, name: &str) -> Result<Command, PathFault> {
-    let around = plain(alloc)?;
-    program_with(alloc, name, Items::new(alloc), around)
+/// The shell in a test's folder, told this.
+pub(crate) fn shell(told: &str) -> Asked {
+    ("/bin/sh", told, "", "", &[])
 }
 
 /// Adds a word.
@@ -71,76 +23,69 @@ fn add_word(alloc: Global, words: &mut Items<Text>, word: &str) -> Result<(), Al
 }
 
 /// The words of the shell that is told this.
-fn shell_words(alloc: Global, told: &str) -> Result<Items<Text>, AllocError> {
+fn words_of(alloc: Global, told: &str) -> Result<Items<Text>, AllocError> {
     let mut words = Items::new(alloc);
-    add_word(alloc, &mut words, "-c")?;
-    add_word(alloc, &mut words, told)?;
+    if !told.is_empty() {
+        add_word(alloc, &mut words, "-c")?;
+        add_word(alloc, &mut words, told)?;
+    }
     Ok(words)
 }
 
-/// A command that the shell carries out in a folder.
-pub(crate) fn shell_around(
+/// Adds a pair.
+fn add_pair(
     alloc: Global,
-    told: &str,
-    around: Around,
-) -> Result<Command, PathFault> {
-    let words = shell_words(alloc, told)?;
-    program_with(alloc, "/bin/sh", words, around)
+    pairs: &mut Items<(Text, Text)>,
+    name: &str,
+    value: &str,
+) -> Result<(), AllocError> {
+    let name = Text::from_str(alloc, name)?;
+    let value = Text::from_str(alloc, value)?;
+    pairs.push((name, value))
 }
 
-/// The same in the root, with no pairs and no output folder.
-pub(crate) fn shell(alloc: Global, told: &str) -> Result<Command, PathFault> {
-    let around = plain(alloc)?;
-    shell_around(alloc, told, around)
-}
-
-/// The same in a folder, with an output folder or none.
-pub(crate) fn shell_in(
-    alloc: Global,
-    told: &str,
-    folder: PathText,
-    out: Option<PathText>,
-) -> Result<Command, PathFault> {
-    let around = Around {
-        folder,
-        pairs: Items::new(alloc),
-        out,
-    };
-    shell_around(alloc, told, around)
-}
-
-/// How a child ended: its status, and its two streams, each in brackets; `wrong` where one is no text.
-fn ended_text(alloc: Global, ended: &Ended) -> Result<String, AllocError> {
-    let stdout = str::from_utf8(ended.stdout.as_slice()).unwrap_or("wrong");
-    let stderr = str::from_utf8(ended.stderr.as_slice()).unwrap_or("wrong");
-    let status = ended.status;
-    format!(in alloc; "{status}({stdout})({stderr})")
-}
-
-/// How the child of a command ended, or the fault with the numbers of starts and failures.
-pub(crate) fn said<P: Place>(
-    alloc: Global,
-    place: &mut P,
-    command: Command,
-) -> Result<String, AllocError> {
-    match place.start(alloc, &command) {
-        Ok(ended) => ended_text(alloc, &ended),
-        Err(fault) => fault_text(alloc, fault, place.starts(), place.failures()),
+/// Pairs as texts.
+fn pairs_of(alloc: Global, pairs: &[(&str, &str)]) -> Result<Items<(Text, Text)>, AllocError> {
+    let mut made = Items::new(alloc);
+    for pair in pairs {
+        let (name, value) = *pair;
+        add_pair(alloc, &mut made, name, value)?;
     }
+    Ok(made)
 }
 
-/// The same at a place of its own on the machine.
-pub(crate) fn said_here(rt: &HostRuntime, command: Command) -> Result<String, AllocError> {
+/// The output folder of this name, or none.
+fn out_of(alloc: Global, root: &PathText, name: &str) -> Result<Option<PathText>, Fail> {
+    if name.is_empty() {
+        return Ok(None);
+    }
+    let out = path_in(alloc, root, name)?;
+    Ok(Some(out))
+}
+
+/// The command of a child, whose folders lie in a test's folder. It sees nothing of a target folder.
+pub(crate) fn command(alloc: Global, root: &PathText, asked: &Asked) -> Result<Command, Fail> {
+    let words = words_of(alloc, asked.1)?;
+    let pairs = pairs_of(alloc, asked.4)?;
+    let out = out_of(alloc, root, asked.3)?;
+    let folder = path_in(alloc, root, asked.2)?;
+    let target = path_in(alloc, root, "no/target")?;
+    let program = Text::from_str(alloc, asked.0)?;
+    Ok(Command {
+        program,
+        words,
+        folder,
+        pairs,
+        out,
+        target,
+        toolchain: Bytes::new(Vec::new(alloc)),
+        reads: Items::new(alloc),
+    })
+}
+
+/// How a child ended at a place of its own on the machine.
+pub(crate) fn said_here(rt: &HostRuntime, root: &PathText, asked: &Asked) -> Result<String, Fail> {
     let mut place = HostPlace::new(rt.alloc(), rt);
-    said(rt.alloc(), &mut place, command)
-}
-
-/// The name of a fault, and two numbers.
-fn fault_text(
-    alloc: Global,
-    fault: StartFault,
-    starts: u64,
-    failures: u64,
-) -> Result<String, AllocError> {
-    format!(in alloc; "{fault:?} {starts} {failures}")
+    let command = command(rt.alloc(), root, asked)?;
+    Ok(said(rt.alloc(), &mut place, &command)?)
 }

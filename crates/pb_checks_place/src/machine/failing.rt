@@ -1,32 +1,27 @@
 //! Calls that fail: each answers the fault of its own kind, and is counted.
 
 use crate::machine::broken::Broken;
-use crate::machine::calls::{Step, carry_out, carry_out_here};
-use crate::machine::commands::{said, said_here, shell, shell_in};
-use crate::machine::folders::{finish, fresh, path_in};
+use crate::machine::calls::{carry_out, carry_out_here};
+use crate::machine::commands::{command, said_here, shell};
+use crate::machine::folders::{finish, fresh};
+use crate::told::{Step, path_in, said};
 use pb_host::{HostPlace, HostView};
-use pb_place::{Command, PathText, Place, PlaceFault, View, ViewFault};
-use std::alloc::{AllocError, Global};
+use pb_place::{PathText, Place, PlaceFault, View, ViewFault};
+use std::alloc::Global;
 use std::fs;
 use std::io::ErrorKind;
 use std::test::Fail;
 
-/// Carries steps out on a machine.
-fn carry_out_on(
+/// Carries steps out on a machine whose every call fails so.
+fn try_broken(
     rt: &HostRuntime,
-    machine: &Broken,
     root: &PathText,
+    kind: ErrorKind,
     steps: &[Step],
 ) -> Result<(), Fail> {
-    let mut place = HostPlace::new(rt.alloc(), machine);
-    carry_out(rt, &mut place, root, steps)
-}
-
-/// Carries steps out on a machine whose every call fails so.
-fn try_broken(rt: &HostRuntime, kind: ErrorKind, steps: &[Step]) -> Result<(), Fail> {
-    let root = PathText::parse(rt.alloc(), "/a")?;
     let machine = Broken::new(rt.alloc(), kind);
-    carry_out_on(rt, &machine, &root, steps)
+    let mut place = HostPlace::new(rt.alloc(), &machine);
+    carry_out(rt, &mut place, root, steps)
 }
 
 const OWN_FAULTS: &[Step] = &[
@@ -53,44 +48,52 @@ const ABSENT: &[Step] = &[
     ("counts", "", "", "1 0"),
 ];
 
-#[test]
-fn errors_of_a_machine(rt: HostRuntime) -> Result<(), Fail> {
-    try_broken(&rt, ErrorKind::PermissionDenied, OWN_FAULTS)?;
-    try_broken(&rt, ErrorKind::ReadOnlyFilesystem, OWN_FAULTS)?;
-    try_broken(&rt, ErrorKind::InvalidFilename, OWN_FAULTS)?;
-    try_broken(&rt, ErrorKind::OutOfMemory, WANT_OF_MEMORY)?;
-    try_broken(&rt, ErrorKind::NotFound, ABSENT)?;
-    try_broken(&rt, ErrorKind::NotADirectory, ABSENT)
-}
-
-/// What the start of a child gives on a machine.
-fn given(alloc: Global, machine: &Broken, child: Command) -> Result<String, AllocError> {
-    let mut place = HostPlace::new(alloc, machine);
-    said(alloc, &mut place, child)
-}
+/// How each call of a machine fails, and what the place answers.
+const ERRORS: &[(ErrorKind, &[Step])] = &[
+    (ErrorKind::PermissionDenied, OWN_FAULTS),
+    (ErrorKind::ReadOnlyFilesystem, OWN_FAULTS),
+    (ErrorKind::InvalidFilename, OWN_FAULTS),
+    (ErrorKind::OutOfMemory, WANT_OF_MEMORY),
+    (ErrorKind::NotFound, ABSENT),
+    (ErrorKind::NotADirectory, ABSENT),
+];
 
 /// Whether the start of a child gives this on a machine.
-fn start_gives(alloc: Global, machine: &Broken, wanted: &str) -> Result<bool, Fail> {
-    let child = shell(alloc, "exit 0")?;
-    let found = given(alloc, machine, child)?;
+fn start_gives(
+    alloc: Global,
+    machine: &Broken,
+    root: &PathText,
+    wanted: &str,
+) -> Result<bool, Fail> {
+    let command = command(alloc, root, &shell("exit 0"))?;
+    let mut place = HostPlace::new(alloc, machine);
+    let found = said(alloc, &mut place, &command)?;
     Ok(found.as_str() == wanted)
 }
 
-#[test]
-fn children_that_do_not_start(rt: HostRuntime) -> Result<(), Fail> {
-    let missing = Broken::new(rt.alloc(), ErrorKind::NotFound);
-    assert!(rt; start_gives(rt.alloc(), &missing, "CannotStart 1 1")?);
-    let full = Broken::new(rt.alloc(), ErrorKind::OutOfMemory);
-    assert!(rt; start_gives(rt.alloc(), &full, "OutOfMemory 1 0")?);
-    Ok(())
-}
+/// Whether a machine starts children, which then cannot be heard; how it fails; and what a start gives.
+const STARTS: &[(bool, ErrorKind, &str)] = &[
+    (false, ErrorKind::NotFound, "CannotStart 1 1"),
+    (false, ErrorKind::OutOfMemory, "OutOfMemory 1 0"),
+    (true, ErrorKind::Other, "Capture 1 1"),
+    (true, ErrorKind::OutOfMemory, "OutOfMemory 1 0"),
+];
 
 #[test]
-fn children_that_cannot_be_heard(rt: HostRuntime) -> Result<(), Fail> {
-    let broken = Broken::starting(rt.alloc(), ErrorKind::Other);
-    assert!(rt; start_gives(rt.alloc(), &broken, "Capture 1 1")?);
-    let full = Broken::starting(rt.alloc(), ErrorKind::OutOfMemory);
-    assert!(rt; start_gives(rt.alloc(), &full, "OutOfMemory 1 0")?);
+fn broken_machines(rt: HostRuntime) -> Result<(), Fail> {
+    let root = PathText::parse(rt.alloc(), "/a")?;
+    for case in ERRORS {
+        let (kind, steps) = *case;
+        try_broken(&rt, &root, kind, steps)?;
+    }
+    for case in STARTS {
+        let (starts, kind, wanted) = *case;
+        let machine = Broken::starting(rt.alloc(), kind, starts);
+        assert!(rt;
+            start_gives(rt.alloc(), &machine, &root, wanted)?,
+            "{wanted}"
+        );
+    }
     Ok(())
 }
 
@@ -108,38 +111,19 @@ fn is_unset(rt: &HostRuntime, name: &str) -> bool {
     matches!(found, Ok(None))
 }
 
-#[test]
-fn variables_that_are_no_texts(rt: HostRuntime) {
-    let machine = Broken::new(rt.alloc(), ErrorKind::Other);
-    assert!(rt; is_no_text(rt.alloc(), &machine));
-    assert!(rt; is_unset(&rt, "NO_SUCH_VARIABLE"));
-}
-
-/// Whether a view of a machine shows no file, for it fails.
-fn hides_files(alloc: Global, machine: &Broken, path: &PathText) -> bool {
-    let found = HostView::new(machine).file(alloc, path);
-    matches!(found, Err(ViewFault::Failed))
-}
-
-/// Whether a view of a machine shows no variable, for it fails.
-fn hides_variables(alloc: Global, machine: &Broken) -> bool {
-    let found = HostView::new(machine).variable(alloc, "V");
-    matches!(found, Err(ViewFault::Failed))
+/// Whether a view of a machine shows no file and no variable, for it fails.
+fn hides_all(alloc: Global, machine: &Broken, path: &PathText) -> bool {
+    let view = HostView::new(machine);
+    matches!(view.file(alloc, path), Err(ViewFault::Failed))
+        && matches!(view.variable(alloc, "V"), Err(ViewFault::Failed))
 }
 
 #[test]
-fn views(rt: HostRuntime) -> Result<(), Fail> {
+fn variables_and_views(rt: HostRuntime) -> Result<(), Fail> {
     let machine = Broken::new(rt.alloc(), ErrorKind::PermissionDenied);
     let path = PathText::parse(rt.alloc(), "/a/b")?;
-    assert!(rt; hides_files(rt.alloc(), &machine, &path) && hides_variables(rt.alloc(), &machine));
-    Ok(())
-}
-
-/// What the shell does in a folder, whatever it gives.
-fn in_folder(rt: &HostRuntime, folder: &PathText, words: &str) -> Result<(), Fail> {
-    let folder = path_in(rt.alloc(), folder, ".")?;
-    let child = shell_in(rt.alloc(), words, folder, None)?;
-    said_here(rt, child)?;
+    assert!(rt; is_no_text(rt.alloc(), &machine) && is_unset(&rt, "NO_SUCH_VARIABLE"));
+    assert!(rt; hides_all(rt.alloc(), &machine, &path));
     Ok(())
 }
 
@@ -153,22 +137,22 @@ fn is_shut(rt: &HostRuntime, folder: &PathText) -> Result<bool, Fail> {
     Ok(fs::write(rt, path.as_str(), "").is_err())
 }
 
-#[test]
-fn a_read_only_folder(rt: HostRuntime) -> Result<(), Fail> {
-    let root = fresh(&rt, "shut")?;
-    in_folder(&rt, &root, "chmod 555 .")?;
-    let steps = if is_shut(&rt, &root)? { SHUT } else { NOT_SHUT };
-    carry_out_here(&rt, &root, steps)?;
-    in_folder(&rt, &root, "chmod 755 .")?;
-    finish(&rt, &root)
+/// Tries a folder that is read only, whoever runs the test.
+fn try_shut(rt: &HostRuntime, root: &PathText) -> Result<(), Fail> {
+    said_here(rt, root, &shell("chmod 555 ."))?;
+    let steps = if is_shut(rt, root)? { SHUT } else { NOT_SHUT };
+    carry_out_here(rt, root, steps)?;
+    said_here(rt, root, &shell("chmod 755 ."))?;
+    Ok(())
 }
 
 const NO_TEXTS: &[Step] = &[("list", "", "", "List"), ("counts", "", "", "1 0")];
 
 #[test]
-fn names_that_are_no_texts(rt: HostRuntime) -> Result<(), Fail> {
-    let root = fresh(&rt, "names")?;
-    in_folder(&rt, &root, "touch \"$(printf 'a\\377')\"")?;
+fn a_read_only_folder_and_names_that_are_no_texts(rt: HostRuntime) -> Result<(), Fail> {
+    let root = fresh(&rt, "shut")?;
+    try_shut(&rt, &root)?;
+    said_here(&rt, &root, &shell("touch \"$(printf 'a\\377')\""))?;
     carry_out_here(&rt, &root, NO_TEXTS)?;
     finish(&rt, &root)
 }

@@ -1,84 +1,107 @@
 //! Children in flight on the machine: waited for in another order, killed, with much to say.
 
-use crate::flights::launch;
-use crate::machine::commands::{program, shell};
+use crate::machine::commands::{command, shell};
 use pb_host::HostPlace;
-use pb_place::{Ended, Place, StartFault};
+use pb_place::{Ended, PathText, Place, StartFault};
+use std::alloc::{AllocError, Global};
 use std::test::Fail;
 
-/// How a child ended: its status, and how much it wrote to its two streams together; none where it gave no answer.
-type End = Option<(i32, usize)>;
-
-/// Spawns a child that the shell carries out.
-fn spawn(rt: &HostRuntime, place: &mut HostPlace<HostRuntime>, words: &str) -> Result<u64, Fail> {
-    let command = shell(rt.alloc(), words)?;
-    Ok(launch(rt.alloc(), place, command)?)
-}
-
-/// What is told of an end.
-fn end_of(ended: Result<Ended, StartFault>) -> End {
-    match ended {
-        Ok(ended) => Some((
-            ended.status,
-            ended.stdout.as_slice().len() + ended.stderr.as_slice().len(),
-        )),
-        Err(_) => None,
+/// What a child said: its status, and how many bytes it wrote to each of its two streams; or the fault.
+fn told(alloc: Global, ended: Result<Ended, StartFault>) -> Result<String, AllocError> {
+    match &ended {
+        Ok(ended) => {
+            let status = ended.status;
+            let stdout = ended.stdout.as_slice().len();
+            let stderr = ended.stderr.as_slice().len();
+            format!(in alloc; "{status} {stdout} {stderr}")
+        }
+        Err(fault) => format!(in alloc; "{fault:?}"),
     }
 }
 
-/// Waits for the end of a child.
-fn finish(rt: &HostRuntime, place: &mut HostPlace<HostRuntime>, ticket: u64) -> Result<End, Fail> {
-    if !place.flies(ticket) {
-        return Err(Fail::from("it does not fly"));
-    }
-    Ok(end_of(place.finish(rt.alloc(), ticket)))
+/// Spawns a child that the shell carries out: its ticket.
+fn spawn<P: Place>(
+    alloc: Global,
+    place: &mut P,
+    root: &PathText,
+    words: &str,
+) -> Result<Result<u64, StartFault>, Fail> {
+    let command = command(alloc, root, &shell(words))?;
+    Ok(place.spawn(alloc, &command))
 }
 
 /// Whether a program that is not there does not start.
-fn misses(rt: &HostRuntime, place: &mut HostPlace<HostRuntime>) -> Result<bool, Fail> {
-    let missing = program(rt.alloc(), "/no/such/program")?;
-    Ok(launch(rt.alloc(), place, missing) == Err(StartFault::CannotStart))
+fn misses<P: Place>(alloc: Global, place: &mut P, root: &PathText) -> Result<bool, Fail> {
+    let command = command(alloc, root, &("/no/such/program", "", "", "", &[]))?;
+    Ok(place.spawn(alloc, &command) == Err(StartFault::CannotStart))
 }
 
-/// The ends of two children in flight at one time, of which the second is waited for first.
-fn ends(
-    rt: &HostRuntime,
+/// What a child in flight said.
+fn finish(
+    alloc: Global,
     place: &mut HostPlace<HostRuntime>,
-    first: &str,
-    second: &str,
-) -> Result<(End, End), Fail> {
-    let one = spawn(rt, place, first)?;
-    let two = spawn(rt, place, second)?;
-    if !misses(rt, place)? {
-        return Err(Fail::from("a missing program started"));
+    ticket: u64,
+) -> Result<String, AllocError> {
+    if !place.flies(ticket) {
+        return String::from_str(alloc, "no child");
     }
-    let later = finish(rt, place, two)?;
-    let earlier = finish(rt, place, one)?;
-    Ok((earlier, later))
+    told(alloc, place.finish(alloc, ticket))
 }
 
-/// The same at a place of their own, and how many flew at most, were started, and failed.
-fn counted(
-    rt: &HostRuntime,
+/// What two children said that were in flight at one time, of which the second is waited for first; how many flew at
+/// most, were started, and failed.
+fn fly(
+    alloc: Global,
+    place: &mut HostPlace<HostRuntime>,
+    root: &PathText,
     first: &str,
     second: &str,
-) -> Result<((End, End), (u64, u64, u64)), Fail> {
+) -> Result<String, Fail> {
+    let one = spawn(alloc, place, root, first)??;
+    let two = spawn(alloc, place, root, second)??;
+    let misses = misses(alloc, place, root)?;
+    let later = finish(alloc, place, two)?;
+    let earlier = finish(alloc, place, one)?;
+    let (most, starts, failures) = (place.most(), place.starts(), place.failures());
+    Ok(format!(in alloc;
+        "{}, {}, {misses}, {most} {starts} {failures}",
+        earlier.as_str(),
+        later.as_str()
+    )?)
+}
+
+/// What the shell is told of two children, and what they said.
+const FLIGHTS: &[(&str, &str, &str)] = &[
+    (
+        "head -c 200000 /dev/zero; head -c 200000 /dev/zero >&2; exit 3",
+        "echo small; exit 4",
+        "3 200000 200000, 4 6 0, true, 2 3 1",
+    ),
+    (
+        "kill -9 $$",
+        "{ sleep 1; echo late; } & echo soon",
+        "Died, 0 10 0, true, 2 3 2",
+    ),
+    (
+        "head -c 300000 /dev/zero; head -c 300000 /dev/zero >&2",
+        "exit 0",
+        "0 300000 300000, 0 0 0, true, 2 3 1",
+    ),
+];
+
+/// Whether two children say this at a place of their own.
+fn flies_so(rt: &HostRuntime, first: &str, second: &str, wanted: &str) -> Result<bool, Fail> {
     let mut place = HostPlace::new(rt.alloc(), rt);
-    let ends = ends(rt, &mut place, first, second)?;
-    Ok((ends, (place.most(), place.starts(), place.failures())))
+    let root = PathText::parse(rt.alloc(), "/")?;
+    let said = fly(rt.alloc(), &mut place, &root, first, second)?;
+    Ok(said.as_str() == wanted)
 }
 
 #[test]
-fn in_the_other_order(rt: HostRuntime) -> Result<(), Fail> {
-    let loud = "head -c 200000 /dev/zero; head -c 200000 /dev/zero >&2; exit 3";
-    let found = counted(&rt, loud, "echo small; exit 4")?;
-    assert!(rt; found == ((Some((3, 400_000)), Some((4, 6))), (2, 3, 1)));
-    Ok(())
-}
-
-#[test]
-fn children_that_die_or_leave_others(rt: HostRuntime) -> Result<(), Fail> {
-    let found = counted(&rt, "kill -9 $$", "{ sleep 1; echo late; } & echo soon")?;
-    assert!(rt; found == ((None, Some((0, 10))), (2, 3, 2)));
+fn flights(rt: HostRuntime) -> Result<(), Fail> {
+    for case in FLIGHTS {
+        let (first, second, wanted) = *case;
+        assert!(rt; flies_so(&rt, first, second, wanted)?, "{wanted}");
+    }
     Ok(())
 }

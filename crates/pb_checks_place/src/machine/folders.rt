@@ -1,15 +1,8 @@
 //! A folder for each test.
 
 use pb_place::PathText;
-use std::alloc::Global;
 use std::test::Fail;
 use std::{env, fs, process};
-
-/// The path below a folder.
-pub(crate) fn path_in(alloc: Global, folder: &PathText, name: &str) -> Result<PathText, Fail> {
-    let path = folder.join(alloc, name)?;
-    Ok(path)
-}
 
 /// Where a test's folder lies.
 fn place_of(rt: &HostRuntime, name: &str) -> Result<String, Fail> {

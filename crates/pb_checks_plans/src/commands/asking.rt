@@ -1,10 +1,8 @@
 //! Questions about the units of a project, and their answers.
 
-use crate::commands::making::{done_of, file_of};
-use crate::commands::show::{
-    shown_answer, shown_pair, shown_pairs, shown_path, shown_rest, shown_tail, shown_words,
-};
-use pb_checks_files::Silent;
+use crate::commands::making::file_of;
+use crate::commands::show::{put_answer, put_part, put_path};
+use pb_checks_files::{Shown, Silent};
 use pb_command::{answered, command};
 use pb_data::{Bytes, Items, Text};
 use pb_directive::Directives;
@@ -18,27 +16,29 @@ use std::test::Fail;
 #[derive(Drop)]
 pub struct Case<'a> {
     /// What its words ask for.
-    pub setup: Setup,
+    pub setup: &'a Setup,
     /// The project.
-    pub project: Project,
+    pub project: &'a Project,
     /// What its runs have said.
-    pub done: Vec<Option<Directives>>,
+    pub done: &'a [Option<Directives>],
     /// Its files.
     pub memory: &'a Memory<Silent>,
 }
 
-/// The setup that words ask for: `-FLAG` for the compiler's flags and `%WORD` for the runner.
-pub fn setup_of(alloc: Global, words: &str) -> Result<Setup, Fail> {
-    let mut flags = Items::new(alloc);
-    let mut runner = Items::new(alloc);
+/// The words that begin with a mark; `%` is taken off.
+fn words_with(alloc: Global, words: &str, mark: &str) -> Result<Items<Text>, AllocError> {
+    let mut found = Items::new(alloc);
     for word in words.split(' ') {
-        if word.starts_with("-") {
-            flags.push(Text::from_str(alloc, word)?)?;
-        }
-        if let Some(word) = word.strip_prefix("%") {
-            runner.push(Text::from_str(alloc, word)?)?;
+        if word.starts_with(mark) {
+            let word = word.strip_prefix("%").unwrap_or(word);
+            found.push(Text::from_str(alloc, word)?)?;
         }
     }
+    Ok(found)
+}
+
+/// A setup with these flags of the compiler and this runner.
+fn setup_with(alloc: Global, flags: Items<Text>, runner: Items<Text>) -> Result<Setup, AllocError> {
     let tool = Text::from_str(alloc, "tool")?;
     let rustc = Text::from_str(alloc, "rustc")?;
     let toolchain = Bytes::from_slice(alloc, b"rustc 1\nhost: \nhost: mini-os\nhost: other\n")?;
@@ -51,27 +51,16 @@ pub fn setup_of(alloc: Global, words: &str) -> Result<Setup, Fail> {
     })
 }
 
-/// A case of a project.
-pub fn case_of<'a>(
-    alloc: Global,
-    memory: &'a Memory<Silent>,
-    project: Project,
-    words: &str,
-) -> Result<Case<'a>, Fail> {
-    let setup = setup_of(alloc, words)?;
-    let done = done_of(alloc, memory, &project)?;
-    Ok(Case {
-        setup,
-        project,
-        done,
-        memory,
-    })
+/// The setup that words ask for: `-FLAG` for the compiler's flags and `%WORD` for the runner.
+pub fn setup_of(alloc: Global, words: &str) -> Result<Setup, AllocError> {
+    let flags = words_with(alloc, words, "-")?;
+    let runner = words_with(alloc, words, "%")?;
+    setup_with(alloc, flags, runner)
 }
 
 /// The command of a unit.
 fn command_in(alloc: Global, case: &Case, unit: &Planned) -> Result<Command, AllocError> {
-    let done = case.done.as_slice();
-    command(alloc, &case.setup, &case.project, unit, done)
+    command(alloc, case.setup, case.project, unit, case.done)
 }
 
 /// What a unit has printed, by its file in `/said`.
@@ -93,48 +82,62 @@ fn end_of(alloc: Global, case: &Case, unit: &Planned, status: i32) -> Result<End
     })
 }
 
-/// What such an end gives. The dep-info is the unit's file in `/info`.
-fn judged(
+/// Puts what such an end gives, with this dep-info.
+fn put_judged(
     alloc: Global,
     case: &Case,
     unit: &Planned,
-    command: &Command,
     end: &Ended,
-) -> Result<String, Fail> {
-    let info = file_of(alloc, case.memory, "/info", unit)?;
-    let answer = answered(alloc, &case.project, unit, command, end, info.as_ref());
-    shown_answer(alloc, answer)
-}
-
-/// What an answer of this status gives.
-fn answer_in(alloc: Global, case: &Case, unit: &Planned, status: i32) -> Result<String, Fail> {
+    info: Option<&Bytes>,
+    out: &mut Shown,
+) -> Result<(), AllocError> {
     let command = command_in(alloc, case, unit)?;
+    let answer = answered(alloc, case.project, unit, &command, end, info);
+    put_answer(out, &answer);
+    Ok(())
+}
+
+/// Puts what an answer of this status gives. The dep-info is the unit's file in `/info`.
+fn put_end(
+    alloc: Global,
+    case: &Case,
+    unit: &Planned,
+    status: i32,
+    out: &mut Shown,
+) -> Result<(), Fail> {
     let end = end_of(alloc, case, unit, status)?;
-    judged(alloc, case, unit, &command, &end)
+    let info = file_of(alloc, case.memory, "/info", unit)?;
+    Ok(put_judged(alloc, case, unit, &end, info.as_ref(), out)?)
 }
 
-/// A part of a command.
-fn part_in(alloc: Global, command: &Command, what: &str) -> Result<String, Fail> {
-    match what {
-        "words" => shown_words(alloc, command.words.as_slice()),
-        "tail" => shown_tail(alloc, command.words.as_slice()),
-        "pairs" => shown_pairs(alloc, command.pairs.as_slice()),
-        "rest" => shown_rest(alloc, command),
-        name => shown_pair(alloc, command.pairs.as_slice(), name),
-    }
+/// Puts a part of the command of a unit.
+fn put_part_of(
+    alloc: Global,
+    case: &Case,
+    unit: &Planned,
+    what: &str,
+    out: &mut Shown,
+) -> Result<(), AllocError> {
+    let command = command_in(alloc, case, unit)?;
+    put_part(out, &command, what);
+    Ok(())
 }
 
-/// The answer to a question about a unit.
-pub fn asked(alloc: Global, case: &Case, unit: &Planned, what: &str) -> Result<String, Fail> {
+/// Puts the answer to a question about a unit: also the file that it makes, its dep-info, and the name of its crate.
+pub fn put_asked(
+    alloc: Global,
+    case: &Case,
+    unit: &Planned,
+    what: &str,
+    out: &mut Shown,
+) -> Result<(), Fail> {
     match what {
-        "good" => answer_in(alloc, case, unit, 0),
-        "bad" => answer_in(alloc, case, unit, 1),
-        "file" => shown_path(alloc, &made_file(alloc, &case.project, unit)?),
-        "info" => shown_path(alloc, &dep_info_path(alloc, &case.project, unit)?),
-        "crate" => {
-            let name: Text = crate_name_of(alloc, &case.project, unit)?;
-            Ok(name.into_string())
-        }
-        _ => part_in(alloc, &command_in(alloc, case, unit)?, what),
+        "good" => return put_end(alloc, case, unit, 0, out),
+        "bad" => return put_end(alloc, case, unit, 1, out),
+        "file" => put_path(out, &made_file(alloc, case.project, unit)?),
+        "info" => put_path(out, &dep_info_path(alloc, case.project, unit)?),
+        "crate" => out.put(&[crate_name_of(alloc, case.project, unit)?.as_str()]),
+        _ => put_part_of(alloc, case, unit, what, out)?,
     }
+    Ok(())
 }

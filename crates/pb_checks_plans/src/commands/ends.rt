@@ -1,8 +1,9 @@
 //! How children end, dep-info that is too long, and the query.
 
 use crate::commands::making::{options_of, project_of};
-use crate::commands::show::{shown_answer, shown_rest, shown_words};
-use pb_checks_files::{Silent, put_files};
+use crate::commands::show::{put_answer, put_rest};
+use crate::show::put_texts;
+use pb_checks_files::{Shown, Silent, put_files};
 use pb_command::{answered, ended_fault, query};
 use pb_data::{Bytes, Text};
 use pb_place::{Command, Ended, Memory};
@@ -21,28 +22,30 @@ fn of_bytes(alloc: Global, start: &[u8], byte: u8, count: usize) -> Result<Bytes
 }
 
 /// An end with streams of these lengths.
-fn ended(alloc: Global, status: i32, stdout: usize, stderr: usize) -> Result<Ended, Fail> {
+fn ended(alloc: Global, status: i32, stdout: usize, stderr: usize) -> Result<Ended, AllocError> {
+    let stdout = of_bytes(alloc, b"", b'x', stdout)?;
+    let stderr = of_bytes(alloc, b"", b'x', stderr)?;
     Ok(Ended {
         status,
-        stdout: of_bytes(alloc, b"", b'x', stdout)?,
-        stderr: of_bytes(alloc, b"", b'x', stderr)?,
+        stdout,
+        stderr,
     })
 }
 
 /// Whether an end of these lengths is told to be too long.
-fn is_too_long(alloc: Global, stdout: usize, stderr: usize) -> Result<bool, Fail> {
+fn is_too_long(alloc: Global, stdout: usize, stderr: usize) -> Result<bool, AllocError> {
     let end = ended(alloc, 1, stdout, stderr)?;
     Ok(matches!(ended_fault(&end), Some(UnitFault::OutputTooLong)))
 }
 
 /// Whether an end with two streams of this length is good.
-fn is_good(alloc: Global, length: usize) -> Result<bool, Fail> {
+fn is_good(alloc: Global, length: usize) -> Result<bool, AllocError> {
     let end = ended(alloc, 0, length, length)?;
     Ok(ended_fault(&end).is_none())
 }
 
 /// Whether an end of this status is told by it.
-fn has_status(alloc: Global, status: i32) -> Result<bool, Fail> {
+fn has_status(alloc: Global, status: i32) -> Result<bool, AllocError> {
     let end = ended(alloc, status, 0, 0)?;
     match ended_fault(&end) {
         Some(UnitFault::Status(told)) => Ok(told == status),
@@ -59,15 +62,14 @@ fn long_streams(rt: HostRuntime) -> Result<(), Fail> {
     Ok(())
 }
 
-/// The project of one library, or none.
-fn library(alloc: Global) -> Result<Option<Project>, Fail> {
-    let mut memory = Memory::new(alloc, Silent);
-    put_files(
-        alloc,
-        &mut memory,
-        "@ /w/Cargo.toml\npackage.name = \"a\"\n@ /w/src/lib.rs\n",
-    )?;
-    project_of(alloc, &mut memory, options_of(alloc, "")?)
+/// A library.
+const LIBRARY: &str = "@ /w/Cargo.toml\npackage.name = \"a\"\n@ /w/src/lib.rs\n";
+
+/// The project of one library that is put at a place, or none.
+fn library_at(alloc: Global, memory: &mut Memory<Silent>) -> Result<Option<Project>, Fail> {
+    put_files(alloc, memory, LIBRARY)?;
+    let options = options_of(alloc, "")?;
+    project_of(alloc, memory, options)
 }
 
 /// The query of a compiler in that project.
@@ -76,31 +78,21 @@ fn queried(alloc: Global, project: &Project) -> Result<Command, AllocError> {
     query(alloc, &rustc, &project.workspace)
 }
 
-/// Whether the query asks for the version and nothing else.
-fn asks_version(alloc: Global, project: &Project) -> Result<bool, Fail> {
+/// Whether a command asks for the version and nothing else.
+fn is_query(alloc: Global, command: &Command) -> bool {
+    let mut shown = Shown::new(alloc);
+    put_texts(&mut shown, command.words.as_slice());
+    shown.put(&[" | "]);
+    put_rest(&mut shown, command);
+    shown.says("-vV | my rustc /w - /w/target | ")
+        && command.pairs.is_empty()
+        && command.toolchain.as_slice().is_empty()
+}
+
+/// Whether the query does.
+fn asks_version(alloc: Global, project: &Project) -> Result<bool, AllocError> {
     let command = queried(alloc, project)?;
-    let words = shown_words(alloc, command.words.as_slice())?;
-    let rest = shown_rest(alloc, &command)?;
-    Ok(
-        words.as_str() == "-vV"
-            && rest.as_str() == "my rustc /w - /w/target | "
-            && command.pairs.is_empty()
-            && command.toolchain.as_slice().is_empty(),
-    )
-}
-
-/// Whether the query in the project of one library is right.
-fn is_queried(alloc: Global) -> Result<bool, Fail> {
-    let Some(project) = library(alloc)? else {
-        return Ok(false);
-    };
-    asks_version(alloc, &project)
-}
-
-#[test]
-fn queries(rt: HostRuntime) -> Result<(), Fail> {
-    assert!(rt; is_queried(rt.alloc())?);
-    Ok(())
+    Ok(is_query(alloc, &command))
 }
 
 /// What dep-info gives of a command for a unit, which ended well.
@@ -110,46 +102,77 @@ fn informed_by(
     unit: &Planned,
     command: &Command,
     info: &Bytes,
-) -> Result<String, Fail> {
+) -> Result<String, AllocError> {
     let end = ended(alloc, 0, 0, 0)?;
-    shown_answer(
-        alloc,
-        answered(alloc, project, unit, command, &end, Some(info)),
-    )
+    let answer = answered(alloc, project, unit, command, &end, Some(info));
+    let mut shown = Shown::new(alloc);
+    put_answer(&mut shown, &answer);
+    shown.whole()
 }
 
-/// What dep-info of a rule with a word of so many bytes gives, for the first unit of a project.
-fn informed(alloc: Global, project: &Project, count: usize) -> Result<String, Fail> {
-    let Some(unit) = project.plan.units().first() else {
-        return Ok(String::from_str(alloc, "no unit")?);
-    };
+/// What dep-info of a rule with a word of so many bytes gives for a unit.
+fn informed_of(
+    alloc: Global,
+    project: &Project,
+    unit: &Planned,
+    count: usize,
+) -> Result<String, AllocError> {
     let command = queried(alloc, project)?;
     let info = of_bytes(alloc, b"o: /", b'w', count)?;
     informed_by(alloc, project, unit, &command, &info)
 }
 
+/// The same for the first unit of a project.
+fn informed(alloc: Global, project: &Project, count: usize) -> Result<String, AllocError> {
+    match project.plan.units().first() {
+        Some(unit) => informed_of(alloc, project, unit, count),
+        None => String::from_str(alloc, "no unit"),
+    }
+}
+
 /// Whether the longest dep-info is read.
-fn reads_the_longest(alloc: Global, project: &Project) -> Result<bool, Fail> {
+fn reads_the_longest(alloc: Global, project: &Project) -> Result<bool, AllocError> {
     let told = informed(alloc, project, 4_194_300)?;
     Ok(told.as_str().len() == 4_194_303)
 }
 
 /// Whether dep-info that is longer is refused.
-fn refuses_longer(alloc: Global, project: &Project) -> Result<bool, Fail> {
+fn refuses_longer(alloc: Global, project: &Project) -> Result<bool, AllocError> {
     let told = informed(alloc, project, 4_194_301)?;
     Ok(told.as_str() == "NoDepInfo")
 }
 
-/// Whether the longest dep-info is read in the project of one library, and none that is longer.
-fn is_read(alloc: Global) -> Result<bool, Fail> {
-    let Some(project) = library(alloc)? else {
-        return Ok(false);
-    };
-    Ok(reads_the_longest(alloc, &project)? && refuses_longer(alloc, &project)?)
+/// What is wrong in a project of one library: the query, the longest dep-info, or one that is longer.
+fn wrong_in(alloc: Global, project: &Project) -> Result<&'static str, AllocError> {
+    if !asks_version(alloc, project)? {
+        return Ok("query");
+    }
+    if !reads_the_longest(alloc, project)? {
+        return Ok("longest");
+    }
+    Ok(if refuses_longer(alloc, project)? {
+        ""
+    } else {
+        "longer"
+    })
+}
+
+/// The same of one that is put at a place.
+fn wrong_at(alloc: Global, memory: &mut Memory<Silent>) -> Result<&'static str, Fail> {
+    match library_at(alloc, memory)? {
+        Some(project) => Ok(wrong_in(alloc, &project)?),
+        None => Ok("no project"),
+    }
+}
+
+/// The same at a place of its own.
+fn wrong(alloc: Global) -> Result<&'static str, Fail> {
+    let mut memory = Memory::new(alloc, Silent);
+    wrong_at(alloc, &mut memory)
 }
 
 #[test]
-fn long_dep_info(rt: HostRuntime) -> Result<(), Fail> {
-    assert!(rt; is_read(rt.alloc())?);
+fn queries_and_long_dep_info(rt: HostRuntime) -> Result<(), Fail> {
+    assert_eq!(rt; wrong(rt.alloc())?, "");
     Ok(())
 }

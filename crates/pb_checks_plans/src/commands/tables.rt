@@ -1,9 +1,9 @@
 //! Commands, by a table of files with what is asked and answered.
 
-use crate::commands::asking::{Case, asked, case_of};
+use crate::commands::asking::{Case, put_asked, setup_of};
 use crate::commands::cases::CASES;
-use crate::commands::making::{options_of, project_of};
-use pb_checks_files::{Silent, put_files};
+use crate::commands::making::{done_of, options_of, project_of};
+use pb_checks_files::{Shown, Silent, put_files};
 use pb_place::Memory;
 use pb_project::Project;
 use pb_unit::Planned;
@@ -16,24 +16,20 @@ fn unit_of<'a>(units: &'a [Planned], key: &str) -> Option<&'a Planned> {
     units.iter().find(|unit| unit.key.as_str() == key)
 }
 
-/// Asks a question, `KEY WHAT`, and compares the answer.
-fn ask(
-    rt: &impl Abort,
-    alloc: Global,
-    case: &Case,
-    question: &str,
-    want: &str,
-) -> Result<(), Fail> {
-    let (key, what) = match question.split_once(" ") {
-        Some((key, what)) => (key, what),
-        None => (question, ""),
-    };
-    let answer = match unit_of(case.project.plan.units(), key) {
-        Some(unit) => asked(alloc, case, unit, what)?,
-        None => String::from_str(alloc, "no unit")?,
-    };
-    assert_eq!(rt; answer.as_str(), want);
-    Ok(())
+/// Puts the answer to a question, `KEY WHAT`.
+fn put_answer_to(alloc: Global, case: &Case, question: &str, out: &mut Shown) -> Result<(), Fail> {
+    let (key, what) = question.split_once(" ").unwrap_or((question, ""));
+    match unit_of(case.project.plan.units(), key) {
+        Some(unit) => put_asked(alloc, case, unit, what, out),
+        None => Err(Fail::from("no unit")),
+    }
+}
+
+/// Whether a question has this answer.
+fn is_answered(alloc: Global, case: &Case, question: &str, want: &str) -> Result<bool, Fail> {
+    let mut out = Shown::new(alloc);
+    put_answer_to(alloc, case, question, &mut out)?;
+    Ok(out.says(want))
 }
 
 /// Asks all questions of a case, one a line, each with its answer behind ` = `. How many there were.
@@ -41,7 +37,7 @@ fn ask_all(rt: &impl Abort, alloc: Global, case: &Case, questions: &str) -> Resu
     let mut count = 0usize;
     for line in questions.lines() {
         if let Some((question, want)) = line.split_once(" = ") {
-            ask(rt, alloc, case, question, want)?;
+            assert!(rt; is_answered(alloc, case, question, want)?, "{line}");
             count = count.saturating_add(1);
         }
     }
@@ -53,15 +49,34 @@ fn ask_of(
     rt: &impl Abort,
     alloc: Global,
     memory: &Memory<Silent>,
-    project: Project,
+    project: &Project,
     head: &str,
     questions: &str,
 ) -> Result<usize, Fail> {
-    let case = case_of(alloc, memory, project, head)?;
+    let setup = setup_of(alloc, head)?;
+    let done = done_of(alloc, memory, project)?;
+    let case = Case {
+        setup: &setup,
+        project,
+        done: done.as_slice(),
+        memory,
+    };
     ask_all(rt, alloc, &case, questions)
 }
 
-/// Puts the files of a case in a place, and asks its questions. How many there were.
+/// Puts the files of a case in a place, and gives its project, or none where it is refused.
+fn project_in(
+    alloc: Global,
+    memory: &mut Memory<Silent>,
+    head: &str,
+    files: &str,
+) -> Result<Option<Project>, Fail> {
+    put_files(alloc, memory, files)?;
+    let options = options_of(alloc, head)?;
+    project_of(alloc, memory, options)
+}
+
+/// Asks the questions of a case at a place. How many there were.
 fn try_files(
     rt: &impl Abort,
     alloc: Global,
@@ -70,18 +85,15 @@ fn try_files(
     files: &str,
     questions: &str,
 ) -> Result<usize, Fail> {
-    put_files(alloc, memory, files)?;
-    let options = options_of(alloc, head)?;
-    let Some(project) = project_of(alloc, memory, options)? else {
-        assert_eq!(rt; "no project", head);
-        return Ok(0);
-    };
-    ask_of(rt, alloc, memory, project, head, questions)
+    match project_in(alloc, memory, head, files)? {
+        Some(project) => ask_of(rt, alloc, memory, &project, head, questions),
+        None => Err(Fail::from("no project")),
+    }
 }
 
 /// Tries one case: words in its first line, files, and after a line `---` the questions.
 fn try_case(rt: &impl Abort, alloc: Global, text: &str) -> Result<usize, Fail> {
-    let (Some((head, rest)), true) = (text.split_once("\n"), text.contains("---\n")) else {
+    let Some((head, rest)) = text.split_once('\n') else {
         return Ok(0);
     };
     let Some((files, questions)) = rest.split_once("---\n") else {

@@ -1,124 +1,100 @@
 //! Workspaces, by a table of files with the packages that are loaded or the refusal.
 
+use crate::asking::{options_of, parts_of};
 use crate::workspaces::cases::CASES;
-use crate::workspaces::show::shown;
-use pb_checks_files::{Silent, no_options, put_files, workspace_in};
-use pb_data::Text;
-use pb_package::{LoadFault, Options, Selection, Workspace};
-use pb_place::{Memory, PathText, Place};
+use crate::workspaces::show::{put_answer, put_places};
+use pb_checks_files::{Shown, Silent, put_files, workspace_in};
+use pb_package::{LoadFault, Selection, Workspace};
+use pb_place::{Memory, PathFault, PathText, Place};
 use pb_workspace::{load, selected};
 use std::alloc::Global;
 use std::process::Abort;
 use std::test::Fail;
 
-/// Adds what a word asks for: `-p NAME`, all members for `*`, or nothing for `-`.
-fn add_word(alloc: Global, options: &mut Options, word: &str) -> Result<(), Fail> {
-    if word == "*" {
-        options.workspace = true;
-    } else if word != "-" {
-        options.packages.push(Text::from_str(alloc, word)?)?;
-    }
-    Ok(())
-}
-
-/// The options of a build for which a word asks.
-fn options_of(alloc: Global, word: &str) -> Result<Options, Fail> {
-    let mut options = no_options(alloc)?;
-    add_word(alloc, &mut options, word)?;
-    Ok(options)
-}
-
-/// Adds places.
-fn put_places(alloc: Global, places: &[usize], out: &mut String) -> Result<(), Fail> {
-    for place in places {
-        out.push_str(format!(in alloc; " {place}")?.as_str())?;
-    }
-    Ok(())
-}
-
-/// Adds what is selected: the places, or the refusal.
-fn put_selected(
-    alloc: Global,
-    answer: &Result<Selection, LoadFault>,
-    out: &mut String,
-) -> Result<(), Fail> {
+/// Puts what is selected: the places, or the refusal.
+fn put_selected(out: &mut Shown, answer: &Result<Selection, LoadFault>) {
     match answer {
-        Ok(selection) => put_places(alloc, selection.packages.as_slice(), out),
-        Err(fault) => Ok(out.push_str(format!(in alloc; " {fault:?}")?.as_str())?),
+        Ok(selection) => put_places(out, "", selection.packages.as_slice()),
+        Err(fault) => {
+            out.put(&[" "]);
+            out.put_value(fault);
+            out.put(&["\n"]);
+        }
     }
 }
 
-/// Adds the selection that a word stands for.
+/// Puts the selection that a word stands for.
 fn put_selection(
     alloc: Global,
     workspace: &Workspace,
     word: &str,
-    out: &mut String,
+    out: &mut Shown,
 ) -> Result<(), Fail> {
-    let options = options_of(alloc, word)?;
-    put_selected(alloc, &selected(alloc, workspace, &options), out)
+    let options = options_of(alloc, word, " ")?;
+    let answer = selected(alloc, workspace, &options);
+    put_selected(out, &answer);
+    Ok(())
 }
 
-/// Adds a line for each word that stands for a selection: `WORD =` and what is selected.
+/// Puts a line for each word that stands for a selection: `WORD =` and what is selected.
 fn put_selections(
     alloc: Global,
     workspace: &Workspace,
     words: &str,
-    out: &mut String,
+    out: &mut Shown,
 ) -> Result<(), Fail> {
     for word in words.split(' ') {
-        if word != "" {
-            out.push_str(word)?;
-            out.push_str(" =")?;
+        if !word.is_empty() {
+            out.put(&[word, " ="]);
             put_selection(alloc, workspace, word, out)?;
-            out.push_str("\n")?;
         }
     }
     Ok(())
 }
 
-/// What an answer is, and a line for each word that stands for a selection in it.
-fn told(alloc: Global, answer: &Result<Workspace, LoadFault>, words: &str) -> Result<String, Fail> {
-    let mut out = shown(alloc, answer)?;
+/// Whether an answer, with a line for each word that stands for a selection in it, is shown as this.
+fn says(
+    alloc: Global,
+    answer: &Result<Workspace, LoadFault>,
+    words: &str,
+    want: &str,
+) -> Result<bool, Fail> {
+    let mut out = Shown::new(alloc);
+    put_answer(&mut out, answer);
     if let Ok(workspace) = answer {
         put_selections(alloc, workspace, words, &mut out)?;
     }
-    Ok(out)
+    Ok(out.says(want))
 }
 
-/// What a case of these files answers: the workspace, and a line for each word that stands for a selection.
-fn answered(alloc: Global, files: &str, words: &str) -> Result<String, Fail> {
+/// Whether files that are put at a place answer this.
+fn is_answered_at(
+    alloc: Global,
+    memory: &mut Memory<Silent>,
+    files: &str,
+    words: &str,
+    want: &str,
+) -> Result<bool, Fail> {
+    put_files(alloc, memory, files)?;
+    let answer = workspace_in(alloc, memory)?;
+    says(alloc, &answer, words, want)
+}
+
+/// Whether files answer this at a place of their own.
+fn is_answered(alloc: Global, files: &str, words: &str, want: &str) -> Result<bool, Fail> {
     let mut memory = Memory::new(alloc, Silent);
-    put_files(alloc, &mut memory, files)?;
-    told(alloc, &workspace_in(alloc, &mut memory)?, words)
+    is_answered_at(alloc, &mut memory, files, words, want)
 }
 
-/// Tries one case: a name and words of selections, files, and after a line `---` the answer.
+/// Tries one case: a name and words of selections, files, and after a line `---` the answer. Whether it is one.
 fn try_case(rt: &impl Abort, alloc: Global, case: &str) -> Result<bool, Fail> {
-    let Some((head, rest)) = case.split_once('\n') else {
+    let Some((files, want)) = parts_of(case) else {
         return Ok(false);
     };
-    let Some((files, want)) = rest.split_once("---\n") else {
-        return Ok(false);
-    };
-    let words = match head.split_once(": ") {
-        Some((_, words)) => words,
-        None => "",
-    };
-    let answer = answered(alloc, files, words)?;
-    assert_eq!(rt; answer.as_str(), want);
+    let head = case.lines().next().unwrap_or("");
+    let (_, words) = head.split_once(": ").unwrap_or((head, ""));
+    assert!(rt; is_answered(alloc, files, words, want)?, "{case}");
     Ok(true)
-}
-
-#[test]
-fn workspaces(rt: HostRuntime) -> Result<(), Fail> {
-    let mut count = 0usize;
-    for case in CASES.split("=== ") {
-        let is_case = try_case(&rt, rt.alloc(), case)?;
-        count = count.saturating_add(usize::from(is_case));
-    }
-    assert!(rt; count >= 60);
-    Ok(())
 }
 
 /// Puts the shortest manifest of a member.
@@ -152,25 +128,22 @@ fn count_in(answer: &Result<Workspace, LoadFault>) -> usize {
     }
 }
 
-/// How many packages are loaded of what is at a place.
-fn count_found(alloc: Global, memory: &mut Memory<Silent>) -> Result<usize, Fail> {
-    Ok(count_in(&workspace_in(alloc, memory)?))
+/// How many packages are loaded of a root and so many members that are put at a place, how many calls of the place
+/// failed, and how many children were started.
+fn count_loaded_at(
+    alloc: Global,
+    memory: &mut Memory<Silent>,
+    count: usize,
+) -> Result<(usize, u64, u64), Fail> {
+    put_many(alloc, memory, count)?;
+    let answer = workspace_in(alloc, memory)?;
+    Ok((count_in(&answer), memory.failures(), memory.starts()))
 }
 
-/// How many packages are loaded of a root and so many members, how many calls of the place failed, and how many
-/// children were started.
+/// The same at a place of its own.
 fn count_loaded(alloc: Global, count: usize) -> Result<(usize, u64, u64), Fail> {
     let mut memory = Memory::new(alloc, Silent);
-    put_many(alloc, &mut memory, count)?;
-    let found = count_found(alloc, &mut memory)?;
-    Ok((found, memory.failures(), memory.starts()))
-}
-
-#[test]
-fn greatest_number_of_packages(rt: HostRuntime) -> Result<(), Fail> {
-    assert!(rt; count_loaded(rt.alloc(), 256)? == (256, 0, 0));
-    assert!(rt; count_loaded(rt.alloc(), 257)? == (0, 0, 0));
-    Ok(())
+    count_loaded_at(alloc, &mut memory, count)
 }
 
 /// A package whose manifests `/w/Cargo.toml` and `/w/other.toml` are.
@@ -181,29 +154,52 @@ const TWO_MANIFESTS: &str =
 fn finds_none(
     alloc: Global,
     memory: &mut Memory<Silent>,
-    manifest: &PathText,
-    target: &PathText,
-) -> bool {
-    let answer = load(alloc, memory, manifest, target);
-    matches!(answer, Err(LoadFault::NoManifest(_)))
-}
-
-/// Whether there is no manifest at a path, of the package of `TWO_MANIFESTS`.
-fn is_no_manifest(alloc: Global, manifest: &str, target: &str) -> Result<bool, Fail> {
+    manifest: &str,
+    target: &str,
+) -> Result<bool, PathFault> {
     let manifest = PathText::parse(alloc, manifest)?;
     let target = PathText::parse(alloc, target)?;
+    let answer = load(alloc, memory, &manifest, &target);
+    Ok(matches!(answer, Err(LoadFault::NoManifest(_))))
+}
+
+/// Manifests and target folders, and whether there is no manifest there, of the package of `TWO_MANIFESTS`.
+const ROOTS: &[(&str, &str, bool)] = &[
+    ("/w/Cargo.toml", "/w/target", false),
+    ("/w/other.toml", "/w/target", true),
+    ("/w/Cargo.toml", "/w", true),
+    ("/w/Cargo.toml", "/w/Cargo.toml", true),
+    ("/v/Cargo.toml", "/w/target", true),
+];
+
+/// How many of them are so, up to the first that is not.
+fn count_roots(alloc: Global, memory: &mut Memory<Silent>) -> Result<usize, PathFault> {
+    put_files(alloc, memory, TWO_MANIFESTS)?;
+    for (count, case) in ROOTS.iter().enumerate() {
+        let (manifest, target, is_none) = *case;
+        if finds_none(alloc, memory, manifest, target)? != is_none {
+            return Ok(count);
+        }
+    }
+    Ok(ROOTS.len())
+}
+
+/// The same at a place of its own.
+fn count_own_roots(alloc: Global) -> Result<usize, PathFault> {
     let mut memory = Memory::new(alloc, Silent);
-    put_files(alloc, &mut memory, TWO_MANIFESTS)?;
-    Ok(finds_none(alloc, &mut memory, &manifest, &target))
+    count_roots(alloc, &mut memory)
 }
 
 #[test]
-fn roots_that_are_no_manifest(rt: HostRuntime) -> Result<(), Fail> {
-    let alloc = rt.alloc();
-    assert!(rt; !is_no_manifest(alloc, "/w/Cargo.toml", "/w/target")?);
-    assert!(rt; is_no_manifest(alloc, "/w/other.toml", "/w/target")?);
-    assert!(rt; is_no_manifest(alloc, "/w/Cargo.toml", "/w")?);
-    assert!(rt; is_no_manifest(alloc, "/w/Cargo.toml", "/w/Cargo.toml")?);
-    assert!(rt; is_no_manifest(alloc, "/v/Cargo.toml", "/w/target")?);
+fn workspaces(rt: HostRuntime) -> Result<(), Fail> {
+    let mut count = 0usize;
+    for case in CASES.split("=== ") {
+        let is_case = try_case(&rt, rt.alloc(), case)?;
+        count = count.saturating_add(usize::from(is_case));
+    }
+    assert!(rt; count >= 60);
+    assert!(rt; count_loaded(rt.alloc(), 256)? == (256, 0, 0));
+    assert!(rt; count_loaded(rt.alloc(), 257)? == (0, 0, 0));
+    assert_eq!(rt; count_own_roots(rt.alloc())?, 5);
     Ok(())
 }

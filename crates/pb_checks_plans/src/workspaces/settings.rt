@@ -2,6 +2,7 @@
 
 use crate::workspaces::places::PLACES;
 use crate::workspaces::profiles::PROFILES;
+use pb_checks_files::Shown;
 use pb_data::{Items, Text};
 use pb_manifest::{Edition, ManifestFault, Profile, Version};
 use pb_manifest_reader::read_manifest;
@@ -10,7 +11,7 @@ use pb_package::{
 };
 use pb_place::PathText;
 use pb_profile::{ProfileFault, Settings, folder_of, lines_follow_inherits, values_are_found};
-use std::alloc::{AllocError, Global};
+use std::alloc::Global;
 use std::process::Abort;
 use std::test::Fail;
 
@@ -84,25 +85,35 @@ fn workspace_of(alloc: Global, manifest: &str) -> Result<Workspace, Fail> {
     })
 }
 
-/// The settings in one line, in the order of their keys in the table of The Cargo Book.
-fn settings_shown(alloc: Global, settings: Settings) -> Result<String, AllocError> {
-    let first = format!(in alloc;
-        "{:?} {:?} {} {}",
-        settings.opt_level, settings.debug, settings.debug_assertions, settings.overflow_checks
-    )?;
-    let last = format!(in alloc;
-        "{:?} {:?} {} {} {:?}",
-        settings.lto, settings.panic, settings.codegen_units, settings.rpath, settings.strip
-    )?;
-    format!(in alloc; "{first} {last}")
+/// Puts the settings in one line, in the order of their keys in the table of The Cargo Book.
+fn put_settings(out: &mut Shown, settings: &Settings) {
+    out.put_value(&settings.opt_level);
+    out.put(&[" "]);
+    out.put_value(&settings.debug);
+    out.put(&[" "]);
+    out.put_value(&settings.debug_assertions);
+    out.put(&[" "]);
+    out.put_value(&settings.overflow_checks);
+    out.put(&[" "]);
+    out.put_value(&settings.lto);
+    out.put(&[" "]);
+    out.put_value(&settings.panic);
+    out.put(&[" "]);
+    out.put_value(&settings.codegen_units);
+    out.put(&[" "]);
+    out.put_value(&settings.rpath);
+    out.put(&[" "]);
+    out.put_value(&settings.strip);
 }
 
-/// The settings, or the fault.
-fn shown(alloc: Global, answer: Result<Settings, ProfileFault>) -> Result<String, AllocError> {
-    match answer {
-        Ok(settings) => settings_shown(alloc, settings),
-        Err(fault) => format!(in alloc; "{fault:?}"),
+/// Whether the settings, or the fault, are shown as this.
+fn says(alloc: Global, answer: Result<Settings, ProfileFault>, wanted: &str) -> bool {
+    let mut out = Shown::new(alloc);
+    match &answer {
+        Ok(settings) => put_settings(&mut out, settings),
+        Err(fault) => out.put_value(fault),
     }
+    out.says(wanted)
 }
 
 /// The side of a word.
@@ -112,20 +123,6 @@ fn side_of(word: &str) -> Side {
     } else {
         Side::Target
     }
-}
-
-/// Whether the settings of a package under a profile are these.
-fn are_settings(
-    alloc: Global,
-    workspace: &Workspace,
-    profile: &str,
-    owner: &Package,
-    side: Side,
-    wanted: &str,
-) -> Result<bool, Fail> {
-    let answer = Settings::settings(alloc, workspace, profile, owner, side);
-    let found = shown(alloc, answer)?;
-    Ok(found.as_str() == wanted)
 }
 
 /// Whether the settings of a package that has a name and nothing more are these.
@@ -139,7 +136,8 @@ fn are_settings_of(
     wanted: &str,
 ) -> Result<bool, Fail> {
     let owner = package_named(alloc, name, is_member)?;
-    are_settings(alloc, workspace, profile, &owner, side, wanted)
+    let answer = Settings::settings(alloc, workspace, profile, &owner, side);
+    Ok(says(alloc, answer, wanted))
 }
 
 /// Whether a question `PROFILE NAME member|other target|host` has this answer.
@@ -202,15 +200,6 @@ fn assert_table(rt: &impl Abort, alloc: Global, table: &str) -> Result<usize, Fa
     Ok(count)
 }
 
-#[test]
-fn settings(rt: HostRuntime) -> Result<(), Fail> {
-    assert!(rt; assert_table(&rt, rt.alloc(), PROFILES)? >= 60);
-    assert!(rt; assert_table(&rt, rt.alloc(), PLACES)? >= 55);
-    lines_follow_inherits();
-    values_are_found();
-    Ok(())
-}
-
 /// Profiles, and the folder of each.
 const FOLDERS: &[(&str, &str)] = &[
     ("dev", "debug"),
@@ -222,9 +211,14 @@ const FOLDERS: &[(&str, &str)] = &[
 ];
 
 #[test]
-fn folders(rt: HostRuntime) {
+fn settings_and_folders(rt: HostRuntime) -> Result<(), Fail> {
+    assert!(rt; assert_table(&rt, rt.alloc(), PROFILES)? >= 60);
+    assert!(rt; assert_table(&rt, rt.alloc(), PLACES)? >= 55);
     for case in FOLDERS {
         let (profile, wanted) = *case;
         assert!(rt; folder_of(profile) == wanted, "of {profile}");
     }
+    lines_follow_inherits();
+    values_are_found();
+    Ok(())
 }

@@ -1,83 +1,61 @@
 //! A workspace as lines of text: what is there, defaults left out.
 
-use pb_data::{Items, Text};
-use pb_manifest::{Edition, Feature, FeatureItem, Profile};
+use pb_checks_files::Shown;
+use pb_data::Text;
+use pb_manifest::{Edition, Feature, FeatureItem};
 use pb_package::{
     About, Binary, DefaultMembers, DependencyKind, Entry, Library, LoadFault, Package, Workspace,
 };
-use std::alloc::Global;
-use std::fmt::Write;
-use std::test::Fail;
 
-/// The answer of the loader in lines.
-pub fn shown(alloc: Global, answer: &Result<Workspace, LoadFault>) -> Result<String, Fail> {
-    let mut out = String::new(alloc);
+/// Puts the answer of the loader in lines.
+pub fn put_answer(out: &mut Shown, answer: &Result<Workspace, LoadFault>) {
     match answer {
-        Ok(workspace) => put_workspace(&mut out, workspace)?,
-        Err(fault) => put_fault(&mut out, fault)?,
+        Ok(workspace) => put_workspace(out, workspace),
+        Err(fault) => put_fault(out, fault),
     }
-    Ok(out)
 }
 
-fn put_fault(out: &mut String, fault: &LoadFault) -> Result<(), Fail> {
+fn put_fault(out: &mut Shown, fault: &LoadFault) {
     match fault {
-        LoadFault::NoManifest(path) => writeln!(out, "NoManifest {}", path.as_str())?,
+        LoadFault::NoManifest(path) => out.put(&["NoManifest ", path.as_str()]),
         LoadFault::Manifest(path, fault) => {
-            writeln!(out, "Manifest {} {fault:?}", path.as_str())?
+            out.put(&["Manifest ", path.as_str(), " "]);
+            out.put_value(fault);
         }
-        LoadFault::Place(path, fault) => writeln!(out, "Place {} {fault:?}", path.as_str())?,
-        other => writeln!(out, "{other:?}")?,
+        LoadFault::Place(path, fault) => {
+            out.put(&["Place ", path.as_str(), " "]);
+            out.put_value(fault);
+        }
+        other => out.put_value(other),
     }
-    Ok(())
+    out.put(&["\n"]);
 }
 
-fn put_packages(out: &mut String, packages: &[Package]) -> Result<(), Fail> {
-    for found in packages {
-        put_package(out, found)?;
-    }
-    Ok(())
-}
-
-fn put_root(out: &mut String, root: Option<usize>) -> Result<(), Fail> {
-    match root {
-        Some(place) => writeln!(out, "root {place}")?,
-        None => {}
-    }
-    Ok(())
-}
-
-fn put_places(out: &mut String, places: &[usize]) -> Result<(), Fail> {
-    write!(out, "default")?;
+/// Puts a line of a word and places.
+pub fn put_places(out: &mut Shown, word: &str, places: &[usize]) {
+    out.put(&[word]);
     for place in places {
-        write!(out, " {place}")?;
+        out.put(&[" "]);
+        out.put_number(*place as u64);
     }
-    writeln!(out, "")?;
-    Ok(())
+    out.put(&["\n"]);
 }
 
-fn put_default(out: &mut String, members: &DefaultMembers) -> Result<(), Fail> {
-    match members {
-        DefaultMembers::Unwritten => Ok(()),
-        DefaultMembers::Unknown => {
-            writeln!(out, "default unknown")?;
-            Ok(())
-        }
-        DefaultMembers::Named(places) => put_places(out, places.as_slice()),
+fn put_workspace(out: &mut Shown, workspace: &Workspace) {
+    for found in workspace.packages.as_slice() {
+        put_package(out, found);
     }
-}
-
-fn put_profiles(out: &mut String, profiles: &[Profile]) -> Result<(), Fail> {
-    for profile in profiles {
-        writeln!(out, "profile {}", profile.name.as_str())?;
+    if let Some(place) = workspace.root_package {
+        put_places(out, "root", &[place]);
     }
-    Ok(())
-}
-
-fn put_workspace(out: &mut String, workspace: &Workspace) -> Result<(), Fail> {
-    put_packages(out, workspace.packages.as_slice())?;
-    put_root(out, workspace.root_package)?;
-    put_default(out, &workspace.default_members)?;
-    put_profiles(out, workspace.profiles.as_slice())
+    match &workspace.default_members {
+        DefaultMembers::Unwritten => {}
+        DefaultMembers::Unknown => out.put(&["default unknown\n"]),
+        DefaultMembers::Named(places) => put_places(out, "default", places.as_slice()),
+    }
+    for profile in workspace.profiles.as_slice() {
+        out.put(&["profile ", profile.name.as_str(), "\n"]);
+    }
 }
 
 fn edition_text(edition: Edition) -> &'static str {
@@ -89,151 +67,114 @@ fn edition_text(edition: Edition) -> &'static str {
     }
 }
 
-fn put_head(out: &mut String, found: &Package) -> Result<(), Fail> {
-    let version = found.version.text().as_str();
-    let edition = edition_text(found.edition);
-    let folder = found.folder.as_str();
-    let name = found.name.as_str();
-    write!(out, "{folder} {name} {version} {edition}")?;
-    if !found.is_member {
-        write!(out, " other")?;
+/// Puts a word where it holds.
+fn put_word(out: &mut Shown, word: &str, holds: bool) {
+    if holds {
+        out.put(&[word]);
     }
-    writeln!(out, "")?;
-    Ok(())
 }
 
-fn put_links(out: &mut String, links: &Option<Text>) -> Result<(), Fail> {
-    if let Some(links) = links {
-        writeln!(out, "  links {}", links.as_str())?;
+fn put_package(out: &mut Shown, found: &Package) {
+    out.put(&[found.folder.as_str(), " ", found.name.as_str(), " "]);
+    out.put(&[found.version.text().as_str()]);
+    out.put(&[" ", edition_text(found.edition)]);
+    put_word(out, " other", !found.is_member);
+    out.put(&["\n"]);
+    put_about(out, &found.about);
+    if let Some(links) = &found.links {
+        out.put(&["  links ", links.as_str(), "\n"]);
     }
-    Ok(())
-}
-
-fn put_entries(out: &mut String, entries: &[Entry]) -> Result<(), Fail> {
-    for entry in entries {
-        put_entry(out, entry)?;
+    put_targets(out, found);
+    for entry in found.entries.as_slice() {
+        put_entry(out, entry);
     }
-    Ok(())
-}
-
-fn put_features(out: &mut String, features: &[Feature]) -> Result<(), Fail> {
-    for feature in features {
-        put_feature(out, feature)?;
+    for feature in found.features.as_slice() {
+        put_feature(out, feature);
     }
-    Ok(())
+    out.put_each("  dev ", found.development.as_slice(), "\n");
 }
 
-fn put_development(out: &mut String, keys: &[Text]) -> Result<(), Fail> {
-    for key in keys {
-        writeln!(out, "  dev {}", key.as_str())?;
+fn put_said(out: &mut Shown, name: &str, text: &Text) {
+    if !text.as_str().is_empty() {
+        out.put(&["  ", name, " ", text.as_str(), "\n"]);
     }
-    Ok(())
 }
 
-fn put_package(out: &mut String, found: &Package) -> Result<(), Fail> {
-    put_head(out, found)?;
-    put_about(out, &found.about)?;
-    put_links(out, &found.links)?;
-    put_targets(out, found)?;
-    put_entries(out, found.entries.as_slice())?;
-    put_features(out, found.features.as_slice())?;
-    put_development(out, found.development.as_slice())
+fn put_about(out: &mut Shown, about: &About) {
+    put_said(out, "authors", &about.authors);
+    put_said(out, "description", &about.description);
+    put_said(out, "homepage", &about.homepage);
+    put_said(out, "license", &about.license);
+    put_said(out, "license-file", &about.license_file);
+    put_said(out, "readme", &about.readme);
+    put_said(out, "repository", &about.repository);
+    put_said(out, "rust-version", &about.rust_version);
 }
 
-fn put_said(out: &mut String, name: &str, text: &Text) -> Result<(), Fail> {
-    if text.as_str() != "" {
-        writeln!(out, "  {name} {}", text.as_str())?;
-    }
-    Ok(())
-}
-
-fn put_about(out: &mut String, about: &About) -> Result<(), Fail> {
-    put_said(out, "authors", &about.authors)?;
-    put_said(out, "description", &about.description)?;
-    put_said(out, "homepage", &about.homepage)?;
-    put_said(out, "license", &about.license)?;
-    put_said(out, "license-file", &about.license_file)?;
-    put_said(out, "readme", &about.readme)?;
-    put_said(out, "repository", &about.repository)?;
-    put_said(out, "rust-version", &about.rust_version)
-}
-
-fn put_library(out: &mut String, library: &Library) -> Result<(), Fail> {
-    let name = library.name.as_str();
-    let source = library.source.as_str();
-    write!(out, "  lib {name} {source}")?;
+fn put_library(out: &mut Shown, library: &Library) {
+    out.put(&[
+        "  lib ",
+        library.name.as_str(),
+        " ",
+        library.source.as_str(),
+    ]);
     for crate_type in library.crate_types.as_slice() {
-        write!(out, " {crate_type:?}")?;
+        out.put(&[" "]);
+        out.put_value(crate_type);
     }
-    writeln!(out, "")?;
-    Ok(())
+    out.put(&["\n"]);
 }
 
-fn put_binary(out: &mut String, binary: &Binary) -> Result<(), Fail> {
-    let name = binary.name.as_str();
-    let source = binary.source.as_str();
-    write!(out, "  bin {name} {source}")?;
-    put_texts(out, &binary.required_features)?;
-    writeln!(out, "")?;
-    Ok(())
+fn put_binary(out: &mut Shown, binary: &Binary) {
+    out.put(&["  bin ", binary.name.as_str(), " ", binary.source.as_str()]);
+    out.put_each(" ", binary.required_features.as_slice(), "");
+    out.put(&["\n"]);
 }
 
-fn put_targets(out: &mut String, found: &Package) -> Result<(), Fail> {
+fn put_targets(out: &mut Shown, found: &Package) {
     if let Some(library) = &found.library {
-        put_library(out, library)?;
+        put_library(out, library);
     }
     for binary in found.binaries.as_slice() {
-        put_binary(out, binary)?;
+        put_binary(out, binary);
     }
     if let Some(script) = &found.script {
-        writeln!(out, "  script {}", script.as_str())?;
+        out.put(&["  script ", script.as_str(), "\n"]);
     }
-    Ok(())
 }
 
-fn put_texts(out: &mut String, texts: &Items<Text>) -> Result<(), Fail> {
-    for text in texts.as_slice() {
-        write!(out, " {}", text.as_str())?;
+fn put_entry(out: &mut Shown, entry: &Entry) {
+    match entry.kind {
+        DependencyKind::Normal => out.put(&["  dep ", entry.key.as_str(), " "]),
+        DependencyKind::Build => out.put(&["  build-dep ", entry.key.as_str(), " "]),
     }
-    Ok(())
+    out.put_number(entry.to as u64);
+    put_word(out, " renamed", entry.renamed);
+    put_word(out, " optional", entry.optional);
+    put_word(out, " no-default", !entry.default_features);
+    out.put_each(" ", entry.features.as_slice(), "");
+    out.put(&["\n"]);
 }
 
-fn put_entry(out: &mut String, entry: &Entry) -> Result<(), Fail> {
-    let table = match entry.kind {
-        DependencyKind::Normal => "dep",
-        DependencyKind::Build => "build-dep",
-    };
-    write!(out, "  {table} {} {}", entry.key.as_str(), entry.to)?;
-    if entry.renamed {
-        write!(out, " renamed")?;
+fn put_item(out: &mut Shown, item: &FeatureItem) {
+    match item {
+        FeatureItem::Own(name) => out.put(&[" ", name.as_str()]),
+        FeatureItem::Dependency(name) => out.put(&[" dep:", name.as_str()]),
+        FeatureItem::Of {
+            dependency,
+            feature,
+        } => out.put(&[" ", dependency.as_str(), "/", feature.as_str()]),
+        FeatureItem::OfEnabled {
+            dependency,
+            feature,
+        } => out.put(&[" ", dependency.as_str(), "?/", feature.as_str()]),
     }
-    if entry.optional {
-        write!(out, " optional")?;
-    }
-    if !entry.default_features {
-        write!(out, " no-default")?;
-    }
-    put_texts(out, &entry.features)?;
-    writeln!(out, "")?;
-    Ok(())
 }
 
-fn put_feature(out: &mut String, feature: &Feature) -> Result<(), Fail> {
-    write!(out, "  feature {}", feature.name.as_str())?;
+fn put_feature(out: &mut Shown, feature: &Feature) {
+    out.put(&["  feature ", feature.name.as_str()]);
     for item in feature.items.as_slice() {
-        match item {
-            FeatureItem::Own(name) => write!(out, " {}", name.as_str())?,
-            FeatureItem::Dependency(name) => write!(out, " dep:{}", name.as_str())?,
-            FeatureItem::Of {
-                dependency,
-                feature,
-            } => write!(out, " {}/{}", dependency.as_str(), feature.as_str())?,
-            FeatureItem::OfEnabled {
-                dependency,
-                feature,
-            } => write!(out, " {}?/{}", dependency.as_str(), feature.as_str())?,
-        }
+        put_item(out, item);
     }
-    writeln!(out, "")?;
-    Ok(())
+    out.put(&["\n"]);
 }

@@ -1,29 +1,12 @@
 //! Random lawful steps on random plans, beside the plain account.
 
+use crate::dice::Dice;
 use crate::flight::plain::{Standing, Unit, due, first_bad, flying, is_finished, ready};
 use crate::flight::steps::begin;
 use pb_data::{Bytes, Items};
 use pb_flight::{Answer, Flight};
 use std::alloc::{AllocError, Global};
 use std::test::Fail;
-
-/// Numbers that look random.
-#[derive(Drop)]
-struct Dice {
-    state: u64,
-}
-
-impl Dice {
-    /// The next number below a bound; 0 where the bound is 0.
-    fn below(&mut self, bound: usize) -> usize {
-        self.state = self
-            .state
-            .wrapping_mul(6_364_136_223_846_793_005)
-            .wrapping_add(1_442_695_040_888_963_407);
-        let number = (self.state >> 33) as usize;
-        if bound == 0 { 0 } else { number % bound }
-    }
-}
 
 /// Some of the units before one, some of them twice.
 fn some_needs(alloc: Global, dice: &mut Dice, unit: usize) -> Result<Items<usize>, AllocError> {

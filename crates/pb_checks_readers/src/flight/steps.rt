@@ -1,5 +1,6 @@
 //! Steps on a plan by hand.
 
+use pb_checks_files::Shown;
 use pb_data::{Bytes, Items};
 use pb_flight::{Answer, Flight};
 use std::alloc::{AllocError, Global};
@@ -55,7 +56,7 @@ const BAD_STEPS: &[(Act, &str, &str)] = &[
 ];
 
 /// What units need.
-fn needs_of(alloc: Global, plan: &[&[usize]]) -> Result<Items<Items<usize>>, Fail> {
+fn needs_of(alloc: Global, plan: &[&[usize]]) -> Result<Items<Items<usize>>, AllocError> {
     let mut needs = Items::new(alloc);
     for unit in plan {
         needs.push(Items::from_vec(unit.to_vec(alloc)?))?;
@@ -106,20 +107,15 @@ fn take_step(alloc: Global, flight: &mut Flight<u8>, act: Act) -> Result<bool, A
     }
 }
 
-/// Numbers with a space after each.
-fn shown(alloc: Global, numbers: &[usize]) -> Result<String, Fail> {
-    let mut text = String::new(alloc);
-    for number in numbers {
-        text.push_str(format!(in alloc; "{number} ")?.as_str())?;
-    }
-    Ok(text)
-}
-
-/// Whether these are ready.
-fn has_ready(alloc: Global, flight: &Flight<u8>, wanted: &str) -> Result<bool, Fail> {
+/// Whether these are ready, with a space after each.
+fn has_ready(alloc: Global, flight: &Flight<u8>, wanted: &str) -> Result<bool, AllocError> {
     let ready = flight.ready(alloc)?;
-    let text = shown(alloc, ready.as_slice())?;
-    Ok(text.as_str() == wanted)
+    let mut shown = Shown::new(alloc);
+    for number in ready.as_slice() {
+        shown.put_number(*number as u64);
+        shown.put(&[" "]);
+    }
+    Ok(shown.says(wanted))
 }
 
 /// Whether these lines are handed out.
@@ -133,7 +129,7 @@ fn follow(
     alloc: Global,
     flight: &mut Flight<u8>,
     steps: &[(Act, &str, &str)],
-) -> Result<usize, Fail> {
+) -> Result<usize, AllocError> {
     for (count, step) in steps.iter().enumerate() {
         let (one, ready, lines) = *step;
         let went = take_step(alloc, flight, one)?;
@@ -145,7 +141,11 @@ fn follow(
 }
 
 /// How many steps on the plan went as they should; none where it does not end with this bad unit.
-fn flown(alloc: Global, steps: &[(Act, &str, &str)], bad: Option<usize>) -> Result<usize, Fail> {
+fn flown(
+    alloc: Global,
+    steps: &[(Act, &str, &str)],
+    bad: Option<usize>,
+) -> Result<usize, AllocError> {
     let mut flight = Flight::new(alloc, needs_of(alloc, PLAN)?)?;
     let count = follow(alloc, &mut flight, steps)?;
     let ends = flight.is_finished() && flight.first_bad() == bad;
@@ -154,13 +154,8 @@ fn flown(alloc: Global, steps: &[(Act, &str, &str)], bad: Option<usize>) -> Resu
 }
 
 #[test]
-fn ready_follows_needs(rt: HostRuntime) -> Result<(), Fail> {
+fn ready_follows_needs_and_the_first_bad_unit_is_told(rt: HostRuntime) -> Result<(), Fail> {
     assert_eq!(rt; flown(rt.alloc(), STEPS, None)?, 18);
-    Ok(())
-}
-
-#[test]
-fn the_first_bad_unit_in_plan_order_is_told(rt: HostRuntime) -> Result<(), Fail> {
     assert_eq!(rt; flown(rt.alloc(), BAD_STEPS, Some(2))?, 8);
     Ok(())
 }

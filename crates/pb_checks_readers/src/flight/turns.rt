@@ -1,14 +1,11 @@
 //! Turns, picks and jobs; and each law called once.
 
 use pb_flight::{First, Jobs, Last, Pick, Step, Turn, laws};
-use std::test::Fail;
 
-#[test]
-fn picks(rt: HostRuntime) -> Result<(), Fail> {
+/// Whether the first and the last of three are picked.
+fn pick_ends() -> bool {
     let ready: &[usize] = &[4, 6, 9];
-    assert_eq!(rt; First {}.pick(ready), 0);
-    assert_eq!(rt; Last {}.pick(ready), 2);
-    Ok(())
+    First {}.pick(ready) == 0 && Last {}.pick(ready) == 2
 }
 
 /// Whether a step is this one.
@@ -19,28 +16,31 @@ fn is_step(step: Step, begins: bool, wanted: usize) -> bool {
     }
 }
 
-#[test]
-fn jobs(rt: HostRuntime) -> Result<(), Fail> {
+/// Whether two jobs, the last first, make the turns that they are to make.
+fn two_jobs() -> bool {
     let ready: &[usize] = &[4, 6];
     let mut two = Jobs {
         pick: Last {},
         jobs: 2,
     };
-    assert!(rt; is_step(two.turn(ready, &[]), true, 1));
-    assert!(rt; is_step(two.turn(ready, &[1]), true, 1));
-    assert!(rt; is_step(two.turn(ready, &[1, 0]), false, 0));
-    assert!(rt; is_step(two.turn(&[], &[1]), false, 0));
+    is_step(two.turn(ready, &[]), true, 1)
+        && is_step(two.turn(ready, &[1]), true, 1)
+        && is_step(two.turn(ready, &[1, 0]), false, 0)
+        && is_step(two.turn(&[], &[1]), false, 0)
+}
+
+/// Whether no job is one.
+fn no_job() -> bool {
+    let ready: &[usize] = &[4, 6];
     let mut none = Jobs {
         pick: First {},
         jobs: 0,
     };
-    assert!(rt; is_step(none.turn(ready, &[]), true, 0));
-    assert!(rt; is_step(none.turn(ready, &[1]), false, 0));
-    Ok(())
+    is_step(none.turn(ready, &[]), true, 0) && is_step(none.turn(ready, &[1]), false, 0)
 }
 
-#[test]
-fn laws_hold(_: HostRuntime) -> Result<(), Fail> {
+/// Each law, called once.
+fn laws_hold() {
     laws::ready_is_exact::<u8>();
     laws::reached_is_good::<u8>();
     laws::hands_out_all_due::<u8>();
@@ -52,5 +52,11 @@ fn laws_hold(_: HostRuntime) -> Result<(), Fail> {
     laws::started_differs::<u8, Jobs<First>>();
     laws::jobs_bound_flying::<u8, First>();
     laws::one_job_is_one_by_one::<u8, First>();
-    Ok(())
+}
+
+#[test]
+fn picks_and_jobs(rt: HostRuntime) {
+    assert!(rt; pick_ends());
+    assert!(rt; two_jobs() && no_job());
+    laws_hold();
 }

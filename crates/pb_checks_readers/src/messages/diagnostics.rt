@@ -1,25 +1,16 @@
 //! Diagnostics, taken from a standard error.
 
-use pb_data::{Items, Text};
+use pb_checks_files::Shown;
 use pb_message::diagnostics;
 use std::alloc::{AllocError, Global};
 use std::test::Fail;
 
-/// Texts one after another, each with `;` behind it.
-fn joined(alloc: Global, texts: &Items<Text>) -> Result<String, AllocError> {
-    let mut all = String::new(alloc);
-    for text in texts.as_slice() {
-        all.push_str(text.as_str())?;
-        all.push_str(";")?;
-    }
-    Ok(all)
-}
-
-/// Whether these are the diagnostics of a standard error.
+/// Whether these are the diagnostics of a standard error, each with `;` behind it.
 fn finds(alloc: Global, stderr: &str, wanted: &str) -> Result<bool, AllocError> {
     let found = diagnostics(alloc, stderr.as_bytes())?;
-    let all = joined(alloc, &found)?;
-    Ok(all.as_str() == wanted)
+    let mut all = Shown::new(alloc);
+    all.put_each("", found.as_slice(), ";");
+    Ok(all.says(wanted))
 }
 
 /// What stands on standard error, and its diagnostics, each with `;` behind it.

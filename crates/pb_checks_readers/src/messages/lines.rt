@@ -28,66 +28,17 @@ fn says(
     Ok(is_line(line.as_str(), number))
 }
 
-/// The library of the package a in `/w`, of which no type is written.
-fn own(alloc: Global) -> Result<Subject, Fail> {
-    let types: &[CrateType] = &[];
-    let target = library(alloc, types)?;
-    subject(alloc, "/w", "a", target)
-}
-
-/// Whether the line of a message about it is the wanted one of this number.
-fn own_says(alloc: Global, fresh: bool, message: &Message, number: usize) -> Result<bool, Fail> {
-    let subject = own(alloc)?;
-    Ok(says(alloc, &subject, fresh, message, number)?)
-}
-
-#[test]
-fn libraries(rt: HostRuntime) -> Result<(), Fail> {
-    let dev = settings(OptLevel::Zero, DebugInfo::Full);
-    let file = "/w/target/debug/a.target.lib/liba.rlib";
-    let made = artifact(rt.alloc(), dev, "", file, false)?;
-    assert!(rt; own_says(rt.alloc(), false, &made, 0)?);
-    Ok(())
-}
-
-/// The library of the package a in `/w/a`, of two types.
-fn of_two_types(alloc: Global) -> Result<Subject, Fail> {
-    let types: &[CrateType] = &[CrateType::Rlib, CrateType::Lib];
-    let target = library(alloc, types)?;
-    subject(alloc, "/w/a", "a", target)
-}
-
-/// Whether the line of a message about it, which is fresh, is the wanted one of this number.
-fn of_two_types_says(alloc: Global, message: &Message, number: usize) -> Result<bool, Fail> {
-    let subject = of_two_types(alloc)?;
-    Ok(says(alloc, &subject, true, message, number)?)
-}
-
-#[test]
-fn libraries_of_two_types(rt: HostRuntime) -> Result<(), Fail> {
-    let small = settings(OptLevel::SmallestSize, DebugInfo::LineTablesOnly);
-    let made = artifact(rt.alloc(), small, "f g", "/t/liba.rlib", false)?;
-    assert!(rt; of_two_types_says(rt.alloc(), &made, 1)?);
-    Ok(())
-}
-
-#[test]
-fn diagnostics_of_a_compiler(rt: HostRuntime) -> Result<(), Fail> {
-    let told = Message::CompilerMessage(text(rt.alloc(), r#"{"level": "warning"}"#)?);
-    assert!(rt; of_two_types_says(rt.alloc(), &told, 2)?);
-    Ok(())
-}
-
-/// Whether the line of a message about a target of the package a in a folder is the wanted one of this number.
-fn target_says(
-    alloc: Global,
-    folder: &str,
-    target: Target,
-    message: &Message,
-    number: usize,
-) -> Result<bool, Fail> {
-    let subject = subject(alloc, folder, "a", target)?;
-    Ok(says(alloc, &subject, false, message, number)?)
+/// What a line is about: a target of the package a.
+#[derive(Clone, Copy)]
+enum About {
+    /// The library in `/w`, of which no type is written.
+    Own,
+    /// The library in `/w/a`, of two types.
+    OfTwoTypes,
+    /// The binary in `/w/x-a`, which wants a feature.
+    Binary,
+    /// The build script in `/w`.
+    Script,
 }
 
 /// A binary that wants a feature.
@@ -98,102 +49,145 @@ fn binary(alloc: Global) -> Result<Target, Fail> {
     Ok(Target::binary(alloc, name, source, Edition::E2018, required)?)
 }
 
-/// Whether the line of a message about it is the wanted one of this number.
-fn binary_says(alloc: Global, message: &Message, number: usize) -> Result<bool, Fail> {
-    let target = binary(alloc)?;
-    target_says(alloc, "/w/x-a", target, message, number)
-}
-
-#[test]
-fn binaries(rt: HostRuntime) -> Result<(), Fail> {
-    let fast = settings(OptLevel::Three, DebugInfo::Limited);
-    let made = artifact(rt.alloc(), fast, "", "/t/go_on", true)?;
-    assert!(rt; binary_says(rt.alloc(), &made, 3)?);
-    Ok(())
-}
-
 /// A build script.
 fn script(alloc: Global) -> Result<Target, Fail> {
     let source = PathText::parse(alloc, "/w/build.rs")?;
     Ok(Target::script(alloc, source, Edition::E2015)?)
 }
 
-/// Whether the line of a message about it is the wanted one of this number.
-fn script_says(alloc: Global, message: &Message, number: usize) -> Result<bool, Fail> {
-    let target = script(alloc)?;
-    target_says(alloc, "/w", target, message, number)
-}
-
-#[test]
-fn scripts(rt: HostRuntime) -> Result<(), Fail> {
-    let none = settings(OptLevel::Size, DebugInfo::Nothing);
-    let made = artifact(rt.alloc(), none, "", "/t/build_script_build", false)?;
-    assert!(rt; script_says(rt.alloc(), &made, 4)?);
-    Ok(())
-}
-
-#[test]
-fn runs(rt: HostRuntime) -> Result<(), Fail> {
-    let empty = executed(rt.alloc(), "", "")?;
-    assert!(rt; own_says(rt.alloc(), false, &empty, 5)?);
-    Ok(())
-}
-
-#[test]
-fn runs_that_gave_something(rt: HostRuntime) -> Result<(), Fail> {
-    let full = executed(rt.alloc(), "z y", "\"\\/\u{8}\u{c}\n\r\t\u{1}é")?;
-    assert!(rt; own_says(rt.alloc(), true, &full, 6)?);
-    Ok(())
-}
-
-/// The level of a note of a script, its text, and the number of its line.
-const NOTES: &[(Level, &str, usize)] = &[(Level::Warning, "w", 7), (Level::Error, "e \"q\"", 8)];
-
-/// Whether the line of a note is the wanted one of this number.
-fn note_says(alloc: Global, level: Level, note: &str, number: usize) -> Result<bool, Fail> {
-    let note = text(alloc, note)?;
-    let message = Message::BuildScriptNote(level, note);
-    own_says(alloc, false, &message, number)
-}
-
-#[test]
-fn warnings_and_errors_of_a_script(rt: HostRuntime) -> Result<(), Fail> {
-    for case in NOTES {
-        let (level, note, number) = *case;
-        assert!(rt;
-            note_says(rt.alloc(), level, note, number)?,
-            "line {number}"
-        );
+/// The target that a line is about.
+fn target(alloc: Global, about: About) -> Result<Target, Fail> {
+    match about {
+        About::Own => library(alloc, &[]),
+        About::OfTwoTypes => library(alloc, &[CrateType::Rlib, CrateType::Lib]),
+        About::Binary => binary(alloc),
+        About::Script => script(alloc),
     }
-    Ok(())
 }
 
-/// Adds a warning of a script.
-fn add_warning(alloc: Global, messages: &mut Items<Message>) -> Result<(), Fail> {
-    let warning = text(alloc, "w")?;
-    messages.push(Message::BuildScriptNote(Level::Warning, warning))?;
-    Ok(())
+/// The package with this target, in its folder.
+fn package(alloc: Global, about: About) -> Result<Subject, Fail> {
+    let target = target(alloc, about)?;
+    let folder = match about {
+        About::Own | About::Script => "/w",
+        About::OfTwoTypes => "/w/a",
+        About::Binary => "/w/x-a",
+    };
+    subject(alloc, folder, "a", target)
 }
 
-/// Adds what a script gave.
-fn add_run(alloc: Global, messages: &mut Items<Message>) -> Result<(), Fail> {
-    let run = executed(alloc, "", "")?;
-    messages.push(run)?;
+/// What a line tells.
+#[derive(Clone, Copy)]
+enum Told {
+    /// The level, what there is for debuggers, the features, the file, and whether it can be executed.
+    Artifact(OptLevel, DebugInfo, &'static str, &'static str, bool),
+    /// A diagnostic of the compiler.
+    Diagnostic(&'static str),
+    /// What a script gave: lists, and the value of a variable.
+    Executed(&'static str, &'static str),
+    /// A note of a script.
+    Note(Level, &'static str),
+}
+
+/// The message that tells it.
+fn message(alloc: Global, told: Told) -> Result<Message, Fail> {
+    match told {
+        Told::Artifact(level, debug, features, file, is_executable) => {
+            artifact(alloc, settings(level, debug), features, file, is_executable)
+        }
+        Told::Diagnostic(diagnostic) => { Ok(Message::CompilerMessage(text(alloc, diagnostic)?)) }
+        Told::Executed(lists, value) => executed(alloc, lists, value),
+        Told::Note(level, note) => Ok(Message::BuildScriptNote(level, text(alloc, note)?)),
+    }
+}
+
+/// Whether the line about a target, with what is told of it, is the wanted one of this number.
+fn tells(
+    alloc: Global,
+    about: About,
+    fresh: bool,
+    told: Told,
+    number: usize,
+) -> Result<bool, Fail> {
+    let subject = package(alloc, about)?;
+    let message = message(alloc, told)?;
+    Ok(says(alloc, &subject, fresh, &message, number)?)
+}
+
+/// What each of the wanted lines is about, whether that is fresh, and what is told of it.
+const LINES: &[(About, bool, Told)] = &[
+    (
+        About::Own,
+        false,
+        Told::Artifact(
+            OptLevel::Zero,
+            DebugInfo::Full,
+            "",
+            "/w/target/debug/a.target.lib/liba.rlib",
+            false,
+        ),
+    ),
+    (
+        About::OfTwoTypes,
+        true,
+        Told::Artifact(
+            OptLevel::SmallestSize,
+            DebugInfo::LineTablesOnly,
+            "f g",
+            "/t/liba.rlib",
+            false,
+        ),
+    ),
+    (
+        About::OfTwoTypes,
+        true,
+        Told::Diagnostic(r#"{"level": "warning"}"#),
+    ),
+    (
+        About::Binary,
+        false,
+        Told::Artifact(OptLevel::Three, DebugInfo::Limited, "", "/t/go_on", true),
+    ),
+    (
+        About::Script,
+        false,
+        Told::Artifact(
+            OptLevel::Size,
+            DebugInfo::Nothing,
+            "",
+            "/t/build_script_build",
+            false,
+        ),
+    ),
+    (About::Own, false, Told::Executed("", "")),
+    (
+        About::Own,
+        true,
+        Told::Executed("z y", "\"\\/\u{8}\u{c}\n\r\t\u{1}é"),
+    ),
+    (About::Own, false, Told::Note(Level::Warning, "w")),
+    (About::Own, false, Told::Note(Level::Error, "e \"q\"")),
+];
+
+/// Adds a message.
+fn add(alloc: Global, messages: &mut Items<Message>, told: Told) -> Result<(), Fail> {
+    let message = message(alloc, told)?;
+    messages.push(message)?;
     Ok(())
 }
 
 /// A warning, and what a script gave.
 fn two_messages(alloc: Global) -> Result<Items<Message>, Fail> {
     let mut messages = Items::new(alloc);
-    add_warning(alloc, &mut messages)?;
-    add_run(alloc, &mut messages)?;
+    add(alloc, &mut messages, Told::Note(Level::Warning, "w"))?;
+    add(alloc, &mut messages, Told::Executed("", ""))?;
     Ok(messages)
 }
 
 /// The lines of both.
 fn two_lines(alloc: Global) -> Result<Text, Fail> {
     let messages = two_messages(alloc)?;
-    let subject = own(alloc)?;
+    let subject = package(alloc, About::Own)?;
     Ok(lines_of(alloc, &subject, false, messages.as_slice())?)
 }
 
@@ -205,11 +199,10 @@ fn are_written(alloc: Global, lines: &str) -> bool {
     wrote.is_ok() && taken.as_slice() == lines.as_bytes()
 }
 
-#[test]
-fn written(rt: HostRuntime) -> Result<(), Fail> {
-    let lines = two_lines(rt.alloc())?;
-    assert!(rt; are_written(rt.alloc(), lines.as_str()));
-    Ok(())
+/// Whether such a sink takes both lines.
+fn both_are_written(alloc: Global) -> Result<bool, Fail> {
+    let lines = two_lines(alloc)?;
+    Ok(are_written(alloc, lines.as_str()))
 }
 
 /// Whether a last line is the wanted one of this number.
@@ -219,6 +212,15 @@ fn ends(success: bool, number: usize) -> bool {
 }
 
 #[test]
-fn last_lines(rt: HostRuntime) {
+fn lines(rt: HostRuntime) -> Result<(), Fail> {
+    for (number, case) in LINES.iter().enumerate() {
+        let (about, fresh, told) = *case;
+        assert!(rt;
+            tells(rt.alloc(), about, fresh, told, number)?,
+            "line {number}"
+        );
+    }
+    assert!(rt; both_are_written(rt.alloc())?);
     assert!(rt; ends(true, 9) && ends(false, 10));
+    Ok(())
 }

@@ -1,178 +1,315 @@
-//! Command lines that say a compile, and such as say none.
+//! Command lines that say a compile or a run, and such as say none.
 
-use super::compiles::{answer_to, replies};
+use super::worlds::{answer_in, answers};
 use pb_place::ViewFault;
 use std::alloc::Global;
 use std::test::Fail;
 
-/// The words of a compile, its source, the name and the bytes of the image, and the name and the bytes of the
-/// dep-info.
-type Compile = (
+/// The words, the status, the two streams, and the files.
+type Case = (
     &'static str,
-    &'static str,
-    &'static str,
-    &'static str,
-    &'static str,
-    &'static str,
+    i32,
+    &'static [u8],
+    &'static [u8],
+    &'static [u8],
 );
 
-/// Compiles of `print x`, and what each leaves.
-const GOOD: &[Compile] = &[
+/// Words where each source and image is `print x`, and what they are answered.
+const COMMAND_LINES: &[Case] = &[
+    ("-vV", 0, b"mini 0.1.0\nhost: mini-unknown-none\n", b"", b""),
     (
         "--crate-name|a|--crate-type|lib|--out-dir|/o|/s",
-        "/s",
-        "liba.rlib",
-        "mini lib a\nprint x\n",
-        "a.d",
-        "/o/liba.rlib: /s\n",
+        0,
+        b"",
+        b"",
+        b"liba.rlib=mini lib a\nprint x\n|a.d=/o/liba.rlib: /s\n|",
     ),
     (
         "/s|--out-dir|/o/./p/..|--crate-type|bin|--crate-type|lib|--crate-name|a",
-        "/s",
-        "a",
-        "mini bin a\nprint x\n",
-        "a.d",
-        "/o/a: /s\n",
+        0,
+        b"",
+        b"",
+        b"a=mini bin a\nprint x\n|a.d=/o/a: /s\n|",
     ),
     (
         "--crate-name|a_b|--crate-type|rlib|--crate-type|bin|--out-dir|/o p|/q/../s  t",
-        "/s  t",
-        "liba_b.rlib",
-        "mini lib a_b\nprint x\n",
-        "a_b.d",
-        "/o\\ p/liba_b.rlib: /s\\ \\ t\n",
+        0,
+        b"",
+        b"",
+        b"liba_b.rlib=mini lib a_b\nprint x\n|a_b.d=/o\\ p/liba_b.rlib: /s\\ \\ t\n|",
     ),
     (
         "--crate-name|--emit=|--crate-type|-C|--out-dir|/|/s",
-        "/s",
-        "lib--emit=.rlib",
-        "mini lib --emit=\nprint x\n",
-        "--emit=.d",
-        "/lib--emit=.rlib: /s\n",
+        0,
+        b"",
+        b"",
+        b"lib--emit=.rlib=mini lib --emit=\nprint x\n|--emit=.d=/lib--emit=.rlib: /s\n|",
     ),
     (
         "-C|n|--cfg|x|--check-cfg|y|--extern|z|-L|l|-l|m|--emit=|--error-format=|--crate-name|a|--crate-type|lib|--out-dir|/o|/s",
-        "/s",
-        "liba.rlib",
-        "mini lib a\nprint x\n",
-        "a.d",
-        "/o/liba.rlib: /s\n",
+        0,
+        b"",
+        b"",
+        b"liba.rlib=mini lib a\nprint x\n|a.d=/o/liba.rlib: /s\n|",
     ),
     (
         "--crate-name|d/a|--crate-type|bin|--out-dir|/o|/s",
-        "/s",
-        "d/a",
-        "mini bin d/a\nprint x\n",
-        "d/a.d",
-        "/o/d/a: /s\n",
+        0,
+        b"",
+        b"",
+        b"d/a=mini bin d/a\nprint x\n|d/a.d=/o/d/a: /s\n|",
     ),
     (
         "--crate-name|c: d|--crate-type|bin|--out-dir|/o p|/w/c\\d.rs",
-        "/w/c\\d.rs",
-        "c: d",
-        "mini bin c: d\nprint x\n",
-        "c: d.d",
-        "/o\\ p/c:\\ d: /w/c\\d.rs\n",
+        0,
+        b"",
+        b"",
+        b"c: d=mini bin c: d\nprint x\n|c: d.d=/o\\ p/c:\\ d: /w/c\\d.rs\n|",
     ),
-];
-
-/// The words of a compile without a source, and its dep-info.
-const MISSING: &[(&str, &str)] = &[
+    // No source.
     (
         "--crate-name|a|--crate-type|lib|--out-dir|/o|/t",
-        "/o/liba.rlib: /t\n",
+        1,
+        b"",
+        b"{\"level\":\"error\",\"message\":\"no source\",\"line\":0}\n",
+        b"a.d=/o/liba.rlib: /t\n|",
     ),
     (
         "--crate-name|a|--crate-type|lib|--out-dir|/o|s",
-        "/o/liba.rlib:\n",
+        1,
+        b"",
+        b"{\"level\":\"error\",\"message\":\"no source\",\"line\":0}\n",
+        b"a.d=/o/liba.rlib:\n|",
     ),
     (
         "--crate-name|a|--crate-type|lib|--out-dir|/o|/s\0",
-        "/o/liba.rlib:\n",
+        1,
+        b"",
+        b"{\"level\":\"error\",\"message\":\"no source\",\"line\":0}\n",
+        b"a.d=/o/liba.rlib:\n|",
     ),
+    // Words that say no compile.
+    ("", 2, b"", b"mini: bad command line\n", b""),
+    ("-vV|-vV", 2, b"", b"mini: bad command line\n", b""),
+    ("--version", 2, b"", b"mini: bad command line\n", b""),
+    (
+        "-vV|--crate-name|a|--crate-type|lib|--out-dir|/o|/s",
+        2,
+        b"",
+        b"mini: bad command line\n",
+        b"",
+    ),
+    (
+        "--crate-type|lib|--out-dir|/o|/s",
+        2,
+        b"",
+        b"mini: bad command line\n",
+        b"",
+    ),
+    (
+        "--crate-name|a|--out-dir|/o|/s",
+        2,
+        b"",
+        b"mini: bad command line\n",
+        b"",
+    ),
+    (
+        "--crate-name|a|--crate-type|lib|/s",
+        2,
+        b"",
+        b"mini: bad command line\n",
+        b"",
+    ),
+    (
+        "--crate-name|a|--crate-type|lib|--out-dir|/o",
+        2,
+        b"",
+        b"mini: bad command line\n",
+        b"",
+    ),
+    (
+        "--crate-name|a|--crate-name|a|--crate-type|lib|--out-dir|/o|/s",
+        2,
+        b"",
+        b"mini: bad command line\n",
+        b"",
+    ),
+    (
+        "--crate-name|a|--crate-type|lib|--out-dir|/o|--out-dir|/o|/s",
+        2,
+        b"",
+        b"mini: bad command line\n",
+        b"",
+    ),
+    (
+        "--crate-name|a|--crate-type|lib|--out-dir|/o|/s|/s",
+        2,
+        b"",
+        b"mini: bad command line\n",
+        b"",
+    ),
+    (
+        "--crate-name|a|--crate-type|lib|--out-dir|/o|/s|-O",
+        2,
+        b"",
+        b"mini: bad command line\n",
+        b"",
+    ),
+    (
+        "--crate-name|a|--crate-type|lib|--out-dir|/o|/s|--edition|2021",
+        2,
+        b"",
+        b"mini: bad command line\n",
+        b"",
+    ),
+    (
+        "--crate-name|a|--crate-type|lib|--out-dir|/o|/s|--emit",
+        2,
+        b"",
+        b"mini: bad command line\n",
+        b"",
+    ),
+    (
+        "--crate-name|a|--crate-type|lib|--out-dir|/o|/s|--error-format",
+        2,
+        b"",
+        b"mini: bad command line\n",
+        b"",
+    ),
+    (
+        "--crate-name=a|--crate-type|lib|--out-dir|/o|/s",
+        2,
+        b"",
+        b"mini: bad command line\n",
+        b"",
+    ),
+    (
+        "--crate-name|a|--crate-type|lib|--out-dir|/o|/s|",
+        2,
+        b"",
+        b"mini: bad command line\n",
+        b"",
+    ),
+    (
+        "--crate-name|a|--crate-type|lib|--out-dir|/o|/s|--crate-name",
+        2,
+        b"",
+        b"mini: bad command line\n",
+        b"",
+    ),
+    (
+        "--crate-name|a|--crate-type|lib|--out-dir|/o|/s|--crate-type",
+        2,
+        b"",
+        b"mini: bad command line\n",
+        b"",
+    ),
+    (
+        "--crate-name|a|--crate-type|lib|--out-dir|/o|/s|--out-dir",
+        2,
+        b"",
+        b"mini: bad command line\n",
+        b"",
+    ),
+    (
+        "--crate-name|a|--crate-type|lib|--out-dir|/o|/s|-C",
+        2,
+        b"",
+        b"mini: bad command line\n",
+        b"",
+    ),
+    (
+        "--crate-name|a|--crate-type|lib|--out-dir|/o|/s|--cfg",
+        2,
+        b"",
+        b"mini: bad command line\n",
+        b"",
+    ),
+    (
+        "--crate-name|a|--crate-type|lib|--out-dir|/o|/s|--check-cfg",
+        2,
+        b"",
+        b"mini: bad command line\n",
+        b"",
+    ),
+    (
+        "--crate-name|a|--crate-type|lib|--out-dir|/o|/s|--extern",
+        2,
+        b"",
+        b"mini: bad command line\n",
+        b"",
+    ),
+    (
+        "--crate-name|a|--crate-type|lib|--out-dir|/o|/s|-L",
+        2,
+        b"",
+        b"mini: bad command line\n",
+        b"",
+    ),
+    (
+        "--crate-name|a|--crate-type|lib|--out-dir|/o|/s|-l",
+        2,
+        b"",
+        b"mini: bad command line\n",
+        b"",
+    ),
+    (
+        "--crate-name|a|--crate-type|lib|--out-dir|o|/s",
+        2,
+        b"",
+        b"mini: bad command line\n",
+        b"",
+    ),
+    (
+        "--crate-name|a|--crate-type|lib|--out-dir|/o\0|/s",
+        2,
+        b"",
+        b"mini: bad command line\n",
+        b"",
+    ),
+    (
+        "--crate-name||--crate-type|bin|--out-dir|/o|/s",
+        2,
+        b"",
+        b"mini: bad command line\n",
+        b"",
+    ),
+    (
+        "--crate-name|../a|--crate-type|bin|--out-dir|/o|/s",
+        2,
+        b"",
+        b"mini: bad command line\n",
+        b"",
+    ),
+    (
+        "--crate-name|a\0|--crate-type|lib|--out-dir|/o|/s",
+        2,
+        b"",
+        b"mini: bad command line\n",
+        b"",
+    ),
+    // Words that name no image, and words that say no run.
+    ("--run|/none", 2, b"", b"mini: no image\n", b""),
+    ("--run|i", 2, b"", b"mini: no image\n", b""),
+    ("--run|", 2, b"", b"mini: no image\n", b""),
+    ("--run|/i\0", 2, b"", b"mini: no image\n", b""),
+    ("--run", 2, b"", b"mini: bad command line\n", b""),
+    ("--run|/i|x", 2, b"", b"mini: bad command line\n", b""),
+    ("/i|--run", 2, b"", b"mini: bad command line\n", b""),
+    ("--run=/i", 2, b"", b"mini: bad command line\n", b""),
 ];
 
-/// Whether a compile leaves this image and this dep-info.
-fn compiles(alloc: Global, case: &Compile) -> Result<bool, ViewFault> {
-    let (words, path, image_name, image, dep_info_name, dep_info) = *case;
-    let reply = answer_to(alloc, words, path, b"print x")?;
-    let files: &[(&str, &str)] = &[(image_name, image), (dep_info_name, dep_info)];
-    Ok(replies(&reply, 0, "", "", files))
-}
-
-/// Whether a compile finds no source, and leaves this dep-info alone.
-fn finds_no_source(alloc: Global, words: &str, dep_info: &str) -> Result<bool, ViewFault> {
-    let reply = answer_to(alloc, words, "/s", b"print x")?;
-    let stderr = "{\"level\":\"error\",\"message\":\"no source\",\"line\":0}\n";
-    Ok(replies(&reply, 1, "", stderr, &[("a.d", dep_info)]))
-}
-
-/// Whether the words that ask for the version are answered.
-fn tells_version(alloc: Global) -> Result<bool, ViewFault> {
-    let reply = answer_to(alloc, "-vV", "/s", b"fail")?;
-    let stdout = "mini 0.1.0\nhost: mini-unknown-none\n";
-    Ok(replies(&reply, 0, stdout, "", &[]))
+/// Whether words are answered so.
+fn is_right(alloc: Global, case: &Case) -> Result<bool, ViewFault> {
+    let (words, status, stdout, stderr, files) = *case;
+    let reply = answer_in(alloc, words, "/s", b"print x")?;
+    Ok(answers(alloc, &reply, status, stdout, stderr, files)?)
 }
 
 #[test]
 fn command_lines(rt: HostRuntime) -> Result<(), Fail> {
-    assert!(rt; tells_version(rt.alloc())?);
-    for case in GOOD {
-        assert!(rt; compiles(rt.alloc(), case)?, "of {}", case.0);
-    }
-    for case in MISSING {
-        let (words, dep_info) = *case;
-        assert!(rt; finds_no_source(rt.alloc(), words, dep_info)?, "of {words}");
-    }
-    Ok(())
-}
-
-/// Words that say no compile.
-const REFUSED: &[&str] = &[
-    "",
-    "-vV|-vV",
-    "--version",
-    "-vV|--crate-name|a|--crate-type|lib|--out-dir|/o|/s",
-    "--crate-type|lib|--out-dir|/o|/s",
-    "--crate-name|a|--out-dir|/o|/s",
-    "--crate-name|a|--crate-type|lib|/s",
-    "--crate-name|a|--crate-type|lib|--out-dir|/o",
-    "--crate-name|a|--crate-name|a|--crate-type|lib|--out-dir|/o|/s",
-    "--crate-name|a|--crate-type|lib|--out-dir|/o|--out-dir|/o|/s",
-    "--crate-name|a|--crate-type|lib|--out-dir|/o|/s|/s",
-    "--crate-name|a|--crate-type|lib|--out-dir|/o|/s|-O",
-    "--crate-name|a|--crate-type|lib|--out-dir|/o|/s|--edition|2021",
-    "--crate-name|a|--crate-type|lib|--out-dir|/o|/s|--emit",
-    "--crate-name|a|--crate-type|lib|--out-dir|/o|/s|--error-format",
-    "--crate-name=a|--crate-type|lib|--out-dir|/o|/s",
-    "--crate-name|a|--crate-type|lib|--out-dir|/o|/s|",
-    "--crate-name|a|--crate-type|lib|--out-dir|/o|/s|--crate-name",
-    "--crate-name|a|--crate-type|lib|--out-dir|/o|/s|--crate-type",
-    "--crate-name|a|--crate-type|lib|--out-dir|/o|/s|--out-dir",
-    "--crate-name|a|--crate-type|lib|--out-dir|/o|/s|-C",
-    "--crate-name|a|--crate-type|lib|--out-dir|/o|/s|--cfg",
-    "--crate-name|a|--crate-type|lib|--out-dir|/o|/s|--check-cfg",
-    "--crate-name|a|--crate-type|lib|--out-dir|/o|/s|--extern",
-    "--crate-name|a|--crate-type|lib|--out-dir|/o|/s|-L",
-    "--crate-name|a|--crate-type|lib|--out-dir|/o|/s|-l",
-    "--crate-name|a|--crate-type|lib|--out-dir|o|/s",
-    "--crate-name|a|--crate-type|lib|--out-dir|/o\0|/s",
-    "--crate-name||--crate-type|bin|--out-dir|/o|/s",
-    "--crate-name|../a|--crate-type|bin|--out-dir|/o|/s",
-    "--crate-name|a\0|--crate-type|lib|--out-dir|/o|/s",
-];
-
-/// Whether words are refused.
-fn is_refused(alloc: Global, words: &str) -> Result<bool, ViewFault> {
-    let reply = answer_to(alloc, words, "/s", b"print x")?;
-    Ok(replies(&reply, 2, "", "mini: bad command line\n", &[]))
-}
-
-#[test]
-fn bad_command_lines(rt: HostRuntime) -> Result<(), Fail> {
-    for case in REFUSED {
-        let words = *case;
-        assert!(rt; is_refused(rt.alloc(), words)?, "of {words}");
+    for case in COMMAND_LINES {
+        assert!(rt; is_right(rt.alloc(), case)?, "of {}", case.0);
     }
     Ok(())
 }

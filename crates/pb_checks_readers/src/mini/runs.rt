@@ -1,15 +1,9 @@
 //! Runs of images.
 
-use super::worlds::{answer_in, answers};
-use pb_place::ViewFault;
-use std::alloc::Global;
-use std::test::Fail;
+use super::worlds::Case;
 
-/// An image, the status of its run, its standard output, and its files.
-type Case = (&'static [u8], i32, &'static [u8], &'static [u8]);
-
-/// Images of `/i`.
-const RUNS: &[Case] = &[
+/// Images of `/i`, the status of the run of each, its standard output, and its files.
+pub const RUNS: &[Case] = &[
     (b"", 0, b"", b""),
     (b"mini bin s\nprint x\n", 0, b"x\n", b""),
     (b"print x", 0, b"x\n", b""),
@@ -169,54 +163,3 @@ const RUNS: &[Case] = &[
     (b"print a\nexit 2147483648\nprint b", 2, b"a\n", b""),
     (b"exit", 2, b"", b""),
 ];
-
-/// Whether the run of an image does this.
-fn runs_so(
-    alloc: Global,
-    image: &[u8],
-    status: i32,
-    stdout: &[u8],
-    files: &[u8],
-) -> Result<bool, ViewFault> {
-    let reply = answer_in(alloc, "--run|/i", "/i", image)?;
-    Ok(answers(alloc, &reply, status, stdout, b"", files)?)
-}
-
-#[test]
-fn runs(rt: HostRuntime) -> Result<(), Fail> {
-    for (place, case) in RUNS.iter().enumerate() {
-        let (image, status, stdout, files) = *case;
-        assert!(rt;
-            runs_so(rt.alloc(), image, status, stdout, files)?,
-            "case {place}"
-        );
-    }
-    Ok(())
-}
-
-/// Words that name no image, and words that say no run.
-const OTHERS: &[(&str, &[u8])] = &[
-    ("--run|/none", b"mini: no image\n"),
-    ("--run|i", b"mini: no image\n"),
-    ("--run|", b"mini: no image\n"),
-    ("--run|/i\0", b"mini: no image\n"),
-    ("--run", b"mini: bad command line\n"),
-    ("--run|/i|x", b"mini: bad command line\n"),
-    ("/i|--run", b"mini: bad command line\n"),
-    ("--run=/i", b"mini: bad command line\n"),
-];
-
-/// Whether words are refused with this on standard error.
-fn is_no_run(alloc: Global, words: &str, stderr: &[u8]) -> Result<bool, ViewFault> {
-    let reply = answer_in(alloc, words, "/i", b"print x")?;
-    Ok(answers(alloc, &reply, 2, b"", stderr, b"")?)
-}
-
-#[test]
-fn no_runs(rt: HostRuntime) -> Result<(), Fail> {
-    for case in OTHERS {
-        let (words, stderr) = *case;
-        assert!(rt; is_no_run(rt.alloc(), words, stderr)?, "of {words}");
-    }
-    Ok(())
-}

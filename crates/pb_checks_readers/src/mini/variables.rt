@@ -1,10 +1,9 @@
 //! Tables of the lines `env` and `when`.
 
-use super::worlds::{Case, assert_cases};
-use std::test::Fail;
+use super::worlds::Case;
 
 /// Lines with `env`.
-const ENVS: &[Case] = &[
+pub const ENVS: &[Case] = &[
     (
         b"env VAR",
         0,
@@ -67,13 +66,8 @@ const ENVS: &[Case] = &[
     ),
 ];
 
-#[test]
-fn envs(rt: HostRuntime) -> Result<(), Fail> {
-    assert_cases(&rt, rt.alloc(), ENVS)
-}
-
 /// Lines with `when`.
-const WHENS: &[Case] = &[
+pub const WHENS: &[Case] = &[
     (
         b"when on print x",
         0,
@@ -261,8 +255,3 @@ const WHENS: &[Case] = &[
         b"c.d=/o/libc.rlib: /w/s /w/none\n|",
     ),
 ];
-
-#[test]
-fn whens(rt: HostRuntime) -> Result<(), Fail> {
-    assert_cases(&rt, rt.alloc(), WHENS)
-}

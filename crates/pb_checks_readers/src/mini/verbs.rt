@@ -1,10 +1,9 @@
 //! Tables of the lines `use` and `include`.
 
-use super::worlds::{Case, assert_cases, is_right};
-use std::test::Fail;
+use super::worlds::Case;
 
 /// Lines with `use`.
-const USES: &[Case] = &[
+pub const USES: &[Case] = &[
     (
         b"use q",
         0,
@@ -97,13 +96,8 @@ const USES: &[Case] = &[
     ),
 ];
 
-#[test]
-fn uses(rt: HostRuntime) -> Result<(), Fail> {
-    assert_cases(&rt, rt.alloc(), USES)
-}
-
 /// Lines with `include`.
-const INCLUDES: &[Case] = &[
+pub const INCLUDES: &[Case] = &[
     (
         b"include one",
         0,
@@ -290,17 +284,11 @@ const INCLUDES: &[Case] = &[
         b"",
         b"libc.rlib=mini lib c\n| a\n| b\n| v x\n| a\n| b\n| a\n| b\n| v x\n|c.d=/o/libc.rlib: /w/s /w/one /v/x /w/two\n# env-dep:VAR=/v\n|",
     ),
+    // A file that is no text stands in the image as it is.
+    (
+        b"include raw",
+        0,
+        b"",
+        b"libc.rlib=mini lib c\n| \xff\n| r\n|c.d=/o/libc.rlib: /w/s /w/raw\n|",
+    ),
 ];
-
-#[test]
-fn includes(rt: HostRuntime) -> Result<(), Fail> {
-    assert_cases(&rt, rt.alloc(), INCLUDES)
-}
-
-/// A file that is no text stands in the image as it is.
-#[test]
-fn raw(rt: HostRuntime) -> Result<(), Fail> {
-    let files = b"libc.rlib=mini lib c\n| \xff\n| r\n|c.d=/o/libc.rlib: /w/s /w/raw\n|";
-    assert!(rt; is_right(rt.alloc(), b"include raw", 0, b"", files)?);
-    Ok(())
-}

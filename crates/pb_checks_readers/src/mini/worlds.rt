@@ -5,10 +5,8 @@ use pb_data::{Bytes, Items, Text};
 use pb_mini::answer;
 use pb_place::{Reply, ViewFault};
 use std::alloc::{AllocError, Global};
-use std::process::Abort;
-use std::test::Fail;
 
-/// Files by their paths. `/s` and `/i` are put in beside them.
+/// Files by their paths, behind one more of each case.
 const FILES: &[(&str, &[u8])] = &[
     ("/w/one", b"a\nb"),
     ("/w/two", b"a\nb\n"),
@@ -23,6 +21,9 @@ const FILES: &[(&str, &[u8])] = &[
     ("/l/q", b"mini lib q\nprint q\n"),
     ("/l/p", b"p"),
     ("/l/a=b", b"e\n"),
+    ("/i", b"print x"),
+    ("/s  t", b"print x"),
+    ("/w/c\\d.rs", b"print x"),
 ];
 
 /// Inherited variables.
@@ -58,7 +59,7 @@ pub fn words_of(alloc: Global, text: &str) -> Result<Items<Text>, AllocError> {
 }
 
 /// Adds a file.
-pub fn add_file(
+fn add_file(
     alloc: Global,
     inside: &mut Items<(Text, Bytes)>,
     path: &str,
@@ -80,7 +81,7 @@ fn files(alloc: Global, path: &str, bytes: &[u8]) -> Result<Items<(Text, Bytes)>
 }
 
 /// The world with one file more.
-fn world(alloc: Global, path: &str, bytes: &[u8]) -> Result<Files, AllocError> {
+pub fn world(alloc: Global, path: &str, bytes: &[u8]) -> Result<Files, AllocError> {
     let inside = files(alloc, path, bytes)?;
     let variables = texts(alloc, VARIABLES)?;
     Ok(Files { inside, variables })
@@ -116,7 +117,7 @@ pub fn answer_in(alloc: Global, words: &str, path: &str, bytes: &[u8]) -> Result
 }
 
 /// The files of a reply: of each its name, `=`, its bytes and a bar.
-pub fn files_text(alloc: Global, reply: &Reply) -> Result<Vec<u8>, AllocError> {
+fn files_text(alloc: Global, reply: &Reply) -> Result<Vec<u8>, AllocError> {
     let mut text = Vec::new(alloc);
     for file in reply.files.as_slice() {
         text.extend_from_slice(file.0.as_str().as_bytes())?;
@@ -149,29 +150,5 @@ pub fn answers(
 pub const WORDS: &str =
     "--crate-name|c|--crate-type|lib|--out-dir|/o|--cfg|on|--cfg|feature=\"f\"|--cfg||--extern|q=/l/q|--extern|q=/l/p|--extern|gone=/l/gone|--extern|bare|--extern|bare=/l/p|--extern|rel=l/q|--extern|=/l/p|--extern|eq=/l/a=b|/w/s";
 
-/// A source, the status of its compile, its standard error, and its files.
+/// A source or an image, the status of its compile or run, what that says, and its files.
 pub type Case = (&'static [u8], i32, &'static [u8], &'static [u8]);
-
-/// Whether the compile of a source answers this.
-pub fn is_right(
-    alloc: Global,
-    source: &[u8],
-    status: i32,
-    stderr: &[u8],
-    files: &[u8],
-) -> Result<bool, ViewFault> {
-    let reply = answer_in(alloc, WORDS, "/w/s", source)?;
-    Ok(answers(alloc, &reply, status, b"", stderr, files)?)
-}
-
-/// Asserts what the compile of each source answers.
-pub fn assert_cases(rt: &impl Abort, alloc: Global, cases: &[Case]) -> Result<(), Fail> {
-    for (place, case) in cases.iter().enumerate() {
-        let (source, status, stderr, files) = *case;
-        assert!(rt;
-            is_right(alloc, source, status, stderr, files)?,
-            "case {place}"
-        );
-    }
-    Ok(())
-}

@@ -1,59 +1,73 @@
 //! Calls of the store in which one call of the place fails, each call in turn.
 
-use crate::stores::steps::{call, make_steps, open, tell_differs};
-use crate::stores::world::prepare;
+use crate::stores::steps::{begin, call, make_steps, tell_differs};
+use pb_checks_files::Shown;
 use pb_mini::Mini;
 use pb_place::{Memory, Place};
 use pb_store::Store;
 use std::alloc::Global;
 use std::test::Fail;
 
-/// Makes a call with the call of the place of this number failing, and tells its fault and what differs then; nothing
-/// where no call failed.
+/// Makes a call with the call of the place of this number failing, and adds its fault and what differs then. Whether
+/// a call failed.
 fn fail_at(
     alloc: Global,
     place: &mut Memory<Mini>,
     store: &mut Store,
     verb: &str,
     number: u64,
-) -> Result<String, Fail> {
+    out: &mut Shown,
+) -> Result<bool, Fail> {
+    let mut told = Shown::new(alloc);
     place.fuse(number);
-    let mut told = call(alloc, place, store, verb, "8", "8")?;
+    call(alloc, place, store, verb, ("8", "8"), &mut told)?;
     place.fuse(0);
     if place.failures() == 0 {
-        return Ok(String::new(alloc));
+        return Ok(false);
     }
     if place.late() > 0 {
-        told.push_str(" (wrong: a call came after it)")?;
+        told.put(&[" (wrong: a call came after it)"]);
     }
-    let after = tell_differs(alloc, place, store, "", "")?;
-    told.push_str(": ")?;
-    told.push_str(after.as_str())?;
-    told.push_str(", ")?;
-    Ok(told)
+    told.put(&[": "]);
+    tell_differs(alloc, place, store, ("", ""), &mut told)?;
+    out.put(&[told.whole()?.as_str(), ", "]);
+    Ok(true)
 }
 
-/// The same in a fresh place, after these steps.
-fn try_at(alloc: Global, steps: &str, verb: &str, number: u64) -> Result<String, Fail> {
+/// The same at a place that is prepared, after these steps.
+fn try_in(
+    alloc: Global,
+    place: &mut Memory<Mini>,
+    steps: &str,
+    verb: &str,
+    number: u64,
+    out: &mut Shown,
+) -> Result<bool, Fail> {
+    let mut store = begin(alloc, place)?;
+    make_steps(alloc, place, &mut store, steps, &mut Shown::new(alloc))?;
+    fail_at(alloc, place, &mut store, verb, number, out)
+}
+
+/// The same in a fresh place.
+fn try_at(
+    alloc: Global,
+    steps: &str,
+    verb: &str,
+    number: u64,
+    out: &mut Shown,
+) -> Result<bool, Fail> {
     let mut place = Memory::new(alloc, Mini);
-    prepare(alloc, &mut place)?;
-    let mut store = open(alloc, &mut place)?;
-    make_steps(alloc, &mut place, &mut store, steps)?;
-    fail_at(alloc, &mut place, &mut store, verb, number)
+    try_in(alloc, &mut place, steps, verb, number, out)
 }
 
 /// Lets each call of the place fail in turn, until none does.
-fn each_fails(alloc: Global, steps: &str, verb: &str) -> Result<String, Fail> {
-    let mut told = String::new(alloc);
+fn let_each_fail(alloc: Global, steps: &str, verb: &str, out: &mut Shown) -> Result<(), Fail> {
     for number in 1..100u64 {
-        let said = try_at(alloc, steps, verb, number)?;
-        if said.is_empty() {
-            return Ok(told);
+        if !try_at(alloc, steps, verb, number, out)? {
+            return Ok(());
         }
-        told.push_str(said.as_str())?;
     }
-    told.push_str("wrong: it does not end")?;
-    Ok(told)
+    Err(Fail::from("it does not end"))
 }
 
 /// Steps, the call that is then made, and what its faults are and what differs after each.
@@ -93,8 +107,9 @@ const TRIALS: &[(&str, &str, &str)] = &[
 
 /// Whether the faults are these.
 fn fails_so(alloc: Global, steps: &str, verb: &str, told: &str) -> Result<bool, Fail> {
-    let said = each_fails(alloc, steps, verb)?;
-    Ok(said.as_str() == told)
+    let mut out = Shown::new(alloc);
+    let_each_fail(alloc, steps, verb, &mut out)?;
+    Ok(out.says(told))
 }
 
 #[test]

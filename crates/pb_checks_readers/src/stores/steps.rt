@@ -1,53 +1,106 @@
 //! Steps in words: files and variables that change, calls of the store, and what they tell.
 
+ghost use Rattle.std.specs.Prelude.{◌≡◌, true, Some};
+ghost use Rattle.pb_record.specs.Sorted.{are_sorted};
+ghost use Rattle.pb_soundness.specs.Records.{is_key, out_of};
+
 use crate::stores::units::{command_with, ended, input_names, needs, own_command, own_key};
-use crate::stores::world::{put_file, put_first, replaced, take_away, text_at};
-use pb_data::Items;
+use crate::stores::world::{prepare, put_file, put_first, replaced, take_away, text_at};
+use pb_checks_files::Shown;
+use pb_data::{Items, Text};
 use pb_mini::Mini;
 use pb_place::{Command, Memory, PathText};
 use pb_record::InputName;
-use pb_store::{Compared, Replayed, Store};
-use std::alloc::Global;
+use pb_store::{Compared, OpenFault, Replayed, Store, StoreFault};
+use std::alloc::{AllocError, Global};
 use std::test::Fail;
 
-/// Opens the store of the profile folder.
-pub fn open(alloc: Global, place: &mut Memory<Mini>) -> Result<Store, Fail> {
+/// Prepares a place, and opens the store of its profile folder.
+pub fn begin(alloc: Global, place: &mut Memory<Mini>) -> Result<Store, Fail> {
+    prepare(alloc, place)?;
     let folder = PathText::parse(alloc, "/t/debug")?;
     let store = Store::open(alloc, place, folder)?;
     Ok(store)
 }
 
-/// The next number of a store.
-fn next_of(alloc: Global, store: &Store) -> Result<String, Fail> {
-    let told = match store.next {
-        Some(number) => format!(in alloc; "next {number}")?,
-        None => String::from_str(alloc, "spent")?,
-    };
-    Ok(told)
-}
-
-/// What opening the store tells.
-fn tell_open(alloc: Global, place: &mut Memory<Mini>) -> Result<String, Fail> {
-    let folder = PathText::parse(alloc, "/t/debug")?;
-    match Store::open(alloc, place, folder) {
-        Ok(store) => next_of(alloc, &store),
-        Err(fault) => Ok(format!(in alloc; "{fault}")?),
+/// Puts what opening the store told: the next number, where one is left.
+fn put_opened(out: &mut Shown, answer: &Result<Store, OpenFault>) {
+    match answer {
+        Ok(store) => match store.next {
+            Some(number) => {
+                out.put(&["next "]);
+                out.put_number(number);
+            }
+            None => out.put(&["spent"]),
+        },
+        Err(fault) => out.put_words(fault),
     }
 }
 
-/// What differs of the unit for a command.
+/// What opening the store tells.
+fn tell_open(alloc: Global, place: &mut Memory<Mini>, out: &mut Shown) -> Result<(), Fail> {
+    let folder = PathText::parse(alloc, "/t/debug")?;
+    put_opened(out, &Store::open(alloc, place, folder));
+    Ok(())
+}
+
+/// Puts what is given again, in words: the streams, the status, and whether the record has a number.
+fn put_replayed(out: &mut Shown, again: &Replayed) {
+    let stdout = str::from_utf8(again.ended.stdout.as_slice()).unwrap_or("wrong");
+    let stderr = str::from_utf8(again.ended.stderr.as_slice()).unwrap_or("wrong");
+    out.put(&[stdout, " ", stderr, " "]);
+    out.put_words(&again.ended.status);
+    out.put(&[if again.numbered {
+        " numbered"
+    } else {
+        " without number"
+    }]);
+}
+
+/// Puts what differs, or that it is the same, or what is given again then.
+fn put_compared(out: &mut Shown, answer: &Result<Compared, StoreFault>, is_replayed: bool) {
+    match answer {
+        Ok(Compared::Differs(difference)) => out.put_words(difference),
+        Ok(Compared::Same(again)) => {
+            if is_replayed {
+                put_replayed(out, again);
+            } else {
+                out.put(&["same"]);
+            }
+        }
+        Err(fault) => out.put_words(fault),
+    }
+}
+
+/// What differs of the unit for a command, or what its record gives again.
 fn tell_difference(
     alloc: Global,
     place: &mut Memory<Mini>,
     store: &Store,
     command: &Command,
-) -> Result<String, Fail> {
+    is_replayed: bool,
+    out: &mut Shown,
+) -> Result<(), AllocError> {
     let key = own_key(alloc)?;
-    match store.differs(alloc, place, &key, command) {
-        Ok(Compared::Differs(difference)) => Ok(format!(in alloc; "{difference}")?),
-        Ok(Compared::Same(_)) => Ok(String::from_str(alloc, "same")?),
-        Err(fault) => Ok(format!(in alloc; "{fault}")?),
-    }
+    put_compared(
+        out,
+        &store.differs(alloc, place, &key, command),
+        is_replayed,
+    );
+    Ok(())
+}
+
+/// The same for its command with something put in place of something in it.
+fn tell_compared(
+    alloc: Global,
+    place: &mut Memory<Mini>,
+    store: &Store,
+    change: (&str, &str),
+    is_replayed: bool,
+    out: &mut Shown,
+) -> Result<(), Fail> {
+    let command = command_with(alloc, change.0, change.1)?;
+    Ok(tell_difference(alloc, place, store, &command, is_replayed, out)?)
 }
 
 /// What differs of the unit for its command with something put in place of something in it.
@@ -55,47 +108,72 @@ pub fn tell_differs(
     alloc: Global,
     place: &mut Memory<Mini>,
     store: &Store,
-    old: &str,
-    new: &str,
-) -> Result<String, Fail> {
-    let command = command_with(alloc, old, new)?;
-    tell_difference(alloc, place, store, &command)
+    change: (&str, &str),
+    out: &mut Shown,
+) -> Result<(), Fail> {
+    tell_compared(alloc, place, store, change, false, out)
 }
 
-/// What dropping the unit's record tells.
-fn tell_drop(alloc: Global, place: &mut Memory<Mini>, store: &mut Store) -> Result<String, Fail> {
-    let key = own_key(alloc)?;
-    match store.drop_record(alloc, place, &key) {
-        Ok(number) => Ok(format!(in alloc; "dropped {number}")?),
-        Err(fault) => Ok(format!(in alloc; "{fault}")?),
+/// Puts what an answer tells: this where it is good.
+fn put_done(out: &mut Shown, answer: &Result<(), StoreFault>, good: &str) {
+    match answer {
+        Ok(()) => out.put(&[good]),
+        Err(fault) => out.put_words(fault),
     }
 }
 
-/// What keeping the unit's record tells, with these inputs.
+/// Puts what dropping a record told.
+fn put_dropped(out: &mut Shown, answer: &Result<u64, StoreFault>) {
+    match answer {
+        Ok(number) => {
+            out.put(&["dropped "]);
+            out.put_number(*number);
+        }
+        Err(fault) => out.put_words(fault),
+    }
+}
+
+/// What dropping the unit's record tells.
+fn tell_drop(
+    alloc: Global,
+    place: &mut Memory<Mini>,
+    store: &mut Store,
+    out: &mut Shown,
+) -> Result<(), AllocError> {
+    let key = own_key(alloc)?;
+    put_dropped(out, &store.drop_record(alloc, place, &key));
+    Ok(())
+}
+
+/// What keeping the record of a command tells.
 fn tell_kept(
     alloc: Global,
     place: &mut Memory<Mini>,
     store: &Store,
     number: u64,
-    names: &[InputName],
-) -> Result<String, Fail> {
-    let key = own_key(alloc)?;
-    let command = own_command(alloc, &store.folder, &key)?;
+    key: &Text,
+    command: &Command,
+    out: &mut Shown,
+) -> Result<(), Fail>
+    requires key { is_key key.now ≡ true }
+    requires out { command.now.out ≡ Some (out_of store.now.folder key.now) }
+    requires sorted { are_sorted command.now.pairs ≡ true }
+{
     let needs = needs(alloc)?;
+    let names: Items<InputName> = input_names(alloc)?;
     let ended = ended(alloc)?;
-    match store.keep(
+    let answer = store.keep(
         alloc,
         place,
-        &key,
+        key,
         number,
-        &command,
+        command,
         needs.as_slice(),
-        names,
+        names.as_slice(),
         &ended,
-    ) {
-        Ok(()) => Ok(String::from_str(alloc, "kept")?),
-        Err(fault) => Ok(format!(in alloc; "{fault}")?),
-    }
+    );
+    put_done(out, &answer, "kept");
+    Ok(())
 }
 
 /// What keeping the unit's record tells.
@@ -104,39 +182,12 @@ fn tell_keep(
     place: &mut Memory<Mini>,
     store: &Store,
     number: &str,
-) -> Result<String, Fail> {
-    let names: Items<InputName> = input_names(alloc)?;
-    tell_kept(
-        alloc,
-        place,
-        store,
-        number.parse::<u64>().unwrap_or(0),
-        names.as_slice(),
-    )
-}
-
-/// What is given again, in words: the streams, the status, and whether the record has a number.
-fn replay_words(alloc: Global, again: &Replayed) -> Result<String, Fail> {
-    let stdout = str::from_utf8(again.ended.stdout.as_slice()).unwrap_or("wrong");
-    let stderr = str::from_utf8(again.ended.stderr.as_slice()).unwrap_or("wrong");
-    let status = again.ended.status;
-    let numbered = if again.numbered {
-        "numbered"
-    } else {
-        "without number"
-    };
-    Ok(format!(in alloc; "{stdout} {stderr} {status} {numbered}")?)
-}
-
-/// What the unit's record gives again, or what differs from it.
-fn tell_replay(alloc: Global, place: &mut Memory<Mini>, store: &Store) -> Result<String, Fail> {
+    out: &mut Shown,
+) -> Result<(), Fail> {
     let key = own_key(alloc)?;
-    let command = command_with(alloc, "", "")?;
-    match store.differs(alloc, place, &key, &command) {
-        Ok(Compared::Same(again)) => replay_words(alloc, &again),
-        Ok(Compared::Differs(difference)) => Ok(format!(in alloc; "{difference}")?),
-        Err(fault) => Ok(format!(in alloc; "{fault}")?),
-    }
+    let command = own_command(alloc, &store.folder, &key)?;
+    let number = number.parse::<u64>().unwrap_or(0);
+    tell_kept(alloc, place, store, number, &key, &command, out)
 }
 
 /// What migrating the unit's record tells.
@@ -144,13 +195,16 @@ fn tell_migrate(
     alloc: Global,
     place: &mut Memory<Mini>,
     store: &mut Store,
-) -> Result<String, Fail> {
+    out: &mut Shown,
+) -> Result<(), AllocError> {
     let key = own_key(alloc)?;
     let needs = needs(alloc)?;
-    match store.migrate(alloc, place, &key, needs.as_slice()) {
-        Ok(()) => Ok(String::from_str(alloc, "migrated")?),
-        Err(fault) => Ok(format!(in alloc; "{fault}")?),
-    }
+    put_done(
+        out,
+        &store.migrate(alloc, place, &key, needs.as_slice()),
+        "migrated",
+    );
+    Ok(())
 }
 
 /// Puts something in place of something in a file.
@@ -193,25 +247,30 @@ fn change(
     }
 }
 
-/// What a call of the store tells, in words; nothing where the word is none of a call.
+/// Puts what a call of the store tells, in words. Whether the word is one of a call. `spent` leaves the store no number.
 pub fn call(
     alloc: Global,
     place: &mut Memory<Mini>,
     store: &mut Store,
     verb: &str,
-    first: &str,
-    second: &str,
-) -> Result<String, Fail> {
+    words: (&str, &str),
+    out: &mut Shown,
+) -> Result<bool, Fail> {
     match verb {
-        "open" => tell_open(alloc, place),
-        "differs" => tell_differs(alloc, place, store, first, second),
-        "drop" => tell_drop(alloc, place, store),
-        "keep" => tell_keep(alloc, place, store, first),
-        "replay" => tell_replay(alloc, place, store),
-        "migrate" => tell_migrate(alloc, place, store),
-        "show" => text_at(alloc, place, first),
-        _ => Ok(String::new(alloc)),
+        "open" => tell_open(alloc, place, out)?,
+        "differs" => tell_differs(alloc, place, store, words, out)?,
+        "drop" => tell_drop(alloc, place, store, out)?,
+        "keep" => tell_keep(alloc, place, store, words.0, out)?,
+        "replay" => tell_compared(alloc, place, store, ("", ""), true, out)?,
+        "migrate" => tell_migrate(alloc, place, store, out)?,
+        "show" => out.put(&[text_at(alloc, place, words.0)?.as_str()]),
+        "spent" => {
+            store.next = None;
+            return Ok(false);
+        }
+        _ => return Ok(false),
     }
+    Ok(true)
 }
 
 /// One step.
@@ -220,7 +279,7 @@ fn step(
     place: &mut Memory<Mini>,
     store: &mut Store,
     line: &str,
-    told: &mut String,
+    out: &mut Shown,
 ) -> Result<(), Fail> {
     let mut words = line.split(' ');
     let verb = words.next().unwrap_or("");
@@ -228,10 +287,8 @@ fn step(
     let second = words.next().unwrap_or("");
     let third = words.next().unwrap_or("");
     change(alloc, place, verb, first, second, third)?;
-    let said = call(alloc, place, store, verb, first, second)?;
-    if !said.is_empty() {
-        told.push_str(said.as_str())?;
-        told.push_str(", ")?;
+    if call(alloc, place, store, verb, (first, second), out)? {
+        out.put(&[", "]);
     }
     Ok(())
 }
@@ -242,10 +299,10 @@ pub fn make_steps(
     place: &mut Memory<Mini>,
     store: &mut Store,
     steps: &str,
-) -> Result<String, Fail> {
-    let mut told = String::new(alloc);
+    out: &mut Shown,
+) -> Result<(), Fail> {
     for line in steps.lines() {
-        step(alloc, place, store, line, &mut told)?;
+        step(alloc, place, store, line, out)?;
     }
-    Ok(told)
+    Ok(())
 }

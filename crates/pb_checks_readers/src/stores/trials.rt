@@ -1,28 +1,34 @@
 //! Trials: steps on a profile folder, and what they tell.
 
-use crate::stores::steps::{make_steps, open};
-use crate::stores::world::prepare;
+use crate::stores::steps::{begin, make_steps};
+use pb_checks_files::Shown;
 use pb_mini::Mini;
 use pb_place::Memory;
 use std::alloc::Global;
 use std::test::Fail;
 
-/// What steps on a fresh profile folder tell. A step `open` opens a store beside the one of the trial.
-fn tried(alloc: Global, steps: &str) -> Result<String, Fail> {
-    let mut place = Memory::new(alloc, Mini);
-    prepare(alloc, &mut place)?;
-    let mut store = open(alloc, &mut place)?;
-    make_steps(alloc, &mut place, &mut store, steps)
+/// Puts what steps on a fresh profile folder at a place tell. A step `open` opens a store beside the one of the trial.
+fn try_at(
+    alloc: Global,
+    place: &mut Memory<Mini>,
+    steps: &str,
+    out: &mut Shown,
+) -> Result<(), Fail> {
+    let mut store = begin(alloc, place)?;
+    make_steps(alloc, place, &mut store, steps, out)
 }
 
-/// Whether steps tell this.
+/// Whether steps tell this at a place of their own.
 fn tells(alloc: Global, steps: &str, told: &str) -> Result<bool, Fail> {
-    let said = tried(alloc, steps)?;
-    Ok(said.as_str() == told)
+    let mut place = Memory::new(alloc, Mini);
+    let mut out = Shown::new(alloc);
+    try_at(alloc, &mut place, steps, &mut out)?;
+    Ok(out.says(told))
 }
 
-/// What differs first, for both formats.
-const DIFFERENCES: &[(&str, &str)] = &[
+/// Steps, and what they tell.
+const TRIALS: &[(&str, &str)] = &[
+    // What differs first, for both formats.
     ("differs", "same, "),
     ("file /w/a fm\ndiffers", "`/w/a` has changed, "),
     ("file /w/a fnx\ndiffers", "`/w/a` has changed, "),
@@ -152,19 +158,7 @@ const DIFFERENCES: &[(&str, &str)] = &[
         "first\nfile /w/a fm\nfile /t/debug/b.target.lib/b.lib C\ndiffers A B\ndiffers\nfile /w/a fn\ndiffers",
         "the variable `A` that its command sets has changed, `/w/a` has changed, `b.target.lib` was built anew, ",
     ),
-];
-
-#[test]
-fn differences_are_told(rt: HostRuntime) -> Result<(), Fail> {
-    for case in DIFFERENCES {
-        let (steps, told) = *case;
-        assert!(rt; tells(rt.alloc(), steps, told)?, "{steps}");
-    }
-    Ok(())
-}
-
-/// The next number, of folders with records of both formats and with names that are no records.
-const NUMBERS: &[(&str, &str)] = &[
+    // The next number, of folders with records of both formats and with names that are no records.
     ("open", "next 8, "),
     ("gone /t/debug/a.target.lib.record\nopen", "next 4, "),
     ("gone /t\nopen", "next 1, "),
@@ -216,19 +210,7 @@ const NUMBERS: &[(&str, &str)] = &[
         "spent, ",
     ),
     ("drop\ndrop\nopen", "dropped 8, dropped 9, next 4, "),
-];
-
-#[test]
-fn numbers_are_next(rt: HostRuntime) -> Result<(), Fail> {
-    for case in NUMBERS {
-        let (steps, told) = *case;
-        assert!(rt; tells(rt.alloc(), steps, told)?, "{steps}");
-    }
-    Ok(())
-}
-
-/// Records that are dropped, kept, given again and migrated.
-const RECORDS: &[(&str, &str)] = &[
+    // Records that are dropped, kept, given again and migrated.
     ("replay", "out err 0 numbered, "),
     ("first\nreplay", "out err 0 without number, "),
     (
@@ -271,52 +253,25 @@ const RECORDS: &[(&str, &str)] = &[
         "gone /t/debug/a.target.lib.record\nmigrate\ndiffers\ndrop",
         "migrated, nothing is kept of it, dropped 8, ",
     ),
-];
-
-#[test]
-fn records_come_and_go(rt: HostRuntime) -> Result<(), Fail> {
-    for case in RECORDS {
-        let (steps, told) = *case;
-        assert!(rt; tells(rt.alloc(), steps, told)?, "{steps}");
-    }
-    Ok(())
-}
-
-/// What the steps tell where the largest number was named when the store was opened.
-fn spent(alloc: Global, steps: &str) -> Result<String, Fail> {
-    let mut place = Memory::new(alloc, Mini);
-    prepare(alloc, &mut place)?;
-    let mut store = open(alloc, &mut place)?;
-    store.next = None;
-    make_steps(alloc, &mut place, &mut store, steps)
-}
-
-/// Steps where no number is left.
-const SPENT: &[(&str, &str)] = &[
+    // No number is left.
     (
-        "drop\nreplay",
+        "spent\ndrop\nreplay",
         "no run number is left, out err 0 numbered, ",
     ),
-    ("gone /t\ndrop", "no run number is left, "),
+    ("spent\ngone /t\ndrop", "no run number is left, "),
     (
-        "first\nmigrate\ndiffers\nopen",
+        "spent\nfirst\nmigrate\ndiffers\nopen",
         "no run number is left, same, next 4, ",
     ),
-    ("migrate\ndiffers", "migrated, same, "),
-    ("gone /t\nmigrate", "migrated, "),
+    ("spent\nmigrate\ndiffers", "migrated, same, "),
+    ("spent\ngone /t\nmigrate", "migrated, "),
 ];
 
-/// Whether steps tell this where no number is left.
-fn tells_spent(alloc: Global, steps: &str, told: &str) -> Result<bool, Fail> {
-    let said = spent(alloc, steps)?;
-    Ok(said.as_str() == told)
-}
-
 #[test]
-fn spent_numbers_are_told(rt: HostRuntime) -> Result<(), Fail> {
-    for case in SPENT {
+fn trials(rt: HostRuntime) -> Result<(), Fail> {
+    for case in TRIALS {
         let (steps, told) = *case;
-        assert!(rt; tells_spent(rt.alloc(), steps, told)?, "{steps}");
+        assert!(rt; tells(rt.alloc(), steps, told)?, "{steps}");
     }
     Ok(())
 }

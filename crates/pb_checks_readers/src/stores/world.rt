@@ -1,5 +1,6 @@
 //! A profile folder in memory: a unit that was built over another one, with all as it was then.
 
+use pb_checks_files::Shown;
 use pb_data::Bytes;
 use pb_mini::Mini;
 use pb_place::{Memory, PathText};
@@ -83,26 +84,22 @@ pub fn text_at(alloc: Global, place: &Memory<Mini>, path: &str) -> Result<String
 pub fn replaced(alloc: Global, text: &str, old: &str, new: &str) -> Result<String, AllocError> {
     let old = with_line_feeds(alloc, old)?;
     let new = with_line_feeds(alloc, new)?;
-    let mut made = String::new(alloc);
+    let mut made = Shown::new(alloc);
     match text.split_once(old.as_str()) {
-        Some((before, behind)) => {
-            made.push_str(before)?;
-            made.push_str(new.as_str())?;
-            made.push_str(behind)?;
-        }
-        None => made.push_str(text)?,
+        Some((before, behind)) => made.put(&[before, new.as_str(), behind]),
+        None => made.put(&[text]),
     }
-    Ok(made)
+    made.whole()
 }
 
 /// A text with a line feed in place of each `_`.
 fn with_line_feeds(alloc: Global, text: &str) -> Result<String, AllocError> {
-    let mut made = String::new(alloc);
+    let mut made = Shown::new(alloc);
     for (number, part) in text.split('_').enumerate() {
         if number > 0 {
-            made.push_str("\n")?;
+            made.put(&["\n"]);
         }
-        made.push_str(part)?;
+        made.put(&[part]);
     }
-    Ok(made)
+    made.whole()
 }

@@ -1,0 +1,82 @@
+//! Texts that are put together.
+
+use pb_data::Text;
+use std::alloc::{AllocError, Global};
+use std::fmt::{Debug, Display, Write};
+
+/// A text that is put together. Where memory is refused, the end of it tells so.
+#[derive(Drop)]
+pub struct Shown {
+    /// What stands there.
+    text: String,
+    /// Whether memory was refused to a part.
+    lacks: bool,
+}
+
+impl Shown {
+    /// An empty one.
+    pub fn new(alloc: Global) -> Shown {
+        Shown {
+            text: String::new(alloc),
+            lacks: false,
+        }
+    }
+
+    /// Whether nothing stands there.
+    pub fn is_empty(&self) -> bool {
+        self.text.is_empty()
+    }
+
+    /// Whether this is the whole text.
+    pub fn says(&self, wanted: &str) -> bool {
+        !self.lacks && self.text.as_str() == wanted
+    }
+
+    /// Puts texts one after another.
+    pub fn put(&mut self, texts: &[&str]) {
+        for text in texts {
+            if self.text.push_str(*text).is_err() {
+                self.lacks = true;
+            }
+        }
+    }
+
+    /// Puts a value as `Debug` writes it.
+    pub fn put_value<T: Debug>(&mut self, value: &T) {
+        if write!(self.text, "{value:?}").is_err() {
+            self.lacks = true;
+        }
+    }
+
+    /// Puts a value in words.
+    pub fn put_words<T: Display>(&mut self, value: &T) {
+        if write!(self.text, "{value}").is_err() {
+            self.lacks = true;
+        }
+    }
+
+    /// Puts a number.
+    pub fn put_number(&mut self, number: u64) {
+        self.put_words(&number);
+    }
+
+    /// Puts `NAME<FIRST><SECOND>`.
+    pub fn put_call(&mut self, name: &str, first: &str, second: &str) {
+        self.put(&[name, "<", first, "><", second, ">"]);
+    }
+
+    /// Puts texts, each between these two.
+    pub fn put_each(&mut self, before: &str, texts: &[Text], behind: &str) {
+        for text in texts {
+            self.put(&[before, text.as_str(), behind]);
+        }
+    }
+
+    /// The whole text.
+    pub fn whole(self) -> Result<String, AllocError> {
+        if self.lacks {
+            return Err(AllocError);
+        }
+        Ok(self.text)
+    }
+}
