@@ -61,6 +61,21 @@ abbrev pub Course : Answers → List SessionStep → Point → Point → Type 0
 Course child [] before after = after ≡ before
 Course child (step ∷ steps) before after = (mid : Point) × Carries child step before mid × Course child steps mid after
 
+-- memory was refused at a step: of a build, which had ended, the answer is not noted; of another step nothing came
+abbrev pub Loses : Answers → SessionStep → Point → Moment → Type 0
+Loses child (Write path text) before left = left ≡ before.moment
+Loses child (Remove path) before left = left ≡ before.moment
+Loses child (Set name value) before left = left ≡ before.moment
+Loses child (Unset name) before left = left ≡ before.moment
+Loses child (Die key death) before left = left ≡ before.moment
+Loses child (Fuse number) before left = left ≡ before.moment
+Loses child (Build options pick) before left = (ended : Point) × Carries child (Build options pick) before ended × (left ≡ ended.moment)
+
+-- memory was refused at one of the steps, and those before it were taken in turn
+abbrev pub Breaks : Answers → List SessionStep → Point → Moment → Type 0
+Breaks child steps before left =
+    (done : List SessionStep) × (step : SessionStep) × (rest : List SessionStep) × (steps ≡ done ++ step ∷ rest) × (mid : Point) × Course child done before mid × Loses child step mid left
+
 -- what an edit makes of the world; other steps are none
 abbrev pub edit : SessionStep → World → World
 edit (Write path text) w = written path text w

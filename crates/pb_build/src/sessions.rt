@@ -1,11 +1,11 @@
 //! Sessions in memory: edits and builds, one after another.
 
-ghost use Rattle.std.specs.Prelude.{◌≡◌, [], true, IfOk, OnOk};
+ghost use Rattle.std.specs.Prelude.{◌≡◌, [], true, IfOk, OnOk, OnErr};
 ghost use Rattle.pb_session.specs.declared.step.SessionStep.TheVariants.{Build};
 ghost use Rattle.pb_build.specs.Environment.{environment_of};
 ghost use Rattle.pb_build.specs.Headline.{Headline};
 ghost use Rattle.pb_build.specs.Kept.{SourcesStay};
-ghost use Rattle.pb_build.specs.Session.{Picked, ByPicked, Carries, Course, point};
+ghost use Rattle.pb_build.specs.Session.{Picked, ByPicked, Carries, Course, Loses, Breaks, point};
 ghost use Rattle.pb_place.specs.Memory.{counts_in};
 ghost use Rattle.pb_turns.specs.Moments.{moment};
 
@@ -59,6 +59,7 @@ fn add_build<C: Child, O: Out>(
     requires none { (counts_in memory.old).starts.flying ≡ [] }
     ensures taken { OnOk result (Carries C.answers (Build options.now pick) (point memory.old (O.taken out.old) (O.faults out.old) answers.old) (point memory.new (O.taken out.new) (O.faults out.new) answers.new)) }
     ensures none { OnOk result ((counts_in memory.new).starts.flying ≡ []) }
+    ensures lost { OnErr result (Loses C.answers (Build options.now pick) (point memory.old (O.taken out.old) (O.faults out.old) answers.old) (moment memory.new.world (counts_in memory.new) memory.new.most (O.taken out.new) (O.faults out.new))) }
 {
     let result = built(alloc, memory, out, options, pick);
     memory.fuse(0);
@@ -77,6 +78,7 @@ fn take_step<C: Child, O: Out>(
     requires none { (counts_in memory.old).starts.flying ≡ [] }
     ensures taken { OnOk result (Carries C.answers step.now (point memory.old (O.taken out.old) (O.faults out.old) answers.old) (point memory.new (O.taken out.new) (O.faults out.new) answers.new)) }
     ensures none { OnOk result ((counts_in memory.new).starts.flying ≡ []) }
+    ensures lost { OnErr result (Loses C.answers step.now (point memory.old (O.taken out.old) (O.faults out.old) answers.old) (moment memory.new.world (counts_in memory.new) memory.new.most (O.taken out.new) (O.faults out.new))) }
 {
     match step {
         SessionStep::Write(path, text) => memory.put(alloc, path, text.as_bytes()),
@@ -98,7 +100,8 @@ fn light<C: Child>(memory: &mut Memory<C>, number: u64) -> Result<(), AllocError
 }
 
 /// Takes steps in turn over a place in memory where no child is in flight, and gives an answer for each build. The message lines of all builds go
-/// to one sink. The one fault is want of memory outside a build; within one it is that build's answer.
+/// to one sink. The one fault is want of memory outside a build; within one it is that build's answer. Where memory is
+/// refused at a step, those before it were taken; of a build its end stands, and nothing came of another step.
 ///
 /// Each build ends as `build` says, in the world that the steps before it have left, and its cause is told with it.
 pub fn session<C: Child, O: Out>(
@@ -108,7 +111,8 @@ pub fn session<C: Child, O: Out>(
     steps: &[SessionStep],
 ) -> Result<Items<Answer>, AllocError>
     requires none { (counts_in memory.old).starts.flying ≡ [] }
-    ensures { IfOk result (λ answers. Course C.answers steps.now (point memory.old (O.taken out.old) (O.faults out.old) []) (point memory.new (O.taken out.new) (O.faults out.new) answers)) }
+    ensures taken { IfOk result (λ answers. Course C.answers steps.now (point memory.old (O.taken out.old) (O.faults out.old) []) (point memory.new (O.taken out.new) (O.faults out.new) answers)) }
+    ensures broken { OnErr result (Breaks C.answers steps.now (point memory.old (O.taken out.old) (O.faults out.old) []) (moment memory.new.world (counts_in memory.new) memory.new.most (O.taken out.new) (O.faults out.new))) }
 {
     let mut answers = Items::new(alloc);
     for step in steps {

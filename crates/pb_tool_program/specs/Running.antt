@@ -1,5 +1,5 @@
 -- What the whole program does: what its words ask for is done, and nothing else.
-use Rattle.std.specs.Prelude.{◌≡◌, ◌⊎◌, ℕ, Bool, if◌then◌else◌, List, Option, Some, None, IsTrue, IfOk, Result, Ok, Err}
+use Rattle.std.specs.Prelude.{◌≡◌, ◌⊎◌, ℕ, Bool, true, false, if◌then◌else◌, List, Option, Some, None, IsTrue, IfOk, Result, Ok, Err}
 use Rattle.std.specs.FinMap as map
 use Rattle.pb_place.specs.Counts.{counted}
 use Rattle.pb_place.specs.World.{Answers}
@@ -13,15 +13,16 @@ use Rattle.pb_session.specs.Sessions.{session_of}
 use Rattle.pb_session.specs.declared.fault.BadSession.TheVariants.{BadForm}
 use Rattle.pb_turns.specs.Moments.{Heard, Moment}
 use Rattle.pb_tool_program.specs.Building.{BuildsTold}
-use Rattle.pb_tool_program.specs.Session.{Refused, SessionWritten}
+use Rattle.pb_tool_program.specs.Session.{Refused, SessionStopped, SessionWritten}
 use Rattle.pb_tool_program.specs.Writing.{Writes, Tells}
 
 -- Sessions.
 
--- the session of these bytes was run: with status 0 its lines were written and nothing was said beside them; with 1 it is told to be bad
+-- the session of these bytes was run: with status 0 its lines were written and nothing was said beside them; with 1 it is told to be bad, and of its lines only those were written that came before memory was refused or the sink failed
 pub record RunsSession (bytes : List ℕ) (status : ℕ) (old new said_before said_after : Heard) : Type 0 where
   pub ends : (status ≡ 0) ⊎ (status ≡ 1)
-  pub written : status ≡ 0 → SessionWritten bytes old new.taken
+  pub written : status ≡ 0 → SessionWritten true bytes old new
+  pub cut : status ≡ 1 → SessionStopped bytes old new ⊎ SessionWritten false bytes old new
   pub quiet : status ≡ 0 → said_after ≡ said_before
   pub untouched : session_of bytes ≡ Err BadForm → new ≡ old
   pub told : status ≡ 1 → Refused said_before.taken said_after.taken said_before.faults said_after.faults

@@ -1,16 +1,17 @@
 -- What the session program says of its input, and how it ends.
-use Rattle.std.specs.Prelude.{◌≡◌, ◌⊎◌, ℕ, codes, List, [], ◌∷◌, ◌++◌, take, Option, Ok}
+use Rattle.std.specs.Prelude.{◌≡◌, ◌⊎◌, ℕ, Bool, codes, List, [], ◌∷◌, ◌++◌, take, Option, Ok}
 use Rattle.std.specs.Io.KnownBytes.{Appends}
 use Rattle.std.specs.FinMap as map
 use Rattle.pb_mini.specs.Answer.{answered}
 use Rattle.pb_place.specs.Counts.{up, no_calls}
 use Rattle.pb_place.specs.World.{Answers}
-use Rattle.pb_turns.specs.Moments.{Heard}
-use Rattle.pb_build.specs.Session.{Point, Course}
+use Rattle.pb_turns.specs.Moments.{Heard, Moment}
+use Rattle.pb_build.specs.Session.{Point, Course, Breaks}
 use Rattle.pb_build.specs.declared.sessions.Answer.{Answer}
 use Rattle.pb_answer.specs.ResultLine.{result_line}
 use Rattle.pb_session.specs.Sessions.{session_of}
 use Rattle.pb_session.specs.declared.step.SessionStep.{SessionStep}
+use Rattle.pb_tool_program.specs.Writing.{Writes}
 
 -- what is told of a bad session
 abbrev pub bad_session : List ℕ
@@ -33,10 +34,20 @@ small_compiler c w = answered c.words c.pairs w
 abbrev pub at_first : Heard → Point
 at_first heard = record { moment = record { world = record { files = map.empty; variables = map.empty }; counts = no_calls; most = 0; heard = heard }; answers = [] }
 
--- the message lines of the steps' builds, one build after another, and then a result line for each
-abbrev pub Written : List SessionStep → Heard → Option (List ℕ) → Type 0
-Written steps before after = (end : Point) × Course small_compiler steps (at_first before) end × Appends end.moment.heard.taken after (lines_of end.answers)
+-- the steps were taken in turn, the message lines of one build after those of another; and then a result line for each was written, all of these lines or the first bytes of them, at which the sink failed
+abbrev pub Written : Bool → List SessionStep → Heard → Heard → Type 0
+Written whole steps before after = (end : Point) × Course small_compiler steps (at_first before) end × Writes whole (lines_of end.answers) end.moment.heard after
 
 -- the bytes say a session, and its lines were written
-abbrev pub SessionWritten : List ℕ → Heard → Option (List ℕ) → Type 0
-SessionWritten bytes before after = (steps : List SessionStep) × (session_of bytes ≡ Ok steps) × Written steps before after
+abbrev pub SessionWritten : Bool → List ℕ → Heard → Heard → Type 0
+SessionWritten whole bytes before after = (steps : List SessionStep) × (session_of bytes ≡ Ok steps) × Written whole steps before after
+
+-- memory was refused: at a step, and those before it were taken in turn; or behind the last, and no result line was written
+abbrev pub Stopped : List SessionStep → Heard → Heard → Type 0
+Stopped steps before after =
+    ((left : Moment) × Breaks small_compiler steps (at_first before) left × (after ≡ left.heard))
+    ⊎ ((end : Point) × Course small_compiler steps (at_first before) end × (after ≡ end.moment.heard))
+
+-- nothing was written; or the bytes say a session, which was run until memory was refused
+abbrev pub SessionStopped : List ℕ → Heard → Heard → Type 0
+SessionStopped bytes before after = (after ≡ before) ⊎ ((steps : List SessionStep) × (session_of bytes ≡ Ok steps) × Stopped steps before after)

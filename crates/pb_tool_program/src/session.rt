@@ -1,11 +1,10 @@
 //! The session program.
 
-ghost use Rattle.std.specs.Prelude.{◌≡◌, ◌⊎◌, ◌++◌, ℕ, Err, IfOk, IfErr, OnOk, OnErr, IsTrue, false, string_bytes};
-ghost use Rattle.std.specs.Io.KnownBytes.{Appends};
-ghost use Rattle.pb_place.specs.Counts.{up};
+ghost use Rattle.std.specs.Prelude.{◌≡◌, ◌⊎◌, ◌++◌, Err, IfOk, IfErr, OnOk, OnErr, true, false, string_bytes};
 ghost use Rattle.pb_session.specs.Sessions.{session_of};
 ghost use Rattle.pb_session.specs.declared.fault.BadSession.TheVariants.{BadForm};
-ghost use Rattle.pb_tool_program.specs.Session.{Refused, SessionWritten, lines_of};
+ghost use Rattle.pb_tool_program.specs.Session.{Refused, SessionStopped, SessionWritten, lines_of};
+ghost use Rattle.pb_tool_program.specs.Writing.{Writes};
 
 use pb_answer::result_line;
 use pb_build::{Answer, session};
@@ -42,8 +41,7 @@ pub fn write_results<O: Out>(
     answers: &[Answer],
     out: &mut O,
 ) -> Result<bool, AllocError>
-    ensures all { IfOk result (λ taken. IsTrue taken → Appends (O.taken out.old) (O.taken out.new) (lines_of answers.now)) }
-    ensures fault { IfOk result (λ taken. taken ≡ false → O.faults out.new ≡ up (O.faults out.old)) }
+    ensures written { IfOk result (λ whole. Writes whole (lines_of answers.now) record { taken = O.taken out.old; faults = O.faults out.old } record { taken = O.taken out.new; faults = O.faults out.new }) }
     ensures memory { OnErr result (out.new ≡ out.old) }
 {
     let lines = result_lines(alloc, answers)?;
@@ -52,9 +50,9 @@ pub fn write_results<O: Out>(
 
 /// Runs a session and writes its lines. Whether all result lines were written.
 fn carry_out<O: Out>(alloc: Global, bytes: &[u8], out: &mut O) -> Result<bool, BadSession>
-    ensures written { IfOk result (λ whole. IsTrue whole → SessionWritten bytes.now record { taken = O.taken out.old; faults = O.faults out.old } (O.taken out.new)) }
+    ensures written { IfOk result (λ whole. SessionWritten whole bytes.now record { taken = O.taken out.old; faults = O.faults out.old } record { taken = O.taken out.new; faults = O.faults out.new }) }
+    ensures stopped { OnErr result (SessionStopped bytes.now record { taken = O.taken out.old; faults = O.faults out.old } record { taken = O.taken out.new; faults = O.faults out.new }) }
     ensures bad { IfErr result (λ e. e ≡ BadForm → session_of bytes.now ≡ Err BadForm) }
-    ensures fault { IfOk result (λ whole. whole ≡ false → (before : ℕ) × (O.faults out.new ≡ up before)) }
     ensures untouched { session_of bytes.now ≡ Err BadForm → out.new ≡ out.old }
 {
     let steps = read_session(alloc, bytes)?;
@@ -70,17 +68,19 @@ fn carry_out<O: Out>(alloc: Global, bytes: &[u8], out: &mut O) -> Result<bool, B
 ///
 /// The status is 0, or 1 with `error: bad session` and a line feed on `err`: where the bytes are no session,
 /// of which nothing is run and nothing is written to `out`; where memory is refused outside a build; and
-/// where a result line cannot be written. A build that is refused or fails is no bad session: its result
-/// line says so.
+/// where a result line cannot be written. What `out` has then are the first of the session's lines, as far as it was run
+/// and the sink took them. A build that is refused or fails is no bad session: its result line says so.
 pub fn run_session<O: Out, E: Out>(alloc: Global, bytes: &[u8], out: &mut O, err: &mut E) -> u8
     ensures status { (result ≡ 0) ⊎ (result ≡ 1) }
-    ensures written { result ≡ 0 → SessionWritten bytes.now record { taken = O.taken out.old; faults = O.faults out.old } (O.taken out.new) }
+    ensures written { result ≡ 0 → SessionWritten true bytes.now record { taken = O.taken out.old; faults = O.faults out.old } record { taken = O.taken out.new; faults = O.faults out.new } }
+    ensures cut { result ≡ 1 → SessionStopped bytes.now record { taken = O.taken out.old; faults = O.faults out.old } record { taken = O.taken out.new; faults = O.faults out.new } ⊎ SessionWritten false bytes.now record { taken = O.taken out.old; faults = O.faults out.old } record { taken = O.taken out.new; faults = O.faults out.new } }
     ensures untouched { session_of bytes.now ≡ Err BadForm → out.new ≡ out.old }
     ensures quiet { result ≡ 0 → err.new ≡ err.old }
     ensures told { result ≡ 1 → Refused (E.taken err.old) (E.taken err.new) (E.faults err.old) (E.faults err.new) }
 {
     match carry_out(alloc, bytes, out) {
         Ok(true) => 0,
-        _ => refuse(err),
+        Ok(false) => refuse(err),
+        Err(_) => refuse(err),
     }
 }

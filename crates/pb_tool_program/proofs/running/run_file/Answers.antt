@@ -11,6 +11,7 @@ returns-in-Ok-Some g c = record {
   comes = record {
     ends = c.run_session.ensures.status;
     written = c.run_session.ensures.written;
+    cut = c.run_session.ensures.cut;
     quiet = λ zero. ap (λ e. record { taken = g.E.Out.taken e; faults = g.E.Out.faults e }) (c.run_session.ensures.quiet zero);
     untouched = λ bad. ap (λ o. record { taken = g.O.Out.taken o; faults = g.O.Out.faults o }) (c.run_session.ensures.untouched bad);
     told = c.run_session.ensures.told;

@@ -1,0 +1,14 @@
+use Rattle.std.proofs.Common.{OnErr, sym, subst}
+use Rattle.pb_place.specs.Memory.{counts_in}
+use Rattle.pb_session.specs.declared.step.SessionStep.{SessionStep}
+use Rattle.pb_turns.specs.Moments.{moment}
+use Rattle.pb_build.specs.Session.{Loses, point}
+use Rattle.pb_build.proofs.sessions.take_step.Goals as goal
+
+pub returns-in-Build-clause-lost : goal.returns-in-Build-clause-lost
+returns-in-Build-clause-lost g c =
+    let memory = c.add_build.new.memory in
+    let out = c.add_build.new.out in
+    let before = point c.args.memory.now (g.O.Out.taken c.args.out.now) (g.O.Out.faults c.args.out.now) c.args.answers.now in
+    let left = moment memory.world (counts_in memory) memory.most (g.O.Out.taken out) (g.O.Out.faults out) in
+    subst (λ (s : SessionStep). OnErr c.add_build.result (Loses g.C.Child.answers s before left)) (sym c.in-Build.is) c.add_build.ensures.lost
