@@ -11,7 +11,7 @@
 #   ones, then the failing finish line; all other builds as they are;
 # - status 1, `error: bad session`, and the message lines of the first so many builds, whole: the memory was
 #   refused outside a build;
-# - status 101 and nothing else: it was refused before the command line was read.
+# - status 101 and `error: fault memory OutOfMemory` alone: it was refused before the command line was read.
 # A build behind one that ended so starts what that one has not: of later builds `fresh` and the keys of `started=` are
 # not compared. In sessions in which children die or calls fail, where such a failure then meets a later build, and in three
 # in which a later build reads what an earlier one has left, it is only looked at that each build is answered, with
@@ -36,6 +36,7 @@ from concurrent.futures import ThreadPoolExecutor
 program, folder, examples, every, workers = sys.argv[1:]
 FINISH, FAILED = b'{"reason":"build-finished"', b'{"reason":"build-finished","success":false}\n'
 MEMORY, BAD = b"fault memory OutOfMemory\n", b"error: bad session\n"
+BEFORE = (101, b"", b"error: " + MEMORY)
 
 
 def run(name, session):
@@ -87,7 +88,7 @@ def one_refused(printed):
     """What may come where one allocation is refused, by its name."""
     builds = builds_of(printed)
     assert told(builds) == printed
-    may = {(0, printed, b""): "right", (101, b"", b""): "before"}
+    may = {(0, printed, b""): "right", BEFORE: "before"}
     for at in range(len(builds) + 1):
         may[(1, lines_of(builds[:at]), BAD)] = "bad session"
     for at, (lines, _) in enumerate(builds):
@@ -100,7 +101,7 @@ def one_refused(printed):
 def all_refused(printed):
     """What may come where all allocations from one on are refused, by its name."""
     builds = builds_of(printed)
-    may = {(0, printed, b""): "right", (101, b"", b""): "before"}
+    may = {(0, printed, b""): "right", BEFORE: "before"}
     for at in range(len(builds) + 1):
         may[(1, lines_of(builds[:at]), BAD)] = "bad session"
         lines = builds[at][0] if at < len(builds) else []
@@ -124,7 +125,7 @@ class Answered:
             return "right" if written == self.printed else "memory"
         if status == 1 and said == BAD and len(lines) == len(messages):
             return "bad session"
-        return "before" if outcome == (101, b"", b"") else None
+        return "before" if outcome == BEFORE else None
 
 
 def summed(name, mode, came, may):
