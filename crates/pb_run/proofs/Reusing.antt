@@ -1,5 +1,5 @@
 -- A unit that answers by its record: what is kept of a build, and what another unit finds.
-use Rattle.std.proofs.Common.{◌≡◌, ◌∙◌, ℕ, true, false, List, Option, Some, None, All, refl, sym, ap, subst, inl, inr, slice_get, slice_index_or, slice_set}
+use Rattle.std.proofs.Common.{◌≡◌, ◌∙◌, ℕ, true, false, List, Option, Some, None, All, IsSome, refl, sym, ap, subst, inl, inr, slice_get, slice_index_or, slice_set}
 use Rattle.std.proofs.lemmas.Bool.{false≢true}
 use Rattle.std.proofs.lemmas.List.Elements.{Contains-get_or}
 use Rattle.std.specs.Option.{is_some, option_map}
@@ -124,6 +124,10 @@ no_child l o Fact is none = absurd (some_none (sym is ∙ none))
   where
     some_none : Some l ≡ None → ⊥
     some_none e = cc
+
+pub none_awaited : (o : Option Launched) (Fact : Type 0) → o ≡ None → IsSome o → Fact
+none_awaited None Fact is some = absurd (false≢true some)
+none_awaited (Some l) Fact is some = no_child l (Some l) Fact refl is
 
 module _ (b : Basis) (order : IsInOrder b.project) (i : ℕ) (u : Planned) (at : unit_at b.project i ≡ Some u) (key : List ℕ) (c : Command) (again : Replayed) (next : Option ℕ) (w : World)
     (flying : List ChildInFlight) (still : ℕ → Type 0) (states : List (State BadUnit)) (done : List (Option (List Directive))) (can : CanAnswer b states done i u (begun_with key c (awaited.Record again)) next w flying still) where

@@ -1,6 +1,6 @@
 //! A unit's run, in halves: it begins, with a child or without; it answers, or its answer is dropped. And both in turn.
 
-ghost use Rattle.std.specs.Prelude.{◌≡◌, ◌≢◌, ◌+◌, ℕ, true, false, List, Option, IsTrue, IfOk, IfSome, MatchOption, MatchResult, Some, None, max, length, is_some, slice_get, slice_set};
+ghost use Rattle.std.specs.Prelude.{◌≡◌, ◌≢◌, ◌+◌, ℕ, true, false, List, Option, IsTrue, IsSome, IfOk, IfSome, MatchOption, MatchResult, Some, None, max, length, is_some, slice_get, slice_set};
 ghost use Rattle.std.specs.FinMap as finite;
 ghost use Rattle.pb_command.specs.Command.{command_of};
 ghost use Rattle.pb_directive.specs.declared.directive.Directive.{Directive};
@@ -42,8 +42,8 @@ use std::alloc::Global;
 
 /// Begins the unit at a place of a plan, which has not begun, and all that it reaches has answered and is good: `done`
 /// holds what their runs said. Looks for what differs from the unit's record. Where something does, a run number is
-/// taken, the record is removed, the output folder is emptied and the unit's child is spawned, in this order; where
-/// nothing does, nothing is changed.
+/// taken, the record is removed, the output folder is emptied and the unit's child is spawned, in this order: no text
+/// counts as the unit's record then; where nothing does, or no run number is left, nothing is changed.
 ///
 /// Faults: Child, where the child cannot be spawned; Device, where a file, a folder or a variable cannot be read, the
 /// record or the folder cannot be removed, or no run number is left; OutOfMemory. Each has the unit's key, no call of
@@ -78,10 +78,12 @@ pub fn begin_unit<P: Place>(
     ensures spawned { IfOk result (λ made. is_some (child_of made.begun) ≡ is_some made.difference) }
     ensures only { IsTrue P.tells → ChangesOnly (is_of (records_folder project.now) unit.now.key) (P.world place.old) (P.world place.new) }
     ensures same { IsTrue P.tells → IfOk result (λ made. child_of made.begun ≡ None → P.world place.new ≡ P.world place.old) }
+    ensures dropped { (read : Reading) → IsTrue P.tells → IfOk result (λ made. IsSome (child_of made.begun) → record_at read (records_folder project.now) (P.world place.new).files unit.now.key ≡ None) }
     ensures writes { IsTrue P.tells → IfOk result (λ made. WritesTo unit.now.out (child_of made.begun) (P.counts place.new).starts.flying) }
     ensures stay { (ticket : ℕ) (its : ChildInFlight) → child_at ticket (P.counts place.old).starts.flying ≡ Some its → child_at ticket (P.counts place.new).starts.flying ≡ Some its }
     ensures folder { store.new.folder ≡ store.old.folder }
     ensures next { TakesNumber store.old.next store.new.next }
+    ensures spent { store.old.next ≡ None → IsTrue P.tells → P.world place.new ≡ P.world place.old }
     ensures number { IfOk result (λ made. MatchOption (child_of made.begun) (store.new.next ≡ store.old.next) (λ launched. (store.old.next ≡ Some launched.number) × (store.new.next ≡ after launched.number))) }
     ensures most { MatchResult result (λ made. MatchOption (child_of made.begun) (P.most place.new ≡ P.most place.old) (λ launched. P.most place.new ≡ max (P.most place.old) (length (P.counts place.old).starts.flying + 1))) (λ e. P.most place.new ≡ P.most place.old) }
     ensures takes { Takes Begins (MayBeginUnit store.old.next unit.now.key) result (P.counts place.old) (P.counts place.new) }
@@ -134,8 +136,9 @@ pub fn begin_unit<P: Place>(
 /// record cannot be written, or no run number is left; OutOfMemory. Each has the unit's key, and no call of the place
 /// comes after one that failed. Whatever it answers, the child is in flight no more, and the others fly on. Where the
 /// child writes into the unit's folder, only that folder and the unit's record change, whatever the records hold and the
-/// child leaves. Where the unit has no child in flight and its record has a number, nothing is changed. A unit that is
-/// bad is no fault.
+/// child leaves, and where the unit is bad that folder alone: no record of it is kept. Where the unit has no child in
+/// flight and its record has a number, nothing is changed. A run number is taken at most for a record that has none. A
+/// unit that is bad is no fault.
 pub fn answer_unit<P: Place>(
     alloc: Global,
     place: &mut P,
@@ -164,12 +167,14 @@ pub fn answer_unit<P: Place>(
         → BeginsApart (basis footing read P.child setup project.now sources) states index (child_of begun) other its store.old.next (P.world place.old) (P.counts place.old).starts.flying (P.still place.old)
         → IsBegun (basis footing read P.child setup project.now sources) other its store.new.next (P.world place.new) (P.counts place.new).starts.flying (P.still place.new) }
     ensures only { IsTrue P.tells → WritesTo unit.now.out (child_of begun) (P.counts place.old).starts.flying → ChangesOnly (is_of (records_folder project.now) unit.now.key) (P.world place.old) (P.world place.new) }
+    ensures unkept { IsTrue P.tells → WritesTo unit.now.out (child_of begun) (P.counts place.old).starts.flying → IfOk result (λ ran. IsSome ran.bad → ChangesOnly (is_at_or_below unit.now.out) (P.world place.old) (P.world place.new)) }
     ensures same { (read : Reading) → IsReading read → IsTrue P.tells → child_of begun ≡ None → lacks_number (record_at read (records_folder project.now) (P.world place.old).files unit.now.key) ≡ false → P.world place.new ≡ P.world place.old }
     ensures stay { (ticket : ℕ) (its : ChildInFlight) → IfSome (child_of begun) (λ launched. ticket ≢ launched.ticket) → child_at ticket (P.counts place.old).starts.flying ≡ Some its → child_at ticket (P.counts place.new).starts.flying ≡ Some its }
     ensures started { IfOk result (λ ran. ran.started ≡ is_some (child_of begun)) }
     ensures directives { IfOk result (λ ran. directives_in (outcome_by finite.empty ran) ≡ ran.directives) }
     ensures folder { store.new.folder ≡ store.old.folder }
     ensures next { TakesNumber store.old.next store.new.next }
+    ensures untaken { IsSome (child_of begun) → store.new.next ≡ store.old.next }
     ensures most { P.most place.new ≡ P.most place.old }
     ensures takes { Takes (Lands (child_of begun)) (MayAnswerUnit store.old.next unit.now.key (child_of begun)) result (P.counts place.old) (P.counts place.new) }
 {
@@ -230,7 +235,8 @@ pub struct Run {
 /// Runs the unit at a place of a plan: begins it, and takes its answer.
 ///
 /// Faults: those of `begin_unit` and `answer_unit`. Each has the unit's key, no call of the place comes after one that
-/// failed, and no child is in flight for the unit then. A unit that is bad is no fault.
+/// failed, and no child is in flight for the unit then. A unit that is bad is no fault; where a child was started for it,
+/// it has no record.
 pub fn run_unit<P: Place>(
     alloc: Global,
     place: &mut P,
@@ -253,9 +259,11 @@ pub fn run_unit<P: Place>(
         (λ run. (lines : List ℕ) → Keeps (basis footing read P.child setup.now project.now sources) (slice_set states index (state.Answered record { fault = run.ran.bad; lines = lines })) (slice_set done.now index run.ran.directives) store.new.next (P.world place.new))
         (λ e. Keeps (basis footing read P.child setup.now project.now sources) (slice_set states index state.Begun) done.now store.new.next (P.world place.new)) }
     ensures differs { (read : Reading) → IsReading read → IsTrue P.tells → IfOk result (λ run. FirstDifference read (records_folder project.now) unit.now.key (command_of setup.now project.now unit.now done.now) (P.world place.old) run.difference) }
+    ensures unrecorded { (read : Reading) → IsTrue P.tells → IfOk result (λ run. IsSome run.difference → IsSome run.ran.bad → record_at read (records_folder project.now) (P.world place.new).files unit.now.key ≡ None) }
     ensures started { IfOk result (λ run. run.ran.started ≡ is_some run.difference) }
     ensures only { IsTrue P.tells → ChangesOnly (is_of (records_folder project.now) unit.now.key) (P.world place.old) (P.world place.new) }
     ensures folder { store.new.folder ≡ store.old.folder }
+    ensures next { TakesNumber store.old.next store.new.next }
     ensures takes { Takes Runs (MayRunUnit store.old.next unit.now.key) result (P.counts place.old) (P.counts place.new) }
 {
     let made = match begin_unit(alloc, place, store, setup, project, done, index, unit) {

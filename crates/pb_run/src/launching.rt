@@ -69,6 +69,7 @@ fn drop_record<P: Place>(
     ensures number { IfOk result (λ number. (store.old.next ≡ Some number) × (store.new.next ≡ after number)) }
     ensures next { TakesNumber store.old.next store.new.next }
     ensures folder { store.new.folder ≡ store.old.folder }
+    ensures spent { store.old.next ≡ None → IsTrue P.tells → P.world place.new ≡ P.world place.old }
     ensures sound { (read : Reading) (judge : Judge) → IsTrue P.tells → Sound read judge P.child store.old.folder (P.world place.old).files → Sound read judge P.child store.old.folder (P.world place.new).files }
     ensures gone { (read : Reading) → IsTrue P.tells → OnOk result (record_at read store.old.folder (P.world place.new).files key.now ≡ None) }
     ensures left { (read : Reading) → IsTrue P.tells → Leaves None (record_at read store.old.folder (P.world place.old).files key.now) (record_at read store.old.folder (P.world place.new).files key.now) }
@@ -153,6 +154,7 @@ pub(crate) fn launch<P: Place>(
     ensures number { IfOk result (λ launched. (store.old.next ≡ Some launched.number) × (store.new.next ≡ after launched.number)) }
     ensures next { TakesNumber store.old.next store.new.next }
     ensures folder { store.new.folder ≡ store.old.folder }
+    ensures spent { store.old.next ≡ None → IsTrue P.tells → P.world place.new ≡ P.world place.old }
     ensures sound { (read : Reading) (judge : Judge) → IsTrue P.tells → Sound read judge P.child store.old.folder (P.world place.old).files → Sound read judge P.child store.old.folder (P.world place.new).files }
     ensures gone { (read : Reading) → IsTrue P.tells → OnOk result (record_at read store.old.folder (P.world place.new).files unit.now.key ≡ None) }
     ensures ahead { (read : Reading) → IsTrue P.tells → IsAhead (record_at read store.old.folder (P.world place.old).files) store.old.next → IsAhead (record_at read store.old.folder (P.world place.new).files) store.new.next }

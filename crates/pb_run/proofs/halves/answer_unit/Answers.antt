@@ -1,11 +1,14 @@
-use Rattle.std.proofs.Common.{◌∙◌, ap, subst}
+use Rattle.std.proofs.Common.{◌∙◌, ap, subst, sym}
 use Rattle.pb_place.specs.Children.{child_at}
 use Rattle.pb_place.specs.Counts.{Starts}
+use Rattle.pb_place.specs.Paths.{is_at_or_below}
+use Rattle.pb_place.specs.World.{ChangesOnly}
+use Rattle.pb_place.proofs.Folders.{only_same}
 use Rattle.pb_run.specs.Halves.{WritesTo, basis, child_in, child_of}
 use Rattle.pb_run.specs.declared.begun.Awaited.{Awaited}
 use Rattle.pb_run.specs.declared.begun.Awaited.TheVariants as awaited
 use Rattle.pb_run.proofs.Kept.{flying_answer}
-use Rattle.pb_run.proofs.Reusing.{can_by_parts, flying_alone, no_child}
+use Rattle.pb_run.proofs.Reusing.{can_by_parts, flying_alone, no_child, none_awaited}
 use Rattle.pb_run.proofs.Writes.{stays_apart}
 use Rattle.pb_run.proofs.halves.answer_unit.Goals as goal
 
@@ -60,3 +63,17 @@ returns-in-Ok-reuse-clause-same g c read is told none has = c.reuse.ensures.same
 
 pub returns-clause-same : goal.returns-clause-same
 returns-clause-same g c read is told none has = c.reuse.ensures.same read is told has
+
+pub returns-in-Ok-clause-unkept : goal.returns-in-Ok-clause-unkept
+returns-in-Ok-clause-unkept g c told writes bad =
+    c.in-Ok.ensures.unkept told (subst (λ (o : Awaited). WritesTo c.args.unit.now.out (child_in o) (g.P.Place.counts c.args.place.now).starts.flying) c.in-Child.is writes) bad
+
+pub returns-in-Ok-reuse-clause-unkept : goal.returns-in-Ok-reuse-clause-unkept
+returns-in-Ok-reuse-clause-unkept g c told writes bad =
+    subst (ChangesOnly (is_at_or_below c.args.unit.now.out) (g.P.Place.world c.args.place.now)) (sym (c.in-Ok-reuse.ensures.unkept told bad)) (only_same (is_at_or_below c.args.unit.now.out) (g.P.Place.world c.args.place.now))
+
+pub returns-in-Ok-reuse-clause-untaken : goal.returns-in-Ok-reuse-clause-untaken
+returns-in-Ok-reuse-clause-untaken g c launched = none_awaited (child_of c.args.begun) _ (ap child_in c.in-Record.is) launched
+
+pub returns-clause-untaken : goal.returns-clause-untaken
+returns-clause-untaken g c launched = none_awaited (child_of c.args.begun) _ (ap child_in c.in-Record.is) launched

@@ -1,4 +1,4 @@
-use Rattle.std.proofs.Common.{◌∙◌, None, ap, refl, subst, sym}
+use Rattle.std.proofs.Common.{◌≡◌, ◌∙◌, ℕ, List, None, ap, refl, subst, sym}
 use Rattle.pb_command.specs.Judge.{judge}
 use Rattle.pb_place.specs.Children.{child_at}
 use Rattle.pb_place.specs.Counts.{Starts}
@@ -90,3 +90,13 @@ returns-in-Ok-launch-clause-stay g c ticket its there =
 pub returns-in-Err-launch-clause-stay : goal.returns-in-Err-launch-clause-stay
 returns-in-Err-launch-clause-stay g c ticket its there =
     ap (child_at ticket) (flying_begun c.args.store.now.next c.args.unit.now.key _ (g.P.Place.counts c.compare.new.place).starts (g.P.Place.counts c.launch.new.place).starts c.in-Err-launch.ensures.takes.0 ∙ (ap (λ (s : Starts). s.flying) c.in-Ok-compare.ensures.takes.1)) ∙ there
+
+pub returns-in-Ok-launch-clause-dropped : goal.returns-in-Ok-launch-clause-dropped
+returns-in-Ok-launch-clause-dropped g c read told launched =
+    subst (λ (folder : List ℕ). record_at read folder (g.P.Place.world c.launch.new.place).files c.args.unit.now.key ≡ None) c.requires.folder (c.in-Ok-launch.ensures.gone read told)
+
+pub returns-in-Ok-launch-clause-spent : goal.returns-in-Ok-launch-clause-spent
+returns-in-Ok-launch-clause-spent g c none told = c.in-Ok-launch.ensures.spent none told ∙ c.in-Ok-compare.ensures.same told
+
+pub returns-in-Err-launch-clause-spent : goal.returns-in-Err-launch-clause-spent
+returns-in-Err-launch-clause-spent g c none told = c.in-Err-launch.ensures.spent none told ∙ c.in-Ok-compare.ensures.same told

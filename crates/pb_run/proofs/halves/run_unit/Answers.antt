@@ -2,7 +2,9 @@ use Rattle.std.proofs.Common.{◌∙◌, Bool, slice_set, sym, subst}
 use Rattle.pb_flight.specs.declared.flight.State.TheVariants as state
 use Rattle.pb_run.specs.Causes.{RunsBy}
 use Rattle.pb_run.specs.Halves.{basis, child_of}
-use Rattle.pb_run.proofs.InTurn.{answer_tells, both_run, can_answer, keeps_once, lifted_flies, number_kept}
+use Rattle.pb_run.proofs.InTurn.{answer_tells, both_run, both_take, can_answer, keeps_once, lifted_flies, number_kept}
+use Rattle.pb_run.proofs.Spawning.{launched_gone}
+use Rattle.pb_run.specs.Standing.{records_folder}
 use Rattle.pb_run.proofs.halves.run_unit.Goals as goal
 
 pub answer_unit-requires-clause-flies : goal.answer_unit-requires-clause-flies
@@ -41,3 +43,17 @@ pub returns-in-Err-answer_unit-clause-takes : goal.returns-in-Err-answer_unit-cl
 returns-in-Err-answer_unit-clause-takes g c =
     answer_tells c.args.store.now.next c.begin_unit.new.store.next c.args.unit.now.key (child_of c.in-Ok.made.begun) c.in-Err-answer_unit.fault (g.P.Place.counts c.args.place.now) (g.P.Place.counts c.begin_unit.new.place) (g.P.Place.counts c.answer_unit.new.place)
     c.in-Ok.ensures.takes (number_kept c.args.store.now.next c.begin_unit.new.store.next (child_of c.in-Ok.made.begun) _ c.in-Ok.ensures.number) c.in-Err-answer_unit.ensures.takes
+
+pub returns-in-Ok-answer_unit-clause-unrecorded : goal.returns-in-Ok-answer_unit-clause-unrecorded
+returns-in-Ok-answer_unit-clause-unrecorded g c read told differs bad =
+    launched_gone read (records_folder c.args.project.now) c.args.unit.now.key c.args.unit.now.out (g.P.Place.world c.begin_unit.new.place) (g.P.Place.world c.answer_unit.new.place)
+    (c.requires.order.keys c.args.index c.args.unit.now c.requires.unit) (c.requires.order.folders c.args.index c.args.unit.now c.requires.unit)
+    (c.in-Ok-answer_unit.ensures.unkept told (c.in-Ok.ensures.writes told) bad) (c.in-Ok.ensures.dropped read told (c.in-Ok.ensures.spawned ∙ differs))
+
+pub returns-in-Ok-answer_unit-clause-next : goal.returns-in-Ok-answer_unit-clause-next
+returns-in-Ok-answer_unit-clause-next g c =
+    both_take c.args.store.now.next c.begin_unit.new.store.next c.answer_unit.new.store.next (child_of c.in-Ok.made.begun) _ c.in-Ok.ensures.number c.begin_unit.ensures.next c.answer_unit.ensures.next c.answer_unit.ensures.untaken
+
+pub returns-in-Err-answer_unit-clause-next : goal.returns-in-Err-answer_unit-clause-next
+returns-in-Err-answer_unit-clause-next g c =
+    both_take c.args.store.now.next c.begin_unit.new.store.next c.answer_unit.new.store.next (child_of c.in-Ok.made.begun) _ c.in-Ok.ensures.number c.begin_unit.ensures.next c.answer_unit.ensures.next c.answer_unit.ensures.untaken

@@ -4,13 +4,15 @@ use Rattle.pb_place.specs.Counts.{Starts}
 use Rattle.pb_run.proofs.Halving.{out_lies}
 use Rattle.pb_run.proofs.Kept.{flying_answer, flying_follow, keeps_kept, keeps_over, needed_are_keys, others_ended, others_kept, outcome_kept, pairs_sorted}
 use Rattle.pb_place.specs.Folders.{files_in}
-use Rattle.pb_place.specs.World.{World}
+use Rattle.pb_place.specs.World.{World, ChangesOnly}
+use Rattle.pb_place.specs.Paths.{is_at_or_below}
+use Rattle.std.proofs.lemmas.Bool.{false≢true}
 use Rattle.pb_run.specs.Halves.{basis, outcomes_in}
 use Rattle.pb_run.specs.Outcome.{outcome_by}
 use Rattle.pb_run.proofs.Answering.{landed_gives, landed_only}
 use Rattle.pb_run.proofs.Ending.{TellsAnswer, landed_more, landed_told}
 use Rattle.pb_run.proofs.Settling.{keeps_bad, keeps_landed}
-use Rattle.pb_run.proofs.Writes.{record_only, unkept_only}
+use Rattle.pb_run.proofs.Writes.{ended_only, record_only, unkept_only}
 use Rattle.pb_run.proofs.landing.land.Goals as goal
 use Rattle.pb_run.specs.Standing.{records_folder}
 
@@ -114,3 +116,10 @@ returns-in-Ok-keep-clause-takes g c =
 pub returns-clause-takes : goal.returns-clause-takes
 returns-clause-takes g c =
     landed_more c.args.store.now.next c.args.unit.now.key c.args.launched.now _ (g.P.Place.counts c.args.place.now) (g.P.Place.counts c.finish.new.place) (g.P.Place.counts c.judged_now.new.place) (g.P.Place.counts c.keep.new.place) (c.in-Ok.ensures.takes c.args.store.now.next) c.in-Ok-judged_now.ensures.takes c.in-Err-keep.ensures.takes
+
+pub returns-then-is_some-clause-unkept : goal.returns-then-is_some-clause-unkept
+returns-then-is_some-clause-unkept g c told writes bad =
+    subst (ChangesOnly (is_at_or_below c.args.unit.now.out) (g.P.Place.world c.args.place.now)) (sym (c.in-Ok-judged_now.ensures.same told)) (ended_only c.args.unit.now.out c.args.launched.now (g.P.Place.counts c.args.place.now).starts.flying (g.P.Place.world c.args.place.now) (g.P.Place.world c.finish.new.place) c.requires.flies writes (c.in-Ok.ensures.only told))
+
+pub returns-in-Ok-keep-clause-unkept : goal.returns-in-Ok-keep-clause-unkept
+returns-in-Ok-keep-clause-unkept g c told writes bad = absurd (false≢true (sym (sym c.is_some.ensures ∙ c.if-is_some.false) ∙ bad))

@@ -1,4 +1,5 @@
 use Rattle.std.proofs.Common.{◌∙◌, ap, sym}
+use Rattle.std.proofs.lemmas.Bool.{false≢true}
 use Rattle.pb_command.specs.Judge.{judge}
 use Rattle.pb_place.specs.Counts.{Starts}
 use Rattle.pb_run.specs.Halves.{basis}
@@ -121,3 +122,12 @@ returns-in-Ok-migrate-clause-same g c read is told has =
 pub returns-clause-same : goal.returns-clause-same
 returns-clause-same g c read is told has =
     reused_same read c.args.store.now.folder (records_folder c.args.project.now) c.args.unit.now.key (g.P.Place.world c.args.place.now) (g.P.Place.world c.judged_now.new.place) (g.P.Place.world c.migrate.new.place) c.requires.folder (c.in-Ok.ensures.same told) (c.migrate.ensures.same read is told) has
+
+pub returns-then-is_some-clause-unkept : goal.returns-then-is_some-clause-unkept
+returns-then-is_some-clause-unkept g c told bad = c.in-Ok.ensures.same told
+
+pub returns-then-again-clause-unkept : goal.returns-then-again-clause-unkept
+returns-then-again-clause-unkept g c told bad = absurd (false≢true (sym (sym c.is_some.ensures ∙ c.if-is_some.false) ∙ bad))
+
+pub returns-in-Ok-migrate-clause-unkept : goal.returns-in-Ok-migrate-clause-unkept
+returns-in-Ok-migrate-clause-unkept g c told bad = absurd (false≢true (sym (sym c.is_some.ensures ∙ c.if-is_some.false) ∙ bad))

@@ -1,4 +1,4 @@
-use Rattle.std.proofs.Common.{ap, inl}
+use Rattle.std.proofs.Common.{◌≡◌, ◌∙◌, ℕ, None, Some, ap, inl, sym}
 use Rattle.pb_place.specs.Counts.{Starts}
 use Rattle.pb_run.proofs.Ending.{lifted_after, begun_after}
 use Rattle.pb_run.proofs.Spawning.{launched_ahead, launched_gone, launched_sound, launched_spawned, launched_still}
@@ -48,3 +48,15 @@ pub returns-in-Err-clause-left : goal.returns-in-Err-clause-left
 returns-in-Err-clause-left g c read told =
     inl (launched_gone read c.args.store.now.folder c.args.unit.now.key c.args.unit.now.out (g.P.Place.world c.drop_record.new.place) (g.P.Place.world c.spawn_anew.new.place) c.requires.key c.requires.lies
     (c.in-Err.ensures.only told) (c.in_ok-number.ensures.gone read told))
+
+pub returns-in-Ok-clause-spent : goal.returns-in-Ok-clause-spent
+returns-in-Ok-clause-spent g c none told = absurd (some_number c.in_ok-number.number (sym c.in_ok-number.ensures.number.0 ∙ none))
+  where
+    some_number : (n : ℕ) → Some n ≡ None → ⊥
+    some_number n e = cc
+
+pub returns-in-Err-clause-spent : goal.returns-in-Err-clause-spent
+returns-in-Err-clause-spent g c none told = absurd (some_number c.in_ok-number.number (sym c.in_ok-number.ensures.number.0 ∙ none))
+  where
+    some_number : (n : ℕ) → Some n ≡ None → ⊥
+    some_number n e = cc
