@@ -202,7 +202,7 @@ module _ (footing : Footing) (read : Reading) (reading : IsReading read) (child 
         first_lines : (bytes told : List ℕ) → bytes ≡ told → Appends mid.heard.taken stop.heard.taken bytes → Appends old.heard.taken new.heard.taken told
         first_lines bytes told same taken = since es bytes told same (subst (λ (h : Heard). Appends mid.heard.taken h.taken bytes) (sym after) taken)
 
-        fails_at : (key : List ℕ) → StopsAt project mid stop key es → FailsAt project es (rows_in b) key old.heard.taken new.heard.taken
+        fails_at : (key : List ℕ) → StopsAt true project mid stop key es → FailsAt project es (rows_in b) key old.heard.taken new.heard.taken
         fails_at key by = record {
           place = by.place;
           unit = by.unit;
@@ -212,7 +212,7 @@ module _ (footing : Footing) (read : Reading) (reading : IsReading read) (child 
           lines = first_lines (due (states_in project es)) _ stands.lines by.lines;
         }
 
-        lines_before : (fault : BuildFault) → Stops fault project mid stop es → LinesBefore fault project es (rows_in b) old.heard.taken new.heard.taken
+        lines_before : (fault : BuildFault) → Stops true fault project mid stop es → LinesBefore fault project es (rows_in b) old.heard.taken new.heard.taken
         lines_before (Plan why) stops = stops.by
         lines_before Toolchain stops = stops.by
         lines_before (Child key fault) stops = fails_at key stops.by
@@ -239,17 +239,17 @@ module _ (footing : Footing) (read : Reading) (reading : IsReading read) (child 
             leaves footing ends.es whole.stands,
           )
       turns_give (Err fault) ends =
-          let cut : StandsCut b ends.es mid.world new.world = ends.told refl footing read sources reading (kept_first footing rests) in (
+          let cut : StandsCut b ends.es ends.before mid.world new.world = ends.told refl footing read sources reading (kept_first footing rests) in (
             inr record {
               units = units_by ends.es;
               flies = (ends.last, ends.flies);
               starts = counted ends.es ends.mid.counts ends.stops.starts ends.drained;
               spent = subst (λ (n : Option ℕ). Spends fault n ends.es) (is_next ∙ ap (λ (f : List ℕ). next_in read f old.world) (same_folder options old.world project is)) ends.spent;
               lines = lines_before ends.es cut.stands ends.mid ends.heard fault ends.stops;
-              before = cut.before;
-              begins = cut.begins;
+              before = ends.before;
+              came = ends.came;
               reasons = cut.reasons;
-              began = subst (λ (w : World). AllBeganFor b cut.before cut.reasons w new.world) stays cut.began;
+              began = subst (λ (w : World). AllBeganFor b ends.before cut.reasons w new.world) stays cut.began;
             },
             leaves footing ends.es cut.stands,
           )

@@ -33,7 +33,7 @@ use Rattle.pb_store.specs.Opening.{next_in}
 use Rattle.pb_turns.specs.Crew.{needs_of}
 use Rattle.pb_turns.specs.Moments.{Heard, Moment}
 use Rattle.pb_turns.specs.Rows.{Row, Reasons, rows_of, said_from, summary_of}
-use Rattle.pb_turns.specs.Story.{states_in, upped, AllBeganFor, IsBeginning, Spends}
+use Rattle.pb_turns.specs.Story.{states_in, upped, AllBeganFor, CameAfter, Spends}
 use Rattle.pb_unit.specs.declared.plan.Planned.{Planned}
 use Rattle.pb_build.specs.Ending.{NoneBegan, PicksFirstOf, PicksLastOf, Closes}
 use Rattle.pb_build.specs.Environment.{environment_of}
@@ -124,7 +124,7 @@ LinesBefore Sink project es rows old new = (n : ℕ) × Appends old new (take n 
 LinesBefore OutOfMemory project es rows old new = (n : ℕ) × Appends old new (said_from project es 0 (take n (take (count_due (states_in project es)) rows)))
 LinesBefore fault project es rows old new = ⊥
 
--- a fault came at a unit, at the sink, or for want of memory, with such events and so many starts; for want of a run number, where from the next one of the records on all were given; of the unit that began last, where nothing came after its beginning, it may not be said what differed
+-- a fault came at a unit, at the sink, or for want of memory, with such events and so many starts; for want of a run number, where from the next one of the records on all were given; of a unit that could not begin it is not said what differed
 pub record GivesFirst (footing : Footing) (read : Reading) (child : Answers) (Schedule : Project → List (Event BadUnit) → Type 0) (options : Options) (fault : BuildFault) (old new : Moment) : Type 0 where
   pub units : UnitsOf child options old.world
   pub flies : Schedule units.project units.es
@@ -132,7 +132,7 @@ pub record GivesFirst (footing : Footing) (read : Reading) (child : Answers) (Sc
   pub spent : Spends fault (next_in read (records_of options old.world.variables) old.world) units.es
   pub lines : LinesBefore fault units.project units.es (rows_for child options old.world units) old.heard.taken new.heard.taken
   pub before : List (Event BadUnit)
-  pub begins : IsBeginning before units.es
+  pub came : CameAfter units.project fault before units.es
   pub reasons : Reasons
   pub began : AllBeganFor (basis_of footing read child options old.world units) before reasons old.world new.world
 

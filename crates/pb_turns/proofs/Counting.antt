@@ -1,5 +1,5 @@
 -- Counters, lines and lists, after one more step.
-use Rattle.std.proofs.Common.{◌≡◌, ◌≢◌, ◌∙◌, ◌++◌, ◌+◌, inl, inr, Bool, true, false, List, [], ◌∷◌, ℕ, zero, suc, Option, Some, None, max, refl, sym, ap, subst, arith, slice_get, slice_set, is_some, map, length, append_assoc, append-nil, take}
+use Rattle.std.proofs.Common.{◌≡◌, ◌≢◌, ◌⊎◌, ◌∙◌, ◌++◌, ◌+◌, inl, inr, Bool, true, false, List, [], ◌∷◌, ℕ, zero, suc, Option, Some, None, IsTrue, max, refl, sym, ap, subst, arith, slice_get, slice_set, is_some, map, length, append_assoc, append-nil, take}
 use Rattle.std.proofs.lemmas.List.{length-map}
 use Rattle.std.specs.Io.KnownBytes.{Appends}
 use Rattle.std.specs.List.{AllByRecursion, remove}
@@ -16,15 +16,16 @@ use Rattle.pb_flight.proofs.Ending.{due_begun}
 use Rattle.pb_flight.proofs.Handing.{due_split}
 use Rattle.pb_flight.proofs.Lists.{injective, clash, get_set_same}
 use Rattle.pb_place.specs.Counts.{Counts, Starts, up, up_starts}
+use Rattle.pb_place.specs.declared.place.StartFault.TheVariants as start
 use Rattle.pb_project.specs.Targets.{unit_at}
 use Rattle.pb_answer.specs.declared.bad_unit.BadUnit.{BadUnit}
 use Rattle.pb_project.specs.declared.project.Project.{Project}
 use Rattle.pb_run.specs.Causes.{HasCause, MayBeginUnit, MayAnswerUnit, BeginsBy, LandsBy}
-use Rattle.pb_run.specs.Halves.{child_of}
+use Rattle.pb_run.specs.Halves.{child_of, key_at, key_in}
 use Rattle.pb_run.specs.declared.begun.Launched.{Launched}
 use Rattle.pb_turns.specs.Crew.{AreApart, places_of, ticket_of_child, ticket_in, tickets_of, launched_of}
 use Rattle.pb_turns.specs.Moments.{Moment, Heard}
-use Rattle.pb_turns.specs.Story.{states_in, upped, Goes, NumbersGiven, Spends, Stops, StopsAt, StopsBy}
+use Rattle.pb_turns.specs.Story.{states_in, upped, CameAfter, Goes, NoneWritesTo, NumbersGiven, Spends, Stops, StopsAt, StopsBy}
 use Rattle.pb_turns.specs.declared.crew.Aloft.{Aloft}
 use Rattle.pb_turns.proofs.Lists.{all_get, flat_more, get_map, length_push, without_first, without_other}
 use Rattle.pb_turns.proofs.Manning.{answer_fault_lands}
@@ -144,22 +145,26 @@ module _ (project : Project) (first now new : Moment) (started : List ℕ) (alof
   }
 
   -- memory is refused before
-  pub stops_refused_begun : new.counts ≡ now.counts → Stops OutOfMemory project first new (Began unit false ∷ es)
-  stops_refused_begun counts = record {
+  pub stops_refused_begun : (tells : Bool) → new.counts ≡ now.counts → Stops tells OutOfMemory project first new (Began unit false ∷ es)
+  stops_refused_begun tells counts = record {
     by = ((given, lines_begun), faults_begun);
     cause = ap (λ (c : Counts). c.failures) counts ∙ goes.failures;
     starts = starts_begun None (ap (λ (c : Counts). c.starts) counts);
   }
 
   -- a fault ends it
-  module _ (u : Planned) (there : unit_at project unit ≡ Some u) where
-    stops_at : (key : List ℕ) (spawned : Bool) → key ≡ u.key → StopsAt project first new key (Began unit spawned ∷ es)
+  module _ (u : Planned) (there : unit_at project unit ≡ Some u) (tells : Bool) (alone : IsTrue tells → NoneWritesTo u.out new.counts.starts.flying) where
+    its_key : (key : List ℕ) → key ≡ u.key → key_at project unit ≡ key ∷ []
+    its_key key named = ap key_in there ∙ ap (λ (k : List ℕ). k ∷ []) (sym named)
+
+    stops_at : (key : List ℕ) (spawned : Bool) → key ≡ u.key → StopsAt tells project first new key (Began unit spawned ∷ es)
     stops_at key spawned named = record {
       place = unit;
       unit = u;
       there = there;
       named = sym named;
       flies = get_set_same (states_in project es) unit Untouched Begun untouched;
+      landed = alone;
       lines = due_lines_begun;
       faults = faults_begun;
     }
@@ -171,17 +176,31 @@ module _ (project : Project) (first now new : Moment) (started : List ℕ) (alof
     one_started same = ap (λ (s : Starts). s.count) same ∙ upped_more now.counts.starts.count first.counts.starts.count (started_by es) unit goes.starts
 
     pub stops_begun : (next at_first : Option ℕ) (e : BuildFault) → NumbersGiven es at_first next → MayBeginUnit next u.key e now.counts.starts new.counts.starts → HasCause e now.counts new.counts
-        → (spawned : Bool) × Stops e project first new (Began unit spawned ∷ es) × Spends e at_first (Began unit spawned ∷ es)
+        → (spawned : Bool) × Stops tells e project first new (Began unit spawned ∷ es) × Spends e at_first (Began unit spawned ∷ es) × CameAfter project e es (Began unit spawned ∷ es)
     stops_begun next at_first (Plan why) numbers may cause = absurd may
     stops_begun next at_first Toolchain numbers may cause = absurd may
-    stops_begun next at_first (Child key fault) numbers may cause = (true, record { by = stops_at key true may.0; cause = cause_from (Child key fault) first.counts now.counts new.counts goes.failures cause; starts = one_started may.2 }, tt)
-    stops_begun next at_first (Device key (Place fault)) numbers may cause = (false, record { by = stops_at key false may.0; cause = cause_from (Device key (Place fault)) first.counts now.counts new.counts goes.failures cause; starts = none_started may.2 }, tt)
-    stops_begun next at_first (Device key NumbersSpent) numbers may cause = (false, record { by = stops_at key false may.0; cause = cause_from (Device key NumbersSpent) first.counts now.counts new.counts goes.failures cause; starts = none_started may.2 }, subst (NumbersGiven es at_first) may.1 numbers)
+    stops_begun next at_first (Child key fault) numbers may cause =
+        (true, record { by = stops_at key true may.0; cause = cause_from (Child key fault) first.counts now.counts new.counts goes.failures cause; starts = one_started may.2 }, tt, subst (λ f. CameAfter project (Child key f) es (Began unit true ∷ es)) (sym may.1) (unit, its_key key may.0, refl))
+    stops_begun next at_first (Device key (Place fault)) numbers may cause = (false, record { by = stops_at key false may.0; cause = cause_from (Device key (Place fault)) first.counts now.counts new.counts goes.failures cause; starts = none_started may.2 }, tt, inr (unit, its_key key may.0, refl))
+    stops_begun next at_first (Device key NumbersSpent) numbers may cause = (false, record { by = stops_at key false may.0; cause = cause_from (Device key NumbersSpent) first.counts now.counts new.counts goes.failures cause; starts = none_started may.2 }, subst (NumbersGiven es at_first) may.1 numbers, inr (unit, its_key key may.0, refl))
     stops_begun next at_first Sink numbers may cause = absurd may
-    stops_begun next at_first OutOfMemory numbers (inl same) cause = (false, record { by = ((given, lines_begun), faults_begun); cause = cause_from OutOfMemory first.counts now.counts new.counts goes.failures cause; starts = none_started same }, tt)
-    stops_begun next at_first OutOfMemory numbers (inr more) cause = (true, record { by = ((given, lines_begun), faults_begun); cause = cause_from OutOfMemory first.counts now.counts new.counts goes.failures cause; starts = one_started more }, tt)
+    stops_begun next at_first OutOfMemory numbers (inl same) cause = (false, record { by = ((given, lines_begun), faults_begun); cause = cause_from OutOfMemory first.counts now.counts new.counts goes.failures cause; starts = none_started same }, tt, inr (unit, false, refl))
+    stops_begun next at_first OutOfMemory numbers (inr more) cause = (true, record { by = ((given, lines_begun), faults_begun); cause = cause_from OutOfMemory first.counts now.counts new.counts goes.failures cause; starts = one_started more }, tt, inr (unit, true, refl))
 
 -- A unit answers.
+
+-- a fault in place of an answer came after all events
+pub came_answering : (project : Project) (next : Option ℕ) (key : List ℕ) (launched : Option Launched) (e : BuildFault) (old new : Starts) → MayAnswerUnit next key launched e old new → (es : List (Event BadUnit)) → CameAfter project e es es
+came_answering project next key launched (Plan why) old new may es = refl
+came_answering project next key launched Toolchain old new may es = refl
+came_answering project next key launched (Child unit fault) old new may es = by may.2
+  where
+    by : (fault ≡ start.Died) ⊎ (fault ≡ start.Capture) → CameAfter project (Child unit fault) es es
+    by (inl died) = subst (λ f. CameAfter project (Child unit f) es es) (sym died) refl
+    by (inr capture) = subst (λ f. CameAfter project (Child unit f) es es) (sym capture) refl
+came_answering project next key launched (Device unit fault) old new may es = inl refl
+came_answering project next key launched Sink old new may es = refl
+came_answering project next key launched OutOfMemory old new may es = inl refl
 
 module _ (project : Project) (first now new : Moment) (started : List ℕ) (aloft : List Aloft) (es : List (Event BadUnit)) (given : ℕ) (goes : Goes project first now started aloft es given)
     (is_given : given ≡ count_due (states_in project es)) (index : ℕ) (a : Aloft) (at : slice_get aloft index ≡ Some a) (begun : slice_get (states_in project es) a.unit ≡ Some Begun) (heard : new.heard ≡ now.heard) where
@@ -207,19 +226,20 @@ module _ (project : Project) (first now new : Moment) (started : List ℕ) (alof
     most = most ∙ goes.most;
   }
 
-  module _ (u : Planned) (there : unit_at project a.unit ≡ Some u) where
-    stops_there : (key : List ℕ) → key ≡ u.key → StopsAt project first new key es
+  module _ (u : Planned) (there : unit_at project a.unit ≡ Some u) (tells : Bool) (alone : IsTrue tells → NoneWritesTo u.out new.counts.starts.flying) where
+    stops_there : (key : List ℕ) → key ≡ u.key → StopsAt tells project first new key es
     stops_there key named = record {
       place = a.unit;
       unit = u;
       there = there;
       named = sym named;
       flies = begun;
+      landed = alone;
       lines = subst (Appends first.heard.taken new.heard.taken) (due_all given (states_in project es) is_given) (lines_same given goes.lines);
       faults = faults_same;
     }
 
-    by_fault : (next : Option ℕ) (e : BuildFault) → MayAnswerUnit next u.key (child_of a.begun) e now.counts.starts new.counts.starts → StopsBy e project first new es
+    by_fault : (next : Option ℕ) (e : BuildFault) → MayAnswerUnit next u.key (child_of a.begun) e now.counts.starts new.counts.starts → StopsBy tells e project first new es
     by_fault next (Plan why) may = absurd may
     by_fault next Toolchain may = absurd may
     by_fault next (Child key fault) may = stops_there key may.0
@@ -228,7 +248,7 @@ module _ (project : Project) (first now new : Moment) (started : List ℕ) (alof
     by_fault next Sink may = absurd may
     by_fault next OutOfMemory may = ((given, lines_same given goes.lines), faults_same)
 
-    pub stops_answered : (next : Option ℕ) (e : BuildFault) → MayAnswerUnit next u.key (child_of a.begun) e now.counts.starts new.counts.starts → HasCause e now.counts new.counts → Stops e project first new es
+    pub stops_answered : (next : Option ℕ) (e : BuildFault) → MayAnswerUnit next u.key (child_of a.begun) e now.counts.starts new.counts.starts → HasCause e now.counts new.counts → Stops tells e project first new es
     stops_answered next e may cause = record {
       by = by_fault next e may;
       cause = cause_from e first.counts now.counts new.counts goes.failures cause;
@@ -236,8 +256,8 @@ module _ (project : Project) (first now new : Moment) (started : List ℕ) (alof
     }
 
   -- memory is refused for its lines
-  pub stops_untold : LandsBy (child_of a.begun) now.counts.starts new.counts.starts → new.counts.failures ≡ now.counts.failures → Stops OutOfMemory project first new es
-  stops_untold lands failures = record { by = ((given, lines_same given goes.lines), faults_same); cause = failures ∙ goes.failures; starts = starts_same (child_of a.begun) lands }
+  pub stops_untold : (tells : Bool) → LandsBy (child_of a.begun) now.counts.starts new.counts.starts → new.counts.failures ≡ now.counts.failures → Stops tells OutOfMemory project first new es
+  stops_untold tells lands failures = record { by = ((given, lines_same given goes.lines), faults_same); cause = failures ∙ goes.failures; starts = starts_same (child_of a.begun) lands }
 
 -- Lines are handed out.
 
@@ -255,8 +275,8 @@ module _ (project : Project) (first now new : Moment) (started : List ℕ) (alof
     most = most ∙ goes.most;
   }
 
-  pub stops_sink : (n : ℕ) → Appends now.heard.taken new.heard.taken (take n (due_after given (states_in project es))) → new.heard.faults ≡ up now.heard.faults → Stops Sink project first new es
-  stops_sink n lines faults =
+  pub stops_sink : (tells : Bool) (n : ℕ) → Appends now.heard.taken new.heard.taken (take n (due_after given (states_in project es))) → new.heard.faults ≡ up now.heard.faults → Stops tells Sink project first new es
+  stops_sink tells n lines faults =
       let (m, part) = appends_part first.heard.taken now.heard.taken new.heard.taken (due_first given (states_in project es)) (due_after given (states_in project es)) n goes.lines lines in
       record {
         by = ((m, subst (λ l. Appends first.heard.taken new.heard.taken (take m l)) (due_split given (states_in project es)) part), faults ∙ ap up goes.faults);
@@ -265,8 +285,8 @@ module _ (project : Project) (first now new : Moment) (started : List ℕ) (alof
       }
 
   -- memory is refused
-  pub stops_refused : new.heard ≡ now.heard → Stops OutOfMemory project first new es
-  stops_refused heard = record {
+  pub stops_refused : (tells : Bool) → new.heard ≡ now.heard → Stops tells OutOfMemory project first new es
+  stops_refused tells heard = record {
     by = ((given, subst (λ (x : Heard). Appends first.heard.taken x.taken (due_first given (states_in project es))) (sym heard) goes.lines), ap (λ (x : Heard). x.faults) heard ∙ goes.faults);
     cause = ap (λ (c : Counts). c.failures) counts ∙ goes.failures;
     starts = ap (λ (c : Counts). c.starts.count) counts ∙ goes.starts;

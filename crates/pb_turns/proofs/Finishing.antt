@@ -36,7 +36,7 @@ use Rattle.pb_turns.specs.Crew.{needs_of, launched_of, ticket_of_child}
 use Rattle.pb_turns.specs.Ends.{rows_in, nothing_said, Stands, StandsWhole, StandsCut, EndsWhole, EndsCut, Grounding, Dropped, Drained}
 use Rattle.pb_turns.specs.Moments.{Moment, Heard}
 use Rattle.pb_turns.specs.Rows.{summary_of, started_keys, is_started, messages_in, bad_of, directives_told, Reasons, key_told, said_told, differences_of, kept_of}
-use Rattle.pb_turns.specs.Story.{states_in, untouched, Stops, Changes, Happened, AllBeganFor, IsBeginning, Story, StoryEnds, OnlyOf}
+use Rattle.pb_turns.specs.Story.{states_in, untouched, Stops, Changes, Happened, AllBeganFor, CameAfter, KeepsNoneOfBad, Story, StoryEnds, OnlyOf}
 use Rattle.pb_turns.specs.Summing.{summary_by, bad_told, noted_of, count_told, keys_at, differences_at}
 use Rattle.pb_turns.specs.declared.crew.Aloft.{Aloft}
 use Rattle.pb_turns.specs.declared.crew.UnitCrew.{UnitCrew}
@@ -44,6 +44,7 @@ use Rattle.pb_turns.proofs.Changing.{changes_first}
 use Rattle.pb_turns.proofs.Counting.{appends_none, stops_refused}
 use Rattle.pb_turns.proofs.States.{due_all}
 use Rattle.pb_turns.proofs.Unbegun.{none_noted}
+use Rattle.pb_turns.proofs.Unkept.{none_bad}
 use Rattle.pb_turns.proofs.Telling.{AllTold, Ended, all_good_at, due_told, first_told, ended_of, success_of}
 use Rattle.pb_unit.specs.declared.plan.Planned.{Planned}
 
@@ -183,7 +184,7 @@ module _ {S : Type 0} (tells : Bool) (child : Answers) (Turns : S → List ℕ �
     (changes : (fw : World) (events : List (Event BadUnit)) → IsTrue tells → Changes c.project fw c.aloft.items events mid.world mid.counts.starts.flying → Changes c.project fw d.aloft.items events new.world new.counts.starts.flying)
     (happened : (b : Basis) (events : List (Event BadUnit)) → IsTrue tells → b.project ≡ c.project → Happened b c.done.items c.aloft.items c.store.next events mid.world mid.counts.starts.flying still
     → Happened b d.done.items d.aloft.items d.store.next events new.world new.counts.starts.flying still')
-    (begun : (b : Basis) (events before : List (Event BadUnit)) (reasons : Reasons) (fw : World) → IsTrue tells → b.project ≡ c.project → IsLawful (needs_of b.project) events → IsBeginning before events
+    (begun : (b : Basis) (fault : BuildFault) (events before : List (Event BadUnit)) (reasons : Reasons) (fw : World) → IsTrue tells → b.project ≡ c.project → IsLawful (needs_of b.project) events → CameAfter b.project fault before events
     → Happened b c.done.items c.aloft.items c.store.next events mid.world mid.counts.starts.flying still → AllBeganFor b before reasons fw mid.world → AllBeganFor b before reasons fw new.world) where
   -- what a basis keeps at first
   abbrev Since : (Basis → Type 0) → Setup → Project → Type 0
@@ -197,26 +198,28 @@ module _ {S : Type 0} (tells : Bool) (child : Answers) (Turns : S → List ℕ �
   lawful : c.project ≡ first.project → Flies Turns (needs_of first.project) Anyhow Anything from es last → IsLawful (needs_of c.project) es
   lawful project flies = subst (λ (p : Project). IsLawful (needs_of p) es) (sym project) (steps_are_lawful Turns (needs_of first.project) Anyhow Anything from es last flies)
 
-  pub ends_cut : (fault : BuildFault) → Flies Turns (needs_of first.project) Anyhow Anything from es last → StoryEnds tells child fault first at c mid still es → EndsCut tells child Turns first.setup first.project first.store.next from fault at new
-  ends_cut fault flies ends = record {
+  pub ends_cut : new.most ≡ mid.most → (fault : BuildFault) → Flies Turns (needs_of first.project) Anyhow Anything from es last → StoryEnds tells child fault first at c mid still es → EndsCut tells child Turns first.setup first.project first.store.next from fault at new
+  ends_cut most fault flies ends = record {
     es = es;
     last = last;
     flies = flies;
     mid = mid;
     heard = heard;
-    stops = subst (λ (p : Project). Stops fault p at mid es) ends.project ends.stops;
+    stops = subst (λ (p : Project). Stops tells fault p at mid es) ends.project ends.stops;
     spent = ends.spent;
     drained = drained;
     landed = landed;
+    before = ends.before;
+    came = subst (λ (p : Project). CameAfter p fault ends.before es) ends.project ends.came;
+    most = most ∙ ends.most;
     only = λ t. subst (λ (p : Project). OnlyOf p es at.world new.world) ends.project (changes at.world es t (ends.changes t)).only;
-    told = since_first (λ b. StandsCut b es at.world new.world) ends.setup ends.project (λ t f r sources reading keeps.
+    unkept = λ t. subst (λ (p : Project). KeepsNoneOfBad p es new.world) ends.project (changes at.world es t (ends.changes t)).unkept;
+    told = since_first (λ b. StandsCut b es ends.before at.world new.world) ends.setup ends.project (λ t f r sources reading keeps.
         let (h, began) = ends.happened t f r sources reading keeps in
         record {
           stands = stands (basis f r child c.setup c.project sources) d.done.items d.aloft.items d.store.next es new.world new.counts.starts.flying still' (happened (basis f r child c.setup c.project sources) es t refl h);
-          before = ends.before;
-          begins = ends.begins;
           reasons = c.reasons.items;
-          began = begun (basis f r child c.setup c.project sources) es ends.before c.reasons.items at.world t refl (lawful ends.project flies) ends.begins h began;
+          began = begun (basis f r child c.setup c.project sources) fault es ends.before c.reasons.items at.world t refl (lawful ends.project flies) ends.came h began;
         });
   }
 
@@ -225,10 +228,11 @@ module _ {S : Type 0} (tells : Bool) (child : Answers) (Turns : S → List ℕ �
   untold given s = record {
     setup = s.setup;
     project = s.project;
-    stops = stops_refused c.project at mid mid c.started.items c.aloft.items es given s.goes refl refl refl;
+    stops = stops_refused c.project at mid mid c.started.items c.aloft.items es given s.goes refl refl tells refl;
     spent = tt;
     before = es;
-    begins = inl refl;
+    came = inl refl;
+    most = s.goes.most;
     changes = s.changes;
     happened = s.happened;
   }
@@ -281,12 +285,13 @@ module _ {S : Type 0} (tells : Bool) (child : Answers) (Turns : S → List ℕ �
       landed = landed;
       most = most ∙ story.goes.most;
       only = λ t. subst (λ (p : Project). OnlyOf p es at.world new.world) story.project (changes at.world es t (story.changes t)).only;
+      unkept = λ t. subst (λ (p : Project). KeepsNoneOfBad p es new.world) story.project (changes at.world es t (story.changes t)).unkept;
       told = since_first (λ b. StandsWhole b es d.reasons.items summary at.world new.world) story.setup story.project (λ t f r sources reading keeps.
           let (h, began) = story.happened t f r sources reading keeps in
           stands_whole (basis f r child c.setup c.project sources) d.done.items d.aloft.items d.store.next es new.world new.counts.starts.flying still' (happened (basis f r child c.setup c.project sources) es t refl h)
           (ap is_finished (sym states_are) ∙ finished) (length_states (needs_of c.project) es ∙ length-map c.project.plan.planned (λ (u : Planned). u.needs)) d.reasons.items at.world
           (subst (λ (items : Reasons). AllBeganFor (basis f r child c.setup c.project sources) es items at.world new.world) (sym (ap (λ (x : UnitCrew). x.reasons.items) same))
-          (begun (basis f r child c.setup c.project sources) es es c.reasons.items at.world t refl (lawful story.project flown.flies) (inl refl) h began)) d.started.items started_is summary now_is);
+          (begun (basis f r child c.setup c.project sources) OutOfMemory es es c.reasons.items at.world t refl (lawful story.project flown.flies) (inl refl) h began)) d.started.items started_is summary now_is);
     }
 
 -- memory is refused before a unit begins
@@ -302,15 +307,17 @@ ends_before tells child Turns setup project next from at none = record {
   spent = tt;
   drained = subst (λ fs. Dropped (map ticket_of_child fs) at.counts at.counts) (sym none) refl;
   landed = none;
+  before = [];
+  came = inl refl;
+  most = omega arith;
   only = λ t. record { variables = refl; files = λ q outside. refl };
+  unkept = λ t. none_bad project at.world;
   told = λ t f r sources reading keeps. record {
     stands = stands (basis f r child setup project sources) (nothing_said project) [] next [] at.world [] (λ n. Unit {0}) record {
       keeps = keeps;
       begun = tt;
       gave = λ place answer is. absurd (no_answer answer (untouched_at (needs_of project) place (Answered answer) is));
     };
-    before = [];
-    begins = inl refl;
     reasons = [];
     began = λ place has. absurd (none_begun project place has);
   };

@@ -15,6 +15,7 @@ use Rattle.pb_place.specs.declared.place.StartFault.{StartFault}
 use Rattle.pb_place.specs.declared.place.StartFault.TheVariants as start
 use Rattle.pb_project.specs.Targets.{unit_at}
 use Rattle.pb_answer.specs.declared.bad_unit.BadUnit.{BadUnit}
+use Rattle.pb_answer.specs.declared.fault.BuildFault.{BuildFault}
 use Rattle.pb_project.specs.declared.project.Project.{Project}
 use Rattle.pb_run.specs.Causes.{Drops, LandsBy}
 use Rattle.pb_run.specs.Halves.{Basis, Keeps, IsBegun, CanAnswer, BeginsApart, WritesTo, child_of}
@@ -27,7 +28,7 @@ use Rattle.pb_soundness.specs.Apart.{is_of}
 use Rattle.pb_soundness.specs.Records.{out_of}
 use Rattle.pb_turns.specs.Crew.{needs_of, IsManned, IsOfPlan}
 use Rattle.pb_turns.specs.Rows.{Reasons}
-use Rattle.pb_turns.specs.Story.{states_in, AllBeganFor, Changes, FliesSo, Happened, IsBeginning}
+use Rattle.pb_turns.specs.Story.{states_in, AllBeganFor, Changes, FliesSo, Happened, CameAfter}
 use Rattle.pb_turns.specs.declared.crew.Aloft.{Aloft}
 use Rattle.pb_turns.specs.declared.crew.UnitCrew.{UnitCrew}
 use Rattle.pb_turns.proofs.Answered as answered
@@ -75,21 +76,21 @@ pub changes_dropped : (c : UnitCrew) (counts : Counts) (manned : IsManned c coun
 changes_dropped c counts manned first es w w' flying' index a at aloft' is old only stay =
     let of_plan : IsOfPlan c.project a = all_get (IsOfPlan c.project) c.aloft.items index a manned.units at in
     let flies = λ (j : ℕ) (y : Aloft) (at_j : slice_get c.aloft.items j ≡ Some y). flying_of c counts j y manned at_j in
-    let writes : WritesTo of_plan.unit.out (child_of a.begun) counts.starts.flying = its_writes c.project first c.aloft.items es w w' counts.starts.flying flying' old flies index a at of_plan.unit of_plan.there in
-    changes_less c.project first c.aloft.items es w w' counts.starts.flying flying' old flies index a at of_plan.unit of_plan.there manned.units_apart manned.tickets_apart
+    let writes : WritesTo of_plan.unit.out (child_of a.begun) counts.starts.flying = its_writes c.project manned.order first c.aloft.items es w w' counts.starts.flying flying' old flies index a at of_plan.unit of_plan.there in
+    changes_less c.project manned.order first c.aloft.items es w w' counts.starts.flying flying' old flies index a at of_plan.unit of_plan.there manned.units_apart manned.tickets_apart
     (widen (is_at_or_below (out_of (records_folder c.project) of_plan.unit.key)) (is_of (records_folder c.project) of_plan.unit.key) w w' (out_within (records_folder c.project) of_plan.unit.key)
     (subst (λ o. ChangesOnly (is_at_or_below o) w w') (manned.order.folders a.unit of_plan.unit of_plan.there) (only of_plan.unit.out writes))) stay aloft' is
 
-pub began_dropped : (b : Basis) (c : UnitCrew) (counts : Counts) (manned : IsManned c counts) (project : b.project ≡ c.project) (es before : List (Event BadUnit)) (reasons : Reasons) (first w w' : World) (still : ℕ → Type 0)
-    (index : ℕ) (a : Aloft) (at : slice_get c.aloft.items index ≡ Some a) (lawful : IsLawful (needs_of b.project) es) (begins : IsBeginning before es) (h : Happened b c.done.items c.aloft.items c.store.next es w counts.starts.flying still)
+pub began_dropped : (b : Basis) (c : UnitCrew) (counts : Counts) (manned : IsManned c counts) (project : b.project ≡ c.project) (fault : BuildFault) (es before : List (Event BadUnit)) (reasons : Reasons) (first w w' : World) (still : ℕ → Type 0)
+    (index : ℕ) (a : Aloft) (at : slice_get c.aloft.items index ≡ Some a) (lawful : IsLawful (needs_of b.project) es) (came : CameAfter b.project fault before es) (h : Happened b c.done.items c.aloft.items c.store.next es w counts.starts.flying still)
     → ((out : List ℕ) → WritesTo out (child_of a.begun) counts.starts.flying → ChangesOnly (is_at_or_below out) w w') → AllBeganFor b before reasons first w → AllBeganFor b before reasons first w'
-began_dropped b c counts manned project es before reasons first w w' still index a at lawful begins h only began =
+began_dropped b c counts manned project fault es before reasons first w w' still index a at lawful came h only began =
     let of_plan : IsOfPlan c.project a = all_get (IsOfPlan c.project) c.aloft.items index a manned.units at in
     let there : unit_at b.project a.unit ≡ Some of_plan.unit = ap (λ (p : Project). unit_at p a.unit) project ∙ of_plan.there in
     let order : IsInOrder b.project = subst IsInOrder (sym project) manned.order in
     let so : FliesSo b es c.store.next w counts.starts.flying still a = all_get (FliesSo b es c.store.next w counts.starts.flying still) c.aloft.items index a h.begun at in
     let writes : WritesTo of_plan.unit.out (child_of a.begun) counts.starts.flying = begun_writes b order a.unit of_plan.unit there a.begun c.store.next w counts.starts.flying still so.begun_so in
-    dropped_beside b order before es reasons first w w' a.unit of_plan.unit there lawful begins so.state (child_of a.begun) so.started
+    dropped_beside b order fault before es reasons first w w' a.unit of_plan.unit there lawful came so.state (child_of a.begun) so.started
     (widen (is_at_or_below (out_of (records_folder b.project) of_plan.unit.key)) (is_of (records_folder b.project) of_plan.unit.key) w w' (out_within (records_folder b.project) of_plan.unit.key)
     (subst (λ o. ChangesOnly (is_at_or_below o) w w') (order.folders a.unit of_plan.unit there) (only of_plan.unit.out writes)))
     (λ none. none_dropped (child_of a.begun) counts.starts.flying w w' none only) began

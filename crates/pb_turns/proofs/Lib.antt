@@ -6,7 +6,9 @@ pub mod Reaching
 pub mod Happening
 pub mod Staying
 pub mod Answered
+pub mod Unkept
 pub mod Changing
+pub mod Alone
 pub mod Counting
 pub mod Beginning
 pub mod Answering

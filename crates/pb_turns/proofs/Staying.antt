@@ -1,5 +1,5 @@
 -- What units that have begun rest on stays, where another unit begins, answers or is dropped.
-use Rattle.std.proofs.Common.{◌≡◌, ◌≢◌, ◌∙◌, ◌||◌, inl, inr, Bool, true, false, List, [], ◌∷◌, ℕ, Option, Some, None, refl, sym, ap, subst, slice_get, slice_set, is_some}
+use Rattle.std.proofs.Common.{◌≡◌, ◌≢◌, ◌∙◌, ◌⊎◌, ◌||◌, inl, inr, Bool, true, false, List, [], ◌∷◌, ℕ, Option, Some, None, refl, sym, ap, subst, slice_get, slice_set, is_some}
 use Rattle.std.proofs.lemmas.Bool.{cases_Bool, cases_eq, false≢true}
 use Rattle.std.specs.FinMap as finite
 use Rattle.pb_flight.specs.declared.flight.State.TheVariants.{Untouched, Begun}
@@ -12,9 +12,12 @@ use Rattle.pb_flight.proofs.Ready.{good_at}
 use Rattle.pb_place.specs.Paths.{below, is_at_or_below}
 use Rattle.pb_place.specs.World.{World, ChangesOnly}
 use Rattle.pb_place.specs.declared.child_in_flight.ChildInFlight.{ChildInFlight}
+use Rattle.pb_place.specs.declared.place.StartFault.TheVariants as start
 use Rattle.pb_place.proofs.Within.{at_itself, below_then_at, goes_below, not_below_itself}
 use Rattle.pb_project.specs.Targets.{unit_at}
 use Rattle.pb_answer.specs.declared.bad_unit.BadUnit.{BadUnit}
+use Rattle.pb_answer.specs.declared.fault.BuildFault.{BuildFault}
+use Rattle.pb_answer.specs.declared.fault.BuildFault.TheVariants.{Plan, Toolchain, Child, Device, Sink, OutOfMemory}
 use Rattle.pb_project.specs.declared.project.Project.{Project}
 use Rattle.pb_run.specs.Halves.{Basis, WritesTo, records_in}
 use Rattle.pb_run.specs.Standing.{IsInOrder, records_folder}
@@ -26,7 +29,7 @@ use Rattle.pb_store.specs.Migrating.{lacks_number}
 use Rattle.pb_store.specs.declared.difference.Difference.{Difference}
 use Rattle.pb_turns.specs.Crew.{needs_of}
 use Rattle.pb_turns.specs.Rows.{Reasons, is_started}
-use Rattle.pb_turns.specs.Story.{states_in, AllBeganFor, BeganFor, IsBeginning}
+use Rattle.pb_turns.specs.Story.{states_in, AllBeganFor, BeganFor, CameAfter}
 use Rattle.pb_turns.proofs.Happening.{none_of, started_other}
 use Rattle.pb_turns.proofs.Reaching.{not_of_two}
 use Rattle.pb_turns.proofs.States.{another}
@@ -62,7 +65,23 @@ flew_last project before unit place new spawned untouched state started = record
   started = λ has. sym (started_other before unit place new (another (states_in project before) unit place untouched has)) ∙ started;
 }
 
-pub flew_before : (project : Project) (before es : List (Event BadUnit)) (place : ℕ) (spawned : Bool) → IsLawful (needs_of project) es → IsBeginning before es
+-- these events, or those before the last beginning
+abbrev pub OrBefore : List (Event BadUnit) → List (Event BadUnit) → Type 0
+OrBefore before es = (es ≡ before) ⊎ ((unit : ℕ) × (spawned : Bool) × (es ≡ Began unit spawned ∷ before))
+
+or_before : (project : Project) (fault : BuildFault) (before es : List (Event BadUnit)) → CameAfter project fault before es → OrBefore before es
+or_before project (Plan why) before es came = inl came
+or_before project Toolchain before es came = inl came
+or_before project (Child key start.CannotStart) before es (unit, named, is) = inr (unit, true, is)
+or_before project (Child key start.Died) before es came = inl came
+or_before project (Child key start.Capture) before es came = inl came
+or_before project (Child key start.OutOfMemory) before es came = inl came
+or_before project (Device key fault) before es (inl same) = inl same
+or_before project (Device key fault) before es (inr (unit, named, is)) = inr (unit, false, is)
+or_before project Sink before es came = inl came
+or_before project OutOfMemory before es came = came
+
+flew_before : (project : Project) (before es : List (Event BadUnit)) (place : ℕ) (spawned : Bool) → IsLawful (needs_of project) es → OrBefore before es
     → slice_get (states_in project es) place ≡ Some Begun → is_started es place ≡ spawned → FlewBefore project before place spawned
 flew_before project before es place spawned lawful (inl same) state started = subst (λ (x : List (Event BadUnit)). FlewBefore project x place spawned) same record {
   not_good = ap is_good_at state;
@@ -141,9 +160,9 @@ answered_beside b order es reasons first w w' i u there state o started only sam
     ap (λ (v : World). finite.get v.files q) (same (none_of o (sym started ∙ unstarted)) (numbered_now b es reasons first w i u there f unstarted numbered)))
 
 -- a child dropped
-pub dropped_beside : (b : Basis) (order : IsInOrder b.project) (before es : List (Event BadUnit)) (reasons : Reasons) (first w w' : World) (i : ℕ) (u : Planned) → unit_at b.project i ≡ Some u → IsLawful (needs_of b.project) es → IsBeginning before es
+pub dropped_beside : (b : Basis) (order : IsInOrder b.project) (fault : BuildFault) (before es : List (Event BadUnit)) (reasons : Reasons) (first w w' : World) (i : ℕ) (u : Planned) → unit_at b.project i ≡ Some u → IsLawful (needs_of b.project) es → CameAfter b.project fault before es
     → slice_get (states_in b.project es) i ≡ Some Begun → (o : Option Launched) → is_started es i ≡ is_some o → ChangesOnly (is_of (records_folder b.project) u.key) w w' → (o ≡ None → (q : List ℕ) → finite.get w'.files q ≡ finite.get w.files q)
     → AllBeganFor b before reasons first w → AllBeganFor b before reasons first w'
-dropped_beside b order before es reasons first w w' i u there lawful begins state o started only same =
-    let flew = flew_before b.project before es i (is_some o) lawful begins state started in
+dropped_beside b order fault before es reasons first w w' i u there lawful came state o started only same =
+    let flew = flew_before b.project before es i (is_some o) lawful (or_before b.project fault before es came) state started in
     began_on b order before reasons first w w' i u there only flew.not_good (λ has f unstarted numbered. same (none_of o (sym (flew.started has) ∙ unstarted)))

@@ -25,7 +25,7 @@ use Rattle.pb_soundness.specs.Records.{Reading}
 use Rattle.pb_turns.specs.Crew.{needs_of, ticket_of_child}
 use Rattle.pb_turns.specs.Moments.{Moment}
 use Rattle.pb_turns.specs.Rows.{Reasons, Row, rows_of, said_from, started_keys, differences_of, kept_of, summary_of}
-use Rattle.pb_turns.specs.Story.{states_in, untouched, upped, Stops, Spends, OnlyOf, AllBeganFor, HasGiven, IsBeginning}
+use Rattle.pb_turns.specs.Story.{states_in, untouched, upped, Stops, Spends, OnlyOf, AllBeganFor, HasGiven, CameAfter, KeepsNoneOfBad}
 use Rattle.pb_unit.specs.declared.plan.Planned.{Planned}
 
 -- the children of these tickets were asked for their ends, in this order, their answers were dropped, and nothing else was called
@@ -66,11 +66,9 @@ pub record StandsWhole (b : Basis) (es : List (Event BadUnit)) (reasons : Reason
   pub answer : summary ≡ summary_of b.project es reasons (rows_in b)
   pub began : AllBeganFor b es reasons old new
 
--- a fault ended it
-pub record StandsCut (b : Basis) (es : List (Event BadUnit)) (old new : World) : Type 0 where
+-- a fault ended it, before which these had happened
+pub record StandsCut (b : Basis) (es before : List (Event BadUnit)) (old new : World) : Type 0 where
   pub stands : Stands b es new
-  pub before : List (Event BadUnit)
-  pub begins : IsBeginning before es
   pub reasons : Reasons
   pub began : AllBeganFor b before reasons old new
 
@@ -94,21 +92,26 @@ pub record EndsWhole {S : Type 0} (tells : Bool) (child : Answers) (Turns : S �
   pub landed : new.counts.starts.flying ≡ []
   pub most : new.most ≡ max old.most (peak es)
   pub only : IsTrue tells → OnlyOf project es old.world new.world
+  pub unkept : IsTrue tells → KeepsNoneOfBad project es new.world
   pub told : IsTrue tells → Grounding child setup project next old.world (λ b. StandsWhole b es reasons summary old.world new.world)
 
--- a fault ended them: its cause, and what the sink had heard, are those of the moment before the children in flight were dropped
+-- a fault ended them: its cause, and what the sink had heard, are those of the moment before the children in flight were dropped; no more children flew at one time than by the events before it
 pub record EndsCut {S : Type 0} (tells : Bool) (child : Answers) (Turns : S → List ℕ → List ℕ → Step → S → Type 0) (setup : Setup) (project : Project) (next : Option ℕ) (from : S) (fault : BuildFault) (old new : Moment) : Type 0 where
   pub es : List (Event BadUnit)
   pub last : S
   pub flies : Flies Turns (needs_of project) Anyhow Anything from es last
   pub mid : Moment
   pub heard : new.heard ≡ mid.heard
-  pub stops : Stops fault project old mid es
+  pub stops : Stops tells fault project old mid es
   pub spent : Spends fault next es
   pub drained : Drained mid.counts new.counts
   pub landed : new.counts.starts.flying ≡ []
+  pub before : List (Event BadUnit)
+  pub came : CameAfter project fault before es
+  pub most : new.most ≡ max old.most (peak before)
   pub only : IsTrue tells → OnlyOf project es old.world new.world
-  pub told : IsTrue tells → Grounding child setup project next old.world (λ b. StandsCut b es old.world new.world)
+  pub unkept : IsTrue tells → KeepsNoneOfBad project es new.world
+  pub told : IsTrue tells → Grounding child setup project next old.world (λ b. StandsCut b es before old.world new.world)
 
 -- how they end, by the answer
 abbrev pub TurnsEnd : {S : Type 0} → Bool → Answers → (S → List ℕ → List ℕ → Step → S → Type 0) → Setup → Project → Option ℕ → S → S → Result Summary BuildFault → Moment → Moment → Type 0

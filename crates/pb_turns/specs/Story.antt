@@ -1,5 +1,5 @@
 -- What has happened while the units of a build began and answered.
-use Rattle.std.specs.Prelude.{◌≡◌, ◌⊎◌, ◌==◌, ◌∷◌, [], ℕ, zero, suc, max, Bool, true, false, if◌then◌else◌, List, length, take, Option, Some, None, is_some, Contains, IsTrue, slice_get}
+use Rattle.std.specs.Prelude.{◌≡◌, ◌≢◌, ◌⊎◌, ◌==◌, ◌∷◌, [], ℕ, zero, suc, max, Bool, true, false, if◌then◌else◌, List, length, take, Option, Some, None, is_some, Contains, IsSome, IsTrue, slice_get}
 use Rattle.std.specs.FinMap as finite
 use Rattle.std.specs.Io.KnownBytes.{Appends}
 use Rattle.std.specs.List.{AllByRecursion}
@@ -13,21 +13,23 @@ use Rattle.pb_flight.specs.declared.flight.State.TheVariants.{Untouched, Begun, 
 use Rattle.pb_flight.specs.Events.{Event, Began, Gave, started_by, launched_after, states_after, peak}
 use Rattle.pb_flight.specs.Laws.{HasBegun}
 use Rattle.pb_flight.specs.Table.{due_first, due, are_good}
+use Rattle.pb_place.specs.Children.{child_at}
 use Rattle.pb_place.specs.Counts.{up}
 use Rattle.pb_place.specs.World.{World, Answers, from_nothing}
 use Rattle.pb_place.specs.declared.child_in_flight.ChildInFlight.{ChildInFlight}
+use Rattle.pb_place.specs.declared.place.StartFault.TheVariants.{CannotStart}
 use Rattle.pb_project.specs.Targets.{unit_at}
 use Rattle.pb_answer.specs.declared.bad_unit.BadUnit.{BadUnit}
 use Rattle.pb_project.specs.declared.project.Project.{Project}
 use Rattle.pb_record.specs.Parts.{IsReading}
 use Rattle.pb_run.specs.Causes.{HasCause}
-use Rattle.pb_run.specs.Halves.{Footing, Basis, basis, outcomes_in, command_in, records_in, Keeps, IsBegun, WritesTo, child_of}
+use Rattle.pb_run.specs.Halves.{Footing, Basis, basis, outcomes_in, command_in, records_in, Keeps, IsBegun, WritesTo, child_of, key_at}
 use Rattle.pb_run.specs.Outcome.{Outcome, directives_in}
 use Rattle.pb_run.specs.Standing.{records_folder}
 use Rattle.pb_run.specs.Telling.{unit_lines}
 use Rattle.pb_soundness.specs.Apart.{is_of}
 use Rattle.pb_soundness.specs.Numbers.{after}
-use Rattle.pb_soundness.specs.Records.{Reading, place_of}
+use Rattle.pb_soundness.specs.Records.{Reading, place_of, record_at}
 use Rattle.pb_store.specs.Differences.{FirstDifference}
 use Rattle.pb_store.specs.Migrating.{TakesNumber, lacks_number}
 use Rattle.pb_store.specs.declared.difference.Difference.{Difference}
@@ -59,28 +61,33 @@ pub record Goes (project : Project) (first now : Moment) (started : List ℕ) (a
   pub starts : now.counts.starts.count ≡ upped (length (started_by es)) first.counts.starts.count
   pub most : now.most ≡ max first.most (peak es)
 
--- a call for the unit of this key failed, or no run number is left for it: it has begun and not answered, and all lines that were due have been handed out
-pub record StopsAt (project : Project) (first now : Moment) (key : List ℕ) (es : List (Event BadUnit)) : Type 0 where
+-- no child in flight writes into this folder
+abbrev pub NoneWritesTo : List ℕ → List ChildInFlight → Type 0
+NoneWritesTo out flying = (ticket : ℕ) (its : ChildInFlight) → child_at ticket flying ≡ Some its → its.command.out ≢ Some out
+
+-- a call for the unit of this key failed, or no run number is left for it: it has begun and not answered, no child of it is in flight, and all lines that were due have been handed out
+pub record StopsAt (tells : Bool) (project : Project) (first now : Moment) (key : List ℕ) (es : List (Event BadUnit)) : Type 0 where
   pub place : ℕ
   pub unit : Planned
   pub there : unit_at project place ≡ Some unit
   pub named : unit.key ≡ key
   pub flies : slice_get (states_in project es) place ≡ Some Begun
+  pub landed : IsTrue tells → NoneWritesTo unit.out now.counts.starts.flying
   pub lines : Appends first.heard.taken now.heard.taken (due (states_in project es))
   pub faults : now.heard.faults ≡ first.heard.faults
 
 -- how a fault ends it: at a unit; at the sink, which took the first of the lines that were due; or for want of memory, with the lines of the first units
-abbrev pub StopsBy : BuildFault → Project → Moment → Moment → List (Event BadUnit) → Type 0
-StopsBy (Plan why) project first now es = ⊥
-StopsBy Toolchain project first now es = ⊥
-StopsBy (Child key fault) project first now es = StopsAt project first now key es
-StopsBy (Device key fault) project first now es = StopsAt project first now key es
-StopsBy Sink project first now es = ((n : ℕ) × Appends first.heard.taken now.heard.taken (take n (due (states_in project es)))) × (now.heard.faults ≡ up first.heard.faults)
-StopsBy OutOfMemory project first now es = ((n : ℕ) × Appends first.heard.taken now.heard.taken (due_first n (states_in project es))) × (now.heard.faults ≡ first.heard.faults)
+abbrev pub StopsBy : Bool → BuildFault → Project → Moment → Moment → List (Event BadUnit) → Type 0
+StopsBy tells (Plan why) project first now es = ⊥
+StopsBy tells Toolchain project first now es = ⊥
+StopsBy tells (Child key fault) project first now es = StopsAt tells project first now key es
+StopsBy tells (Device key fault) project first now es = StopsAt tells project first now key es
+StopsBy tells Sink project first now es = ((n : ℕ) × Appends first.heard.taken now.heard.taken (take n (due (states_in project es)))) × (now.heard.faults ≡ up first.heard.faults)
+StopsBy tells OutOfMemory project first now es = ((n : ℕ) × Appends first.heard.taken now.heard.taken (due_first n (states_in project es))) × (now.heard.faults ≡ first.heard.faults)
 
 -- with its cause, and one child for each unit that began with one; of the last of them it may have been tried alone
-pub record Stops (fault : BuildFault) (project : Project) (first now : Moment) (es : List (Event BadUnit)) : Type 0 where
-  pub by : StopsBy fault project first now es
+pub record Stops (tells : Bool) (fault : BuildFault) (project : Project) (first now : Moment) (es : List (Event BadUnit)) : Type 0 where
+  pub by : StopsBy tells fault project first now es
   pub cause : HasCause fault first.counts now.counts
   pub starts : now.counts.starts.count ≡ upped (length (started_by es)) first.counts.starts.count
 
@@ -147,15 +154,26 @@ pub record OnlyOf (project : Project) (es : List (Event BadUnit)) (old new : Wor
   pub variables : new.variables ≡ old.variables
   pub files : (q : List ℕ) → IsOutside project es q → finite.get new.files q ≡ finite.get old.files q
 
--- a unit in flight has begun, and its child, if it has one, writes into the unit's folder
-pub record FliesIn (project : Project) (es : List (Event BadUnit)) (flying : List ChildInFlight) (a : Aloft) : Type 0 where
+-- no text counts as the record of this unit
+abbrev pub HasNoRecord : Project → Planned → World → Type 0
+HasNoRecord project u w = (read : Reading) → record_at read (records_folder project) w.files u.key ≡ None
+
+-- a unit that answered bad, and for which a child was started, has no record
+abbrev pub KeepsNoneOfBad : Project → List (Event BadUnit) → World → Type 0
+KeepsNoneOfBad project es w = (place : ℕ) (u : Planned) (answer : Answer BadUnit) → unit_at project place ≡ Some u → slice_get (states_in project es) place ≡ Some (Answered answer) → IsSome answer.fault → is_started es place ≡ true → HasNoRecord project u w
+
+-- a unit in flight has begun, and its child, if it has one, writes into the unit's folder, and the unit has no record
+pub record FliesIn (project : Project) (es : List (Event BadUnit)) (world : World) (flying : List ChildInFlight) (a : Aloft) : Type 0 where
   pub state : slice_get (states_in project es) a.unit ≡ Some Begun
+  pub started : is_started es a.unit ≡ is_some (child_of a.begun)
+  pub gone : (u : Planned) → unit_at project a.unit ≡ Some u → IsSome (child_of a.begun) → HasNoRecord project u world
   pub writes : (u : Planned) → unit_at project a.unit ≡ Some u → WritesTo u.out (child_of a.begun) flying
 
 -- whatever a build rests on: the units in flight, and what was changed
 pub record Changes (project : Project) (first : World) (aloft : List Aloft) (es : List (Event BadUnit)) (world : World) (flying : List ChildInFlight) : Type 0 where
-  pub flies : AllByRecursion (FliesIn project es flying) aloft
+  pub flies : AllByRecursion (FliesIn project es world flying) aloft
   pub only : OnlyOf project es first world
+  pub unkept : KeepsNoneOfBad project es world
 
 -- a unit in flight has begun so; all that it reaches is good
 pub record FliesSo (b : Basis) (es : List (Event BadUnit)) (next : Option ℕ) (world : World) (flying : List ChildInFlight) (still : ℕ → Type 0) (a : Aloft) : Type 0 where
@@ -202,18 +220,27 @@ pub record Story (tells : Bool) (child : Answers) (first : UnitCrew) (at : Momen
   pub quiet : IsTrue tells → FromFirst child first at c (λ b. IsQuiet b es at.world now.world)
   pub unnoted : NotesBegun c.project es first.reasons.items c.reasons.items
 
--- these events, or those before the unit that began last, where nothing came after its beginning
-abbrev pub IsBeginning : List (Event BadUnit) → List (Event BadUnit) → Type 0
-IsBeginning before es = (es ≡ before) ⊎ ((unit : ℕ) × (spawned : Bool) × (es ≡ Began unit spawned ∷ before))
+-- the last event is the beginning of the unit of this key
+abbrev pub IsBeginning : Project → List ℕ → Bool → List (Event BadUnit) → List (Event BadUnit) → Type 0
+IsBeginning project key spawned before es = (unit : ℕ) × (key_at project unit ≡ key ∷ []) × (es ≡ Began unit spawned ∷ before)
 
--- and where a fault has ended it; of the unit that began last, where nothing came after its beginning, it may not be said what differed
+-- a fault came after these events; where a unit could not begin, these are the events before its beginning: no child of it flew
+abbrev pub CameAfter : Project → BuildFault → List (Event BadUnit) → List (Event BadUnit) → Type 0
+CameAfter project (Child key CannotStart) before es = IsBeginning project key true before es
+CameAfter project (Child key fault) before es = es ≡ before
+CameAfter project (Device key fault) before es = (es ≡ before) ⊎ IsBeginning project key false before es
+CameAfter project OutOfMemory before es = (es ≡ before) ⊎ ((unit : ℕ) × (spawned : Bool) × (es ≡ Began unit spawned ∷ before))
+CameAfter project fault before es = es ≡ before
+
+-- and where a fault has ended it; of a unit that could not begin it is not said what differed
 pub record StoryEnds (tells : Bool) (child : Answers) (fault : BuildFault) (first : UnitCrew) (at : Moment) (c : UnitCrew) (now : Moment) (still : ℕ → Type 0) (es : List (Event BadUnit)) : Type 0 where
   pub setup : c.setup ≡ first.setup
   pub project : c.project ≡ first.project
-  pub stops : Stops fault c.project at now es
+  pub stops : Stops tells fault c.project at now es
   pub spent : Spends fault first.store.next es
   pub before : List (Event BadUnit)
-  pub begins : IsBeginning before es
+  pub came : CameAfter c.project fault before es
+  pub most : now.most ≡ max at.most (peak before)
   pub changes : IsTrue tells → Changes c.project at.world c.aloft.items es now.world now.counts.starts.flying
   pub happened : IsTrue tells
       → FromFirst child first at c (λ b. Happened b c.done.items c.aloft.items c.store.next es now.world now.counts.starts.flying still × AllBeganFor b before c.reasons.items at.world now.world)

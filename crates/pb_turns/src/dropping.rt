@@ -5,11 +5,12 @@ ghost use Rattle.pb_flight.specs.Events.{Event, IsLawful};
 ghost use Rattle.pb_place.specs.Counts.{Counts};
 ghost use Rattle.pb_place.specs.World.{World};
 ghost use Rattle.pb_answer.specs.declared.bad_unit.BadUnit.{BadUnit};
+ghost use Rattle.pb_answer.specs.declared.fault.BuildFault.{BuildFault};
 ghost use Rattle.pb_run.specs.Halves.{Basis};
 ghost use Rattle.pb_turns.specs.Crew.{needs_of, tickets_of, IsManned};
 ghost use Rattle.pb_turns.specs.Ends.{Dropped, Drained};
 ghost use Rattle.pb_turns.specs.Rows.{Reasons};
-ghost use Rattle.pb_turns.specs.Story.{AllBeganFor, Changes, Happened, IsBeginning};
+ghost use Rattle.pb_turns.specs.Story.{AllBeganFor, CameAfter, Changes, Happened};
 
 use crate::crew::UnitCrew;
 use pb_place::Place;
@@ -30,7 +31,7 @@ fn drop_first<P: Place>(alloc: Global, crew: &mut UnitCrew, place: &mut P)
     ensures happened { (b : Basis) (es : List (Event BadUnit)) → IsTrue P.tells → b.project ≡ crew.old.project
         → Happened b crew.old.done.items crew.old.aloft.items crew.old.store.next es (P.world place.old) (P.counts place.old).starts.flying (P.still place.old)
         → Happened b crew.new.done.items crew.new.aloft.items crew.new.store.next es (P.world place.new) (P.counts place.new).starts.flying (P.still place.new) }
-    ensures began { (b : Basis) (es before : List (Event BadUnit)) (reasons : Reasons) (first : World) → IsTrue P.tells → b.project ≡ crew.old.project → IsLawful (needs_of b.project) es → IsBeginning before es
+    ensures began { (b : Basis) (fault : BuildFault) (es before : List (Event BadUnit)) (reasons : Reasons) (first : World) → IsTrue P.tells → b.project ≡ crew.old.project → IsLawful (needs_of b.project) es → CameAfter b.project fault before es
         → Happened b crew.old.done.items crew.old.aloft.items crew.old.store.next es (P.world place.old) (P.counts place.old).starts.flying (P.still place.old)
         → AllBeganFor b before reasons first (P.world place.old) → AllBeganFor b before reasons first (P.world place.new) }
 {
@@ -50,7 +51,7 @@ pub(crate) fn drain<P: Place>(alloc: Global, crew: &mut UnitCrew, place: &mut P)
     ensures happened { (b : Basis) (es : List (Event BadUnit)) → IsTrue P.tells → b.project ≡ crew.old.project
         → Happened b crew.old.done.items crew.old.aloft.items crew.old.store.next es (P.world place.old) (P.counts place.old).starts.flying (P.still place.old)
         → Happened b crew.new.done.items crew.new.aloft.items crew.new.store.next es (P.world place.new) (P.counts place.new).starts.flying (P.still place.new) }
-    ensures began { (b : Basis) (es before : List (Event BadUnit)) (reasons : Reasons) (first : World) → IsTrue P.tells → b.project ≡ crew.old.project → IsLawful (needs_of b.project) es → IsBeginning before es
+    ensures began { (b : Basis) (fault : BuildFault) (es before : List (Event BadUnit)) (reasons : Reasons) (first : World) → IsTrue P.tells → b.project ≡ crew.old.project → IsLawful (needs_of b.project) es → CameAfter b.project fault before es
         → Happened b crew.old.done.items crew.old.aloft.items crew.old.store.next es (P.world place.old) (P.counts place.old).starts.flying (P.still place.old)
         → AllBeganFor b before reasons first (P.world place.old) → AllBeganFor b before reasons first (P.world place.new) }
 {

@@ -1,4 +1,4 @@
-use Rattle.std.proofs.Common.{◌≡◌, ◌∙◌, ◌<◌, ◌∷◌, Some, IsTrue, refl, sym, ap, subst, inl, slice_get, length, map}
+use Rattle.std.proofs.Common.{◌≡◌, ◌∙◌, ◌<◌, ◌∷◌, ℕ, List, Some, Contains, IsTrue, refl, sym, ap, subst, inl, slice_get, length, map}
 use Rattle.std.proofs.lemmas.List.{length-map}
 use Rattle.std.proofs.lemmas.Option.{slice_get_read, slice_get_within}
 use Rattle.pb_flight.specs.declared.flight.Answer.{Answer}
@@ -11,14 +11,16 @@ use Rattle.pb_place.specs.World.{ChangesOnly}
 use Rattle.pb_run.specs.Halves.{child_of}
 use Rattle.pb_run.specs.Standing.{IsCommandOf, records_folder}
 use Rattle.pb_run.specs.Telling.{unit_lines}
+use Rattle.pb_run.proofs.Spawning.{launched_gone}
 use Rattle.pb_soundness.specs.Apart.{is_of}
-use Rattle.pb_turns.specs.Crew.{IsOfPlan, place_of_unit}
+use Rattle.pb_turns.specs.Crew.{IsOfPlan, place_of_unit, places_of}
 use Rattle.pb_turns.specs.Moments.{moment}
-use Rattle.pb_turns.specs.Story.{Story, states_in}
+use Rattle.pb_turns.specs.Story.{NoneWritesTo, Story, states_in}
+use Rattle.pb_turns.proofs.Alone.{apart_removed, none_writes}
 use Rattle.pb_turns.proofs.Answering.{failed_happened, untold_happened, answered_happened}
 use Rattle.pb_turns.proofs.Beginning.{goes_lists}
 use Rattle.pb_turns.proofs.Changing.{its_writes, changes_less, changes_after}
-use Rattle.pb_turns.proofs.Counting.{goes_answered, stops_answered, stops_untold}
+use Rattle.pb_turns.proofs.Counting.{came_answering, goes_answered, stops_answered, stops_untold}
 use Rattle.pb_turns.proofs.Lists.{all_get, get_map, map_removed}
 use Rattle.pb_turns.proofs.Manning.{answer_fault_lands, flying_of, manned_answered}
 use Rattle.pb_turns.proofs.Numbering.{numbers_answered, spends_answered}
@@ -89,17 +91,29 @@ returns-in-Err-clause-story g c = λ first at taken faults es given unit s flyin
     let its = injective (sym is_unit ∙ get_map place_of_unit c.args.crew.now.aloft.items c.args.index c.remove-unit.result at_index) in
     let begun = subst (λ n. slice_get (states_in c.args.crew.now.project es) n ≡ Some Begun) its flies in
     let only : IsTrue g.P.Place.tells → ChangesOnly (is_of (records_folder c.args.crew.now.project) c.index-as_slice-unit.result.key) now.world new.world =
-    λ t. c.answer_unit.ensures.only t (its_writes c.args.crew.now.project at.world c.args.crew.now.aloft.items es now.world new.world now.counts.starts.flying new.counts.starts.flying (s.changes t) (λ j y at_j. flying_of c.args.crew.now now.counts j y c.requires.manned at_j)
+    λ t. c.answer_unit.ensures.only t (its_writes c.args.crew.now.project c.requires.manned.order at.world c.args.crew.now.aloft.items es now.world new.world now.counts.starts.flying new.counts.starts.flying (s.changes t) (λ j y at_j. flying_of c.args.crew.now now.counts j y c.requires.manned at_j)
     c.args.index c.remove-unit.result at_index c.index-as_slice-unit.result there) in
+    let left : UnitCrew = record { setup = c.args.crew.now.setup; project = c.args.crew.now.project; store = c.answer_unit.new.store; done = c.args.crew.now.done; aloft = c.remove-unit.new.self; started = c.args.crew.now.started; reasons = c.args.crew.now.reasons } in
+    let manned = manned_answered c.args.crew.now left now.counts new.counts c.args.index c.remove-unit.result c.requires.manned at_index refl c.answer_unit.ensures.folder refl refl c.remove-unit.ensures.items c.answer_unit.ensures.next
+    (answer_fault_lands _ _ (child_of c.remove-unit.result.begun) c.in-Err.fault _ _ c.in-Err.ensures.takes.0) in
+    let alone : IsTrue g.P.Place.tells → NoneWritesTo c.index-as_slice-unit.result.out new.counts.starts.flying =
+    λ t. none_writes c.args.crew.now.project manned.order at.world new.world c.remove-unit.new.self.items es new.counts.starts.flying manned.units manned.tickets
+    (changes_less c.args.crew.now.project c.requires.manned.order at.world c.args.crew.now.aloft.items es now.world new.world now.counts.starts.flying new.counts.starts.flying (s.changes t) (λ j y at_j. flying_of c.args.crew.now now.counts j y c.requires.manned at_j)
+    c.args.index c.remove-unit.result at_index c.index-as_slice-unit.result there c.requires.manned.units_apart c.requires.manned.tickets_apart
+    (only t) c.answer_unit.ensures.stay c.remove-unit.new.self.items c.remove-unit.ensures.items)
+    c.remove-unit.result.unit c.index-as_slice-unit.result there
+    (λ has. apart_removed (places_of c.args.crew.now.aloft.items) c.args.index c.remove-unit.result.unit c.requires.manned.units_apart (get_map place_of_unit c.args.crew.now.aloft.items c.args.index c.remove-unit.result at_index)
+    (subst (λ (ps : List ℕ). Contains ps c.remove-unit.result.unit) (ap (λ items. map place_of_unit items) c.remove-unit.ensures.items ∙ map_removed place_of_unit c.args.crew.now.aloft.items c.args.index) has)) in
     record {
       setup = s.setup;
       project = s.project;
-      stops = stops_answered c.args.crew.now.project at now new c.args.crew.now.started.items c.args.crew.now.aloft.items es given s.goes is_given c.args.index c.remove-unit.result at_index begun refl c.index-as_slice-unit.result there c.args.crew.now.store.next c.in-Err.fault
+      stops = stops_answered c.args.crew.now.project at now new c.args.crew.now.started.items c.args.crew.now.aloft.items es given s.goes is_given c.args.index c.remove-unit.result at_index begun refl c.index-as_slice-unit.result there g.P.Place.tells alone c.args.crew.now.store.next c.in-Err.fault
           c.in-Err.ensures.takes.0 c.in-Err.ensures.takes.1;
       spent = spends_answered es first.store.next c.args.crew.now.store.next c.index-as_slice-unit.result.key (child_of c.remove-unit.result.begun) c.in-Err.fault now.counts.starts new.counts.starts c.in-Err.ensures.takes.0 s.numbers;
       before = es;
-      begins = inl refl;
-      changes = λ t. changes_less c.args.crew.now.project at.world c.args.crew.now.aloft.items es now.world new.world now.counts.starts.flying new.counts.starts.flying (s.changes t) (λ j y at_j. flying_of c.args.crew.now now.counts j y c.requires.manned at_j)
+      came = came_answering c.args.crew.now.project c.args.crew.now.store.next c.index-as_slice-unit.result.key (child_of c.remove-unit.result.begun) c.in-Err.fault now.counts.starts new.counts.starts c.in-Err.ensures.takes.0 es;
+      most = c.answer_unit.ensures.most ∙ s.goes.most;
+      changes = λ t. changes_less c.args.crew.now.project c.requires.manned.order at.world c.args.crew.now.aloft.items es now.world new.world now.counts.starts.flying new.counts.starts.flying (s.changes t) (λ j y at_j. flying_of c.args.crew.now now.counts j y c.requires.manned at_j)
           c.args.index c.remove-unit.result at_index c.index-as_slice-unit.result there c.requires.manned.units_apart c.requires.manned.tickets_apart
           (only t) c.answer_unit.ensures.stay c.remove-unit.new.self.items c.remove-unit.ensures.items;
       happened = failed_happened g.P.Place.tells g.P.Place.child first c.args.crew.now at now new (g.P.Place.still c.args.place.now) (g.P.Place.still c.answer_unit.new.place) es given c.args.index c.remove-unit.result c.index-as_slice-unit.result there s at_index
@@ -118,16 +132,17 @@ returns-in-Err-lines_of_unit-clause-story g c = λ first at taken faults es give
     let its = injective (sym is_unit ∙ get_map place_of_unit c.args.crew.now.aloft.items c.args.index c.remove-unit.result at_index) in
     let begun = subst (λ n. slice_get (states_in c.args.crew.now.project es) n ≡ Some Begun) its flies in
     let only : IsTrue g.P.Place.tells → ChangesOnly (is_of (records_folder c.args.crew.now.project) c.index-as_slice-unit.result.key) now.world new.world =
-    λ t. c.answer_unit.ensures.only t (its_writes c.args.crew.now.project at.world c.args.crew.now.aloft.items es now.world new.world now.counts.starts.flying new.counts.starts.flying (s.changes t) (λ j y at_j. flying_of c.args.crew.now now.counts j y c.requires.manned at_j)
+    λ t. c.answer_unit.ensures.only t (its_writes c.args.crew.now.project c.requires.manned.order at.world c.args.crew.now.aloft.items es now.world new.world now.counts.starts.flying new.counts.starts.flying (s.changes t) (λ j y at_j. flying_of c.args.crew.now now.counts j y c.requires.manned at_j)
     c.args.index c.remove-unit.result at_index c.index-as_slice-unit.result there) in
     record {
       setup = s.setup;
       project = s.project;
-      stops = stops_untold c.args.crew.now.project at now new c.args.crew.now.started.items c.args.crew.now.aloft.items es given s.goes is_given c.args.index c.remove-unit.result at_index begun refl c.in-Ok.ensures.takes.1 c.in-Ok.ensures.takes.0;
+      stops = stops_untold c.args.crew.now.project at now new c.args.crew.now.started.items c.args.crew.now.aloft.items es given s.goes is_given c.args.index c.remove-unit.result at_index begun refl g.P.Place.tells c.in-Ok.ensures.takes.1 c.in-Ok.ensures.takes.0;
       spent = tt;
       before = es;
-      begins = inl refl;
-      changes = λ t. changes_less c.args.crew.now.project at.world c.args.crew.now.aloft.items es now.world new.world now.counts.starts.flying new.counts.starts.flying (s.changes t) (λ j y at_j. flying_of c.args.crew.now now.counts j y c.requires.manned at_j)
+      came = inl refl;
+      most = c.answer_unit.ensures.most ∙ s.goes.most;
+      changes = λ t. changes_less c.args.crew.now.project c.requires.manned.order at.world c.args.crew.now.aloft.items es now.world new.world now.counts.starts.flying new.counts.starts.flying (s.changes t) (λ j y at_j. flying_of c.args.crew.now now.counts j y c.requires.manned at_j)
           c.args.index c.remove-unit.result at_index c.index-as_slice-unit.result there c.requires.manned.units_apart c.requires.manned.tickets_apart
           (only t) c.answer_unit.ensures.stay c.remove-unit.new.self.items c.remove-unit.ensures.items;
       happened = untold_happened g.P.Place.tells g.P.Place.child first c.args.crew.now at now new (g.P.Place.still c.args.place.now) (g.P.Place.still c.answer_unit.new.place) es given c.args.index c.remove-unit.result c.index-as_slice-unit.result there s at_index
@@ -146,7 +161,7 @@ returns-clause-story g c = λ first at taken faults es given unit s flying lawfu
     let its = injective (sym is_unit ∙ get_map place_of_unit c.args.crew.now.aloft.items c.args.index c.remove-unit.result at_index) in
     let begun = subst (λ n. slice_get (states_in c.args.crew.now.project es) n ≡ Some Begun) its flies in
     let only : IsTrue g.P.Place.tells → ChangesOnly (is_of (records_folder c.args.crew.now.project) c.index-as_slice-unit.result.key) now.world new.world =
-    λ t. c.answer_unit.ensures.only t (its_writes c.args.crew.now.project at.world c.args.crew.now.aloft.items es now.world new.world now.counts.starts.flying new.counts.starts.flying (s.changes t) (λ j y at_j. flying_of c.args.crew.now now.counts j y c.requires.manned at_j)
+    λ t. c.answer_unit.ensures.only t (its_writes c.args.crew.now.project c.requires.manned.order at.world c.args.crew.now.aloft.items es now.world new.world now.counts.starts.flying new.counts.starts.flying (s.changes t) (λ j y at_j. flying_of c.args.crew.now now.counts j y c.requires.manned at_j)
     c.args.index c.remove-unit.result at_index c.index-as_slice-unit.result there) in
     let crew : UnitCrew = record { setup = c.args.crew.now.setup; project = c.args.crew.now.project; store = c.answer_unit.new.store; done = c.note_answer.new.done; aloft = c.remove-unit.new.self; started = c.args.crew.now.started; reasons = c.args.crew.now.reasons } in
     let answer : Answer BadUnit = record { fault = c.in-Ok.ran.bad; lines = c.in-Ok-lines_of_unit.lines } in
@@ -158,9 +173,13 @@ returns-clause-story g c = λ first at taken faults es given unit s flying lawfu
           (goes_answered c.args.crew.now.project at now new c.args.crew.now.started.items c.args.crew.now.aloft.items es given s.goes is_given c.args.index c.remove-unit.result at_index begun refl c.requires.manned.units_apart answer
           c.in-Ok.ensures.takes.0 c.in-Ok.ensures.takes.1 c.answer_unit.ensures.most);
       numbers = numbers_answered es first.store.next c.args.crew.now.store.next c.answer_unit.new.store.next c.remove-unit.result.unit answer c.answer_unit.ensures.next s.numbers;
-      changes = λ t. changes_after c.args.crew.now.project at.world c.args.crew.now.aloft.items es now.world new.world now.counts.starts.flying new.counts.starts.flying (s.changes t) (λ j y at_j. flying_of c.args.crew.now now.counts j y c.requires.manned at_j)
+      changes = λ t. changes_after c.args.crew.now.project c.requires.manned.order at.world c.args.crew.now.aloft.items es now.world new.world now.counts.starts.flying new.counts.starts.flying (s.changes t) (λ j y at_j. flying_of c.args.crew.now now.counts j y c.requires.manned at_j)
           c.args.index c.remove-unit.result at_index c.index-as_slice-unit.result there c.requires.manned.units_apart c.requires.manned.tickets_apart
-          (only t) c.answer_unit.ensures.stay c.remove-unit.new.self.items c.remove-unit.ensures.items answer;
+          (only t) c.answer_unit.ensures.stay c.remove-unit.new.self.items c.remove-unit.ensures.items answer
+          (λ bad none read. launched_gone read (records_folder c.args.crew.now.project) c.index-as_slice-unit.result.key c.index-as_slice-unit.result.out now.world new.world
+          (c.requires.manned.order.keys c.remove-unit.result.unit c.index-as_slice-unit.result there) (c.requires.manned.order.folders c.remove-unit.result.unit c.index-as_slice-unit.result there)
+          (c.in-Ok.ensures.unkept t (its_writes c.args.crew.now.project c.requires.manned.order at.world c.args.crew.now.aloft.items es now.world new.world now.counts.starts.flying new.counts.starts.flying (s.changes t) (λ j y at_j. flying_of c.args.crew.now now.counts j y c.requires.manned at_j)
+          c.args.index c.remove-unit.result at_index c.index-as_slice-unit.result there) bad) (none read));
       happened = answered_happened g.P.Place.tells g.P.Place.child first c.args.crew.now at now new (g.P.Place.still c.args.place.now) (g.P.Place.still c.answer_unit.new.place) es given c.args.index c.remove-unit.result c.index-as_slice-unit.result there s at_index
           c.requires.manned.units_apart c.requires.manned.tickets_apart c.requires.manned.numbers_apart c.answer_unit.new.store.next c.answer_unit.ensures.others c.requires.manned.order only c.answer_unit.ensures.same
           c.in-Ok.ran c.in-Ok.ensures.outcome c.in-Ok.ensures.keeps c.in-Ok.ensures.directives c.in-Ok-lines_of_unit.lines c.remove-unit.new.self.items c.note_answer.new.done.items c.remove-unit.ensures.items c.note_answer.ensures.done

@@ -1,11 +1,13 @@
-use Rattle.std.proofs.Common.{◌∙◌, ◌++◌, ◌∷◌, [], Some, length, false, is_some, refl, sym, ap, subst, inr}
+use Rattle.std.proofs.Common.{◌∙◌, ◌++◌, ◌∷◌, [], Some, IsTrue, length, false, is_some, refl, sym, ap, subst, inr, map}
 use Rattle.pb_flight.specs.Events.{Began}
 use Rattle.pb_flight.specs.Table.{if_so}
 use Rattle.pb_flight.proofs.Lists.{length_set}
 use Rattle.pb_place.proofs.Folders.{only_same}
 use Rattle.pb_run.specs.Halves.{child_of}
+use Rattle.pb_turns.specs.Crew.{ticket_of_child}
 use Rattle.pb_turns.specs.Moments.{moment}
-use Rattle.pb_turns.specs.Story.{Story}
+use Rattle.pb_turns.specs.Story.{Story, NoneWritesTo}
+use Rattle.pb_turns.proofs.Alone.{none_writes}
 use Rattle.pb_turns.proofs.Beginning.{goes_lists, refused_happened, failed_happened, begun_happened, by_number}
 use Rattle.pb_turns.proofs.Changing.{changes_begun, changes_more}
 use Rattle.pb_turns.proofs.Counting.{goes_begun, stops_begun, stops_refused_begun, children_are}
@@ -43,11 +45,12 @@ returns-in-Err-clause-story g c = λ first at taken faults es given s flying law
       record {
         setup = s.setup;
         project = s.project;
-        stops = stops_refused_begun c.args.crew.now.project at now now c.args.crew.now.started.items c.args.crew.now.aloft.items es given c.args.unit s.goes is_given may.untouched refl refl;
+        stops = stops_refused_begun c.args.crew.now.project at now now c.args.crew.now.started.items c.args.crew.now.aloft.items es given c.args.unit s.goes is_given may.untouched refl g.P.Place.tells refl;
         spent = tt;
         before = es;
-        begins = inr (c.args.unit, false, refl);
-        changes = λ t. changes_begun c.args.crew.now.project at.world c.args.crew.now.aloft.items es now.world now.world now.counts.starts.flying now.counts.starts.flying (s.changes t) (λ index a at. flying_of c.args.crew.now (g.P.Place.counts c.args.place.now) index a c.requires.manned at)
+        came = inr (c.args.unit, false, refl);
+        most = s.goes.most;
+        changes = λ t. changes_begun c.args.crew.now.project c.requires.manned.order at.world c.args.crew.now.aloft.items es now.world now.world now.counts.starts.flying now.counts.starts.flying (s.changes t) (λ index a at. flying_of c.args.crew.now (g.P.Place.counts c.args.place.now) index a c.requires.manned at)
             c.args.unit u there may.untouched (only_same _ now.world) (λ ticket its is. is) false c.make_room.new.aloft.items c.make_room.ensures.aloft;
         happened = refused_happened g.P.Place.tells g.P.Place.child first c.args.crew.now at now now (g.P.Place.still c.args.place.now) (g.P.Place.still c.args.place.now) es given c.args.unit u c.requires.manned.order there s may c.make_room.new.aloft.items c.make_room.ensures.aloft;
       },
@@ -56,9 +59,16 @@ returns-in-Err-clause-story g c = λ first at taken faults es given s flying law
 pub returns-in-Err-begin_unit-clause-story : goal.returns-in-Err-begin_unit-clause-story
 returns-in-Err-begin_unit-clause-story g c = λ first at taken faults es given s flying lawful is_given may.
     let there = there_at c.args.crew.now.project.plan.planned c.as_slice.result.now c.args.unit c.index-as_slice-unit.result c.requires.unit c.as_slice.ensures c.index-as_slice-unit.is in
-    let (spawned, stops, spent) = stops_begun c.args.crew.now.project at (moment (g.P.Place.world c.args.place.now) (g.P.Place.counts c.args.place.now) (g.P.Place.most c.args.place.now) taken faults)
+    let alone : IsTrue g.P.Place.tells → NoneWritesTo c.index-as_slice-unit.result.out (g.P.Place.counts c.begin_unit.new.place).starts.flying =
+    λ t. none_writes c.args.crew.now.project c.requires.manned.order at.world (g.P.Place.world c.begin_unit.new.place) c.args.crew.now.aloft.items (Began c.args.unit false ∷ es) (g.P.Place.counts c.begin_unit.new.place).starts.flying
+    c.requires.manned.units (ap (map ticket_of_child) (begin_fault_flies _ _ c.in-Err-begin_unit.fault _ _ c.in-Err-begin_unit.ensures.takes.0) ∙ c.requires.manned.tickets)
+    (changes_begun c.args.crew.now.project c.requires.manned.order at.world c.args.crew.now.aloft.items es (g.P.Place.world c.args.place.now) (g.P.Place.world c.begin_unit.new.place) (g.P.Place.counts c.args.place.now).starts.flying (g.P.Place.counts c.begin_unit.new.place).starts.flying
+    (s.changes t) (λ index a at. flying_of c.args.crew.now (g.P.Place.counts c.args.place.now) index a c.requires.manned at)
+    c.args.unit c.index-as_slice-unit.result there may.untouched (c.begin_unit.ensures.only t) c.begin_unit.ensures.stay false c.args.crew.now.aloft.items refl)
+    c.args.unit c.index-as_slice-unit.result there c.requires.grounded in
+    let (spawned, stops, spent, came) = stops_begun c.args.crew.now.project at (moment (g.P.Place.world c.args.place.now) (g.P.Place.counts c.args.place.now) (g.P.Place.most c.args.place.now) taken faults)
     (moment (g.P.Place.world c.begin_unit.new.place) (g.P.Place.counts c.begin_unit.new.place) (g.P.Place.most c.begin_unit.new.place) taken faults)
-    c.args.crew.now.started.items c.args.crew.now.aloft.items es given c.args.unit s.goes is_given may.untouched refl c.index-as_slice-unit.result there c.args.crew.now.store.next first.store.next c.in-Err-begin_unit.fault
+    c.args.crew.now.started.items c.args.crew.now.aloft.items es given c.args.unit s.goes is_given may.untouched refl c.index-as_slice-unit.result there g.P.Place.tells alone c.args.crew.now.store.next first.store.next c.in-Err-begin_unit.fault
     s.numbers c.in-Err-begin_unit.ensures.takes.0 c.in-Err-begin_unit.ensures.takes.1 in (
       spawned,
       record {
@@ -67,8 +77,9 @@ returns-in-Err-begin_unit-clause-story g c = λ first at taken faults es given s
         stops = stops;
         spent = spent;
         before = es;
-        begins = inr (c.args.unit, spawned, refl);
-        changes = λ t. changes_begun c.args.crew.now.project at.world c.args.crew.now.aloft.items es (g.P.Place.world c.args.place.now) (g.P.Place.world c.begin_unit.new.place) (g.P.Place.counts c.args.place.now).starts.flying (g.P.Place.counts c.begin_unit.new.place).starts.flying
+        came = came;
+        most = c.in-Err-begin_unit.ensures.most ∙ s.goes.most;
+        changes = λ t. changes_begun c.args.crew.now.project c.requires.manned.order at.world c.args.crew.now.aloft.items es (g.P.Place.world c.args.place.now) (g.P.Place.world c.begin_unit.new.place) (g.P.Place.counts c.args.place.now).starts.flying (g.P.Place.counts c.begin_unit.new.place).starts.flying
             (s.changes t) (λ index a at. flying_of c.args.crew.now (g.P.Place.counts c.args.place.now) index a c.requires.manned at)
             c.args.unit c.index-as_slice-unit.result there may.untouched (c.begin_unit.ensures.only t) c.begin_unit.ensures.stay spawned c.make_room.new.aloft.items c.make_room.ensures.aloft;
         happened = failed_happened g.P.Place.tells g.P.Place.child first c.args.crew.now at (moment (g.P.Place.world c.args.place.now) (g.P.Place.counts c.args.place.now) (g.P.Place.most c.args.place.now) taken faults)
@@ -94,9 +105,9 @@ returns-clause-story g c = λ first at taken faults es given s flying lawful is_
           record { unit = c.args.unit; begun = c.in-Ok-begin_unit.made.begun } refl c.in-Ok-begin_unit.ensures.takes.0 c.in-Ok-begin_unit.ensures.takes.1
           (children_are (g.P.Place.counts c.args.place.now) c.args.crew.now.aloft.items c.requires.manned.tickets) c.in-Ok-begin_unit.ensures.most);
       numbers = numbers_begun es first.store.next c.args.crew.now.store.next c.begin_unit.new.store.next c.args.unit (child_of c.in-Ok-begin_unit.made.begun) c.in-Ok-begin_unit.ensures.number s.numbers;
-      changes = λ t. changes_more c.args.crew.now.project at.world c.args.crew.now.aloft.items es now.world new.world now.counts.starts.flying new.counts.starts.flying (s.changes t) (λ index a at. flying_of c.args.crew.now (g.P.Place.counts c.args.place.now) index a c.requires.manned at)
+      changes = λ t. changes_more c.args.crew.now.project c.requires.manned.order at.world c.args.crew.now.aloft.items es now.world new.world now.counts.starts.flying new.counts.starts.flying (s.changes t) (λ index a at. flying_of c.args.crew.now (g.P.Place.counts c.args.place.now) index a c.requires.manned at)
           c.args.unit c.index-as_slice-unit.result there may.untouched (c.begin_unit.ensures.only t) c.begin_unit.ensures.stay (is_some (child_of c.in-Ok-begin_unit.made.begun))
-          record { unit = c.args.unit; begun = c.in-Ok-begin_unit.made.begun } c.note_begun.new.aloft.items refl more (c.in-Ok-begin_unit.ensures.writes t);
+          record { unit = c.args.unit; begun = c.in-Ok-begin_unit.made.begun } c.note_begun.new.aloft.items refl more (c.in-Ok-begin_unit.ensures.writes t) refl (λ launched read. c.in-Ok-begin_unit.ensures.dropped read t launched);
       happened = begun_happened g.P.Place.tells g.P.Place.child first c.args.crew.now at now new (g.P.Place.still c.args.place.now) (g.P.Place.still c.begin_unit.new.place)
           es given c.args.unit c.index-as_slice-unit.result c.requires.manned.order there s may c.begin_unit.new.store.next c.as_slice-2.result.now c.as_slice-2.ensures.value
           c.begin_unit.ensures.keeps c.begin_unit.ensures.others c.begin_unit.ensures.only c.in-Ok-begin_unit.made.begun c.note_begun.new.aloft.items c.in-Ok-begin_unit.made.difference c.note_begun.new.reasons.items more c.in-Ok-begin_unit.ensures.begun c.in-Ok-begin_unit.ensures.differs

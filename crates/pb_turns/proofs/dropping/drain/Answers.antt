@@ -16,7 +16,7 @@ loop-alloc-preserved g c = record {
       (sym (ap (λ (x : UnitCrew). x.project) c.loop-alloc.invariant.same)) (c.loop-alloc.invariant.changes first es tells old)));
   happened = λ b es tells project h.
       c.drop_first.ensures.happened b es tells (project ∙ sym (ap (λ (x : UnitCrew). x.project) c.loop-alloc.invariant.same)) (c.loop-alloc.invariant.happened b es tells project h);
-  began = λ b es before reasons first tells project lawful begins h began.
-      c.drop_first.ensures.began b es before reasons first tells (project ∙ sym (ap (λ (x : UnitCrew). x.project) c.loop-alloc.invariant.same)) lawful begins (c.loop-alloc.invariant.happened b es tells project h)
-      (c.loop-alloc.invariant.began b es before reasons first tells project lawful begins h began);
+  began = λ b fault es before reasons first tells project lawful came h began.
+      c.drop_first.ensures.began b fault es before reasons first tells (project ∙ sym (ap (λ (x : UnitCrew). x.project) c.loop-alloc.invariant.same)) lawful came (c.loop-alloc.invariant.happened b es tells project h)
+      (c.loop-alloc.invariant.began b fault es before reasons first tells project lawful came h began);
 }

@@ -3,11 +3,12 @@ use Rattle.pb_flight.specs.Events.{Event, IsLawful}
 use Rattle.pb_place.specs.Counts.{Counts}
 use Rattle.pb_place.specs.World.{World}
 use Rattle.pb_answer.specs.declared.bad_unit.BadUnit.{BadUnit}
+use Rattle.pb_answer.specs.declared.fault.BuildFault.{BuildFault}
 use Rattle.pb_run.specs.Halves.{Basis}
 use Rattle.pb_turns.specs.Crew.{needs_of, tickets_of, IsManned}
 use Rattle.pb_turns.specs.Ends.{Dropped}
 use Rattle.pb_turns.specs.Rows.{Reasons}
-use Rattle.pb_turns.specs.Story.{AllBeganFor, Changes, Happened, IsBeginning}
+use Rattle.pb_turns.specs.Story.{AllBeganFor, Changes, Happened, CameAfter}
 use Rattle.pb_turns.proofs.dropping.drain.Given as goal
 
 abbrev pub invariant-loop-alloc : goal.invariant-loop-alloc
@@ -21,7 +22,7 @@ invariant-loop-alloc g l = record {
   happened : (b : Basis) (es : List (Event BadUnit)) → IsTrue g.P.Place.tells → b.project ≡ l.fn.crew.project
       → Happened b l.fn.crew.done.items l.fn.crew.aloft.items l.fn.crew.store.next es (g.P.Place.world l.fn.place) (g.P.Place.counts l.fn.place).starts.flying (g.P.Place.still l.fn.place)
       → Happened b l.crew.done.items l.crew.aloft.items l.crew.store.next es (g.P.Place.world l.place) (g.P.Place.counts l.place).starts.flying (g.P.Place.still l.place);
-  began : (b : Basis) (es before : List (Event BadUnit)) (reasons : Reasons) (first : World) → IsTrue g.P.Place.tells → b.project ≡ l.fn.crew.project → IsLawful (needs_of b.project) es → IsBeginning before es
+  began : (b : Basis) (fault : BuildFault) (es before : List (Event BadUnit)) (reasons : Reasons) (first : World) → IsTrue g.P.Place.tells → b.project ≡ l.fn.crew.project → IsLawful (needs_of b.project) es → CameAfter b.project fault before es
       → Happened b l.fn.crew.done.items l.fn.crew.aloft.items l.fn.crew.store.next es (g.P.Place.world l.fn.place) (g.P.Place.counts l.fn.place).starts.flying (g.P.Place.still l.fn.place)
       → AllBeganFor b before reasons first (g.P.Place.world l.fn.place) → AllBeganFor b before reasons first (g.P.Place.world l.place);
 }

@@ -31,7 +31,7 @@ returns-clause-changes g c = λ first es tells old.
     0 c.remove-aloft.result at c.remove-aloft.new.self.items c.remove-aloft.ensures.items old (λ out. c.drop_unit.ensures.only out tells) c.drop_unit.ensures.stay
 
 pub returns-clause-began : goal.returns-clause-began
-returns-clause-began g c = λ b es before reasons first tells project lawful begins h began.
+returns-clause-began g c = λ b fault es before reasons first tells project lawful came h began.
     let at = slice_get_read c.args.crew.now.aloft.items (length c.args.crew.now.aloft.items) 0 c.remove-aloft.result refl c.requires.some c.remove-aloft.ensures.value in
-    began_dropped b c.args.crew.now (g.P.Place.counts c.args.place.now) c.requires.manned project es before reasons first (g.P.Place.world c.args.place.now) (g.P.Place.world c.drop_unit.new.place) (g.P.Place.still c.args.place.now)
-    0 c.remove-aloft.result at lawful begins h (λ out. c.drop_unit.ensures.only out tells) began
+    began_dropped b c.args.crew.now (g.P.Place.counts c.args.place.now) c.requires.manned project fault es before reasons first (g.P.Place.world c.args.place.now) (g.P.Place.world c.drop_unit.new.place) (g.P.Place.still c.args.place.now)
+    0 c.remove-aloft.result at lawful came h (λ out. c.drop_unit.ensures.only out tells) began

@@ -6,10 +6,11 @@ pub returns : goal.returns
 returns g c = λ first first_place last_place first_out last_out es given s. record {
   setup = s.setup;
   project = s.project;
-  stops = stops_refused _ _ _ _ _ _ _ _ s.goes refl refl refl;
+  stops = stops_refused _ _ _ _ _ _ _ _ s.goes refl refl g.P.Place.tells refl;
   spent = tt;
   before = es;
-  begins = inl refl;
+  came = inl refl;
+  most = s.goes.most;
   changes = s.changes;
   happened = s.happened;
 }

@@ -1,4 +1,4 @@
-use Rattle.std.proofs.Common.{refl, inl, subst, take}
+use Rattle.std.proofs.Common.{refl, subst, take}
 use Rattle.std.specs.Io.KnownBytes.{Appends}
 use Rattle.pb_turns.proofs.Counting.{goes_told, stops_sink}
 use Rattle.pb_turns.proofs.crew.UnitCrewCrewBadUnitBuildFault.tell.Goals as goal
@@ -21,10 +21,11 @@ returns-else-write_all-clause-story g c = λ first first_place first_out es give
     record {
       setup = s.setup;
       project = s.project;
-      stops = stops_sink _ _ _ _ _ _ _ _ s.goes refl refl n (subst (λ l. Appends (g.O.Out.taken c.args.out.now) (g.O.Out.taken c.write_all.new.out) (take n l)) lines part) (c.write_all.ensures.fault c.if-write_all.false);
+      stops = stops_sink _ _ _ _ _ _ _ _ s.goes refl refl g.P.Place.tells n (subst (λ l. Appends (g.O.Out.taken c.args.out.now) (g.O.Out.taken c.write_all.new.out) (take n l)) lines part) (c.write_all.ensures.fault c.if-write_all.false);
       spent = tt;
       before = es;
-      begins = inl refl;
+      came = refl;
+      most = s.goes.most;
       changes = s.changes;
       happened = s.happened;
     }
