@@ -7,3 +7,4 @@ pub mod Firsts
 pub mod Still
 pub mod Once
 pub mod Names
+pub mod Called

@@ -6,3 +6,4 @@ pub mod Asking
 pub mod Differences
 pub mod Presence
 pub mod Replaying
+pub mod Calls

@@ -8,6 +8,7 @@ ghost use Rattle.pb_soundness.specs.Inputs.{Judge};
 ghost use Rattle.pb_soundness.specs.Numbers.{after, IsAhead};
 ghost use Rattle.pb_soundness.specs.Records.{Reading, is_key, place_of, record_at};
 ghost use Rattle.pb_soundness.specs.Sound.{Sound};
+ghost use Rattle.pb_store.specs.Calls.{CallsOnce};
 ghost use Rattle.pb_store.specs.Causes.{Takes, MayRemove, MayDrop};
 ghost use Rattle.pb_store.specs.Keeping.{Leaves};
 
@@ -36,6 +37,7 @@ fn remove<P: Place>(alloc: Global, place: &mut P, path: &PathText) -> Result<(),
     ensures most { P.most place.new ≡ P.most place.old }
     ensures still { IsTrue P.tells → KeepsStillOutside (is_at_or_below path.now) (P.counts place.old).starts.flying (P.still place.old) (P.still place.new) }
     ensures takes { Takes MayRemove result (P.counts place.old) (P.counts place.new) }
+    ensures calls { CallsOnce path.now result (P.counts place.old) (P.counts place.new) }
 {
     match place.remove_tree(alloc, path) {
         Ok(()) => Ok(()),
@@ -59,6 +61,7 @@ fn remove_record<P: Place>(
     ensures most { P.most place.new ≡ P.most place.old }
     ensures still { IsTrue P.tells → KeepsStillOutside (is_at_or_below (place_of folder.now key.now)) (P.counts place.old).starts.flying (P.still place.old) (P.still place.new) }
     ensures takes { Takes MayRemove result (P.counts place.old) (P.counts place.new) }
+    ensures calls { CallsOnce (place_of folder.now key.now) result (P.counts place.old) (P.counts place.new) }
 {
     let _ = folder.as_str();
     let path = match place_path(alloc, folder, key) {
@@ -95,6 +98,7 @@ impl Store {
         ensures most { P.most place.new ≡ P.most place.old }
         ensures still { IsTrue P.tells → KeepsStillOutside (is_at_or_below (place_of self.old.folder key.now)) (P.counts place.old).starts.flying (P.still place.old) (P.still place.new) }
         ensures takes { Takes (MayDrop self.old.next) result (P.counts place.old) (P.counts place.new) }
+        ensures calls { CallsOnce (place_of self.old.folder key.now) result (P.counts place.old) (P.counts place.new) }
     {
         // The number first: where none is left, nothing is removed.
         let number = match self.next {

@@ -1,6 +1,7 @@
 //! The record of a unit that was built, kept with the run number that was given for it.
 
-ghost use Rattle.std.specs.Prelude.{◌≡◌, ℕ, Option, true, IsTrue, IfOk, OnOk, OnErr, Some, All, map};
+ghost use Rattle.std.specs.Prelude.{◌≡◌, ℕ, Option, true, IsTrue, IfErr, IfOk, OnOk, OnErr, Some, All, map};
+ghost use Rattle.pb_place.specs.declared.place.PlaceFault.TheVariants as place_fault;
 ghost use Rattle.pb_place.specs.Paths.{is_at_or_below};
 ghost use Rattle.pb_place.specs.World.{ChangesOnly, Torn, written};
 ghost use Rattle.pb_soundness.specs.Apart.{KeepsStill, KeepsStillOutside};
@@ -9,6 +10,8 @@ ghost use Rattle.pb_soundness.specs.Numbers.{IsAhead, IsBefore, NamesBefore};
 ghost use Rattle.pb_soundness.specs.Records.{Reading, is_key, out_of, place_of, record_at, number_of};
 ghost use Rattle.pb_soundness.specs.Reuse.{number_if};
 ghost use Rattle.pb_soundness.specs.Sound.{Sound};
+ghost use Rattle.pb_store.specs.Calls.{CallsOnce, looked};
+ghost use Rattle.pb_store.specs.declared.fault.StoreFault.TheVariants as store_fault;
 ghost use Rattle.pb_store.specs.Causes.{Takes, MayRead, MayLook, MayWrite, MayKeep};
 ghost use Rattle.pb_store.specs.Keeping.{Leaves, IsKept, HasNeeds, MayPut, kept_of, numbered, or_zero};
 ghost use Rattle.pb_record.specs.Commands.{of_parts};
@@ -128,6 +131,7 @@ fn write<P: Place>(
     ensures most { P.most place.new ≡ P.most place.old }
     ensures still { IsTrue P.tells → KeepsStillOutside (is_at_or_below path.now) (P.counts place.old).starts.flying (P.still place.old) (P.still place.new) }
     ensures takes { Takes MayWrite result (P.counts place.old) (P.counts place.new) }
+    ensures calls { CallsOnce path.now result (P.counts place.old) (P.counts place.new) }
 {
     match place.write(alloc, path, bytes) {
         Ok(()) => Ok(()),
@@ -152,6 +156,7 @@ pub(crate) fn put_record<P: Place>(
     ensures most { P.most place.new ≡ P.most place.old }
     ensures still { IsTrue P.tells → KeepsStillOutside (is_at_or_below (place_of folder.now key.now)) (P.counts place.old).starts.flying (P.still place.old) (P.still place.new) }
     ensures takes { Takes MayWrite result (P.counts place.old) (P.counts place.new) }
+    ensures calls { CallsOnce (place_of folder.now key.now) result (P.counts place.old) (P.counts place.new) }
 {
     let _ = folder.as_str();
     let path = match place_path(alloc, folder, key) {
@@ -276,6 +281,8 @@ impl Store {
         ensures most { P.most place.new ≡ P.most place.old }
         ensures still { IsTrue P.tells → KeepsStillOutside (is_at_or_below (place_of self.now.folder key.now)) (P.counts place.old).starts.flying (P.still place.old) (P.still place.new) }
         ensures takes { Takes MayKeep result (P.counts place.old) (P.counts place.new) }
+        ensures before { IsTrue P.tells → IfErr result (λ e. looked e ≡ true → P.world place.new ≡ P.world place.old) }
+        ensures written { IfErr result (λ e. e ≡ store_fault.Place place_fault.Write → (P.counts place.new).named ≡ place_of self.now.folder key.now) }
     {
         let _ = self.folder.as_str();
         let kept = match kept_now(

@@ -1,6 +1,7 @@
 //! A record of format 1 that becomes one of format 2.
 
-ghost use Rattle.std.specs.Prelude.{is_some, false, ◌≡◌, ◌⊎◌, ℕ, List, true, IsTrue, IfOk, OnOk, Some, None, Err, All};
+ghost use Rattle.std.specs.Prelude.{is_some, false, ◌≡◌, ◌⊎◌, ℕ, List, true, IsTrue, IfErr, IfOk, OnOk, Some, None, Err, All};
+ghost use Rattle.pb_place.specs.declared.place.PlaceFault.TheVariants as place_fault;
 ghost use Rattle.pb_place.specs.Paths.{is_at_or_below};
 ghost use Rattle.pb_place.specs.World.{ChangesOnly};
 ghost use Rattle.pb_place.specs.declared.command.Command.{Command};
@@ -11,6 +12,7 @@ ghost use Rattle.pb_soundness.specs.Inputs.{Judge};
 ghost use Rattle.pb_soundness.specs.Numbers.{after, IsAhead};
 ghost use Rattle.pb_soundness.specs.Records.{Reading, is_key, place_of, record_at, number_of};
 ghost use Rattle.pb_soundness.specs.Sound.{Sound};
+ghost use Rattle.pb_store.specs.Calls.{looked};
 ghost use Rattle.pb_store.specs.Causes.{Takes, MayMigrate};
 ghost use Rattle.pb_store.specs.Keeping.{Leaves, numbered};
 ghost use Rattle.pb_store.specs.declared.fault.StoreFault.TheVariants as store_fault;
@@ -63,6 +65,8 @@ impl Store {
         ensures most { P.most place.new ≡ P.most place.old }
         ensures still { IsTrue P.tells → KeepsStillOutside (is_at_or_below (place_of self.old.folder key.now)) (P.counts place.old).starts.flying (P.still place.old) (P.still place.new) }
         ensures takes { Takes (MayMigrate self.old.next) result (P.counts place.old) (P.counts place.new) }
+        ensures before { IfErr result (λ e. looked e ≡ true → (self.new.next ≡ self.old.next) × (IsTrue P.tells → P.world place.new ≡ P.world place.old)) }
+        ensures written { IfErr result (λ e. e ≡ store_fault.Place place_fault.Write → (P.counts place.new).named ≡ place_of self.old.folder key.now) }
     {
         let _ = self.folder.as_str();
         let number = match self.next {
@@ -109,6 +113,8 @@ impl Store {
         ensures most { P.most place.new ≡ P.most place.old }
         ensures still { IsTrue P.tells → KeepsStillOutside (is_at_or_below (place_of self.old.folder key.now)) (P.counts place.old).starts.flying (P.still place.old) (P.still place.new) }
         ensures takes { Takes (MayMigrate self.old.next) result (P.counts place.old) (P.counts place.new) }
+        ensures before { IfErr result (λ e. looked e ≡ true → (self.new.next ≡ self.old.next) × (IsTrue P.tells → P.world place.new ≡ P.world place.old)) }
+        ensures written { IfErr result (λ e. e ≡ store_fault.Place place_fault.Write → (P.counts place.new).named ≡ place_of self.old.folder key.now) }
     {
         let found = record_at(alloc, place, &self.folder, key)?;
         let kept = match found {

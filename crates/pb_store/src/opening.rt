@@ -1,12 +1,13 @@
 //! A store is opened: what the records of a folder name says which run number is the next.
 
-ghost use Rattle.std.specs.Prelude.{◌≡◌, max, IsTrue, IfOk};
+ghost use Rattle.std.specs.Prelude.{◌≡◌, max, IsTrue, IfErr, IfOk};
 ghost use Rattle.std.specs.List.{fold};
 ghost use Rattle.std.specs.FinMap as map;
 ghost use Rattle.pb_place.specs.World.{listed_directly};
 ghost use Rattle.pb_soundness.specs.Apart.{KeepsStill};
 ghost use Rattle.pb_soundness.specs.Numbers.{IsAhead};
 ghost use Rattle.pb_soundness.specs.Records.{Reading, read_text, record_at};
+ghost use Rattle.pb_store.specs.Calls.{OpensBy, ReadsAt, ReadsOneOf, ReadsRecord};
 ghost use Rattle.pb_store.specs.Causes.{TakesOpen};
 ghost use Rattle.pb_store.specs.Opening.{greatest_named, greatest_if, greatest_at, greatest_of, next_in};
 ghost use Rattle.pb_record.specs.Parts.{IsReading};
@@ -70,6 +71,7 @@ fn read_greatest<P: Place>(alloc: Global, place: &mut P, path: PathText) -> Resu
     ensures most { P.most place.new ≡ P.most place.old }
     ensures still { IsTrue P.tells → KeepsStill (P.still place.old) (P.still place.new) }
     ensures takes { TakesOpen result (P.counts place.old) (P.counts place.new) }
+    ensures told { IfErr result (ReadsAt path) }
 {
     let text = match place.read(alloc, &path) {
         Ok(text) => text,
@@ -88,6 +90,7 @@ fn greatest_at<P: Place>(alloc: Global, place: &mut P, path: PathText) -> Result
     ensures most { P.most place.new ≡ P.most place.old }
     ensures still { IsTrue P.tells → KeepsStill (P.still place.old) (P.still place.new) }
     ensures takes { TakesOpen result (P.counts place.old) (P.counts place.new) }
+    ensures told { IfErr result (ReadsRecord path) }
 {
     if !ends_as_record(path.as_str().as_bytes()) {
         return Ok(0);
@@ -106,6 +109,7 @@ fn greatest_of<P: Place>(
     ensures most { P.most place.new ≡ P.most place.old }
     ensures still { IsTrue P.tells → KeepsStill (P.still place.old) (P.still place.new) }
     ensures takes { TakesOpen result (P.counts place.old) (P.counts place.new) }
+    ensures told { IfErr result (ReadsOneOf paths) }
 {
     let mut greatest = 0;
     for path in paths.into_vec() {
@@ -136,6 +140,7 @@ impl Store {
         ensures most { P.most place.new ≡ P.most place.old }
         ensures still { IsTrue P.tells → KeepsStill (P.still place.old) (P.still place.new) }
         ensures takes { TakesOpen result (P.counts place.old) (P.counts place.new) }
+        ensures told { IfErr result (OpensBy P.tells folder (P.world place.old)) }
     {
         let paths = match place.list_directly(alloc, &folder) {
             Ok(paths) => paths,

@@ -1,4 +1,4 @@
-use Rattle.std.proofs.Common.{◌≡◌, max, IsTrue}
+use Rattle.std.proofs.Common.{◌≡◌, ℕ, max, IsTrue, Contains, List}
 use Rattle.std.specs.List.{fold}
 use Rattle.std.specs.Vec.Iter.{into_iter_items}
 use Rattle.pb_soundness.specs.Apart.{KeepsStill}
@@ -13,6 +13,7 @@ invariant-loop-path g l = record {
   most : g.P.Place.most l.place ≡ g.P.Place.most l.fn.place;
   still : IsTrue g.P.Place.tells → KeepsStill (g.P.Place.still l.fn.place) (g.P.Place.still l.place);
   found : (read : Reading) → IsReading read → IsTrue g.P.Place.tells → fold (λ m path. max m (greatest_at read (g.P.Place.world l.fn.place).files path)) l.greatest (into_iter_items l.path-iterator) ≡ greatest_of read (g.P.Place.world l.fn.place).files l.fn.paths;
+  within : (p : List ℕ) → Contains (into_iter_items l.path-iterator) p → Contains l.fn.paths p;
   starts : (g.P.Place.counts l.place).starts ≡ (g.P.Place.counts l.fn.place).starts;
   failures : (g.P.Place.counts l.place).failures ≡ (g.P.Place.counts l.fn.place).failures;
 }

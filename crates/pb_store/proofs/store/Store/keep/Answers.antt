@@ -4,6 +4,7 @@ use Rattle.pb_soundness.specs.Numbers.{IsAhead}
 use Rattle.pb_soundness.specs.Records.{record_at}
 use Rattle.pb_soundness.specs.Sound.{Sound}
 use Rattle.pb_store.proofs.Earned.{may_keep, kept_before}
+use Rattle.pb_store.proofs.Called.{named_once, no_look, no_write}
 use Rattle.pb_store.proofs.store.Store.keep.Goals as goal
 
 pub returns-in-Ok-put_record-clause-sound : goal.returns-in-Ok-put_record-clause-sound
@@ -29,3 +30,12 @@ returns-clause-ahead g c read is told before has ahead =
     c.in-Err-put_record.ensures.ahead read c.args.self.now.next is told
     (kept_before _ _ _ _ c.args.command.now _ _ _ c.args.ended.now _ before has (c.in-Ok.ensures.ok read is told))
     (subst (λ (w : World). IsAhead (record_at read c.args.self.now.folder w.files) c.args.self.now.next) (sym (c.in-Ok.ensures.same told)) ahead)
+
+pub returns-in-Err-clause-written : goal.returns-in-Err-clause-written
+returns-in-Err-clause-written g c is = absurd (no_write _ c.in-Err.ensures.takes.1.0 is)
+
+pub returns-clause-before : goal.returns-clause-before
+returns-clause-before g c told look = absurd (no_look _ c.in-Err-put_record.ensures.takes.1.0 look)
+
+pub returns-clause-written : goal.returns-clause-written
+returns-clause-written g c is = named_once _ _ _ _ c.in-Err-put_record.ensures.calls is

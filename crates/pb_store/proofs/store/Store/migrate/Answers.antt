@@ -1,10 +1,11 @@
-use Rattle.std.proofs.Common.{◌∙◌, ap, is_some, sym, subst}
+use Rattle.std.proofs.Common.{◌∙◌, ap, is_some, rules, sym, subst}
 use Rattle.std.proofs.lemmas.Bool.{false≢true}
 use Rattle.pb_place.specs.World.{World}
 use Rattle.pb_soundness.specs.Numbers.{IsAhead}
-use Rattle.pb_soundness.specs.Records.{record_at}
+use Rattle.pb_soundness.specs.Records.{place_of, record_at}
 use Rattle.pb_soundness.specs.Sound.{Sound}
 use Rattle.pb_store.proofs.Migrated.{lacks_it, renumbered_left, has_number, stands_by_key, same_migrated, renumbered}
+use Rattle.pb_store.proofs.Called.{read_unwritten}
 use Rattle.pb_store.proofs.store.Store.migrate.Goals as goal
 
 pub returns-in-Ok-clause-sound : goal.returns-in-Ok-clause-sound
@@ -68,3 +69,13 @@ returns-in-Err-clause-unused g c read is told has = absurd (false≢true (sym ha
 
 pub returns-in-Err-clause-cause : goal.returns-in-Err-clause-cause
 returns-in-Err-clause-cause g c read is told spent = lacks_it read c.args.self.now.folder c.args.key.now (g.P.Place.world c.args.place.now) _ c.in-Some.kept (c.in_ok-found.ensures.ok read is told) c.in-Some.is (ap is_some (sym c.number_of.ensures) ∙ sym c.is_some.ensures ∙ c.if-is_some.false)
+
+pub returns-in_err-found-clause-written : goal.returns-in_err-found-clause-written
+returns-in_err-found-clause-written g c =
+    let h = read_unwritten c.in_err-found.field-0.0 (g.P.Place.counts c.record_at.new.place).named (place_of c.args.self.now.folder c.args.key.now) c.in_err-found.ensures.takes.1.0 in
+    search (rules, h)
+
+pub returns-in-Err-clause-before : goal.returns-in-Err-clause-before
+returns-in-Err-clause-before g c look =
+    let before = c.in-Err.ensures.before look in
+    (before.0, λ told. before.1 told ∙ c.in_ok-found.ensures.same told)

@@ -1,4 +1,7 @@
+use Rattle.std.proofs.Common.{rules}
+use Rattle.pb_soundness.specs.Records.{place_of}
 use Rattle.pb_store.proofs.Migrated.{migrated_sound, migrated_ahead}
+use Rattle.pb_store.proofs.Called.{named_once, no_look, read_unwritten}
 use Rattle.pb_store.proofs.store.Store.renumber.Goals as goal
 
 pub returns-in-Ok-clause-sound : goal.returns-in-Ok-clause-sound
@@ -20,3 +23,14 @@ pub returns-clause-ahead : goal.returns-clause-ahead
 returns-clause-ahead g c read judge d is told may ahead =
     migrated_ahead read judge _ _ _ d _ c.in-Some.number _ _ _ _ (g.P.Place.world c.put_record.new.place) _ _ _ c.as_str.ensures.normal c.requires.key (may c.in-Some.number c.in-Some.is) (c.in_ok-numbers.ensures.same told) (c.in_ok-numbers.ensures.ok read is told) c.numbered_record-kept.ensures c.in-Some.is c.number_after-self.ensures
     (λ next before. c.in-Err.ensures.ahead read next is told before) ahead
+
+pub returns-in_err-numbers-clause-written : goal.returns-in_err-numbers-clause-written
+returns-in_err-numbers-clause-written g c =
+    let h = read_unwritten c.in_err-numbers.field-0.0 (g.P.Place.counts c.numbered.new.place).named (place_of c.args.self.now.folder c.args.key.now) c.in_err-numbers.ensures.takes.1.0 in
+    search (rules, h)
+
+pub returns-clause-before : goal.returns-clause-before
+returns-clause-before g c look = absurd (no_look _ c.in-Err.ensures.takes.1.0 look)
+
+pub returns-clause-written : goal.returns-clause-written
+returns-clause-written g c is = named_once _ _ _ _ c.in-Err.ensures.calls is

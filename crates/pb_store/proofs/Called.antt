@@ -1,0 +1,102 @@
+-- Which call of the place failed.
+use Rattle.std.proofs.Common.{◌≡◌, ◌≢◌, ◌∙◌, ℕ, Bool, true, false, IsTrue, List, ◌∷◌, Contains, Result, Ok, Err, refl, sym, ap, subst, inl, inr}
+use Rattle.std.specs.Prelude.{IfErr}
+use Rattle.std.proofs.lemmas.Bool.{false≢true}
+use Rattle.pb_place.specs.Counts.{Counts, past_call, past_place_fault}
+use Rattle.pb_place.specs.World.{World, listed_directly}
+use Rattle.pb_place.specs.declared.place.PlaceFault.{PlaceFault}
+use Rattle.pb_place.specs.declared.place.PlaceFault.TheVariants as place
+use Rattle.pb_soundness.specs.Records.{ends_as_record}
+use Rattle.pb_soundness.proofs.Flying.{contains_head, contains_tail}
+use Rattle.pb_store.specs.Calls.{EndsOnce, looked, is_look, ReadsAt, ReadsRecord, ReadsOneOf, OpensBy}
+use Rattle.pb_store.specs.Causes.{stored, opened, MayRead, MayLook, MayWrite}
+use Rattle.pb_store.specs.declared.fault.OpenFault.{OpenFault}
+use Rattle.pb_store.specs.declared.fault.OpenFault.TheVariants as open_fault
+use Rattle.pb_store.specs.declared.fault.StoreFault.{StoreFault}
+use Rattle.pb_store.specs.declared.fault.StoreFault.TheVariants.{Place, NumbersSpent, OutOfMemory}
+
+-- the one call failed
+once : (path : List ℕ) (fault : PlaceFault) (old new : Counts) → new ≡ past_place_fault path fault old → EndsOnce path (stored fault) old new
+once path place.Read old new is = is
+once path place.List old new is = is
+once path place.Write old new is = is
+once path place.Remove old new is = is
+once path place.Variable old new is = is
+once path place.OutOfMemory old new is = inr is
+
+pub ends_once : (path : List ℕ) (fault : PlaceFault) (e : StoreFault) (old new : Counts) → e ≡ stored fault → new ≡ past_place_fault path fault old → EndsOnce path e old new
+ends_once path fault e old new told is = subst (λ f. EndsOnce path f old new) (sym told) (once path fault old new is)
+
+pub ends_there : (path other : List ℕ) (e : StoreFault) (old new : Counts) → path ≡ other → EndsOnce path e old new → EndsOnce other e old new
+ends_there path other e old new same = subst (λ p. EndsOnce p e old new) same
+
+-- it was on this path
+pub named_once : (path : List ℕ) (e : StoreFault) (old new : Counts) → EndsOnce path e old new → e ≡ Place place.Write → new.named ≡ path
+named_once path e old new ends is = ap (λ (c : Counts). c.named) (subst (λ f. EndsOnce path f old new) is ends)
+
+-- a call that writes is none that looks
+pub no_look : (e : StoreFault) → MayWrite e → looked e ≡ true → ⊥
+no_look (Place fault) may look = false≢true (sym (ap is_look may) ∙ look)
+no_look NumbersSpent may look = may
+no_look OutOfMemory may look = false≢true look
+
+pub no_write : (e : StoreFault) → MayLook e → e ≡ Place place.Write → ⊥
+no_write e may is = elim (subst MayLook is may) [
+  | inl read ↦ cc
+  | inr other ↦ elim other [
+    | inl list ↦ cc
+    | inr variable ↦ cc
+  ]
+]
+
+pub read_no_write : (e : StoreFault) → MayRead e → e ≡ Place place.Write → ⊥
+read_no_write e may is = let read : place.Write ≡ place.Read = subst MayRead is may in cc
+
+pub read_unwritten : (e : StoreFault) (named path : List ℕ) → MayRead e → e ≡ Place place.Write → named ≡ path
+read_unwritten e named path may is = absurd (read_no_write e may is)
+
+-- opening
+reads : (path : List ℕ) (fault : PlaceFault) → (fault ≢ place.OutOfMemory → fault ≡ place.Read) → ReadsAt path (opened path fault)
+reads path place.Read is = (refl, refl)
+reads path place.List is = (is (λ e. cc), refl)
+reads path place.Write is = (is (λ e. cc), refl)
+reads path place.Remove is = (is (λ e. cc), refl)
+reads path place.Variable is = (is (λ e. cc), refl)
+reads path place.OutOfMemory is = tt
+
+pub reads_at : (path : List ℕ) (fault : PlaceFault) (e : OpenFault) → e ≡ opened path fault → (fault ≢ place.OutOfMemory → fault ≡ place.Read) → ReadsAt path e
+reads_at path fault e told is = subst (ReadsAt path) (sym told) (reads path fault is)
+
+pub reads_record : (path : List ℕ) (e : OpenFault) → ends_as_record path ≡ true → ReadsAt path e → ReadsRecord path e
+reads_record path (open_fault.Place at fault) named (read, same) = (read, same, named)
+reads_record path open_fault.OutOfMemory named told = tt
+
+pub record_if : (path : List ℕ) (r : Result ℕ OpenFault) → ends_as_record path ≡ true → IfErr r (ReadsAt path) → IfErr r (ReadsRecord path)
+record_if path (Ok n) named told = tt
+record_if path (Err e) named told = reads_record path e named told
+
+-- one of a row of files, of which the last are left
+pub within_head : (paths items rest : List (List ℕ)) (path : List ℕ) → ((p : List ℕ) → Contains items p → Contains paths p) → items ≡ path ∷ rest → Contains paths path
+within_head paths items rest path within cut = within path (subst (λ xs. Contains xs path) (sym cut) (contains_head path rest))
+
+pub within_tail : (paths items rest : List (List ℕ)) (path : List ℕ) → ((p : List ℕ) → Contains items p → Contains paths p) → items ≡ path ∷ rest → (p : List ℕ) → Contains rest p → Contains paths p
+within_tail paths items rest path within cut p has = within p (subst (λ xs. Contains xs p) (sym cut) (contains_tail path rest p has))
+
+pub reads_one : (paths : List (List ℕ)) (path : List ℕ) (e : OpenFault) → Contains paths path → ReadsRecord path e → ReadsOneOf paths e
+reads_one paths path (open_fault.Place at fault) there (read, same, named) = (read, subst (Contains paths) (sym same) there, subst (λ p. ends_as_record p ≡ true) (sym same) named)
+reads_one paths path open_fault.OutOfMemory there told = tt
+
+lists : (tells : Bool) (folder : List ℕ) (w : World) (fault : PlaceFault) → (fault ≢ place.OutOfMemory → fault ≡ place.List) → OpensBy tells folder w (opened folder fault)
+lists tells folder w place.Read is = inl (is (λ e. cc), refl)
+lists tells folder w place.List is = inl (refl, refl)
+lists tells folder w place.Write is = inl (is (λ e. cc), refl)
+lists tells folder w place.Remove is = inl (is (λ e. cc), refl)
+lists tells folder w place.Variable is = inl (is (λ e. cc), refl)
+lists tells folder w place.OutOfMemory is = tt
+
+pub opens_by_listing : (tells : Bool) (folder : List ℕ) (w : World) (fault : PlaceFault) (e : OpenFault) → e ≡ opened folder fault → (fault ≢ place.OutOfMemory → fault ≡ place.List) → OpensBy tells folder w e
+opens_by_listing tells folder w fault e told is = subst (OpensBy tells folder w) (sym told) (lists tells folder w fault is)
+
+pub opens_by_reading : (tells : Bool) (folder : List ℕ) (w : World) (paths : List (List ℕ)) (e : OpenFault) → (IsTrue tells → paths ≡ listed_directly folder w) → ReadsOneOf paths e → OpensBy tells folder w e
+opens_by_reading tells folder w paths (open_fault.Place at fault) are (read, there, named) = inr (read, named, λ told. subst (λ ps. Contains ps at) (are told) there)
+opens_by_reading tells folder w paths open_fault.OutOfMemory are told = tt

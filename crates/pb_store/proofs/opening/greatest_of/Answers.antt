@@ -1,0 +1,20 @@
+use Rattle.std.proofs.Common.{arith, rules}
+use Rattle.std.proofs.lemmas.Grind.{common_steps}
+use Rattle.pb_store.proofs.Called.{reads_one, within_head, within_tail}
+use Rattle.pb_store.proofs.opening.greatest_of.Goals as goal
+
+pub returns-in_err-number-clause-told : goal.returns-in_err-number-clause-told
+returns-in_err-number-clause-told g c =
+    let h = reads_one c.args.paths _ c.in_err-number.field-0.0 (within_head _ _ _ _ c.loop-path.invariant.within c.in-Some.ensures.steps.0) c.in_err-number.ensures.told in
+    search (rules, h)
+
+pub loop-path-preserved : goal.loop-path-preserved
+loop-path-preserved g c = record {
+  same = first_of (search rules, grind (arith, common_steps));
+  most = first_of (search rules, grind (arith, common_steps));
+  still = first_of (search rules, grind (arith, common_steps));
+  found = first_of (search rules, grind (arith, common_steps));
+  within = within_tail _ _ _ _ c.loop-path.invariant.within c.in-Some.ensures.steps.0;
+  starts = first_of (search rules, grind (arith, common_steps));
+  failures = first_of (search rules, grind (arith, common_steps));
+}
