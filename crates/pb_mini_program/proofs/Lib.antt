@@ -1,1 +1,3 @@
+mod Filing
 mod OutDirs
+mod Stopping

@@ -1,12 +1,12 @@
 //! What the program does.
 
-ghost use Rattle.std.specs.Prelude.{◌≡◌, ◌≢◌, ◌⊎◌, [], Some, OnOk, IfOk, IfErr, IsTrue};
+ghost use Rattle.std.specs.Prelude.{◌≡◌, ◌≢◌, ◌⊎◌, ℕ, List, [], Some, OnOk, IfOk, IfErr, IsTrue};
 ghost use Rattle.std.specs.Io.KnownBytes.{Appends};
 ghost use Rattle.pb_place.specs.World.{put_reply};
-ghost use Rattle.pb_place.specs.Counts.{up};
-ghost use Rattle.pb_place.specs.declared.place.Failure.TheVariants.{Called};
+ghost use Rattle.pb_place.specs.declared.child.Reply.{Reply};
 ghost use Rattle.pb_mini.specs.Answer.{answered};
 ghost use Rattle.pb_mini_program.specs.OutFolder.{out_folder};
+ghost use Rattle.pb_mini_program.specs.Writing.{FailsToPut, IsFolder, IsReply, MemoryEnds, NoneFailed, StopsPutting, WriteFails, kept, outside};
 
 use crate::fault::Fault;
 use crate::out_folder::out_folder;
@@ -23,7 +23,9 @@ fn write_files<P: Place>(
     files: &[(RelativePath, Bytes)],
 ) -> Result<(), PlaceFault>
     ensures written { IsTrue P.tells → OnOk result (P.world place.new ≡ put_reply (Some folder.now) files.now (P.world place.old)) }
-    ensures fault { IfErr result (λ e. e ≢ PlaceFault.OutOfMemory → (P.counts place.new).last ≡ Some (Called PlaceFault.Write)) }
+    ensures whole { OnOk result (NoneFailed (P.counts place.old) (P.counts place.new)) }
+    ensures fault { IfErr result (λ e. e ≢ PlaceFault.OutOfMemory → FailsToPut P.tells folder.now files.now (kept (P.world place.old) (P.counts place.old)) (kept (P.world place.new) (P.counts place.new))) }
+    ensures memory { IfErr result (λ e. e ≡ PlaceFault.OutOfMemory → StopsPutting P.tells folder.now files.now (kept (P.world place.old) (P.counts place.old)) (kept (P.world place.new) (P.counts place.new))) }
 {
     for (name, bytes) in files {
         let path = folder.below(alloc, name)?;
@@ -42,8 +44,12 @@ fn leave_files<P: Place, V: View>(
     files: &[(RelativePath, Bytes)],
 ) -> Result<(), Fault>
     ensures files { IsTrue V.tells → IsTrue P.tells → OnOk result (files.now ≡ (answered words.now [] (V.shown view.now)).files → P.world place.new ≡ put_reply (out_folder words.now (V.shown view.now)) files.now (P.world place.old)) }
-    ensures read { IfErr result (λ e. e ≡ Fault.Read → V.fails view.now) }
-    ensures write { IfErr result (λ e. e ≡ Fault.Write → (P.counts place.new).last ≡ Some (Called PlaceFault.Write)) }
+    ensures whole { OnOk result (NoneFailed (P.counts place.old) (P.counts place.new)) }
+    ensures read { IfErr result (λ e. e ≡ Fault.Read → V.fails view.now × (place.new ≡ place.old)) }
+    ensures write { IfErr result (λ e. e ≡ Fault.Write → (folder : List ℕ) × (files.now ≡ (answered words.now [] (V.shown view.now)).files → IsFolder V.tells words.now (V.shown view.now) folder)
+        × FailsToPut P.tells folder files.now (kept (P.world place.old) (P.counts place.old)) (kept (P.world place.new) (P.counts place.new))) }
+    ensures memory { IfErr result (λ e. e ≡ Fault.OutOfMemory → (place.new ≡ place.old) ⊎ ((folder : List ℕ) × (files.now ≡ (answered words.now [] (V.shown view.now)).files → IsFolder V.tells words.now (V.shown view.now) folder)
+        × StopsPutting P.tells folder files.now (kept (P.world place.old) (P.counts place.old)) (kept (P.world place.new) (P.counts place.new)))) }
 {
     if files.is_empty() {
         return Ok(());
@@ -57,7 +63,8 @@ fn leave_files<P: Place, V: View>(
 /// Answers to words as the small compiler does: leaves the files of the reply in its out folder, writes its two
 /// streams, and gives its status.
 ///
-/// Read where the view fails, Write where a file or a stream cannot be written. What was written before stays.
+/// Read where the view fails, and then nothing is written; Write where a file or a stream cannot be written. What was
+/// written before stays, and nothing is written behind a failure.
 pub fn carry_out<V: View, P: Place, O: Out, E: Out>(
     alloc: Global,
     words: &[Text],
@@ -70,8 +77,14 @@ pub fn carry_out<V: View, P: Place, O: Out, E: Out>(
     ensures stdout { IsTrue V.tells → OnOk result (Appends (O.taken out.old) (O.taken out.new) (answered words.now [] (V.shown view.now)).stdout) }
     ensures stderr { IsTrue V.tells → OnOk result (Appends (E.taken err.old) (E.taken err.new) (answered words.now [] (V.shown view.now)).stderr) }
     ensures files { IsTrue V.tells → IsTrue P.tells → OnOk result (P.world place.new ≡ put_reply (out_folder words.now (V.shown view.now)) (answered words.now [] (V.shown view.now)).files (P.world place.old)) }
-    ensures read { IfErr result (λ e. e ≡ Fault.Read → V.fails view.now) }
-    ensures write { IfErr result (λ e. e ≡ Fault.Write → ((P.counts place.new).last ≡ Some (Called PlaceFault.Write)) ⊎ ((O.faults out.new ≡ up (O.faults out.old)) ⊎ (E.faults err.new ≡ up (E.faults err.old)))) }
+    ensures whole { OnOk result (NoneFailed (P.counts place.old) (P.counts place.new) × (O.faults out.new ≡ O.faults out.old) × (E.faults err.new ≡ E.faults err.old)) }
+    ensures read { IfErr result (λ e. e ≡ Fault.Read → V.fails view.now × (place.new ≡ place.old) × (out.new ≡ out.old) × (err.new ≡ err.old)) }
+    ensures write { IfErr result (λ e. e ≡ Fault.Write → (reply : Reply) × IsReply V.tells words.now (V.shown view.now) reply × WriteFails V.tells P.tells words.now (V.shown view.now) reply
+        (outside (P.world place.old) (P.counts place.old) (O.taken out.old) (O.faults out.old) (E.taken err.old) (E.faults err.old))
+        (outside (P.world place.new) (P.counts place.new) (O.taken out.new) (O.faults out.new) (E.taken err.new) (E.faults err.new))) }
+    ensures memory { IfErr result (λ e. e ≡ Fault.OutOfMemory → MemoryEnds V.tells P.tells words.now (V.shown view.now)
+        (outside (P.world place.old) (P.counts place.old) (O.taken out.old) (O.faults out.old) (E.taken err.old) (E.faults err.old))
+        (outside (P.world place.new) (P.counts place.new) (O.taken out.new) (O.faults out.new) (E.taken err.new) (E.faults err.new))) }
 {
     let reply = answer(alloc, words, &[], view)?;
     leave_files(alloc, words, view, place, reply.files.as_slice())?;

@@ -1,7 +1,9 @@
-use Rattle.std.proofs.Common.{◌∙◌, ap, sym}
+use Rattle.std.proofs.Common.{◌∙◌, ap, rules, sym, inr}
 use Rattle.pb_place.specs.World.{put_reply}
+use Rattle.pb_mini_program.specs.Faults.{of_place}
 use Rattle.pb_mini_program.specs.OutFolder.{out_folder}
 use Rattle.pb_mini_program.proofs.OutDirs.{left, left_none, none_of}
+use Rattle.pb_mini_program.proofs.Stopping.{at_err, found_is, is_memory, not_memory}
 use Rattle.pb_mini_program.proofs.program.leave_files.Goals as goal
 
 pub returns-then-is_empty-clause-files : goal.returns-then-is_empty-clause-files
@@ -16,3 +18,21 @@ pub returns-in_default-clause-files : goal.returns-in_default-clause-files
 returns-in_default-clause-files g c = λ shown told is.
     left c.args.words.now (g.V.View.shown c.args.view.now) c.in_ok-folder.field-0 c.args.files.now (g.P.Place.world c.args.place.now) (g.P.Place.world c.args.place.now) c.in_ok-folder.ensures.compile (c.in_ok-folder.ensures.run shown) is
     (sym (ap (λ folder. put_reply folder c.args.files.now (g.P.Place.world c.args.place.now)) (none_of c.in_ok-folder.field-0 c.in_default.not-Some)))
+
+pub returns-in_err-write_files-clause-write : goal.returns-in_err-write_files-clause-write
+returns-in_err-write_files-clause-write g c =
+    at_err _ c.from_residual-in_err-write_files.result (of_place c.in_err-write_files.field-0.0) (search rules) (λ write. (
+      c.in-Some.folder,
+      λ has shown. found_is c.args.words.now (g.V.View.shown c.args.view.now) c.in_ok-folder.field-0 c.in-Some.folder c.args.files.now c.in_ok-folder.ensures.compile (c.in_ok-folder.ensures.run shown) c.in-Some.is
+          (sym c.is_empty.ensures ∙ c.if-is_empty.false) has,
+      c.in_err-write_files.ensures.fault (not_memory c.in_err-write_files.field-0.0 write),
+    ))
+
+pub returns-in_err-write_files-clause-memory : goal.returns-in_err-write_files-clause-memory
+returns-in_err-write_files-clause-memory g c =
+    at_err _ c.from_residual-in_err-write_files.result (of_place c.in_err-write_files.field-0.0) (search rules) (λ memory. inr (
+      c.in-Some.folder,
+      λ has shown. found_is c.args.words.now (g.V.View.shown c.args.view.now) c.in_ok-folder.field-0 c.in-Some.folder c.args.files.now c.in_ok-folder.ensures.compile (c.in_ok-folder.ensures.run shown) c.in-Some.is
+          (sym c.is_empty.ensures ∙ c.if-is_empty.false) has,
+      c.in_err-write_files.ensures.memory (is_memory c.in_err-write_files.field-0.0 memory),
+    ))

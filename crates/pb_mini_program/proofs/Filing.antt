@@ -1,0 +1,80 @@
+-- Files that are put in a folder in turn, up to one at which that ended.
+use Rattle.std.proofs.Common.{◌≡◌, ◌∙◌, ◌<◌, ◌+◌, ℕ, Bool, List, [], ◌∷◌, ◌++◌, length, take, drop, get_or, IsTrue, Some, refl, sym, ap, ap₂, subst}
+use Rattle.std.proofs.lemmas.List.{drop_more, take_more, take-append-drop}
+use Rattle.std.specs.FinMap as map
+use Rattle.pb_place.proofs.Worlds.{torn-old}
+use Rattle.pb_place.specs.Counts.{Counts, past_call, past_place_fault}
+use Rattle.pb_place.specs.Paths.{below}
+use Rattle.pb_place.specs.World.{World, Map, Torn, put_files, put_reply, written}
+use Rattle.pb_place.specs.declared.place.PlaceFault.{PlaceFault}
+use Rattle.pb_place.specs.declared.place.PlaceFault.TheVariants as place
+use Rattle.pb_mini_program.specs.Writing.{FailsToPut, Kept, NoneFailed, StopsPutting}
+
+-- one file more
+put_last : (folder : List ℕ) (done : List (List ℕ × List ℕ)) (file : List ℕ × List ℕ) (m : Map)
+    → put_files folder (done ++ file ∷ []) m ≡ map.insert (put_files folder done m) (below folder file.0) file.1
+put_last folder [] file m = refl
+put_last folder (f ∷ done) file m = put_last folder done file (map.insert m (below folder f.0) f.1)
+
+pub put_more : (folder : List ℕ) (files : List (List ℕ × List ℕ)) (i : ℕ) (file : List ℕ × List ℕ) (path bytes : List ℕ) (old mid new : World)
+    → i < length files → file ≡ get_or files i file → path ≡ below folder file.0 → bytes ≡ file.1
+    → mid ≡ put_reply (Some folder) (take i files) old → new ≡ written path bytes mid → new ≡ put_reply (Some folder) (take (i + 1) files) old
+put_more folder files i file path bytes old mid new on is is_path is_bytes put one =
+    one ∙ ap₂ (λ p b. written p b mid) is_path is_bytes ∙ ap (written (below folder file.0) file.1) put
+    ∙ sym (ap (λ m. record old { files = m }) (put_last folder (take i files) file old.files))
+    ∙ sym (ap (λ fs. put_reply (Some folder) fs old) (take_more files i file on ∙ ap (λ f. take i files ++ f ∷ []) (sym is)))
+
+-- the files before one, it, and those behind it
+parts : (files : List (List ℕ × List ℕ)) (i : ℕ) (file : List ℕ × List ℕ) → i < length files → file ≡ get_or files i file → files ≡ take i files ++ file ∷ drop (i + 1) files
+parts files i file on is = sym (take-append-drop i files) ∙ ap (λ r. take i files ++ r) (drop_more files i file on ∙ ap (λ f. f ∷ drop (i + 1) files) (sym is))
+
+-- one call more that did not fail
+pub none_past : (old mid new : Counts) → NoneFailed old mid → new ≡ past_call mid → NoneFailed old new
+none_past old mid new none is =
+    let past : new ≡ past_call record old { late = mid.late } = is ∙ ap past_call none in
+    past ∙ sym (ap (λ c. record old { late = c.late }) past)
+
+torn : (path bytes path' bytes' : List ℕ) (mid mid' new : World) → path ≡ path' → bytes ≡ bytes' → mid ≡ mid' → Torn path bytes mid new → Torn path' bytes' mid' new
+torn path bytes path' bytes' mid mid' new p b m t =
+    subst (λ w. Torn path' bytes' w new) m (subst (λ x. Torn path' x mid new) b (subst (λ x. Torn x bytes mid new) p t))
+
+-- the write of this file failed
+pub fails_at : (tells : Bool) (folder : List ℕ) (files : List (List ℕ × List ℕ)) (i : ℕ) (file : List ℕ × List ℕ) (path bytes : List ℕ) (e : PlaceFault) (old mid new : Kept)
+    → i < length files → file ≡ get_or files i file → path ≡ below folder file.0 → bytes ≡ file.1
+    → NoneFailed old.counts mid.counts → (IsTrue tells → mid.world ≡ put_reply (Some folder) (take i files) old.world)
+    → e ≡ place.Write → new.counts ≡ past_place_fault path e mid.counts → (IsTrue tells → Torn path bytes mid.world new.world) → FailsToPut tells folder files old new
+fails_at tells folder files i file path bytes e old mid new on is is_path is_bytes none put is_write counts tears = (
+  take i files,
+  file,
+  drop (i + 1) files,
+  parts files i file on is,
+  counts ∙ ap₂ (λ p f. past_place_fault p f mid.counts) is_path is_write ∙ ap (past_place_fault (below folder file.0) place.Write) none,
+  λ told. torn path bytes (below folder file.0) file.1 mid.world (put_reply (Some folder) (take i files) old.world) new.world is_path is_bytes (put told) (tears told),
+)
+
+-- memory was refused at its write
+pub stops_at : (tells : Bool) (folder : List ℕ) (files : List (List ℕ × List ℕ)) (i : ℕ) (file : List ℕ × List ℕ) (path bytes : List ℕ) (e : PlaceFault) (old mid new : Kept)
+    → i < length files → file ≡ get_or files i file → path ≡ below folder file.0 → bytes ≡ file.1
+    → NoneFailed old.counts mid.counts → (IsTrue tells → mid.world ≡ put_reply (Some folder) (take i files) old.world)
+    → e ≡ place.OutOfMemory → new.counts ≡ past_place_fault path e mid.counts → (IsTrue tells → Torn path bytes mid.world new.world) → StopsPutting tells folder files old new
+stops_at tells folder files i file path bytes e old mid new on is is_path is_bytes none put is_memory counts tears = (
+  take i files,
+  file,
+  drop (i + 1) files,
+  parts files i file on is,
+  none_past old.counts mid.counts new.counts none (counts ∙ ap (λ f. past_place_fault path f mid.counts) is_memory),
+  λ told. torn path bytes (below folder file.0) file.1 mid.world (put_reply (Some folder) (take i files) old.world) new.world is_path is_bytes (put told) (tears told),
+)
+
+-- or before it: then it stands as it did
+pub stops_before : (tells : Bool) (folder : List ℕ) (files : List (List ℕ × List ℕ)) (i : ℕ) (file : List ℕ × List ℕ) (old new : Kept)
+    → i < length files → file ≡ get_or files i file
+    → NoneFailed old.counts new.counts → (IsTrue tells → new.world ≡ put_reply (Some folder) (take i files) old.world) → StopsPutting tells folder files old new
+stops_before tells folder files i file old new on is none put = (
+  take i files,
+  file,
+  drop (i + 1) files,
+  parts files i file on is,
+  none,
+  λ told. subst (λ w. Torn (below folder file.0) file.1 w new.world) (put told) (torn-old (below folder file.0) file.1 new.world),
+)

@@ -1,0 +1,88 @@
+-- What the program writes of a reply, and at what it stops: first the files, then the output, then standard error. Nothing is written behind a write that failed.
+use Rattle.std.specs.Prelude.{◌≡◌, ◌⊎◌, ℕ, Bool, List, [], ◌∷◌, ◌++◌, take, Option, Some, IsTrue}
+use Rattle.std.specs.Io.KnownBytes.{Appends}
+use Rattle.pb_place.specs.Counts.{Counts, up, past_place_fault}
+use Rattle.pb_place.specs.Paths.{below}
+use Rattle.pb_place.specs.World.{World, Torn, put_reply}
+use Rattle.pb_place.specs.declared.child.Reply.{Reply}
+use Rattle.pb_place.specs.declared.place.PlaceFault.TheVariants as place
+use Rattle.pb_mini.specs.Answer.{answered}
+use Rattle.pb_mini_program.specs.OutFolder.{out_folder}
+
+-- what a sink has taken, and how often it failed
+pub record Heard : Type 0 where
+  pub taken : Option (List ℕ)
+  pub faults : ℕ
+
+-- all of some bytes were written
+abbrev pub Writes : List ℕ → Heard → Heard → Type 0
+Writes bytes old new = Appends old.taken new.taken bytes × (new.faults ≡ old.faults)
+
+-- the sink failed at some bytes, of which it took the first
+abbrev pub FailsAt : List ℕ → Heard → Heard → Type 0
+FailsAt bytes old new = ((n : ℕ) × Appends old.taken new.taken (take n bytes)) × (new.faults ≡ up old.faults)
+
+-- the maps of a place, and its counters
+pub record Kept : Type 0 where
+  pub world : World
+  pub counts : Counts
+
+abbrev pub kept : World → Counts → Kept
+kept world counts = record { world = world; counts = counts }
+
+-- no call failed
+abbrev pub NoneFailed : Counts → Counts → Type 0
+NoneFailed old new = new ≡ record old { late = new.late }
+
+-- files were put in a folder in turn, up to this one, which stands in part or as it did
+abbrev pub PutsUpTo : List ℕ → List (List ℕ × List ℕ) → List ℕ × List ℕ → World → World → Type 0
+PutsUpTo folder done file old new = Torn (below folder file.0) file.1 (put_reply (Some folder) done old) new
+
+-- at one of some files the write failed, and no call came after it; those before it were put in the folder
+abbrev pub FailsToPut : Bool → List ℕ → List (List ℕ × List ℕ) → Kept → Kept → Type 0
+FailsToPut tells folder files old new =
+    (done : List (List ℕ × List ℕ)) × (file : List ℕ × List ℕ) × (left : List (List ℕ × List ℕ)) × (files ≡ done ++ file ∷ left)
+    × (new.counts ≡ past_place_fault (below folder file.0) place.Write old.counts) × (IsTrue tells → PutsUpTo folder done file old.world new.world)
+
+-- memory was refused at one of some files; those before it were put in the folder, and no call failed
+abbrev pub StopsPutting : Bool → List ℕ → List (List ℕ × List ℕ) → Kept → Kept → Type 0
+StopsPutting tells folder files old new =
+    (done : List (List ℕ × List ℕ)) × (file : List ℕ × List ℕ) × (left : List (List ℕ × List ℕ)) × (files ≡ done ++ file ∷ left)
+    × NoneFailed old.counts new.counts × (IsTrue tells → PutsUpTo folder done file old.world new.world)
+
+-- What is told of a reply, over a view: where the view tells what it shows, it is the small compiler's to these words.
+
+abbrev pub IsReply : Bool → List (List ℕ) → World → Reply → Type 0
+IsReply shows words shown reply = IsTrue shows → reply ≡ answered words [] shown
+
+-- its files go into this folder
+abbrev pub IsFolder : Bool → List (List ℕ) → World → List ℕ → Type 0
+IsFolder shows words shown folder = IsTrue shows → out_folder words shown ≡ Some folder
+
+-- all its files were put there, and no call failed
+abbrev pub Puts : Bool → Bool → List (List ℕ) → World → Reply → Kept → Kept → Type 0
+Puts shows tells words shown reply old new =
+    NoneFailed old.counts new.counts × (IsTrue shows → IsTrue tells → new.world ≡ put_reply (out_folder words shown) reply.files old.world)
+
+-- a place and two sinks
+pub record Outside : Type 0 where
+  pub kept : Kept
+  pub out : Heard
+  pub err : Heard
+
+abbrev pub outside : World → Counts → Option (List ℕ) → ℕ → Option (List ℕ) → ℕ → Outside
+outside world counts out out_faults err err_faults = record { kept = kept world counts; out = record { taken = out; faults = out_faults }; err = record { taken = err; faults = err_faults } }
+
+-- a write failed: that of a file; or the output, behind all files; or standard error, behind these and the whole output
+abbrev pub WriteFails : Bool → Bool → List (List ℕ) → World → Reply → Outside → Outside → Type 0
+WriteFails shows tells words shown reply old new =
+    ((folder : List ℕ) × IsFolder shows words shown folder × FailsToPut tells folder reply.files old.kept new.kept × (new.out ≡ old.out) × (new.err ≡ old.err))
+    ⊎ ((Puts shows tells words shown reply old.kept new.kept × FailsAt reply.stdout old.out new.out × (new.err ≡ old.err))
+    ⊎ (Puts shows tells words shown reply old.kept new.kept × Writes reply.stdout old.out new.out × FailsAt reply.stderr old.err new.err))
+
+-- memory was refused before a file was put, or at one of them; no call failed, and nothing was written to a sink
+abbrev pub MemoryEnds : Bool → Bool → List (List ℕ) → World → Outside → Outside → Type 0
+MemoryEnds shows tells words shown old new =
+    (new ≡ old)
+    ⊎ ((reply : Reply) × (folder : List ℕ) × IsReply shows words shown reply × IsFolder shows words shown folder
+    × StopsPutting tells folder reply.files old.kept new.kept × (new.out ≡ old.out) × (new.err ≡ old.err))
