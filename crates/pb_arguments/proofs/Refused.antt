@@ -1,5 +1,5 @@
 -- Why words ask for nothing.
-use Rattle.std.proofs.Common.{◌≡◌, ◌∙◌, ◌⊎◌, List, true, codes, Option, Some, Err, refl, sym, subst, inl, inr}
+use Rattle.std.proofs.Common.{◌≡◌, ◌∙◌, List, true, codes, IfErr, Option, Some, Result, Ok, Err, refl, sym, subst, inl, inr}
 use Rattle.clap.specs.Faults.{fault_of, is_simple_and_free}
 use Rattle.clap.specs.Kinds.{HasKind, IsAmong}
 use Rattle.clap.specs.Simple.{App, subcommand_of}
@@ -11,7 +11,7 @@ use Rattle.clap.specs.declared.error.kind.ErrorKind.TheVariants as kind
 use Rattle.clap.proofs.OnLiterals.{clap_on_literals}
 use Rattle.pb_place.specs.Paths.{joined}
 use Rattle.pb_place.specs.declared.path.PathFault.{PathFault}
-use Rattle.pb_arguments.specs.Asking.{AsksWrongly, two_profiles, bad_jobs, bad_manifest, bad_file, HasTwoProfiles, HasBadJobs, Unasks, manifest_of, file_of}
+use Rattle.pb_arguments.specs.Asking.{AsksWrongly, BuildsWrongly, HasBadJobs, HasTwoProfiles, IsProfile, Unasks, bad_build, bad_file, bad_jobs, bad_manifest, file_of, jobs_told, manifest_of, path_told, profiles_told, two_profiles}
 use Rattle.pb_arguments.specs.Description.{IsJson, program}
 use Rattle.pb_arguments.specs.Private.{ToldWrong, TellsKind, RefusedBy}
 use Rattle.pb_arguments.specs.declared.asked.Unasked.{Unasked}
@@ -31,26 +31,47 @@ refused_by words formats app e (Wrong text) json is (inl none) tells = absurd (t
 refused_by words formats app e (Wrong text) json is (inr among) tells = (formats, json, (kind_of e, tells.0, subst (λ a. IsAmong (kind_of e) (fault_of a words)) is among))
 refused_by words formats app e OutOfMemory json is has tells = tt
 
+-- what is wrong with the values of a build
+pub wrong_manifest : (folder value : Text) (rows : List Row) (unasked : Unasked) → value ≡ manifest_of rows
+    → ToldWrong (λ told. (fault : PathFault) × (joined folder value ≡ Err fault) × (told ≡ path_told)) unasked → ToldWrong (BuildsWrongly folder rows) unasked
+wrong_manifest folder value rows (Help text) is told = absurd told
+wrong_manifest folder value rows (Wrong text) is (fault, bad, told) = bad_manifest fault (subst (λ v. joined folder v ≡ Err fault) is bad) told
+wrong_manifest folder value rows OutOfMemory is told = tt
+
+pub wrong_profile : (folder value path : Text) (rows : List Row) (unasked : Unasked) → value ≡ manifest_of rows → joined folder value ≡ Ok path
+    → ToldWrong (λ told. HasTwoProfiles rows × (told ≡ profiles_told)) unasked → ToldWrong (BuildsWrongly folder rows) unasked
+wrong_profile folder value path rows (Help text) is good told = absurd told
+wrong_profile folder value path rows (Wrong text) is good (both, told) = two_profiles path (subst (λ v. joined folder v ≡ Ok path) is good) both told
+wrong_profile folder value path rows OutOfMemory is good told = tt
+
+pub wrong_jobs : (folder value path profile : Text) (rows : List Row) (unasked : Unasked) → value ≡ manifest_of rows → joined folder value ≡ Ok path → IsProfile rows profile
+    → ToldWrong (λ told. HasBadJobs rows × (told ≡ jobs_told)) unasked → ToldWrong (BuildsWrongly folder rows) unasked
+wrong_jobs folder value path profile rows (Help text) is good one told = absurd told
+wrong_jobs folder value path profile rows (Wrong text) is good one (bad, told) = bad_jobs path profile (subst (λ v. joined folder v ≡ Ok path) is good) one bad told
+wrong_jobs folder value path profile rows OutOfMemory is good one told = tt
+
+-- what is told of the error that is known
+pub told_by : {T : Type 0} (r : Result T Unasked) (e : Unasked) (why : Text → Type 0) → r ≡ Err e → ToldWrong why e → IfErr r (ToldWrong why)
+told_by r e why is told = subst (λ x. IfErr x (ToldWrong why)) (sym is) told
+
 -- what is wrong with a build or a session
 pub wrong_build : (folder : Text) (given : Option (Text × List Row)) (rows : List Row) (unasked : Unasked) → given ≡ Some (codes "build", rows)
-    → ToldWrong (HasTwoProfiles rows ⊎ HasBadJobs rows ⊎ ((fault : PathFault) × (joined folder (manifest_of rows) ≡ Err fault))) unasked → ToldWrong (AsksWrongly folder given) unasked
+    → ToldWrong (BuildsWrongly folder rows) unasked → ToldWrong (AsksWrongly folder given) unasked
 wrong_build folder given rows (Help text) is told = absurd told
-wrong_build folder given rows (Wrong text) is (inl both) = two_profiles rows is both
-wrong_build folder given rows (Wrong text) is (inr (inl bad)) = bad_jobs rows is bad
-wrong_build folder given rows (Wrong text) is (inr (inr (fault, bad))) = bad_manifest rows fault is bad
+wrong_build folder given rows (Wrong text) is told = bad_build rows is told
 wrong_build folder given rows OutOfMemory is told = tt
 
 pub wrong_session : (folder : Text) (given : Option (Text × List Row)) (rows : List Row) (unasked : Unasked) → given ≡ Some (codes "session", rows)
-    → ToldWrong ((fault : PathFault) × (joined folder (file_of rows) ≡ Err fault)) unasked → ToldWrong (AsksWrongly folder given) unasked
+    → ToldWrong (λ told. (fault : PathFault) × (joined folder (file_of rows) ≡ Err fault) × (told ≡ path_told)) unasked → ToldWrong (AsksWrongly folder given) unasked
 wrong_session folder given rows (Help text) is told = absurd told
-wrong_session folder given rows (Wrong text) is (fault, bad) = bad_file rows fault is bad
+wrong_session folder given rows (Wrong text) is (fault, bad, told) = bad_file rows fault is bad told
 wrong_session folder given rows OutOfMemory is told = tt
 
 -- what is wrong with what was given, of words that are taken
 pub wrong_words : (words : List Text) (folder : Text) (formats : ValueParser) (given : Option (Text × List Row)) (unasked : Unasked) → IsJson formats → given ≡ subcommand_of (program formats) words
     → ToldWrong (AsksWrongly folder given) unasked → Unasks words folder unasked
 wrong_words words folder formats given (Help text) json is told = absurd told
-wrong_words words folder formats given (Wrong text) json is told = (formats, json, inr (subst (AsksWrongly folder) is told))
+wrong_words words folder formats given (Wrong text) json is told = (formats, json, inr (subst (λ g. AsksWrongly folder g text) is told))
 wrong_words words folder formats given OutOfMemory json is told = tt
 
 -- words that are not taken

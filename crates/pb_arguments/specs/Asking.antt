@@ -99,13 +99,30 @@ Asks words folder asked = (formats : ValueParser) × IsJson formats × IsTaken f
 
 -- Why the words ask for nothing.
 
--- a subcommand with these values asks for nothing: two profiles, jobs that are no number, or a path with byte 0; or it is neither of the two
-pub data AsksWrongly (folder : Text) (given : Option (Text × List Row)) : Type 0 where
-  two_profiles : (rows : List Row) (build : given ≡ Some (codes "build", rows)) (both : HasTwoProfiles rows) → AsksWrongly folder given
-  bad_jobs : (rows : List Row) (build : given ≡ Some (codes "build", rows)) (bad : HasBadJobs rows) → AsksWrongly folder given
-  bad_manifest : (rows : List Row) (fault : PathFault) (build : given ≡ Some (codes "build", rows)) (bad : joined folder (manifest_of rows) ≡ Err fault) → AsksWrongly folder given
-  bad_file : (rows : List Row) (fault : PathFault) (session : given ≡ Some (codes "session", rows)) (bad : joined folder (file_of rows) ≡ Err fault) → AsksWrongly folder given
-  no_command : (no_build : option_map (λ p. p.0) given ≢ Some (codes "build")) (no_session : option_map (λ p. p.0) given ≢ Some (codes "session")) → AsksWrongly folder given
+-- what is told of a path with byte 0, of two profiles, of jobs that are no number, and where it is neither a build nor a session
+abbrev pub path_told : Text
+path_told = codes "error: a path has byte 0\n"
+
+abbrev pub profiles_told : Text
+profiles_told = codes "error: the argument '--release' cannot be used with '--profile <NAME>'\n"
+
+abbrev pub jobs_told : Text
+jobs_told = codes "error: the value of '--jobs <N>' is digits alone, up to 18446744073709551615\n"
+
+abbrev pub command_told : Text
+command_told = codes "error: neither `build` nor `session`\n"
+
+-- why a build with these values asks for nothing, and what is told of it: the path of its manifest has byte 0; where it has not, two profiles are given; where one alone is, the jobs are no number
+pub data BuildsWrongly (folder : Text) (rows : List Row) (text : Text) : Type 0 where
+  bad_manifest : (fault : PathFault) (bad : joined folder (manifest_of rows) ≡ Err fault) (told : text ≡ path_told) → BuildsWrongly folder rows text
+  two_profiles : (path : Text) (good : joined folder (manifest_of rows) ≡ Ok path) (both : HasTwoProfiles rows) (told : text ≡ profiles_told) → BuildsWrongly folder rows text
+  bad_jobs : (path profile : Text) (good : joined folder (manifest_of rows) ≡ Ok path) (one : IsProfile rows profile) (bad : HasBadJobs rows) (told : text ≡ jobs_told) → BuildsWrongly folder rows text
+
+-- a subcommand with these values asks for nothing, and this is told of it: a build does so, the path of a session's file has byte 0, or it is neither of the two
+pub data AsksWrongly (folder : Text) (given : Option (Text × List Row)) (text : Text) : Type 0 where
+  bad_build : (rows : List Row) (build : given ≡ Some (codes "build", rows)) (wrong : BuildsWrongly folder rows text) → AsksWrongly folder given text
+  bad_file : (rows : List Row) (fault : PathFault) (session : given ≡ Some (codes "session", rows)) (bad : joined folder (file_of rows) ≡ Err fault) (told : text ≡ path_told) → AsksWrongly folder given text
+  no_command : (no_build : option_map (λ p. p.0) given ≢ Some (codes "build")) (no_session : option_map (λ p. p.0) given ≢ Some (codes "session")) (told : text ≡ command_told) → AsksWrongly folder given text
 
 -- help is asked for
 abbrev pub AsksForHelp : ValueParser → List Text → Type 0
@@ -115,8 +132,8 @@ AsksForHelp formats words = IsAmong DisplayHelp (fault_of (program formats) word
 abbrev pub IsRefused : ValueParser → List Text → Type 0
 IsRefused formats words = (kind : ErrorKind) × (kind ≢ DisplayHelp) × IsAmong kind (fault_of (program formats) words)
 
--- why the words ask for nothing
+-- why the words ask for nothing, and what is told of it; of the texts of `clap` this says nothing
 abbrev pub Unasks : List Text → Text → Unasked → Type 0
 Unasks words folder (Help text) = (formats : ValueParser) × IsJson formats × AsksForHelp formats words
-Unasks words folder (Wrong text) = (formats : ValueParser) × IsJson formats × (IsRefused formats words ⊎ AsksWrongly folder (subcommand_of (program formats) words))
+Unasks words folder (Wrong text) = (formats : ValueParser) × IsJson formats × (IsRefused formats words ⊎ AsksWrongly folder (subcommand_of (program formats) words) text)
 Unasks words folder OutOfMemory = Unit {0}

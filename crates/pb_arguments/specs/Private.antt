@@ -9,10 +9,10 @@ use Rattle.pb_arguments.specs.Description.{IsJson}
 use Rattle.pb_arguments.specs.declared.asked.Unasked.{Unasked}
 use Rattle.pb_arguments.specs.declared.asked.Unasked.TheVariants.{Help, Wrong, OutOfMemory}
 
--- where words are told to be wrong, this holds
-abbrev pub ToldWrong : Type 0 → Unasked → Type 0
+-- where words are told to be wrong, this holds of the text
+abbrev pub ToldWrong : (Text → Type 0) → Unasked → Type 0
 ToldWrong why (Help text) = ⊥
-ToldWrong why (Wrong text) = why
+ToldWrong why (Wrong text) = why text
 ToldWrong why OutOfMemory = Unit {0}
 
 -- an error of this kind is told so

@@ -2,6 +2,7 @@
 
 ghost use Rattle.std.specs.Prelude.{◌≡◌, ◌≢◌};
 ghost use Rattle.clap.specs.Values.{kind_of};
+ghost use Rattle.pb_arguments.specs.Asking.{path_told, profiles_told, jobs_told, command_told};
 ghost use Rattle.pb_arguments.specs.Private.{ToldWrong, TellsKind};
 ghost use Rattle.pb_arguments.specs.declared.asked.Unasked.TheVariants as unasked;
 ghost use Rattle.pb_place.specs.declared.path.PathFault.TheVariants as path_fault;
@@ -61,7 +62,7 @@ pub(crate) fn unasked_of(alloc: Global, error: &Error) -> Unasked
 
 /// The words are wrong: this text says why.
 fn wrong(alloc: Global, text: &str) -> Unasked
-    ensures { ToldWrong (Unit {0}) result }
+    ensures { ToldWrong (λ told. told ≡ text.now) result }
 {
     match Text::from_str(alloc, text) {
         Ok(text) => Unasked::Wrong(text),
@@ -71,7 +72,7 @@ fn wrong(alloc: Global, text: &str) -> Unasked
 
 /// Why a path of the command line is none.
 pub(crate) fn bad_path(alloc: Global, fault: PathFault) -> Unasked
-    ensures { ToldWrong (fault ≢ path_fault.OutOfMemory) result }
+    ensures { ToldWrong (λ told. (fault ≢ path_fault.OutOfMemory) × (told ≡ path_told)) result }
 {
     if fault == PathFault::OutOfMemory {
         return Unasked::OutOfMemory;
@@ -81,14 +82,14 @@ pub(crate) fn bad_path(alloc: Global, fault: PathFault) -> Unasked
 
 /// Neither a build nor a session is asked for.
 pub(crate) fn no_command(alloc: Global) -> Unasked
-    ensures { ToldWrong (Unit {0}) result }
+    ensures { ToldWrong (λ told. told ≡ command_told) result }
 {
     wrong(alloc, "error: neither `build` nor `session`\n")
 }
 
 /// Two profiles are asked for.
 pub(crate) fn two_profiles(alloc: Global) -> Unasked
-    ensures { ToldWrong (Unit {0}) result }
+    ensures { ToldWrong (λ told. told ≡ profiles_told) result }
 {
     wrong(
         alloc,
@@ -98,7 +99,7 @@ pub(crate) fn two_profiles(alloc: Global) -> Unasked
 
 /// It is no number how many units may be in flight at one time.
 pub(crate) fn bad_jobs(alloc: Global) -> Unasked
-    ensures { ToldWrong (Unit {0}) result }
+    ensures { ToldWrong (λ told. told ≡ jobs_told) result }
 {
     wrong(
         alloc,

@@ -9,7 +9,7 @@ ghost use Rattle.pb_directive.specs.Directives.{words_of};
 ghost use Rattle.pb_place.specs.Paths.{joined};
 ghost use Rattle.pb_place.specs.declared.path.PathFault.{PathFault};
 ghost use Rattle.pb_arguments.specs.Description.{IsJson, program};
-ghost use Rattle.pb_arguments.specs.Asking.{IsFlag, HasTwoProfiles, IsProfile, IsNumber, IsJobs, HasBadJobs, IsOptions, IsTaken, AsksBy, Asks, AsksWrongly, Unasks, values_of, manifest_of, tool_of};
+ghost use Rattle.pb_arguments.specs.Asking.{IsFlag, HasTwoProfiles, IsProfile, IsNumber, IsJobs, HasBadJobs, IsOptions, IsTaken, BuildsWrongly, AsksBy, Asks, AsksWrongly, Unasks, values_of, tool_of, path_told, profiles_told, jobs_told};
 ghost use Rattle.pb_arguments.specs.Private.{ToldWrong, RefusedBy};
 
 use crate::asked::{Asked, Unasked, bad_jobs, bad_path, no_command, two_profiles, unasked_of};
@@ -80,7 +80,7 @@ fn value_of(alloc: Global, matches: &ArgMatches<'_>, name: &str) -> Result<Optio
 /// The profile: `release` for `--release`, what `--profile` says, else `dev`. Wrong where both are given.
 fn profile_of(alloc: Global, matches: &ArgMatches<'_>) -> Result<Text, Unasked>
     ensures profile { IfOk result (IsProfile (rows_of (found_of matches.now))) }
-    ensures wrong { IfErr result (ToldWrong (HasTwoProfiles (rows_of (found_of matches.now)))) }
+    ensures wrong { IfErr result (ToldWrong (λ told. HasTwoProfiles (rows_of (found_of matches.now)) × (told ≡ profiles_told))) }
 {
     let release = is_given(matches, "release");
     match first(matches, "profile") {
@@ -107,7 +107,7 @@ fn number_in(text: &str) -> Option<u64>
 /// How many units may be in flight at one time: what `--jobs` says, else 1. Wrong where it says no number.
 fn jobs_of(alloc: Global, matches: &ArgMatches<'_>) -> Result<u64, Unasked>
     ensures jobs { IfOk result (IsJobs (first_of (codes "jobs") (rows_of (found_of matches.now)))) }
-    ensures wrong { IfErr result (ToldWrong (HasBadJobs (rows_of (found_of matches.now)))) }
+    ensures wrong { IfErr result (ToldWrong (λ told. HasBadJobs (rows_of (found_of matches.now)) × (told ≡ jobs_told))) }
 {
     match first(matches, "jobs") {
         None => Ok(1),
@@ -132,7 +132,7 @@ fn parted(alloc: Global, text: &str) -> Result<Items<Text>, AllocError>
 /// The path that a text of the command line says. A relative one starts at the folder.
 fn path_of(alloc: Global, folder: &PathText, text: &str) -> Result<PathText, Unasked>
     ensures path { IfOk result (λ path. joined folder.now text.now ≡ Ok path) }
-    ensures wrong { IfErr result (ToldWrong ((fault : PathFault) × (joined folder.now text.now ≡ Err fault))) }
+    ensures wrong { IfErr result (ToldWrong (λ told. (fault : PathFault) × (joined folder.now text.now ≡ Err fault) × (told ≡ path_told))) }
 {
     match folder.join(alloc, text) {
         Ok(path) => Ok(path),
@@ -148,7 +148,7 @@ fn options_of(
     matches: &ArgMatches<'_>,
 ) -> Result<Options, Unasked>
     ensures options { IfOk result (IsOptions tool.now folder.now (rows_of (found_of matches.now))) }
-    ensures wrong { IfErr result (ToldWrong (HasTwoProfiles (rows_of (found_of matches.now)) ⊎ HasBadJobs (rows_of (found_of matches.now)) ⊎ ((fault : PathFault) × (joined folder.now (manifest_of (rows_of (found_of matches.now))) ≡ Err fault)))) }
+    ensures wrong { IfErr result (ToldWrong (BuildsWrongly folder.now (rows_of (found_of matches.now)))) }
 {
     let manifest = path_of(
         alloc,

@@ -4,6 +4,7 @@ use Rattle.clap.specs.Simple.{subcommand_rows_of}
 use Rattle.clap.specs.Walk.{rows_of}
 use Rattle.pb_place.specs.Paths.{joined}
 use Rattle.pb_place.specs.declared.path.PathFault.{PathFault}
+use Rattle.pb_arguments.specs.Asking.{path_told}
 use Rattle.pb_arguments.specs.Private.{ToldWrong}
 use Rattle.pb_arguments.proofs.Refused.{wrong_build, wrong_session}
 use Rattle.pb_arguments.proofs.reading.asked_by.Goals as goal
@@ -19,4 +20,4 @@ returns-in-Err-path_of-clause-wrong c =
     let rows = rows_of (found_of c.in-Some-subcommand_matches.session.now) in
     let is : subcommand_rows_of c.args.matches.now ≡ Some (codes "session", rows) = search rules in
     wrong_session c.args.folder.now (subcommand_rows_of c.args.matches.now) rows c.in-Err-path_of.unasked is
-    (subst (λ (text : List ℕ). ToldWrong ((fault : PathFault) × (joined c.args.folder.now text ≡ Err fault)) c.in-Err-path_of.unasked) c.first_or.ensures c.in-Err-path_of.ensures.wrong)
+    (subst (λ (text : List ℕ). ToldWrong (λ told. (fault : PathFault) × (joined c.args.folder.now text ≡ Err fault) × (told ≡ path_told)) c.in-Err-path_of.unasked) c.first_or.ensures c.in-Err-path_of.ensures.wrong)
