@@ -31,8 +31,10 @@ use Rattle.pb_unit.specs.declared.unit.Unit.{Unit}
 use Rattle.pb_unit.specs.declared.unit.What.{What}
 use Rattle.pb_unit.specs.declared.unit.What.TheVariants.{Lib, Bin, Script, Run}
 use Rattle.pb_unit.specs.declared.candidates.Named.{Named}
+use Rattle.pb_unit.specs.declared.dependencies.Need.{Need}
+use Rattle.pb_unit.specs.declared.dependencies.Need.TheVariants as need
 use Rattle.pb_unit.specs.declared.plan.Planned.{Planned}
-use Rattle.pb_unit.specs.Units.{unit, name_at, key_of, role_of, has_library, library_by, tool_by, run_by, needs, asks_libraries, asks_binary}
+use Rattle.pb_unit.specs.Units.{unit, name_at, key_of, role_of, has_library, hands_on, is_normal, is_build, entries_at, needs, asks_libraries, asks_binary}
 
 -- Numbers.
 
@@ -49,15 +51,25 @@ slot (Bin name) s = 0
 abbrev pub number : Unit → ℕ
 number u = u.owner * 6 + slot u.what u.side
 
--- the numbers of what an entry leads to
-abbrev pub library_numbers : Workspace → Features → ℕ → Side → ℕ → Entry → List ℕ
-library_numbers ws features p s n e = map number (library_by ws features p s n e)
+-- the unit that a need of a kind is, of a package, for a unit on a side
+abbrev pub needed : Need → ℕ → Side → Unit
+needed need.Lib p s = unit p s Lib
+needed need.Tool p s = unit p Host Lib
+needed need.Run p s = unit p s Run
 
-abbrev pub tool_numbers : Workspace → Features → ℕ → Side → ℕ → Entry → List ℕ
-tool_numbers ws features p s n e = map number (tool_by ws features p s n e)
+-- whether an entry leads to a need of a kind
+abbrev pub leads : Need → Workspace → Entry → Bool
+leads need.Lib ws e = is_normal e.kind && has_library (slice_get ws.packages e.to)
+leads need.Tool ws e = is_build e.kind && has_library (slice_get ws.packages e.to)
+leads need.Run ws e = is_normal e.kind && hands_on (slice_get ws.packages e.to)
 
-abbrev pub run_numbers : Workspace → Features → ℕ → Side → ℕ → Entry → List ℕ
-run_numbers ws features p s n e = map number (run_by ws features p s n e)
+-- the number of the unit to which an enabled entry leads so
+abbrev pub numbers_by : Need → Workspace → Features → ℕ → Side → ℕ → Entry → List ℕ
+numbers_by w ws features p s n e = if is_enabled features p s n && leads w ws e then number (needed w e.to s) ∷ [] else []
+
+-- over a package's entries
+abbrev pub all_numbers : Need → Workspace → Features → ℕ → Side → List ℕ
+all_numbers w ws features p s = placed (numbers_by w ws features p s) 0 (entries_at ws p)
 
 -- Candidates.
 

@@ -1,15 +1,25 @@
 //! What the enabled entries of a package lead to, as numbers of units.
 
 ghost use Rattle.std.specs.Prelude.{◌≡◌, ◌++◌, ◌<◌, OnOk, All, map, slice_get};
-ghost use Rattle.pb_closure.specs.Placed.{placed};
 ghost use Rattle.pb_package.specs.Settled.{IsSettled};
 ghost use Rattle.pb_unit.specs.declared.unit.What.TheVariants.{Lib, Script, Run};
 ghost use Rattle.pb_unit.specs.Units.{unit, has_library, has_script, hands_on, is_normal, is_build, entries_at, own_library, own_run};
-ghost use Rattle.pb_unit.specs.Drawing.{number, library_numbers, tool_numbers, run_numbers};
+ghost use Rattle.pb_unit.specs.Drawing.{number, needed, leads, all_numbers};
 
 use pb_feature::Features;
 use pb_package::{DependencyKind, Entry, Side, Workspace};
 use std::alloc::AllocError;
+
+/// What a unit needs of the package to which an enabled entry leads.
+#[derive(Clone, Copy)]
+pub(crate) enum Need {
+    /// By a normal entry, its library, on the same side.
+    Lib,
+    /// By a build entry, its library, on the host's side.
+    Tool,
+    /// By a normal entry, the run of its script, where it has a library and `links`.
+    Run,
+}
 
 /// Whether the package at a place has a library.
 pub(crate) fn has_library(workspace: &Workspace, place: usize) -> bool
@@ -43,7 +53,7 @@ fn hands_on(workspace: &Workspace, place: usize) -> bool
 
 /// The entries of the package at a place.
 #[tactic(auto, using(crate::proofs::Graphs::entries_few))]
-pub(crate) fn entries_at(workspace: &Workspace, place: usize) -> &[Entry]
+fn entries_at(workspace: &Workspace, place: usize) -> &[Entry]
     requires { IsSettled workspace.now }
     ensures entries { result.now ≡ entries_at workspace.now place }
     ensures few { All (λ e. e.to < 256) result.now }
@@ -101,146 +111,47 @@ fn run_number(owner: usize, side: Side) -> usize
     }
 }
 
-/// Adds the library to which an enabled normal entry leads.
-fn add_library(
-    numbers: &mut Vec<usize>,
-    workspace: &Workspace,
-    features: &Features,
-    place: usize,
-    side: Side,
-    index: usize,
-    entry: &Entry,
-) -> Result<(), AllocError>
-    requires { entry.now.to < 256 }
-    ensures { OnOk result (numbers.new.items ≡ numbers.old.items ++ library_numbers workspace.now features.now place side index entry.now) }
+/// Whether an entry leads to a need of this kind.
+fn leads(workspace: &Workspace, need: Need, entry: &Entry) -> bool
+    ensures { result ≡ leads need workspace.now entry.now }
 {
-    if features.enabled(place, side, index)
-        && is_normal(entry.kind)
-        && has_library(workspace, entry.to)
-    {
-        numbers.push(library_number(entry.to, side))?;
+    match need {
+        Need::Lib => is_normal(entry.kind) && has_library(workspace, entry.to),
+        Need::Tool => is_build(entry.kind) && has_library(workspace, entry.to),
+        Need::Run => is_normal(entry.kind) && hands_on(workspace, entry.to),
     }
-    Ok(())
 }
 
-/// Adds the libraries to which enabled normal entries lead.
-pub(crate) fn add_libraries(
+/// The number of the unit that a need of this kind is, of the package at a place, for a unit on a side.
+fn needed_number(need: Need, owner: usize, side: Side) -> usize
+    requires { owner < 256 }
+    ensures { result ≡ number (needed need owner side) }
+{
+    match need {
+        Need::Lib => library_number(owner, side),
+        Need::Tool => library_number(owner, Side::Host),
+        Need::Run => run_number(owner, side),
+    }
+}
+
+/// Adds the needs of this kind to which the enabled entries of the package at a place lead.
+pub(crate) fn add_needed(
     numbers: &mut Vec<usize>,
     workspace: &Workspace,
     features: &Features,
     place: usize,
     side: Side,
-    entries: &[Entry],
+    need: Need,
 ) -> Result<(), AllocError>
-    requires { All (λ e. e.to < 256) entries.now }
-    ensures { OnOk result (numbers.new.items ≡ numbers.old.items ++ placed (library_numbers workspace.now features.now place side) 0 entries.now) }
+    requires { IsSettled workspace.now }
+    ensures { OnOk result (numbers.new.items ≡ numbers.old.items ++ all_numbers need workspace.now features.now place side) }
 {
+    let entries = entries_at(workspace, place);
     for index in 0..entries.len() {
-        add_library(
-            numbers,
-            workspace,
-            features,
-            place,
-            side,
-            index,
-            &entries[index],
-        )?;
-    }
-    Ok(())
-}
-
-/// Adds the host's library to which an enabled build entry leads.
-fn add_tool(
-    numbers: &mut Vec<usize>,
-    workspace: &Workspace,
-    features: &Features,
-    place: usize,
-    side: Side,
-    index: usize,
-    entry: &Entry,
-) -> Result<(), AllocError>
-    requires { entry.now.to < 256 }
-    ensures { OnOk result (numbers.new.items ≡ numbers.old.items ++ tool_numbers workspace.now features.now place side index entry.now) }
-{
-    if features.enabled(place, side, index)
-        && is_build(entry.kind)
-        && has_library(workspace, entry.to)
-    {
-        numbers.push(library_number(entry.to, Side::Host))?;
-    }
-    Ok(())
-}
-
-/// Adds the host's libraries to which enabled build entries lead.
-pub(crate) fn add_tools(
-    numbers: &mut Vec<usize>,
-    workspace: &Workspace,
-    features: &Features,
-    place: usize,
-    side: Side,
-    entries: &[Entry],
-) -> Result<(), AllocError>
-    requires { All (λ e. e.to < 256) entries.now }
-    ensures { OnOk result (numbers.new.items ≡ numbers.old.items ++ placed (tool_numbers workspace.now features.now place side) 0 entries.now) }
-{
-    for index in 0..entries.len() {
-        add_tool(
-            numbers,
-            workspace,
-            features,
-            place,
-            side,
-            index,
-            &entries[index],
-        )?;
-    }
-    Ok(())
-}
-
-/// Adds the run to which an enabled normal entry leads.
-fn add_run(
-    numbers: &mut Vec<usize>,
-    workspace: &Workspace,
-    features: &Features,
-    place: usize,
-    side: Side,
-    index: usize,
-    entry: &Entry,
-) -> Result<(), AllocError>
-    requires { entry.now.to < 256 }
-    ensures { OnOk result (numbers.new.items ≡ numbers.old.items ++ run_numbers workspace.now features.now place side index entry.now) }
-{
-    if features.enabled(place, side, index)
-        && is_normal(entry.kind)
-        && hands_on(workspace, entry.to)
-    {
-        numbers.push(run_number(entry.to, side))?;
-    }
-    Ok(())
-}
-
-/// Adds the runs to which enabled normal entries lead.
-pub(crate) fn add_runs(
-    numbers: &mut Vec<usize>,
-    workspace: &Workspace,
-    features: &Features,
-    place: usize,
-    side: Side,
-    entries: &[Entry],
-) -> Result<(), AllocError>
-    requires { All (λ e. e.to < 256) entries.now }
-    ensures { OnOk result (numbers.new.items ≡ numbers.old.items ++ placed (run_numbers workspace.now features.now place side) 0 entries.now) }
-{
-    for index in 0..entries.len() {
-        add_run(
-            numbers,
-            workspace,
-            features,
-            place,
-            side,
-            index,
-            &entries[index],
-        )?;
+        let entry = &entries[index];
+        if features.enabled(place, side, index) && leads(workspace, need, entry) {
+            numbers.push(needed_number(need, entry.to, side))?;
+        }
     }
     Ok(())
 }

@@ -6,9 +6,7 @@ ghost use Rattle.pb_unit.specs.declared.unit.What.TheVariants.{Lib, Bin, Script,
 ghost use Rattle.pb_unit.specs.Units.{needs, needs_of};
 ghost use Rattle.pb_unit.specs.Drawing.{number};
 
-use crate::dependencies::{
-    add_libraries, add_own_library, add_own_run, add_runs, add_tools, entries_at, script_number,
-};
+use crate::dependencies::{Need, add_needed, add_own_library, add_own_run, script_number};
 use crate::unit::{Unit, What};
 use pb_feature::Features;
 use pb_package::{Side, Workspace};
@@ -27,8 +25,7 @@ fn by_library(
     ensures { IfOk result (λ numbers. numbers.items ≡ map number (needs_of workspace.now features.now place side Lib)) }
 {
     let mut numbers = Vec::new(alloc);
-    let entries = entries_at(workspace, place);
-    add_libraries(&mut numbers, workspace, features, place, side, entries)?;
+    add_needed(&mut numbers, workspace, features, place, side, Need::Lib)?;
     add_own_run(&mut numbers, workspace, place, side)?;
     Ok(numbers)
 }
@@ -47,9 +44,8 @@ fn by_binary(
     ensures { IfOk result (λ numbers. numbers.items ≡ map number (needs_of workspace.now features.now place side (Bin name.now))) }
 {
     let mut numbers = Vec::new(alloc);
-    let entries = entries_at(workspace, place);
     add_own_library(&mut numbers, workspace, place, side)?;
-    add_libraries(&mut numbers, workspace, features, place, side, entries)?;
+    add_needed(&mut numbers, workspace, features, place, side, Need::Lib)?;
     add_own_run(&mut numbers, workspace, place, side)?;
     Ok(numbers)
 }
@@ -66,8 +62,7 @@ fn by_script(
     ensures { IfOk result (λ numbers. numbers.items ≡ map number (needs_of workspace.now features.now place side Script)) }
 {
     let mut numbers = Vec::new(alloc);
-    let entries = entries_at(workspace, place);
-    add_tools(&mut numbers, workspace, features, place, side, entries)?;
+    add_needed(&mut numbers, workspace, features, place, side, Need::Tool)?;
     Ok(numbers)
 }
 
@@ -84,9 +79,8 @@ fn by_run(
     ensures { IfOk result (λ numbers. numbers.items ≡ map number (needs_of workspace.now features.now place side Run)) }
 {
     let mut numbers = Vec::new(alloc);
-    let entries = entries_at(workspace, place);
     numbers.push(script_number(place, side))?;
-    add_runs(&mut numbers, workspace, features, place, side, entries)?;
+    add_needed(&mut numbers, workspace, features, place, side, Need::Run)?;
     Ok(numbers)
 }
 

@@ -1,7 +1,0 @@
-use Rattle.std.proofs.Common.{◌≡◌, ◌++◌, drop}
-use Rattle.pb_closure.specs.Placed.{placed}
-use Rattle.pb_unit.specs.Drawing.{run_numbers}
-use Rattle.pb_unit.proofs.dependencies.add_runs.Given as goal
-
-abbrev pub invariant-loop-index : goal.invariant-loop-index
-invariant-loop-index l = l.numbers.items ++ placed (run_numbers l.workspace l.features l.place l.side) l.index (drop l.index l.entries) ≡ l.fn.numbers.items ++ placed (run_numbers l.workspace l.features l.place l.side) 0 l.entries
