@@ -35,16 +35,26 @@ abbrev pub TellsWhy : ℕ → Result Summary BuildFault → Heard → Heard → 
 TellsWhy zero answer old new = new ≡ old
 TellsWhy (suc status) answer old new = Tells (error_of answer) old new ⊎ Tells (error_of (Err OutOfMemory)) old new
 
--- where a build came to its end and it is asked for: why it started what it started, or nothing, where memory is refused for that; else nothing
+-- what is told where memory is refused for notes, for reasons, or for what a child said
+abbrev pub notes_lost : List ℕ
+notes_lost = codes "note: out of memory for notes of packages without a library\n"
+
+abbrev pub reasons_lost : List ℕ
+reasons_lost = codes "note: out of memory for the reasons\n"
+
+abbrev pub said_lost : List ℕ
+said_lost = codes "note: out of memory for what a child said\n"
+
+-- where a build came to its end and it is asked for: why it started what it started, or that memory was refused for that; else nothing
 abbrev pub TellsReasons : Bool → Result Summary BuildFault → Heard → Heard → Type 0
 TellsReasons false answer old new = new ≡ old
 TellsReasons true (Err fault) old new = new ≡ old
-TellsReasons true (Ok summary) old new = Tells (explanation summary) old new ⊎ (new ≡ old)
+TellsReasons true (Ok summary) old new = Tells (explanation summary) old new ⊎ Tells reasons_lost old new
 
--- where a build came to its end: what its bad unit's child wrote that no message line holds, or nothing, where memory is refused for that; else nothing
+-- where a build came to its end: what its bad unit's child wrote that no message line holds, or that memory was refused for that; else nothing
 abbrev pub TellsSaid : Result Summary BuildFault → Heard → Heard → Type 0
 TellsSaid (Err fault) old new = new ≡ old
-TellsSaid (Ok summary) old new = Tells (said_by_bad summary.bad summary.said) old new ⊎ (new ≡ old)
+TellsSaid (Ok summary) old new = Tells (said_by_bad summary.bad summary.said) old new ⊎ Tells said_lost old new
 
 -- what a build that gave this ends with: its status; and beside the output why children were started, where that is asked for, what a failing child said, and why the build failed
 pub record Concludes (explain : Bool) (answer : Result Summary BuildFault) (status : ℕ) (old new : Heard) : Type 0 where
@@ -55,9 +65,9 @@ pub record Concludes (explain : Bool) (answer : Result Summary BuildFault) (stat
   pub said : TellsSaid answer explained repeated
   pub reason : TellsWhy status answer repeated new
 
--- what is written before a build: notes of the packages that its plan names, or nothing; nothing where there is no plan
+-- what is written before a build: notes of the packages that its plan names, or that memory was refused for them; nothing where there is no plan
 abbrev pub NotesOf : Result BuildPlan BuildFault → Heard → Heard → Type 0
-NotesOf (Ok plan) old new = (new ≡ old) ⊎ Tells (notes_of plan.project.plan.without_library) old new
+NotesOf (Ok plan) old new = Tells (notes_of plan.project.plan.without_library) old new ⊎ Tells notes_lost old new
 NotesOf (Err fault) old new = new ≡ old
 
 -- the target folder of a plan

@@ -4,6 +4,7 @@ use Rattle.std.specs.FinMap as map
 use Rattle.pb_place.specs.Counts.{counted}
 use Rattle.pb_place.specs.World.{Answers}
 use Rattle.pb_place.specs.declared.place.PlaceFault.{PlaceFault}
+use Rattle.pb_answer.specs.declared.fault.BuildFault.TheVariants as build_fault
 use Rattle.pb_arguments.specs.Asking.{Asks, Unasks}
 use Rattle.pb_arguments.specs.declared.asked.Asked.{Asked}
 use Rattle.pb_arguments.specs.declared.asked.Asked.TheVariants.{Build, Session}
@@ -12,7 +13,7 @@ use Rattle.pb_arguments.specs.declared.asked.Unasked.TheVariants.{Help, Wrong, O
 use Rattle.pb_session.specs.Sessions.{session_of}
 use Rattle.pb_session.specs.declared.fault.BadSession.TheVariants.{BadForm}
 use Rattle.pb_turns.specs.Moments.{Heard, Moment}
-use Rattle.pb_tool_program.specs.Building.{BuildsTold}
+use Rattle.pb_tool_program.specs.Building.{BuildsTold, error_of}
 use Rattle.pb_tool_program.specs.Session.{Refused, SessionStopped, SessionWritten}
 use Rattle.pb_tool_program.specs.Writing.{Writes, Tells}
 
@@ -48,11 +49,11 @@ pub record RunsFile (tells : Bool) (path : List ℕ) (status : ℕ) (old new : M
 
 -- Words that ask for nothing.
 
--- what is told to words that ask for nothing: help, as output; what is wrong with them, beside it; nothing, where memory is refused
+-- what is told to words that ask for nothing: help, as output; what is wrong with them, or that memory was refused, beside it
 abbrev pub Explains : Unasked → ℕ → Heard → Heard → Heard → Heard → Type 0
 Explains (Help text) status old new said_before said_after = (said_after ≡ said_before) × ((whole : Bool) × Writes whole text old new × (status ≡ (if whole then 0 else 1)))
 Explains (Wrong text) status old new said_before said_after = (status ≡ 1) × (new ≡ old) × Tells text said_before said_after
-Explains OutOfMemory status old new said_before said_after = (status ≡ 101) × (new ≡ old) × (said_after ≡ said_before)
+Explains OutOfMemory status old new said_before said_after = (status ≡ 101) × (new ≡ old) × Tells (error_of (Err build_fault.OutOfMemory)) said_before said_after
 
 -- The program.
 

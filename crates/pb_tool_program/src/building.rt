@@ -60,8 +60,8 @@ fn error_of(alloc: Global, answer: &Result<Summary, BuildFault>) -> Result<Strin
     Ok(line)
 }
 
-/// Tells which packages that are depended on have no library, as a build's plan names them. Where there is no plan, or
-/// memory is refused, nothing is told: the build then says why.
+/// Tells which packages that are depended on have no library, as a build's plan names them. Where there is no plan,
+/// nothing is told: the build then says why. Where memory is refused, that is told, which takes none.
 fn note<E: Out>(alloc: Global, err: &mut E, plan: &Result<BuildPlan, BuildFault>)
     ensures { NotesOf plan.now record { taken = E.taken err.old; faults = E.faults err.old } record { taken = E.taken err.new; faults = E.faults err.new } }
 {
@@ -69,11 +69,13 @@ fn note<E: Out>(alloc: Global, err: &mut E, plan: &Result<BuildPlan, BuildFault>
         Ok(plan) => plan,
         Err(_) => return,
     };
-    let notes = match notes_of(alloc, plan.project.plan.without_library.as_slice()) {
-        Ok(notes) => notes,
-        Err(_) => return,
+    match notes_of(alloc, plan.project.plan.without_library.as_slice()) {
+        Ok(notes) => write_all(err, notes.as_bytes()),
+        Err(_) => write_all(
+            err,
+            b"note: out of memory for notes of packages without a library\n",
+        ),
     };
-    let _ = write_all(err, notes.as_bytes());
 }
 
 /// Tells that another build has the target folder.
@@ -118,7 +120,7 @@ fn tell<E: Out>(alloc: Global, err: &mut E, status: u8, answer: &Result<Summary,
 }
 
 /// Tells why a build started what it started, where it came to its end and that is asked for. Where memory is refused
-/// for that, nothing is told.
+/// for that, so much is told, which takes none.
 fn explain_to<E: Out>(
     alloc: Global,
     err: &mut E,
@@ -135,15 +137,13 @@ fn explain_to<E: Out>(
         Err(_) => return,
     };
     match explanation(alloc, summary) {
-        Ok(text) => {
-            let _ = write_all(err, text.as_bytes());
-        }
-        Err(_) => {}
-    }
+        Ok(text) => write_all(err, text.as_bytes()),
+        Err(_) => write_all(err, b"note: out of memory for the reasons\n"),
+    };
 }
 
-/// Tells what the child of a build's bad unit wrote that no message line holds. Where memory is refused for that,
-/// nothing is told.
+/// Tells what the child of a build's bad unit wrote that no message line holds. Where memory is refused for that, so
+/// much is told, which takes none.
 fn repeat_to<E: Out>(alloc: Global, err: &mut E, answer: &Result<Summary, BuildFault>)
     ensures { TellsSaid answer.now record { taken = E.taken err.old; faults = E.faults err.old } record { taken = E.taken err.new; faults = E.faults err.new } }
 {
@@ -152,11 +152,9 @@ fn repeat_to<E: Out>(alloc: Global, err: &mut E, answer: &Result<Summary, BuildF
         Err(_) => return,
     };
     match said(alloc, summary) {
-        Ok(text) => {
-            let _ = write_all(err, text.as_slice());
-        }
-        Err(_) => {}
-    }
+        Ok(text) => write_all(err, text.as_slice()),
+        Err(_) => write_all(err, b"note: out of memory for what a child said\n"),
+    };
 }
 
 /// Tells what there is to tell behind a build, and gives its status.

@@ -28,13 +28,19 @@ fn say(rt: &HostRuntime, text: &str) {
     let _ = write_all(&mut Over::new(rt.stderr()), text.as_bytes());
 }
 
+/// Says that memory was refused, and gives the status for it.
+fn out_of_memory(rt: &HostRuntime) -> u8 {
+    say(rt, "error: fault memory OutOfMemory\n");
+    FAILED
+}
+
 /// Does what the words of this process ask for, over its files, variables and children, and gives the status to end
 /// with: that of `run`; 1 where a word is not UTF-8; 101 where the current folder is not known, or memory is refused
-/// for these, which is not said.
+/// for these. Each is said on standard error.
 pub fn tool(rt: &HostRuntime) -> u8 {
     let words = match words(rt) {
         Ok(words) => words,
-        Err(error) if error.kind() == ErrorKind::OutOfMemory => return FAILED,
+        Err(error) if error.kind() == ErrorKind::OutOfMemory => return out_of_memory(rt),
         Err(_) => {
             say(rt, "error: a word of the command line is not UTF-8\n");
             return BAD_COMMAND_LINE;
@@ -42,7 +48,7 @@ pub fn tool(rt: &HostRuntime) -> u8 {
     };
     let folder = match folder(rt) {
         Ok(folder) => folder,
-        Err(error) if error.kind() == ErrorKind::OutOfMemory => return FAILED,
+        Err(error) if error.kind() == ErrorKind::OutOfMemory => return out_of_memory(rt),
         Err(_) => {
             say(rt, "error: the current folder is not known\n");
             return FAILED;

@@ -55,7 +55,10 @@ fn explain<O: Out, E: Out>(unasked: &Unasked, out: &mut O, err: &mut E) -> u8
             let _ = write_all(err, text.as_str().as_bytes());
             BAD_COMMAND_LINE
         }
-        Unasked::OutOfMemory => FAILED,
+        Unasked::OutOfMemory => {
+            let _ = write_all(err, b"error: fault memory OutOfMemory\n");
+            FAILED
+        }
     }
 }
 
