@@ -172,13 +172,13 @@ same_build_starts_none Turns OtherTurns read child options from last again end s
       same = here;
       is = a.is;
       says = a.says;
-      honest = rests.1;
+      honest = λ r project toolchain is says. rests.1 r record { project = project; toolchain = toolchain; is = is; says = says };
       sound = subst (λ (w : World). Sound read judge child (records_of options first.world.variables) w.files) (sym same) (headline true child Turns options from last (Ok summary) first second builds refl OnRecords read reading rests).records;
       each = subst (λ (w : World). EachHasRecord (basis OnRecords read child (setup_of options (environment_of options first.world.variables) a.toolchain) a.project (from_nothing target first.world)) w) (sym same) left_second;
     } in
     let now = subst (λ (m : Map). Left read child options first.world third.world a.project a.toolchain m) variables left in
     let n = environment_of options third.world.variables in
     let each = records_again read child options first.world third.world n a.project b.project a.toolchain b.toolchain now.same now.is now.says b.is b.says now.each in
-    let on : RestsOn OnRecords read child options third.world = (now.sound, honest_again read child options first.world third.world n now.same now.honest) in
+    let on : RestsOn OnRecords read child options third.world = (now.sound, λ r units. honest_again read child options first.world third.world n now.same now.honest r units.project units.toolchain units.is units.says) in
     let there = subst (λ (w : World). EachHasRecord (basis OnRecords read child (setup_of options n b.toolchain) b.project (from_nothing n.target third.world)) w) (sym b.stays) each in
     (starts_none_again OtherTurns child (setup_of options n b.toolchain) b.project b.next again end other b.mid record fourth { heard = b.heard } b.ends OnRecords read (from_nothing n.target third.world) reading (b.keeps on) there).1

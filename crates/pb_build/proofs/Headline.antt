@@ -26,7 +26,7 @@ use Rattle.pb_answer.specs.declared.bad_unit.BadUnit.{BadUnit}
 use Rattle.pb_project.specs.declared.project.Project.{Project}
 use Rattle.pb_project.specs.declared.project.Setup.{Setup}
 use Rattle.pb_record.specs.Parts.{IsReading}
-use Rattle.pb_run.specs.Halves.{Footing, OnRecords, OnNothing, Basis, basis, outcomes_in, Keeps, HoldsBy}
+use Rattle.pb_run.specs.Halves.{Footing, OnRecords, OnNothing, Basis, basis, key_in, outcomes_in, Keeps, HoldsBy}
 use Rattle.pb_run.specs.Outcome.{Outcome, Good}
 use Rattle.pb_run.specs.Standing.{records_folder}
 use Rattle.pb_soundness.specs.Records.{Reading, record_at}
@@ -118,7 +118,7 @@ module _ (read : Reading) (child : Answers) (options : Options) (w : World) (pro
 
   holds : (f : Footing) → RestsOn f read child options w → HoldsBy f (its_basis f) (untouched project) next w
   holds OnRecords (sound, honest) = record {
-    honest = honest read project toolchain is says;
+    honest = honest read record { project = project; toolchain = toolchain; is = is; says = says };
     sound = subst (λ (f : List ℕ). Sound read judge child f w.files) (sym (same_folder options w project is)) sound;
     ahead = opened_ahead read (records_folder project) w next is_next;
     recorded = λ place good. absurd (none_good (needs_of project) place good);
@@ -155,8 +155,8 @@ module _ (footing : Footing) (read : Reading) (reading : IsReading read) (child 
       kept_first : (f : Footing) → RestsOn f read child options old.world → Keeps (basis f read child setup project sources) (untouched project) (nothing_said project) next mid.world
       kept_first f on = subst (λ (w : World). Keeps (basis f read child setup project sources) (untouched project) (nothing_said project) next w) (sym stays) (rests_first read child options old.world project toolchain is says next is_next f on)
 
-      abbrev units_by : List (Event BadUnit) → UnitsOf child options old.world
-      units_by es = record { project = project; toolchain = toolchain; is = is; says = says; es = es }
+      abbrev units : UnitsOf child options old.world
+      units = record { project = project; toolchain = toolchain; is = is; says = says }
 
       -- the children that were started since the start
       counted : (es : List (Event BadUnit)) (stop : Counts) → stop.starts.count ≡ upped (length (started_by es)) mid.counts.starts.count → Drained stop new.counts
@@ -205,9 +205,7 @@ module _ (footing : Footing) (read : Reading) (reading : IsReading read) (child 
         fails_at : (key : List ℕ) → StopsAt true project mid stop key es → FailsAt project es (rows_in b) key old.heard.taken new.heard.taken
         fails_at key by = record {
           place = by.place;
-          unit = by.unit;
-          there = by.there;
-          named = by.named;
+          named = ap key_in by.there ∙ ap (λ (k : List ℕ). k ∷ []) by.named;
           flies = by.flies;
           lines = first_lines (due (states_in project es)) _ stands.lines by.lines;
         }
@@ -225,11 +223,8 @@ module _ (footing : Footing) (read : Reading) (reading : IsReading read) (child 
       turns_give (Ok summary) ends =
           let whole : StandsWhole b ends.es ends.reasons summary mid.world new.world = ends.told refl footing read sources reading (kept_first footing rests) in (
             record {
-              units = units_by ends.es;
-              flies = (last, ends.flies);
-              starts = counted ends.es ends.mid ends.starts ends.drained;
+              flown = record { units = units; es = ends.es; flies = (last, ends.flies); starts = counted ends.es ends.mid ends.starts ends.drained; reasons = ends.reasons };
               finished = ends.finished;
-              reasons = ends.reasons;
               unnoted = ends.unnoted;
               answer = whole.answer;
               lines = since ends.es (due (states_in project ends.es)) _ (all_lines ends.es whole.stands whole.all) ends.lines;
@@ -241,14 +236,11 @@ module _ (footing : Footing) (read : Reading) (reading : IsReading read) (child 
       turns_give (Err fault) ends =
           let cut : StandsCut b ends.es ends.before mid.world new.world = ends.told refl footing read sources reading (kept_first footing rests) in (
             inr record {
-              units = units_by ends.es;
-              flies = (ends.last, ends.flies);
-              starts = counted ends.es ends.mid.counts ends.stops.starts ends.drained;
+              flown = record { units = units; es = ends.es; flies = (ends.last, ends.flies); starts = counted ends.es ends.mid.counts ends.stops.starts ends.drained; reasons = cut.reasons };
               spent = subst (λ (n : Option ℕ). Spends fault n ends.es) (is_next ∙ ap (λ (f : List ℕ). next_in read f old.world) (same_folder options old.world project is)) ends.spent;
               lines = lines_before ends.es cut.stands ends.mid ends.heard fault ends.stops;
               before = ends.before;
               came = ends.came;
-              reasons = cut.reasons;
               began = subst (λ (w : World). AllBeganFor b ends.before cut.reasons w new.world) stays cut.began;
             },
             leaves footing ends.es cut.stands,

@@ -1,5 +1,5 @@
 -- The headline: what a build gives that rests on true records and an honest child, or on no record.
-use Rattle.std.specs.Prelude.{◌≡◌, ◌⊎◌, ℕ, Bool, true, List, length, take, Option, Some, None, IsTrue, Result, Ok, Err, slice_get}
+use Rattle.std.specs.Prelude.{◌≡◌, ◌⊎◌, ◌∷◌, [], ℕ, Bool, true, List, length, take, Option, Some, None, IsTrue, Result, Ok, Err, slice_get}
 use Rattle.std.specs.Io.KnownBytes.{Appends}
 use Rattle.pb_answer.specs.declared.fault.BuildFault.{BuildFault}
 use Rattle.pb_answer.specs.declared.fault.BuildFault.TheVariants.{Child, Device, Sink, OutOfMemory}
@@ -25,7 +25,7 @@ use Rattle.pb_answer.specs.declared.bad_unit.BadUnit.{BadUnit}
 use Rattle.pb_project.specs.Targets.{unit_at}
 use Rattle.pb_project.specs.declared.project.Project.{Project}
 use Rattle.pb_record.specs.Parts.{IsReading}
-use Rattle.pb_run.specs.Halves.{Footing, OnRecords, OnNothing, Basis, basis, IsHonestOnUnits}
+use Rattle.pb_run.specs.Halves.{Footing, OnRecords, OnNothing, Basis, basis, key_at, IsHonestOnUnits}
 use Rattle.pb_run.specs.Outcome.{Good}
 use Rattle.pb_soundness.specs.Records.{Reading, record_at}
 use Rattle.pb_soundness.specs.Sound.{Sound}
@@ -46,11 +46,20 @@ use Rattle.pb_build.specs.Result.{toolchain_of, setup_of}
 abbrev pub records_of : Options → Map → List ℕ
 records_of options variables = below (environment_of options variables).target (folder_of options.profile)
 
--- whatever project and version of the compiler a build finds in a world, the child is honest on the project's units
+-- the units of a build: those of the project that it finds in a world, with the version that the compiler says
+pub record UnitsOf (child : Answers) (options : Options) (w : World) : Type 0 where
+  pub project : Project
+  pub toolchain : List ℕ
+  pub is : IsProject options (environment_of options w.variables).target w project
+  pub says : toolchain_of child (environment_of options w.variables) project (from_nothing (environment_of options w.variables).target w) ≡ Some toolchain
+
+abbrev pub basis_of : (footing : Footing) (read : Reading) (child : Answers) (options : Options) (w : World) → UnitsOf child options w → Basis
+basis_of footing read child options w units =
+    basis footing read child (setup_of options (environment_of options w.variables) units.toolchain) units.project (from_nothing (environment_of options w.variables).target w)
+
+-- whatever units a build finds in a world, the child is honest on them
 abbrev pub IsHonestBuild : Answers → Options → World → Type 0
-IsHonestBuild child options w = (read : Reading) (project : Project) (toolchain : List ℕ) → IsProject options (environment_of options w.variables).target w project
-    → toolchain_of child (environment_of options w.variables) project (from_nothing (environment_of options w.variables).target w) ≡ Some toolchain
-    → IsHonestOnUnits (basis OnRecords read child (setup_of options (environment_of options w.variables) toolchain) project (from_nothing (environment_of options w.variables).target w))
+IsHonestBuild child options w = (read : Reading) (units : UnitsOf child options w) → IsHonestOnUnits (basis_of OnRecords read child options w units)
 
 -- the records in its folder are true and its child is honest; or no text there counts as a record
 abbrev pub RestsOn : Footing → Reading → Answers → Options → World → Type 0
@@ -77,42 +86,33 @@ ByLast options = let pick : Last = record {} in ByPick PicksLastOf options pick
 
 -- What it gives.
 
--- the units of a build: those of the project that it finds, with the version that the compiler says; and the events in which they began and answered
-pub record UnitsOf (child : Answers) (options : Options) (w : World) : Type 0 where
-  pub project : Project
-  pub toolchain : List ℕ
-  pub is : IsProject options (environment_of options w.variables).target w project
-  pub says : toolchain_of child (environment_of options w.variables) project (from_nothing (environment_of options w.variables).target w) ≡ Some toolchain
-  pub es : List (Event BadUnit)
-
-abbrev pub basis_of : (footing : Footing) (read : Reading) (child : Answers) (options : Options) (w : World) → UnitsOf child options w → Basis
-basis_of footing read child options w units =
-    basis footing read child (setup_of options (environment_of options w.variables) units.toolchain) units.project (from_nothing (environment_of options w.variables).target w)
-
 -- what they give from nothing, in plan order, up to and with the first bad one
 abbrev pub rows_for : (child : Answers) (options : Options) (w : World) → UnitsOf child options w → List Row
 rows_for child options w units = rows_of child (setup_of options (environment_of options w.variables) units.toolchain) units.project (from_nothing (environment_of options w.variables).target w)
 
--- all these have begun and answered, by the schedule, and one child was started for the query and one for each unit that began with one: the summary and the lines are those of what they give from nothing, and say of each whether a child was started for it; the folder of each good one holds exactly its files; and for each unit that began a child was started exactly where something differed from its record, which the summary names, as it names no other unit
-pub record GivesAll (footing : Footing) (read : Reading) (child : Answers) (Schedule : Project → List (Event BadUnit) → Type 0) (options : Options) (summary : Summary) (old new : Moment) : Type 0 where
+-- these began and answered in such events, by the schedule, and one child was started for the query and one for each unit that began with one; and this is noted of them
+pub record UnitsFly (child : Answers) (Schedule : Project → List (Event BadUnit) → Type 0) (options : Options) (old new : Moment) : Type 0 where
   pub units : UnitsOf child options old.world
-  pub flies : Schedule units.project units.es
-  pub starts : new.counts.starts.count ≡ upped (length (started_by units.es)) (up old.counts.starts.count)
-  pub finished : is_finished (states_in units.project units.es) ≡ true
+  pub es : List (Event BadUnit)
+  pub flies : Schedule units.project es
+  pub starts : new.counts.starts.count ≡ upped (length (started_by es)) (up old.counts.starts.count)
   pub reasons : Reasons
-  pub unnoted : (place : ℕ) → slice_get (states_in units.project units.es) place ≡ Some Untouched → slice_get reasons place ≡ Some None
-  pub answer : summary ≡ summary_of units.project units.es reasons (rows_for child options old.world units)
-  pub lines : Appends old.heard.taken new.heard.taken (said_from units.project units.es 0 (rows_for child options old.world units))
+
+-- all have begun and answered: the summary and the lines are those of what they give from nothing, and say of each whether a child was started for it; the folder of each good one holds exactly its files; and for each unit that began a child was started exactly where something differed from its record, which the summary names, as it names no other unit
+pub record GivesAll (footing : Footing) (read : Reading) (child : Answers) (Schedule : Project → List (Event BadUnit) → Type 0) (options : Options) (summary : Summary) (old new : Moment) : Type 0 where
+  pub flown : UnitsFly child Schedule options old new
+  pub finished : is_finished (states_in flown.units.project flown.es) ≡ true
+  pub unnoted : (place : ℕ) → slice_get (states_in flown.units.project flown.es) place ≡ Some Untouched → slice_get flown.reasons place ≡ Some None
+  pub answer : summary ≡ summary_of flown.units.project flown.es flown.reasons (rows_for child options old.world flown.units)
+  pub lines : Appends old.heard.taken new.heard.taken (said_from flown.units.project flown.es 0 (rows_for child options old.world flown.units))
   pub files : (place : ℕ) (u : Planned) (made : Map) (directives : Option (List Directive)) (messages : List Message)
-      → slice_get (rows_for child options old.world units) place ≡ Some record { unit = u; outcome = Good made directives messages } → files_in u.out new.world.files ≡ made
-  pub began : AllBeganFor (basis_of footing read child options old.world units) units.es reasons old.world new.world
+      → slice_get (rows_for child options old.world flown.units) place ≡ Some record { unit = u; outcome = Good made directives messages } → files_in u.out new.world.files ≡ made
+  pub began : AllBeganFor (basis_of footing read child options old.world flown.units) flown.es flown.reasons old.world new.world
 
 -- a call for the unit of this key failed, which has begun and not answered: the lines are those of the longest row of units that have answered
 pub record FailsAt (project : Project) (es : List (Event BadUnit)) (rows : List Row) (key : List ℕ) (old new : Option (List ℕ)) : Type 0 where
   pub place : ℕ
-  pub unit : Planned
-  pub there : unit_at project place ≡ Some unit
-  pub named : unit.key ≡ key
+  pub named : key_at project place ≡ key ∷ []
   pub flies : slice_get (states_in project es) place ≡ Some Begun
   pub lines : Appends old new (said_from project es 0 (take (count_due (states_in project es)) rows))
 
@@ -124,17 +124,14 @@ LinesBefore Sink project es rows old new = (n : ℕ) × Appends old new (take n 
 LinesBefore OutOfMemory project es rows old new = (n : ℕ) × Appends old new (said_from project es 0 (take n (take (count_due (states_in project es)) rows)))
 LinesBefore fault project es rows old new = ⊥
 
--- a fault came at a unit, at the sink, or for want of memory, with such events and so many starts; for want of a run number, where from the next one of the records on all were given; of a unit that could not begin it is not said what differed
+-- a fault came at a unit, at the sink, or for want of memory; for want of a run number, where from the next one of the records on all were given; of a unit that could not begin it is not said what differed
 pub record GivesFirst (footing : Footing) (read : Reading) (child : Answers) (Schedule : Project → List (Event BadUnit) → Type 0) (options : Options) (fault : BuildFault) (old new : Moment) : Type 0 where
-  pub units : UnitsOf child options old.world
-  pub flies : Schedule units.project units.es
-  pub starts : new.counts.starts.count ≡ upped (length (started_by units.es)) (up old.counts.starts.count)
-  pub spent : Spends fault (next_in read (records_of options old.world.variables) old.world) units.es
-  pub lines : LinesBefore fault units.project units.es (rows_for child options old.world units) old.heard.taken new.heard.taken
+  pub flown : UnitsFly child Schedule options old new
+  pub spent : Spends fault (next_in read (records_of options old.world.variables) old.world) flown.es
+  pub lines : LinesBefore fault flown.units.project flown.es (rows_for child options old.world flown.units) old.heard.taken new.heard.taken
   pub before : List (Event BadUnit)
-  pub came : CameAfter units.project fault before units.es
-  pub reasons : Reasons
-  pub began : AllBeganFor (basis_of footing read child options old.world units) before reasons old.world new.world
+  pub came : CameAfter flown.units.project fault before flown.es
+  pub began : AllBeganFor (basis_of footing read child options old.world flown.units) before flown.reasons old.world new.world
 
 -- what was given when the finish line was due
 abbrev pub GivesUnits : Footing → Reading → Answers → (Project → List (Event BadUnit) → Type 0) → Options → Result Summary BuildFault → Moment → Moment → Type 0

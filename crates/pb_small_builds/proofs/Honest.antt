@@ -59,12 +59,12 @@ module _ (options : Options) (w : World) (small : IsSmallBuild options w) (proje
   }
 
 pub small_builds_are_honest : SmallBuildsAreHonest
-small_builds_are_honest options w small read project toolchain is says place u v at alike seen =
-    small_compiler_is_honest (setup_of options (environment_of options w.variables) toolchain) project u
-    (directives_of (take place (outcomes small_compiler (setup_of options (environment_of options w.variables) toolchain) project (from_nothing (environment_of options w.variables).target w)))) v
-    (small.setup toolchain) (of_project options w small project is place u at)
-    (subst (CanTell (command_in (basis OnRecords read small_compiler (setup_of options (environment_of options w.variables) toolchain) project (from_nothing (environment_of options w.variables).target w)) place u)) (sym seen)
-    (small.tells project toolchain is says place u at))
+small_builds_are_honest options w small read units place u v at alike seen =
+    small_compiler_is_honest (setup_of options (environment_of options w.variables) units.toolchain) units.project u
+    (directives_of (take place (outcomes small_compiler (setup_of options (environment_of options w.variables) units.toolchain) units.project (from_nothing (environment_of options w.variables).target w)))) v
+    (small.setup units.toolchain) (of_project options w small units.project units.is place u at)
+    (subst (CanTell (command_in (basis OnRecords read small_compiler (setup_of options (environment_of options w.variables) units.toolchain) units.project (from_nothing (environment_of options w.variables).target w)) place u)) (sym seen)
+    (small.tells units.project units.toolchain units.is units.says place u at))
 
 -- whatever the schedule
 pub small_gives : (Schedule : Project → List (Event BadUnit) → Type 0) (read : Reading) (options : Options) (result : Result Summary BuildFault) (old new : Moment) → IsReading read → Headline true small_compiler Schedule options result old new

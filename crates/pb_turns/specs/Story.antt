@@ -227,7 +227,6 @@ IsBeginning project key spawned before es = (unit : ℕ) × (key_at project unit
 -- a fault came after these events; where a unit could not begin, these are the events before its beginning: no child of it flew
 abbrev pub CameAfter : Project → BuildFault → List (Event BadUnit) → List (Event BadUnit) → Type 0
 CameAfter project (Child key CannotStart) before es = IsBeginning project key true before es
-CameAfter project (Child key fault) before es = es ≡ before
 CameAfter project (Device key fault) before es = (es ≡ before) ⊎ IsBeginning project key false before es
 CameAfter project OutOfMemory before es = (es ≡ before) ⊎ ((unit : ℕ) × (spawned : Bool) × (es ≡ Began unit spawned ∷ before))
 CameAfter project fault before es = es ≡ before
