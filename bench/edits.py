@@ -1,0 +1,231 @@
+#!/usr/bin/env python3
+"""Tries the wrong bodies of `bench/edits/CRATE/`: see `edits.sh`, which calls this."""
+import datetime, glob, os, re, shutil, subprocess, sys, tempfile
+
+TOP = os.path.dirname(os.path.dirname(os.path.abspath(__file__)))
+HEAD = """# When the wrong bodies outside the gate were last tried
+
+`bench/edits.sh` writes this page; nothing in it is written by hand. A commit with a star had changes beside it.
+
+| crate | day | commit | edits | refused | let through, or not tried |
+|---|---|---|---|---|---|
+"""
+# What a proof file says that names what an edit took away: that alone says little of a contract.
+NAMES = re.compile(r"(note: )?(\./)?proofs/.*(has no field|is not in scope|has no `|was not admitted)")
+
+
+def read(path):
+    with open(path, encoding="utf-8") as it:
+        return it.read()
+
+
+def write(path, text):
+    # (a file may have a second name in another folder)
+    if os.path.lexists(path):
+        os.unlink(path)
+    with open(path, "w", encoding="utf-8") as it:
+        it.write(text)
+
+
+def functions(text):
+    """The functions of a file: the name, the line where its body begins, and its last line."""
+    lines, found = text.split("\n"), []
+    for at, line in enumerate(lines):
+        head = re.match(r"( *)(?:pub(?:\([\w ]+\))? )?(?:const )?(?:unsafe )?fn (\w+)", line)
+        if not head:
+            continue
+        body = next((n for n in range(at, len(lines)) if lines[n] == head[1] + "{" or n == at and line.endswith("{") or re.match(head[1] + r"\)(?: -> .*)? \{$", lines[n])), None)
+        last = next((n for n in range(at + 1, len(lines)) if lines[n] == head[1] + "}"), None)
+        if body is not None and last is not None and body < last:
+            found.append((head[2], body, last))
+    return found
+
+
+class Edit:
+    """An edit: the texts of the files that it changes, and which functions it changes, or None where it changes more than bodies."""
+
+    def __init__(self, path, folder):
+        self.name, self.path, self.why, self.pairs, self.inside = os.path.basename(path), path, "", [], set()
+        file, old, texts = "", None, {}
+        for line in read(path).split("\n"):
+            word, _, text = line.partition(" ")
+            if word == "file:":
+                file = text.strip()
+                if not file.startswith("src/"):
+                    self.why = f"{file} is no code: an edit of a definition or a proof shows nothing"
+                elif not os.path.isfile(f"{folder}/{file}"):
+                    self.why = f"there is no file {file}"
+                elif file not in texts:
+                    texts[file] = read(f"{folder}/{file}")
+            elif word == "old:":
+                old = text
+            elif word == "new:":
+                if not file or not old:
+                    self.why = self.why or "a new text without a file or an old text"
+                elif not self.why:
+                    self.why = self.add(file, texts, old, text)
+                old = None
+            if self.why:
+                return
+        self.why = "" if self.pairs else "it replaces nothing"
+
+    def add(self, file, texts, old, new):
+        now = texts[file]
+        if now.count(old) != 1:
+            return f"`{old.strip()}` stands in {file} {now.count(old)} times"
+        line = now[: now.index(old)].count("\n")
+        around = [it for it in functions(now) if it[1] <= line <= it[2]]
+        alike = [it for it in functions(now) if around and it[0] == around[-1][0]]
+        if self.inside is not None:
+            self.inside = self.inside | {(file, around[-1][0])} if len(alike) == 1 else None
+        self.pairs.append((file, old, new))
+        texts[file] = now.replace(old, new)
+        return ""
+
+
+def edits_of(crate, with_gate=False):
+    folder = f"{TOP}/crates/{crate}"
+    found = glob.glob(f"{TOP}/bench/edits/{crate}/*.edit") + (glob.glob(f"{folder}/must-fail/*.edit") if with_gate else [])
+    return [Edit(it, folder) for it in sorted(found)]
+
+
+def batches_of(edits):
+    """Edits that change bodies alone, so many together as change no function twice."""
+    batches = []
+    for edit in edits:
+        if edit.inside:
+            batch = next((it for it in batches if not any(edit.inside & other.inside for other in it)), None)
+            batches.append([edit]) if batch is None else batch.append(edit)
+    return batches
+
+
+def own_words(crate, said, place):
+    """What the check said of one function: its verdict, and the first line that tells why; None where it is proved, or only stands on one that is not."""
+    file, name = place
+    module = "::".join([crate, *[it for it in file[len("src/") : -len(".rt")].split("/") if it != "lib"]])
+    verdict = next((it for it in said if re.match(rf"fn {module}::(?:\w+::)*{name}(?:::fn::\w+|\+\w+::\w+)*: (?:not proved|no proof: (?!it calls))", it)), None)
+    verdict = verdict or next((it for it in said if re.match(rf"fn {module}::(?:\w+::)*fn::{name}::\S+: (?:not proved|no proof: (?!it calls))", it)), None)
+    if verdict is None:
+        return None
+    told = [it for it in said if re.match(r"(note: )?\S+:\d+:\d+:", it)]
+    mine = [it for it in told if f"/{name}/" in it.split(":")[0] or f"/{name}/" in it]
+    mine = [it for it in mine if not NAMES.match(it)] or mine
+    return verdict, (mine or [verdict])[0]
+
+
+def tried_together(crate, batch, work):
+    """What a check of the crate with all these edits says of each: whether it is refused, and why; or None where no verdict came."""
+    folder = f"{work}/crates/{crate}"
+    shutil.rmtree(folder, ignore_errors=True)
+    copied(f"{TOP}/crates/{crate}", folder)
+    for edit in batch:
+        for file, old, new in edit.pairs:
+            write(f"{folder}/{file}", read(f"{folder}/{file}").replace(old, new))
+    ran = subprocess.run([*os.environ.get("TRY", "").split(), "rt", "check", *os.environ.get("FLAGS", "").split()], cwd=folder, stdout=subprocess.PIPE, stderr=subprocess.STDOUT, text=True, errors="replace", check=False)
+    said = re.sub(r"\x1b\[[0-9;]*m", "", ran.stdout).split("\n")
+    if ran.returncode != 1 or "logic=not-proved" not in ran.stdout:
+        return None
+    answers = {}
+    for edit in batch:
+        words = next((it for it in (own_words(crate, said, place) for place in sorted(edit.inside)) if it), None)
+        answers[edit.name] = words and words[1]
+    return answers
+
+
+def tried_alone(crate, edits, work):
+    """What `rt must-fail` says of each."""
+    folder = f"{work}/crates/{crate}"
+    shutil.rmtree(folder, ignore_errors=True)
+    copied(f"{TOP}/crates/{crate}", folder)
+    shutil.rmtree(f"{folder}/must-fail", ignore_errors=True)
+    os.mkdir(f"{folder}/must-fail")
+    for edit in edits:
+        shutil.copy(edit.path, f"{folder}/must-fail/")
+    ran = subprocess.run([*os.environ.get("TRY", "").split(), "rt", "must-fail", crate, *os.environ.get("FLAGS", "").split()], cwd=work, stdout=subprocess.PIPE, stderr=subprocess.STDOUT, text=True, errors="replace", check=False)
+    answers = {}
+    for edit in edits:
+        line = next((it for it in ran.stdout.split("\n") if f"/{edit.name}: " in it), f"NOT TRIED: {ran.stdout[-200:]}")
+        words = line.split(f"{edit.name}: ", 1)[-1]
+        answers[edit.name] = (words.startswith("refused, as it must be"), words)
+    return answers
+
+
+def copied(folder, to):
+    """Copies a folder, what was proved by links."""
+
+    def copy(one, other):
+        try:
+            if "/out/" in one:
+                return os.link(one, other)
+        except OSError:
+            pass
+        return shutil.copy2(one, other)
+
+    shutil.copytree(folder, to, symlinks=True, copy_function=copy)
+
+
+def tried(crate, work):
+    """Tries the edits of a crate, prints a line for each, and returns how many there are and which were not refused."""
+    edits, refused, alone = edits_of(crate), {}, []
+    for edit in edits:
+        if edit.inside is None:
+            alone.append(edit)
+    for batch in batches_of(edits):
+        answers = tried_together(crate, batch, work) or {}
+        for edit in batch:
+            if answers.get(edit.name):
+                refused[edit.name] = answers[edit.name]
+                print(f"{crate}/{edit.name}: refused, as it must be: {answers[edit.name][:160]}", flush=True)
+            else:
+                alone.append(edit)
+    if alone:
+        for name, (is_refused, words) in tried_alone(crate, alone, work).items():
+            print(f"{crate}/{name}: {words[:260]}", flush=True)
+            if is_refused:
+                refused[name] = words
+    return len(edits), [it.name for it in edits if it.name not in refused]
+
+
+def noted(crate, count, left):
+    """Puts a crate's row into `LAST.md`."""
+    path, rows = f"{TOP}/bench/edits/LAST.md", {}
+    for line in read(path).split("\n") if os.path.isfile(path) else []:
+        found = re.match(r"\| `(\w+)` \|", line)
+        if found:
+            rows[found[1]] = line + "\n"
+    told = lambda *words: subprocess.run(["git", "-C", TOP, *words], capture_output=True, text=True, check=True).stdout.strip()
+    commit = told("rev-parse", "--short", "HEAD") + ("*" if told("status", "--porcelain", "--", "crates", "crates.txt") else "")
+    day = datetime.datetime.now(datetime.timezone.utc).date().isoformat()
+    why = ", ".join(f"`{it.removesuffix('.edit')}`" for it in left) or "none"
+    rows[crate] = f"| `{crate}` | {day} | {commit} | {count} | {count - len(left)} | {why} |\n"
+    write(path, HEAD + "".join(rows[name] for name in sorted(rows)))
+
+
+def main():
+    words = sys.argv[1:]
+    only_texts = words[:1] == ["--texts"]
+    crates = words[1:] if only_texts else words
+    crates = crates or sorted(os.listdir(f"{TOP}/crates"))
+    for crate in crates:
+        if not os.path.isdir(f"{TOP}/crates/{crate}"):
+            sys.exit(f"there is no crate {crate}")
+    every = [(crate, it) for crate in crates for it in edits_of(crate, True)]
+    bad = [f"{os.path.relpath(it.path, TOP)}: {it.why}" for _, it in every if it.why]
+    print("".join(f"{it}\n" for it in bad) + f"{len(every)} edits, of which {len(bad)} do not fit", flush=True)
+    if bad or only_texts:
+        sys.exit(1 if bad else 0)
+    wrong = []
+    with tempfile.TemporaryDirectory() as work:
+        for it in ("crates.txt", "HANDLES"):
+            shutil.copy(f"{TOP}/{it}", work)
+        copied(f"{TOP}/crates", f"{work}/crates")
+        for crate in crates:
+            if os.path.isdir(f"{TOP}/bench/edits/{crate}"):
+                count, left = tried(crate, work)
+                noted(crate, count, left)
+                wrong += [crate] if left else []
+    print(f"\nnot all were refused: {' '.join(wrong)}" if wrong else "\nall were refused")
+    sys.exit(1 if wrong else 0)
+
+
+main()
