@@ -10,6 +10,8 @@ HEAD = """# When the wrong bodies outside the gate were last tried
 | crate | day | commit | edits | refused | let through, or not tried |
 |---|---|---|---|---|---|
 """
+# As many processors for one check as `RT_JOBS` says.
+JOBS = ["--jobs", os.environ["RT_JOBS"]] if os.environ.get("RT_JOBS") else []
 # What a proof file says that names what an edit took away: that alone says little of a contract.
 NAMES = re.compile(r"(note: )?(\./)?proofs/.*(has no field|is not in scope|has no `|was not admitted)")
 
@@ -27,17 +29,25 @@ def write(path, text):
         it.write(text)
 
 
+def owner(line):
+    """What the prover calls that to which the functions of a block belong: `impl Ord for Text` is `TextOrd`."""
+    head = re.match(r"(?:unsafe )?(?:impl(?:<.*?>)? |(?:pub )?trait )(?:(\w+)(<.*?>)? for )?(\w+)", line)
+    return head and head[3] + (head[1] or "") + re.sub(r"\W", "", head[2] or "")
+
+
 def functions(text):
-    """The functions of a file: the name, the line where its body begins, and its last line."""
-    lines, found = text.split("\n"), []
+    """The functions of a file: the name, after what it belongs to, the line where its body begins, and its last line."""
+    lines, found, of = text.split("\n"), [], None
     for at, line in enumerate(lines):
+        of = owner(line) if line[:1] not in ("", " ", "}") else of
         head = re.match(r"( *)(?:pub(?:\([\w ]+\))? )?(?:const )?(?:unsafe )?fn (\w+)", line)
         if not head:
             continue
-        body = next((n for n in range(at, len(lines)) if lines[n] == head[1] + "{" or n == at and line.endswith("{") or re.match(head[1] + r"\)(?: -> .*)? \{$", lines[n])), None)
+        begins = lambda it: it == head[1] + "{" or re.match(head[1] + r"(?:\)|.*\bfn ).* \{$", it)
+        body = next((n for n in range(at, len(lines)) if begins(lines[n])), None)
         last = next((n for n in range(at + 1, len(lines)) if lines[n] == head[1] + "}"), None)
         if body is not None and last is not None and body < last:
-            found.append((head[2], body, last))
+            found.append((f"{of}::{head[2]}" if of and head[1] else head[2], body, last))
     return found
 
 
@@ -73,11 +83,10 @@ class Edit:
         now = texts[file]
         if now.count(old) != 1:
             return f"`{old.strip()}` stands in {file} {now.count(old)} times"
-        line = now[: now.index(old)].count("\n")
-        around = [it for it in functions(now) if it[1] <= line <= it[2]]
-        alike = [it for it in functions(now) if around and it[0] == around[-1][0]]
+        line, every = now[: now.index(old)].count("\n"), functions(now)
+        around = [it[0] for it in every if it[1] <= line <= it[2]]
         if self.inside is not None:
-            self.inside = self.inside | {(file, around[-1][0])} if len(alike) == 1 else None
+            self.inside = self.inside | {(file, around[-1])} if around and [it[0] for it in every].count(around[-1]) == 1 else None
         self.pairs.append((file, old, new))
         texts[file] = now.replace(old, new)
         return ""
@@ -100,17 +109,15 @@ def batches_of(edits):
 
 
 def own_words(crate, said, place):
-    """What the check said of one function: its verdict, and the first line that tells why; None where it is proved, or only stands on one that is not."""
+    """Why the check refuses a function, the first line that tells it; None where it is proved, or only stands on one that is not."""
     file, name = place
+    last = name.split("::")[-1]
     module = "::".join([crate, *[it for it in file[len("src/") : -len(".rt")].split("/") if it != "lib"]])
-    verdict = next((it for it in said if re.match(rf"fn {module}::(?:\w+::)*{name}(?:::fn::\w+|\+\w+::\w+)*: (?:not proved|no proof: (?!it calls))", it)), None)
-    verdict = verdict or next((it for it in said if re.match(rf"fn {module}::(?:\w+::)*fn::{name}::\S+: (?:not proved|no proof: (?!it calls))", it)), None)
+    verdict = next((it for it in said if re.match(rf"fn {module}::(?:{name}|fn::{last}::\S+): (?:not proved|no proof: (?!it calls))", it)), None)
     if verdict is None:
         return None
-    told = [it for it in said if re.match(r"(note: )?\S+:\d+:\d+:", it)]
-    mine = [it for it in told if f"/{name}/" in it.split(":")[0] or f"/{name}/" in it]
-    mine = [it for it in mine if not NAMES.match(it)] or mine
-    return verdict, (mine or [verdict])[0]
+    told = [it for it in said if re.match(r"(note: )?\S+:\d+:\d+: error", it) and f"/{last}/" in it.split(": error")[0]]
+    return next((it for it in told if not NAMES.match(it)), (told or [verdict])[0] if "not proved" in verdict else verdict)
 
 
 def tried_together(crate, batch, work):
@@ -121,7 +128,7 @@ def tried_together(crate, batch, work):
     for edit in batch:
         for file, old, new in edit.pairs:
             write(f"{folder}/{file}", read(f"{folder}/{file}").replace(old, new))
-    ran = subprocess.run([*os.environ.get("TRY", "").split(), "rt", "check", *os.environ.get("FLAGS", "").split()], cwd=folder, stdout=subprocess.PIPE, stderr=subprocess.STDOUT, text=True, errors="replace", check=False)
+    ran = subprocess.run([*os.environ.get("TRY", "").split(), "rt", "check", *JOBS], cwd=folder, stdout=subprocess.PIPE, stderr=subprocess.STDOUT, text=True, errors="replace", check=False)
     said = re.sub(r"\x1b\[[0-9;]*m", "", ran.stdout).split("\n")
     if ran.returncode != 1 or "logic=not-proved" not in ran.stdout:
         return None
@@ -141,7 +148,7 @@ def tried_alone(crate, edits, work):
     os.mkdir(f"{folder}/must-fail")
     for edit in edits:
         shutil.copy(edit.path, f"{folder}/must-fail/")
-    ran = subprocess.run([*os.environ.get("TRY", "").split(), "rt", "must-fail", crate, *os.environ.get("FLAGS", "").split()], cwd=work, stdout=subprocess.PIPE, stderr=subprocess.STDOUT, text=True, errors="replace", check=False)
+    ran = subprocess.run([*os.environ.get("TRY", "").split(), "rt", "must-fail", crate], cwd=work, stdout=subprocess.PIPE, stderr=subprocess.STDOUT, text=True, errors="replace", check=False)
     answers = {}
     for edit in edits:
         line = next((it for it in ran.stdout.split("\n") if f"/{edit.name}: " in it), f"NOT TRIED: {ran.stdout[-200:]}")

@@ -4,7 +4,7 @@
 # away at the end. The prover must refuse each. There is a line for each, and the row of the crate in
 # `bench/edits/LAST.md` says when it was tried, on which commit, and what came of it. The last line names the crates in
 # which not all were refused, or says that there are none, and then the status is 0, else 1. `TRY` may hold a command to
-# put before `rt`, as one that waits for its turn, and `FLAGS` words for `rt`, as `--jobs 1`.
+# put before `rt`, as one that waits for its turn, and `RT_JOBS` the number of processors.
 #
 # Edits of bodies are tried together, as many as change no function twice: each function is proved by its own body and
 # by the contracts of what it calls, and the prover says of each function whether it is proved; an edit counts as refused
