@@ -1,5 +1,5 @@
 -- What a step of a flight asks and gives.
-use Rattle.std.proofs.Common.{inl, inr, is_none, map, AllPairs, ◌≡◌, ◌≢◌, ◌∙◌, ◌<◌, ◌+◌, ◌++◌, ◌⊎◌, Bool, false, List, [], ◌∷◌, ℕ, zero, suc, Some, refl, sym, ap, subst, arith, slice_get, length, Contains, slice_set}
+use Rattle.std.proofs.Common.{inl, inr, is_none, map, Option, None, AllPairs, ◌≡◌, ◌≢◌, ◌∙◌, ◌<◌, ◌+◌, ◌++◌, ◌⊎◌, Bool, false, List, [], ◌∷◌, ℕ, zero, suc, Some, refl, sym, ap, subst, arith, slice_get, length, Contains, slice_set}
 use Rattle.std.specs.Prelude.{slice_index_or}
 use Rattle.std.specs.List.{remove}
 use Rattle.std.proofs.lemmas.Bool.{cases_eq, ne_eqb}
@@ -14,7 +14,7 @@ use Rattle.pb_flight.specs.Table.{Table, ready_of, is_finished, begun, fresh, co
 use Rattle.pb_flight.specs.Driving.{IsFlown}
 use Rattle.pb_flight.specs.Events.{Event, Began, Gave, MayBegin, IsLawful, Anything, states_after, flying_after, without}
 use Rattle.pb_flight.specs.Laws.{IsInPlanOrder}
-use Rattle.pb_flight.specs.Steps.{Flies, nothing, begin, answer, Anyhow}
+use Rattle.pb_flight.specs.Steps.{Flies, nothing, begin, answer, Anyhow, HandsBack}
 use Rattle.pb_flight.specs.Working.{weight, weight_of}
 use Rattle.pb_flight.proofs.Lists.{injective, clash, at_contains}
 use Rattle.pb_flight.proofs.Ready.{ready_may}
@@ -155,10 +155,11 @@ module _ {F S : Type 0} (Turns : S → List ℕ → List ℕ → Step → S → 
         omega (arith, w, s)
 
     -- a fault ends it before the answer is noted, or after
-    pub stopped_at : (u : ℕ) → Turns now ready list (step.Answer i) next → slice_get list i ≡ Some u → (Stops : List (Event F) → Type 0) (more : List (Event F)) → (more ≡ es) ⊎ ((given : Answer F) × (more ≡ Gave u given ∷ es)) → Stops more
-        → (last : S) × (events : List (Event F)) × Flies Turns needs Anyhow Anything from events last × Stops events
-    stopped_at u turned at Stops more (inl same) told = (now, es, flown.flies, subst Stops same told)
-    stopped_at u turned at Stops more (inr (given, same)) told = (next, Gave u given ∷ es, flies_answered u given turned at, subst Stops same told)
+    pub stopped_at : (u : ℕ) → Turns now ready list (step.Answer i) next → slice_get list i ≡ Some u → (Stops : Option ℕ → List (Event F) → Type 0) → Stops (Some u) es ⊎ ((given : Answer F) × Stops None (Gave u given ∷ es))
+        → (last : S) × (events : List (Event F)) × (asked : Option ℕ) × Flies Turns needs Anyhow Anything from events last × HandsBack Turns needs events last asked next × Stops asked events
+    stopped_at u turned at Stops (inl told) =
+        (now, es, Some u, flown.flies, (i, ap (λ l. slice_get l i) (sym list_is) ∙ at, subst (λ l. Turns now (ready_of needs (states_after needs es)) l (step.Answer i) next) list_is (subst (λ r. Turns now r list (step.Answer i) next) ready_is turned)), told)
+    stopped_at u turned at Stops (inr (given, told)) = (next, Gave u given ∷ es, None, flies_answered u given turned at, refl, told)
 
 -- a flight on which nothing has begun
 pub flown_fresh : {F S : Type 0} (Turns : S → List ℕ → List ℕ → Step → S → Type 0) (needs : List (List ℕ)) (now : S) (table : Table F) (flying : List ℕ) → table ≡ fresh needs → flying ≡ [] → IsFlown Turns needs now [] now table flying

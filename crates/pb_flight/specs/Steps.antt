@@ -1,5 +1,5 @@
 -- What is done next, and who decides it.
-use Rattle.std.specs.Prelude.{◌≡◌, ◌<◌, ◌≤◌, ◌+◌, ◌⊎◌, ℕ, max, Bool, true, false, List, [], ◌∷◌, length, Some, slice_get}
+use Rattle.std.specs.Prelude.{◌≡◌, ◌<◌, ◌≤◌, ◌+◌, ◌⊎◌, ℕ, max, Bool, true, false, List, [], ◌∷◌, length, Option, Some, None, slice_get}
 use Rattle.pb_flight.specs.declared.flight.Answer.{Answer}
 use Rattle.pb_flight.specs.declared.turn.Step.{Step}
 use Rattle.pb_flight.specs.declared.turn.Step.TheVariants as step
@@ -21,6 +21,11 @@ pub data Flies {F S : Type 0} (Turns : S → List ℕ → List ℕ → Step → 
   answer : (es : List (Event F)) (now next : S) (i u : ℕ) (given : Answer F) (before : Flies Turns needs Spawns Gives from es now) (missing : is_finished (states_after needs es) ≡ false)
       (turned : Turns now (ready_of needs (states_after needs es)) (flying_after es) (step.Answer i) next) (unit : slice_get (flying_after es) i ≡ Some u) (gives : Gives u given)
       → Flies Turns needs Spawns Gives from (Gave u given ∷ es) next
+
+-- the state that is handed back after these events: that of the last step; or, where the answer of this unit then ended in a fault, that of the step which said so
+abbrev pub HandsBack : {F S : Type 0} → (S → List ℕ → List ℕ → Step → S → Type 0) → List (List ℕ) → List (Event F) → S → Option ℕ → S → Type 0
+HandsBack Turns needs es last None back = back ≡ last
+HandsBack Turns needs es last (Some u) back = (i : ℕ) × (slice_get (flying_after es) i ≡ Some u) × Turns last (ready_of needs (states_after needs es)) (flying_after es) (step.Answer i) back
 
 -- whether it has a child or not
 abbrev pub Anyhow : ℕ → Bool → Type 0

@@ -1,6 +1,6 @@
 //! Who begins units and takes their answers.
 
-ghost use Rattle.std.specs.Prelude.{◌≡◌, ◌<◌, ◌++◌, ◌∷◌, [], ℕ, Bool, List, length, IfOk, IfErr, OnOk, MatchResult, Some, Contains, slice_get};
+ghost use Rattle.std.specs.Prelude.{◌≡◌, ◌<◌, ◌++◌, ◌∷◌, [], ℕ, Bool, List, length, Option, IfOk, OnOk, MatchResult, Some, None, Contains, slice_get};
 ghost use Rattle.std.specs.List.{remove};
 ghost use Rattle.pb_flight.specs.Table.{due_after, count_due};
 ghost use Rattle.pb_flight.specs.Events.{Event, Began, Gave, MayBegin, IsLawful, states_after, flying_after};
@@ -26,8 +26,9 @@ pub trait Crew<P, O, F, E> {
     /// been handed out.
     ghost story: { Self → P → O → Self → P → O → List (Event F) → ℕ → Type 0 };
 
-    /// What has happened between two moments by these events, where a fault then ended it.
-    ghost stops: { E → Self → P → O → Self → P → O → List (Event F) → Type 0 };
+    /// What has happened between two moments by these events, where a fault then ended it, as the answer of this unit
+    /// was taken; of none, where no answer was.
+    ghost stops: { E → Option ℕ → Self → P → O → Self → P → O → List (Event F) → Type 0 };
 
     /// The units in flight, in order of beginning. The one fault is want of memory.
     fn flying(&self, alloc: Global) -> Result<Vec<usize>, AllocError>
@@ -44,7 +45,7 @@ pub trait Crew<P, O, F, E> {
         ensures story { (first : Self) (first_place : P) (first_out : O) (es : List (Event F)) (given : ℕ) → story first first_place first_out self.old place.old out.old es given → flying self.old ≡ flying_after es
             → IsLawful (needs self.old) es → given ≡ count_due (states_after (needs self.old) es) → MayBegin (needs self.old) (states_after (needs self.old) es) unit
             → MatchResult result (λ spawned. story first first_place first_out self.new place.new out.new (Began unit spawned ∷ es) given)
-            (λ e. (spawned : Bool) × stops e first first_place first_out self.new place.new out.new (Began unit spawned ∷ es)) };
+            (λ e. (spawned : Bool) × stops e None first first_place first_out self.new place.new out.new (Began unit spawned ∷ es)) };
 
     /// Takes the answer of the unit at a place of those in flight, which it is no more then, also after a fault.
     fn answer(
@@ -62,7 +63,7 @@ pub trait Crew<P, O, F, E> {
         ensures story { (first : Self) (first_place : P) (first_out : O) (es : List (Event F)) (given : ℕ) (unit : ℕ) → story first first_place first_out self.old place.old out.old es given → flying self.old ≡ flying_after es
             → IsLawful (needs self.old) es → given ≡ count_due (states_after (needs self.old) es) → slice_get (flying self.old) index ≡ Some unit → slice_get (states_after (needs self.old) es) unit ≡ Some Begun
             → MatchResult result (λ answer. story first first_place first_out self.new place.new out.new (Gave unit answer ∷ es) given)
-            (λ e. stops e first first_place first_out self.new place.new out.new es) };
+            (λ e. stops e (Some unit) first first_place first_out self.new place.new out.new es) };
 
     /// Hands out lines.
     fn tell(&mut self, place: &mut P, out: &mut O, lines: &[u8]) -> Result<(), E>
@@ -73,10 +74,10 @@ pub trait Crew<P, O, F, E> {
         ensures story { (first : Self) (first_place : P) (first_out : O) (es : List (Event F)) (given : ℕ) → story first first_place first_out self.old place.old out.old es given → IsLawful (needs self.old) es
             → lines.now ≡ due_after given (states_after (needs self.old) es)
             → MatchResult result (λ _. story first first_place first_out self.new place.new out.new es (count_due (states_after (needs self.old) es)))
-            (λ e. stops e first first_place first_out self.new place.new out.new es) };
+            (λ e. stops e None first first_place first_out self.new place.new out.new es) };
 
     /// The fault of memory that was refused.
     fn refused(&self) -> E
         ensures { (first : Self) (first_place last_place : P) (first_out last_out : O) (es : List (Event F)) (given : ℕ) → story first first_place first_out self.now last_place last_out es given
-            → stops result first first_place first_out self.now last_place last_out es };
+            → stops result None first first_place first_out self.now last_place last_out es };
 }

@@ -1,11 +1,11 @@
 //! A flight, step by step, by what a turn says.
 
-ghost use Rattle.std.specs.Prelude.{◌≡◌, ◌⊎◌, ◌<◌, ◌++◌, ◌∷◌, [], ℕ, Bool, true, false, List, length, IfOk, OnOk, OnErr, MatchResult, Some, Contains, slice_get};
+ghost use Rattle.std.specs.Prelude.{◌≡◌, ◌⊎◌, ◌<◌, ◌++◌, ◌∷◌, [], ℕ, Bool, true, false, List, length, Option, IfOk, OnOk, OnErr, MatchResult, Some, None, Contains, slice_get};
 ghost use Rattle.std.specs.List.{remove};
 ghost use Rattle.pb_flight.specs.Driving.{IsFlown};
 ghost use Rattle.pb_flight.specs.Events.{Event, Began, Gave, MayBegin, IsLawful, Anything, states_after, flying_after};
 ghost use Rattle.pb_flight.specs.Laws.{IsInPlanOrder};
-ghost use Rattle.pb_flight.specs.Steps.{Flies, Anyhow};
+ghost use Rattle.pb_flight.specs.Steps.{Flies, Anyhow, HandsBack};
 ghost use Rattle.pb_flight.specs.Table.{Table, is_finished, ready_of, begun, answered, fresh, count_due};
 ghost use Rattle.pb_flight.specs.Working.{weight_of};
 
@@ -34,7 +34,7 @@ fn begin_one<P, O, F: Drop, E, C: Crew<P, O, F, E>>(
     ensures story { (first : C) (first_place : P) (first_out : O) (es : List (Event F)) (given : ℕ) → C.story first first_place first_out crew.old place.old out.old es given → C.flying crew.old ≡ flying_after es
         → IsLawful (C.needs crew.old) es → given ≡ count_due (states_after (C.needs crew.old) es) → flight.old.states ≡ states_after (C.needs crew.old) es
         → MatchResult result (λ _. (spawned : Bool) × C.story first first_place first_out crew.new place.new out.new (Began unit spawned ∷ es) given)
-        (λ e. (spawned : Bool) × C.stops e first first_place first_out crew.new place.new out.new (Began unit spawned ∷ es)) }
+        (λ e. (spawned : Bool) × C.stops e None first first_place first_out crew.new place.new out.new (Began unit spawned ∷ es)) }
 {
     flight.begin(unit);
     match crew.begin(alloc, place, out, unit) {
@@ -60,7 +60,7 @@ fn tell<P, O, F: Drop, E, C: Crew<P, O, F, E>>(
     ensures story { (first : C) (first_place : P) (first_out : O) (es : List (Event F)) → C.story first first_place first_out crew.old place.old out.old es flight.old.given → IsLawful (C.needs crew.old) es
         → flight.old.states ≡ states_after (C.needs crew.old) es
         → MatchResult result (λ _. C.story first first_place first_out crew.new place.new out.new es flight.new.given)
-        (λ e. C.stops e first first_place first_out crew.new place.new out.new es) }
+        (λ e. C.stops e None first first_place first_out crew.new place.new out.new es) }
 {
     let lines = match flight.emit(alloc) {
         Ok(lines) => lines,
@@ -95,7 +95,7 @@ fn answer_one<P, O, F: Drop, E, C: Crew<P, O, F, E>>(
     ensures story { (first : C) (first_place : P) (first_out : O) (es : List (Event F)) (unit : ℕ) → C.story first first_place first_out crew.old place.old out.old es flight.old.given → C.flying crew.old ≡ flying_after es
         → IsLawful (C.needs crew.old) es → flight.old.given ≡ count_due (states_after (C.needs crew.old) es) → flight.old.states ≡ states_after (C.needs crew.old) es → slice_get flying.now index ≡ Some unit
         → MatchResult result (λ _. (answer : Answer F) × (flight.new.states ≡ states_after (C.needs crew.old) (Gave unit answer ∷ es)) × C.story first first_place first_out crew.new place.new out.new (Gave unit answer ∷ es) flight.new.given)
-        (λ e. (more : List (Event F)) × ((more ≡ es) ⊎ ((answer : Answer F) × (more ≡ Gave unit answer ∷ es))) × C.stops e first first_place first_out crew.new place.new out.new more) }
+        (λ e. C.stops e (Some unit) first first_place first_out crew.new place.new out.new es ⊎ ((answer : Answer F) × C.stops e None first first_place first_out crew.new place.new out.new (Gave unit answer ∷ es))) }
 {
     let unit = flying[index];
     let answer = match crew.answer(alloc, place, out, index) {
@@ -130,7 +130,8 @@ fn step<P, O, F: Drop, E, C: Crew<P, O, F, E>, T: Turn>(
         → C.story first first_place first_out crew.old place.old out.old es flight.old.given
         → MatchResult result
         (λ _. (more : List (Event F)) × IsFlown T.turns (C.needs crew.old) from more turn.new flight.new (C.flying crew.new) × C.story first first_place first_out crew.new place.new out.new more flight.new.given)
-        (λ e. (last : T) × (more : List (Event F)) × Flies T.turns (C.needs crew.old) Anyhow Anything from more last × C.stops e first first_place first_out crew.new place.new out.new more) }
+        (λ e. (last : T) × (more : List (Event F)) × (asked : Option ℕ) × Flies T.turns (C.needs crew.old) Anyhow Anything from more last × HandsBack T.turns (C.needs crew.old) more last asked turn.new
+        × C.stops e asked first first_place first_out crew.new place.new out.new more) }
     ensures flown { (from : T) (es : List (Event F)) → IsFlown T.turns (C.needs crew.old) from es turn.old flight.old (C.flying crew.old) → OnOk result ((more : List (Event F)) × IsFlown T.turns (C.needs crew.old) from more turn.new flight.new (C.flying crew.new)) }
 {
     let ready = match flight.ready(alloc) {
@@ -160,7 +161,7 @@ fn step<P, O, F: Drop, E, C: Crew<P, O, F, E>, T: Turn>(
 
 /// Drives a flight on which nothing has begun: each step that the turn says is made, until all units have answered, or
 /// all up to and with the first bad one. Units later than the first bad one may be in flight at the end, and after a
-/// fault any may be.
+/// fault any may be. After a fault the turn is asked no more.
 pub fn drive<P, O, F: Drop, E, C: Crew<P, O, F, E>, T: Turn>(
     alloc: Global,
     crew: &mut C,
@@ -180,7 +181,8 @@ pub fn drive<P, O, F: Drop, E, C: Crew<P, O, F, E>, T: Turn>(
     ensures goes { (first : C) (first_place : P) (first_out : O) → C.story first first_place first_out crew.old place.old out.old [] 0
         → MatchResult result
         (λ _. (es : List (Event F)) × IsFlown T.turns (C.needs crew.old) turn.old es turn.new flight.new (C.flying crew.new) × C.story first first_place first_out crew.new place.new out.new es flight.new.given)
-        (λ e. (last : T) × (es : List (Event F)) × Flies T.turns (C.needs crew.old) Anyhow Anything turn.old es last × C.stops e first first_place first_out crew.new place.new out.new es) }
+        (λ e. (last : T) × (es : List (Event F)) × (asked : Option ℕ) × Flies T.turns (C.needs crew.old) Anyhow Anything turn.old es last × HandsBack T.turns (C.needs crew.old) es last asked turn.new
+        × C.stops e asked first first_place first_out crew.new place.new out.new es) }
 {
     while !flight.is_finished() {
         match step(alloc, crew, place, out, flight, turn) {

@@ -1,6 +1,6 @@
 //! A unit's run, in halves: it begins, with a child or without; it answers, or its answer is dropped. And both in turn.
 
-ghost use Rattle.std.specs.Prelude.{◌≡◌, ◌≢◌, ◌+◌, ℕ, true, false, List, Option, IsTrue, IsSome, IfOk, IfSome, MatchOption, MatchResult, Some, None, max, length, is_some, slice_get, slice_set};
+ghost use Rattle.std.specs.Prelude.{◌≡◌, ◌≢◌, ◌+◌, ◌⊎◌, ℕ, true, false, List, Option, IsTrue, IsSome, IfOk, IfErr, IfSome, MatchOption, MatchResult, Some, None, max, length, is_some, slice_get, slice_set};
 ghost use Rattle.std.specs.FinMap as finite;
 ghost use Rattle.pb_command.specs.Command.{command_of};
 ghost use Rattle.pb_directive.specs.declared.directive.Directive.{Directive};
@@ -24,6 +24,7 @@ ghost use Rattle.pb_soundness.specs.Apart.{is_of};
 ghost use Rattle.pb_soundness.specs.Numbers.{after};
 ghost use Rattle.pb_soundness.specs.Records.{Reading, record_at};
 ghost use Rattle.pb_store.specs.Differences.{FirstDifference};
+ghost use Rattle.pb_store.specs.declared.difference.Difference.{Difference};
 ghost use Rattle.pb_store.specs.Migrating.{TakesNumber, lacks_number};
 
 use crate::begun::{Awaited, Beginning, Begun};
@@ -43,7 +44,7 @@ use std::alloc::Global;
 /// Begins the unit at a place of a plan, which has not begun, and all that it reaches has answered and is good: `done`
 /// holds what their runs said. Looks for what differs from the unit's record. Where something does, a run number is
 /// taken, the record is removed, the output folder is emptied and the unit's child is spawned, in this order: no text
-/// counts as the unit's record then; where nothing does, or no run number is left, nothing is changed.
+/// counts as the unit's record then; where nothing does, or the look fails, or no run number is left, nothing is changed.
 ///
 /// Faults: Child, where the child cannot be spawned; Device, where a file, a folder or a variable cannot be read, the
 /// record or the folder cannot be removed, or no run number is left; OutOfMemory. Each has the unit's key, no call of
@@ -78,6 +79,7 @@ pub fn begin_unit<P: Place>(
     ensures spawned { IfOk result (λ made. is_some (child_of made.begun) ≡ is_some made.difference) }
     ensures only { IsTrue P.tells → ChangesOnly (is_of (records_folder project.now) unit.now.key) (P.world place.old) (P.world place.new) }
     ensures same { IsTrue P.tells → IfOk result (λ made. child_of made.begun ≡ None → P.world place.new ≡ P.world place.old) }
+    ensures spared { (read : Reading) → IsReading read → IsTrue P.tells → IfErr result (λ e. (P.world place.new ≡ P.world place.old) ⊎ ((difference : Difference) × FirstDifference read (records_folder project.now) unit.now.key (command_of setup.now project.now unit.now done.now) (P.world place.old) (Some difference))) }
     ensures dropped { (read : Reading) → IsTrue P.tells → IfOk result (λ made. IsSome (child_of made.begun) → record_at read (records_folder project.now) (P.world place.new).files unit.now.key ≡ None) }
     ensures writes { IsTrue P.tells → IfOk result (λ made. WritesTo unit.now.out (child_of made.begun) (P.counts place.new).starts.flying) }
     ensures stay { (ticket : ℕ) (its : ChildInFlight) → child_at ticket (P.counts place.old).starts.flying ≡ Some its → child_at ticket (P.counts place.new).starts.flying ≡ Some its }

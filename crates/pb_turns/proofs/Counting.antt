@@ -25,7 +25,7 @@ use Rattle.pb_run.specs.Halves.{child_of, key_at, key_in}
 use Rattle.pb_run.specs.declared.begun.Launched.{Launched}
 use Rattle.pb_turns.specs.Crew.{AreApart, places_of, ticket_of_child, ticket_in, tickets_of, launched_of}
 use Rattle.pb_turns.specs.Moments.{Moment, Heard}
-use Rattle.pb_turns.specs.Story.{states_in, upped, CameAfter, Goes, NoneWritesTo, NumbersGiven, Spends, Stops, StopsAt, StopsBy}
+use Rattle.pb_turns.specs.Story.{states_in, upped, CameAfter, NamesUnit, Goes, NoneWritesTo, NumbersGiven, Spends, Stops, StopsAt, StopsBy}
 use Rattle.pb_turns.specs.declared.crew.Aloft.{Aloft}
 use Rattle.pb_turns.proofs.Lists.{all_get, flat_more, get_map, length_push, without_first, without_other}
 use Rattle.pb_turns.proofs.Manning.{answer_fault_lands}
@@ -176,16 +176,16 @@ module _ (project : Project) (first now new : Moment) (started : List ℕ) (alof
     one_started same = ap (λ (s : Starts). s.count) same ∙ upped_more now.counts.starts.count first.counts.starts.count (started_by es) unit goes.starts
 
     pub stops_begun : (next at_first : Option ℕ) (e : BuildFault) → NumbersGiven es at_first next → MayBeginUnit next u.key e now.counts.starts new.counts.starts → HasCause e now.counts new.counts
-        → (spawned : Bool) × Stops tells e project first new (Began unit spawned ∷ es) × Spends e at_first (Began unit spawned ∷ es) × CameAfter project e es (Began unit spawned ∷ es)
+        → (spawned : Bool) × Stops tells e project first new (Began unit spawned ∷ es) × Spends e at_first (Began unit spawned ∷ es) × CameAfter project e es (Began unit spawned ∷ es) × NamesUnit project e None es (Began unit spawned ∷ es)
     stops_begun next at_first (Plan why) numbers may cause = absurd may
     stops_begun next at_first Toolchain numbers may cause = absurd may
     stops_begun next at_first (Child key fault) numbers may cause =
-        (true, record { by = stops_at key true may.0; cause = cause_from (Child key fault) first.counts now.counts new.counts goes.failures cause; starts = one_started may.2 }, tt, subst (λ f. CameAfter project (Child key f) es (Began unit true ∷ es)) (sym may.1) (unit, its_key key may.0, refl))
-    stops_begun next at_first (Device key (Place fault)) numbers may cause = (false, record { by = stops_at key false may.0; cause = cause_from (Device key (Place fault)) first.counts now.counts new.counts goes.failures cause; starts = none_started may.2 }, tt, inr (unit, its_key key may.0, refl))
-    stops_begun next at_first (Device key NumbersSpent) numbers may cause = (false, record { by = stops_at key false may.0; cause = cause_from (Device key NumbersSpent) first.counts now.counts new.counts goes.failures cause; starts = none_started may.2 }, subst (NumbersGiven es at_first) may.1 numbers, inr (unit, its_key key may.0, refl))
+        (true, record { by = stops_at key true may.0; cause = cause_from (Child key fault) first.counts now.counts new.counts goes.failures cause; starts = one_started may.2 }, tt, subst (λ f. CameAfter project (Child key f) es (Began unit true ∷ es)) (sym may.1) (unit, its_key key may.0, refl), (unit, its_key key may.0, refl))
+    stops_begun next at_first (Device key (Place fault)) numbers may cause = (false, record { by = stops_at key false may.0; cause = cause_from (Device key (Place fault)) first.counts now.counts new.counts goes.failures cause; starts = none_started may.2 }, tt, inr (unit, its_key key may.0, refl), (unit, its_key key may.0, refl))
+    stops_begun next at_first (Device key NumbersSpent) numbers may cause = (false, record { by = stops_at key false may.0; cause = cause_from (Device key NumbersSpent) first.counts now.counts new.counts goes.failures cause; starts = none_started may.2 }, subst (NumbersGiven es at_first) may.1 numbers, inr (unit, its_key key may.0, refl), (unit, its_key key may.0, refl))
     stops_begun next at_first Sink numbers may cause = absurd may
-    stops_begun next at_first OutOfMemory numbers (inl same) cause = (false, record { by = ((given, lines_begun), faults_begun); cause = cause_from OutOfMemory first.counts now.counts new.counts goes.failures cause; starts = none_started same }, tt, inr (unit, false, refl))
-    stops_begun next at_first OutOfMemory numbers (inr more) cause = (true, record { by = ((given, lines_begun), faults_begun); cause = cause_from OutOfMemory first.counts now.counts new.counts goes.failures cause; starts = one_started more }, tt, inr (unit, true, refl))
+    stops_begun next at_first OutOfMemory numbers (inl same) cause = (false, record { by = ((given, lines_begun), faults_begun); cause = cause_from OutOfMemory first.counts now.counts new.counts goes.failures cause; starts = none_started same }, tt, inr (unit, false, refl), tt)
+    stops_begun next at_first OutOfMemory numbers (inr more) cause = (true, record { by = ((given, lines_begun), faults_begun); cause = cause_from OutOfMemory first.counts now.counts new.counts goes.failures cause; starts = one_started more }, tt, inr (unit, true, refl), tt)
 
 -- A unit answers.
 
@@ -201,6 +201,17 @@ came_answering project next key launched (Child unit fault) old new may es = by 
 came_answering project next key launched (Device unit fault) old new may es = inl refl
 came_answering project next key launched Sink old new may es = refl
 came_answering project next key launched OutOfMemory old new may es = inl refl
+
+-- it names the unit
+pub names_answering : (project : Project) (next : Option ℕ) (unit : ℕ) (u : Planned) (launched : Option Launched) (e : BuildFault) (old new : Starts) → unit_at project unit ≡ Some u → MayAnswerUnit next u.key launched e old new → (es : List (Event BadUnit))
+    → NamesUnit project e (Some unit) es es
+names_answering project next unit u launched (Plan why) old new there may es = tt
+names_answering project next unit u launched Toolchain old new there may es = tt
+names_answering project next unit u launched (Child key fault) old new there may es = (ap key_in there ∙ ap (λ (k : List ℕ). k ∷ []) (sym may.0), refl)
+names_answering project next unit u launched (Device key (Place fault)) old new there may es = (ap key_in there ∙ ap (λ (k : List ℕ). k ∷ []) (sym may.0), refl)
+names_answering project next unit u launched (Device key NumbersSpent) old new there may es = (ap key_in there ∙ ap (λ (k : List ℕ). k ∷ []) (sym may.0), refl)
+names_answering project next unit u launched Sink old new there may es = tt
+names_answering project next unit u launched OutOfMemory old new there may es = tt
 
 module _ (project : Project) (first now new : Moment) (started : List ℕ) (aloft : List Aloft) (es : List (Event BadUnit)) (given : ℕ) (goes : Goes project first now started aloft es given)
     (is_given : given ≡ count_due (states_in project es)) (index : ℕ) (a : Aloft) (at : slice_get aloft index ≡ Some a) (begun : slice_get (states_in project es) a.unit ≡ Some Begun) (heard : new.heard ≡ now.heard) where

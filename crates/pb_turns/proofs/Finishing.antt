@@ -15,7 +15,7 @@ use Rattle.pb_flight.specs.declared.flight.State.TheVariants.{Untouched, Begun, 
 use Rattle.pb_flight.specs.declared.turn.Step.{Step}
 use Rattle.pb_flight.specs.Driving.{IsFlown}
 use Rattle.pb_flight.specs.Events.{Event, Began, Gave, Anything, IsLawful, started_by, states_after}
-use Rattle.pb_flight.specs.Steps.{Flies, nothing, Anyhow}
+use Rattle.pb_flight.specs.Steps.{Flies, nothing, Anyhow, HandsBack}
 use Rattle.pb_flight.specs.Laws.{HasBegun, IsInPlanOrder}
 use Rattle.pb_flight.specs.Table.{Table, is_untouched, is_good_at, due, count_due, is_finished, first_bad}
 use Rattle.pb_flight.proofs.Lists.{injective, clash, length_set}
@@ -36,7 +36,7 @@ use Rattle.pb_turns.specs.Crew.{needs_of, launched_of, ticket_of_child}
 use Rattle.pb_turns.specs.Ends.{rows_in, nothing_said, Stands, StandsWhole, StandsCut, EndsWhole, EndsCut, Grounding, Dropped, Drained}
 use Rattle.pb_turns.specs.Moments.{Moment, Heard}
 use Rattle.pb_turns.specs.Rows.{summary_of, started_keys, is_started, messages_in, bad_of, directives_told, Reasons, key_told, said_told, differences_of, kept_of}
-use Rattle.pb_turns.specs.Story.{states_in, untouched, Stops, Changes, Happened, AllBeganFor, CameAfter, KeepsNoneOfBad, Story, StoryEnds, OnlyOf}
+use Rattle.pb_turns.specs.Story.{states_in, untouched, Stops, Changes, Happened, AllBeganFor, CameAfter, NamesUnit, KeepsNoneOfBad, Story, StoryEnds, OnlyOf}
 use Rattle.pb_turns.specs.Summing.{summary_by, bad_told, noted_of, count_told, keys_at, differences_at}
 use Rattle.pb_turns.specs.declared.crew.Aloft.{Aloft}
 use Rattle.pb_turns.specs.declared.crew.UnitCrew.{UnitCrew}
@@ -198,11 +198,14 @@ module _ {S : Type 0} (tells : Bool) (child : Answers) (Turns : S → List ℕ �
   lawful : c.project ≡ first.project → Flies Turns (needs_of first.project) Anyhow Anything from es last → IsLawful (needs_of c.project) es
   lawful project flies = subst (λ (p : Project). IsLawful (needs_of p) es) (sym project) (steps_are_lawful Turns (needs_of first.project) Anyhow Anything from es last flies)
 
-  pub ends_cut : new.most ≡ mid.most → (fault : BuildFault) → Flies Turns (needs_of first.project) Anyhow Anything from es last → StoryEnds tells child fault first at c mid still es → EndsCut tells child Turns first.setup first.project first.store.next from fault at new
-  ends_cut most fault flies ends = record {
+  pub ends_cut : new.most ≡ mid.most → (fault : BuildFault) (asked : Option ℕ) (back : S) → Flies Turns (needs_of first.project) Anyhow Anything from es last → HandsBack Turns (needs_of first.project) es last asked back → StoryEnds tells child fault asked first at c mid still es
+      → EndsCut tells child Turns first.setup first.project first.store.next from back fault at new
+  ends_cut most fault asked back flies hands ends = record {
     es = es;
     last = last;
     flies = flies;
+    asked = asked;
+    hands = hands;
     mid = mid;
     heard = heard;
     stops = subst (λ (p : Project). Stops tells fault p at mid es) ends.project ends.stops;
@@ -211,6 +214,7 @@ module _ {S : Type 0} (tells : Bool) (child : Answers) (Turns : S → List ℕ �
     landed = landed;
     before = ends.before;
     came = subst (λ (p : Project). CameAfter p fault ends.before es) ends.project ends.came;
+    names = subst (λ (p : Project). NamesUnit p fault asked ends.before es) ends.project ends.names;
     most = most ∙ ends.most;
     only = λ t. subst (λ (p : Project). OnlyOf p es at.world new.world) ends.project (changes at.world es t (ends.changes t)).only;
     unkept = λ t. subst (λ (p : Project). KeepsNoneOfBad p es new.world) ends.project (changes at.world es t (ends.changes t)).unkept;
@@ -224,7 +228,7 @@ module _ {S : Type 0} (tells : Bool) (child : Answers) (Turns : S → List ℕ �
   }
 
   -- memory is refused for the summary
-  pub untold : (given : ℕ) → Story tells child first at c mid still es given → StoryEnds tells child OutOfMemory first at c mid still es
+  pub untold : (given : ℕ) → Story tells child first at c mid still es given → StoryEnds tells child OutOfMemory None first at c mid still es
   untold given s = record {
     setup = s.setup;
     project = s.project;
@@ -232,6 +236,7 @@ module _ {S : Type 0} (tells : Bool) (child : Answers) (Turns : S → List ℕ �
     spent = tt;
     before = es;
     came = inl refl;
+    names = tt;
     most = s.goes.most;
     changes = s.changes;
     happened = s.happened;
@@ -296,11 +301,13 @@ module _ {S : Type 0} (tells : Bool) (child : Answers) (Turns : S → List ℕ �
 
 -- memory is refused before a unit begins
 pub ends_before : {S : Type 0} (tells : Bool) (child : Answers) (Turns : S → List ℕ → List ℕ → Step → S → Type 0) (setup : Setup) (project : Project) (next : Option ℕ) (from : S) (at : Moment) → at.counts.starts.flying ≡ []
-    → EndsCut tells child Turns setup project next from OutOfMemory at at
+    → EndsCut tells child Turns setup project next from from OutOfMemory at at
 ends_before tells child Turns setup project next from at none = record {
   es = [];
   last = from;
   flies = nothing;
+  asked = None;
+  hands = refl;
   mid = at;
   heard = refl;
   stops = record { by = ((0, appends_none at.heard.taken), refl); cause = refl; starts = refl };
@@ -309,6 +316,7 @@ ends_before tells child Turns setup project next from at none = record {
   landed = none;
   before = [];
   came = inl refl;
+  names = tt;
   most = omega arith;
   only = λ t. record { variables = refl; files = λ q outside. refl };
   unkept = λ t. none_bad project at.world;

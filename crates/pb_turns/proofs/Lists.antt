@@ -100,7 +100,7 @@ has_given f [] k x n at is = absurd (clash at)
 has_given f (y ∷ xs) zero x n at is = subst (λ l. Contains (l ++ flat_map f xs) n) (sym (ap f (injective at) ∙ is)) (contains_head n (flat_map f xs))
 has_given f (y ∷ xs) (suc k) x n at is = past (f y) (flat_map f xs) n (has_given f xs k x n at is)
 
-differs : (a n : ℕ) (ls : List ℕ) → AllByRecursion (λ m. a ≢ m) ls → Contains ls n → a ≢ n
+pub differs : (a n : ℕ) (ls : List ℕ) → AllByRecursion (λ m. a ≢ m) ls → Contains ls n → a ≢ n
 differs a n [] all h = absurd (contains_none n h)
 differs a n (b ∷ ls) all h = elim (contains_cases b ls n h) [
   | inl same ↦ subst (λ m. a ≢ m) same all.0

@@ -6,7 +6,7 @@ use Rattle.pb_answer.specs.declared.summary.Summary.{Summary}
 use Rattle.pb_directive.specs.declared.directive.Directive.{Directive}
 use Rattle.pb_flight.specs.declared.turn.Step.{Step}
 use Rattle.pb_flight.specs.Events.{Event, Anything, started_by, peak}
-use Rattle.pb_flight.specs.Steps.{Flies, Anyhow}
+use Rattle.pb_flight.specs.Steps.{Flies, Anyhow, HandsBack}
 use Rattle.pb_flight.specs.Table.{due, due_first, count_due, is_finished, is_good_at}
 use Rattle.pb_flight.specs.declared.flight.Answer.{Answer}
 use Rattle.pb_flight.specs.declared.flight.State.TheVariants.{Untouched, Answered}
@@ -25,7 +25,7 @@ use Rattle.pb_soundness.specs.Records.{Reading}
 use Rattle.pb_turns.specs.Crew.{needs_of, ticket_of_child}
 use Rattle.pb_turns.specs.Moments.{Moment}
 use Rattle.pb_turns.specs.Rows.{Reasons, Row, rows_of, said_from, started_keys, differences_of, kept_of, summary_of}
-use Rattle.pb_turns.specs.Story.{states_in, untouched, upped, Stops, Spends, OnlyOf, AllBeganFor, HasGiven, CameAfter, KeepsNoneOfBad}
+use Rattle.pb_turns.specs.Story.{states_in, untouched, upped, Stops, Spends, OnlyOf, AllBeganFor, HasGiven, CameAfter, NamesUnit, KeepsNoneOfBad}
 use Rattle.pb_unit.specs.declared.plan.Planned.{Planned}
 
 -- the children of these tickets were asked for their ends, in this order, their answers were dropped, and nothing else was called
@@ -95,11 +95,13 @@ pub record EndsWhole {S : Type 0} (tells : Bool) (child : Answers) (Turns : S �
   pub unkept : IsTrue tells → KeepsNoneOfBad project es new.world
   pub told : IsTrue tells → Grounding child setup project next old.world (λ b. StandsWhole b es reasons summary old.world new.world)
 
--- a fault ended them: its cause, and what the sink had heard, are those of the moment before the children in flight were dropped; no more children flew at one time than by the events before it
-pub record EndsCut {S : Type 0} (tells : Bool) (child : Answers) (Turns : S → List ℕ → List ℕ → Step → S → Type 0) (setup : Setup) (project : Project) (next : Option ℕ) (from : S) (fault : BuildFault) (old new : Moment) : Type 0 where
+-- a fault ended them: its cause, and what the sink had heard, are those of the moment before the children in flight were dropped; no more children flew at one time than by the events before it, and the turn was asked no more
+pub record EndsCut {S : Type 0} (tells : Bool) (child : Answers) (Turns : S → List ℕ → List ℕ → Step → S → Type 0) (setup : Setup) (project : Project) (next : Option ℕ) (from back : S) (fault : BuildFault) (old new : Moment) : Type 0 where
   pub es : List (Event BadUnit)
   pub last : S
   pub flies : Flies Turns (needs_of project) Anyhow Anything from es last
+  pub asked : Option ℕ
+  pub hands : HandsBack Turns (needs_of project) es last asked back
   pub mid : Moment
   pub heard : new.heard ≡ mid.heard
   pub stops : Stops tells fault project old mid es
@@ -108,6 +110,7 @@ pub record EndsCut {S : Type 0} (tells : Bool) (child : Answers) (Turns : S → 
   pub landed : new.counts.starts.flying ≡ []
   pub before : List (Event BadUnit)
   pub came : CameAfter project fault before es
+  pub names : NamesUnit project fault asked before es
   pub most : new.most ≡ max old.most (peak before)
   pub only : IsTrue tells → OnlyOf project es old.world new.world
   pub unkept : IsTrue tells → KeepsNoneOfBad project es new.world
@@ -116,4 +119,4 @@ pub record EndsCut {S : Type 0} (tells : Bool) (child : Answers) (Turns : S → 
 -- how they end, by the answer
 abbrev pub TurnsEnd : {S : Type 0} → Bool → Answers → (S → List ℕ → List ℕ → Step → S → Type 0) → Setup → Project → Option ℕ → S → S → Result Summary BuildFault → Moment → Moment → Type 0
 TurnsEnd tells child Turns setup project next from last (Ok summary) old new = EndsWhole tells child Turns setup project next from last summary old new
-TurnsEnd tells child Turns setup project next from last (Err fault) old new = EndsCut tells child Turns setup project next from fault old new
+TurnsEnd tells child Turns setup project next from last (Err fault) old new = EndsCut tells child Turns setup project next from last fault old new

@@ -91,12 +91,12 @@ pub record Stops (tells : Bool) (fault : BuildFault) (project : Project) (first 
   pub cause : HasCause fault first.counts now.counts
   pub starts : now.counts.starts.count ≡ upped (length (started_by es)) first.counts.starts.count
 
--- the next run number after these events, by the next one at first: a unit that begins takes a number where a child is started for it, and none where none is; one that answers takes one or none
+-- the next run number after these events, by the next one at first: a unit that begins takes a number where a child is started for it, and none where none is; one that answers takes one or none, and none where its child flew
 abbrev pub NumbersGiven : List (Event BadUnit) → Option ℕ → Option ℕ → Type 0
 NumbersGiven [] first now = now ≡ first
 NumbersGiven (Began unit true ∷ es) first now = (number : ℕ) × NumbersGiven es first (Some number) × (now ≡ after number)
 NumbersGiven (Began unit false ∷ es) first now = NumbersGiven es first now
-NumbersGiven (Gave unit answer ∷ es) first now = (before : Option ℕ) × NumbersGiven es first before × TakesNumber before now
+NumbersGiven (Gave unit answer ∷ es) first now = (before : Option ℕ) × NumbersGiven es first before × TakesNumber before now × (Contains (launched_after es) unit → now ≡ before)
 
 -- where a fault says that no run number is left, all were given
 abbrev pub Spends : BuildFault → Option ℕ → List (Event BadUnit) → Type 0
@@ -231,14 +231,23 @@ CameAfter project (Device key fault) before es = (es ≡ before) ⊎ IsBeginning
 CameAfter project OutOfMemory before es = (es ≡ before) ⊎ ((unit : ℕ) × (spawned : Bool) × (es ≡ Began unit spawned ∷ before))
 CameAfter project fault before es = es ≡ before
 
--- and where a fault has ended it; of a unit that could not begin it is not said what differed
-pub record StoryEnds (tells : Bool) (child : Answers) (fault : BuildFault) (first : UnitCrew) (at : Moment) (c : UnitCrew) (now : Moment) (still : ℕ → Type 0) (es : List (Event BadUnit)) : Type 0 where
+-- whom a fault names: the unit whose answer was taken, before which all these events came; where none was, the one that could not begin; the sink and want of memory name none
+abbrev pub NamesUnit : Project → BuildFault → Option ℕ → List (Event BadUnit) → List (Event BadUnit) → Type 0
+NamesUnit project (Child key fault) None before es = IsBeginning project key true before es
+NamesUnit project (Child key fault) (Some unit) before es = (key_at project unit ≡ key ∷ []) × (es ≡ before)
+NamesUnit project (Device key fault) None before es = IsBeginning project key false before es
+NamesUnit project (Device key fault) (Some unit) before es = (key_at project unit ≡ key ∷ []) × (es ≡ before)
+NamesUnit project fault asked before es = Unit {0}
+
+-- and where a fault has ended it, as the answer of this unit was taken, or of none; of a unit that could not begin it is not said what differed
+pub record StoryEnds (tells : Bool) (child : Answers) (fault : BuildFault) (asked : Option ℕ) (first : UnitCrew) (at : Moment) (c : UnitCrew) (now : Moment) (still : ℕ → Type 0) (es : List (Event BadUnit)) : Type 0 where
   pub setup : c.setup ≡ first.setup
   pub project : c.project ≡ first.project
   pub stops : Stops tells fault c.project at now es
   pub spent : Spends fault first.store.next es
   pub before : List (Event BadUnit)
   pub came : CameAfter c.project fault before es
+  pub names : NamesUnit c.project fault asked before es
   pub most : now.most ≡ max at.most (peak before)
   pub changes : IsTrue tells → Changes c.project at.world c.aloft.items es now.world now.counts.starts.flying
   pub happened : IsTrue tells

@@ -116,7 +116,7 @@ fn begin_at<P: Place>(
         → places_of crew.old.aloft.items ≡ flying_after es → IsLawful (needs_of crew.old.project) es → given ≡ count_due (states_in crew.old.project es) → MayBegin (needs_of crew.old.project) (states_in crew.old.project es) unit
         → MatchResult result
         (λ spawned. Story P.tells P.child first at crew.new (moment (P.world place.new) (P.counts place.new) (P.most place.new) taken faults) (P.still place.new) (Began unit spawned ∷ es) given)
-        (λ e. (spawned : Bool) × StoryEnds P.tells P.child e first at crew.new (moment (P.world place.new) (P.counts place.new) (P.most place.new) taken faults) (P.still place.new) (Began unit spawned ∷ es)) }
+        (λ e. (spawned : Bool) × StoryEnds P.tells P.child e None first at crew.new (moment (P.world place.new) (P.counts place.new) (P.most place.new) taken faults) (P.still place.new) (Began unit spawned ∷ es)) }
 {
     // Room before the spawn: a child in flight is always noted.
     match make_room(&mut crew.aloft, &mut crew.started) {
@@ -191,7 +191,7 @@ fn answer_at<P: Place>(
         → slice_get (places_of crew.old.aloft.items) index ≡ Some unit → slice_get (states_in crew.old.project es) unit ≡ Some state.Begun
         → MatchResult result
         (λ answer. Story P.tells P.child first at crew.new (moment (P.world place.new) (P.counts place.new) (P.most place.new) taken faults) (P.still place.new) (Gave unit answer ∷ es) given)
-        (λ e. StoryEnds P.tells P.child e first at crew.new (moment (P.world place.new) (P.counts place.new) (P.most place.new) taken faults) (P.still place.new) es) }
+        (λ e. StoryEnds P.tells P.child e (Some unit) first at crew.new (moment (P.world place.new) (P.counts place.new) (P.most place.new) taken faults) (P.still place.new) es) }
 {
     // Out of the list first: after a fault too it flies no more.
     let Aloft { unit, begun } = crew.aloft.remove(index);
@@ -235,8 +235,8 @@ impl<P: Place, O: Out> Crew<P, O, BadUnit, BuildFault> for UnitCrew {
     ghost story = { λ first first_place first_out crew place out es given.
         Story P.tells P.child first (moment (P.world first_place) (P.counts first_place) (P.most first_place) (O.taken first_out) (O.faults first_out)) crew (moment (P.world place) (P.counts place) (P.most place) (O.taken out) (O.faults out)) (P.still place) es given };
 
-    ghost stops = { λ fault first first_place first_out crew place out es.
-        StoryEnds P.tells P.child fault first (moment (P.world first_place) (P.counts first_place) (P.most first_place) (O.taken first_out) (O.faults first_out)) crew (moment (P.world place) (P.counts place) (P.most place) (O.taken out) (O.faults out)) (P.still place) es };
+    ghost stops = { λ fault asked first first_place first_out crew place out es.
+        StoryEnds P.tells P.child fault asked first (moment (P.world first_place) (P.counts first_place) (P.most first_place) (O.taken first_out) (O.faults first_out)) crew (moment (P.world place) (P.counts place) (P.most place) (O.taken out) (O.faults out)) (P.still place) es };
 
     fn flying(&self, alloc: Global) -> Result<Vec<usize>, AllocError> {
         places_of(alloc, self.aloft.as_slice())

@@ -15,12 +15,9 @@ answer-requires-2 g c =
     record { flying = ap (λ ss. slice_get ss (slice_index_or c.args.flying.now c.args.index 0)) states ∙ has_begun c.args.flight.now.states (g.C.Crew.needs c.args.crew.now) es c.args.flying.now c.args.index _ lawful states (c.requires.list ∙ flying) at }
 
 pub returns-in-Err-clause-story : goal.returns-in-Err-clause-story
-returns-in-Err-clause-story g c = λ first first_place first_out es unit story flying lawful due states at. (
-  es,
-  inl refl,
-  c.in-Err.ensures.story first first_place first_out es c.args.flight.now.given unit story flying lawful due (ap (λ us. slice_get us c.args.index) (sym c.requires.list) ∙ at)
-      (has_begun c.args.flight.now.states (g.C.Crew.needs c.args.crew.now) es c.args.flying.now c.args.index unit lawful states (c.requires.list ∙ flying) at),
-)
+returns-in-Err-clause-story g c = λ first first_place first_out es unit story flying lawful due states at.
+    inl (c.in-Err.ensures.story first first_place first_out es c.args.flight.now.given unit story flying lawful due (ap (λ us. slice_get us c.args.index) (sym c.requires.list) ∙ at)
+    (has_begun c.args.flight.now.states (g.C.Crew.needs c.args.crew.now) es c.args.flying.now c.args.index unit lawful states (c.requires.list ∙ flying) at))
 
 pub returns-in-Ok-tell-clause-table : goal.returns-in-Ok-tell-clause-table
 returns-in-Ok-tell-clause-table g c = λ unit at. (
@@ -48,9 +45,8 @@ returns-in-Err-tell-clause-story g c = λ first first_place first_out es unit st
     let begun = has_begun c.args.flight.now.states (g.C.Crew.needs c.args.crew.now) es c.args.flying.now c.args.index unit lawful states (c.requires.list ∙ flying) at in
     let told = c.in-Ok.ensures.story first first_place first_out es c.args.flight.now.given unit story flying lawful due (ap (λ us. slice_get us c.args.index) (sym c.requires.list) ∙ at) begun in
     let same = c.in-Ok.ensures.needs in
-    let after = ap (λ (t : Table g.row.F.Denot). t.states) c.answer-2.ensures ∙ ap (λ u. slice_set c.args.flight.now.states u (Answered c.in-Ok.answer)) (item_is c.args.flying.now c.args.index unit at) ∙ ap (λ ss. slice_set ss unit (Answered c.in-Ok.answer)) states in (
-      Gave unit c.in-Ok.answer ∷ es,
-      inr (c.in-Ok.answer, refl),
+    let after = ap (λ (t : Table g.row.F.Denot). t.states) c.answer-2.ensures ∙ ap (λ u. slice_set c.args.flight.now.states u (Answered c.in-Ok.answer)) (item_is c.args.flying.now c.args.index unit at) ∙ ap (λ ss. slice_set ss unit (Answered c.in-Ok.answer)) states in inr (
+      c.in-Ok.answer,
       c.in-Err-tell.ensures.story first first_place first_out (Gave unit c.in-Ok.answer ∷ es)
           (subst (λ n. g.C.Crew.story first first_place first_out c.answer.new.self c.answer.new.place c.answer.new.out (Gave unit c.in-Ok.answer ∷ es) n) (ap (λ (t : Table g.row.F.Denot). t.given) (sym c.answer-2.ensures)) told)
           (subst (λ ns. IsLawful ns (Gave unit c.in-Ok.answer ∷ es)) (sym same) (events.answer es unit c.in-Ok.answer lawful begun tt))

@@ -1,4 +1,4 @@
-use Rattle.std.proofs.Common.{◌∙◌, ◌<◌, ◌∷◌, true, refl, sym, ap, subst, slice_get, slice_set, length}
+use Rattle.std.proofs.Common.{◌∙◌, ◌<◌, ◌∷◌, true, None, refl, sym, ap, subst, slice_get, slice_set, length}
 use Rattle.std.specs.Prelude.{slice_index_or}
 use Rattle.pb_flight.specs.declared.flight.State.TheVariants.{Answered}
 use Rattle.std.proofs.lemmas.Option.{slice_get-get_or, slice_get_read}
@@ -48,8 +48,10 @@ returns-in-Begin-clause-goes g c = λ from first first_place first_out es flown 
     let (spawned, told) = c.in-Err-begin_one.ensures.story first first_place first_out es c.args.flight.now.given story flown.flying_are (lawful g.T.Turn.turns (g.C.Crew.needs c.args.crew.now) from es c.args.turn.now c.turn.new.self c.args.flight.now (g.C.Crew.flying c.args.crew.now) flown) (flown.given_are ∙ ap count_due flown.states_are) flown.states_are in (
       c.turn.new.self,
       Began c.index-unit.result.now spawned ∷ es,
+      None,
       flies_begun g.T.Turn.turns (g.C.Crew.needs c.args.crew.now) from es c.args.turn.now c.turn.new.self c.args.flight.now (g.C.Crew.flying c.args.crew.now) flown c.as_slice.result.now c.as_slice-2.result.now c.requires.left (c.as_slice.ensures.value ∙ c.in-Ok.ensures) (c.as_slice-2.ensures.value ∙ c.in-Ok-flying.ensures)
           c.in-Begin.index c.index-unit.result.now spawned c.in-Begin.ensures.turned at,
+      refl,
       told,
     )
 
@@ -94,6 +96,6 @@ returns-clause-goes g c = λ from first first_place first_out es flown story.
     let at = slice_get-get_or c.as_slice-2.result.now c.in-Answer.index 0 c.in-Answer.ensures.within in
     let unit = slice_index_or c.as_slice-2.result.now c.in-Answer.index 0 in
     let there = ap (λ xs. slice_get xs c.in-Answer.index) (c.as_slice-in-Answer.ensures.value ∙ sym c.as_slice-2.ensures.value) ∙ at in
-    let (more, which, told) = c.in-Err-answer_one.ensures.story first first_place first_out es unit story flown.flying_are (lawful g.T.Turn.turns (g.C.Crew.needs c.args.crew.now) from es c.args.turn.now c.turn.new.self c.args.flight.now (g.C.Crew.flying c.args.crew.now) flown) (flown.given_are ∙ ap count_due flown.states_are) flown.states_are there in
+    let told = c.in-Err-answer_one.ensures.story first first_place first_out es unit story flown.flying_are (lawful g.T.Turn.turns (g.C.Crew.needs c.args.crew.now) from es c.args.turn.now c.turn.new.self c.args.flight.now (g.C.Crew.flying c.args.crew.now) flown) (flown.given_are ∙ ap count_due flown.states_are) flown.states_are there in
     stopped_at g.T.Turn.turns (g.C.Crew.needs c.args.crew.now) from es c.args.turn.now c.turn.new.self c.args.flight.now (g.C.Crew.flying c.args.crew.now) flown c.as_slice.result.now c.as_slice-2.result.now c.requires.left (c.as_slice.ensures.value ∙ c.in-Ok.ensures) (c.as_slice-2.ensures.value ∙ c.in-Ok-flying.ensures)
-    c.in-Answer.index unit c.in-Answer.ensures.turned at (g.C.Crew.stops c.in-Err-answer_one.fault first first_place first_out c.answer_one.new.crew c.answer_one.new.place c.answer_one.new.out) more which told
+    c.in-Answer.index unit c.in-Answer.ensures.turned at (λ asked more. g.C.Crew.stops c.in-Err-answer_one.fault asked first first_place first_out c.answer_one.new.crew c.answer_one.new.place c.answer_one.new.out more) told

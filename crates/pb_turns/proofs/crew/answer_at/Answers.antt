@@ -15,15 +15,15 @@ use Rattle.pb_run.proofs.Spawning.{launched_gone}
 use Rattle.pb_soundness.specs.Apart.{is_of}
 use Rattle.pb_turns.specs.Crew.{IsOfPlan, place_of_unit, places_of}
 use Rattle.pb_turns.specs.Moments.{moment}
-use Rattle.pb_turns.specs.Story.{NoneWritesTo, Story, states_in}
+use Rattle.pb_turns.specs.Story.{NamesUnit, NoneWritesTo, Story, states_in}
 use Rattle.pb_turns.proofs.Alone.{apart_removed, none_writes}
 use Rattle.pb_turns.proofs.Answering.{failed_happened, untold_happened, answered_happened}
 use Rattle.pb_turns.proofs.Beginning.{goes_lists}
 use Rattle.pb_turns.proofs.Changing.{its_writes, changes_less, changes_after}
-use Rattle.pb_turns.proofs.Counting.{came_answering, goes_answered, stops_answered, stops_untold}
+use Rattle.pb_turns.proofs.Counting.{came_answering, names_answering, goes_answered, stops_answered, stops_untold}
 use Rattle.pb_turns.proofs.Lists.{all_get, get_map, map_removed}
 use Rattle.pb_turns.proofs.Manning.{answer_fault_lands, flying_of, manned_answered}
-use Rattle.pb_turns.proofs.Numbering.{numbers_answered, spends_answered}
+use Rattle.pb_turns.proofs.Numbering.{has_child, numbers_answered, spends_answered}
 use Rattle.pb_turns.proofs.Quiet.{answered_quiet}
 use Rattle.pb_turns.proofs.Reaching.{there_of}
 use Rattle.pb_turns.proofs.Unbegun.{notes_answered}
@@ -112,6 +112,8 @@ returns-in-Err-clause-story g c = λ first at taken faults es given unit s flyin
       spent = spends_answered es first.store.next c.args.crew.now.store.next c.index-as_slice-unit.result.key (child_of c.remove-unit.result.begun) c.in-Err.fault now.counts.starts new.counts.starts c.in-Err.ensures.takes.0 s.numbers;
       before = es;
       came = came_answering c.args.crew.now.project c.args.crew.now.store.next c.index-as_slice-unit.result.key (child_of c.remove-unit.result.begun) c.in-Err.fault now.counts.starts new.counts.starts c.in-Err.ensures.takes.0 es;
+      names = subst (λ n. NamesUnit c.args.crew.now.project c.in-Err.fault (Some n) es es) (sym its)
+          (names_answering c.args.crew.now.project c.args.crew.now.store.next c.remove-unit.result.unit c.index-as_slice-unit.result (child_of c.remove-unit.result.begun) c.in-Err.fault now.counts.starts new.counts.starts there c.in-Err.ensures.takes.0 es);
       most = c.answer_unit.ensures.most ∙ s.goes.most;
       changes = λ t. changes_less c.args.crew.now.project c.requires.manned.order at.world c.args.crew.now.aloft.items es now.world new.world now.counts.starts.flying new.counts.starts.flying (s.changes t) (λ j y at_j. flying_of c.args.crew.now now.counts j y c.requires.manned at_j)
           c.args.index c.remove-unit.result at_index c.index-as_slice-unit.result there c.requires.manned.units_apart c.requires.manned.tickets_apart
@@ -141,6 +143,7 @@ returns-in-Err-lines_of_unit-clause-story g c = λ first at taken faults es give
       spent = tt;
       before = es;
       came = inl refl;
+      names = tt;
       most = c.answer_unit.ensures.most ∙ s.goes.most;
       changes = λ t. changes_less c.args.crew.now.project c.requires.manned.order at.world c.args.crew.now.aloft.items es now.world new.world now.counts.starts.flying new.counts.starts.flying (s.changes t) (λ j y at_j. flying_of c.args.crew.now now.counts j y c.requires.manned at_j)
           c.args.index c.remove-unit.result at_index c.index-as_slice-unit.result there c.requires.manned.units_apart c.requires.manned.tickets_apart
@@ -172,7 +175,8 @@ returns-clause-story g c = λ first at taken faults es given unit s flying lawfu
       goes = goes_lists c.args.crew.now.project at new c.args.crew.now.started.items c.args.crew.now.started.items _ c.remove-unit.new.self.items (Gave c.remove-unit.result.unit answer ∷ es) given refl c.remove-unit.ensures.items
           (goes_answered c.args.crew.now.project at now new c.args.crew.now.started.items c.args.crew.now.aloft.items es given s.goes is_given c.args.index c.remove-unit.result at_index begun refl c.requires.manned.units_apart answer
           c.in-Ok.ensures.takes.0 c.in-Ok.ensures.takes.1 c.answer_unit.ensures.most);
-      numbers = numbers_answered es first.store.next c.args.crew.now.store.next c.answer_unit.new.store.next c.remove-unit.result.unit answer c.answer_unit.ensures.next s.numbers;
+      numbers = numbers_answered es first.store.next c.args.crew.now.store.next c.answer_unit.new.store.next c.remove-unit.result.unit answer c.answer_unit.ensures.next
+          (λ has. c.answer_unit.ensures.untaken (has_child c.args.crew.now.aloft.items c.args.index c.remove-unit.result c.requires.manned.units_apart at_index (subst (λ (l : List ℕ). Contains l c.remove-unit.result.unit) (sym s.goes.launched_are) has))) s.numbers;
       changes = λ t. changes_after c.args.crew.now.project c.requires.manned.order at.world c.args.crew.now.aloft.items es now.world new.world now.counts.starts.flying new.counts.starts.flying (s.changes t) (λ j y at_j. flying_of c.args.crew.now now.counts j y c.requires.manned at_j)
           c.args.index c.remove-unit.result at_index c.index-as_slice-unit.result there c.requires.manned.units_apart c.requires.manned.tickets_apart
           (only t) c.answer_unit.ensures.stay c.remove-unit.new.self.items c.remove-unit.ensures.items answer

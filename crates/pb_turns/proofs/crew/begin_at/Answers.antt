@@ -49,6 +49,7 @@ returns-in-Err-clause-story g c = λ first at taken faults es given s flying law
         spent = tt;
         before = es;
         came = inr (c.args.unit, false, refl);
+        names = tt;
         most = s.goes.most;
         changes = λ t. changes_begun c.args.crew.now.project c.requires.manned.order at.world c.args.crew.now.aloft.items es now.world now.world now.counts.starts.flying now.counts.starts.flying (s.changes t) (λ index a at. flying_of c.args.crew.now (g.P.Place.counts c.args.place.now) index a c.requires.manned at)
             c.args.unit u there may.untouched (only_same _ now.world) (λ ticket its is. is) false c.make_room.new.aloft.items c.make_room.ensures.aloft;
@@ -66,7 +67,7 @@ returns-in-Err-begin_unit-clause-story g c = λ first at taken faults es given s
     (s.changes t) (λ index a at. flying_of c.args.crew.now (g.P.Place.counts c.args.place.now) index a c.requires.manned at)
     c.args.unit c.index-as_slice-unit.result there may.untouched (c.begin_unit.ensures.only t) c.begin_unit.ensures.stay false c.args.crew.now.aloft.items refl)
     c.args.unit c.index-as_slice-unit.result there c.requires.grounded in
-    let (spawned, stops, spent, came) = stops_begun c.args.crew.now.project at (moment (g.P.Place.world c.args.place.now) (g.P.Place.counts c.args.place.now) (g.P.Place.most c.args.place.now) taken faults)
+    let (spawned, stops, spent, came, names) = stops_begun c.args.crew.now.project at (moment (g.P.Place.world c.args.place.now) (g.P.Place.counts c.args.place.now) (g.P.Place.most c.args.place.now) taken faults)
     (moment (g.P.Place.world c.begin_unit.new.place) (g.P.Place.counts c.begin_unit.new.place) (g.P.Place.most c.begin_unit.new.place) taken faults)
     c.args.crew.now.started.items c.args.crew.now.aloft.items es given c.args.unit s.goes is_given may.untouched refl c.index-as_slice-unit.result there g.P.Place.tells alone c.args.crew.now.store.next first.store.next c.in-Err-begin_unit.fault
     s.numbers c.in-Err-begin_unit.ensures.takes.0 c.in-Err-begin_unit.ensures.takes.1 in (
@@ -78,6 +79,7 @@ returns-in-Err-begin_unit-clause-story g c = λ first at taken faults es given s
         spent = spent;
         before = es;
         came = came;
+        names = names;
         most = c.in-Err-begin_unit.ensures.most ∙ s.goes.most;
         changes = λ t. changes_begun c.args.crew.now.project c.requires.manned.order at.world c.args.crew.now.aloft.items es (g.P.Place.world c.args.place.now) (g.P.Place.world c.begin_unit.new.place) (g.P.Place.counts c.args.place.now).starts.flying (g.P.Place.counts c.begin_unit.new.place).starts.flying
             (s.changes t) (λ index a at. flying_of c.args.crew.now (g.P.Place.counts c.args.place.now) index a c.requires.manned at)

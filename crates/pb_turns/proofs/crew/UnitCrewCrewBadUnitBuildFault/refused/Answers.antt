@@ -10,6 +10,7 @@ returns g c = λ first first_place last_place first_out last_out es given s. rec
   spent = tt;
   before = es;
   came = inl refl;
+  names = tt;
   most = s.goes.most;
   changes = s.changes;
   happened = s.happened;

@@ -25,6 +25,7 @@ returns-else-write_all-clause-story g c = λ first first_place first_out es give
       spent = tt;
       before = es;
       came = refl;
+      names = tt;
       most = s.goes.most;
       changes = s.changes;
       happened = s.happened;
