@@ -35,9 +35,9 @@ use Rattle.pb_soundness.specs.Records.{Reading}
 use Rattle.pb_turns.specs.Crew.{needs_of, launched_of, ticket_of_child}
 use Rattle.pb_turns.specs.Ends.{rows_in, nothing_said, Stands, StandsWhole, StandsCut, EndsWhole, EndsCut, Grounding, Dropped, Drained}
 use Rattle.pb_turns.specs.Moments.{Moment, Heard}
-use Rattle.pb_turns.specs.Rows.{summary_of, started_keys, is_started, messages_in, bad_of, directives_told, Reasons, key_told, said_told, differences_of, kept_of}
+use Rattle.pb_turns.specs.Rows.{summary_of, started_keys, is_started, messages_in, bad_of, directives_told, Reasons, key_told, said_told, bad_told, differences_of, kept_of}
 use Rattle.pb_turns.specs.Story.{states_in, untouched, Stops, Changes, Happened, AllBeganFor, CameAfter, NamesUnit, KeepsNoneOfBad, Story, StoryEnds, OnlyOf}
-use Rattle.pb_turns.specs.Summing.{summary_by, bad_told, noted_of, count_told, keys_at, differences_at}
+use Rattle.pb_turns.specs.Summing.{summary_by, noted_of, count_told, keys_at, differences_at}
 use Rattle.pb_turns.specs.declared.crew.Aloft.{Aloft}
 use Rattle.pb_turns.specs.declared.crew.UnitCrew.{UnitCrew}
 use Rattle.pb_turns.proofs.Changing.{changes_first}
@@ -273,6 +273,8 @@ module _ {S : Type 0} (tells : Bool) (child : Answers) (Turns : S → List ℕ �
       good = λ success. subst (λ (p : Project). (place : ℕ) (u : Planned) → unit_at p place ≡ Some u → is_good_at (slice_get (states_in p es) place) ≡ true) story.project
           (all_good_at c.project es c.project.plan.planned (states_in c.project es) (length_states (needs_of c.project) es ∙ length-map c.project.plan.planned (λ (u : Planned). u.needs))
           (ap is_finished (sym states_are) ∙ finished) (sym (ap (λ (s : Summary). s.success) now_is) ∙ success));
+      bad = ap (λ (s : Summary). s.bad) now_is ∙ ap (λ (p : Project). key_told (bad_told p.plan.planned (states_in p es) (first_bad (states_in p es)))) story.project;
+      said = ap (λ (s : Summary). s.said) now_is ∙ ap (λ (p : Project). said_told (bad_told p.plan.planned (states_in p es) (first_bad (states_in p es)))) story.project;
       started = keys_are;
       reasons = d.reasons.items;
       differences = ap (λ (s : Summary). s.differences) now_is ∙ ap (differences_at d.reasons.items) started_is;

@@ -7,7 +7,7 @@ use Rattle.pb_directive.specs.declared.directive.Directive.{Directive}
 use Rattle.pb_flight.specs.declared.turn.Step.{Step}
 use Rattle.pb_flight.specs.Events.{Event, Anything, started_by, peak}
 use Rattle.pb_flight.specs.Steps.{Flies, Anyhow, HandsBack}
-use Rattle.pb_flight.specs.Table.{due, due_first, count_due, is_finished, is_good_at}
+use Rattle.pb_flight.specs.Table.{due, due_first, count_due, first_bad, is_finished, is_good_at}
 use Rattle.pb_flight.specs.declared.flight.Answer.{Answer}
 use Rattle.pb_flight.specs.declared.flight.State.TheVariants.{Untouched, Answered}
 use Rattle.pb_place.specs.Counts.{Counts, counted_finish}
@@ -24,7 +24,7 @@ use Rattle.pb_run.specs.Halves.{Footing, Basis, basis, Keeps}
 use Rattle.pb_soundness.specs.Records.{Reading}
 use Rattle.pb_turns.specs.Crew.{needs_of, ticket_of_child}
 use Rattle.pb_turns.specs.Moments.{Moment}
-use Rattle.pb_turns.specs.Rows.{Reasons, Row, rows_of, said_from, started_keys, differences_of, kept_of, summary_of}
+use Rattle.pb_turns.specs.Rows.{Reasons, Row, rows_of, said_from, started_keys, key_told, said_told, bad_told, differences_of, kept_of, summary_of}
 use Rattle.pb_turns.specs.Story.{states_in, untouched, upped, Stops, Spends, OnlyOf, AllBeganFor, HasGiven, CameAfter, NamesUnit, KeepsNoneOfBad}
 use Rattle.pb_unit.specs.declared.plan.Planned.{Planned}
 
@@ -72,12 +72,14 @@ pub record StandsCut (b : Basis) (es before : List (Event BadUnit)) (old new : W
   pub reasons : Reasons
   pub began : AllBeganFor b before reasons old new
 
--- the units came to their end; where it is a success each of them has answered and is good; nothing is noted of a unit that has not begun
+-- the units came to their end; where it is a success each of them has answered and is good; the bad unit that is told is the first by the answers; nothing is noted of a unit that has not begun
 pub record EndsWhole {S : Type 0} (tells : Bool) (child : Answers) (Turns : S → List ℕ → List ℕ → Step → S → Type 0) (setup : Setup) (project : Project) (next : Option ℕ) (from last : S) (summary : Summary) (old new : Moment) : Type 0 where
   pub es : List (Event BadUnit)
   pub flies : Flies Turns (needs_of project) Anyhow Anything from es last
   pub finished : is_finished (states_in project es) ≡ true
   pub good : summary.success ≡ true → (place : ℕ) (u : Planned) → unit_at project place ≡ Some u → is_good_at (slice_get (states_in project es) place) ≡ true
+  pub bad : summary.bad ≡ key_told (bad_told project.plan.planned (states_in project es) (first_bad (states_in project es)))
+  pub said : summary.said ≡ said_told (bad_told project.plan.planned (states_in project es) (first_bad (states_in project es)))
   pub started : summary.started ≡ started_keys project es
   pub reasons : Reasons
   pub differences : summary.differences ≡ differences_of es reasons

@@ -4,6 +4,8 @@ use Rattle.std.specs.List.{flat_map}
 use Rattle.pb_answer.specs.declared.summary.Summary.{Summary}
 use Rattle.pb_directive.specs.declared.directive.Directive.{Directive}
 use Rattle.pb_flight.specs.Events.{Event, Began, Gave, started_by}
+use Rattle.pb_flight.specs.declared.flight.State.{State}
+use Rattle.pb_flight.specs.declared.flight.State.TheVariants.{Untouched, Begun, Answered}
 use Rattle.pb_message.specs.declared.message.Message.{Message}
 use Rattle.pb_place.specs.World.{World, Answers}
 use Rattle.pb_project.specs.Targets.{unit_at}
@@ -131,3 +133,24 @@ summary_of project es reasons rows = record {
   kept = kept_of project.plan.planned reasons;
   directives = directives_told rows;
 }
+
+-- By answers, where no place tells what units give.
+
+abbrev pub fault_of : State BadUnit → Option BadUnit
+fault_of Untouched = None
+fault_of Begun = None
+fault_of (Answered answer) = answer.fault
+
+abbrev pub with_key : List ℕ → Option BadUnit → Option (List ℕ × BadUnit)
+with_key key None = None
+with_key key (Some fault) = Some (key, fault)
+
+abbrev pub bad_with : Option Planned → Option (State BadUnit) → Option (List ℕ × BadUnit)
+bad_with None s = None
+bad_with (Some u) None = None
+bad_with (Some u) (Some s) = with_key u.key (fault_of s)
+
+-- the key and the fault of the unit at a place, by its answer
+abbrev pub bad_told : List Planned → List (State BadUnit) → Option ℕ → Option (List ℕ × BadUnit)
+bad_told units states None = None
+bad_told units states (Some place) = bad_with (slice_get units place) (slice_get states place)

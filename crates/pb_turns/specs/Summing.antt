@@ -4,11 +4,10 @@ use Rattle.std.specs.List.{flat_map}
 use Rattle.pb_answer.specs.declared.summary.Summary.{Summary}
 use Rattle.pb_directive.specs.declared.directive.Directive.{Directive}
 use Rattle.pb_flight.specs.declared.flight.State.{State}
-use Rattle.pb_flight.specs.declared.flight.State.TheVariants.{Untouched, Begun, Answered}
 use Rattle.pb_answer.specs.declared.bad_unit.BadUnit.{BadUnit}
 use Rattle.pb_run.specs.Halves.{key_in}
 use Rattle.pb_store.specs.declared.difference.Difference.{Difference}
-use Rattle.pb_turns.specs.Rows.{Reasons, keyed, key_told, said_told, difference_in, kept_of}
+use Rattle.pb_turns.specs.Rows.{Reasons, keyed, key_told, said_told, difference_in, kept_of, bad_told}
 use Rattle.pb_unit.specs.declared.plan.Planned.{Planned}
 
 -- the keys of the units at these places
@@ -20,25 +19,6 @@ abbrev pub noted_of : List Planned → List (Option (List Directive)) → List (
 noted_of [] noted = []
 noted_of (u ∷ us) [] = []
 noted_of (u ∷ us) (d ∷ noted) = keyed u.key d ++ noted_of us noted
-
-abbrev pub fault_of : State BadUnit → Option BadUnit
-fault_of Untouched = None
-fault_of Begun = None
-fault_of (Answered answer) = answer.fault
-
-abbrev pub with_key : List ℕ → Option BadUnit → Option (List ℕ × BadUnit)
-with_key key None = None
-with_key key (Some fault) = Some (key, fault)
-
-abbrev pub bad_with : Option Planned → Option (State BadUnit) → Option (List ℕ × BadUnit)
-bad_with None s = None
-bad_with (Some u) None = None
-bad_with (Some u) (Some s) = with_key u.key (fault_of s)
-
--- the key and the fault of the unit at a place
-abbrev pub bad_told : List Planned → List (State BadUnit) → Option ℕ → Option (List ℕ × BadUnit)
-bad_told units states None = None
-bad_told units states (Some place) = bad_with (slice_get units place) (slice_get states place)
 
 -- what differed first of the units at these places
 abbrev pub differences_at : Reasons → List ℕ → List Difference
