@@ -1,5 +1,6 @@
 -- Run numbers, along a story.
-use Rattle.std.proofs.Common.{◌≡◌, ◌≢◌, ◌∙◌, ◌++◌, ◌⊎◌, inl, inr, List, [], ◌∷◌, ℕ, zero, suc, Option, Some, None, IsSome, Contains, is_some, refl, sym, ap, subst, slice_get}
+use Rattle.std.proofs.Common.{◌≡◌, ◌≢◌, ◌∙◌, ◌++◌, ◌⊎◌, ◌==◌, inl, inr, Bool, true, false, List, [], ◌∷◌, ℕ, zero, suc, Option, Some, None, IsSome, Contains, if◌then◌else◌, is_some, refl, sym, ap, subst, slice_get, slice_set, eq-eqb, eqb-true}
+use Rattle.std.proofs.lemmas.Bool.{cases_eq, ne_eqb, false≢true}
 use Rattle.std.specs.List.{AllByRecursion}
 use Rattle.std.specs.Prelude.{MatchOption}
 use Rattle.pb_answer.specs.declared.bad_unit.BadUnit.{BadUnit}
@@ -7,8 +8,10 @@ use Rattle.pb_answer.specs.declared.fault.BuildFault.{BuildFault}
 use Rattle.pb_answer.specs.declared.fault.BuildFault.TheVariants.{Plan, Toolchain, Child, Device, Sink, OutOfMemory}
 use Rattle.pb_answer.specs.declared.fault.DeviceFault.TheVariants.{Place, NumbersSpent}
 use Rattle.pb_flight.specs.declared.flight.Answer.{Answer}
-use Rattle.pb_flight.proofs.Lists.{injective, clash, contains_head, contains_tail, contains_cases, at_contains}
-use Rattle.pb_flight.specs.Events.{Event, Began, Gave, launched_after}
+use Rattle.pb_flight.proofs.Lists.{injective, clash, contains_head, contains_tail, contains_cases, contains_none, at_contains, get_set_same, get_set_other}
+use Rattle.pb_flight.specs.declared.flight.State.TheVariants.{Begun, Answered}
+use Rattle.pb_flight.specs.Events as lawful
+use Rattle.pb_flight.specs.Events.{Event, Began, Gave, IsLawful, launched_after, states_after, without}
 use Rattle.pb_flight.specs.Table.{if_so}
 use Rattle.pb_place.specs.Counts.{Starts}
 use Rattle.pb_run.specs.Causes.{MayAnswerUnit}
@@ -18,6 +21,7 @@ use Rattle.pb_soundness.specs.Numbers.{after}
 use Rattle.pb_store.specs.Migrating.{TakesNumber}
 use Rattle.pb_turns.proofs.Lists.{differs, get_map}
 use Rattle.pb_turns.specs.Crew.{AreApart, launched_of, place_of_unit, places_of}
+use Rattle.pb_turns.specs.Rows.{is_started}
 use Rattle.pb_turns.specs.Story.{NumbersGiven, Spends}
 use Rattle.pb_turns.specs.declared.crew.Aloft.{Aloft}
 
@@ -68,8 +72,47 @@ has_child (x ∷ aloft) (suc index) a apart at has = has_child aloft index a apa
       | inr rest ↦ rest
     ]
 
+last_has : (ls : List ℕ) (n : ℕ) → Contains (ls ++ n ∷ []) n
+last_has [] n = contains_head n []
+last_has (m ∷ ls) n = contains_tail m (ls ++ n ∷ []) n (last_has ls n)
+
+left_has : (ls ms : List ℕ) (n : ℕ) → Contains ls n → Contains (ls ++ ms) n
+left_has [] ms n has = absurd (contains_none n has)
+left_has (m ∷ ls) ms n has = elim (contains_cases m ls n has) [
+  | inl same ↦ subst (λ k. Contains (k ∷ (ls ++ ms)) n) (sym same) (contains_head n (ls ++ ms))
+  | inr more ↦ contains_tail m (ls ++ ms) n (left_has ls ms n more)
+]
+
+other_has : (u n : ℕ) (ls : List ℕ) → u ≢ n → Contains ls n → Contains (without u ls) n
+other_has u n [] ne has = has
+other_has u n (m ∷ ls) ne has = by (m == u) refl (contains_cases m ls n has)
+  where
+    by : (b : Bool) → (m == u) ≡ b → (m ≡ n) ⊎ Contains ls n → Contains (if b then ls else (m ∷ without u ls)) n
+    by true is (inl same) = absurd (ne (sym (eqb-true m u is) ∙ same))
+    by true is (inr more) = more
+    by false is (inl same) = subst (λ k. Contains (k ∷ without u ls) n) (sym same) (contains_head n (without u ls))
+    by false is (inr more) = contains_tail m (without u ls) n (other_has u n ls ne more)
+
+-- a unit in flight for which a child was started is among those whose children fly
+pub started_flies : (needs : List (List ℕ)) (es : List (Event BadUnit)) (unit : ℕ) → IsLawful needs es → slice_get (states_after needs es) unit ≡ Some Begun → is_started es unit ≡ true → Contains (launched_after es) unit
+started_flies needs _ unit lawful.nothing begun started = absurd (false≢true started)
+started_flies needs _ unit (lawful.begin es u spawned before may) begun started = elim (cases_eq u unit) [
+  | inl same ↦ subst (λ n. Contains (launched_after es ++ if_so spawned n) unit) (sym same)
+      (subst (λ b. Contains (launched_after es ++ if_so b unit) unit) (sym (sym (ap (λ b. if b then spawned else is_started es unit) (eq-eqb u unit same)) ∙ started)) (last_has (launched_after es) unit))
+  | inr ne ↦ left_has (launched_after es) (if_so spawned u) unit
+      (started_flies needs es unit before (sym (get_set_other (states_after needs es) u unit Begun ne) ∙ begun) (sym (ap (λ b. if b then spawned else is_started es unit) (ne_eqb u unit ne)) ∙ started))
+]
+started_flies needs _ unit (lawful.answer es u given before flying gives) begun started = elim (cases_eq u unit) [
+  | inl same ↦ let is : slice_get (states_after needs es) unit ≡ Some Begun = subst (λ n. slice_get (states_after needs es) n ≡ Some Begun) same flying in
+      absurd (no_answer given (injective (sym (get_set_same (states_after needs es) unit Begun (Answered given) is) ∙ subst (λ n. slice_get (slice_set (states_after needs es) n (Answered given)) unit ≡ Some Begun) same begun)))
+  | inr ne ↦ other_has u unit (launched_after es) ne (started_flies needs es unit before (sym (get_set_other (states_after needs es) u unit (Answered given) ne) ∙ begun) started)
+]
+  where
+    no_answer : (given : Answer BadUnit) → Answered given ≡ Begun → ⊥
+    no_answer given e = cc
+
 -- one has answered
-pub numbers_answered : (es : List (Event BadUnit)) (first now next : Option ℕ) (unit : ℕ) (answer : Answer BadUnit) → TakesNumber now next → (Contains (launched_after es) unit → next ≡ now) → NumbersGiven es first now → NumbersGiven (Gave unit answer ∷ es) first next
+pub numbers_answered : (es : List (Event BadUnit)) (first now next : Option ℕ) (unit : ℕ) (answer : Answer BadUnit) → TakesNumber now next → (is_started es unit ≡ true → next ≡ now) → NumbersGiven es first now → NumbersGiven (Gave unit answer ∷ es) first next
 numbers_answered es first now next unit answer takes none numbers = (now, numbers, takes, none)
 
 -- a fault came in place of an answer

@@ -91,12 +91,12 @@ pub record Stops (tells : Bool) (fault : BuildFault) (project : Project) (first 
   pub cause : HasCause fault first.counts now.counts
   pub starts : now.counts.starts.count ≡ upped (length (started_by es)) first.counts.starts.count
 
--- the next run number after these events, by the next one at first: a unit that begins takes a number where a child is started for it, and none where none is; one that answers takes one or none, and none where its child flew
+-- the next run number after these events, by the next one at first: a unit that begins takes a number where a child is started for it, and none where none is; one that answers takes one or none, and none where a child was started for it
 abbrev pub NumbersGiven : List (Event BadUnit) → Option ℕ → Option ℕ → Type 0
 NumbersGiven [] first now = now ≡ first
 NumbersGiven (Began unit true ∷ es) first now = (number : ℕ) × NumbersGiven es first (Some number) × (now ≡ after number)
 NumbersGiven (Began unit false ∷ es) first now = NumbersGiven es first now
-NumbersGiven (Gave unit answer ∷ es) first now = (before : Option ℕ) × NumbersGiven es first before × TakesNumber before now × (Contains (launched_after es) unit → now ≡ before)
+NumbersGiven (Gave unit answer ∷ es) first now = (before : Option ℕ) × NumbersGiven es first before × TakesNumber before now × (is_started es unit ≡ true → now ≡ before)
 
 -- where a fault says that no run number is left, all were given
 abbrev pub Spends : BuildFault → Option ℕ → List (Event BadUnit) → Type 0

@@ -23,7 +23,7 @@ use Rattle.pb_turns.proofs.Changing.{its_writes, changes_less, changes_after}
 use Rattle.pb_turns.proofs.Counting.{came_answering, names_answering, goes_answered, stops_answered, stops_untold}
 use Rattle.pb_turns.proofs.Lists.{all_get, get_map, map_removed}
 use Rattle.pb_turns.proofs.Manning.{answer_fault_lands, flying_of, manned_answered}
-use Rattle.pb_turns.proofs.Numbering.{has_child, numbers_answered, spends_answered}
+use Rattle.pb_turns.proofs.Numbering.{has_child, started_flies, numbers_answered, spends_answered}
 use Rattle.pb_turns.proofs.Quiet.{answered_quiet}
 use Rattle.pb_turns.proofs.Reaching.{there_of}
 use Rattle.pb_turns.proofs.Unbegun.{notes_answered}
@@ -176,7 +176,8 @@ returns-clause-story g c = λ first at taken faults es given unit s flying lawfu
           (goes_answered c.args.crew.now.project at now new c.args.crew.now.started.items c.args.crew.now.aloft.items es given s.goes is_given c.args.index c.remove-unit.result at_index begun refl c.requires.manned.units_apart answer
           c.in-Ok.ensures.takes.0 c.in-Ok.ensures.takes.1 c.answer_unit.ensures.most);
       numbers = numbers_answered es first.store.next c.args.crew.now.store.next c.answer_unit.new.store.next c.remove-unit.result.unit answer c.answer_unit.ensures.next
-          (λ has. c.answer_unit.ensures.untaken (has_child c.args.crew.now.aloft.items c.args.index c.remove-unit.result c.requires.manned.units_apart at_index (subst (λ (l : List ℕ). Contains l c.remove-unit.result.unit) (sym s.goes.launched_are) has))) s.numbers;
+          (λ started. c.answer_unit.ensures.untaken (has_child c.args.crew.now.aloft.items c.args.index c.remove-unit.result c.requires.manned.units_apart at_index
+          (subst (λ (l : List ℕ). Contains l c.remove-unit.result.unit) (sym s.goes.launched_are) (started_flies (needs_of c.args.crew.now.project) es c.remove-unit.result.unit lawful begun started)))) s.numbers;
       changes = λ t. changes_after c.args.crew.now.project c.requires.manned.order at.world c.args.crew.now.aloft.items es now.world new.world now.counts.starts.flying new.counts.starts.flying (s.changes t) (λ j y at_j. flying_of c.args.crew.now now.counts j y c.requires.manned at_j)
           c.args.index c.remove-unit.result at_index c.index-as_slice-unit.result there c.requires.manned.units_apart c.requires.manned.tickets_apart
           (only t) c.answer_unit.ensures.stay c.remove-unit.new.self.items c.remove-unit.ensures.items answer
