@@ -38,13 +38,13 @@ some_or_none (Some l) = inl refl
 -- a unit whose child flies is in flight
 launched_flies : (aloft : List Aloft) (n : ℕ) → Contains (launched_of aloft) n → Contains (places_of aloft) n
 launched_flies [] n has = has
-launched_flies (x ∷ aloft) n has = by (child_of x.begun) has
+launched_flies (x ∷ aloft) n has = by (child_of x.begun) (λ more. launched_flies aloft n more) has
   where
-    by : (o : Option Launched) → Contains (if_so (is_some o) x.unit ++ launched_of aloft) n → Contains (x.unit ∷ places_of aloft) n
-    by None more = contains_tail x.unit (places_of aloft) n (launched_flies aloft n more)
-    by (Some l) more = elim (contains_cases x.unit (launched_of aloft) n more) [
+    by : (o : Option Launched) → (Contains (launched_of aloft) n → Contains (places_of aloft) n) → Contains (if_so (is_some o) x.unit ++ launched_of aloft) n → Contains (x.unit ∷ places_of aloft) n
+    by None flies more = contains_tail x.unit (places_of aloft) n (flies more)
+    by (Some l) flies more = elim (contains_cases x.unit (launched_of aloft) n more) [
       | inl same ↦ subst (λ m. Contains (m ∷ places_of aloft) n) (sym same) (contains_head n (places_of aloft))
-      | inr rest ↦ contains_tail x.unit (places_of aloft) n (launched_flies aloft n rest)
+      | inr rest ↦ contains_tail x.unit (places_of aloft) n (flies rest)
     ]
 
 -- one in flight that is among those whose children fly has a child
@@ -85,13 +85,13 @@ left_has (m ∷ ls) ms n has = elim (contains_cases m ls n has) [
 
 other_has : (u n : ℕ) (ls : List ℕ) → u ≢ n → Contains ls n → Contains (without u ls) n
 other_has u n [] ne has = has
-other_has u n (m ∷ ls) ne has = by (m == u) refl (contains_cases m ls n has)
+other_has u n (m ∷ ls) ne has = by (m == u) refl (λ more. other_has u n ls ne more) (contains_cases m ls n has)
   where
-    by : (b : Bool) → (m == u) ≡ b → (m ≡ n) ⊎ Contains ls n → Contains (if b then ls else (m ∷ without u ls)) n
-    by true is (inl same) = absurd (ne (sym (eqb-true m u is) ∙ same))
-    by true is (inr more) = more
-    by false is (inl same) = subst (λ k. Contains (k ∷ without u ls) n) (sym same) (contains_head n (without u ls))
-    by false is (inr more) = contains_tail m (without u ls) n (other_has u n ls ne more)
+    by : (b : Bool) → (m == u) ≡ b → (Contains ls n → Contains (without u ls) n) → (m ≡ n) ⊎ Contains ls n → Contains (if b then ls else (m ∷ without u ls)) n
+    by true is stays (inl same) = absurd (ne (sym (eqb-true m u is) ∙ same))
+    by true is stays (inr more) = more
+    by false is stays (inl same) = subst (λ k. Contains (k ∷ without u ls) n) (sym same) (contains_head n (without u ls))
+    by false is stays (inr more) = contains_tail m (without u ls) n (stays more)
 
 -- a unit in flight for which a child was started is among those whose children fly
 pub started_flies : (needs : List (List ℕ)) (es : List (Event BadUnit)) (unit : ℕ) → IsLawful needs es → slice_get (states_after needs es) unit ≡ Some Begun → is_started es unit ≡ true → Contains (launched_after es) unit

@@ -13,7 +13,7 @@ use Rattle.pb_run.specs.Standing.{IsCommandOf, records_folder}
 use Rattle.pb_run.specs.Telling.{unit_lines}
 use Rattle.pb_run.proofs.Spawning.{launched_gone}
 use Rattle.pb_soundness.specs.Apart.{is_of}
-use Rattle.pb_turns.specs.Crew.{IsOfPlan, place_of_unit, places_of}
+use Rattle.pb_turns.specs.Crew.{IsOfPlan, place_of_unit, places_of, needs_of}
 use Rattle.pb_turns.specs.Moments.{moment}
 use Rattle.pb_turns.specs.Story.{NamesUnit, NoneWritesTo, Story, states_in}
 use Rattle.pb_turns.proofs.Alone.{apart_removed, none_writes}
