@@ -134,8 +134,7 @@ def tried_together(crate, batch, work):
         return None
     answers = {}
     for edit in batch:
-        words = next((it for it in (own_words(crate, said, place) for place in sorted(edit.inside)) if it), None)
-        answers[edit.name] = words and words[1]
+        answers[edit.name] = next((it for it in (own_words(crate, said, place) for place in sorted(edit.inside)) if it), None)
     return answers
 
 
