@@ -16,7 +16,7 @@
 # of what the build gives: such folders are marked "free" here, and told with what came.
 #
 # PROGRAM=FILE and COMPILER=FILE take a `pb_tool` and a `pb_mini` that are made already; TORN=N tries so many places of a
-# record (60) and as many changed bytes; SHARE=N each Nth folder alone, ONLY=WORD the kinds whose names hold this word. Run
+# record (60) and as many changed bytes, TORN=each all of them; SHARE=N each Nth folder alone, ONLY=WORD the kinds whose names hold this word. Run
 # as root it also tries builds of the user nobody, and a small disk of its own.
 # Prints a line for each kind of lie, and each folder over which something was wrong; the status is 0 only where nothing was wrong.
 set -euo pipefail
@@ -30,7 +30,7 @@ python3 - "$program" "$compiler" "$folder" "$top" "${TORN:-60}" "${SHARE:-1}" "$
 import collections, json, os, random, re, shutil, signal, socket, stat, subprocess, sys
 
 program, compiler, folder, top, torn, share, only = sys.argv[1:]
-torn, share = int(torn), int(share)
+torn, share = 0 if torn == "each" else int(torn), int(share)
 sys.dont_write_bytecode = True
 sys.path.insert(0, f"{top}/bench")
 import records
@@ -271,7 +271,7 @@ def taken_away(path):
 
 
 def places(size):
-    return sorted({0, 1, size - 1, size - 2, size - 4} | {r.randrange(size) for _ in range(torn)})
+    return range(size) if not torn else sorted({0, 1, size - 1, size - 2, size - 4} | {r.randrange(size) for _ in range(torn)})
 
 
 def copies(age):
@@ -423,7 +423,8 @@ for unit in UNITS:
     for age in ("before", "now"):
         lie("a record of the older format", unit, age, record_edited(unit, lambda it, age=age: records.older(it, copies(age))))
     lie("a record of the older format, with copies of before", unit, "now", record_edited(unit, lambda it: records.older(it, copies("before"))))
-    lie("a record of the older format, torn", unit, "now", edited(f"{DEBUG}/{unit}.record", lambda it: records.written(records.older(records.read(it), copies("now")))[:-1]))
+    for size in places(len(records.written(records.older(records.read(all_records("now", unit)), copies("now"))))):
+        lie("a record of the older format, torn at a byte", f"{unit} at {size}", "now", edited(f"{DEBUG}/{unit}.record", lambda it, size=size: records.written(records.older(records.read(it), copies("now")))[:size]))
     lie("a record of before", unit, "now", edited(f"{DEBUG}/{unit}.record", lambda _, it=all_records("before", unit): it))
     lie("a record of now", unit, "before", edited(f"{DEBUG}/{unit}.record", lambda _, it=all_records("now", unit): it), free=True)
 for age in ("before", "now"):
