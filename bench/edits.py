@@ -109,19 +109,20 @@ def batches_of(edits):
 
 
 def own_words(crate, said, place):
-    """Why the check refuses a function, the first line that tells it; None where it is proved, or only stands on one that is not."""
+    """Why the check refuses a function, the first line that tells it; "" where it waits for one that it calls; None where it is proved."""
     file, name = place
     last = name.split("::")[-1]
     module = "::".join([crate, *[it for it in file[len("src/") : -len(".rt")].split("/") if it != "lib"]])
-    verdict = next((it for it in said if re.match(rf"fn {module}::(?:{name}|fn::{last}::\S+): (?:not proved|no proof: (?!it calls))", it)), None)
+    its = [it for it in said if re.match(rf"fn {module}::(?:{name}|fn::{last}::\S+): ", it)]
+    verdict = next((it for it in its if re.search(r": (?:not proved|no proof: (?!it calls|it passes))", it)), None)
     if verdict is None:
-        return None
+        return "" if not its or any(": no proof: " in it for it in its) else None
     told = [it for it in said if re.match(r"(note: )?\S+:\d+:\d+: error", it) and f"/{last}/" in it.split(": error")[0]]
     return next((it for it in told if not NAMES.match(it)), (told or [verdict])[0] if "not proved" in verdict else verdict)
 
 
 def tried_together(crate, batch, work):
-    """What a check of the crate with all these edits says of each: whether it is refused, and why; or None where no verdict came."""
+    """What a check of the crate with all these edits says of each, as `own_words`; or nothing where no verdict came."""
     folder = f"{work}/crates/{crate}"
     shutil.rmtree(folder, ignore_errors=True)
     copied(f"{TOP}/crates/{crate}", folder)
@@ -131,10 +132,11 @@ def tried_together(crate, batch, work):
     ran = subprocess.run([*os.environ.get("TRY", "").split(), "rt", "check", *JOBS], cwd=folder, stdout=subprocess.PIPE, stderr=subprocess.STDOUT, text=True, errors="replace", check=False)
     said = re.sub(r"\x1b\[[0-9;]*m", "", ran.stdout).split("\n")
     if ran.returncode != 1 or "logic=not-proved" not in ran.stdout:
-        return None
+        return {}
     answers = {}
     for edit in batch:
-        answers[edit.name] = next((it for it in (own_words(crate, said, place) for place in sorted(edit.inside)) if it), None)
+        words = [own_words(crate, said, place) for place in sorted(edit.inside)]
+        answers[edit.name] = next((it for it in words if it), "" if "" in words else None)
     return answers
 
 
@@ -172,18 +174,25 @@ def copied(folder, to):
 
 def tried(crate, work):
     """Tries the edits of a crate, prints a line for each, and returns how many there are and which were not refused."""
-    edits, refused, alone = edits_of(crate), {}, []
-    for edit in edits:
-        if edit.inside is None:
-            alone.append(edit)
-    for batch in batches_of(edits):
-        answers = tried_together(crate, batch, work) or {}
-        for edit in batch:
-            if answers.get(edit.name):
-                refused[edit.name] = answers[edit.name]
-                print(f"{crate}/{edit.name}: refused, as it must be: {answers[edit.name][:160]}", flush=True)
-            else:
-                alone.append(edit)
+    edits, refused = edits_of(crate), {}
+    alone, left = [it for it in edits if it.inside is None], [it for it in edits if it.inside is not None]
+    while left:
+        # (a function that calls one which is refused is judged in the next round, without that one)
+        waiting = []
+        for batch in batches_of(left):
+            answers = tried_together(crate, batch, work)
+            for edit in batch:
+                words = answers.get(edit.name)
+                if words:
+                    refused[edit.name] = words
+                    print(f"{crate}/{edit.name}: refused, as it must be: {words[:160]}", flush=True)
+                elif words == "" and len(batch) > 1:
+                    waiting.append(edit)
+                else:
+                    alone.append(edit)
+        if len(waiting) == len(left):
+            alone, waiting = alone + waiting, []
+        left = waiting
     if alone:
         for name, (is_refused, words) in tried_alone(crate, alone, work).items():
             print(f"{crate}/{name}: {words[:260]}", flush=True)

@@ -9,7 +9,8 @@
 # Edits of bodies are tried together, as many as change no function twice: each function is proved by its own body and
 # by the contracts of what it calls, and the prover says of each function whether it is proved; an edit counts as refused
 # where it says so of the function that the edit changes, for another reason than that a function which it calls is not
-# proved. What is not refused so, and an edit of more than bodies, is tried alone, by `rt must-fail`.
+# proved: then the next round judges it, without the edits that were refused. What is not refused so, and an edit of more
+# than bodies, is tried alone, by `rt must-fail`.
 #
 # `edits.sh --texts [CRATE..]` proves nothing. It only looks whether each edit, of `crates/CRATE/must-fail/` too, still
 # fits: whether each text that it replaces stands in its file once, and that file is code. That takes a second.
