@@ -31,8 +31,11 @@ def write(path, text):
 
 def owner(line):
     """What the prover calls that to which the functions of a block belong: `impl Ord for Text` is `TextOrd`."""
-    head = re.match(r"(?:unsafe )?(?:impl(?:<.*?>)? |(?:pub )?trait )(?:(\w+)(<.*?>)? for )?(\w+)", line)
-    return head and head[3] + (head[1] or "") + re.sub(r"\W", "", head[2] or "")
+    head = re.match(r"(?:unsafe )?(?:impl(<.*?>)? |(?:pub )?trait )(?:(\w+)(<.*?>)? for )?(\w+)", line)
+    if not head:
+        return None
+    own = re.findall(r"[<,] *(\w+)", head[1] or "")
+    return head[4] + (head[2] or "") + "".join(it for it in re.findall(r"\w+", head[3] or "") if it not in own)
 
 
 def functions(text):
@@ -122,7 +125,7 @@ def own_words(crate, said, place):
 
 
 def tried_together(crate, batch, work):
-    """What a check of the crate with all these edits says of each, as `own_words`; or nothing where no verdict came."""
+    """What a check of the crate with all these edits says of each, as `own_words`; nothing of one that does not compile."""
     folder = f"{work}/crates/{crate}"
     shutil.rmtree(folder, ignore_errors=True)
     copied(f"{TOP}/crates/{crate}", folder)
@@ -132,7 +135,10 @@ def tried_together(crate, batch, work):
     ran = subprocess.run([*os.environ.get("TRY", "").split(), "rt", "check", *JOBS], cwd=folder, stdout=subprocess.PIPE, stderr=subprocess.STDOUT, text=True, errors="replace", check=False)
     said = re.sub(r"\x1b\[[0-9;]*m", "", ran.stdout).split("\n")
     if ran.returncode != 1 or "logic=not-proved" not in ran.stdout:
-        return {}
+        faults = [re.match(r"(?:\./)?(src/\S+):(\d+):\d+: error\[", it) for it in said]
+        places = {(it[1], name) for it in faults if it for name, body, last in functions(read(f"{folder}/{it[1]}")) if body <= int(it[2]) - 1 <= last}
+        rest = [it for it in batch if not it.inside & places]
+        return tried_together(crate, rest, work) if rest and len(rest) < len(batch) else {}
     answers = {}
     for edit in batch:
         words = [own_words(crate, said, place) for place in sorted(edit.inside)]
