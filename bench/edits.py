@@ -117,7 +117,8 @@ def own_words(crate, said, place):
     last = name.split("::")[-1]
     module = "::".join([crate, *[it for it in file[len("src/") : -len(".rt")].split("/") if it != "lib"]])
     its = [it for it in said if re.match(rf"fn {module}::(?:{name}|fn::{last}::\S+): ", it)]
-    verdict = next((it for it in its if re.search(r": (?:not proved|no proof: (?!it calls|it passes))", it)), None)
+    # (a body that the prover's borrow checker does not cover is judged by no clause)
+    verdict = next((it for it in its if re.search(r": (?:not proved|no proof: (?!it calls|it passes))", it) and "does not cover" not in it), None)
     if verdict is None:
         return "" if not its or any(": no proof: " in it for it in its) else None
     told = [it for it in said if re.match(r"(note: )?\S+:\d+:\d+: error", it) and f"/{last}/" in it.split(": error")[0]]

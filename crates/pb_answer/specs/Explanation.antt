@@ -44,7 +44,7 @@ started_lines (key ∷ keys) differences = line_if key (slice_get differences 0)
 abbrev pub counts_line : ℕ → ℕ → List ℕ
 counts_line started kept = concat (decimal started ∷ codes " started, " ∷ decimal kept ∷ codes " kept\n" ∷ [])
 
--- why a build started what it started; and how many were started, and of how many what is kept was given again
+-- why a build started what it started; and how many were started, and of how many that began nothing differed
 abbrev pub explanation : Summary → List ℕ
 explanation s = started_lines s.started s.differences ++ counts_line (length s.started) (length s.kept)
 

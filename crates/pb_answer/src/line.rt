@@ -250,8 +250,9 @@ fn fault_line(alloc: Global, fault: &BuildFault) -> Result<String, AllocError>
 ///   signed number in decimal; `Directive(NAME)` with the name of the line's fault; `ScriptError`,
 ///   `NoDepInfo`, `ForeignInput`, `OutputTooLong`;
 /// - `refused NAME` with the innermost fault's name without its fields;
-/// - `fault AT NAME` with the unit's key and the name of the child's fault, `Device` for a call on files or
-///   variables, or `NumbersSpent`; `fault -vV Toolchain`, `fault sink Sink` and `fault memory OutOfMemory`.
+/// - `fault AT NAME` with the unit's key, or the path or the variable's name, and the name of the child's fault,
+///   `Device` for a call on files or variables, or `NumbersSpent`; `fault -vV Toolchain`, `fault sink Sink` and
+///   `fault memory OutOfMemory`.
 ///
 /// KEYS are the keys of the units whose child was started, in order of starting, with `,` between them, or
 /// `-` where there are none. The one error is want of memory.

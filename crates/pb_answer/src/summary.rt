@@ -18,7 +18,8 @@ pub struct Summary {
     pub started: Items<Text>,
     /// What differed first of each of these, in the same order: why it was started.
     pub differences: Items<Difference>,
-    /// The keys of the units of which nothing differed, in plan order: what is kept of them was given again.
+    /// The keys of the units that began and of which nothing differed, in plan order: what is kept of them is given
+    /// again.
     pub kept: Items<Text>,
     /// The keys and the directives of the build scripts' runs that ended well before the first bad unit, in
     /// plan order.

@@ -97,7 +97,7 @@ fn started_lines(
     Ok(text)
 }
 
-/// How many children were started, and of how many units what is kept was given again.
+/// How many children were started, and of how many units that began nothing differed.
 fn counts_line(alloc: Global, started: usize, kept: usize) -> Result<String, AllocError>
     ensures { IfOk result (λ text. string_bytes text ≡ counts_line started kept) }
 {

@@ -11,7 +11,6 @@ use Rattle.pb_session.specs.declared.step.SessionStep.{SessionStep}
 use Rattle.pb_session.specs.declared.step.SessionStep.TheVariants.{Write, Remove, Set, Unset, Build, Die, Fuse}
 use Rattle.pb_build.specs.Kept.{SourcesStay}
 use Rattle.pb_build.specs.Environment.{environment_of}
-use Rattle.pb_turns.specs.Moments.{Moment}
 use Rattle.pb_build.specs.Session.{Point, Course, edit, edited, OneTarget, Unaffected}
 use Rattle.pb_build.proofs.LookingAt.{looks_at_sources}
 
@@ -63,18 +62,18 @@ sources_edited : (child : Answers) (target : List ℕ) (steps : List SessionStep
     → SourcesStay target (edited steps v) after.moment.world
 sources_edited child target [] v before after stay one is = ap (λ (p : Point). from_nothing target p.moment.world) is ∙ stay
 sources_edited child target (Write path text ∷ steps) v before after stay one (mid, e, rest) =
-    sources_edited child target steps (edit (Write path text) v) mid after (ap (λ (m : Moment). from_nothing target m.world) e.0 ∙ edit_alike target (Write path text) v before.moment.world stay) one.1 rest
+    sources_edited child target steps (edit (Write path text) v) mid after (ap (λ (p : Point). from_nothing target p.moment.world) e ∙ edit_alike target (Write path text) v before.moment.world stay) one.1 rest
 sources_edited child target (Remove path ∷ steps) v before after stay one (mid, e, rest) =
-    sources_edited child target steps (edit (Remove path) v) mid after (ap (λ (m : Moment). from_nothing target m.world) e.0 ∙ edit_alike target (Remove path) v before.moment.world stay) one.1 rest
+    sources_edited child target steps (edit (Remove path) v) mid after (ap (λ (p : Point). from_nothing target p.moment.world) e ∙ edit_alike target (Remove path) v before.moment.world stay) one.1 rest
 sources_edited child target (Set name value ∷ steps) v before after stay one (mid, e, rest) =
-    sources_edited child target steps (edit (Set name value) v) mid after (ap (λ (m : Moment). from_nothing target m.world) e.0 ∙ edit_alike target (Set name value) v before.moment.world stay) one.1 rest
+    sources_edited child target steps (edit (Set name value) v) mid after (ap (λ (p : Point). from_nothing target p.moment.world) e ∙ edit_alike target (Set name value) v before.moment.world stay) one.1 rest
 sources_edited child target (Unset name ∷ steps) v before after stay one (mid, e, rest) =
-    sources_edited child target steps (edit (Unset name) v) mid after (ap (λ (m : Moment). from_nothing target m.world) e.0 ∙ edit_alike target (Unset name) v before.moment.world stay) one.1 rest
+    sources_edited child target steps (edit (Unset name) v) mid after (ap (λ (p : Point). from_nothing target p.moment.world) e ∙ edit_alike target (Unset name) v before.moment.world stay) one.1 rest
 sources_edited child target (Die key death ∷ steps) v before after stay one (mid, same, rest) =
     sources_edited child target steps v mid after (ap (λ (p : Point). from_nothing target p.moment.world) same ∙ stay) one.1 rest
 sources_edited child target (Fuse number ∷ steps) v before after stay one (mid, same, rest) =
     sources_edited child target steps v mid after (ap (λ (p : Point). from_nothing target p.moment.world) same ∙ stay) one.1 rest
-sources_edited child target (Build o pick ∷ steps) v before after stay one (mid, (answer, builds, kept, headline, answers), rest) =
+sources_edited child target (Build o pick ∷ steps) v before after stay one (mid, (answer, builds, kept, headline, answers, unlit), rest) =
     let is : (environment_of o before.moment.world.variables).target ≡ target = ap (λ (m : Map). (environment_of o m).target) (same_variables target v before.moment.world stay) ∙ one.0 in
     let stays : SourcesStay target before.moment.world mid.moment.world = subst (λ (t : List ℕ). SourcesStay t before.moment.world mid.moment.world) is kept in
     sources_edited child target steps v mid after (stays ∙ stay) one.1 rest

@@ -37,7 +37,7 @@ use Rattle.pb_turns.specs.Crew.{needs_of, ticket_of_child}
 use Rattle.pb_turns.specs.Ends.{TurnsEnd, Drained, StandsWhole, StandsCut, Stands, nothing_said, rows_in}
 use Rattle.pb_turns.specs.Moments.{Heard, Moment}
 use Rattle.pb_turns.specs.Rows.{Row, to_first_bad, is_bad, fault_in, said_from}
-use Rattle.pb_turns.specs.Story.{states_in, untouched, upped, Stops, StopsAt, AllBeganFor, Spends}
+use Rattle.pb_turns.specs.Story.{states_in, untouched, upped, Stops, StopsAt, AllBeganFor, NumbersGiven, Spends}
 use Rattle.pb_turns.proofs.Repeating.{dropped_count}
 use Rattle.pb_unit.specs.declared.plan.Planned.{Planned}
 use Rattle.pb_workspace.proofs.Accepted.{target_kept}
@@ -225,6 +225,7 @@ module _ (footing : Footing) (read : Reading) (reading : IsReading read) (child 
             record {
               flown = record { units = units; es = ends.es; flies = (last, ends.flies); starts = counted ends.es ends.mid ends.starts ends.drained; reasons = ends.reasons };
               finished = ends.finished;
+              numbers = (ends.numbers.0, subst (λ (n : Option ℕ). NumbersGiven ends.es n ends.numbers.0) (is_next ∙ ap (λ (f : List ℕ). next_in read f old.world) (same_folder options old.world project is)) ends.numbers.1);
               unnoted = ends.unnoted;
               answer = whole.answer;
               lines = since ends.es (due (states_in project ends.es)) _ (all_lines ends.es whole.stands whole.all) ends.lines;

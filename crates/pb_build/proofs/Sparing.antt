@@ -106,18 +106,18 @@ module _ (read : Reading) (reading : IsReading read) (child : Answers) (folder :
       by false is = refl
 
   step_sound : (step : SessionStep) (before after : Point) → Spares child folder step before.moment.world → Carries child step before after → IsSound before.moment.world → IsSound after.moment.world
-  step_sound (Write path text) before after out (e, same) sound = subst (λ (m : Moment). IsSound m.world) (sym e) (written_sound path text before.moment.world out sound)
-  step_sound (Remove path) before after (inl above) (e, same) sound =
-      subst (λ (m : Moment). IsSound m.world) (sym e) (nothing_is_sound read child folder (removed path before.moment.world).files (none_left path before.moment.world above))
-  step_sound (Remove path) before after (inr apart) (e, same) sound = subst (λ (m : Moment). IsSound m.world) (sym e) (removed_sound path before.moment.world apart sound)
-  step_sound (Set name value) before after out (e, same) sound = subst (λ (m : Moment). IsSound m.world) (sym e) sound
-  step_sound (Unset name) before after out (e, same) sound = subst (λ (m : Moment). IsSound m.world) (sym e) sound
+  step_sound (Write path text) before after out e sound = subst (λ (p : Point). IsSound p.moment.world) (sym e) (written_sound path text before.moment.world out sound)
+  step_sound (Remove path) before after (inl above) e sound =
+      subst (λ (p : Point). IsSound p.moment.world) (sym e) (nothing_is_sound read child folder (removed path before.moment.world).files (none_left path before.moment.world above))
+  step_sound (Remove path) before after (inr apart) e sound = subst (λ (p : Point). IsSound p.moment.world) (sym e) (removed_sound path before.moment.world apart sound)
+  step_sound (Set name value) before after out e sound = subst (λ (p : Point). IsSound p.moment.world) (sym e) sound
+  step_sound (Unset name) before after out e sound = subst (λ (p : Point). IsSound p.moment.world) (sym e) sound
   step_sound (Die key death) before after out same sound = subst (λ (p : Point). IsSound p.moment.world) (sym same) sound
   step_sound (Fuse number) before after out same sound = subst (λ (p : Point). IsSound p.moment.world) (sym same) sound
-  step_sound (Build options pick) before after (inl (same, honest)) (answer, builds, kept, headline, answers) sound =
+  step_sound (Build options pick) before after (inl (same, honest)) (answer, builds, kept, headline, answers, unlit) sound =
       let there : RestsOn OnRecords read child options before.moment.world = (subst (λ (f : List ℕ). Sound read judge child f before.moment.world.files) (sym same) sound, honest) in
       subst (λ (f : List ℕ). Sound read judge child f after.moment.world.files) same (headline refl OnRecords read reading there).records
-  step_sound (Build options pick) before after (inr apart) (answer, builds, kept, headline, answers) sound =
+  step_sound (Build options pick) before after (inr apart) (answer, builds, kept, headline, answers, unlit) sound =
       outside read judge child folder before.moment.world.files after.moment.world.files
       (λ q within. picked_within child options pick answer.result before.moment after.moment builds q (apart q within)) sound
 
@@ -131,5 +131,5 @@ pub records_stay_true : RecordsStayTrue
 records_stay_true read child folder steps before after reading course sound = course_sound read reading child folder steps before after course sound
 
 pub any_build_gives : AnyBuildGives
-any_build_gives read child options pick steps before mid after reading course sound honest (answer, builds, kept, headline, answers) =
+any_build_gives read child options pick steps before mid after reading course sound honest (answer, builds, kept, headline, answers, unlit) =
     (answer, answers, headline refl OnRecords read reading (course_sound read reading child (records_of options mid.moment.world.variables) steps before mid course sound, honest))

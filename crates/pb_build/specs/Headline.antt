@@ -22,7 +22,6 @@ use Rattle.pb_place.specs.Paths.{below}
 use Rattle.pb_place.specs.World.{World, Map, Answers, from_nothing}
 use Rattle.pb_profile.specs.Line.{folder_of}
 use Rattle.pb_answer.specs.declared.bad_unit.BadUnit.{BadUnit}
-use Rattle.pb_project.specs.Targets.{unit_at}
 use Rattle.pb_project.specs.declared.project.Project.{Project}
 use Rattle.pb_record.specs.Parts.{IsReading}
 use Rattle.pb_run.specs.Halves.{Footing, OnRecords, OnNothing, Basis, basis, key_at, IsHonestOnUnits}
@@ -33,7 +32,7 @@ use Rattle.pb_store.specs.Opening.{next_in}
 use Rattle.pb_turns.specs.Crew.{needs_of}
 use Rattle.pb_turns.specs.Moments.{Heard, Moment}
 use Rattle.pb_turns.specs.Rows.{Row, Reasons, rows_of, said_from, summary_of}
-use Rattle.pb_turns.specs.Story.{states_in, upped, AllBeganFor, CameAfter, Spends}
+use Rattle.pb_turns.specs.Story.{states_in, upped, AllBeganFor, CameAfter, NumbersGiven, Spends}
 use Rattle.pb_unit.specs.declared.plan.Planned.{Planned}
 use Rattle.pb_build.specs.Ending.{NoneBegan, PicksFirstOf, PicksLastOf, Closes}
 use Rattle.pb_build.specs.Environment.{environment_of}
@@ -54,8 +53,7 @@ pub record UnitsOf (child : Answers) (options : Options) (w : World) : Type 0 wh
   pub says : toolchain_of child (environment_of options w.variables) project (from_nothing (environment_of options w.variables).target w) ≡ Some toolchain
 
 abbrev pub basis_of : (footing : Footing) (read : Reading) (child : Answers) (options : Options) (w : World) → UnitsOf child options w → Basis
-basis_of footing read child options w units =
-    basis footing read child (setup_of options (environment_of options w.variables) units.toolchain) units.project (from_nothing (environment_of options w.variables).target w)
+basis_of footing read child options w units = basis footing read child (setup_of options (environment_of options w.variables) units.toolchain) units.project (from_nothing (environment_of options w.variables).target w)
 
 -- whatever units a build finds in a world, the child is honest on them
 abbrev pub IsHonestBuild : Answers → Options → World → Type 0
@@ -98,18 +96,18 @@ pub record UnitsFly (child : Answers) (Schedule : Project → List (Event BadUni
   pub starts : new.counts.starts.count ≡ upped (length (started_by es)) (up old.counts.starts.count)
   pub reasons : Reasons
 
--- all have begun and answered: the summary and the lines are those of what they give from nothing, and say of each whether a child was started for it; the folder of each good one holds exactly its files; and for each unit that began a child was started exactly where something differed from its record, which the summary names, as it names no other unit
+-- all have begun and answered: the summary and the lines are those of what they give from nothing, and say of each whether a child was started for it; the folder of each good one holds exactly its files; and for each unit that began a child was started exactly where something differed from its record, which the summary names, as it names no other unit; the run numbers are those after the ones of the records
 pub record GivesAll (footing : Footing) (read : Reading) (child : Answers) (Schedule : Project → List (Event BadUnit) → Type 0) (options : Options) (summary : Summary) (old new : Moment) : Type 0 where
   pub flown : UnitsFly child Schedule options old new
   pub finished : is_finished (states_in flown.units.project flown.es) ≡ true
+  pub numbers : (after : Option ℕ) × NumbersGiven flown.es (next_in read (records_of options old.world.variables) old.world) after
   pub unnoted : (place : ℕ) → slice_get (states_in flown.units.project flown.es) place ≡ Some Untouched → slice_get flown.reasons place ≡ Some None
   pub answer : summary ≡ summary_of flown.units.project flown.es flown.reasons (rows_for child options old.world flown.units)
   pub lines : Appends old.heard.taken new.heard.taken (said_from flown.units.project flown.es 0 (rows_for child options old.world flown.units))
-  pub files : (place : ℕ) (u : Planned) (made : Map) (directives : Option (List Directive)) (messages : List Message)
-      → slice_get (rows_for child options old.world flown.units) place ≡ Some record { unit = u; outcome = Good made directives messages } → files_in u.out new.world.files ≡ made
+  pub files : (place : ℕ) (u : Planned) (made : Map) (directives : Option (List Directive)) (messages : List Message) → slice_get (rows_for child options old.world flown.units) place ≡ Some record { unit = u; outcome = Good made directives messages } → files_in u.out new.world.files ≡ made
   pub began : AllBeganFor (basis_of footing read child options old.world flown.units) flown.es flown.reasons old.world new.world
 
--- a call for the unit of this key failed, which has begun and not answered: the lines are those of the longest row of units that have answered
+-- a call for the unit of this key failed, or no run number is left for it; it has begun and not answered: the lines are those of the longest row of units that have answered
 pub record FailsAt (project : Project) (es : List (Event BadUnit)) (rows : List Row) (key : List ℕ) (old new : Option (List ℕ)) : Type 0 where
   pub place : ℕ
   pub named : key_at project place ≡ key ∷ []

@@ -2,11 +2,13 @@
 use Rattle.std.specs.Prelude.{◌≡◌, ◌↔◌, ⊤, ℕ, true, List, [], ◌∷◌, ◌++◌, Option, Result}
 use Rattle.pb_place.specs.World.{World, Answers, written, removed}
 use Rattle.pb_place.specs.Memory.{Held, counts_in, set, unset}
+use Rattle.pb_place.specs.declared.in_flight.Death.{Death}
 use Rattle.pb_answer.specs.declared.bad_unit.BadUnit.{BadUnit}
 use Rattle.pb_answer.specs.declared.fault.BuildFault.{BuildFault}
 use Rattle.pb_answer.specs.declared.summary.Summary.{Summary}
 use Rattle.pb_flight.specs.Events.{Event}
 use Rattle.pb_project.specs.declared.project.Project.{Project}
+use Rattle.pb_session.specs.Deaths.{fault_of}
 use Rattle.pb_session.specs.declared.pick.PickBy.{PickBy}
 use Rattle.pb_session.specs.declared.pick.PickBy.TheVariants.{First, Last}
 use Rattle.pb_session.specs.declared.step.SessionStep.{SessionStep}
@@ -20,18 +22,20 @@ use Rattle.pb_build.specs.Kept.{SourcesStay}
 use Rattle.pb_build.specs.Result.{BuildResult, IsResult}
 use Rattle.pb_package.specs.declared.options.Options.{Options}
 
--- a moment of a session, and the answers of the builds so far
+-- a moment of a session; the answers of the builds so far; and the failures that are prepared: the number of the call that fails, 0 for none, and the starts that fail
 pub record Point : Type 0 where
   pub moment : Moment
   pub answers : List Answer
+  pub fuse : ℕ
+  pub deaths : List Death
 
 -- with a place in memory
 abbrev pub point : Held → Option (List ℕ) → ℕ → List Answer → Point
-point memory taken faults answers = record { moment = moment memory.world (counts_in memory) memory.most taken faults; answers = answers }
+point memory taken faults answers = record { moment = moment memory.world (counts_in memory) memory.most taken faults; answers = answers; fuse = memory.fuse; deaths = memory.deaths }
 
 -- an edit makes this of the world, and nothing else happens
 abbrev pub Edits : World → Point → Point → Type 0
-Edits w before after = (after.moment ≡ record before.moment { world = w }) × (after.answers ≡ before.answers)
+Edits w before after = after ≡ record before { moment = record before.moment { world = w } }
 
 -- a build, of which those units begin that the session picks
 abbrev pub Picked : Answers → Options → PickBy → Result Summary BuildFault → Moment → Moment → Type 0
@@ -43,18 +47,18 @@ abbrev pub ByPicked : PickBy → Options → Project → List (Event BadUnit) �
 ByPicked First options = ByFirst options
 ByPicked Last options = ByLast options
 
--- a step: an edit; a failure that is prepared, of which nothing is seen yet; or a build, which keeps the headline and adds its answer
+-- a step: an edit; a failure that is prepared, of which nothing is seen yet; or a build, which keeps the headline and adds its answer, and after which no call is to fail
 abbrev pub Carries : Answers → SessionStep → Point → Point → Type 0
 Carries child (Write path text) before after = Edits (written path text before.moment.world) before after
 Carries child (Remove path) before after = Edits (removed path before.moment.world) before after
 Carries child (Set name value) before after = Edits (set name value before.moment.world) before after
 Carries child (Unset name) before after = Edits (unset name before.moment.world) before after
-Carries child (Die key death) before after = after ≡ before
-Carries child (Fuse number) before after = after ≡ before
+Carries child (Die key death) before after = after ≡ record before { deaths = before.deaths ++ record { key = key; kind = fault_of death } ∷ [] }
+Carries child (Fuse number) before after = after ≡ record before { fuse = number }
 Carries child (Build options pick) before after =
     (answer : Answer) × Picked child options pick answer.result before.moment after.moment
     × SourcesStay (environment_of options before.moment.world.variables).target before.moment.world after.moment.world
-    × Headline true child (ByPicked pick options) options answer.result before.moment after.moment × (after.answers ≡ before.answers ++ answer ∷ [])
+    × Headline true child (ByPicked pick options) options answer.result before.moment after.moment × (after.answers ≡ before.answers ++ answer ∷ []) × (after.fuse ≡ 0)
 
 -- the steps were taken in turn
 abbrev pub Course : Answers → List SessionStep → Point → Point → Type 0

@@ -316,10 +316,11 @@ pub fn build_plan<P: Place, O: Out>(
 /// in order of beginning, and their answers dropped.
 ///
 /// Faults: Plan, before a child is started, a line is written or a file is changed; Toolchain, where the compiler does
-/// not say its host; Child, where a child gave no answer, and Device, where a call on files or variables failed or no
-/// run number is left, after which no further call of the place is made but the ends of children in flight; Sink;
-/// OutOfMemory. All but Plan and Sink write the failing finish line. A unit that is bad is no fault: the summary names
-/// it. However it ends, the files outside the target folder and the variables stay, and no child is in flight.
+/// not say its host; Child, where a child gave no answer, and Device, where a call on files or variables failed, after
+/// which no further call of the place is made but the ends of children in flight; Device too where no run number is
+/// left; Sink; OutOfMemory. All but Plan and Sink write the failing finish line. A unit that is bad is no fault: the
+/// summary names it. However it ends, the files outside the target folder and the variables stay, and no child is in
+/// flight.
 pub fn build_turns<P: Place, O: Out, T: Turn>(
     alloc: Global,
     place: &mut P,
@@ -340,7 +341,8 @@ pub fn build_turns<P: Place, O: Out, T: Turn>(
 }
 
 /// Builds with as many units in flight at one time as the options say; who picks says which of those that may begin
-/// does. While fewer fly and one may begin, it begins; else the one that was begun first is answered.
+/// does. While fewer fly and one may begin, it begins; else the one that was begun first is answered. Faults: those of
+/// `build_turns`.
 pub fn build_with<P: Place, O: Out, K: Pick + Drop>(
     alloc: Global,
     place: &mut P,
@@ -363,7 +365,7 @@ pub fn build_with<P: Place, O: Out, K: Pick + Drop>(
     build_turns(alloc, place, out, options, &mut jobs)
 }
 
-/// Builds, and begins those units first that come first in plan order.
+/// Builds, and begins those units first that come first in plan order. Faults: those of `build_turns`.
 pub fn build<P: Place, O: Out>(
     alloc: Global,
     place: &mut P,

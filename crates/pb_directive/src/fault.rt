@@ -15,7 +15,8 @@ pub enum LineFault {
     /// The key after `cargo::` is none that is known.
     #[error("line {0} has an unknown key")]
     UnknownKey(u64),
-    /// The value of a key is none that the key may have, or the rule of dep-info has no outputs.
+    /// A value that its key may not have; a line after `cargo::` without `=`; an empty name, a name or a word with
+    /// byte 0; a rule of dep-info in which no colon ends the outputs.
     #[error("line {0} has a bad value")]
     BadValue(u64),
     /// A word of `rustc-flags` is neither a library nor a folder of libraries.
@@ -35,7 +36,8 @@ pub enum Problem {
     /// The key after `cargo::` is none that is known.
     #[error("an unknown key")]
     UnknownKey,
-    /// The value of a key is none that the key may have, or the rule of dep-info has no outputs.
+    /// A value that its key may not have; a line after `cargo::` without `=`; an empty name, a name or a word with
+    /// byte 0; a rule of dep-info in which no colon ends the outputs.
     #[error("a bad value")]
     BadValue,
     /// A word of `rustc-flags` is neither a library nor a folder of libraries.

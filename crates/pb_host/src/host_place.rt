@@ -29,10 +29,10 @@ use std::rt::{Env, Files};
 /// what a disk holds, and it counts its calls as every place does.
 ///
 /// Links are followed. A path at which nothing stands, one whose link leads nowhere, and one at which neither file nor
-/// folder stands, count as absent. A file past 4,294,967,296 bytes, a listed folder with a name that is not UTF-8, a
-/// folder that lies more than 128 folders below the one that is listed, and a variable whose value is not UTF-8 are
-/// failures. A removal takes a link itself and leaves what it leads to. Our own choice, as for the limits of the other
-/// formats.
+/// folder stands, count as absent. A file past 4,294,967,296 bytes, a listed folder with a name that is not UTF-8
+/// (which `list_directly` passes over), a folder that lies more than 128 folders below the one that is listed, and a
+/// variable whose value is not UTF-8 are failures. A removal takes a link itself and leaves what it leads to. Our own
+/// choice, as for the limits of the other formats.
 ///
 /// A child inherits the variables of this process under those of its command, starts in the folder of the command, and
 /// has an empty standard input. What it changes on the disk is its own doing. Children in flight run side by side;
@@ -49,7 +49,8 @@ pub struct HostPlace<'a, R: Processes> {
 impl<'a, R: Files + Env + Processes + AllocGlobal> HostPlace<'a, R> {
     /// The place that a runtime gives, of which no call was made. It takes no memory.
     pub fn new(alloc: Global, runtime: &'a R) -> HostPlace<'a, R>
-        ensures { ⟦<HostPlace<'a, R> as Place>⟧.counts result ≡ no_calls }
+        ensures counts { ⟦<HostPlace<'a, R> as Place>⟧.counts result ≡ no_calls }
+        ensures most { ⟦<HostPlace<'a, R> as Place>⟧.most result ≡ 0 }
     {
         HostPlace {
             runtime,

@@ -23,7 +23,7 @@ pub enum ManifestFault {
     /// of a table of dependencies or features, that table's.
     #[error("`{}` has a value that it may not have", .0.name())]
     BadKind(Key),
-    /// A package, a library, a binary or a dependency has no name, or one of other letters.
+    /// A package, a binary or a dependency has no name, or one of these or of a library has other letters.
     #[error("a name is missing or has letters that it may not have")]
     BadName,
     /// A version or a version requirement that Semantic Versioning does not read.

@@ -1,5 +1,5 @@
 -- The fault of a call of the store or of the place, as one of a unit.
-use Rattle.std.proofs.Common.{◌≡◌, ◌≢◌, ◌⊎◌, ℕ, List, Option, Some, None, Err, refl, sym, ap, subst, inl, inr, ◌∙◌}
+use Rattle.std.proofs.Common.{◌≡◌, ◌≢◌, ◌⊎◌, ℕ, false, List, Option, Some, None, Err, refl, sym, ap, subst, inl, inr, ◌∙◌}
 use Rattle.pb_answer.specs.declared.fault.BuildFault.{BuildFault}
 use Rattle.pb_answer.specs.declared.fault.BuildFault.TheVariants.{Plan, Toolchain, Child, Device, Sink, OutOfMemory}
 use Rattle.pb_answer.specs.declared.fault.DeviceFault.TheVariants.{Place, NumbersSpent}
@@ -10,7 +10,8 @@ use Rattle.pb_place.specs.declared.place.PlaceFault.{PlaceFault}
 use Rattle.pb_place.specs.declared.place.PlaceFault.TheVariants as place
 use Rattle.pb_place.specs.declared.place.StartFault.{StartFault}
 use Rattle.pb_place.specs.declared.place.StartFault.TheVariants as start
-use Rattle.pb_run.specs.Causes.{FailedLast, HasCause, MayBeginUnit, MayFollow, MayRead, MayRemove, child_fault, device_fault, store_fault}
+use Rattle.pb_run.specs.Causes.{FailedLast, HasCause, MayAnswerUnit, MayBeginUnit, MayFollow, MayRead, MayRemove, child_fault, device_fault, is_of_start, is_spent, store_fault}
+use Rattle.pb_run.specs.declared.begun.Launched.{Launched}
 use Rattle.pb_store.specs.Causes as causes
 use Rattle.pb_store.specs.declared.fault.StoreFault.{StoreFault}
 use Rattle.pb_store.specs.declared.fault.StoreFault.TheVariants as store
@@ -76,6 +77,15 @@ looked next key store.OutOfMemory old new starts may cause = (inl starts, cause)
 pub look_told : (next : Option ℕ) (key unit : List ℕ) (e : StoreFault) (told : BuildFault) (old new : Counts) → told ≡ store_fault unit e → unit ≡ key → (new.starts ≡ old.starts) × (causes.MayLook e × causes.HasCause e old new) → TellsBegin next key old new told
 look_told next key unit e told old new is named takes =
     subst (TellsBegin next key old new) (sym (is ∙ ap (λ k. store_fault k e) named)) (looked next key e old new takes.0 takes.1.0 takes.1.1)
+
+-- the fault of a look is none of a start
+look_starts_none : (unit : List ℕ) (e : StoreFault) → causes.MayLook e → is_of_start (store_fault unit e) ≡ false
+look_starts_none unit (store.Place f) may = by_three (λ (g : PlaceFault). is_of_start (device_fault unit g) ≡ false) f place.Read place.List place.Variable refl refl refl may
+look_starts_none unit store.NumbersSpent may = absurd may
+look_starts_none unit store.OutOfMemory may = refl
+
+pub look_none : (unit : List ℕ) (e : StoreFault) (told : BuildFault) (old new : Counts) → told ≡ store_fault unit e → (new.starts ≡ old.starts) × (causes.MayLook e × causes.HasCause e old new) → is_of_start told ≡ false
+look_none unit e told old new is takes = ap is_of_start is ∙ look_starts_none unit e takes.1.0
 
 -- one that takes a number and removes a record
 dropped : (next : Option ℕ) (key : List ℕ) (e : StoreFault) (old new : Counts) → new.starts ≡ old.starts → causes.MayDrop next e → causes.HasCause e old new → TellsBegin next key old new (store_fault key e)
@@ -154,7 +164,29 @@ read_follows key (Device unit NumbersSpent) old new may = absurd (no_number may.
 read_follows key Sink old new may = absurd may
 read_follows key OutOfMemory old new may = may
 
-pub ruleset look_laws = (look_told)
+-- What comes after a child's end tells no want of a run number.
+pub follow_spares : (key : List ℕ) (e : BuildFault) (old new : Starts) → MayFollow key e old new → is_spent e ≡ false
+follow_spares key (Plan refusal) old new may = refl
+follow_spares key Toolchain old new may = refl
+follow_spares key (Child unit fault) old new may = refl
+follow_spares key (Device unit (Place fault)) old new may = refl
+follow_spares key (Device unit NumbersSpent) old new may = absurd may
+follow_spares key Sink old new may = refl
+follow_spares key OutOfMemory old new may = refl
+
+pub land_spares : (next : Option ℕ) (key : List ℕ) (launched : Launched) (e : BuildFault) (old new : Starts) → MayAnswerUnit next key (Some launched) e old new → is_spent e ≡ false
+land_spares next key launched (Plan refusal) old new may = refl
+land_spares next key launched Toolchain old new may = refl
+land_spares next key launched (Child unit fault) old new may = refl
+land_spares next key launched (Device unit (Place fault)) old new may = refl
+land_spares next key launched (Device unit NumbersSpent) old new may = absurd (some_none may.2)
+  where
+    some_none : Some launched ≡ None → ⊥
+    some_none e = cc
+land_spares next key launched Sink old new may = refl
+land_spares next key launched OutOfMemory old new may = refl
+
+pub ruleset look_laws = (look_told, look_none)
 
 pub ruleset drop_laws = (drop_told)
 

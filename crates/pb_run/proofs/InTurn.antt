@@ -21,6 +21,7 @@ use Rattle.pb_run.specs.Halves.{Basis, CanBegin, CanAnswer, IsBegun, Keeps}
 use Rattle.pb_run.specs.declared.begun.Begun.{Begun}
 use Rattle.pb_run.specs.declared.begun.Launched.{Launched}
 use Rattle.pb_store.specs.Migrating.{TakesNumber}
+use Rattle.pb_store.specs.declared.difference.Difference.{Difference}
 use Rattle.pb_run.proofs.Ending.{cause_after}
 use Rattle.pb_run.proofs.Recorded.{all_at, all_of}
 use Rattle.pb_run.proofs.RecordedOthers.{far_of}
@@ -98,6 +99,11 @@ pub answer_tells : (next mid_next : Option ℕ) (key : List ℕ) (launched : Opt
     → MayAnswerUnit mid_next key launched e mid.starts new.starts × HasCause e mid new → TellsRun next key old new e
 answer_tells next mid_next key launched e old mid new begins same told =
     (answer_may next mid_next key launched e old.starts mid.starts new.starts begins.1 same told.0, cause_after e old mid new begins.0 told.1)
+
+-- where nothing differed no child was spawned
+pub no_difference : (launched : Option Launched) (difference : Option Difference) → is_some launched ≡ is_some difference → difference ≡ None → launched ≡ None
+no_difference None difference same none = refl
+no_difference (Some l) difference same none = absurd (false≢true (sym (same ∙ ap (λ (d : Option Difference). is_some d) none)))
 
 -- both take one run number at most
 pub both_take : (old mid new : Option ℕ) (launched : Option Launched) (Taken : Launched → Type 0) → MatchOption launched (mid ≡ old) Taken → TakesNumber old mid → TakesNumber mid new → (IsSome launched → new ≡ mid) → TakesNumber old new

@@ -1,7 +1,8 @@
 -- A unit that answers by its record: what is kept of a build, and what another unit finds.
-use Rattle.std.proofs.Common.{◌≡◌, ◌∙◌, ℕ, true, false, List, Option, Some, None, All, IsSome, refl, sym, ap, subst, inl, inr, slice_get, slice_index_or, slice_set}
+use Rattle.std.proofs.Common.{◌≡◌, ◌∙◌, ℕ, Bool, true, false, List, Option, Some, None, All, IsSome, refl, sym, ap, subst, inl, inr, slice_get, slice_index_or, slice_set}
 use Rattle.std.proofs.lemmas.Bool.{false≢true}
 use Rattle.std.proofs.lemmas.List.Elements.{Contains-get_or}
+use Rattle.std.specs.Prelude.{not}
 use Rattle.std.specs.Option.{is_some, option_map}
 use Rattle.pb_answer.specs.declared.fault.BuildFault.{BuildFault}
 use Rattle.pb_answer.specs.declared.fault.BuildFault.TheVariants.{Plan, Toolchain, Child, Device, Sink, OutOfMemory}
@@ -27,7 +28,7 @@ use Rattle.pb_project.specs.declared.project.Project.{Project}
 use Rattle.pb_record.specs.declared.record.Record.{Record}
 use Rattle.pb_unit.specs.declared.plan.Planned.{Planned}
 use Rattle.pb_run.specs.Causes.{MayAnswerUnit, MayFollow}
-use Rattle.pb_run.specs.Halves.{Footing, OnRecords, OnNothing, Basis, BeginsApart, CanAnswer, HasRecord, HoldsBy, IsBegun, IsUnchanged, Keeps, begun_with, command_in, needed_keys, outcomes_in, records_in, view_in}
+use Rattle.pb_run.specs.Halves.{Footing, OnRecords, OnNothing, Basis, BeginsApart, CanAnswer, HasRecord, HoldsBy, IsBegun, IsUnchanged, Keeps, awaits_number, begun_with, child_in, child_of, command_in, needed_keys, outcomes_in, records_in, view_in}
 use Rattle.pb_run.specs.Outcome.{judgement_by, outcome_by, unstarted}
 use Rattle.pb_run.specs.Standing.{IsInOrder, records_folder}
 use Rattle.pb_run.specs.declared.begun.Awaited.{Awaited}
@@ -125,9 +126,23 @@ no_child l o Fact is none = absurd (some_none (sym is ∙ none))
     some_none : Some l ≡ None → ⊥
     some_none e = cc
 
-pub none_awaited : (o : Option Launched) (Fact : Type 0) → o ≡ None → IsSome o → Fact
-none_awaited None Fact is some = absurd (false≢true some)
-none_awaited (Some l) Fact is some = no_child l (Some l) Fact refl is
+-- a unit that has a child awaits no number
+pub child_numbered : (begun : Begun) → IsSome (child_of begun) → awaits_number begun.awaited ≡ false
+child_numbered begun some = by begun.awaited some
+  where
+    by : (o : Awaited) → IsSome (child_in o) → awaits_number o ≡ false
+    by (awaited.Child launched) has = refl
+    by (awaited.Record again) has = absurd (false≢true has)
+
+pub numbered_awaited : (o : Awaited) (again : Replayed) → o ≡ awaited.Record again → awaits_number o ≡ false → again.numbered ≡ true
+numbered_awaited o again is none = by again.numbered (sym (ap awaits_number is) ∙ none)
+  where
+    by : (flag : Bool) → not flag ≡ false → flag ≡ true
+    by true e = refl
+    by false e = absurd (false≢true (sym e))
+
+pub awaited_numberless : (o : Awaited) (again : Replayed) → o ≡ awaited.Record again → again.numbered ≡ false → awaits_number o ≡ true
+awaited_numberless o again is none = ap awaits_number is ∙ ap (λ (flag : Bool). not flag) none
 
 module _ (b : Basis) (order : IsInOrder b.project) (i : ℕ) (u : Planned) (at : unit_at b.project i ≡ Some u) (key : List ℕ) (c : Command) (again : Replayed) (next : Option ℕ) (w : World)
     (flying : List ChildInFlight) (still : ℕ → Type 0) (states : List (State BadUnit)) (done : List (Option (List Directive))) (can : CanAnswer b states done i u (begun_with key c (awaited.Record again)) next w flying still) where

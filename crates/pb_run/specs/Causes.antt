@@ -58,6 +58,18 @@ HasCause (Device unit NumbersSpent) old new = new.failures ≡ old.failures
 HasCause Sink old new = new.failures ≡ old.failures
 HasCause OutOfMemory old new = new.failures ≡ old.failures
 
+-- a fault of what comes only where something differs: a run number is taken, the record and the files are removed, the child is spawned
+abbrev pub is_of_start : BuildFault → Bool
+is_of_start (Child unit fault) = true
+is_of_start (Device unit NumbersSpent) = true
+is_of_start (Device unit (Place place.Remove)) = true
+is_of_start fault = false
+
+-- no run number is left
+abbrev pub is_spent : BuildFault → Bool
+is_spent (Device unit NumbersSpent) = true
+is_spent fault = false
+
 -- what a step says of the counters. Where it ended well: no call failed, and so many children were started; as many fly as before. Else: that it may tell this fault after so many starts, and the fault's cause
 abbrev pub Takes : {T : Type 0} → (T → Starts → Starts → Type 0) → (BuildFault → Starts → Starts → Type 0) → Result T BuildFault → Counts → Counts → Type 0
 Takes Begins May result old new = MatchResult result (λ x. (new.failures ≡ old.failures) × Begins x old.starts new.starts) (λ e. May e old.starts new.starts × HasCause e old new)

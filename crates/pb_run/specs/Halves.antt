@@ -1,5 +1,5 @@
 -- What holds of the outside while units of a build begin and answer, any number of them in flight.
-use Rattle.std.specs.Prelude.{◌≡◌, ◌≢◌, ◌∷◌, [], ℕ, true, List, Option, Some, None, IfSome, slice_get, take, length}
+use Rattle.std.specs.Prelude.{◌≡◌, ◌≢◌, ◌∷◌, [], ℕ, Bool, true, false, not, List, Option, Some, None, IfSome, slice_get, take, length}
 use Rattle.std.specs.FinMap as finite
 use Rattle.std.specs.List.{flat_map}
 use Rattle.pb_command.specs.Externs.{reads_of}
@@ -146,6 +146,11 @@ child_in (awaited.Record again) = None
 
 abbrev pub child_of : Begun → Option Launched
 child_of begun = child_in begun.awaited
+
+-- nothing differs from its record, which has no run number
+abbrev pub awaits_number : Awaited → Bool
+awaits_number (awaited.Child launched) = false
+awaits_number (awaited.Record again) = not again.numbered
 
 -- its child is in flight: it was spawned for this command, saw this, found its folder empty, and all this stood still since
 pub record IsInFlight (child : Answers) (c : Command) (view : World) (ticket : ℕ) (flying : List ChildInFlight) (still : ℕ → Type 0) : Type 0 where

@@ -14,8 +14,8 @@ ghost use Rattle.pb_place.specs.declared.child_in_flight.ChildInFlight.{ChildInF
 ghost use Rattle.pb_project.specs.Targets.{unit_at};
 ghost use Rattle.pb_answer.specs.declared.bad_unit.BadUnit.{BadUnit};
 ghost use Rattle.pb_record.specs.Parts.{IsReading};
-ghost use Rattle.pb_run.specs.Causes.{Takes, Begins, Lands, Drops, Runs, MayBeginUnit, MayAnswerUnit, MayRunUnit};
-ghost use Rattle.pb_run.specs.Halves.{Footing, Basis, basis, outcomes_in, Keeps, IsBegun, CanBegin, CanAnswer, BeginsApart, WritesTo, child_of};
+ghost use Rattle.pb_run.specs.Causes.{Takes, Begins, Lands, Drops, Runs, MayBeginUnit, MayAnswerUnit, MayRunUnit, is_of_start, is_spent};
+ghost use Rattle.pb_run.specs.Halves.{Footing, Basis, basis, outcomes_in, Keeps, IsBegun, CanBegin, CanAnswer, BeginsApart, WritesTo, awaits_number, child_of};
 ghost use Rattle.pb_run.specs.Outcome.{outcome_by, directives_in};
 ghost use Rattle.pb_run.specs.Standing.{IsCommandOf, IsInOrder, records_folder};
 ghost use Rattle.pb_run.specs.declared.begun.Begun.{Begun};
@@ -46,10 +46,10 @@ use std::alloc::Global;
 /// taken, the record is removed, the output folder is emptied and the unit's child is spawned, in this order: no text
 /// counts as the unit's record then; where nothing does, or the look fails, or no run number is left, nothing is changed.
 ///
-/// Faults: Child, where the child cannot be spawned; Device, where a file, a folder or a variable cannot be read, the
-/// record or the folder cannot be removed, or no run number is left; OutOfMemory. Each has the unit's key, no call of
-/// the place comes after one that failed, and no child is in flight for the unit then. A child that is spawned writes
-/// into the unit's folder, and the others in flight fly on.
+/// Faults: Device, where a file, a folder or a variable cannot be read; where something differs, Child too, where the
+/// child cannot be spawned, and Device, where the record or the folder cannot be removed, or no run number is left;
+/// OutOfMemory. Each has the unit's key, no call of the place comes after one that failed, and no child is in flight
+/// for the unit then. A child that is spawned writes into the unit's folder, and the others in flight fly on.
 pub fn begin_unit<P: Place>(
     alloc: Global,
     place: &mut P,
@@ -80,6 +80,7 @@ pub fn begin_unit<P: Place>(
     ensures only { IsTrue P.tells → ChangesOnly (is_of (records_folder project.now) unit.now.key) (P.world place.old) (P.world place.new) }
     ensures same { IsTrue P.tells → IfOk result (λ made. child_of made.begun ≡ None → P.world place.new ≡ P.world place.old) }
     ensures spared { (read : Reading) → IsReading read → IsTrue P.tells → IfErr result (λ e. (P.world place.new ≡ P.world place.old) ⊎ ((difference : Difference) × FirstDifference read (records_folder project.now) unit.now.key (command_of setup.now project.now unit.now done.now) (P.world place.old) (Some difference))) }
+    ensures cause { (read : Reading) → IsReading read → IsTrue P.tells → IfErr result (λ e. is_of_start e ≡ true → (difference : Difference) × FirstDifference read (records_folder project.now) unit.now.key (command_of setup.now project.now unit.now done.now) (P.world place.old) (Some difference)) }
     ensures dropped { (read : Reading) → IsTrue P.tells → IfOk result (λ made. IsSome (child_of made.begun) → record_at read (records_folder project.now) (P.world place.new).files unit.now.key ≡ None) }
     ensures writes { IsTrue P.tells → IfOk result (λ made. WritesTo unit.now.out (child_of made.begun) (P.counts place.new).starts.flying) }
     ensures stay { (ticket : ℕ) (its : ChildInFlight) → child_at ticket (P.counts place.old).starts.flying ≡ Some its → child_at ticket (P.counts place.new).starts.flying ≡ Some its }
@@ -135,12 +136,12 @@ pub fn begin_unit<P: Place>(
 /// unit began, and gives a record of format 1 a run number: one that has a number is not read once more.
 ///
 /// Faults: Child, where the child gave no answer; Device, where a file, a folder or a variable cannot be read, the
-/// record cannot be written, or no run number is left; OutOfMemory. Each has the unit's key, and no call of the place
-/// comes after one that failed. Whatever it answers, the child is in flight no more, and the others fly on. Where the
-/// child writes into the unit's folder, only that folder and the unit's record change, whatever the records hold and the
-/// child leaves, and where the unit is bad that folder alone: no record of it is kept. Where the unit has no child in
-/// flight and its record has a number, nothing is changed. A run number is taken at most for a record that has none. A
-/// unit that is bad is no fault.
+/// record cannot be written, or no run number is left for a record that has none; OutOfMemory. Each has the unit's key,
+/// and no call of the place comes after one that failed. Whatever it answers, the child is in flight no more, and the
+/// others fly on. Where the child writes into the unit's folder, only that folder and the unit's record change,
+/// whatever the records hold and the child leaves, and where the unit is bad that folder alone: no record of it is
+/// kept. Where the unit has no child in flight and its record has a number, nothing is changed. A run number is taken
+/// at most for a record that has none. A unit that is bad is no fault.
 pub fn answer_unit<P: Place>(
     alloc: Global,
     place: &mut P,
@@ -176,7 +177,8 @@ pub fn answer_unit<P: Place>(
     ensures directives { IfOk result (λ ran. directives_in (outcome_by finite.empty ran) ≡ ran.directives) }
     ensures folder { store.new.folder ≡ store.old.folder }
     ensures next { TakesNumber store.old.next store.new.next }
-    ensures untaken { IsSome (child_of begun) → store.new.next ≡ store.old.next }
+    ensures untaken { awaits_number begun.awaited ≡ false → store.new.next ≡ store.old.next }
+    ensures spends { IfErr result (λ e. is_spent e ≡ true → awaits_number begun.awaited ≡ true) }
     ensures most { P.most place.new ≡ P.most place.old }
     ensures takes { Takes (Lands (child_of begun)) (MayAnswerUnit store.old.next unit.now.key (child_of begun)) result (P.counts place.old) (P.counts place.new) }
 {
@@ -261,6 +263,7 @@ pub fn run_unit<P: Place>(
         (λ run. (lines : List ℕ) → Keeps (basis footing read P.child setup.now project.now sources) (slice_set states index (state.Answered record { fault = run.ran.bad; lines = lines })) (slice_set done.now index run.ran.directives) store.new.next (P.world place.new))
         (λ e. Keeps (basis footing read P.child setup.now project.now sources) (slice_set states index state.Begun) done.now store.new.next (P.world place.new)) }
     ensures differs { (read : Reading) → IsReading read → IsTrue P.tells → IfOk result (λ run. FirstDifference read (records_folder project.now) unit.now.key (command_of setup.now project.now unit.now done.now) (P.world place.old) run.difference) }
+    ensures same { (read : Reading) → IsReading read → IsTrue P.tells → IfOk result (λ run. run.difference ≡ None → lacks_number (record_at read (records_folder project.now) (P.world place.old).files unit.now.key) ≡ false → P.world place.new ≡ P.world place.old) }
     ensures unrecorded { (read : Reading) → IsTrue P.tells → IfOk result (λ run. IsSome run.difference → IsSome run.ran.bad → record_at read (records_folder project.now) (P.world place.new).files unit.now.key ≡ None) }
     ensures started { IfOk result (λ run. run.ran.started ≡ is_some run.difference) }
     ensures only { IsTrue P.tells → ChangesOnly (is_of (records_folder project.now) unit.now.key) (P.world place.old) (P.world place.new) }

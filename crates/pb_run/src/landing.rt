@@ -1,6 +1,6 @@
 //! A unit that answers: its child's end, or its record again; the judgement; the record kept or renewed.
 
-ghost use Rattle.std.specs.Prelude.{◌≡◌, ◌++◌, ℕ, true, false, List, Option, IsTrue, IsSome, IfOk, IfSome, MatchResult, OnOk, Some, None, All, is_some, map, slice_get, slice_set};
+ghost use Rattle.std.specs.Prelude.{◌≡◌, ◌++◌, ℕ, true, false, List, Option, IsTrue, IsSome, IfOk, IfErr, IfSome, MatchResult, OnOk, Some, None, All, is_some, map, slice_get, slice_set};
 ghost use Rattle.std.specs.FinMap as finite;
 ghost use Rattle.pb_command.specs.Answers.{answered_of};
 ghost use Rattle.pb_command.specs.Judge.{file_at};
@@ -11,7 +11,7 @@ ghost use Rattle.pb_project.specs.Targets.{dep_info_of};
 ghost use Rattle.pb_record.specs.Parts.{IsReading};
 ghost use Rattle.pb_record.specs.Sorted.{are_sorted};
 ghost use Rattle.pb_record.specs.declared.record.Record.{Record};
-ghost use Rattle.pb_run.specs.Causes.{Takes, NoStart, Lands, MayFollow, MayAnswerUnit};
+ghost use Rattle.pb_run.specs.Causes.{Takes, NoStart, Lands, MayFollow, MayAnswerUnit, is_spent};
 ghost use Rattle.pb_directive.specs.declared.directive.Directive.{Directive};
 ghost use Rattle.pb_flight.specs.declared.flight.State.{State};
 ghost use Rattle.pb_flight.specs.declared.flight.State.TheVariants as state;
@@ -333,6 +333,8 @@ pub(crate) fn reuse<P: Place>(
     ensures folder { store.new.folder ≡ store.old.folder }
     ensures next { TakesNumber store.old.next store.new.next }
     ensures most { P.most place.new ≡ P.most place.old }
+    ensures untaken { again.now.numbered ≡ true → store.new.next ≡ store.old.next }
+    ensures spends { IfErr result (λ e. is_spent e ≡ true → again.now.numbered ≡ false) }
     ensures takes { Takes (Lands None) (MayAnswerUnit store.old.next unit.now.key None) result (P.counts place.old) (P.counts place.new) }
 {
     let judgement = match judged_now(alloc, place, project, unit, command, &again.ended) {

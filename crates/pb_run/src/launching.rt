@@ -1,12 +1,12 @@
 //! A unit that begins: what differs, the record dropped, the folder emptied, the child spawned.
 
-ghost use Rattle.std.specs.Prelude.{◌≡◌, ◌⊎◌, ◌+◌, ℕ, true, Option, IsTrue, IfNone, IfOk, OnOk, MatchResult, Some, None, max, length};
+ghost use Rattle.std.specs.Prelude.{◌≡◌, ◌⊎◌, ◌+◌, ℕ, true, false, Option, IsTrue, IfNone, IfOk, IfErr, OnOk, MatchResult, Some, None, max, length};
 ghost use Rattle.pb_place.specs.Children.{child_at, child_spawned, StaysStill};
 ghost use Rattle.pb_place.specs.Paths.{is_path, is_at_or_below};
 ghost use Rattle.pb_place.specs.World.{ChangesOnly, ChangesOnlyInSome};
 ghost use Rattle.pb_record.specs.Parts.{IsReading};
 ghost use Rattle.pb_record.specs.declared.record.Record.{Record};
-ghost use Rattle.pb_run.specs.Causes.{Takes, NoStart, IsLifted, MayBeginUnit};
+ghost use Rattle.pb_run.specs.Causes.{Takes, NoStart, IsLifted, MayBeginUnit, is_of_start};
 ghost use Rattle.pb_run.specs.Launching.{IsSpawned};
 ghost use Rattle.pb_soundness.specs.Apart.{is_of, KeepsStill, KeepsStillOutside};
 ghost use Rattle.pb_soundness.specs.Inputs.{Judge};
@@ -46,6 +46,7 @@ pub(crate) fn compare<P: Place>(
     ensures most { P.most place.new ≡ P.most place.old }
     ensures still { IsTrue P.tells → KeepsStill (P.still place.old) (P.still place.new) }
     ensures takes { Takes NoStart (MayBeginUnit store.now.next key.now) result (P.counts place.old) (P.counts place.new) }
+    ensures looks { IfErr result (λ e. is_of_start e ≡ false) }
 {
     let unit = match key.copy(alloc) {
         Ok(unit) => unit,

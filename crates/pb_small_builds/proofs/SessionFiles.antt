@@ -32,7 +32,6 @@ use Rattle.pb_profile.specs.Line.{folder_of}
 use Rattle.pb_command.specs.Judge.{judge}
 use Rattle.std.proofs.lemmas.Bool.{false≢true}
 use Rattle.pb_soundness.specs.Records.{Reading, if_of_key, is_key, place_of, read_text, record_at}
-use Rattle.pb_turns.specs.Moments.{Moment}
 use Rattle.pb_workspace.proofs.FoldersPut.{opened}
 use Rattle.pb_build.specs.Headline.{IsHonestBuild, records_of}
 use Rattle.pb_build.specs.Lasting.{NothingIsSound, RecordsStayTrue, ShareNoPath, Spares}
@@ -183,13 +182,13 @@ module _ (target : List ℕ) where
 
   -- one step
   step_at : (step : SessionStep) (before after : Point) → HasWords step → IsToldStep target step before.moment.world → Carries small_compiler step before after → SourcesAt before.moment.world → SourcesAt after.moment.world
-  step_at (Write path text) before after at told (moment, answers) files = subst (λ (m : Moment). SourcesAt m.world) (sym moment) (written_at path text before.moment.world at files)
-  step_at (Remove path) before after words told (moment, answers) files = subst (λ (m : Moment). SourcesAt m.world) (sym moment) (removed_at path before.moment.world files)
-  step_at (Set name value) before after words told (moment, answers) files = subst (λ (m : Moment). SourcesAt m.world) (sym moment) files
-  step_at (Unset name) before after words told (moment, answers) files = subst (λ (m : Moment). SourcesAt m.world) (sym moment) files
+  step_at (Write path text) before after at told same files = subst (λ (p : Point). SourcesAt p.moment.world) (sym same) (written_at path text before.moment.world at files)
+  step_at (Remove path) before after words told same files = subst (λ (p : Point). SourcesAt p.moment.world) (sym same) (removed_at path before.moment.world files)
+  step_at (Set name value) before after words told same files = subst (λ (p : Point). SourcesAt p.moment.world) (sym same) files
+  step_at (Unset name) before after words told same files = subst (λ (p : Point). SourcesAt p.moment.world) (sym same) files
   step_at (Die key death) before after words told same files = subst (λ (p : Point). SourcesAt p.moment.world) (sym same) files
   step_at (Fuse number) before after words told same files = subst (λ (p : Point). SourcesAt p.moment.world) (sym same) files
-  step_at (Build options pick) before after words told (answer, picked, stays, headline, answers) files =
+  step_at (Build options pick) before after words told (answer, picked, stays, headline, answers, unlit) files =
       subst FilesHavePaths (sym (subst (λ t. from_nothing t after.moment.world ≡ from_nothing t before.moment.world) told.one_target stays)) files
 
   -- such a build has its words
@@ -237,7 +236,7 @@ module _ (target : List ℕ) where
     step_gives (Unset name) before after words files told takes sound = tt
     step_gives (Die key death) before after words files told takes sound = tt
     step_gives (Fuse number) before after words files told takes sound = tt
-    step_gives (Build options pick) before after words files told (answer, picked, stays, headline, answers) sound = (
+    step_gives (Build options pick) before after words files told (answer, picked, stays, headline, answers, unlit) sound = (
       answer,
       answers,
       small_gives (ByPicked pick options) read options answer.result before.moment after.moment reading headline (small_of options before.moment.world words.0 words.1 files told)

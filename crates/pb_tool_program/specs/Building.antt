@@ -1,5 +1,6 @@
 -- What `pb_tool build` does.
 use Rattle.std.specs.Prelude.{◌≡◌, ◌⊎◌, ℕ, zero, suc, Bool, true, false, codes, List, [], ◌∷◌, ◌++◌, Option, Some, None, Result, Ok, Err}
+use Rattle.pb_place.specs.Counts.{Counts}
 use Rattle.pb_place.specs.World.{Answers}
 use Rattle.pb_answer.specs.Explanation.{explanation, said_by_bad}
 use Rattle.pb_answer.specs.ResultLine.{result_line}
@@ -75,15 +76,15 @@ abbrev pub folder_of : Result BuildPlan BuildFault → Option (List ℕ)
 folder_of (Ok plan) = Some plan.environment.target
 folder_of (Err fault) = None
 
--- A build was planned and carried out, and the place was asked for nothing else; in between its target folder was guarded. What is written beside the output are the notes before it, that it waits, and what is told behind it.
-pub record BuildsTold (tells : Bool) (child : Answers) (Guards : Option (List ℕ) → Heard → Heard → Type 0) (options : Options) (explain : Bool) (status : ℕ) (old new : Moment) (said_before said_after : Heard) : Type 0 where
+-- A build was planned and carried out, and the place was asked for nothing else; its target folder was guarded once its packages without a library were noted, while the place's counters stood as the plan had left them: no child was started yet. What is written beside the output are the notes before it, that it waits, and what is told behind it.
+pub record BuildsTold (tells : Bool) (child : Answers) (Guards : Option (List ℕ) → Counts → Heard → Heard → Type 0) (options : Options) (explain : Bool) (status : ℕ) (old new : Moment) (said_before said_after : Heard) : Type 0 where
   pub plan : Result BuildPlan BuildFault
   pub planned : Moment
   pub plans : PlansFrom tells options plan old planned
   pub noted : Heard
   pub notes : NotesOf plan said_before noted
   pub held : Heard
-  pub guards : Guards (folder_of plan) noted held
+  pub guards : Guards (folder_of plan) planned.counts noted held
   pub answer : Result Summary BuildFault
   pub builds : BuildsFirst tells child options answer old new
   pub concluded : Concludes explain answer status held said_after

@@ -1,7 +1,7 @@
 -- What the whole program does: what its words ask for is done, and nothing else.
 use Rattle.std.specs.Prelude.{◌≡◌, ◌⊎◌, ℕ, Bool, true, false, if◌then◌else◌, List, Option, Some, None, IsTrue, IfOk, Result, Ok, Err}
 use Rattle.std.specs.FinMap as map
-use Rattle.pb_place.specs.Counts.{counted}
+use Rattle.pb_place.specs.Counts.{Counts, counted}
 use Rattle.pb_place.specs.World.{Answers}
 use Rattle.pb_place.specs.declared.place.PlaceFault.{PlaceFault}
 use Rattle.pb_answer.specs.declared.fault.BuildFault.TheVariants as build_fault
@@ -63,11 +63,11 @@ Means words folder (Ok asked) = Asks words folder asked
 Means words folder (Err unasked) = Unasks words folder unasked
 
 -- what comes of that: the build that is asked for, or the session; else the place is not touched. A build alone asks the guard for a folder.
-abbrev pub Does : Bool → Answers → (Option (List ℕ) → Heard → Heard → Type 0) → Result Asked Unasked → ℕ → Moment → Moment → Heard → Heard → Type 0
+abbrev pub Does : Bool → Answers → (Option (List ℕ) → Counts → Heard → Heard → Type 0) → Result Asked Unasked → ℕ → Moment → Moment → Heard → Heard → Type 0
 Does tells child Guards (Ok (Build options explain)) status old new said_before said_after = BuildsTold tells child Guards options explain status old new said_before said_after
-Does tells child Guards (Ok (Session path)) status old new said_before said_after = RunsFile tells path status old new said_before said_after × Guards None said_before said_before
-Does tells child Guards (Err unasked) status old new said_before said_after = (new ≡ record old { heard = new.heard }) × Explains unasked status old.heard new.heard said_before said_after × Guards None said_before said_before
+Does tells child Guards (Ok (Session path)) status old new said_before said_after = RunsFile tells path status old new said_before said_after × Guards None old.counts said_before said_before
+Does tells child Guards (Err unasked) status old new said_before said_after = (new ≡ record old { heard = new.heard }) × Explains unasked status old.heard new.heard said_before said_after × Guards None old.counts said_before said_before
 
 -- the program did what these words mean, where relative paths start at this folder
-abbrev pub Runs : Bool → Answers → (Option (List ℕ) → Heard → Heard → Type 0) → List (List ℕ) → List ℕ → ℕ → Moment → Moment → Heard → Heard → Type 0
+abbrev pub Runs : Bool → Answers → (Option (List ℕ) → Counts → Heard → Heard → Type 0) → List (List ℕ) → List ℕ → ℕ → Moment → Moment → Heard → Heard → Type 0
 Runs tells child Guards words folder status old new said_before said_after = (meant : Result Asked Unasked) × Means words folder meant × Does tells child Guards meant status old new said_before said_after

@@ -30,9 +30,9 @@ lines_of (answer ∷ answers) = result_line answer.result ++ codes "\n" ++ lines
 abbrev pub small_compiler : Answers
 small_compiler c w = answered c.words c.pairs w
 
--- before the first step: no file, no variable, no call of the place and no answer
+-- before the first step: no file, no variable, no call of the place, no answer, and no failure prepared
 abbrev pub at_first : Heard → Point
-at_first heard = record { moment = record { world = record { files = map.empty; variables = map.empty }; counts = no_calls; most = 0; heard = heard }; answers = [] }
+at_first heard = record { moment = record { world = record { files = map.empty; variables = map.empty }; counts = no_calls; most = 0; heard = heard }; answers = []; fuse = 0; deaths = [] }
 
 -- the steps were taken in turn, the message lines of one build after those of another; and then a result line for each was written, all of these lines or the first bytes of them, at which the sink failed
 abbrev pub Written : Bool → List SessionStep → Heard → Heard → Type 0

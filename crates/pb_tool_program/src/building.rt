@@ -86,21 +86,26 @@ fn tell_waiting<E: Out>(err: &mut E)
 }
 
 /// Takes a folder. Where another build has it, a line says so, and this one waits.
-fn take<G: Guard, E: Out>(guard: &mut G, err: &mut E, folder: &PathText)
-    ensures { Guarded G.asks G.waits guard.old guard.new (Some folder.now) record { taken = E.taken err.old; faults = E.faults err.old } record { taken = E.taken err.new; faults = E.faults err.new } }
+fn take<P: Place, G: Guard<P, E>, E: Out>(guard: &mut G, place: &P, err: &mut E, folder: &PathText)
+    ensures { Guarded G.asks G.waits guard.old guard.new (Some folder.now) (P.counts place.now) record { taken = E.taken err.old; faults = E.faults err.old } record { taken = E.taken err.new; faults = E.faults err.new } }
 {
-    if guard.is_taken(folder) {
+    if guard.is_taken(place, err, folder) {
         tell_waiting(err);
-        guard.wait();
+        guard.wait(place, err);
     }
 }
 
 /// Takes the target folder of a build's plan. Where there is no plan, no folder is asked for.
-fn hold<G: Guard, E: Out>(guard: &mut G, err: &mut E, plan: &Result<BuildPlan, BuildFault>)
-    ensures { Guarded G.asks G.waits guard.old guard.new (folder_of plan.now) record { taken = E.taken err.old; faults = E.faults err.old } record { taken = E.taken err.new; faults = E.faults err.new } }
+fn hold<P: Place, G: Guard<P, E>, E: Out>(
+    guard: &mut G,
+    place: &P,
+    err: &mut E,
+    plan: &Result<BuildPlan, BuildFault>,
+)
+    ensures { Guarded G.asks G.waits guard.old guard.new (folder_of plan.now) (P.counts place.now) record { taken = E.taken err.old; faults = E.faults err.old } record { taken = E.taken err.new; faults = E.faults err.new } }
 {
     match plan {
-        Ok(plan) => take(guard, err, &plan.environment.target),
+        Ok(plan) => take(guard, place, err, &plan.environment.target),
         Err(_) => {}
     }
 }
@@ -174,12 +179,12 @@ fn conclude<E: Out>(
 }
 
 /// Builds, and gives the status: 0 for success, 101 for a build that failed or was refused, with `error: ` and its
-/// result line on `err`. Message lines go to `out` as units end. Before the build a line `note: NAME has no library`
+/// result line on `err`. Message lines go to `out` in plan order, as they are due. Before the build a line `note: NAME has no library`
 /// goes to `err` for each package to which an enabled dependency leads and that has no library; behind it, where that
 /// is asked for, why each child was started; and what the child of a bad unit wrote that no message line holds. Between
 /// the plan and the compiler's query the guard is asked for the target folder; where another build has it, a line on
 /// `err` says so, and this one waits.
-pub fn build_options<P: Place, G: Guard, O: Out, E: Out>(
+pub fn build_options<P: Place, G: Guard<P, E>, O: Out, E: Out>(
     alloc: Global,
     place: &mut P,
     guard: &mut G,
@@ -196,7 +201,7 @@ pub fn build_options<P: Place, G: Guard, O: Out, E: Out>(
     let plan = plan_build(alloc, place, options);
     note(alloc, err, &plan);
     // After the plan: a refused build makes no folder.
-    hold(guard, err, &plan);
+    hold(guard, place, err, &plan);
     let answer = build_plan(alloc, place, out, options, plan);
     conclude(alloc, err, explain, &answer)
 }

@@ -3,7 +3,7 @@
 ghost use Rattle.std.specs.Prelude.{⊤};
 
 use crate::guard::Guard;
-use pb_place::PathText;
+use pb_place::{Out, PathText, Place};
 use std::fs;
 use std::fs::{File, TryLockError};
 
@@ -26,12 +26,12 @@ impl<'a> FolderLock<'a> {
     }
 }
 
-impl<'a> Guard for FolderLock<'a> {
-    ghost asks = { λ old folder taken new. ⊤ };
+impl<'a, P: Place, E: Out> Guard<P, E> for FolderLock<'a> {
+    ghost asks = { λ old folder counts heard taken new. ⊤ };
 
-    ghost waits = { λ old new. ⊤ };
+    ghost waits = { λ old counts heard new. ⊤ };
 
-    fn is_taken(&mut self, folder: &PathText) -> bool {
+    fn is_taken(&mut self, place: &P, err: &E, folder: &PathText) -> bool {
         if fs::create_dir_all(self.runtime, folder.as_str()).is_err() {
             return false;
         }
@@ -47,7 +47,7 @@ impl<'a> Guard for FolderLock<'a> {
         taken
     }
 
-    fn wait(&mut self) {
+    fn wait(&mut self, place: &P, err: &E) {
         if let Some(file) = &self.folder {
             let _ = file.lock();
         }

@@ -65,9 +65,9 @@ fn explain<O: Out, E: Out>(unasked: &Unasked, out: &mut O, err: &mut E) -> u8
 /// The whole program: does what the words of the command line ask for, the program's own name first. Relative paths
 /// start at `folder`, the current one. A build asks the guard for its target folder, once it is planned.
 ///
-/// The status is that of `build_options` or `run_session`; 1 for a bad command line; 0 where help was asked for; 101
-/// where memory is refused before.
-pub fn run<S: AsStr, P: Place, G: Guard, O: Out, E: Out>(
+/// The status is that of `build_options` or `run_session`; 1 for a bad command line; 0 where help was asked for, 1 where
+/// it cannot be written; 101 where memory is refused before.
+pub fn run<S: AsStr, P: Place, G: Guard<P, E>, O: Out, E: Out>(
     alloc: Global,
     words: &[S],
     folder: &PathText,

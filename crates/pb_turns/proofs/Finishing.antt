@@ -34,9 +34,10 @@ use Rattle.pb_run.proofs.Shown.{each_of}
 use Rattle.pb_soundness.specs.Records.{Reading}
 use Rattle.pb_turns.specs.Crew.{needs_of, launched_of, ticket_of_child}
 use Rattle.pb_turns.specs.Ends.{rows_in, nothing_said, Stands, StandsWhole, StandsCut, EndsWhole, EndsCut, Grounding, Dropped, Drained}
+use Rattle.pb_turns.specs.Laws.{SaysFirstRows}
 use Rattle.pb_turns.specs.Moments.{Moment, Heard}
 use Rattle.pb_turns.specs.Rows.{summary_of, started_keys, is_started, messages_in, bad_of, directives_told, Reasons, key_told, said_told, bad_told, differences_of, kept_of}
-use Rattle.pb_turns.specs.Story.{states_in, untouched, Stops, Changes, Happened, AllBeganFor, CameAfter, NamesUnit, KeepsNoneOfBad, Story, StoryEnds, OnlyOf}
+use Rattle.pb_turns.specs.Story.{states_in, untouched, Stops, Changes, Happened, AllBeganFor, CameAfter, NamesUnit, HasNoRecord, KeepsNoneOfBad, KeepsNoneInFlight, HasGiven, Story, StoryEnds, OnlyOf}
 use Rattle.pb_turns.specs.Summing.{summary_by, noted_of, count_told, keys_at, differences_at}
 use Rattle.pb_turns.specs.declared.crew.Aloft.{Aloft}
 use Rattle.pb_turns.specs.declared.crew.UnitCrew.{UnitCrew}
@@ -44,7 +45,7 @@ use Rattle.pb_turns.proofs.Changing.{changes_first}
 use Rattle.pb_turns.proofs.Counting.{appends_none, stops_refused}
 use Rattle.pb_turns.proofs.States.{due_all}
 use Rattle.pb_turns.proofs.Unbegun.{none_noted}
-use Rattle.pb_turns.proofs.Unkept.{none_bad}
+use Rattle.pb_turns.proofs.Unkept.{none_bad, none_in_flight}
 use Rattle.pb_turns.proofs.Telling.{AllTold, Ended, all_good_at, due_told, first_told, ended_of, success_of}
 use Rattle.pb_unit.specs.declared.plan.Planned.{Planned}
 
@@ -104,25 +105,30 @@ story_first tells child c at still aloft started = record {
     },
     λ place has. absurd (none_begun c.project place has),
   );
+  unrecorded = λ t. none_in_flight c.project at.world;
   quiet = λ t f r s reading keeps none numbered. refl;
   unnoted = λ place at. refl;
 }
 
 -- What stands.
 
+all_given : (b : Basis) (done : List (Option (List Directive))) (es : List (Event BadUnit)) → ((place : ℕ) (answer : Answer BadUnit) → slice_get (states_in b.project es) place ≡ Some (Answered answer) → HasGiven b es done place answer)
+    → AllTold b.project es 0 b.project.plan.planned (outcomes_in b) done (states_in b.project es)
+all_given b done es gave k answer at =
+    let g = gave k answer at in
+    record {
+      unit = g.unit;
+      there = g.there;
+      outcome = g.outcome;
+      is = g.is;
+      fault = g.fault;
+      lines = λ place same. let e : k ≡ place = omega (arith, same) in g.lines ∙ ap (λ n. unit_lines b.project g.unit (is_started es n) (messages_in g.outcome)) e;
+      noted = g.noted;
+    }
+
 module _ (b : Basis) (done : List (Option (List Directive))) (aloft : List Aloft) (next : Option ℕ) (es : List (Event BadUnit)) (w : World) (flying : List ChildInFlight) (still : ℕ → Type 0) (h : Happened b done aloft next es w flying still) where
   all_told : AllTold b.project es 0 b.project.plan.planned (outcomes_in b) done (states_in b.project es)
-  all_told k answer at =
-      let g = h.gave k answer at in
-      record {
-        unit = g.unit;
-        there = g.there;
-        outcome = g.outcome;
-        is = g.is;
-        fault = g.fault;
-        lines = λ place same. let e : k ≡ place = omega (arith, same) in g.lines ∙ ap (λ n. unit_lines b.project g.unit (is_started es n) (messages_in g.outcome)) e;
-        noted = g.noted;
-      }
+  all_told = all_given b done es h.gave
 
   pub stands : Stands b es w
   stands = record {
@@ -177,11 +183,19 @@ length_states needs [] = length-map needs (λ _. Untouched)
 length_states needs (Began u spawned ∷ es) = length_set (states_after needs es) u Begun ∙ length_states needs es
 length_states needs (Gave u answer ∷ es) = length_set (states_after needs es) u (Answered answer) ∙ length_states needs es
 
+-- whoever decides
+pub says_first_rows : SaysFirstRows
+says_first_rows b es done gave = (
+  due_told b.project es 0 b.project.plan.planned (outcomes_in b) done (states_in b.project es) (all_given b done es gave),
+  λ finished. (ended_of b.project es 0 b.project.plan.planned (outcomes_in b) done (states_in b.project es) (length_states (needs_of b.project) es ∙ length-map b.project.plan.planned (λ (u : Planned). u.needs)) finished (all_given b done es gave)).all,
+)
+
 -- The ends.
 
 module _ {S : Type 0} (tells : Bool) (child : Answers) (Turns : S → List ℕ → List ℕ → Step → S → Type 0) (first c d : UnitCrew) (from last : S) (at mid new : Moment) (still still' : ℕ → Type 0) (es : List (Event BadUnit))
     (said : first.done.items ≡ nothing_said first.project) (drained : Drained mid.counts new.counts) (landed : new.counts.starts.flying ≡ []) (heard : new.heard ≡ mid.heard) (same : d ≡ record c { aloft = d.aloft })
     (changes : (fw : World) (events : List (Event BadUnit)) → IsTrue tells → Changes c.project fw c.aloft.items events mid.world mid.counts.starts.flying → Changes c.project fw d.aloft.items events new.world new.counts.starts.flying)
+    (unrecorded : (fw : World) (events : List (Event BadUnit)) (place : ℕ) (u : Planned) → IsTrue tells → Changes c.project fw c.aloft.items events mid.world mid.counts.starts.flying → unit_at c.project place ≡ Some u → HasNoRecord c.project u mid.world → HasNoRecord c.project u new.world)
     (happened : (b : Basis) (events : List (Event BadUnit)) → IsTrue tells → b.project ≡ c.project → Happened b c.done.items c.aloft.items c.store.next events mid.world mid.counts.starts.flying still
     → Happened b d.done.items d.aloft.items d.store.next events new.world new.counts.starts.flying still')
     (begun : (b : Basis) (fault : BuildFault) (events before : List (Event BadUnit)) (reasons : Reasons) (fw : World) → IsTrue tells → b.project ≡ c.project → IsLawful (needs_of b.project) events → CameAfter b.project fault before events
@@ -218,6 +232,7 @@ module _ {S : Type 0} (tells : Bool) (child : Answers) (Turns : S → List ℕ �
     most = most ∙ ends.most;
     only = λ t. subst (λ (p : Project). OnlyOf p es at.world new.world) ends.project (changes at.world es t (ends.changes t)).only;
     unkept = λ t. subst (λ (p : Project). KeepsNoneOfBad p es new.world) ends.project (changes at.world es t (ends.changes t)).unkept;
+    dropped = λ t. subst (λ (p : Project). KeepsNoneInFlight p ends.before asked new.world) ends.project (λ place u there state apart started. unrecorded at.world es place u t (ends.changes t) there (ends.unrecorded t place u there state apart started));
     told = since_first (λ b. StandsCut b es ends.before at.world new.world) ends.setup ends.project (λ t f r sources reading keeps.
         let (h, began) = ends.happened t f r sources reading keeps in
         record {
@@ -239,6 +254,7 @@ module _ {S : Type 0} (tells : Bool) (child : Answers) (Turns : S → List ℕ �
     names = tt;
     most = s.goes.most;
     changes = s.changes;
+    unrecorded = s.unrecorded;
     happened = s.happened;
   }
 
@@ -292,7 +308,9 @@ module _ {S : Type 0} (tells : Bool) (child : Answers) (Turns : S → List ℕ �
       landed = landed;
       most = most ∙ story.goes.most;
       only = λ t. subst (λ (p : Project). OnlyOf p es at.world new.world) story.project (changes at.world es t (story.changes t)).only;
+      numbers = (c.store.next, story.numbers);
       unkept = λ t. subst (λ (p : Project). KeepsNoneOfBad p es new.world) story.project (changes at.world es t (story.changes t)).unkept;
+      dropped = λ t. subst (λ (p : Project). KeepsNoneInFlight p es None new.world) story.project (λ place u there state apart started. unrecorded at.world es place u t (story.changes t) there (story.unrecorded t place u there state apart started));
       told = since_first (λ b. StandsWhole b es d.reasons.items summary at.world new.world) story.setup story.project (λ t f r sources reading keeps.
           let (h, began) = story.happened t f r sources reading keeps in
           stands_whole (basis f r child c.setup c.project sources) d.done.items d.aloft.items d.store.next es new.world new.counts.starts.flying still' (happened (basis f r child c.setup c.project sources) es t refl h)
@@ -322,6 +340,7 @@ ends_before tells child Turns setup project next from at none = record {
   most = omega arith;
   only = λ t. record { variables = refl; files = λ q outside. refl };
   unkept = λ t. none_bad project at.world;
+  dropped = λ t. none_in_flight project at.world;
   told = λ t f r sources reading keeps. record {
     stands = stands (basis f r child setup project sources) (nothing_said project) [] next [] at.world [] (λ n. Unit {0}) record {
       keeps = keeps;

@@ -1,10 +1,12 @@
 -- What has happened, where the child of a unit in flight is dropped.
-use Rattle.std.proofs.Common.{◌≡◌, ◌≢◌, ◌∙◌, List, ℕ, Option, Some, None, refl, sym, ap, subst, slice_get}
+use Rattle.std.proofs.Common.{◌≡◌, ◌≢◌, ◌∙◌, inl, inr, List, ℕ, Option, Some, None, refl, sym, ap, subst, slice_get}
 use Rattle.std.specs.List.{remove}
+use Rattle.std.proofs.lemmas.Bool.{cases_eq}
 use Rattle.std.specs.Prelude.{IfSome}
 use Rattle.pb_directive.specs.declared.directive.Directive.{Directive}
 use Rattle.pb_flight.specs.declared.flight.State.{State}
 use Rattle.pb_flight.specs.Events.{Event, IsLawful}
+use Rattle.pb_flight.proofs.Lists.{injective}
 use Rattle.pb_place.specs.Children.{child_at}
 use Rattle.pb_place.specs.Counts.{Counts, counted_finish, landed}
 use Rattle.pb_place.specs.Paths.{is_at_or_below}
@@ -22,13 +24,13 @@ use Rattle.pb_run.specs.Halves.{Basis, Keeps, IsBegun, CanAnswer, BeginsApart, W
 use Rattle.pb_run.specs.Standing.{IsInOrder, records_folder}
 use Rattle.pb_run.specs.declared.begun.Begun.{Begun as unit_begun}
 use Rattle.pb_run.specs.declared.begun.Launched.{Launched}
-use Rattle.pb_run.proofs.Spawning.{out_within, widen}
+use Rattle.pb_run.proofs.Spawning.{launched_gone, out_within, widen}
 use Rattle.pb_run.proofs.Writes.{begun_writes}
 use Rattle.pb_soundness.specs.Apart.{is_of}
 use Rattle.pb_soundness.specs.Records.{out_of}
 use Rattle.pb_turns.specs.Crew.{needs_of, IsManned, IsOfPlan}
 use Rattle.pb_turns.specs.Rows.{Reasons}
-use Rattle.pb_turns.specs.Story.{states_in, AllBeganFor, Changes, FliesSo, Happened, CameAfter}
+use Rattle.pb_turns.specs.Story.{states_in, AllBeganFor, Changes, FliesIn, FliesSo, Happened, HasNoRecord, CameAfter}
 use Rattle.pb_turns.specs.declared.crew.Aloft.{Aloft}
 use Rattle.pb_turns.specs.declared.crew.UnitCrew.{UnitCrew}
 use Rattle.pb_turns.proofs.Answered as answered
@@ -36,6 +38,7 @@ use Rattle.pb_turns.proofs.Changing.{its_writes, changes_less}
 use Rattle.pb_turns.proofs.Lists.{all_get}
 use Rattle.pb_turns.proofs.Manning.{flying_of}
 use Rattle.pb_turns.proofs.Staying.{dropped_beside, none_dropped}
+use Rattle.pb_turns.proofs.Unkept.{none_still}
 use Rattle.pb_unit.specs.declared.plan.Planned.{Planned}
 use Rattle.std.proofs.Common.{Result, Ok, Err}
 
@@ -80,6 +83,22 @@ changes_dropped c counts manned first es w w' flying' index a at aloft' is old o
     changes_less c.project manned.order first c.aloft.items es w w' counts.starts.flying flying' old flies index a at of_plan.unit of_plan.there manned.units_apart manned.tickets_apart
     (widen (is_at_or_below (out_of (records_folder c.project) of_plan.unit.key)) (is_of (records_folder c.project) of_plan.unit.key) w w' (out_within (records_folder c.project) of_plan.unit.key)
     (subst (λ o. ChangesOnly (is_at_or_below o) w w') (manned.order.folders a.unit of_plan.unit of_plan.there) (only of_plan.unit.out writes))) stay aloft' is
+
+-- where a unit had no record it has none
+pub unrecorded_dropped : (c : UnitCrew) (counts : Counts) (manned : IsManned c counts) (first : World) (es : List (Event BadUnit)) (w w' : World) (index : ℕ) (a : Aloft) (at : slice_get c.aloft.items index ≡ Some a) (old : Changes c.project first c.aloft.items es w counts.starts.flying)
+    → ((out : List ℕ) → WritesTo out (child_of a.begun) counts.starts.flying → ChangesOnly (is_at_or_below out) w w') → (place : ℕ) (v : Planned) → unit_at c.project place ≡ Some v → HasNoRecord c.project v w → HasNoRecord c.project v w'
+unrecorded_dropped c counts manned first es w w' index a at old only place v there none =
+    let of_plan : IsOfPlan c.project a = all_get (IsOfPlan c.project) c.aloft.items index a manned.units at in
+    let so : FliesIn c.project es w counts.starts.flying a = all_get (FliesIn c.project es w counts.starts.flying) c.aloft.items index a old.flies at in
+    let inside : ChangesOnly (is_at_or_below of_plan.unit.out) w w' = only of_plan.unit.out (so.writes of_plan.unit of_plan.there) in
+    elim (cases_eq a.unit place) [
+      | inl same ↦ subst (λ (x : Planned). HasNoRecord c.project x w') (injective (sym of_plan.there ∙ ap (unit_at c.project) same ∙ there))
+          (λ read. launched_gone read (records_folder c.project) of_plan.unit.key of_plan.unit.out w w' (manned.order.keys a.unit of_plan.unit of_plan.there) (manned.order.folders a.unit of_plan.unit of_plan.there) inside
+          (subst (λ (x : Planned). HasNoRecord c.project x w) (sym (injective (sym of_plan.there ∙ ap (unit_at c.project) same ∙ there))) none read))
+      | inr ne ↦ none_still c.project manned.order es w w' a.unit of_plan.unit of_plan.there
+          (widen (is_at_or_below (out_of (records_folder c.project) of_plan.unit.key)) (is_of (records_folder c.project) of_plan.unit.key) w w' (out_within (records_folder c.project) of_plan.unit.key)
+          (subst (λ o. ChangesOnly (is_at_or_below o) w w') (manned.order.folders a.unit of_plan.unit of_plan.there) inside)) place v there (λ e. ne (sym e)) none
+    ]
 
 pub began_dropped : (b : Basis) (c : UnitCrew) (counts : Counts) (manned : IsManned c counts) (project : b.project ≡ c.project) (fault : BuildFault) (es before : List (Event BadUnit)) (reasons : Reasons) (first w w' : World) (still : ℕ → Type 0)
     (index : ℕ) (a : Aloft) (at : slice_get c.aloft.items index ≡ Some a) (lawful : IsLawful (needs_of b.project) es) (came : CameAfter b.project fault before es) (h : Happened b c.done.items c.aloft.items c.store.next es w counts.starts.flying still)

@@ -1,10 +1,12 @@
--- A bad unit's record is not kept, and nothing puts one there later.
-use Rattle.std.proofs.Common.{◌≡◌, ◌≢◌, ◌∙◌, inl, inr, Bool, true, List, [], ◌∷◌, ℕ, zero, suc, Some, IsSome, sym, ap, subst, map, slice_get}
+-- The record of a bad unit, and of one in flight, is not kept, and nothing puts one there later.
+use Rattle.std.proofs.Common.{◌≡◌, ◌≢◌, ◌∙◌, inl, inr, Bool, true, List, [], ◌∷◌, ℕ, zero, suc, Some, None, IsSome, refl, sym, ap, subst, map, slice_get}
+use Rattle.std.proofs.lemmas.Bool.{cases_eq, false≢true}
 use Rattle.pb_answer.specs.declared.bad_unit.BadUnit.{BadUnit}
 use Rattle.pb_flight.specs.declared.flight.Answer.{Answer}
+use Rattle.pb_flight.specs.declared.flight.State.{State}
 use Rattle.pb_flight.specs.declared.flight.State.TheVariants.{Untouched, Begun, Answered}
 use Rattle.pb_flight.specs.Events.{Event, Began, Gave}
-use Rattle.pb_flight.proofs.Lists.{injective, clash}
+use Rattle.pb_flight.proofs.Lists.{injective, clash, get_set_same, get_set_other}
 use Rattle.pb_place.specs.World.{World, ChangesOnly}
 use Rattle.pb_project.specs.Targets.{unit_at}
 use Rattle.pb_project.specs.declared.project.Project.{Project}
@@ -14,8 +16,8 @@ use Rattle.pb_soundness.specs.Records.{place_of}
 use Rattle.pb_soundness.proofs.Places.{record_same}
 use Rattle.pb_turns.specs.Crew.{needs_of}
 use Rattle.pb_turns.specs.Rows.{is_started}
-use Rattle.pb_turns.specs.Story.{states_in, HasNoRecord, KeepsNoneOfBad}
-use Rattle.pb_turns.proofs.Happening.{started_other}
+use Rattle.pb_turns.specs.Story.{states_in, HasNoRecord, KeepsNoneOfBad, KeepsNoneInFlight}
+use Rattle.pb_turns.proofs.Happening.{started_now, started_other}
 use Rattle.pb_turns.proofs.Reaching.{not_of_two}
 use Rattle.pb_turns.proofs.States.{answered_before, answered_cases}
 use Rattle.pb_turns.proofs.Staying.{place_its_own}
@@ -32,6 +34,9 @@ no_answer (n ∷ needs) (suc place) answer at = no_answer needs place answer at
 -- nothing has begun
 pub none_bad : (project : Project) (w : World) → KeepsNoneOfBad project [] w
 none_bad project w place u answer at state bad started = absurd (no_answer (needs_of project) place answer state)
+
+pub none_in_flight : (project : Project) (w : World) → KeepsNoneInFlight project [] None w
+none_in_flight project w place u at state apart started = absurd (false≢true started)
 
 module _ (project : Project) (order : IsInOrder project) (es : List (Event BadUnit)) (w w' : World) (unit : ℕ) (u : Planned) (there : unit_at project unit ≡ Some u) (only : ChangesOnly (is_of (records_folder project) u.key) w w') where
   -- another unit has no record, as before
@@ -62,3 +67,39 @@ module _ (project : Project) (order : IsInOrder project) (es : List (Event BadUn
           (own (subst (λ (a : Answer BadUnit). IsSome a.fault) (sym is) bad) (ap (is_started es) same ∙ started))
       | inr (ne, before) ↦ none_still place v at (λ e. ne (sym e)) (old place v answer at before bad started)
     ]
+
+  -- The same of one in flight.
+
+  module _ (old : KeepsNoneInFlight project es None w) where
+    -- one has begun, and has no record where a child was started for it
+    pub flight_begun : (spawned : Bool) → slice_get (states_in project es) unit ≡ Some Untouched → (spawned ≡ true → HasNoRecord project u w') → KeepsNoneInFlight project (Began unit spawned ∷ es) None w'
+    flight_begun spawned untouched own place v at state apart started = elim (cases_eq unit place) [
+      | inl same ↦
+          subst (λ (x : Planned). HasNoRecord project x w') (injective (sym there ∙ ap (unit_at project) same ∙ at))
+          (own (sym (started_now es unit spawned) ∙ ap (is_started (Began unit spawned ∷ es)) same ∙ started))
+      | inr ne ↦
+          none_still place v at (λ e. ne (sym e))
+          (old place v at (sym (get_set_other (states_in project es) unit place Begun ne) ∙ state) apart (sym (started_other es unit place spawned ne) ∙ started))
+    ]
+
+    -- one could not begin
+    pub flight_unbegun : slice_get (states_in project es) unit ≡ Some Untouched → KeepsNoneInFlight project es None w'
+    flight_unbegun untouched place v at state apart started =
+        none_still place v at (λ e. not_both Untouched refl (injective (sym untouched ∙ ap (slice_get (states_in project es)) (sym e) ∙ state))) (old place v at state apart started)
+      where
+        not_both : (s : State BadUnit) → s ≡ Untouched → s ≡ Begun → ⊥
+        not_both s is other = cc
+
+    -- the answer of one was taken, and it gave none
+    pub flight_asked : KeepsNoneInFlight project es (Some unit) w'
+    flight_asked place v at state apart started = none_still place v at (λ e. apart (ap Some (sym e))) (old place v at state (λ e. clash e) started)
+
+    -- it has answered
+    pub flight_given : (given : Answer BadUnit) → slice_get (states_in project es) unit ≡ Some Begun → KeepsNoneInFlight project (Gave unit given ∷ es) None w'
+    flight_given given begun place v at state apart started = elim (cases_eq unit place) [
+      | inl same ↦ absurd (not_both given (injective (sym (get_set_same (states_in project es) unit Begun (Answered given) begun) ∙ ap (slice_get (states_in project (Gave unit given ∷ es))) same ∙ state)))
+      | inr ne ↦ none_still place v at (λ e. ne (sym e)) (old place v at (sym (get_set_other (states_in project es) unit place (Answered given) ne) ∙ state) apart started)
+    ]
+      where
+        not_both : (a : Answer BadUnit) → Answered a ≡ Begun → ⊥
+        not_both a e = cc

@@ -25,7 +25,7 @@ use Rattle.pb_soundness.specs.Records.{Reading}
 use Rattle.pb_turns.specs.Crew.{needs_of, ticket_of_child}
 use Rattle.pb_turns.specs.Moments.{Moment}
 use Rattle.pb_turns.specs.Rows.{Reasons, Row, rows_of, said_from, started_keys, key_told, said_told, bad_told, differences_of, kept_of, summary_of}
-use Rattle.pb_turns.specs.Story.{states_in, untouched, upped, Stops, Spends, OnlyOf, AllBeganFor, HasGiven, CameAfter, NamesUnit, KeepsNoneOfBad}
+use Rattle.pb_turns.specs.Story.{states_in, untouched, upped, Stops, Spends, OnlyOf, AllBeganFor, HasGiven, CameAfter, NamesUnit, NumbersGiven, KeepsNoneOfBad, KeepsNoneInFlight}
 use Rattle.pb_unit.specs.declared.plan.Planned.{Planned}
 
 -- the children of these tickets were asked for their ends, in this order, their answers were dropped, and nothing else was called
@@ -72,7 +72,7 @@ pub record StandsCut (b : Basis) (es before : List (Event BadUnit)) (old new : W
   pub reasons : Reasons
   pub began : AllBeganFor b before reasons old new
 
--- the units came to their end; where it is a success each of them has answered and is good; the bad unit that is told is the first by the answers; nothing is noted of a unit that has not begun
+-- the units came to their end; where it is a success each of them has answered and is good; the bad unit that is told is the first by the answers; nothing is noted of a unit that has not begun; and no record is kept of a unit whose answer was dropped
 pub record EndsWhole {S : Type 0} (tells : Bool) (child : Answers) (Turns : S → List ℕ → List ℕ → Step → S → Type 0) (setup : Setup) (project : Project) (next : Option ℕ) (from last : S) (summary : Summary) (old new : Moment) : Type 0 where
   pub es : List (Event BadUnit)
   pub flies : Flies Turns (needs_of project) Anyhow Anything from es last
@@ -94,10 +94,12 @@ pub record EndsWhole {S : Type 0} (tells : Bool) (child : Answers) (Turns : S �
   pub landed : new.counts.starts.flying ≡ []
   pub most : new.most ≡ max old.most (peak es)
   pub only : IsTrue tells → OnlyOf project es old.world new.world
+  pub numbers : (after : Option ℕ) × NumbersGiven es next after
   pub unkept : IsTrue tells → KeepsNoneOfBad project es new.world
+  pub dropped : IsTrue tells → KeepsNoneInFlight project es None new.world
   pub told : IsTrue tells → Grounding child setup project next old.world (λ b. StandsWhole b es reasons summary old.world new.world)
 
--- a fault ended them: its cause, and what the sink had heard, are those of the moment before the children in flight were dropped; no more children flew at one time than by the events before it, and the turn was asked no more
+-- a fault ended them: its cause, and what the sink had heard, are those of the moment before the children in flight were dropped; no more children flew at one time than by the events before it, and the turn was asked no more; and no record is kept of a unit whose answer was dropped
 pub record EndsCut {S : Type 0} (tells : Bool) (child : Answers) (Turns : S → List ℕ → List ℕ → Step → S → Type 0) (setup : Setup) (project : Project) (next : Option ℕ) (from back : S) (fault : BuildFault) (old new : Moment) : Type 0 where
   pub es : List (Event BadUnit)
   pub last : S
@@ -116,6 +118,7 @@ pub record EndsCut {S : Type 0} (tells : Bool) (child : Answers) (Turns : S → 
   pub most : new.most ≡ max old.most (peak before)
   pub only : IsTrue tells → OnlyOf project es old.world new.world
   pub unkept : IsTrue tells → KeepsNoneOfBad project es new.world
+  pub dropped : IsTrue tells → KeepsNoneInFlight project before asked new.world
   pub told : IsTrue tells → Grounding child setup project next old.world (λ b. StandsCut b es before old.world new.world)
 
 -- how they end, by the answer

@@ -1,8 +1,12 @@
 -- Laws of units by turns.
-use Rattle.std.specs.Prelude.{◌≡◌, [], ℕ, true, List, Option, Some}
+use Rattle.std.specs.Prelude.{◌≡◌, [], ℕ, true, List, length, take, Option, Some, slice_get}
 use Rattle.pb_answer.specs.declared.summary.Summary.{Summary}
 use Rattle.pb_flight.specs.Events.{Event, IsLawful, started_by}
+use Rattle.pb_flight.specs.Table.{due, count_due, is_finished}
+use Rattle.pb_flight.specs.declared.flight.Answer.{Answer}
+use Rattle.pb_flight.specs.declared.flight.State.TheVariants.{Answered}
 use Rattle.pb_flight.specs.declared.turn.Step.{Step}
+use Rattle.pb_directive.specs.declared.directive.Directive.{Directive}
 use Rattle.pb_place.specs.World.{World, Answers}
 use Rattle.pb_project.specs.Targets.{unit_at}
 use Rattle.pb_answer.specs.declared.bad_unit.BadUnit.{BadUnit}
@@ -12,11 +16,16 @@ use Rattle.pb_record.specs.Parts.{IsReading}
 use Rattle.pb_run.specs.Halves.{Footing, OnRecords, Basis, basis, HasRecord, Keeps}
 use Rattle.pb_soundness.specs.Records.{Reading}
 use Rattle.pb_turns.specs.Crew.{needs_of}
-use Rattle.pb_turns.specs.Ends.{EndsWhole, nothing_said}
+use Rattle.pb_turns.specs.Ends.{EndsWhole, nothing_said, rows_in}
 use Rattle.pb_turns.specs.Moments.{Moment}
-use Rattle.pb_turns.specs.Rows.{Reasons}
-use Rattle.pb_turns.specs.Story.{AllBeganFor, untouched}
+use Rattle.pb_turns.specs.Rows.{Reasons, said_from}
+use Rattle.pb_turns.specs.Story.{AllBeganFor, HasGiven, states_in, untouched}
 use Rattle.pb_unit.specs.declared.plan.Planned.{Planned}
+
+-- in whatever order units begin and answer: where each that has answered gave its outcome from nothing, the lines that are due are those of the first rows, and once all have, up to and with the first bad one, those of all
+abbrev pub SaysFirstRows : Type 0
+SaysFirstRows = (b : Basis) (es : List (Event BadUnit)) (done : List (Option (List Directive))) → ((place : ℕ) (answer : Answer BadUnit) → slice_get (states_in b.project es) place ≡ Some (Answered answer) → HasGiven b es done place answer)
+    → (due (states_in b.project es) ≡ said_from b.project es 0 (take (count_due (states_in b.project es)) (rows_in b))) × (is_finished (states_in b.project es) ≡ true → count_due (states_in b.project es) ≡ length (rows_in b))
 
 -- each unit has its record, from which nothing differs
 abbrev pub EachHasRecord : Basis → World → Type 0

@@ -162,6 +162,10 @@ HasNoRecord project u w = (read : Reading) → record_at read (records_folder pr
 abbrev pub KeepsNoneOfBad : Project → List (Event BadUnit) → World → Type 0
 KeepsNoneOfBad project es w = (place : ℕ) (u : Planned) (answer : Answer BadUnit) → unit_at project place ≡ Some u → slice_get (states_in project es) place ≡ Some (Answered answer) → IsSome answer.fault → is_started es place ≡ true → HasNoRecord project u w
 
+-- nor has one in flight for which a child was started; of this one, whose answer was taken, that is not said
+abbrev pub KeepsNoneInFlight : Project → List (Event BadUnit) → Option ℕ → World → Type 0
+KeepsNoneInFlight project es asked w = (place : ℕ) (u : Planned) → unit_at project place ≡ Some u → slice_get (states_in project es) place ≡ Some Begun → asked ≢ Some place → is_started es place ≡ true → HasNoRecord project u w
+
 -- a unit in flight has begun, and its child, if it has one, writes into the unit's folder, and the unit has no record
 pub record FliesIn (project : Project) (es : List (Event BadUnit)) (world : World) (flying : List ChildInFlight) (a : Aloft) : Type 0 where
   pub state : slice_get (states_in project es) a.unit ≡ Some Begun
@@ -215,6 +219,7 @@ pub record Story (tells : Bool) (child : Answers) (first : UnitCrew) (at : Momen
   pub goes : Goes c.project at now c.started.items c.aloft.items es given
   pub numbers : NumbersGiven es first.store.next c.store.next
   pub changes : IsTrue tells → Changes c.project at.world c.aloft.items es now.world now.counts.starts.flying
+  pub unrecorded : IsTrue tells → KeepsNoneInFlight c.project es None now.world
   pub happened : IsTrue tells
       → FromFirst child first at c (λ b. Happened b c.done.items c.aloft.items c.store.next es now.world now.counts.starts.flying still × AllBeganFor b es c.reasons.items at.world now.world)
   pub quiet : IsTrue tells → FromFirst child first at c (λ b. IsQuiet b es at.world now.world)
@@ -250,5 +255,6 @@ pub record StoryEnds (tells : Bool) (child : Answers) (fault : BuildFault) (aske
   pub names : NamesUnit c.project fault asked before es
   pub most : now.most ≡ max at.most (peak before)
   pub changes : IsTrue tells → Changes c.project at.world c.aloft.items es now.world now.counts.starts.flying
+  pub unrecorded : IsTrue tells → KeepsNoneInFlight c.project before asked now.world
   pub happened : IsTrue tells
       → FromFirst child first at c (λ b. Happened b c.done.items c.aloft.items c.store.next es now.world now.counts.starts.flying still × AllBeganFor b before c.reasons.items at.world now.world)

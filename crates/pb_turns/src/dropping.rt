@@ -1,6 +1,6 @@
 //! Children in flight at the end of a build: each is asked for its end, and its answer is dropped.
 
-ghost use Rattle.std.specs.Prelude.{◌≡◌, ◌<◌, [], ℕ, List, length, IsTrue};
+ghost use Rattle.std.specs.Prelude.{◌≡◌, ◌<◌, [], ℕ, List, Some, length, IsTrue};
 ghost use Rattle.pb_flight.specs.Events.{Event, IsLawful};
 ghost use Rattle.pb_place.specs.Counts.{Counts};
 ghost use Rattle.pb_place.specs.World.{World};
@@ -10,7 +10,9 @@ ghost use Rattle.pb_run.specs.Halves.{Basis};
 ghost use Rattle.pb_turns.specs.Crew.{needs_of, tickets_of, IsManned};
 ghost use Rattle.pb_turns.specs.Ends.{Dropped, Drained};
 ghost use Rattle.pb_turns.specs.Rows.{Reasons};
-ghost use Rattle.pb_turns.specs.Story.{AllBeganFor, CameAfter, Changes, Happened};
+ghost use Rattle.pb_turns.specs.Story.{AllBeganFor, CameAfter, Changes, Happened, HasNoRecord};
+ghost use Rattle.pb_project.specs.Targets.{unit_at};
+ghost use Rattle.pb_unit.specs.declared.plan.Planned.{Planned};
 
 use crate::crew::UnitCrew;
 use pb_place::Place;
@@ -28,6 +30,8 @@ fn drop_first<P: Place>(alloc: Global, crew: &mut UnitCrew, place: &mut P)
     ensures dropped { (new : Counts) → Dropped (tickets_of crew.new.aloft.items) (P.counts place.new) new → Dropped (tickets_of crew.old.aloft.items) (P.counts place.old) new }
     ensures changes { (first : World) (es : List (Event BadUnit)) → IsTrue P.tells
         → Changes crew.old.project first crew.old.aloft.items es (P.world place.old) (P.counts place.old).starts.flying → Changes crew.old.project first crew.new.aloft.items es (P.world place.new) (P.counts place.new).starts.flying }
+    ensures unrecorded { (first : World) (es : List (Event BadUnit)) (index : ℕ) (unit : Planned) → IsTrue P.tells
+        → Changes crew.old.project first crew.old.aloft.items es (P.world place.old) (P.counts place.old).starts.flying → unit_at crew.old.project index ≡ Some unit → HasNoRecord crew.old.project unit (P.world place.old) → HasNoRecord crew.old.project unit (P.world place.new) }
     ensures happened { (b : Basis) (es : List (Event BadUnit)) → IsTrue P.tells → b.project ≡ crew.old.project
         → Happened b crew.old.done.items crew.old.aloft.items crew.old.store.next es (P.world place.old) (P.counts place.old).starts.flying (P.still place.old)
         → Happened b crew.new.done.items crew.new.aloft.items crew.new.store.next es (P.world place.new) (P.counts place.new).starts.flying (P.still place.new) }
@@ -48,6 +52,8 @@ pub(crate) fn drain<P: Place>(alloc: Global, crew: &mut UnitCrew, place: &mut P)
     ensures most { P.most place.new ≡ P.most place.old }
     ensures changes { (first : World) (es : List (Event BadUnit)) → IsTrue P.tells
         → Changes crew.old.project first crew.old.aloft.items es (P.world place.old) (P.counts place.old).starts.flying → Changes crew.old.project first crew.new.aloft.items es (P.world place.new) (P.counts place.new).starts.flying }
+    ensures unrecorded { (first : World) (es : List (Event BadUnit)) (index : ℕ) (unit : Planned) → IsTrue P.tells
+        → Changes crew.old.project first crew.old.aloft.items es (P.world place.old) (P.counts place.old).starts.flying → unit_at crew.old.project index ≡ Some unit → HasNoRecord crew.old.project unit (P.world place.old) → HasNoRecord crew.old.project unit (P.world place.new) }
     ensures happened { (b : Basis) (es : List (Event BadUnit)) → IsTrue P.tells → b.project ≡ crew.old.project
         → Happened b crew.old.done.items crew.old.aloft.items crew.old.store.next es (P.world place.old) (P.counts place.old).starts.flying (P.still place.old)
         → Happened b crew.new.done.items crew.new.aloft.items crew.new.store.next es (P.world place.new) (P.counts place.new).starts.flying (P.still place.new) }

@@ -1,8 +1,15 @@
 //! Laws of units by turns. Each function does nothing; its contract is the law.
 
-ghost use Rattle.pb_turns.specs.Laws.{StartsNothing, LeavesRecords, StartsNoneAgain};
+ghost use Rattle.pb_turns.specs.Laws.{SaysFirstRows, StartsNothing, LeavesRecords, StartsNoneAgain};
 
 use pb_flight::Turn;
+
+/// In whatever order units begin and answer, and whoever decides: where each that has answered gave its outcome from
+/// nothing, the lines that are due are those of the first rows of what a build from nothing says; and once all have, up
+/// to and with the first bad one, those of all.
+pub fn answers_say_rows()
+    ensures { SaysFirstRows }
+{}
 
 /// Where each unit has its record at first, from which nothing differs, no child is started, in whatever order the
 /// units begin and answer.

@@ -1,4 +1,4 @@
-use Rattle.std.proofs.Common.{[], ◌∷◌, ◌++◌, true, refl, sym, subst}
+use Rattle.std.proofs.Common.{[], ◌∷◌, ◌++◌, true, refl, sym, ap, subst}
 use Rattle.pb_place.specs.Memory.{Held, counts_in}
 use Rattle.pb_turns.specs.Moments.{moment}
 use Rattle.pb_build.specs.Environment.{environment_of}
@@ -21,6 +21,7 @@ returns-clause-taken g c =
       subst (λ (m : Held). SourcesStay (environment_of options before.world.variables).target before.world m.world) (sym c.fuse.ensures) c.built-result.ensures.kept,
       subst (λ (m : Held). Headline true g.C.Child.answers (ByPicked c.args.pick options) options c.built-result.result old (moment m.world (counts_in m) m.most taken faults)) (sym c.fuse.ensures) c.built-result.ensures.headline,
       c.in_ok-push.ensures.ok,
+      ap (λ (m : Held). m.fuse) c.fuse.ensures,
     )
 
 pub returns-in_err-push-clause-lost : goal.returns-in_err-push-clause-lost
@@ -33,6 +34,6 @@ returns-in_err-push-clause-lost g c =
     on_err c.from_residual.result (
       point c.fuse.new.self taken faults answers,
       subst (λ (m : Held). Carries g.C.Child.answers (Build options c.args.pick) before (point m taken faults answers)) (sym c.fuse.ensures)
-          (record { result = c.built-result.result }, c.built-result.ensures.picked, c.built-result.ensures.kept, c.built-result.ensures.headline, refl),
+          (record { result = c.built-result.result }, c.built-result.ensures.picked, c.built-result.ensures.kept, c.built-result.ensures.headline, refl, refl),
       refl,
     )

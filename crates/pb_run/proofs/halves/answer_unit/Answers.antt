@@ -1,4 +1,5 @@
 use Rattle.std.proofs.Common.{◌∙◌, ap, subst, sym}
+use Rattle.std.proofs.lemmas.Bool.{false≢true}
 use Rattle.pb_place.specs.Children.{child_at}
 use Rattle.pb_place.specs.Counts.{Starts}
 use Rattle.pb_place.specs.Paths.{is_at_or_below}
@@ -8,7 +9,8 @@ use Rattle.pb_run.specs.Halves.{WritesTo, basis, child_in, child_of}
 use Rattle.pb_run.specs.declared.begun.Awaited.{Awaited}
 use Rattle.pb_run.specs.declared.begun.Awaited.TheVariants as awaited
 use Rattle.pb_run.proofs.Kept.{flying_answer}
-use Rattle.pb_run.proofs.Reusing.{can_by_parts, flying_alone, no_child, none_awaited}
+use Rattle.pb_run.proofs.Causing.{land_spares}
+use Rattle.pb_run.proofs.Reusing.{awaited_numberless, can_by_parts, flying_alone, no_child, numbered_awaited}
 use Rattle.pb_run.proofs.Writes.{stays_apart}
 use Rattle.pb_run.proofs.halves.answer_unit.Goals as goal
 
@@ -73,7 +75,14 @@ returns-in-Ok-reuse-clause-unkept g c told writes bad =
     subst (ChangesOnly (is_at_or_below c.args.unit.now.out) (g.P.Place.world c.args.place.now)) (sym (c.in-Ok-reuse.ensures.unkept told bad)) (only_same (is_at_or_below c.args.unit.now.out) (g.P.Place.world c.args.place.now))
 
 pub returns-in-Ok-reuse-clause-untaken : goal.returns-in-Ok-reuse-clause-untaken
-returns-in-Ok-reuse-clause-untaken g c launched = none_awaited (child_of c.args.begun) _ (ap child_in c.in-Record.is) launched
+returns-in-Ok-reuse-clause-untaken g c none = c.in-Ok-reuse.ensures.untaken (numbered_awaited c.args.begun.awaited c.in-Record.again c.in-Record.is none)
 
 pub returns-clause-untaken : goal.returns-clause-untaken
-returns-clause-untaken g c launched = none_awaited (child_of c.args.begun) _ (ap child_in c.in-Record.is) launched
+returns-clause-untaken g c none = c.in-Err-reuse.ensures.untaken (numbered_awaited c.args.begun.awaited c.in-Record.again c.in-Record.is none)
+
+pub returns-in-Child-clause-spends : goal.returns-in-Child-clause-spends
+returns-in-Child-clause-spends g c spent =
+    absurd (false≢true (sym (land_spares c.args.store.now.next c.args.unit.now.key c.in-Child.launched _ (g.P.Place.counts c.args.place.now).starts (g.P.Place.counts c.land.new.place).starts c.in-Err.ensures.takes.0) ∙ spent))
+
+pub returns-clause-spends : goal.returns-clause-spends
+returns-clause-spends g c spent = awaited_numberless c.args.begun.awaited c.in-Record.again c.in-Record.is (c.in-Err-reuse.ensures.spends spent)

@@ -1,8 +1,12 @@
-use Rattle.std.proofs.Common.{◌∙◌, Bool, slice_set, sym, subst}
+use Rattle.std.proofs.Common.{◌≡◌, ◌∙◌, Bool, false, slice_set, sym, subst}
 use Rattle.pb_flight.specs.declared.flight.State.TheVariants as state
 use Rattle.pb_run.specs.Causes.{RunsBy}
 use Rattle.pb_run.specs.Halves.{basis, child_of}
-use Rattle.pb_run.proofs.InTurn.{answer_tells, both_run, both_take, can_answer, keeps_once, lifted_flies, number_kept}
+use Rattle.pb_place.specs.World.{World}
+use Rattle.pb_soundness.specs.Records.{record_at}
+use Rattle.pb_store.specs.Migrating.{lacks_number}
+use Rattle.pb_run.proofs.Reusing.{child_numbered}
+use Rattle.pb_run.proofs.InTurn.{no_difference, answer_tells, both_run, both_take, can_answer, keeps_once, lifted_flies, number_kept}
 use Rattle.pb_run.proofs.Spawning.{launched_gone}
 use Rattle.pb_run.specs.Standing.{records_folder}
 use Rattle.pb_run.proofs.halves.run_unit.Goals as goal
@@ -52,8 +56,14 @@ returns-in-Ok-answer_unit-clause-unrecorded g c read told differs bad =
 
 pub returns-in-Ok-answer_unit-clause-next : goal.returns-in-Ok-answer_unit-clause-next
 returns-in-Ok-answer_unit-clause-next g c =
-    both_take c.args.store.now.next c.begin_unit.new.store.next c.answer_unit.new.store.next (child_of c.in-Ok.made.begun) _ c.in-Ok.ensures.number c.begin_unit.ensures.next c.answer_unit.ensures.next c.answer_unit.ensures.untaken
+    both_take c.args.store.now.next c.begin_unit.new.store.next c.answer_unit.new.store.next (child_of c.in-Ok.made.begun) _ c.in-Ok.ensures.number c.begin_unit.ensures.next c.answer_unit.ensures.next (λ some. c.answer_unit.ensures.untaken (child_numbered c.in-Ok.made.begun some))
 
 pub returns-in-Err-answer_unit-clause-next : goal.returns-in-Err-answer_unit-clause-next
 returns-in-Err-answer_unit-clause-next g c =
-    both_take c.args.store.now.next c.begin_unit.new.store.next c.answer_unit.new.store.next (child_of c.in-Ok.made.begun) _ c.in-Ok.ensures.number c.begin_unit.ensures.next c.answer_unit.ensures.next c.answer_unit.ensures.untaken
+    both_take c.args.store.now.next c.begin_unit.new.store.next c.answer_unit.new.store.next (child_of c.in-Ok.made.begun) _ c.in-Ok.ensures.number c.begin_unit.ensures.next c.answer_unit.ensures.next (λ some. c.answer_unit.ensures.untaken (child_numbered c.in-Ok.made.begun some))
+
+pub returns-in-Ok-answer_unit-clause-same : goal.returns-in-Ok-answer_unit-clause-same
+returns-in-Ok-answer_unit-clause-same g c read is told none has =
+    let alone = no_difference (child_of c.in-Ok.made.begun) c.in-Ok.made.difference c.in-Ok.ensures.spawned none in
+    let still = c.in-Ok.ensures.same told alone in
+    c.answer_unit.ensures.same read is told alone (subst (λ (w : World). lacks_number (record_at read (records_folder c.args.project.now) w.files c.args.unit.now.key) ≡ false) (sym still) has) ∙ still

@@ -4,6 +4,7 @@ use Rattle.pb_command.specs.Judge.{judge}
 use Rattle.pb_place.specs.Counts.{Starts}
 use Rattle.pb_run.specs.Halves.{basis}
 use Rattle.pb_run.specs.Standing.{records_folder}
+use Rattle.pb_run.proofs.Causing.{follow_spares}
 use Rattle.pb_run.proofs.Reusing.{flying_alone, flying_follow, keeps_bad_again, keeps_numbered, keeps_renewed, keeps_unrenewed, keys_needed, others_renewed, others_unchanged, renewed_outcome, renewed_so, renewing_so, replay_outcome, reused_only, reused_same, reused_still}
 use Rattle.pb_run.proofs.landing.reuse.Goals as goal
 
@@ -131,3 +132,16 @@ returns-then-again-clause-unkept g c told bad = absurd (false≢true (sym (sym c
 
 pub returns-in-Ok-migrate-clause-unkept : goal.returns-in-Ok-migrate-clause-unkept
 returns-in-Ok-migrate-clause-unkept g c told bad = absurd (false≢true (sym (sym c.is_some.ensures ∙ c.if-is_some.false) ∙ bad))
+
+pub returns-in-Ok-migrate-clause-untaken : goal.returns-in-Ok-migrate-clause-untaken
+returns-in-Ok-migrate-clause-untaken g c numbered = absurd (false≢true (sym c.if-again.false ∙ numbered))
+
+pub returns-clause-untaken : goal.returns-clause-untaken
+returns-clause-untaken g c numbered = absurd (false≢true (sym c.if-again.false ∙ numbered))
+
+pub returns-in-Err-clause-spends : goal.returns-in-Err-clause-spends
+returns-in-Err-clause-spends g c spent =
+    absurd (false≢true (sym (follow_spares c.args.unit.now.key _ (g.P.Place.counts c.args.place.now).starts (g.P.Place.counts c.judged_now.new.place).starts c.in-Err.ensures.takes.0) ∙ spent))
+
+pub returns-clause-spends : goal.returns-clause-spends
+returns-clause-spends g c spent = c.if-again.false

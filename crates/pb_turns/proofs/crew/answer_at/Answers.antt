@@ -11,11 +11,12 @@ use Rattle.pb_place.specs.World.{ChangesOnly}
 use Rattle.pb_run.specs.Halves.{child_of}
 use Rattle.pb_run.specs.Standing.{IsCommandOf, records_folder}
 use Rattle.pb_run.specs.Telling.{unit_lines}
+use Rattle.pb_run.proofs.Reusing.{child_numbered}
 use Rattle.pb_run.proofs.Spawning.{launched_gone}
 use Rattle.pb_soundness.specs.Apart.{is_of}
 use Rattle.pb_turns.specs.Crew.{IsOfPlan, place_of_unit, places_of, needs_of}
 use Rattle.pb_turns.specs.Moments.{moment}
-use Rattle.pb_turns.specs.Story.{NamesUnit, NoneWritesTo, Story, states_in}
+use Rattle.pb_turns.specs.Story.{KeepsNoneInFlight, NamesUnit, NoneWritesTo, Story, states_in}
 use Rattle.pb_turns.proofs.Alone.{apart_removed, none_writes}
 use Rattle.pb_turns.proofs.Answering.{failed_happened, untold_happened, answered_happened}
 use Rattle.pb_turns.proofs.Beginning.{goes_lists}
@@ -27,6 +28,7 @@ use Rattle.pb_turns.proofs.Numbering.{has_child, started_flies, numbers_answered
 use Rattle.pb_turns.proofs.Quiet.{answered_quiet}
 use Rattle.pb_turns.proofs.Reaching.{there_of}
 use Rattle.pb_turns.proofs.Unbegun.{notes_answered}
+use Rattle.pb_turns.proofs.Unkept.{flight_asked, flight_given}
 use Rattle.pb_turns.proofs.crew.answer_at.Goals as goal
 
 pub answer_unit-requires-clause-asks : goal.answer_unit-requires-clause-asks
@@ -118,6 +120,8 @@ returns-in-Err-clause-story g c = λ first at taken faults es given unit s flyin
       changes = λ t. changes_less c.args.crew.now.project c.requires.manned.order at.world c.args.crew.now.aloft.items es now.world new.world now.counts.starts.flying new.counts.starts.flying (s.changes t) (λ j y at_j. flying_of c.args.crew.now now.counts j y c.requires.manned at_j)
           c.args.index c.remove-unit.result at_index c.index-as_slice-unit.result there c.requires.manned.units_apart c.requires.manned.tickets_apart
           (only t) c.answer_unit.ensures.stay c.remove-unit.new.self.items c.remove-unit.ensures.items;
+      unrecorded = λ t. subst (λ n. KeepsNoneInFlight c.args.crew.now.project es (Some n) new.world) (sym its)
+          (flight_asked c.args.crew.now.project c.requires.manned.order es now.world new.world c.remove-unit.result.unit c.index-as_slice-unit.result there (only t) (s.unrecorded t));
       happened = failed_happened g.P.Place.tells g.P.Place.child first c.args.crew.now at now new (g.P.Place.still c.args.place.now) (g.P.Place.still c.answer_unit.new.place) es given c.args.index c.remove-unit.result c.index-as_slice-unit.result there s at_index
           c.requires.manned.units_apart c.requires.manned.tickets_apart c.requires.manned.numbers_apart c.answer_unit.new.store.next c.answer_unit.ensures.others c.requires.manned.order only c.answer_unit.ensures.same
           c.remove-unit.new.self.items c.remove-unit.ensures.items c.in-Err.ensures.keeps;
@@ -148,6 +152,8 @@ returns-in-Err-lines_of_unit-clause-story g c = λ first at taken faults es give
       changes = λ t. changes_less c.args.crew.now.project c.requires.manned.order at.world c.args.crew.now.aloft.items es now.world new.world now.counts.starts.flying new.counts.starts.flying (s.changes t) (λ j y at_j. flying_of c.args.crew.now now.counts j y c.requires.manned at_j)
           c.args.index c.remove-unit.result at_index c.index-as_slice-unit.result there c.requires.manned.units_apart c.requires.manned.tickets_apart
           (only t) c.answer_unit.ensures.stay c.remove-unit.new.self.items c.remove-unit.ensures.items;
+      unrecorded = λ t. subst (λ n. KeepsNoneInFlight c.args.crew.now.project es (Some n) new.world) (sym its)
+          (flight_asked c.args.crew.now.project c.requires.manned.order es now.world new.world c.remove-unit.result.unit c.index-as_slice-unit.result there (only t) (s.unrecorded t));
       happened = untold_happened g.P.Place.tells g.P.Place.child first c.args.crew.now at now new (g.P.Place.still c.args.place.now) (g.P.Place.still c.answer_unit.new.place) es given c.args.index c.remove-unit.result c.index-as_slice-unit.result there s at_index
           c.requires.manned.units_apart c.requires.manned.tickets_apart c.requires.manned.numbers_apart c.answer_unit.new.store.next c.answer_unit.ensures.others c.requires.manned.order only c.answer_unit.ensures.same
           c.in-Ok.ran c.in-Ok.ensures.outcome c.in-Ok.ensures.keeps c.in-Ok.ensures.directives c.remove-unit.new.self.items c.remove-unit.ensures.items;
@@ -176,8 +182,8 @@ returns-clause-story g c = λ first at taken faults es given unit s flying lawfu
           (goes_answered c.args.crew.now.project at now new c.args.crew.now.started.items c.args.crew.now.aloft.items es given s.goes is_given c.args.index c.remove-unit.result at_index begun refl c.requires.manned.units_apart answer
           c.in-Ok.ensures.takes.0 c.in-Ok.ensures.takes.1 c.answer_unit.ensures.most);
       numbers = numbers_answered es first.store.next c.args.crew.now.store.next c.answer_unit.new.store.next c.remove-unit.result.unit answer c.answer_unit.ensures.next
-          (λ started. c.answer_unit.ensures.untaken (has_child c.args.crew.now.aloft.items c.args.index c.remove-unit.result c.requires.manned.units_apart at_index
-          (subst (λ (l : List ℕ). Contains l c.remove-unit.result.unit) (sym s.goes.launched_are) (started_flies (needs_of c.args.crew.now.project) es c.remove-unit.result.unit lawful begun started)))) s.numbers;
+          (λ started. c.answer_unit.ensures.untaken (child_numbered c.remove-unit.result.begun (has_child c.args.crew.now.aloft.items c.args.index c.remove-unit.result c.requires.manned.units_apart at_index
+          (subst (λ (l : List ℕ). Contains l c.remove-unit.result.unit) (sym s.goes.launched_are) (started_flies (needs_of c.args.crew.now.project) es c.remove-unit.result.unit lawful begun started))))) s.numbers;
       changes = λ t. changes_after c.args.crew.now.project c.requires.manned.order at.world c.args.crew.now.aloft.items es now.world new.world now.counts.starts.flying new.counts.starts.flying (s.changes t) (λ j y at_j. flying_of c.args.crew.now now.counts j y c.requires.manned at_j)
           c.args.index c.remove-unit.result at_index c.index-as_slice-unit.result there c.requires.manned.units_apart c.requires.manned.tickets_apart
           (only t) c.answer_unit.ensures.stay c.remove-unit.new.self.items c.remove-unit.ensures.items answer
@@ -185,6 +191,7 @@ returns-clause-story g c = λ first at taken faults es given unit s flying lawfu
           (c.requires.manned.order.keys c.remove-unit.result.unit c.index-as_slice-unit.result there) (c.requires.manned.order.folders c.remove-unit.result.unit c.index-as_slice-unit.result there)
           (c.in-Ok.ensures.unkept t (its_writes c.args.crew.now.project c.requires.manned.order at.world c.args.crew.now.aloft.items es now.world new.world now.counts.starts.flying new.counts.starts.flying (s.changes t) (λ j y at_j. flying_of c.args.crew.now now.counts j y c.requires.manned at_j)
           c.args.index c.remove-unit.result at_index c.index-as_slice-unit.result there) bad) (none read));
+      unrecorded = λ t. flight_given c.args.crew.now.project c.requires.manned.order es now.world new.world c.remove-unit.result.unit c.index-as_slice-unit.result there (only t) (s.unrecorded t) answer begun;
       happened = answered_happened g.P.Place.tells g.P.Place.child first c.args.crew.now at now new (g.P.Place.still c.args.place.now) (g.P.Place.still c.answer_unit.new.place) es given c.args.index c.remove-unit.result c.index-as_slice-unit.result there s at_index
           c.requires.manned.units_apart c.requires.manned.tickets_apart c.requires.manned.numbers_apart c.answer_unit.new.store.next c.answer_unit.ensures.others c.requires.manned.order only c.answer_unit.ensures.same
           c.in-Ok.ran c.in-Ok.ensures.outcome c.in-Ok.ensures.keeps c.in-Ok.ensures.directives c.in-Ok-lines_of_unit.lines c.remove-unit.new.self.items c.note_answer.new.done.items c.remove-unit.ensures.items c.note_answer.ensures.done

@@ -16,6 +16,7 @@ use Rattle.pb_turns.proofs.Numbering.{numbers_begun}
 use Rattle.pb_turns.proofs.Quiet.{begun_quiet}
 use Rattle.pb_turns.proofs.Reaching.{there_at, there_some, within_reasons}
 use Rattle.pb_turns.proofs.Unbegun.{notes_begun}
+use Rattle.pb_turns.proofs.Unkept.{flight_begun, flight_unbegun}
 use Rattle.pb_turns.proofs.crew.begin_at.Goals as goal
 
 pub begin_unit-requires-clause-unit : goal.begin_unit-requires-clause-unit
@@ -53,6 +54,7 @@ returns-in-Err-clause-story g c = λ first at taken faults es given s flying law
         most = s.goes.most;
         changes = λ t. changes_begun c.args.crew.now.project c.requires.manned.order at.world c.args.crew.now.aloft.items es now.world now.world now.counts.starts.flying now.counts.starts.flying (s.changes t) (λ index a at. flying_of c.args.crew.now (g.P.Place.counts c.args.place.now) index a c.requires.manned at)
             c.args.unit u there may.untouched (only_same _ now.world) (λ ticket its is. is) false c.make_room.new.aloft.items c.make_room.ensures.aloft;
+        unrecorded = s.unrecorded;
         happened = refused_happened g.P.Place.tells g.P.Place.child first c.args.crew.now at now now (g.P.Place.still c.args.place.now) (g.P.Place.still c.args.place.now) es given c.args.unit u c.requires.manned.order there s may c.make_room.new.aloft.items c.make_room.ensures.aloft;
       },
     )
@@ -84,6 +86,7 @@ returns-in-Err-begin_unit-clause-story g c = λ first at taken faults es given s
         changes = λ t. changes_begun c.args.crew.now.project c.requires.manned.order at.world c.args.crew.now.aloft.items es (g.P.Place.world c.args.place.now) (g.P.Place.world c.begin_unit.new.place) (g.P.Place.counts c.args.place.now).starts.flying (g.P.Place.counts c.begin_unit.new.place).starts.flying
             (s.changes t) (λ index a at. flying_of c.args.crew.now (g.P.Place.counts c.args.place.now) index a c.requires.manned at)
             c.args.unit c.index-as_slice-unit.result there may.untouched (c.begin_unit.ensures.only t) c.begin_unit.ensures.stay spawned c.make_room.new.aloft.items c.make_room.ensures.aloft;
+        unrecorded = λ t. flight_unbegun c.args.crew.now.project c.requires.manned.order es (g.P.Place.world c.args.place.now) (g.P.Place.world c.begin_unit.new.place) c.args.unit c.index-as_slice-unit.result there (c.begin_unit.ensures.only t) (s.unrecorded t) may.untouched;
         happened = failed_happened g.P.Place.tells g.P.Place.child first c.args.crew.now at (moment (g.P.Place.world c.args.place.now) (g.P.Place.counts c.args.place.now) (g.P.Place.most c.args.place.now) taken faults)
             (moment (g.P.Place.world c.begin_unit.new.place) (g.P.Place.counts c.begin_unit.new.place) (g.P.Place.most c.begin_unit.new.place) taken faults) (g.P.Place.still c.args.place.now) (g.P.Place.still c.begin_unit.new.place)
             es given c.args.unit c.index-as_slice-unit.result c.requires.manned.order there s may c.begin_unit.new.store.next c.as_slice-2.result.now c.as_slice-2.ensures.value
@@ -110,6 +113,8 @@ returns-clause-story g c = λ first at taken faults es given s flying lawful is_
       changes = λ t. changes_more c.args.crew.now.project c.requires.manned.order at.world c.args.crew.now.aloft.items es now.world new.world now.counts.starts.flying new.counts.starts.flying (s.changes t) (λ index a at. flying_of c.args.crew.now (g.P.Place.counts c.args.place.now) index a c.requires.manned at)
           c.args.unit c.index-as_slice-unit.result there may.untouched (c.begin_unit.ensures.only t) c.begin_unit.ensures.stay (is_some (child_of c.in-Ok-begin_unit.made.begun))
           record { unit = c.args.unit; begun = c.in-Ok-begin_unit.made.begun } c.note_begun.new.aloft.items refl more (c.in-Ok-begin_unit.ensures.writes t) refl (λ launched read. c.in-Ok-begin_unit.ensures.dropped read t launched);
+      unrecorded = λ t. flight_begun c.args.crew.now.project c.requires.manned.order es now.world new.world c.args.unit c.index-as_slice-unit.result there (c.begin_unit.ensures.only t) (s.unrecorded t) (is_some (child_of c.in-Ok-begin_unit.made.begun)) may.untouched
+          (λ launched read. c.in-Ok-begin_unit.ensures.dropped read t launched);
       happened = begun_happened g.P.Place.tells g.P.Place.child first c.args.crew.now at now new (g.P.Place.still c.args.place.now) (g.P.Place.still c.begin_unit.new.place)
           es given c.args.unit c.index-as_slice-unit.result c.requires.manned.order there s may c.begin_unit.new.store.next c.as_slice-2.result.now c.as_slice-2.ensures.value
           c.begin_unit.ensures.keeps c.begin_unit.ensures.others c.begin_unit.ensures.only c.in-Ok-begin_unit.made.begun c.note_begun.new.aloft.items c.in-Ok-begin_unit.made.difference c.note_begun.new.reasons.items more c.in-Ok-begin_unit.ensures.begun c.in-Ok-begin_unit.ensures.differs

@@ -1,6 +1,7 @@
-use Rattle.std.proofs.Common.{◌∙◌, sym, ap, subst}
+use Rattle.std.proofs.Common.{◌≡◌, ◌∙◌, Some, sym, ap, subst}
 use Rattle.pb_project.specs.declared.project.Project.{Project}
-use Rattle.pb_turns.specs.Story.{Changes}
+use Rattle.pb_project.specs.Targets.{unit_at}
+use Rattle.pb_turns.specs.Story.{Changes, HasNoRecord}
 use Rattle.pb_turns.specs.declared.crew.UnitCrew.{UnitCrew}
 use Rattle.pb_turns.proofs.dropping.drain.Goals as goal
 
@@ -14,6 +15,13 @@ loop-alloc-preserved g c = record {
       subst (λ (p : Project). Changes p first c.drop_first.new.crew.aloft.items es (g.P.Place.world c.drop_first.new.place) (g.P.Place.counts c.drop_first.new.place).starts.flying) (ap (λ (x : UnitCrew). x.project) c.loop-alloc.invariant.same)
       (c.drop_first.ensures.changes first es tells (subst (λ (p : Project). Changes p first c.loop-alloc.crew.aloft.items es (g.P.Place.world c.loop-alloc.place) (g.P.Place.counts c.loop-alloc.place).starts.flying)
       (sym (ap (λ (x : UnitCrew). x.project) c.loop-alloc.invariant.same)) (c.loop-alloc.invariant.changes first es tells old)));
+  unrecorded = λ first es index unit tells old there none.
+      let same = ap (λ (x : UnitCrew). x.project) c.loop-alloc.invariant.same in
+      subst (λ (p : Project). HasNoRecord p unit (g.P.Place.world c.drop_first.new.place)) same
+      (c.drop_first.ensures.unrecorded first es index unit tells
+      (subst (λ (p : Project). Changes p first c.loop-alloc.crew.aloft.items es (g.P.Place.world c.loop-alloc.place) (g.P.Place.counts c.loop-alloc.place).starts.flying) (sym same) (c.loop-alloc.invariant.changes first es tells old))
+      (subst (λ (p : Project). unit_at p index ≡ Some unit) (sym same) there)
+      (subst (λ (p : Project). HasNoRecord p unit (g.P.Place.world c.loop-alloc.place)) (sym same) (c.loop-alloc.invariant.unrecorded first es index unit tells old there none)));
   happened = λ b es tells project h.
       c.drop_first.ensures.happened b es tells (project ∙ sym (ap (λ (x : UnitCrew). x.project) c.loop-alloc.invariant.same)) (c.loop-alloc.invariant.happened b es tells project h);
   began = λ b fault es before reasons first tells project lawful came h began.

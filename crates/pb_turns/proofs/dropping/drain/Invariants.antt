@@ -1,4 +1,4 @@
-use Rattle.std.proofs.Common.{◌≡◌, List, IsTrue, length}
+use Rattle.std.proofs.Common.{◌≡◌, ℕ, List, Some, IsTrue, length}
 use Rattle.pb_flight.specs.Events.{Event, IsLawful}
 use Rattle.pb_place.specs.Counts.{Counts}
 use Rattle.pb_place.specs.World.{World}
@@ -8,7 +8,9 @@ use Rattle.pb_run.specs.Halves.{Basis}
 use Rattle.pb_turns.specs.Crew.{needs_of, tickets_of, IsManned}
 use Rattle.pb_turns.specs.Ends.{Dropped}
 use Rattle.pb_turns.specs.Rows.{Reasons}
-use Rattle.pb_turns.specs.Story.{AllBeganFor, Changes, Happened, CameAfter}
+use Rattle.pb_project.specs.Targets.{unit_at}
+use Rattle.pb_turns.specs.Story.{AllBeganFor, Changes, Happened, HasNoRecord, CameAfter}
+use Rattle.pb_unit.specs.declared.plan.Planned.{Planned}
 use Rattle.pb_turns.proofs.dropping.drain.Given as goal
 
 abbrev pub invariant-loop-alloc : goal.invariant-loop-alloc
@@ -19,6 +21,8 @@ invariant-loop-alloc g l = record {
   dropped : (new : Counts) → Dropped (tickets_of l.crew.aloft.items) (g.P.Place.counts l.place) new → Dropped (tickets_of l.fn.crew.aloft.items) (g.P.Place.counts l.fn.place) new;
   changes : (first : World) (es : List (Event BadUnit)) → IsTrue g.P.Place.tells
       → Changes l.fn.crew.project first l.fn.crew.aloft.items es (g.P.Place.world l.fn.place) (g.P.Place.counts l.fn.place).starts.flying → Changes l.fn.crew.project first l.crew.aloft.items es (g.P.Place.world l.place) (g.P.Place.counts l.place).starts.flying;
+  unrecorded : (first : World) (es : List (Event BadUnit)) (index : ℕ) (unit : Planned) → IsTrue g.P.Place.tells
+      → Changes l.fn.crew.project first l.fn.crew.aloft.items es (g.P.Place.world l.fn.place) (g.P.Place.counts l.fn.place).starts.flying → unit_at l.fn.crew.project index ≡ Some unit → HasNoRecord l.fn.crew.project unit (g.P.Place.world l.fn.place) → HasNoRecord l.fn.crew.project unit (g.P.Place.world l.place);
   happened : (b : Basis) (es : List (Event BadUnit)) → IsTrue g.P.Place.tells → b.project ≡ l.fn.crew.project
       → Happened b l.fn.crew.done.items l.fn.crew.aloft.items l.fn.crew.store.next es (g.P.Place.world l.fn.place) (g.P.Place.counts l.fn.place).starts.flying (g.P.Place.still l.fn.place)
       → Happened b l.crew.done.items l.crew.aloft.items l.crew.store.next es (g.P.Place.world l.place) (g.P.Place.counts l.place).starts.flying (g.P.Place.still l.place);

@@ -13,5 +13,6 @@ returns g c = λ first first_place last_place first_out last_out es given s. rec
   names = tt;
   most = s.goes.most;
   changes = s.changes;
+  unrecorded = s.unrecorded;
   happened = s.happened;
 }

@@ -10,6 +10,7 @@ returns-then-write_all-clause-story g c = λ first first_place first_out es give
   goes = goes_told _ _ _ _ _ _ _ _ s.goes refl refl (subst (Appends (g.O.Out.taken c.args.out.now) (g.O.Out.taken c.write_all.new.out)) lines (c.write_all.ensures.all c.if-write_all.true)) (c.write_all.ensures.whole c.if-write_all.true);
   numbers = s.numbers;
   changes = s.changes;
+  unrecorded = s.unrecorded;
   happened = s.happened;
   quiet = s.quiet;
   unnoted = s.unnoted;
@@ -28,5 +29,6 @@ returns-else-write_all-clause-story g c = λ first first_place first_out es give
       names = tt;
       most = s.goes.most;
       changes = s.changes;
+      unrecorded = s.unrecorded;
       happened = s.happened;
     }
