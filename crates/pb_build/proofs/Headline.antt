@@ -37,7 +37,7 @@ use Rattle.pb_turns.specs.Crew.{needs_of, ticket_of_child}
 use Rattle.pb_turns.specs.Ends.{TurnsEnd, Drained, StandsWhole, StandsCut, Stands, nothing_said, rows_in}
 use Rattle.pb_turns.specs.Moments.{Heard, Moment}
 use Rattle.pb_turns.specs.Rows.{Row, to_first_bad, is_bad, fault_in, said_from}
-use Rattle.pb_turns.specs.Story.{states_in, untouched, upped, Stops, StopsAt, AllBeganFor, NumbersGiven, Spends}
+use Rattle.pb_turns.specs.Story.{states_in, untouched, upped, Stops, StopsAt, AllBeganFor, LacksNoNumber, NumbersGiven, Spends}
 use Rattle.pb_turns.proofs.Repeating.{dropped_count}
 use Rattle.pb_unit.specs.declared.plan.Planned.{Planned}
 use Rattle.pb_workspace.proofs.Accepted.{target_kept}
@@ -218,14 +218,20 @@ module _ (footing : Footing) (read : Reading) (reading : IsReading read) (child 
         lines_before Sink stops = let ((n, taken), faults) = stops.by in (n, first_lines (take n (due (states_in project es))) _ (ap (take n) stands.lines) taken)
         lines_before OutOfMemory stops = let ((n, taken), faults) = stops.by in (n, first_lines (due_first n (states_in project es)) _ (stands.first_lines n) taken)
 
+      next_is : next ≡ next_in read (records_of options old.world.variables) old.world
+      next_is = is_next ∙ ap (λ (f : List ℕ). next_in read f old.world) (same_folder options old.world project is)
+
       turns_give : (result : Result Summary BuildFault) → TurnsEnd true child Turns setup project next from last result mid new
           → GivesUnits footing read child (ByTurns Turns from) options result old new × LeavesRecords footing read child options old.world new.world
       turns_give (Ok summary) ends =
-          let whole : StandsWhole b ends.es ends.reasons summary mid.world new.world = ends.told refl footing read sources reading (kept_first footing rests) in (
+          let whole : StandsWhole b next ends.es ends.reasons summary mid.world new.world = ends.told refl footing read sources reading (kept_first footing rests) in (
             record {
               flown = record { units = units; es = ends.es; flies = (last, ends.flies); starts = counted ends.es ends.mid ends.starts ends.drained; reasons = ends.reasons };
               finished = ends.finished;
-              numbers = (ends.numbers.0, subst (λ (n : Option ℕ). NumbersGiven ends.es n ends.numbers.0) (is_next ∙ ap (λ (f : List ℕ). next_in read f old.world) (same_folder options old.world project is)) ends.numbers.1);
+              numbers = (
+                whole.numbers.0,
+                subst (λ (n : Option ℕ). NumbersGiven (LacksNoNumber b old.world) ends.es n whole.numbers.0) next_is (subst (λ (w : World). NumbersGiven (LacksNoNumber b w) ends.es next whole.numbers.0) stays whole.numbers.1),
+              );
               unnoted = ends.unnoted;
               answer = whole.answer;
               lines = since ends.es (due (states_in project ends.es)) _ (all_lines ends.es whole.stands whole.all) ends.lines;
@@ -235,10 +241,10 @@ module _ (footing : Footing) (read : Reading) (reading : IsReading read) (child 
             leaves footing ends.es whole.stands,
           )
       turns_give (Err fault) ends =
-          let cut : StandsCut b ends.es ends.before mid.world new.world = ends.told refl footing read sources reading (kept_first footing rests) in (
+          let cut : StandsCut b fault next ends.es ends.before mid.world new.world = ends.told refl footing read sources reading (kept_first footing rests) in (
             inr record {
               flown = record { units = units; es = ends.es; flies = (ends.last, ends.flies); starts = counted ends.es ends.mid.counts ends.stops.starts ends.drained; reasons = cut.reasons };
-              spent = subst (λ (n : Option ℕ). Spends fault n ends.es) (is_next ∙ ap (λ (f : List ℕ). next_in read f old.world) (same_folder options old.world project is)) ends.spent;
+              spent = subst (λ (n : Option ℕ). Spends (LacksNoNumber b old.world) fault n ends.es) next_is (subst (λ (w : World). Spends (LacksNoNumber b w) fault next ends.es) stays cut.spent);
               lines = lines_before ends.es cut.stands ends.mid ends.heard fault ends.stops;
               before = ends.before;
               came = ends.came;

@@ -32,7 +32,7 @@ use Rattle.pb_store.specs.Opening.{next_in}
 use Rattle.pb_turns.specs.Crew.{needs_of}
 use Rattle.pb_turns.specs.Moments.{Heard, Moment}
 use Rattle.pb_turns.specs.Rows.{Row, Reasons, rows_of, said_from, summary_of}
-use Rattle.pb_turns.specs.Story.{states_in, upped, AllBeganFor, CameAfter, NumbersGiven, Spends}
+use Rattle.pb_turns.specs.Story.{states_in, upped, AllBeganFor, CameAfter, LacksNoNumber, NumbersGiven, Spends}
 use Rattle.pb_unit.specs.declared.plan.Planned.{Planned}
 use Rattle.pb_build.specs.Ending.{NoneBegan, PicksFirstOf, PicksLastOf, Closes}
 use Rattle.pb_build.specs.Environment.{environment_of}
@@ -100,7 +100,7 @@ pub record UnitsFly (child : Answers) (Schedule : Project → List (Event BadUni
 pub record GivesAll (footing : Footing) (read : Reading) (child : Answers) (Schedule : Project → List (Event BadUnit) → Type 0) (options : Options) (summary : Summary) (old new : Moment) : Type 0 where
   pub flown : UnitsFly child Schedule options old new
   pub finished : is_finished (states_in flown.units.project flown.es) ≡ true
-  pub numbers : (after : Option ℕ) × NumbersGiven flown.es (next_in read (records_of options old.world.variables) old.world) after
+  pub numbers : (after : Option ℕ) × NumbersGiven (LacksNoNumber (basis_of footing read child options old.world flown.units) old.world) flown.es (next_in read (records_of options old.world.variables) old.world) after
   pub unnoted : (place : ℕ) → slice_get (states_in flown.units.project flown.es) place ≡ Some Untouched → slice_get flown.reasons place ≡ Some None
   pub answer : summary ≡ summary_of flown.units.project flown.es flown.reasons (rows_for child options old.world flown.units)
   pub lines : Appends old.heard.taken new.heard.taken (said_from flown.units.project flown.es 0 (rows_for child options old.world flown.units))
@@ -122,10 +122,10 @@ LinesBefore Sink project es rows old new = (n : ℕ) × Appends old new (take n 
 LinesBefore OutOfMemory project es rows old new = (n : ℕ) × Appends old new (said_from project es 0 (take n (take (count_due (states_in project es)) rows)))
 LinesBefore fault project es rows old new = ⊥
 
--- a fault came at a unit, at the sink, or for want of memory; for want of a run number, where from the next one of the records on all were given; of a unit that could not begin it is not said what differed
+-- a fault came at a unit, at the sink, or for want of memory; for want of a run number, where from the next one of the records on all were given (what had differed of a unit that could not begin is said of the build's units, `StandsCut`)
 pub record GivesFirst (footing : Footing) (read : Reading) (child : Answers) (Schedule : Project → List (Event BadUnit) → Type 0) (options : Options) (fault : BuildFault) (old new : Moment) : Type 0 where
   pub flown : UnitsFly child Schedule options old new
-  pub spent : Spends fault (next_in read (records_of options old.world.variables) old.world) flown.es
+  pub spent : Spends (LacksNoNumber (basis_of footing read child options old.world flown.units) old.world) fault (next_in read (records_of options old.world.variables) old.world) flown.es
   pub lines : LinesBefore fault flown.units.project flown.es (rows_for child options old.world flown.units) old.heard.taken new.heard.taken
   pub before : List (Event BadUnit)
   pub came : CameAfter flown.units.project fault before flown.es

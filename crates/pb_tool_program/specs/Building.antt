@@ -11,7 +11,7 @@ use Rattle.pb_package.specs.declared.options.Options.{Options}
 use Rattle.pb_build.specs.Ending.{BuildsFirst, PlansFrom}
 use Rattle.pb_build.specs.declared.builder.BuildPlan.{BuildPlan}
 use Rattle.pb_turns.specs.Moments.{Heard, Moment}
-use Rattle.pb_tool_program.specs.Writing.{Tells}
+use Rattle.pb_tool_program.specs.Writing.{Tells, TellsOr}
 
 abbrev pub success_status : Bool → ℕ
 success_status true = 0
@@ -50,12 +50,12 @@ said_lost = codes "note: out of memory for what a child said\n"
 abbrev pub TellsReasons : Bool → Result Summary BuildFault → Heard → Heard → Type 0
 TellsReasons false answer old new = new ≡ old
 TellsReasons true (Err fault) old new = new ≡ old
-TellsReasons true (Ok summary) old new = Tells (explanation summary) old new ⊎ Tells reasons_lost old new
+TellsReasons true (Ok summary) old new = TellsOr reasons_lost (explanation summary) old new
 
--- where a build came to its end: what its bad unit's child wrote that no message line holds, or that memory was refused for that; else nothing
+-- where a build came to its end: what its bad unit's child wrote that no message line holds, or that memory was refused for that; where it wrote nothing, and else, nothing
 abbrev pub TellsSaid : Result Summary BuildFault → Heard → Heard → Type 0
 TellsSaid (Err fault) old new = new ≡ old
-TellsSaid (Ok summary) old new = Tells (said_by_bad summary.bad summary.said) old new ⊎ Tells said_lost old new
+TellsSaid (Ok summary) old new = TellsOr said_lost (said_by_bad summary.bad summary.said) old new
 
 -- what a build that gave this ends with: its status; and beside the output why children were started, where that is asked for, what a failing child said, and why the build failed
 pub record Concludes (explain : Bool) (answer : Result Summary BuildFault) (status : ℕ) (old new : Heard) : Type 0 where
@@ -66,9 +66,9 @@ pub record Concludes (explain : Bool) (answer : Result Summary BuildFault) (stat
   pub said : TellsSaid answer explained repeated
   pub reason : TellsWhy status answer repeated new
 
--- what is written before a build: notes of the packages that its plan names, or that memory was refused for them; nothing where there is no plan
+-- what is written before a build: notes of the packages that its plan names, or that memory was refused for them; nothing where it names none, or there is no plan
 abbrev pub NotesOf : Result BuildPlan BuildFault → Heard → Heard → Type 0
-NotesOf (Ok plan) old new = Tells (notes_of plan.project.plan.without_library) old new ⊎ Tells notes_lost old new
+NotesOf (Ok plan) old new = TellsOr notes_lost (notes_of plan.project.plan.without_library) old new
 NotesOf (Err fault) old new = new ≡ old
 
 -- the target folder of a plan

@@ -1,5 +1,5 @@
 -- What is written to a sink, as far as it takes it.
-use Rattle.std.specs.Prelude.{◌≡◌, ℕ, Bool, true, false, List, take}
+use Rattle.std.specs.Prelude.{◌≡◌, ◌⊎◌, ℕ, Bool, true, false, List, [], ◌∷◌, take}
 use Rattle.std.specs.Io.KnownBytes.{Appends}
 use Rattle.pb_place.specs.Counts.{up}
 use Rattle.pb_turns.specs.Moments.{Heard}
@@ -12,3 +12,8 @@ Writes false bytes old new = ((n : ℕ) × Appends old.taken new.taken (take n b
 -- some bytes were told, as far as the sink took them
 abbrev pub Tells : List ℕ → Heard → Heard → Type 0
 Tells bytes old new = (whole : Bool) × Writes whole bytes old new
+
+-- some bytes were told, or, where memory was refused for them, this line, which takes none; where there are none, nothing
+abbrev pub TellsOr : List ℕ → List ℕ → Heard → Heard → Type 0
+TellsOr lost [] old new = new ≡ old
+TellsOr lost (byte ∷ bytes) old new = Tells (byte ∷ bytes) old new ⊎ Tells lost old new

@@ -60,8 +60,9 @@ fn error_of(alloc: Global, answer: &Result<Summary, BuildFault>) -> Result<Strin
     Ok(line)
 }
 
-/// Tells which packages that are depended on have no library, as a build's plan names them. Where there is no plan,
-/// nothing is told: the build then says why. Where memory is refused, that is told, which takes none.
+/// Tells which packages that are depended on have no library, as a build's plan names them. Where it names none,
+/// nothing is told, nor where there is no plan: the build then says why. Where memory is refused, that is told, which
+/// takes none.
 fn note<E: Out>(alloc: Global, err: &mut E, plan: &Result<BuildPlan, BuildFault>)
     ensures { NotesOf plan.now record { taken = E.taken err.old; faults = E.faults err.old } record { taken = E.taken err.new; faults = E.faults err.new } }
 {
@@ -69,7 +70,11 @@ fn note<E: Out>(alloc: Global, err: &mut E, plan: &Result<BuildPlan, BuildFault>
         Ok(plan) => plan,
         Err(_) => return,
     };
-    match notes_of(alloc, plan.project.plan.without_library.as_slice()) {
+    let names = plan.project.plan.without_library.as_slice();
+    if names.is_empty() {
+        return;
+    }
+    match notes_of(alloc, names) {
         Ok(notes) => write_all(err, notes.as_bytes()),
         Err(_) => write_all(
             err,
@@ -147,8 +152,8 @@ fn explain_to<E: Out>(
     };
 }
 
-/// Tells what the child of a build's bad unit wrote that no message line holds. Where memory is refused for that, so
-/// much is told, which takes none.
+/// Tells what the child of a build's bad unit wrote that no message line holds, where it wrote something. Where memory
+/// is refused for that, so much is told, which takes none.
 fn repeat_to<E: Out>(alloc: Global, err: &mut E, answer: &Result<Summary, BuildFault>)
     ensures { TellsSaid answer.now record { taken = E.taken err.old; faults = E.faults err.old } record { taken = E.taken err.new; faults = E.faults err.new } }
 {
@@ -156,6 +161,9 @@ fn repeat_to<E: Out>(alloc: Global, err: &mut E, answer: &Result<Summary, BuildF
         Ok(summary) => summary,
         Err(_) => return,
     };
+    if summary.bad.is_none() || summary.said.is_empty() {
+        return;
+    }
     match said(alloc, summary) {
         Ok(text) => write_all(err, text.as_slice()),
         Err(_) => write_all(err, b"note: out of memory for what a child said\n"),

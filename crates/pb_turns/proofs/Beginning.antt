@@ -1,6 +1,8 @@
 -- The story of a crew, where a unit begins.
-use Rattle.std.proofs.Common.{◌≡◌, ◌++◌, Bool, false, List, [], ◌∷◌, ℕ, Option, Some, None, IsTrue, refl, sym, subst, slice_set, is_some, ◌<◌, length}
+use Rattle.std.proofs.Common.{◌≡◌, ◌++◌, Bool, true, false, List, [], ◌∷◌, ℕ, Option, Some, None, IsTrue, refl, sym, subst, slice_set, is_some, ◌<◌, length}
 use Rattle.std.specs.Prelude.{MatchOption}
+use Rattle.pb_answer.specs.declared.fault.BuildFault.{BuildFault}
+use Rattle.pb_command.specs.Command.{command_of}
 use Rattle.pb_directive.specs.declared.directive.Directive.{Directive}
 use Rattle.pb_flight.specs.declared.flight.State.{State}
 use Rattle.pb_flight.specs.declared.flight.State.TheVariants.{Begun}
@@ -10,22 +12,23 @@ use Rattle.pb_project.specs.Targets.{unit_at}
 use Rattle.pb_answer.specs.declared.bad_unit.BadUnit.{BadUnit}
 use Rattle.pb_project.specs.declared.project.Project.{Project}
 use Rattle.pb_record.specs.Parts.{IsReading}
+use Rattle.pb_run.specs.Causes.{is_of_start}
 use Rattle.pb_run.specs.Halves.{Footing, Basis, basis, Keeps, IsBegun, CanBegin, BeginsApart, child_of}
 use Rattle.pb_run.specs.Standing.{IsInOrder, records_folder}
 use Rattle.pb_run.specs.declared.begun.Begun.{Begun as unit_begun}
 use Rattle.pb_run.specs.declared.begun.Launched.{Launched}
-use Rattle.pb_run.proofs.Halving.{keeps_same}
+use Rattle.pb_run.proofs.Halving.{is_command, keeps_same}
 use Rattle.pb_soundness.specs.Apart.{is_of}
 use Rattle.pb_soundness.specs.Numbers.{after}
 use Rattle.pb_soundness.specs.Records.{Reading}
 use Rattle.pb_store.specs.Differences.{FirstDifference}
 use Rattle.pb_turns.specs.Crew.{needs_of}
 use Rattle.pb_turns.specs.Moments.{Moment}
-use Rattle.pb_turns.specs.Story.{states_in, Goes, Happened, AllBeganFor, FromFirst, IsQuiet, Story}
+use Rattle.pb_turns.specs.Story.{states_in, Goes, Happened, AllBeganFor, FromFirst, IsQuiet, LacksNoNumber, NumbersGiven, Spends, StartedFor, Story}
 use Rattle.pb_turns.specs.declared.crew.Aloft.{Aloft}
 use Rattle.pb_turns.specs.declared.crew.UnitCrew.{UnitCrew}
 use Rattle.pb_turns.proofs.Happening as happening
-use Rattle.pb_turns.proofs.Staying.{began_beside}
+use Rattle.pb_turns.proofs.Staying.{began_beside, start_told}
 use Rattle.pb_unit.specs.declared.plan.Planned.{Planned}
 use Rattle.pb_turns.specs.Rows.{Reasons}
 use Rattle.pb_store.specs.declared.difference.Difference.{Difference}
@@ -104,6 +107,23 @@ module _ (tells : Bool) (child : Answers) (first old : UnitCrew) (at now new : M
     failed_happened spawned aloft' same t f r s reading k =
         let (h, began) = story.happened t f r s reading k in
         (subst (λ (items : List Aloft). Happened (Of f r s) old.done.items items next' (Began unit spawned ∷ es) new.world new.counts.starts.flying still') (sym same) (failed t f r s reading h began spawned), beside t f r s reading h began)
+
+    -- for its cause
+    pub failed_caused : (spawned : Bool) (fault : BuildFault) → ((IsNumbered : ℕ → Type 0) (at_first : Option ℕ) → NumbersGiven IsNumbered es at_first old.store.next → Spends IsNumbered fault at_first (Began unit spawned ∷ es)) → unit < length old.reasons.items
+        → ((read : Reading) → IsReading read → IsTrue tells → is_of_start fault ≡ true → (difference : Difference) × FirstDifference read (records_folder old.project) u.key (command_of old.setup old.project u done) now.world (Some difference)) → IsTrue tells
+        → FromFirst child first at old (λ b. Spends (LacksNoNumber b at.world) fault first.store.next (Began unit spawned ∷ es) × StartedFor b fault es (Began unit spawned ∷ es) at.world new.world)
+    failed_caused spawned fault spends within cause t f r s reading k =
+        let (h, began) = story.happened t f r s reading k in (
+          spends (LacksNoNumber (Of f r s) at.world) first.store.next (story.taken t f r s reading k),
+          start_told (Of f r s) fault es at.world new.world unit spawned (λ so.
+              let (difference, named) = cause r reading t so in (
+                slice_set old.reasons.items unit (Some (Some difference)),
+                happening.could_not (Of f r s) order at.world old.done.items old.aloft.items old.store.next next' es now.world new.world now.counts.starts.flying new.counts.starts.flying still still' old.reasons.items h began (story.changes t).only unit u there may
+                    (command_of old.setup old.project u done) difference named
+                    (is_command (Of f r s) order unit u there (states_in old.project es) done old.store.next now.world (could t f r s reading h began) (command_of old.setup old.project u done) refl)
+                    within (story.quiet t f r s reading k) (only t),
+              )),
+        )
 
     -- it has begun
     pub begun_happened : (begun : unit_begun) (aloft' : List Aloft) (difference : Option Difference) (reasons' : Reasons) → aloft' ≡ old.aloft.items ++ record { unit = unit; begun = begun } ∷ []

@@ -175,17 +175,47 @@ module _ (project : Project) (first now new : Moment) (started : List ℕ) (alof
     one_started : new.counts.starts ≡ up_starts now.counts.starts → new.counts.starts.count ≡ upped (length (started_by es ++ if_so true unit)) first.counts.starts.count
     one_started same = ap (λ (s : Starts). s.count) same ∙ upped_more now.counts.starts.count first.counts.starts.count (started_by es) unit goes.starts
 
-    pub stops_begun : (next at_first : Option ℕ) (e : BuildFault) → NumbersGiven es at_first next → MayBeginUnit next u.key e now.counts.starts new.counts.starts → HasCause e now.counts new.counts
-        → (spawned : Bool) × Stops tells e project first new (Began unit spawned ∷ es) × Spends e at_first (Began unit spawned ∷ es) × CameAfter project e es (Began unit spawned ∷ es) × NamesUnit project e None es (Began unit spawned ∷ es)
-    stops_begun next at_first (Plan why) numbers may cause = absurd may
-    stops_begun next at_first Toolchain numbers may cause = absurd may
-    stops_begun next at_first (Child key fault) numbers may cause =
-        (true, record { by = stops_at key true may.0; cause = cause_from (Child key fault) first.counts now.counts new.counts goes.failures cause; starts = one_started may.2 }, tt, subst (λ f. CameAfter project (Child key f) es (Began unit true ∷ es)) (sym may.1) (unit, its_key key may.0, refl), (unit, its_key key may.0, refl))
-    stops_begun next at_first (Device key (Place fault)) numbers may cause = (false, record { by = stops_at key false may.0; cause = cause_from (Device key (Place fault)) first.counts now.counts new.counts goes.failures cause; starts = none_started may.2 }, tt, inr (unit, its_key key may.0, refl), (unit, its_key key may.0, refl))
-    stops_begun next at_first (Device key NumbersSpent) numbers may cause = (false, record { by = stops_at key false may.0; cause = cause_from (Device key NumbersSpent) first.counts now.counts new.counts goes.failures cause; starts = none_started may.2 }, subst (NumbersGiven es at_first) may.1 numbers, inr (unit, its_key key may.0, refl), (unit, its_key key may.0, refl))
-    stops_begun next at_first Sink numbers may cause = absurd may
-    stops_begun next at_first OutOfMemory numbers (inl same) cause = (false, record { by = ((given, lines_begun), faults_begun); cause = cause_from OutOfMemory first.counts now.counts new.counts goes.failures cause; starts = none_started same }, tt, inr (unit, false, refl), tt)
-    stops_begun next at_first OutOfMemory numbers (inr more) cause = (true, record { by = ((given, lines_begun), faults_begun); cause = cause_from OutOfMemory first.counts now.counts new.counts goes.failures cause; starts = one_started more }, tt, inr (unit, true, refl), tt)
+    pub stops_begun : (next : Option ℕ) (e : BuildFault) → MayBeginUnit next u.key e now.counts.starts new.counts.starts → HasCause e now.counts new.counts
+        → (spawned : Bool) × Stops tells e project first new (Began unit spawned ∷ es) × ((IsNumbered : ℕ → Type 0) (at_first : Option ℕ) → NumbersGiven IsNumbered es at_first next → Spends IsNumbered e at_first (Began unit spawned ∷ es))
+        × CameAfter project e es (Began unit spawned ∷ es) × NamesUnit project e None es (Began unit spawned ∷ es)
+    stops_begun next (Plan why) may cause = absurd may
+    stops_begun next Toolchain may cause = absurd may
+    stops_begun next (Child key fault) may cause = (
+      true,
+      record { by = stops_at key true may.0; cause = cause_from (Child key fault) first.counts now.counts new.counts goes.failures cause; starts = one_started may.2 },
+      λ IsNumbered at_first numbers. tt,
+      subst (λ f. CameAfter project (Child key f) es (Began unit true ∷ es)) (sym may.1) (unit, its_key key may.0, refl),
+      (unit, its_key key may.0, refl),
+    )
+    stops_begun next (Device key (Place fault)) may cause = (
+      false,
+      record { by = stops_at key false may.0; cause = cause_from (Device key (Place fault)) first.counts now.counts new.counts goes.failures cause; starts = none_started may.2 },
+      λ IsNumbered at_first numbers. tt,
+      inr (unit, its_key key may.0, refl),
+      (unit, its_key key may.0, refl),
+    )
+    stops_begun next (Device key NumbersSpent) may cause = (
+      false,
+      record { by = stops_at key false may.0; cause = cause_from (Device key NumbersSpent) first.counts now.counts new.counts goes.failures cause; starts = none_started may.2 },
+      λ IsNumbered at_first numbers. subst (NumbersGiven IsNumbered es at_first) may.1 numbers,
+      inr (unit, its_key key may.0, refl),
+      (unit, its_key key may.0, refl),
+    )
+    stops_begun next Sink may cause = absurd may
+    stops_begun next OutOfMemory (inl same) cause = (
+      false,
+      record { by = ((given, lines_begun), faults_begun); cause = cause_from OutOfMemory first.counts now.counts new.counts goes.failures cause; starts = none_started same },
+      λ IsNumbered at_first numbers. tt,
+      inr (unit, false, refl),
+      tt,
+    )
+    stops_begun next OutOfMemory (inr more) cause = (
+      true,
+      record { by = ((given, lines_begun), faults_begun); cause = cause_from OutOfMemory first.counts now.counts new.counts goes.failures cause; starts = one_started more },
+      λ IsNumbered at_first numbers. tt,
+      inr (unit, true, refl),
+      tt,
+    )
 
 -- A unit answers.
 

@@ -37,13 +37,14 @@ use Rattle.pb_turns.specs.Ends.{rows_in, nothing_said, Stands, StandsWhole, Stan
 use Rattle.pb_turns.specs.Laws.{SaysFirstRows}
 use Rattle.pb_turns.specs.Moments.{Moment, Heard}
 use Rattle.pb_turns.specs.Rows.{summary_of, started_keys, is_started, messages_in, bad_of, directives_told, Reasons, key_told, said_told, bad_told, differences_of, kept_of}
-use Rattle.pb_turns.specs.Story.{states_in, untouched, Stops, Changes, Happened, AllBeganFor, CameAfter, NamesUnit, HasNoRecord, KeepsNoneOfBad, KeepsNoneInFlight, HasGiven, Story, StoryEnds, OnlyOf}
+use Rattle.pb_turns.specs.Story.{states_in, untouched, Stops, Changes, Happened, AllBeganFor, CameAfter, LacksNoNumber, NamesUnit, NumbersGiven, StartedFor, HasNoRecord, KeepsNoneOfBad, KeepsNoneInFlight, HasGiven, Story, StoryEnds, OnlyOf}
 use Rattle.pb_turns.specs.Summing.{summary_by, noted_of, count_told, keys_at, differences_at}
 use Rattle.pb_turns.specs.declared.crew.Aloft.{Aloft}
 use Rattle.pb_turns.specs.declared.crew.UnitCrew.{UnitCrew}
 use Rattle.pb_turns.proofs.Changing.{changes_first}
 use Rattle.pb_turns.proofs.Counting.{appends_none, stops_refused}
 use Rattle.pb_turns.proofs.States.{due_all}
+use Rattle.pb_turns.proofs.Staying.{no_start}
 use Rattle.pb_turns.proofs.Unbegun.{none_noted}
 use Rattle.pb_turns.proofs.Unkept.{none_bad, none_in_flight}
 use Rattle.pb_turns.proofs.Telling.{AllTold, Ended, all_good_at, due_told, first_told, ended_of, success_of}
@@ -96,6 +97,7 @@ story_first tells child c at still aloft started = record {
     most = omega arith;
   };
   numbers = refl;
+  taken = λ t f r s reading keeps. refl;
   changes = λ t. changes_first c.project at.world c.aloft.items at.counts.starts.flying aloft;
   happened = λ t f r s reading keeps. (
     record {
@@ -140,7 +142,8 @@ module _ (b : Basis) (done : List (Option (List Directive))) (aloft : List Aloft
     first_lines = λ n. first_told b.project es n 0 b.project.plan.planned (outcomes_in b) done (states_in b.project es) all_told;
   }
 
-  module _ (finished : is_finished (states_in b.project es) ≡ true) (long : length (states_in b.project es) ≡ length b.project.plan.planned) (reasons : Reasons) (first : World) (began : AllBeganFor b es reasons first w) where
+  module _ (finished : is_finished (states_in b.project es) ≡ true) (long : length (states_in b.project es) ≡ length b.project.plan.planned) (reasons : Reasons) (first : World) (began : AllBeganFor b es reasons first w) (at_first : Option ℕ)
+      (numbers : (after : Option ℕ) × NumbersGiven (LacksNoNumber b first) es at_first after) where
     ended : Ended b.project es b.project.plan.planned (outcomes_in b) done (states_in b.project es)
     ended = ended_of b.project es 0 b.project.plan.planned (outcomes_in b) done (states_in b.project es) long finished all_told
 
@@ -170,12 +173,13 @@ module _ (b : Basis) (done : List (Option (List Directive))) (aloft : List Aloft
         with_bad : Option (List ℕ × BadUnit) → List (List ℕ × List Directive) → Summary
         with_bad bad told = summary_with (is_none bad) bad told
 
-    pub stands_whole : (started : List ℕ) → started ≡ started_by es → (summary : Summary) → summary ≡ summary_by b.project.plan.planned (states_in b.project es) done started reasons (first_bad (states_in b.project es)) → StandsWhole b es reasons summary first w
+    pub stands_whole : (started : List ℕ) → started ≡ started_by es → (summary : Summary) → summary ≡ summary_by b.project.plan.planned (states_in b.project es) done started reasons (first_bad (states_in b.project es)) → StandsWhole b at_first es reasons summary first w
     stands_whole started same summary is = record {
       stands = stands;
       all = ended.all;
       answer = is ∙ ap (λ places. summary_by b.project.plan.planned (states_in b.project es) done places reasons (first_bad (states_in b.project es))) same ∙ summary_so;
       began = began;
+      numbers = numbers;
     }
 
 length_states : (needs : List (List ℕ)) (es : List (Event BadUnit)) → length (states_after needs es) ≡ length needs
@@ -199,7 +203,9 @@ module _ {S : Type 0} (tells : Bool) (child : Answers) (Turns : S → List ℕ �
     (happened : (b : Basis) (events : List (Event BadUnit)) → IsTrue tells → b.project ≡ c.project → Happened b c.done.items c.aloft.items c.store.next events mid.world mid.counts.starts.flying still
     → Happened b d.done.items d.aloft.items d.store.next events new.world new.counts.starts.flying still')
     (begun : (b : Basis) (fault : BuildFault) (events before : List (Event BadUnit)) (reasons : Reasons) (fw : World) → IsTrue tells → b.project ≡ c.project → IsLawful (needs_of b.project) events → CameAfter b.project fault before events
-    → Happened b c.done.items c.aloft.items c.store.next events mid.world mid.counts.starts.flying still → AllBeganFor b before reasons fw mid.world → AllBeganFor b before reasons fw new.world) where
+    → Happened b c.done.items c.aloft.items c.store.next events mid.world mid.counts.starts.flying still → AllBeganFor b before reasons fw mid.world → AllBeganFor b before reasons fw new.world)
+    (started : (b : Basis) (fault : BuildFault) (events before : List (Event BadUnit)) (fw : World) → IsTrue tells → b.project ≡ c.project
+    → Happened b c.done.items c.aloft.items c.store.next events mid.world mid.counts.starts.flying still → StartedFor b fault before events fw mid.world → StartedFor b fault before events fw new.world) where
   -- what a basis keeps at first
   abbrev Since : (Basis → Type 0) → Setup → Project → Type 0
   Since Stand setup project = IsTrue tells → (f : Footing) (r : Reading) (sources : World) → IsReading r → Keeps (basis f r child setup project sources) (untouched project) first.done.items first.store.next at.world → Stand (basis f r child setup project sources)
@@ -233,12 +239,15 @@ module _ {S : Type 0} (tells : Bool) (child : Answers) (Turns : S → List ℕ �
     only = λ t. subst (λ (p : Project). OnlyOf p es at.world new.world) ends.project (changes at.world es t (ends.changes t)).only;
     unkept = λ t. subst (λ (p : Project). KeepsNoneOfBad p es new.world) ends.project (changes at.world es t (ends.changes t)).unkept;
     dropped = λ t. subst (λ (p : Project). KeepsNoneInFlight p ends.before asked new.world) ends.project (λ place u there state apart started. unrecorded at.world es place u t (ends.changes t) there (ends.unrecorded t place u there state apart started));
-    told = since_first (λ b. StandsCut b es ends.before at.world new.world) ends.setup ends.project (λ t f r sources reading keeps.
+    told = since_first (λ b. StandsCut b fault first.store.next es ends.before at.world new.world) ends.setup ends.project (λ t f r sources reading keeps.
         let (h, began) = ends.happened t f r sources reading keeps in
+        let (spent, started_for) = ends.caused t f r sources reading keeps in
         record {
           stands = stands (basis f r child c.setup c.project sources) d.done.items d.aloft.items d.store.next es new.world new.counts.starts.flying still' (happened (basis f r child c.setup c.project sources) es t refl h);
           reasons = c.reasons.items;
           began = begun (basis f r child c.setup c.project sources) fault es ends.before c.reasons.items at.world t refl (lawful ends.project flies) ends.came h began;
+          started = started (basis f r child c.setup c.project sources) fault es ends.before at.world t refl h started_for;
+          spent = spent;
         });
   }
 
@@ -256,6 +265,7 @@ module _ {S : Type 0} (tells : Bool) (child : Answers) (Turns : S → List ℕ �
     changes = s.changes;
     unrecorded = s.unrecorded;
     happened = s.happened;
+    caused = λ t f r sources reading keeps. (tt, no_start (basis f r child c.setup c.project sources) OutOfMemory es es at.world mid.world refl);
   }
 
   module _ (table : Table BadUnit) (flying : List ℕ) (flown : IsFlown Turns (needs_of first.project) from es last table flying) (story : Story tells child first at c mid still es table.given) (finished : is_finished table.states ≡ true)
@@ -311,12 +321,12 @@ module _ {S : Type 0} (tells : Bool) (child : Answers) (Turns : S → List ℕ �
       numbers = (c.store.next, story.numbers);
       unkept = λ t. subst (λ (p : Project). KeepsNoneOfBad p es new.world) story.project (changes at.world es t (story.changes t)).unkept;
       dropped = λ t. subst (λ (p : Project). KeepsNoneInFlight p es None new.world) story.project (λ place u there state apart started. unrecorded at.world es place u t (story.changes t) there (story.unrecorded t place u there state apart started));
-      told = since_first (λ b. StandsWhole b es d.reasons.items summary at.world new.world) story.setup story.project (λ t f r sources reading keeps.
+      told = since_first (λ b. StandsWhole b first.store.next es d.reasons.items summary at.world new.world) story.setup story.project (λ t f r sources reading keeps.
           let (h, began) = story.happened t f r sources reading keeps in
           stands_whole (basis f r child c.setup c.project sources) d.done.items d.aloft.items d.store.next es new.world new.counts.starts.flying still' (happened (basis f r child c.setup c.project sources) es t refl h)
           (ap is_finished (sym states_are) ∙ finished) (length_states (needs_of c.project) es ∙ length-map c.project.plan.planned (λ (u : Planned). u.needs)) d.reasons.items at.world
           (subst (λ (items : Reasons). AllBeganFor (basis f r child c.setup c.project sources) es items at.world new.world) (sym (ap (λ (x : UnitCrew). x.reasons.items) same))
-          (begun (basis f r child c.setup c.project sources) OutOfMemory es es c.reasons.items at.world t refl (lawful story.project flown.flies) (inl refl) h began)) d.started.items started_is summary now_is);
+          (begun (basis f r child c.setup c.project sources) OutOfMemory es es c.reasons.items at.world t refl (lawful story.project flown.flies) (inl refl) h began)) first.store.next (c.store.next, story.taken t f r sources reading keeps) d.started.items started_is summary now_is);
     }
 
 -- memory is refused before a unit begins
@@ -349,6 +359,8 @@ ends_before tells child Turns setup project next from at none = record {
     };
     reasons = [];
     began = λ place has. absurd (none_begun project place has);
+    started = no_start (basis f r child setup project sources) OutOfMemory [] [] at.world at.world refl;
+    spent = tt;
   };
 }
 

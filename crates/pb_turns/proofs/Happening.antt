@@ -12,6 +12,7 @@ use Rattle.pb_flight.proofs.Lists.{injective, get_set_same, get_set_other}
 use Rattle.pb_flight.proofs.Ready.{good_at}
 use Rattle.pb_place.specs.World.{World, ChangesOnly}
 use Rattle.pb_place.specs.declared.child_in_flight.ChildInFlight.{ChildInFlight}
+use Rattle.pb_place.specs.declared.command.Command.{Command}
 use Rattle.pb_project.specs.Targets.{unit_at}
 use Rattle.pb_answer.specs.declared.bad_unit.BadUnit.{BadUnit}
 use Rattle.pb_project.specs.declared.project.Project.{Project}
@@ -76,6 +77,34 @@ module _ (b : Basis) (order : IsInOrder b.project) (first : World) (done : List 
     begun_so = so.begun_so;
   }
 
+  stays : finite.get w.files (place_of (records_folder b.project) u.key) ≡ finite.get first.files (place_of (records_folder b.project) u.key)
+  stays = only_first.files (place_of (records_folder b.project) u.key) (λ place v has at. place_outside_other b.project order place unit v u at there (λ e. another (states_in b.project es) unit place may.untouched has (sym e)))
+
+  ne_begun : (place : ℕ) → HasBegun (states_in b.project es) place → unit ≢ place
+  ne_begun place has = another (states_in b.project es) unit place may.untouched has
+
+  ne_good : (p : ℕ) → Contains u.reaches p → unit ≢ p
+  ne_good p among same_place = false≢true (ap is_good_at (sym may.untouched) ∙ ap (λ n. is_good_at (slice_get (states_in b.project es) n)) same_place ∙ good_at (states_in b.project es) u.reaches p can.reaches among)
+
+  -- it could not, though something differed
+  pub could_not : (c : Command) (difference : Difference) → FirstDifference b.read (records_folder b.project) u.key c w (Some difference) → c ≡ command_in b unit u → unit < length reasons → IsQuiet b es first w → ChangesOnly (is_of (records_folder b.project) u.key) w w'
+      → BeganFor b (Began unit true ∷ es) (slice_set reasons unit (Some (Some difference))) first w' unit
+  could_not c difference named its within quiet only = record {
+    unit = u;
+    there = there;
+    world = w;
+    sources_stay = h.keeps.sources_stay;
+    record_stays = stays;
+    reaches = good_set (states_in b.project es) unit Untouched Begun u.reaches may.untouched refl can.reaches;
+    reached_stay = λ p v q among at inside. sym (only.files q (not_of_two b.project order p unit v u at there (λ e. ne_good p among (sym e)) q inside));
+    difference = Some difference;
+    named = subst (λ d. FirstDifference b.read (records_folder b.project) u.key d w (Some difference)) its named;
+    started = started_now es unit true;
+    noted = get_put reasons unit (Some (Some difference)) within;
+    kept_stays = λ none numbered q inside. absurd (none_some difference (sym none));
+    unstarted = λ none. quiet (sym (before_now es unit true) ∙ none);
+  }
+
   module _ (spawned : Bool) (keeps : Keeps b (slice_set (states_in b.project es) unit Begun) done next' w')
       (others : (other : ℕ) (its : unit_begun) → BeginsApart b (states_in b.project es) unit None other its next w flying still → IsBegun b other its next' w' flying' still') where
     ne_flying : (a : Aloft) → FliesSo b es next w flying still a → unit ≢ a.unit
@@ -129,17 +158,8 @@ module _ (b : Basis) (order : IsInOrder b.project) (first : World) (done : List 
 
       module _ (difference : Option Difference) (named : FirstDifference b.read (records_folder b.project) u.key a.begun.command w difference) (differs : is_some (child_of a.begun) ≡ is_some difference) (within : unit < length reasons) (quiet : IsQuiet b es first w)
           (only : ChangesOnly (is_of (records_folder b.project) u.key) w w') (same : child_of a.begun ≡ None → w' ≡ w) (began_now : AllBeganFor b es reasons first w') where
-        stays : finite.get w.files (place_of (records_folder b.project) u.key) ≡ finite.get first.files (place_of (records_folder b.project) u.key)
-        stays = only_first.files (place_of (records_folder b.project) u.key) (λ place v has at. place_outside_other b.project order place unit v u at there (λ e. another (states_in b.project es) unit place may.untouched has (sym e)))
-
         its_command : a.begun.command ≡ command_in b unit u
         its_command = begun_so.command ∙ ap (command_in b unit) (one_unit b.project unit begun_so.unit u begun_so.there there)
-
-        ne_begun : (place : ℕ) → HasBegun (states_in b.project es) place → unit ≢ place
-        ne_begun place has = another (states_in b.project es) unit place may.untouched has
-
-        ne_good : (p : ℕ) → Contains u.reaches p → unit ≢ p
-        ne_good p among same_place = false≢true (ap is_good_at (sym may.untouched) ∙ ap (λ n. is_good_at (slice_get (states_in b.project es) n)) same_place ∙ good_at (states_in b.project es) u.reaches p can.reaches among)
 
         own_began : BeganFor b (Began unit spawned ∷ es) (slice_set reasons unit (Some difference)) first w' unit
         own_began = record {

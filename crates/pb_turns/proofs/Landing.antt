@@ -30,14 +30,14 @@ use Rattle.pb_soundness.specs.Apart.{is_of}
 use Rattle.pb_soundness.specs.Records.{out_of}
 use Rattle.pb_turns.specs.Crew.{needs_of, IsManned, IsOfPlan}
 use Rattle.pb_turns.specs.Rows.{Reasons}
-use Rattle.pb_turns.specs.Story.{states_in, AllBeganFor, Changes, FliesIn, FliesSo, Happened, HasNoRecord, CameAfter}
+use Rattle.pb_turns.specs.Story.{states_in, AllBeganFor, Changes, FliesIn, FliesSo, Happened, HasNoRecord, CameAfter, StartedFor}
 use Rattle.pb_turns.specs.declared.crew.Aloft.{Aloft}
 use Rattle.pb_turns.specs.declared.crew.UnitCrew.{UnitCrew}
 use Rattle.pb_turns.proofs.Answered as answered
 use Rattle.pb_turns.proofs.Changing.{its_writes, changes_less}
 use Rattle.pb_turns.proofs.Lists.{all_get}
 use Rattle.pb_turns.proofs.Manning.{flying_of}
-use Rattle.pb_turns.proofs.Staying.{dropped_beside, none_dropped}
+use Rattle.pb_turns.proofs.Staying.{dropped_beside, none_dropped, start_beside}
 use Rattle.pb_turns.proofs.Unkept.{none_still}
 use Rattle.pb_unit.specs.declared.plan.Planned.{Planned}
 use Rattle.std.proofs.Common.{Result, Ok, Err}
@@ -113,3 +113,16 @@ began_dropped b c counts manned project fault es before reasons first w w' still
     (widen (is_at_or_below (out_of (records_folder b.project) of_plan.unit.key)) (is_of (records_folder b.project) of_plan.unit.key) w w' (out_within (records_folder b.project) of_plan.unit.key)
     (subst (λ o. ChangesOnly (is_at_or_below o) w w') (order.folders a.unit of_plan.unit there) (only of_plan.unit.out writes)))
     (λ none. none_dropped (child_of a.begun) counts.starts.flying w w' none only) began
+
+pub started_dropped : (b : Basis) (c : UnitCrew) (counts : Counts) (manned : IsManned c counts) (project : b.project ≡ c.project) (fault : BuildFault) (es before : List (Event BadUnit)) (first w w' : World) (still : ℕ → Type 0)
+    (index : ℕ) (a : Aloft) (at : slice_get c.aloft.items index ≡ Some a) (h : Happened b c.done.items c.aloft.items c.store.next es w counts.starts.flying still)
+    → ((out : List ℕ) → WritesTo out (child_of a.begun) counts.starts.flying → ChangesOnly (is_at_or_below out) w w') → StartedFor b fault before es first w → StartedFor b fault before es first w'
+started_dropped b c counts manned project fault es before first w w' still index a at h only started =
+    let of_plan : IsOfPlan c.project a = all_get (IsOfPlan c.project) c.aloft.items index a manned.units at in
+    let there : unit_at b.project a.unit ≡ Some of_plan.unit = ap (λ (p : Project). unit_at p a.unit) project ∙ of_plan.there in
+    let order : IsInOrder b.project = subst IsInOrder (sym project) manned.order in
+    let so : FliesSo b es c.store.next w counts.starts.flying still a = all_get (FliesSo b es c.store.next w counts.starts.flying still) c.aloft.items index a h.begun at in
+    let writes : WritesTo of_plan.unit.out (child_of a.begun) counts.starts.flying = begun_writes b order a.unit of_plan.unit there a.begun c.store.next w counts.starts.flying still so.begun_so in
+    start_beside b order fault before es first w w' a.unit of_plan.unit there so.state
+    (widen (is_at_or_below (out_of (records_folder b.project) of_plan.unit.key)) (is_of (records_folder b.project) of_plan.unit.key) w w' (out_within (records_folder b.project) of_plan.unit.key)
+    (subst (λ o. ChangesOnly (is_at_or_below o) w w') (order.folders a.unit of_plan.unit there) (only of_plan.unit.out writes))) started

@@ -1,5 +1,5 @@
 -- Run numbers, along a story.
-use Rattle.std.proofs.Common.{◌≡◌, ◌≢◌, ◌∙◌, ◌++◌, ◌⊎◌, ◌==◌, inl, inr, Bool, true, false, List, [], ◌∷◌, ℕ, zero, suc, Option, Some, None, IsSome, Contains, if◌then◌else◌, is_some, refl, sym, ap, subst, slice_get, slice_set, eq-eqb, eqb-true}
+use Rattle.std.proofs.Common.{◌≡◌, ◌≢◌, ◌∙◌, ◌++◌, ◌⊎◌, ◌==◌, inl, inr, not, IsTrue, Bool, true, false, List, [], ◌∷◌, ℕ, zero, suc, Option, Some, None, IsSome, Contains, if◌then◌else◌, is_some, refl, sym, ap, subst, slice_get, slice_set, eq-eqb, eqb-true}
 use Rattle.std.proofs.lemmas.Bool.{cases_eq, ne_eqb, false≢true}
 use Rattle.std.specs.List.{AllByRecursion}
 use Rattle.std.specs.Prelude.{MatchOption}
@@ -14,22 +14,34 @@ use Rattle.pb_flight.specs.Events as lawful
 use Rattle.pb_flight.specs.Events.{Event, Began, Gave, IsLawful, launched_after, states_after, without}
 use Rattle.pb_flight.specs.Table.{if_so}
 use Rattle.pb_place.specs.Counts.{Starts}
+use Rattle.pb_place.specs.World.{World, Answers}
+use Rattle.pb_place.specs.declared.child_in_flight.ChildInFlight.{ChildInFlight}
+use Rattle.pb_place.specs.declared.command.Command.{Command}
+use Rattle.pb_record.specs.declared.record.Record.{Record}
 use Rattle.pb_run.specs.Causes.{MayAnswerUnit}
-use Rattle.pb_run.specs.Halves.{child_of}
+use Rattle.pb_run.specs.Halves.{Basis, basis, WaitsBy, awaits_number, child_in, child_of, records_in, view_in}
+use Rattle.pb_run.specs.declared.begun.Awaited.{Awaited}
+use Rattle.pb_run.specs.declared.begun.Awaited.TheVariants as awaited
 use Rattle.pb_run.specs.declared.begun.Launched.{Launched}
 use Rattle.pb_soundness.specs.Numbers.{after}
-use Rattle.pb_store.specs.Migrating.{TakesNumber}
-use Rattle.pb_turns.proofs.Lists.{differs, get_map}
+use Rattle.pb_store.specs.Migrating.{TakesNumber, lacks_number}
+use Rattle.pb_store.specs.Replaying.{IsReplayed}
+use Rattle.pb_store.specs.declared.replaying.Replayed.{Replayed}
+use Rattle.pb_turns.proofs.Lists.{all_get, differs, get_map}
+use Rattle.pb_turns.proofs.Staying.{numbered_now}
 use Rattle.pb_turns.specs.Crew.{AreApart, launched_of, place_of_unit, places_of}
+use Rattle.pb_turns.specs.Moments.{Moment}
 use Rattle.pb_turns.specs.Rows.{is_started}
-use Rattle.pb_turns.specs.Story.{NumbersGiven, Spends}
+use Rattle.pb_turns.specs.Story.{FliesSo, FromFirst, LacksNoNumber, NumbersGiven, Spends, Story}
 use Rattle.pb_turns.specs.declared.crew.Aloft.{Aloft}
+use Rattle.pb_turns.specs.declared.crew.UnitCrew.{UnitCrew}
+use Rattle.pb_unit.specs.declared.plan.Planned.{Planned}
 
 -- a unit has begun
-pub numbers_begun : (es : List (Event BadUnit)) (first now next : Option ℕ) (unit : ℕ) (o : Option Launched) → MatchOption o (next ≡ now) (λ launched. (now ≡ Some launched.number) × (next ≡ after launched.number))
-    → NumbersGiven es first now → NumbersGiven (Began unit (is_some o) ∷ es) first next
-numbers_begun es first now next unit None same numbers = subst (NumbersGiven es first) (sym same) numbers
-numbers_begun es first now next unit (Some l) taken numbers = (l.number, subst (NumbersGiven es first) taken.0 numbers, taken.1)
+pub numbers_begun : (IsNumbered : ℕ → Type 0) (es : List (Event BadUnit)) (first now next : Option ℕ) (unit : ℕ) (o : Option Launched) → MatchOption o (next ≡ now) (λ launched. (now ≡ Some launched.number) × (next ≡ after launched.number))
+    → NumbersGiven IsNumbered es first now → NumbersGiven IsNumbered (Began unit (is_some o) ∷ es) first next
+numbers_begun IsNumbered es first now next unit None same numbers = subst (NumbersGiven IsNumbered es first) (sym same) numbers
+numbers_begun IsNumbered es first now next unit (Some l) taken numbers = (l.number, subst (NumbersGiven IsNumbered es first) taken.0 numbers, taken.1)
 
 some_or_none : (o : Option Launched) → IsSome o ⊎ (o ≡ None)
 some_or_none None = inr refl
@@ -112,15 +124,48 @@ started_flies needs _ unit (lawful.answer es u given before flying gives) begun 
     no_answer given e = cc
 
 -- one has answered
-pub numbers_answered : (es : List (Event BadUnit)) (first now next : Option ℕ) (unit : ℕ) (answer : Answer BadUnit) → TakesNumber now next → (is_started es unit ≡ true → next ≡ now) → NumbersGiven es first now → NumbersGiven (Gave unit answer ∷ es) first next
-numbers_answered es first now next unit answer takes none numbers = (now, numbers, takes, none)
+pub numbers_answered : (IsNumbered : ℕ → Type 0) (es : List (Event BadUnit)) (first now next : Option ℕ) (unit : ℕ) (answer : Answer BadUnit) → TakesNumber now next → (is_started es unit ≡ true → next ≡ now) → (IsNumbered unit → next ≡ now) → NumbersGiven IsNumbered es first now → NumbersGiven IsNumbered (Gave unit answer ∷ es) first next
+numbers_answered IsNumbered es first now next unit answer takes none numbered numbers = (now, numbers, takes, none, numbered)
 
 -- a fault came in place of an answer
-pub spends_answered : (es : List (Event BadUnit)) (first now : Option ℕ) (key : List ℕ) (launched : Option Launched) (e : BuildFault) (old new : Starts) → MayAnswerUnit now key launched e old new → NumbersGiven es first now → Spends e first es
-spends_answered es first now key launched (Plan why) old new may numbers = tt
-spends_answered es first now key launched Toolchain old new may numbers = tt
-spends_answered es first now key launched (Child unit fault) old new may numbers = tt
-spends_answered es first now key launched (Device unit (Place fault)) old new may numbers = tt
-spends_answered es first now key launched (Device unit NumbersSpent) old new may numbers = subst (NumbersGiven es first) may.1 numbers
-spends_answered es first now key launched Sink old new may numbers = tt
-spends_answered es first now key launched OutOfMemory old new may numbers = tt
+pub spends_answered : (IsNumbered : ℕ → Type 0) (es : List (Event BadUnit)) (first now : Option ℕ) (key : List ℕ) (launched : Option Launched) (e : BuildFault) (old new : Starts) → MayAnswerUnit now key launched e old new → NumbersGiven IsNumbered es first now → Spends IsNumbered e first es
+spends_answered IsNumbered es first now key launched (Plan why) old new may numbers = tt
+spends_answered IsNumbered es first now key launched Toolchain old new may numbers = tt
+spends_answered IsNumbered es first now key launched (Child unit fault) old new may numbers = tt
+spends_answered IsNumbered es first now key launched (Device unit (Place fault)) old new may numbers = tt
+spends_answered IsNumbered es first now key launched (Device unit NumbersSpent) old new may numbers = subst (NumbersGiven IsNumbered es first) may.1 numbers
+spends_answered IsNumbered es first now key launched Sink old new may numbers = tt
+spends_answered IsNumbered es first now key launched OutOfMemory old new may numbers = tt
+
+-- What it awaits, where its record has a number.
+
+replayed_numbered : (found : Option Record) (again : Replayed) → IsReplayed found again → lacks_number found ≡ false → not again.numbered ≡ false
+replayed_numbered None again is numbered = cc
+replayed_numbered (Some r) again is numbered = ap (λ (x : Replayed). not x.numbered) (sym (injective is)) ∙ numbered
+
+awaits_none : (b : Basis) (u : Planned) (c : Command) (view : World) (by : Awaited) (next : Option ℕ) (w : World) (flying : List ChildInFlight) (still : ℕ → Type 0) → WaitsBy b u c view by next w flying still
+    → (child_in by ≡ None → lacks_number (records_in b w u.key) ≡ false) → awaits_number by ≡ false
+awaits_none b u c view (awaited.Child launched) next w flying still waits numbered = refl
+awaits_none b u c view (awaited.Record again) next w flying still waits numbered = replayed_numbered (records_in b w u.key) again waits.1 (numbered refl)
+
+-- The numbers along a story, over a place that tells its maps.
+
+pub begun_taken : (tells : Bool) (child : Answers) (first old : UnitCrew) (at now : Moment) (still : ℕ → Type 0) (es : List (Event BadUnit)) (given unit : ℕ) → Story tells child first at old now still es given
+    → (next : Option ℕ) (o : Option Launched) → MatchOption o (next ≡ old.store.next) (λ launched. (old.store.next ≡ Some launched.number) × (next ≡ after launched.number))
+    → IsTrue tells → FromFirst child first at old (λ b. NumbersGiven (LacksNoNumber b at.world) (Began unit (is_some o) ∷ es) first.store.next next)
+begun_taken tells child first old at now still es given unit story next o number t = λ f r s reading k.
+    numbers_begun (LacksNoNumber (basis f r child old.setup old.project s) at.world) es first.store.next old.store.next next unit o number (story.taken t f r s reading k)
+
+pub answered_taken : (tells : Bool) (child : Answers) (first old : UnitCrew) (at now : Moment) (still : ℕ → Type 0) (es : List (Event BadUnit)) (given : ℕ) → Story tells child first at old now still es given
+    → (index : ℕ) (a : Aloft) → slice_get old.aloft.items index ≡ Some a → (answer : Answer BadUnit) (next : Option ℕ) → TakesNumber old.store.next next → (is_started es a.unit ≡ true → next ≡ old.store.next)
+    → (awaits_number a.begun.awaited ≡ false → next ≡ old.store.next)
+    → IsTrue tells → FromFirst child first at old (λ b. NumbersGiven (LacksNoNumber b at.world) (Gave a.unit answer ∷ es) first.store.next next)
+answered_taken tells child first old at now still es given story index a at_index answer next takes none untaken t = λ f r s reading k.
+    let b : Basis = basis f r child old.setup old.project s in
+    let (h, began) = story.happened t f r s reading k in
+    let so = all_get (FliesSo b es old.store.next now.world now.counts.starts.flying still) old.aloft.items index a h.begun at_index in
+    let is = so.begun_so in
+    numbers_answered (LacksNoNumber b at.world) es first.store.next old.store.next next a.unit answer takes none
+    (λ numbered. untaken (awaits_none b is.unit a.begun.command (view_in b a.unit is.unit) a.begun.awaited old.store.next now.world now.counts.starts.flying still is.waits
+    (λ childless. numbered_now b es old.reasons.items at.world now.world a.unit is.unit is.there (began a.unit (Begun, so.state, refl)) (so.started ∙ ap (λ (o : Option Launched). is_some o) childless) (numbered is.unit is.there))))
+    (story.taken t f r s reading k)

@@ -1,9 +1,9 @@
 -- What units that have begun rest on stays, where another unit begins, answers or is dropped.
-use Rattle.std.proofs.Common.{◌≡◌, ◌≢◌, ◌∙◌, ◌⊎◌, ◌||◌, inl, inr, Bool, true, false, List, [], ◌∷◌, ℕ, Option, Some, None, refl, sym, ap, subst, slice_get, slice_set, is_some}
+use Rattle.std.proofs.Common.{◌≡◌, ◌≢◌, ◌∙◌, ◌⊎◌, ◌||◌, inl, inr, Bool, true, false, List, [], ◌∷◌, ℕ, suc, Option, Some, None, refl, sym, ap, subst, arith, length, slice_get, slice_set, is_some}
 use Rattle.std.proofs.lemmas.Bool.{cases_Bool, cases_eq, false≢true}
 use Rattle.std.specs.FinMap as finite
 use Rattle.pb_flight.specs.declared.flight.State.TheVariants.{Untouched, Begun}
-use Rattle.pb_flight.specs.Events.{Event, Began, IsLawful}
+use Rattle.pb_flight.specs.Events.{Event, Began, Gave, IsLawful}
 use Rattle.pb_flight.specs.Laws.{HasBegun}
 use Rattle.pb_flight.specs.Table.{is_good_at}
 use Rattle.pb_flight.proofs.Handing.{began_lawful}
@@ -19,6 +19,7 @@ use Rattle.pb_answer.specs.declared.bad_unit.BadUnit.{BadUnit}
 use Rattle.pb_answer.specs.declared.fault.BuildFault.{BuildFault}
 use Rattle.pb_answer.specs.declared.fault.BuildFault.TheVariants.{Plan, Toolchain, Child, Device, Sink, OutOfMemory}
 use Rattle.pb_project.specs.declared.project.Project.{Project}
+use Rattle.pb_run.specs.Causes.{is_of_start}
 use Rattle.pb_run.specs.Halves.{Basis, WritesTo, records_in}
 use Rattle.pb_run.specs.Standing.{IsInOrder, records_folder}
 use Rattle.pb_run.specs.declared.begun.Launched.{Launched}
@@ -29,8 +30,8 @@ use Rattle.pb_store.specs.Migrating.{lacks_number}
 use Rattle.pb_store.specs.declared.difference.Difference.{Difference}
 use Rattle.pb_turns.specs.Crew.{needs_of}
 use Rattle.pb_turns.specs.Rows.{Reasons, is_started}
-use Rattle.pb_turns.specs.Story.{states_in, AllBeganFor, BeganFor, CameAfter}
-use Rattle.pb_turns.proofs.Happening.{none_of, started_other}
+use Rattle.pb_turns.specs.Story.{states_in, AllBeganFor, BeganFor, CameAfter, StartedFor}
+use Rattle.pb_turns.proofs.Happening.{none_of, started_now, started_other}
 use Rattle.pb_turns.proofs.Reaching.{not_of_two}
 use Rattle.pb_turns.proofs.States.{another}
 use Rattle.pb_unit.specs.declared.plan.Planned.{Planned}
@@ -166,3 +167,55 @@ pub dropped_beside : (b : Basis) (order : IsInOrder b.project) (fault : BuildFau
 dropped_beside b order fault before es reasons first w w' i u there lawful came state o started only same =
     let flew = flew_before b.project before es i (is_some o) lawful (or_before b.project fault before es came) state started in
     began_on b order before reasons first w w' i u there only flew.not_good (λ has f unstarted numbered. same (none_of o (sym (flew.started has) ∙ unstarted)))
+
+-- A unit that could not begin, though something had differed of it.
+
+-- where the fault is none of a start, nothing is said
+pub no_start : (b : Basis) (fault : BuildFault) (before es : List (Event BadUnit)) (first now : World) → is_of_start fault ≡ false → StartedFor b fault before es first now
+no_start b fault before es first now other place spawned is so = absurd (false≢true (sym other ∙ so))
+
+longer : (x : Event BadUnit) (es : List (Event BadUnit)) → es ≡ x ∷ es → ⊥
+longer x es same =
+    let n : length es ≡ suc (length es) = ap length same in
+    omega (arith, n)
+
+-- nor where no unit began last
+pub none_began : (b : Basis) (fault : BuildFault) (es : List (Event BadUnit)) (first now : World) → StartedFor b fault es es first now
+none_began b fault es first now place spawned is so = absurd (longer (Began place spawned) es is)
+
+abbrev unit_of : List (Event BadUnit) → ℕ
+unit_of [] = 0
+unit_of (Began unit spawned ∷ es) = unit
+unit_of (Gave unit answer ∷ es) = unit
+
+-- it is said of the one that began last
+pub start_told : (b : Basis) (fault : BuildFault) (es : List (Event BadUnit)) (first now : World) (unit : ℕ) (spawned : Bool) → (is_of_start fault ≡ true → (reasons : Reasons) × BeganFor b (Began unit true ∷ es) reasons first now unit)
+    → StartedFor b fault es (Began unit spawned ∷ es) first now
+start_told b fault es first now unit spawned told place other is so = subst (λ n. (reasons : Reasons) × BeganFor b (Began n true ∷ es) reasons first now n) (ap unit_of is) (told so)
+
+-- a child dropped
+pub start_beside : (b : Basis) (order : IsInOrder b.project) (fault : BuildFault) (before es : List (Event BadUnit)) (first w w' : World) (i : ℕ) (u : Planned) → unit_at b.project i ≡ Some u → slice_get (states_in b.project es) i ≡ Some Begun
+    → ChangesOnly (is_of (records_folder b.project) u.key) w w' → StartedFor b fault before es first w → StartedFor b fault before es first w'
+start_beside b order fault before es first w w' i u there state only started place spawned is so =
+    let (reasons, f) = started place spawned is so in
+    let begun : slice_get (states_in b.project (Began place true ∷ before)) i ≡ Some Begun = subst (λ (x : List (Event BadUnit)). slice_get (states_in b.project x) i ≡ Some Begun) is state in
+    let other : (p : ℕ) → is_good_at (slice_get (states_in b.project (Began place true ∷ before)) p) ≡ true → p ≢ i =
+    λ p good same. false≢true (sym (ap is_good_at begun) ∙ ap (λ n. is_good_at (slice_get (states_in b.project (Began place true ∷ before)) n)) (sym same) ∙ good) in (
+      reasons,
+      record {
+        unit = f.unit;
+        there = f.there;
+        world = f.world;
+        sources_stay = f.sources_stay;
+        record_stays = f.record_stays;
+        reaches = f.reaches;
+        reached_stay = λ p v q among at inside.
+            f.reached_stay p v q among at inside ∙ sym (only.files q (not_of_two b.project order p i v u at there (other p (good_at (states_in b.project (Began place true ∷ before)) f.unit.reaches p f.reaches among)) q inside));
+        difference = f.difference;
+        named = f.named;
+        started = f.started;
+        noted = f.noted;
+        kept_stays = λ none numbered q inside. absurd (false≢true (sym (f.started ∙ ap (λ (o : Option Difference). is_some o) none) ∙ started_now before place true));
+        unstarted = f.unstarted;
+      },
+    )

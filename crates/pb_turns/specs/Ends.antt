@@ -25,7 +25,7 @@ use Rattle.pb_soundness.specs.Records.{Reading}
 use Rattle.pb_turns.specs.Crew.{needs_of, ticket_of_child}
 use Rattle.pb_turns.specs.Moments.{Moment}
 use Rattle.pb_turns.specs.Rows.{Reasons, Row, rows_of, said_from, started_keys, key_told, said_told, bad_told, differences_of, kept_of, summary_of}
-use Rattle.pb_turns.specs.Story.{states_in, untouched, upped, Stops, Spends, OnlyOf, AllBeganFor, HasGiven, CameAfter, NamesUnit, NumbersGiven, KeepsNoneOfBad, KeepsNoneInFlight}
+use Rattle.pb_turns.specs.Story.{states_in, untouched, upped, Stops, Spends, IsUntold, LacksNoNumber, OnlyOf, AllBeganFor, StartedFor, HasGiven, CameAfter, NamesUnit, NumbersGiven, KeepsNoneOfBad, KeepsNoneInFlight}
 use Rattle.pb_unit.specs.declared.plan.Planned.{Planned}
 
 -- the children of these tickets were asked for their ends, in this order, their answers were dropped, and nothing else was called
@@ -59,18 +59,21 @@ pub record Stands (b : Basis) (es : List (Event BadUnit)) (new : World) : Type 0
   pub lines : due (states_in b.project es) ≡ said_from b.project es 0 (take (count_due (states_in b.project es)) (rows_in b))
   pub first_lines : (n : ℕ) → due_first n (states_in b.project es) ≡ said_from b.project es 0 (take n (take (count_due (states_in b.project es)) (rows_in b)))
 
--- all units have answered, or all up to and with the first bad one: the summary is that of the rows, all of which are told, and each unit that began did so for what differed of it
-pub record StandsWhole (b : Basis) (es : List (Event BadUnit)) (reasons : Reasons) (summary : Summary) (old new : World) : Type 0 where
+-- all units have answered, or all up to and with the first bad one: the summary is that of the rows, all of which are told, each unit that began did so for what differed of it, and so many run numbers were given from the next one at first
+pub record StandsWhole (b : Basis) (next : Option ℕ) (es : List (Event BadUnit)) (reasons : Reasons) (summary : Summary) (old new : World) : Type 0 where
   pub stands : Stands b es new
   pub all : count_due (states_in b.project es) ≡ length (rows_in b)
   pub answer : summary ≡ summary_of b.project es reasons (rows_in b)
   pub began : AllBeganFor b es reasons old new
+  pub numbers : (after : Option ℕ) × NumbersGiven (LacksNoNumber b old) es next after
 
--- a fault ended it, before which these had happened
-pub record StandsCut (b : Basis) (es before : List (Event BadUnit)) (old new : World) : Type 0 where
+-- a fault ended it, before which these had happened: of the unit that could not begin too, by a fault of its start, something had differed; and where no run number was left, all were given
+pub record StandsCut (b : Basis) (fault : BuildFault) (next : Option ℕ) (es before : List (Event BadUnit)) (old new : World) : Type 0 where
   pub stands : Stands b es new
   pub reasons : Reasons
   pub began : AllBeganFor b before reasons old new
+  pub started : StartedFor b fault before es old new
+  pub spent : Spends (LacksNoNumber b old) fault next es
 
 -- the units came to their end; where it is a success each of them has answered and is good; the bad unit that is told is the first by the answers; nothing is noted of a unit that has not begun; and no record is kept of a unit whose answer was dropped
 pub record EndsWhole {S : Type 0} (tells : Bool) (child : Answers) (Turns : S → List ℕ → List ℕ → Step → S → Type 0) (setup : Setup) (project : Project) (next : Option ℕ) (from last : S) (summary : Summary) (old new : Moment) : Type 0 where
@@ -94,10 +97,10 @@ pub record EndsWhole {S : Type 0} (tells : Bool) (child : Answers) (Turns : S �
   pub landed : new.counts.starts.flying ≡ []
   pub most : new.most ≡ max old.most (peak es)
   pub only : IsTrue tells → OnlyOf project es old.world new.world
-  pub numbers : (after : Option ℕ) × NumbersGiven es next after
+  pub numbers : (after : Option ℕ) × NumbersGiven IsUntold es next after
   pub unkept : IsTrue tells → KeepsNoneOfBad project es new.world
   pub dropped : IsTrue tells → KeepsNoneInFlight project es None new.world
-  pub told : IsTrue tells → Grounding child setup project next old.world (λ b. StandsWhole b es reasons summary old.world new.world)
+  pub told : IsTrue tells → Grounding child setup project next old.world (λ b. StandsWhole b next es reasons summary old.world new.world)
 
 -- a fault ended them: its cause, and what the sink had heard, are those of the moment before the children in flight were dropped; no more children flew at one time than by the events before it, and the turn was asked no more; and no record is kept of a unit whose answer was dropped
 pub record EndsCut {S : Type 0} (tells : Bool) (child : Answers) (Turns : S → List ℕ → List ℕ → Step → S → Type 0) (setup : Setup) (project : Project) (next : Option ℕ) (from back : S) (fault : BuildFault) (old new : Moment) : Type 0 where
@@ -109,7 +112,7 @@ pub record EndsCut {S : Type 0} (tells : Bool) (child : Answers) (Turns : S → 
   pub mid : Moment
   pub heard : new.heard ≡ mid.heard
   pub stops : Stops tells fault project old mid es
-  pub spent : Spends fault next es
+  pub spent : Spends IsUntold fault next es
   pub drained : Drained mid.counts new.counts
   pub landed : new.counts.starts.flying ≡ []
   pub before : List (Event BadUnit)
@@ -119,7 +122,7 @@ pub record EndsCut {S : Type 0} (tells : Bool) (child : Answers) (Turns : S → 
   pub only : IsTrue tells → OnlyOf project es old.world new.world
   pub unkept : IsTrue tells → KeepsNoneOfBad project es new.world
   pub dropped : IsTrue tells → KeepsNoneInFlight project before asked new.world
-  pub told : IsTrue tells → Grounding child setup project next old.world (λ b. StandsCut b es before old.world new.world)
+  pub told : IsTrue tells → Grounding child setup project next old.world (λ b. StandsCut b fault next es before old.world new.world)
 
 -- how they end, by the answer
 abbrev pub TurnsEnd : {S : Type 0} → Bool → Answers → (S → List ℕ → List ℕ → Step → S → Type 0) → Setup → Project → Option ℕ → S → S → Result Summary BuildFault → Moment → Moment → Type 0

@@ -22,7 +22,7 @@ use Rattle.pb_project.specs.Targets.{unit_at}
 use Rattle.pb_answer.specs.declared.bad_unit.BadUnit.{BadUnit}
 use Rattle.pb_project.specs.declared.project.Project.{Project}
 use Rattle.pb_record.specs.Parts.{IsReading}
-use Rattle.pb_run.specs.Causes.{HasCause}
+use Rattle.pb_run.specs.Causes.{HasCause, is_of_start}
 use Rattle.pb_run.specs.Halves.{Footing, Basis, basis, outcomes_in, command_in, records_in, Keeps, IsBegun, WritesTo, child_of, key_at}
 use Rattle.pb_run.specs.Outcome.{Outcome, directives_in}
 use Rattle.pb_run.specs.Standing.{records_folder}
@@ -91,17 +91,21 @@ pub record Stops (tells : Bool) (fault : BuildFault) (project : Project) (first 
   pub cause : HasCause fault first.counts now.counts
   pub starts : now.counts.starts.count ≡ upped (length (started_by es)) first.counts.starts.count
 
--- the next run number after these events, by the next one at first: a unit that begins takes a number where a child is started for it, and none where none is; one that answers takes one or none, and none where a child was started for it
-abbrev pub NumbersGiven : List (Event BadUnit) → Option ℕ → Option ℕ → Type 0
-NumbersGiven [] first now = now ≡ first
-NumbersGiven (Began unit true ∷ es) first now = (number : ℕ) × NumbersGiven es first (Some number) × (now ≡ after number)
-NumbersGiven (Began unit false ∷ es) first now = NumbersGiven es first now
-NumbersGiven (Gave unit answer ∷ es) first now = (before : Option ℕ) × NumbersGiven es first before × TakesNumber before now × (is_started es unit ≡ true → now ≡ before)
+-- the next run number after these events, by the next one at first: a unit that begins takes a number where a child is started for it, and none where none is; one that answers takes one or none, and none where a child was started for it, or where it is known that its record had one
+abbrev pub NumbersGiven : (ℕ → Type 0) → List (Event BadUnit) → Option ℕ → Option ℕ → Type 0
+NumbersGiven IsNumbered [] first now = now ≡ first
+NumbersGiven IsNumbered (Began unit true ∷ es) first now = (number : ℕ) × NumbersGiven IsNumbered es first (Some number) × (now ≡ after number)
+NumbersGiven IsNumbered (Began unit false ∷ es) first now = NumbersGiven IsNumbered es first now
+NumbersGiven IsNumbered (Gave unit answer ∷ es) first now = (before : Option ℕ) × NumbersGiven IsNumbered es first before × TakesNumber before now × (is_started es unit ≡ true → now ≡ before) × (IsNumbered unit → now ≡ before)
 
 -- where a fault says that no run number is left, all were given
-abbrev pub Spends : BuildFault → Option ℕ → List (Event BadUnit) → Type 0
-Spends (Device key NumbersSpent) first es = NumbersGiven es first None
-Spends fault first es = Unit {0}
+abbrev pub Spends : (ℕ → Type 0) → BuildFault → Option ℕ → List (Event BadUnit) → Type 0
+Spends IsNumbered (Device key NumbersSpent) first es = NumbersGiven IsNumbered es first None
+Spends IsNumbered fault first es = Unit {0}
+
+-- over a place that does not tell its maps that is known of no unit
+abbrev pub IsUntold : ℕ → Type 0
+IsUntold unit = ⊥
 
 -- What the place says, where it tells its maps.
 
@@ -121,9 +125,9 @@ started_before [] place = []
 started_before (Began unit spawned ∷ es) place = if unit == place then started_by es else started_before es place
 started_before (Gave unit answer ∷ es) place = started_before es place
 
--- no unit has a record without a number
-abbrev pub NoneLacksNumber : Basis → World → Type 0
-NoneLacksNumber b w = (place : ℕ) (u : Planned) → unit_at b.project place ≡ Some u → lacks_number (records_in b w u.key) ≡ false
+-- the unit at a place has no record without a number
+abbrev pub LacksNoNumber : Basis → World → ℕ → Type 0
+LacksNoNumber b w place = (u : Planned) → unit_at b.project place ≡ Some u → lacks_number (records_in b w u.key) ≡ false
 
 -- what differed first of the unit at a place when it began, in a world with the same sources in which its record's text was as at first, and in which the folders and records of the units that it reaches, all of which have answered and are good, stood as they stand now; a child was started for it exactly where something differed, and that is noted. Where nothing differed and its record had a number at first, its own folder and record stand now as at first. That world was the first one, where no child had been started yet and no record lacked a number at first
 pub record BeganFor (b : Basis) (es : List (Event BadUnit)) (reasons : Reasons) (first now : World) (place : ℕ) : Type 0 where
@@ -139,11 +143,15 @@ pub record BeganFor (b : Basis) (es : List (Event BadUnit)) (reasons : Reasons) 
   pub started : is_started es place ≡ is_some difference
   pub noted : slice_get reasons place ≡ Some (Some difference)
   pub kept_stays : difference ≡ None → lacks_number (records_in b first unit.key) ≡ false → (q : List ℕ) → is_of (records_folder b.project) unit.key q ≡ true → finite.get now.files q ≡ finite.get first.files q
-  pub unstarted : started_before es place ≡ [] → NoneLacksNumber b first → world ≡ first
+  pub unstarted : started_before es place ≡ [] → ((p : ℕ) → LacksNoNumber b first p) → world ≡ first
 
 -- each unit that has begun did so for what differed of it
 abbrev pub AllBeganFor : Basis → List (Event BadUnit) → Reasons → World → World → Type 0
 AllBeganFor b es reasons first now = (place : ℕ) → HasBegun (states_in b.project es) place → BeganFor b es reasons first now place
+
+-- where a unit could not begin by a fault of its start, something had differed of it, as if its child had been started
+abbrev pub StartedFor : Basis → BuildFault → List (Event BadUnit) → List (Event BadUnit) → World → World → Type 0
+StartedFor b fault before es first now = (place : ℕ) (spawned : Bool) → es ≡ Began place spawned ∷ before → is_of_start fault ≡ true → (reasons : Reasons) × BeganFor b (Began place true ∷ before) reasons first now place
 
 -- a path is in no folder and no record's place of the units that have begun
 abbrev pub IsOutside : Project → List (Event BadUnit) → List ℕ → Type 0
@@ -194,7 +202,7 @@ pub record Happened (b : Basis) (done : List (Option (List Directive))) (aloft :
 
 -- as long as no child is started the world is as at first, where no record lacked a number then
 abbrev pub IsQuiet : Basis → List (Event BadUnit) → World → World → Type 0
-IsQuiet b es first now = started_by es ≡ [] → NoneLacksNumber b first → now ≡ first
+IsQuiet b es first now = started_by es ≡ [] → ((place : ℕ) → LacksNoNumber b first place) → now ≡ first
 
 -- of a unit that has not begun the same is noted as at first
 abbrev pub NotesBegun : Project → List (Event BadUnit) → Reasons → Reasons → Type 0
@@ -217,11 +225,12 @@ pub record Story (tells : Bool) (child : Answers) (first : UnitCrew) (at : Momen
   pub setup : c.setup ≡ first.setup
   pub project : c.project ≡ first.project
   pub goes : Goes c.project at now c.started.items c.aloft.items es given
-  pub numbers : NumbersGiven es first.store.next c.store.next
+  pub numbers : NumbersGiven IsUntold es first.store.next c.store.next
   pub changes : IsTrue tells → Changes c.project at.world c.aloft.items es now.world now.counts.starts.flying
   pub unrecorded : IsTrue tells → KeepsNoneInFlight c.project es None now.world
   pub happened : IsTrue tells
       → FromFirst child first at c (λ b. Happened b c.done.items c.aloft.items c.store.next es now.world now.counts.starts.flying still × AllBeganFor b es c.reasons.items at.world now.world)
+  pub taken : IsTrue tells → FromFirst child first at c (λ b. NumbersGiven (LacksNoNumber b at.world) es first.store.next c.store.next)
   pub quiet : IsTrue tells → FromFirst child first at c (λ b. IsQuiet b es at.world now.world)
   pub unnoted : NotesBegun c.project es first.reasons.items c.reasons.items
 
@@ -244,12 +253,12 @@ NamesUnit project (Device key fault) None before es = IsBeginning project key fa
 NamesUnit project (Device key fault) (Some unit) before es = (key_at project unit ≡ key ∷ []) × (es ≡ before)
 NamesUnit project fault asked before es = Unit {0}
 
--- and where a fault has ended it, as the answer of this unit was taken, or of none; of a unit that could not begin it is not said what differed
+-- and where a fault has ended it, as the answer of this unit was taken, or of none
 pub record StoryEnds (tells : Bool) (child : Answers) (fault : BuildFault) (asked : Option ℕ) (first : UnitCrew) (at : Moment) (c : UnitCrew) (now : Moment) (still : ℕ → Type 0) (es : List (Event BadUnit)) : Type 0 where
   pub setup : c.setup ≡ first.setup
   pub project : c.project ≡ first.project
   pub stops : Stops tells fault c.project at now es
-  pub spent : Spends fault first.store.next es
+  pub spent : Spends IsUntold fault first.store.next es
   pub before : List (Event BadUnit)
   pub came : CameAfter c.project fault before es
   pub names : NamesUnit c.project fault asked before es
@@ -258,3 +267,4 @@ pub record StoryEnds (tells : Bool) (child : Answers) (fault : BuildFault) (aske
   pub unrecorded : IsTrue tells → KeepsNoneInFlight c.project before asked now.world
   pub happened : IsTrue tells
       → FromFirst child first at c (λ b. Happened b c.done.items c.aloft.items c.store.next es now.world now.counts.starts.flying still × AllBeganFor b before c.reasons.items at.world now.world)
+  pub caused : IsTrue tells → FromFirst child first at c (λ b. Spends (LacksNoNumber b at.world) fault first.store.next es × StartedFor b fault before es at.world now.world)

@@ -10,7 +10,7 @@ ghost use Rattle.pb_run.specs.Halves.{Basis};
 ghost use Rattle.pb_turns.specs.Crew.{needs_of, tickets_of, IsManned};
 ghost use Rattle.pb_turns.specs.Ends.{Dropped, Drained};
 ghost use Rattle.pb_turns.specs.Rows.{Reasons};
-ghost use Rattle.pb_turns.specs.Story.{AllBeganFor, CameAfter, Changes, Happened, HasNoRecord};
+ghost use Rattle.pb_turns.specs.Story.{AllBeganFor, CameAfter, Changes, Happened, HasNoRecord, StartedFor};
 ghost use Rattle.pb_project.specs.Targets.{unit_at};
 ghost use Rattle.pb_unit.specs.declared.plan.Planned.{Planned};
 
@@ -38,6 +38,9 @@ fn drop_first<P: Place>(alloc: Global, crew: &mut UnitCrew, place: &mut P)
     ensures began { (b : Basis) (fault : BuildFault) (es before : List (Event BadUnit)) (reasons : Reasons) (first : World) → IsTrue P.tells → b.project ≡ crew.old.project → IsLawful (needs_of b.project) es → CameAfter b.project fault before es
         → Happened b crew.old.done.items crew.old.aloft.items crew.old.store.next es (P.world place.old) (P.counts place.old).starts.flying (P.still place.old)
         → AllBeganFor b before reasons first (P.world place.old) → AllBeganFor b before reasons first (P.world place.new) }
+    ensures started { (b : Basis) (fault : BuildFault) (es before : List (Event BadUnit)) (first : World) → IsTrue P.tells → b.project ≡ crew.old.project
+        → Happened b crew.old.done.items crew.old.aloft.items crew.old.store.next es (P.world place.old) (P.counts place.old).starts.flying (P.still place.old)
+        → StartedFor b fault before es first (P.world place.old) → StartedFor b fault before es first (P.world place.new) }
 {
     let aloft = crew.aloft.remove(0);
     drop_unit(alloc, place, &aloft.begun);
@@ -60,6 +63,9 @@ pub(crate) fn drain<P: Place>(alloc: Global, crew: &mut UnitCrew, place: &mut P)
     ensures began { (b : Basis) (fault : BuildFault) (es before : List (Event BadUnit)) (reasons : Reasons) (first : World) → IsTrue P.tells → b.project ≡ crew.old.project → IsLawful (needs_of b.project) es → CameAfter b.project fault before es
         → Happened b crew.old.done.items crew.old.aloft.items crew.old.store.next es (P.world place.old) (P.counts place.old).starts.flying (P.still place.old)
         → AllBeganFor b before reasons first (P.world place.old) → AllBeganFor b before reasons first (P.world place.new) }
+    ensures started { (b : Basis) (fault : BuildFault) (es before : List (Event BadUnit)) (first : World) → IsTrue P.tells → b.project ≡ crew.old.project
+        → Happened b crew.old.done.items crew.old.aloft.items crew.old.store.next es (P.world place.old) (P.counts place.old).starts.flying (P.still place.old)
+        → StartedFor b fault before es first (P.world place.old) → StartedFor b fault before es first (P.world place.new) }
 {
     while !crew.aloft.is_empty() {
         drop_first(alloc, crew, place);

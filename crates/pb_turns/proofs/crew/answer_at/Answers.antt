@@ -1,14 +1,15 @@
-use Rattle.std.proofs.Common.{◌≡◌, ◌∙◌, ◌<◌, ◌∷◌, ℕ, List, Some, Contains, IsTrue, refl, sym, ap, subst, inl, slice_get, length, map}
+use Rattle.std.proofs.Common.{◌≡◌, ◌∙◌, ◌<◌, ◌∷◌, ℕ, true, List, Some, Contains, IsTrue, refl, sym, ap, subst, inl, slice_get, length, map}
 use Rattle.std.proofs.lemmas.List.{length-map}
 use Rattle.std.proofs.lemmas.Option.{slice_get_read, slice_get_within}
 use Rattle.pb_flight.specs.declared.flight.Answer.{Answer}
 use Rattle.pb_flight.specs.declared.flight.State.TheVariants.{Begun}
 use Rattle.pb_answer.specs.declared.bad_unit.BadUnit.{BadUnit}
+use Rattle.pb_answer.specs.declared.fault.BuildFault.TheVariants.{OutOfMemory}
 use Rattle.pb_turns.specs.declared.crew.UnitCrew.{UnitCrew}
 use Rattle.pb_flight.specs.Events.{Gave}
 use Rattle.pb_flight.proofs.Lists.{injective, length_set}
 use Rattle.pb_place.specs.World.{ChangesOnly}
-use Rattle.pb_run.specs.Halves.{child_of}
+use Rattle.pb_run.specs.Halves.{basis, child_of}
 use Rattle.pb_run.specs.Standing.{IsCommandOf, records_folder}
 use Rattle.pb_run.specs.Telling.{unit_lines}
 use Rattle.pb_run.proofs.Reusing.{child_numbered}
@@ -16,7 +17,8 @@ use Rattle.pb_run.proofs.Spawning.{launched_gone}
 use Rattle.pb_soundness.specs.Apart.{is_of}
 use Rattle.pb_turns.specs.Crew.{IsOfPlan, place_of_unit, places_of, needs_of}
 use Rattle.pb_turns.specs.Moments.{moment}
-use Rattle.pb_turns.specs.Story.{KeepsNoneInFlight, NamesUnit, NoneWritesTo, Story, states_in}
+use Rattle.pb_turns.specs.Rows.{is_started}
+use Rattle.pb_turns.specs.Story.{IsUntold, KeepsNoneInFlight, LacksNoNumber, NamesUnit, NoneWritesTo, Story, states_in}
 use Rattle.pb_turns.proofs.Alone.{apart_removed, none_writes}
 use Rattle.pb_turns.proofs.Answering.{failed_happened, untold_happened, answered_happened}
 use Rattle.pb_turns.proofs.Beginning.{goes_lists}
@@ -24,9 +26,10 @@ use Rattle.pb_turns.proofs.Changing.{its_writes, changes_less, changes_after}
 use Rattle.pb_turns.proofs.Counting.{came_answering, names_answering, goes_answered, stops_answered, stops_untold}
 use Rattle.pb_turns.proofs.Lists.{all_get, get_map, map_removed}
 use Rattle.pb_turns.proofs.Manning.{answer_fault_lands, flying_of, manned_answered}
-use Rattle.pb_turns.proofs.Numbering.{has_child, started_flies, numbers_answered, spends_answered}
+use Rattle.pb_turns.proofs.Numbering.{answered_taken, has_child, started_flies, numbers_answered, spends_answered}
 use Rattle.pb_turns.proofs.Quiet.{answered_quiet}
 use Rattle.pb_turns.proofs.Reaching.{there_of}
+use Rattle.pb_turns.proofs.Staying.{none_began}
 use Rattle.pb_turns.proofs.Unbegun.{notes_answered}
 use Rattle.pb_turns.proofs.Unkept.{flight_asked, flight_given}
 use Rattle.pb_turns.proofs.crew.answer_at.Goals as goal
@@ -111,7 +114,7 @@ returns-in-Err-clause-story g c = λ first at taken faults es given unit s flyin
       project = s.project;
       stops = stops_answered c.args.crew.now.project at now new c.args.crew.now.started.items c.args.crew.now.aloft.items es given s.goes is_given c.args.index c.remove-unit.result at_index begun refl c.index-as_slice-unit.result there g.P.Place.tells alone c.args.crew.now.store.next c.in-Err.fault
           c.in-Err.ensures.takes.0 c.in-Err.ensures.takes.1;
-      spent = spends_answered es first.store.next c.args.crew.now.store.next c.index-as_slice-unit.result.key (child_of c.remove-unit.result.begun) c.in-Err.fault now.counts.starts new.counts.starts c.in-Err.ensures.takes.0 s.numbers;
+      spent = spends_answered IsUntold es first.store.next c.args.crew.now.store.next c.index-as_slice-unit.result.key (child_of c.remove-unit.result.begun) c.in-Err.fault now.counts.starts new.counts.starts c.in-Err.ensures.takes.0 s.numbers;
       before = es;
       came = came_answering c.args.crew.now.project c.args.crew.now.store.next c.index-as_slice-unit.result.key (child_of c.remove-unit.result.begun) c.in-Err.fault now.counts.starts new.counts.starts c.in-Err.ensures.takes.0 es;
       names = subst (λ n. NamesUnit c.args.crew.now.project c.in-Err.fault (Some n) es es) (sym its)
@@ -125,6 +128,11 @@ returns-in-Err-clause-story g c = λ first at taken faults es given unit s flyin
       happened = failed_happened g.P.Place.tells g.P.Place.child first c.args.crew.now at now new (g.P.Place.still c.args.place.now) (g.P.Place.still c.answer_unit.new.place) es given c.args.index c.remove-unit.result c.index-as_slice-unit.result there s at_index
           c.requires.manned.units_apart c.requires.manned.tickets_apart c.requires.manned.numbers_apart c.answer_unit.new.store.next c.answer_unit.ensures.others c.requires.manned.order only c.answer_unit.ensures.same
           c.remove-unit.new.self.items c.remove-unit.ensures.items c.in-Err.ensures.keeps;
+      caused = λ t f r sources reading k.
+          let b = basis f r g.P.Place.child c.args.crew.now.setup c.args.crew.now.project sources in (
+            spends_answered (LacksNoNumber b at.world) es first.store.next c.args.crew.now.store.next c.index-as_slice-unit.result.key (child_of c.remove-unit.result.begun) c.in-Err.fault now.counts.starts new.counts.starts c.in-Err.ensures.takes.0 (s.taken t f r sources reading k),
+            none_began b c.in-Err.fault es at.world new.world,
+          );
     }
 
 pub returns-in-Err-lines_of_unit-clause-story : goal.returns-in-Err-lines_of_unit-clause-story
@@ -157,6 +165,7 @@ returns-in-Err-lines_of_unit-clause-story g c = λ first at taken faults es give
       happened = untold_happened g.P.Place.tells g.P.Place.child first c.args.crew.now at now new (g.P.Place.still c.args.place.now) (g.P.Place.still c.answer_unit.new.place) es given c.args.index c.remove-unit.result c.index-as_slice-unit.result there s at_index
           c.requires.manned.units_apart c.requires.manned.tickets_apart c.requires.manned.numbers_apart c.answer_unit.new.store.next c.answer_unit.ensures.others c.requires.manned.order only c.answer_unit.ensures.same
           c.in-Ok.ran c.in-Ok.ensures.outcome c.in-Ok.ensures.keeps c.in-Ok.ensures.directives c.remove-unit.new.self.items c.remove-unit.ensures.items;
+      caused = λ t f r sources reading k. (tt, none_began (basis f r g.P.Place.child c.args.crew.now.setup c.args.crew.now.project sources) OutOfMemory es at.world new.world);
     }
 
 pub returns-clause-story : goal.returns-clause-story
@@ -174,6 +183,9 @@ returns-clause-story g c = λ first at taken faults es given unit s flying lawfu
     c.args.index c.remove-unit.result at_index c.index-as_slice-unit.result there) in
     let crew : UnitCrew = record { setup = c.args.crew.now.setup; project = c.args.crew.now.project; store = c.answer_unit.new.store; done = c.note_answer.new.done; aloft = c.remove-unit.new.self; started = c.args.crew.now.started; reasons = c.args.crew.now.reasons } in
     let answer : Answer BadUnit = record { fault = c.in-Ok.ran.bad; lines = c.in-Ok-lines_of_unit.lines } in
+    let childless : is_started es c.remove-unit.result.unit ≡ true → c.answer_unit.new.store.next ≡ c.args.crew.now.store.next =
+    λ started. c.answer_unit.ensures.untaken (child_numbered c.remove-unit.result.begun (has_child c.args.crew.now.aloft.items c.args.index c.remove-unit.result c.requires.manned.units_apart at_index
+    (subst (λ (l : List ℕ). Contains l c.remove-unit.result.unit) (sym s.goes.launched_are) (started_flies (needs_of c.args.crew.now.project) es c.remove-unit.result.unit lawful begun started)))) in
     subst (λ n. Story g.P.Place.tells g.P.Place.child first at crew new (g.P.Place.still c.answer_unit.new.place) (Gave n c.note_answer.result ∷ es) given) (sym its)
     (subst (λ given_answer. Story g.P.Place.tells g.P.Place.child first at crew new (g.P.Place.still c.answer_unit.new.place) (Gave c.remove-unit.result.unit given_answer ∷ es) given) (sym c.note_answer.ensures.answer) record {
       setup = s.setup;
@@ -181,9 +193,8 @@ returns-clause-story g c = λ first at taken faults es given unit s flying lawfu
       goes = goes_lists c.args.crew.now.project at new c.args.crew.now.started.items c.args.crew.now.started.items _ c.remove-unit.new.self.items (Gave c.remove-unit.result.unit answer ∷ es) given refl c.remove-unit.ensures.items
           (goes_answered c.args.crew.now.project at now new c.args.crew.now.started.items c.args.crew.now.aloft.items es given s.goes is_given c.args.index c.remove-unit.result at_index begun refl c.requires.manned.units_apart answer
           c.in-Ok.ensures.takes.0 c.in-Ok.ensures.takes.1 c.answer_unit.ensures.most);
-      numbers = numbers_answered es first.store.next c.args.crew.now.store.next c.answer_unit.new.store.next c.remove-unit.result.unit answer c.answer_unit.ensures.next
-          (λ started. c.answer_unit.ensures.untaken (child_numbered c.remove-unit.result.begun (has_child c.args.crew.now.aloft.items c.args.index c.remove-unit.result c.requires.manned.units_apart at_index
-          (subst (λ (l : List ℕ). Contains l c.remove-unit.result.unit) (sym s.goes.launched_are) (started_flies (needs_of c.args.crew.now.project) es c.remove-unit.result.unit lawful begun started))))) s.numbers;
+      numbers = numbers_answered IsUntold es first.store.next c.args.crew.now.store.next c.answer_unit.new.store.next c.remove-unit.result.unit answer c.answer_unit.ensures.next childless (λ untold. absurd untold) s.numbers;
+      taken = answered_taken g.P.Place.tells g.P.Place.child first c.args.crew.now at now (g.P.Place.still c.args.place.now) es given s c.args.index c.remove-unit.result at_index answer c.answer_unit.new.store.next c.answer_unit.ensures.next childless c.answer_unit.ensures.untaken;
       changes = λ t. changes_after c.args.crew.now.project c.requires.manned.order at.world c.args.crew.now.aloft.items es now.world new.world now.counts.starts.flying new.counts.starts.flying (s.changes t) (λ j y at_j. flying_of c.args.crew.now now.counts j y c.requires.manned at_j)
           c.args.index c.remove-unit.result at_index c.index-as_slice-unit.result there c.requires.manned.units_apart c.requires.manned.tickets_apart
           (only t) c.answer_unit.ensures.stay c.remove-unit.new.self.items c.remove-unit.ensures.items answer

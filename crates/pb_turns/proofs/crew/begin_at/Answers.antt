@@ -1,4 +1,5 @@
 use Rattle.std.proofs.Common.{◌∙◌, ◌++◌, ◌∷◌, [], Some, IsTrue, length, false, is_some, refl, sym, ap, subst, inr, map}
+use Rattle.std.proofs.lemmas.Bool.{false≢true}
 use Rattle.pb_flight.specs.Events.{Began}
 use Rattle.pb_flight.specs.Table.{if_so}
 use Rattle.pb_flight.proofs.Lists.{length_set}
@@ -6,13 +7,13 @@ use Rattle.pb_place.proofs.Folders.{only_same}
 use Rattle.pb_run.specs.Halves.{child_of}
 use Rattle.pb_turns.specs.Crew.{ticket_of_child}
 use Rattle.pb_turns.specs.Moments.{moment}
-use Rattle.pb_turns.specs.Story.{Story, NoneWritesTo}
+use Rattle.pb_turns.specs.Story.{Story, IsUntold, NoneWritesTo}
 use Rattle.pb_turns.proofs.Alone.{none_writes}
-use Rattle.pb_turns.proofs.Beginning.{goes_lists, refused_happened, failed_happened, begun_happened, by_number}
+use Rattle.pb_turns.proofs.Beginning.{goes_lists, refused_happened, failed_caused, failed_happened, begun_happened, by_number}
 use Rattle.pb_turns.proofs.Changing.{changes_begun, changes_more}
 use Rattle.pb_turns.proofs.Counting.{goes_begun, stops_begun, stops_refused_begun, children_are}
 use Rattle.pb_turns.proofs.Manning.{manned_same, manned_begun, begin_fault_flies, flying_of}
-use Rattle.pb_turns.proofs.Numbering.{numbers_begun}
+use Rattle.pb_turns.proofs.Numbering.{begun_taken, numbers_begun}
 use Rattle.pb_turns.proofs.Quiet.{begun_quiet}
 use Rattle.pb_turns.proofs.Reaching.{there_at, there_some, within_reasons}
 use Rattle.pb_turns.proofs.Unbegun.{notes_begun}
@@ -56,6 +57,7 @@ returns-in-Err-clause-story g c = λ first at taken faults es given s flying law
             c.args.unit u there may.untouched (only_same _ now.world) (λ ticket its is. is) false c.make_room.new.aloft.items c.make_room.ensures.aloft;
         unrecorded = s.unrecorded;
         happened = refused_happened g.P.Place.tells g.P.Place.child first c.args.crew.now at now now (g.P.Place.still c.args.place.now) (g.P.Place.still c.args.place.now) es given c.args.unit u c.requires.manned.order there s may c.make_room.new.aloft.items c.make_room.ensures.aloft;
+        caused = λ t f r sources reading keeps. (tt, λ place spawned is so. absurd (false≢true so));
       },
     )
 
@@ -69,16 +71,16 @@ returns-in-Err-begin_unit-clause-story g c = λ first at taken faults es given s
     (s.changes t) (λ index a at. flying_of c.args.crew.now (g.P.Place.counts c.args.place.now) index a c.requires.manned at)
     c.args.unit c.index-as_slice-unit.result there may.untouched (c.begin_unit.ensures.only t) c.begin_unit.ensures.stay false c.args.crew.now.aloft.items refl)
     c.args.unit c.index-as_slice-unit.result there c.requires.grounded in
-    let (spawned, stops, spent, came, names) = stops_begun c.args.crew.now.project at (moment (g.P.Place.world c.args.place.now) (g.P.Place.counts c.args.place.now) (g.P.Place.most c.args.place.now) taken faults)
+    let (spawned, stops, spends, came, names) = stops_begun c.args.crew.now.project at (moment (g.P.Place.world c.args.place.now) (g.P.Place.counts c.args.place.now) (g.P.Place.most c.args.place.now) taken faults)
     (moment (g.P.Place.world c.begin_unit.new.place) (g.P.Place.counts c.begin_unit.new.place) (g.P.Place.most c.begin_unit.new.place) taken faults)
-    c.args.crew.now.started.items c.args.crew.now.aloft.items es given c.args.unit s.goes is_given may.untouched refl c.index-as_slice-unit.result there g.P.Place.tells alone c.args.crew.now.store.next first.store.next c.in-Err-begin_unit.fault
-    s.numbers c.in-Err-begin_unit.ensures.takes.0 c.in-Err-begin_unit.ensures.takes.1 in (
+    c.args.crew.now.started.items c.args.crew.now.aloft.items es given c.args.unit s.goes is_given may.untouched refl c.index-as_slice-unit.result there g.P.Place.tells alone c.args.crew.now.store.next c.in-Err-begin_unit.fault
+    c.in-Err-begin_unit.ensures.takes.0 c.in-Err-begin_unit.ensures.takes.1 in (
       spawned,
       record {
         setup = s.setup;
         project = s.project;
         stops = stops;
-        spent = spent;
+        spent = spends IsUntold first.store.next s.numbers;
         before = es;
         came = came;
         names = names;
@@ -91,6 +93,10 @@ returns-in-Err-begin_unit-clause-story g c = λ first at taken faults es given s
             (moment (g.P.Place.world c.begin_unit.new.place) (g.P.Place.counts c.begin_unit.new.place) (g.P.Place.most c.begin_unit.new.place) taken faults) (g.P.Place.still c.args.place.now) (g.P.Place.still c.begin_unit.new.place)
             es given c.args.unit c.index-as_slice-unit.result c.requires.manned.order there s may c.begin_unit.new.store.next c.as_slice-2.result.now c.as_slice-2.ensures.value
             c.begin_unit.ensures.keeps c.begin_unit.ensures.others c.begin_unit.ensures.only spawned c.make_room.new.aloft.items c.make_room.ensures.aloft;
+        caused = failed_caused g.P.Place.tells g.P.Place.child first c.args.crew.now at (moment (g.P.Place.world c.args.place.now) (g.P.Place.counts c.args.place.now) (g.P.Place.most c.args.place.now) taken faults)
+            (moment (g.P.Place.world c.begin_unit.new.place) (g.P.Place.counts c.begin_unit.new.place) (g.P.Place.most c.begin_unit.new.place) taken faults) (g.P.Place.still c.args.place.now) (g.P.Place.still c.begin_unit.new.place)
+            es given c.args.unit c.index-as_slice-unit.result c.requires.manned.order there s may c.begin_unit.new.store.next c.as_slice-2.result.now c.as_slice-2.ensures.value
+            c.begin_unit.ensures.keeps c.begin_unit.ensures.others c.begin_unit.ensures.only spawned c.in-Err-begin_unit.fault spends (within_reasons c.args.crew.now c.args.unit c.requires.manned.reasoned c.requires.unit) c.in-Err-begin_unit.ensures.cause;
       },
     )
 
@@ -109,7 +115,8 @@ returns-clause-story g c = λ first at taken faults es given s flying lawful is_
           (goes_begun c.args.crew.now.project at now new c.args.crew.now.started.items c.args.crew.now.aloft.items es given c.args.unit s.goes is_given may.untouched refl
           record { unit = c.args.unit; begun = c.in-Ok-begin_unit.made.begun } refl c.in-Ok-begin_unit.ensures.takes.0 c.in-Ok-begin_unit.ensures.takes.1
           (children_are (g.P.Place.counts c.args.place.now) c.args.crew.now.aloft.items c.requires.manned.tickets) c.in-Ok-begin_unit.ensures.most);
-      numbers = numbers_begun es first.store.next c.args.crew.now.store.next c.begin_unit.new.store.next c.args.unit (child_of c.in-Ok-begin_unit.made.begun) c.in-Ok-begin_unit.ensures.number s.numbers;
+      numbers = numbers_begun IsUntold es first.store.next c.args.crew.now.store.next c.begin_unit.new.store.next c.args.unit (child_of c.in-Ok-begin_unit.made.begun) c.in-Ok-begin_unit.ensures.number s.numbers;
+      taken = begun_taken g.P.Place.tells g.P.Place.child first c.args.crew.now at now (g.P.Place.still c.args.place.now) es given c.args.unit s c.begin_unit.new.store.next (child_of c.in-Ok-begin_unit.made.begun) c.in-Ok-begin_unit.ensures.number;
       changes = λ t. changes_more c.args.crew.now.project c.requires.manned.order at.world c.args.crew.now.aloft.items es now.world new.world now.counts.starts.flying new.counts.starts.flying (s.changes t) (λ index a at. flying_of c.args.crew.now (g.P.Place.counts c.args.place.now) index a c.requires.manned at)
           c.args.unit c.index-as_slice-unit.result there may.untouched (c.begin_unit.ensures.only t) c.begin_unit.ensures.stay (is_some (child_of c.in-Ok-begin_unit.made.begun))
           record { unit = c.args.unit; begun = c.in-Ok-begin_unit.made.begun } c.note_begun.new.aloft.items refl more (c.in-Ok-begin_unit.ensures.writes t) refl (λ launched read. c.in-Ok-begin_unit.ensures.dropped read t launched);

@@ -27,4 +27,7 @@ loop-alloc-preserved g c = record {
   began = λ b fault es before reasons first tells project lawful came h began.
       c.drop_first.ensures.began b fault es before reasons first tells (project ∙ sym (ap (λ (x : UnitCrew). x.project) c.loop-alloc.invariant.same)) lawful came (c.loop-alloc.invariant.happened b es tells project h)
       (c.loop-alloc.invariant.began b fault es before reasons first tells project lawful came h began);
+  started = λ b fault es before first tells project h started.
+      c.drop_first.ensures.started b fault es before first tells (project ∙ sym (ap (λ (x : UnitCrew). x.project) c.loop-alloc.invariant.same)) (c.loop-alloc.invariant.happened b es tells project h)
+      (c.loop-alloc.invariant.started b fault es before first tells project h started);
 }

@@ -9,7 +9,7 @@ use Rattle.pb_turns.specs.Crew.{needs_of, tickets_of, IsManned}
 use Rattle.pb_turns.specs.Ends.{Dropped}
 use Rattle.pb_turns.specs.Rows.{Reasons}
 use Rattle.pb_project.specs.Targets.{unit_at}
-use Rattle.pb_turns.specs.Story.{AllBeganFor, Changes, Happened, HasNoRecord, CameAfter}
+use Rattle.pb_turns.specs.Story.{AllBeganFor, Changes, Happened, HasNoRecord, CameAfter, StartedFor}
 use Rattle.pb_unit.specs.declared.plan.Planned.{Planned}
 use Rattle.pb_turns.proofs.dropping.drain.Given as goal
 
@@ -29,6 +29,9 @@ invariant-loop-alloc g l = record {
   began : (b : Basis) (fault : BuildFault) (es before : List (Event BadUnit)) (reasons : Reasons) (first : World) → IsTrue g.P.Place.tells → b.project ≡ l.fn.crew.project → IsLawful (needs_of b.project) es → CameAfter b.project fault before es
       → Happened b l.fn.crew.done.items l.fn.crew.aloft.items l.fn.crew.store.next es (g.P.Place.world l.fn.place) (g.P.Place.counts l.fn.place).starts.flying (g.P.Place.still l.fn.place)
       → AllBeganFor b before reasons first (g.P.Place.world l.fn.place) → AllBeganFor b before reasons first (g.P.Place.world l.place);
+  started : (b : Basis) (fault : BuildFault) (es before : List (Event BadUnit)) (first : World) → IsTrue g.P.Place.tells → b.project ≡ l.fn.crew.project
+      → Happened b l.fn.crew.done.items l.fn.crew.aloft.items l.fn.crew.store.next es (g.P.Place.world l.fn.place) (g.P.Place.counts l.fn.place).starts.flying (g.P.Place.still l.fn.place)
+      → StartedFor b fault before es first (g.P.Place.world l.fn.place) → StartedFor b fault before es first (g.P.Place.world l.place);
 }
 
 abbrev pub decreases-loop-alloc : goal.decreases-loop-alloc

@@ -1,7 +1,7 @@
 use Rattle.std.proofs.Common.{refl, inl, length}
 use Rattle.pb_run.specs.Halves.{child_of}
 use Rattle.std.proofs.lemmas.Option.{slice_get_read}
-use Rattle.pb_turns.proofs.Landing.{unrecorded_dropped, drops_land, began_dropped, happened_dropped, changes_dropped}
+use Rattle.pb_turns.proofs.Landing.{unrecorded_dropped, drops_land, began_dropped, happened_dropped, changes_dropped, started_dropped}
 use Rattle.pb_turns.proofs.Manning.{flying_of, manned_answered}
 use Rattle.pb_turns.proofs.dropping.drop_first.Goals as goal
 
@@ -41,3 +41,9 @@ returns-clause-unrecorded g c = λ first es index unit tells old there none.
     let at = slice_get_read c.args.crew.now.aloft.items (length c.args.crew.now.aloft.items) 0 c.remove-aloft.result refl c.requires.some c.remove-aloft.ensures.value in
     unrecorded_dropped c.args.crew.now (g.P.Place.counts c.args.place.now) c.requires.manned first es (g.P.Place.world c.args.place.now) (g.P.Place.world c.drop_unit.new.place)
     0 c.remove-aloft.result at old (λ out. c.drop_unit.ensures.only out tells) index unit there none
+
+pub returns-clause-started : goal.returns-clause-started
+returns-clause-started g c = λ b fault es before first tells project h started.
+    let at = slice_get_read c.args.crew.now.aloft.items (length c.args.crew.now.aloft.items) 0 c.remove-aloft.result refl c.requires.some c.remove-aloft.ensures.value in
+    started_dropped b c.args.crew.now (g.P.Place.counts c.args.place.now) c.requires.manned project fault es before first (g.P.Place.world c.args.place.now) (g.P.Place.world c.drop_unit.new.place) (g.P.Place.still c.args.place.now)
+    0 c.remove-aloft.result at h (λ out. c.drop_unit.ensures.only out tells) started

@@ -1,4 +1,5 @@
 use Rattle.std.proofs.Common.{refl, inl}
+use Rattle.std.proofs.lemmas.Bool.{false≢true}
 use Rattle.pb_turns.proofs.Counting.{stops_refused}
 use Rattle.pb_turns.proofs.crew.UnitCrewCrewBadUnitBuildFault.refused.Goals as goal
 
@@ -15,4 +16,5 @@ returns g c = λ first first_place last_place first_out last_out es given s. rec
   changes = s.changes;
   unrecorded = s.unrecorded;
   happened = s.happened;
+  caused = λ t f r sources reading keeps. (tt, λ place spawned is so. absurd (false≢true so));
 }

@@ -1,4 +1,5 @@
 use Rattle.std.proofs.Common.{refl, subst, take}
+use Rattle.std.proofs.lemmas.Bool.{false≢true}
 use Rattle.std.specs.Io.KnownBytes.{Appends}
 use Rattle.pb_turns.proofs.Counting.{goes_told, stops_sink}
 use Rattle.pb_turns.proofs.crew.UnitCrewCrewBadUnitBuildFault.tell.Goals as goal
@@ -9,6 +10,7 @@ returns-then-write_all-clause-story g c = λ first first_place first_out es give
   project = s.project;
   goes = goes_told _ _ _ _ _ _ _ _ s.goes refl refl (subst (Appends (g.O.Out.taken c.args.out.now) (g.O.Out.taken c.write_all.new.out)) lines (c.write_all.ensures.all c.if-write_all.true)) (c.write_all.ensures.whole c.if-write_all.true);
   numbers = s.numbers;
+  taken = s.taken;
   changes = s.changes;
   unrecorded = s.unrecorded;
   happened = s.happened;
@@ -31,4 +33,5 @@ returns-else-write_all-clause-story g c = λ first first_place first_out es give
       changes = s.changes;
       unrecorded = s.unrecorded;
       happened = s.happened;
+      caused = λ t f r sources reading keeps. (tt, λ place spawned is so. absurd (false≢true so));
     }
