@@ -1,13 +1,19 @@
 -- The lines of a session that were written, and where it was stopped.
-use Rattle.std.proofs.Common.{◌≡◌, ◌⊎◌, inl, inr, ℕ, Bool, List, [], Option, Result, Ok, Err, OnErr, refl, subst}
+use Rattle.std.proofs.Common.{◌≡◌, ◌≢◌, ◌⊎◌, ◌==◌, inl, inr, ℕ, Bool, true, false, List, [], ◌∷◌, ◌++◌, codes, length, take, Option, Some, None, is_some, IsTrue, Result, Ok, Err, OnErr, refl, sym, subst}
+use Rattle.std.proofs.lemmas.Bool.{false≢true}
+use Rattle.std.specs.Io.KnownBytes.{Appends}
+use Rattle.pb_answer.specs.Explanation.{ended, said_by_bad}
+use Rattle.pb_place.specs.Counts.{up}
 use Rattle.pb_place.specs.Memory.{Held, no_held}
+use Rattle.pb_project.specs.declared.fault.UnitFault.{UnitFault}
 use Rattle.pb_session.specs.Sessions.{session_of}
 use Rattle.pb_session.specs.declared.step.SessionStep.{SessionStep}
 use Rattle.pb_build.specs.Session.{Breaks, Course, point}
 use Rattle.pb_build.specs.declared.sessions.Answer.{Answer}
 use Rattle.pb_turns.specs.Moments.{Heard, Moment}
 use Rattle.pb_tool_program.specs.Session.{SessionStopped, SessionWritten, small_compiler, lines_of}
-use Rattle.pb_tool_program.specs.Writing.{Writes}
+use Rattle.pb_tool_program.specs.Building.{notes_of}
+use Rattle.pb_tool_program.specs.Writing.{Tells, TellsOr, Writes}
 
 pub session_written : (whole : Bool) (bytes : List ℕ) (read steps : List SessionStep) (first last : Held) (old mid : Option (List ℕ)) (before after : ℕ) (new : Heard) (answers told : List Answer)
     → session_of bytes ≡ Ok read → steps ≡ read
@@ -54,3 +60,30 @@ session_untold bytes read steps first last old mid before after new answers is_r
 pub on_err : {T E Q : Type 0} (r : Result T E) → Q → OnErr r Q
 on_err (Ok x) q = tt
 on_err (Err e) q = q
+
+-- What a sink was given, by the clauses of the call that gave it.
+pub tells_by : (result : Bool) (bytes told : List ℕ) (old new : Heard) → told ≡ bytes
+    → (IsTrue result → Appends old.taken new.taken told) → (IsTrue result → new.faults ≡ old.faults) → (result ≡ false → (n : ℕ) × Appends old.taken new.taken (take n told)) → (result ≡ false → new.faults ≡ up old.faults)
+    → Tells bytes old new
+tells_by true bytes told old new same all whole part fault = (true, (subst (Appends old.taken new.taken) same (all refl), whole refl))
+tells_by false bytes told old new same all whole part fault =
+    let (n, first) = part refl in
+    (false, ((n, subst (λ (bs : List ℕ). Appends old.taken new.taken (take n bs)) same first), fault refl))
+
+-- There is something to tell.
+pub tells_some : (lost bytes : List ℕ) (old new : Heard) → bytes ≢ [] → Tells bytes old new ⊎ Tells lost old new → TellsOr lost bytes old new
+tells_some lost [] old new some tells = absurd (some refl)
+tells_some lost (byte ∷ bytes) old new some tells = tells
+
+pub notes_some : (names : List (List ℕ)) → length names == 0 ≡ false → notes_of names ≢ []
+notes_some [] none = absurd (false≢true (sym none))
+notes_some (name ∷ names) some = λ e. cc
+
+pub said_some : (bad : Option (List ℕ × UnitFault)) (said : List ℕ) → is_some bad ≡ true → length said == 0 ≡ false → said_by_bad bad said ≢ []
+said_some None said is_bad some = absurd (false≢true is_bad)
+said_some (Some bad) [] is_bad some = absurd (false≢true (sym some))
+said_some (Some bad) (b ∷ said) is_bad some = λ e. before bad.0 (ended (b ∷ said)) e
+  where
+    before : (key rest : List ℕ) → key ++ codes " said:\n" ++ rest ≡ [] → ⊥
+    before [] rest e = cc
+    before (k ∷ key) rest e = cc

@@ -50,7 +50,7 @@ said_lost = codes "note: out of memory for what a child said\n"
 abbrev pub TellsReasons : Bool → Result Summary BuildFault → Heard → Heard → Type 0
 TellsReasons false answer old new = new ≡ old
 TellsReasons true (Err fault) old new = new ≡ old
-TellsReasons true (Ok summary) old new = TellsOr reasons_lost (explanation summary) old new
+TellsReasons true (Ok summary) old new = Tells (explanation summary) old new ⊎ Tells reasons_lost old new
 
 -- where a build came to its end: what its bad unit's child wrote that no message line holds, or that memory was refused for that; where it wrote nothing, and else, nothing
 abbrev pub TellsSaid : Result Summary BuildFault → Heard → Heard → Type 0

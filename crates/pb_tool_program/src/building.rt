@@ -161,7 +161,7 @@ fn repeat_to<E: Out>(alloc: Global, err: &mut E, answer: &Result<Summary, BuildF
         Ok(summary) => summary,
         Err(_) => return,
     };
-    if summary.bad.is_none() || summary.said.is_empty() {
+    if summary.bad.is_none() || summary.said.as_slice().is_empty() {
         return;
     }
     match said(alloc, summary) {
