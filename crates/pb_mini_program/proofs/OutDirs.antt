@@ -1,15 +1,12 @@
--- The out folder of a compile, and what is left in it.
-use Rattle.std.proofs.Common.{◌≡◌, ◌≢◌, ◌==◌, ◌∙◌, length, ◌||◌, ℕ, Bool, true, false, cond, List, [], ◌∷◌, codes, Option, Some, None, option_and_then, Result, Ok, Err, refl, sym, ap, arith}
+-- The out folder of a compile.
+use Rattle.std.proofs.Common.{◌≡◌, ◌≢◌, ◌∙◌, ◌||◌, ℕ, Bool, true, false, cond, List, [], ◌∷◌, codes, Option, Some, None, option_and_then, Result, Ok, Err, refl, sym, ap}
 use Rattle.std.proofs.lemmas.Bool.{false≢true}
-use Rattle.std.proofs.lemmas.Bool.Decides.{Decides-eqb}
 use Rattle.std.proofs.lemmas.Slice.Eq.{bytes_eq-Decides}
 use Rattle.std.specs.Str.{bytes_eq}
 use Rattle.pb_data.specs.Gives.{◌>>=◌}
-use Rattle.pb_data.specs.Table.{table_of}
 use Rattle.pb_place.specs.Paths.{parsed}
 use Rattle.pb_place.specs.declared.path.PathFault.{PathFault}
-use Rattle.pb_place.specs.World.{World, put_reply}
-use Rattle.pb_mini.specs.Answer.{request_of, replied_if, answered, compile_in}
+use Rattle.pb_mini.specs.Answer.{request_of, compile_in}
 use Rattle.pb_mini.specs.CommandLine.{takes_value, role_of, role_alone, is_setting, no_arguments, with_value, arguments_after, only, first, file_named, image_name, dep_info_name, crate_type_of, settled_by, command_line_of, folder_in}
 use Rattle.pb_mini.specs.declared.command_line.Role.{Role}
 use Rattle.pb_mini.specs.declared.command_line.Role.TheVariants.{CrateName, CrateType, OutDir, Source, Extern, Condition, Unused}
@@ -20,7 +17,7 @@ use Rattle.pb_mini.specs.declared.command_line.CommandLineFault.{CommandLineFaul
 use Rattle.pb_mini.specs.declared.request.Request.{Request}
 use Rattle.pb_mini.specs.declared.request.Request.TheVariants.{Version, Run, Compile}
 use Rattle.pb_mini.specs.Lookups.{path_said, path_of}
-use Rattle.pb_mini_program.specs.OutFolder.{waiting_after, asks_run, first_out_dir, folder_for, out_folder, out_dir_variable}
+use Rattle.pb_mini_program.specs.OutFolder.{waiting_after, asks_run, first_out_dir}
 use Rattle.pb_mini_program.specs.declared.out_folder.Waiting.{Waiting}
 use Rattle.pb_mini_program.specs.declared.out_folder.Waiting.TheVariants.{Folder, Other}
 
@@ -222,33 +219,6 @@ pub compile_runs_not : (words : List (List ℕ)) (path : List ℕ) (found wanted
 compile_runs_not words path found wanted asks is = absurd (false≢true (sym asks ∙ run_asks words path is))
 
 pub ruleset folder_laws = (run_compiles_not, compile_finds, compile_runs_not)
-
--- no files are left anywhere
-put_none : (out : Option (List ℕ)) (old : World) → put_reply out [] old ≡ old
-put_none None old = refl
-put_none (Some folder) old = refl
-
-pub left_none : (out : Option (List ℕ)) (files : List (List ℕ × List ℕ)) (old : World) → length files == 0 ≡ true → old ≡ put_reply out files old
-left_none out [] old none = sym (put_none out old)
-left_none out (f ∷ files) old none = let empty : length (f ∷ files) ≡ 0 = (Decides-eqb _ _).0 none in absurd (omega arith)
-
--- a reply's files are left in its out folder
-pub left : (words : List (List ℕ)) (w : World) (found : Option (List ℕ)) (files : List (List ℕ × List ℕ)) (old new : World)
-    → ((line : CommandLine) → request_of words ≡ Ok (Compile line) → found ≡ Some line.out_dir)
-    → ((path : List ℕ) → request_of words ≡ Ok (Run path) → found ≡ out_dir_variable w)
-    → files ≡ (answered words [] w).files → new ≡ put_reply found files old → new ≡ put_reply (out_folder words w) files old
-left words w found files old new compile run is put = by (request_of words) refl is
-  where
-    grown : {r : Result Request CommandLineFault} → request_of words ≡ r → files ≡ (answered words [] w).files → (answered words [] w).files ≡ [] → new ≡ put_reply (out_folder words w) files old
-    grown asked has none =
-        put ∙ ap (λ fs. put_reply found fs old) (has ∙ none) ∙ put_none found old
-        ∙ sym (ap (λ fs. put_reply (out_folder words w) fs old) (has ∙ none) ∙ put_none (out_folder words w) old)
-
-    by : (r : Result Request CommandLineFault) → request_of words ≡ r → files ≡ (answered words [] w).files → new ≡ put_reply (out_folder words w) files old
-    by (Ok Version) asked has = grown asked has (ap (λ r. (replied_if r (table_of []) w).files) asked)
-    by (Ok (Run path)) asked has = put ∙ ap (λ f. put_reply f files old) (run path asked ∙ sym (ap (λ r. folder_for r w) asked))
-    by (Ok (Compile line)) asked has = put ∙ ap (λ f. put_reply f files old) (compile line asked ∙ sym (ap (λ r. folder_for r w) asked))
-    by (Err e) asked has = grown asked has (ap (λ r. (replied_if r (table_of []) w).files) asked)
 
 pub none_of : {A : Type 0} (found : Option A) → ((x : A) → found ≢ Some x) → found ≡ None
 none_of None lacks = refl

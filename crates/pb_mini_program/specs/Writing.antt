@@ -1,7 +1,7 @@
 -- What the program writes of a reply, and at what it stops: first the files, then the output, then standard error. Nothing is written behind a write that failed.
-use Rattle.std.specs.Prelude.{◌≡◌, ◌⊎◌, ℕ, Bool, List, [], ◌∷◌, ◌++◌, take, Option, Some, IsTrue}
+use Rattle.std.specs.Prelude.{◌≡◌, ◌⊎◌, ℕ, zero, suc, ◌+◌, Bool, List, [], ◌∷◌, ◌++◌, length, take, Option, Some, None, IsTrue}
 use Rattle.std.specs.Io.KnownBytes.{Appends}
-use Rattle.pb_place.specs.Counts.{Counts, up, past_place_fault}
+use Rattle.pb_place.specs.Counts.{Counts, up, past_call, past_place_fault}
 use Rattle.pb_place.specs.Paths.{below}
 use Rattle.pb_place.specs.World.{World, Torn, put_reply}
 use Rattle.pb_place.specs.declared.child.Reply.{Reply}
@@ -30,9 +30,19 @@ pub record Kept : Type 0 where
 abbrev pub kept : World → Counts → Kept
 kept world counts = record { world = world; counts = counts }
 
--- no call failed
-abbrev pub NoneFailed : Counts → Counts → Type 0
-NoneFailed old new = new ≡ record old { late = new.late }
+-- after so many calls, none of which failed
+abbrev pub past_calls : ℕ → Counts → Counts
+past_calls zero c = c
+past_calls (suc n) c = past_call (past_calls n c)
+
+-- after files were put in a folder: one call for each, and none where there is no folder
+abbrev pub past_puts : Option (List ℕ) → List (List ℕ × List ℕ) → Counts → Counts
+past_puts None files c = c
+past_puts (Some folder) files c = past_calls (length files) c
+
+-- files were put in a folder, by one call for each, and none failed; where there is no folder, no call was made
+abbrev pub PutsIn : Bool → Option (List ℕ) → List (List ℕ × List ℕ) → Kept → Kept → Type 0
+PutsIn tells folder files old new = (new.counts ≡ past_puts folder files old.counts) × (IsTrue tells → new.world ≡ put_reply folder files old.world)
 
 -- files were put in a folder in turn, up to this one, which stands in part or as it did
 abbrev pub PutsUpTo : List ℕ → List (List ℕ × List ℕ) → List ℕ × List ℕ → World → World → Type 0
@@ -44,25 +54,25 @@ FailsToPut tells folder files old new =
     (done : List (List ℕ × List ℕ)) × (file : List ℕ × List ℕ) × (left : List (List ℕ × List ℕ)) × (files ≡ done ++ file ∷ left)
     × (new.counts ≡ past_place_fault (below folder file.0) place.Write old.counts) × (IsTrue tells → PutsUpTo folder done file old.world new.world)
 
--- memory was refused at one of some files; those before it were put in the folder, and no call failed
+-- memory was refused at one of some files, before its write or in it, which is a call that did not fail; those before it were put in the folder
 abbrev pub StopsPutting : Bool → List ℕ → List (List ℕ × List ℕ) → Kept → Kept → Type 0
 StopsPutting tells folder files old new =
     (done : List (List ℕ × List ℕ)) × (file : List ℕ × List ℕ) × (left : List (List ℕ × List ℕ)) × (files ≡ done ++ file ∷ left)
-    × NoneFailed old.counts new.counts × (IsTrue tells → PutsUpTo folder done file old.world new.world)
+    × (PutsIn tells (Some folder) done old new
+    ⊎ ((new.counts ≡ past_calls (length done + 1) old.counts) × (IsTrue tells → PutsUpTo folder done file old.world new.world)))
 
 -- What is told of a reply, over a view: where the view tells what it shows, it is the small compiler's to these words.
 
 abbrev pub IsReply : Bool → List (List ℕ) → World → Reply → Type 0
 IsReply shows words shown reply = IsTrue shows → reply ≡ answered words [] shown
 
--- its files go into this folder
-abbrev pub IsFolder : Bool → List (List ℕ) → World → List ℕ → Type 0
-IsFolder shows words shown folder = IsTrue shows → out_folder words shown ≡ Some folder
+-- its files go into this folder, or nowhere
+abbrev pub IsFolder : Bool → List (List ℕ) → World → Option (List ℕ) → Type 0
+IsFolder shows words shown folder = IsTrue shows → out_folder words shown ≡ folder
 
--- all its files were put there, and no call failed
+-- all its files were put there
 abbrev pub Puts : Bool → Bool → List (List ℕ) → World → Reply → Kept → Kept → Type 0
-Puts shows tells words shown reply old new =
-    NoneFailed old.counts new.counts × (IsTrue shows → IsTrue tells → new.world ≡ put_reply (out_folder words shown) reply.files old.world)
+Puts shows tells words shown reply old new = (folder : Option (List ℕ)) × IsFolder shows words shown folder × PutsIn tells folder reply.files old new
 
 -- a place and two sinks
 pub record Outside : Type 0 where
@@ -73,10 +83,14 @@ pub record Outside : Type 0 where
 abbrev pub outside : World → Counts → Option (List ℕ) → ℕ → Option (List ℕ) → ℕ → Outside
 outside world counts out out_faults err err_faults = record { kept = kept world counts; out = record { taken = out; faults = out_faults }; err = record { taken = err; faults = err_faults } }
 
+-- all was written: the files, the output, and standard error
+abbrev pub WritesAll : Bool → Bool → List (List ℕ) → World → Reply → Outside → Outside → Type 0
+WritesAll shows tells words shown reply old new = Puts shows tells words shown reply old.kept new.kept × Writes reply.stdout old.out new.out × Writes reply.stderr old.err new.err
+
 -- a write failed: that of a file; or the output, behind all files; or standard error, behind these and the whole output
 abbrev pub WriteFails : Bool → Bool → List (List ℕ) → World → Reply → Outside → Outside → Type 0
 WriteFails shows tells words shown reply old new =
-    ((folder : List ℕ) × IsFolder shows words shown folder × FailsToPut tells folder reply.files old.kept new.kept × (new.out ≡ old.out) × (new.err ≡ old.err))
+    ((folder : List ℕ) × IsFolder shows words shown (Some folder) × FailsToPut tells folder reply.files old.kept new.kept × (new.out ≡ old.out) × (new.err ≡ old.err))
     ⊎ ((Puts shows tells words shown reply old.kept new.kept × FailsAt reply.stdout old.out new.out × (new.err ≡ old.err))
     ⊎ (Puts shows tells words shown reply old.kept new.kept × Writes reply.stdout old.out new.out × FailsAt reply.stderr old.err new.err))
 
@@ -84,5 +98,5 @@ WriteFails shows tells words shown reply old new =
 abbrev pub MemoryEnds : Bool → Bool → List (List ℕ) → World → Outside → Outside → Type 0
 MemoryEnds shows tells words shown old new =
     (new ≡ old)
-    ⊎ ((reply : Reply) × (folder : List ℕ) × IsReply shows words shown reply × IsFolder shows words shown folder
+    ⊎ ((reply : Reply) × (folder : List ℕ) × IsReply shows words shown reply × IsFolder shows words shown (Some folder)
     × StopsPutting tells folder reply.files old.kept new.kept × (new.out ≡ old.out) × (new.err ≡ old.err))

@@ -1,12 +1,12 @@
 //! What the program does.
 
-ghost use Rattle.std.specs.Prelude.{◌≡◌, ◌≢◌, ◌⊎◌, ℕ, List, [], Some, OnOk, IfOk, IfErr, IsTrue};
+ghost use Rattle.std.specs.Prelude.{◌≡◌, ◌≢◌, ◌⊎◌, ℕ, List, [], length, Option, Some, OnOk, IfOk, IfErr, IsTrue};
 ghost use Rattle.std.specs.Io.KnownBytes.{Appends};
 ghost use Rattle.pb_place.specs.World.{put_reply};
 ghost use Rattle.pb_place.specs.declared.child.Reply.{Reply};
 ghost use Rattle.pb_mini.specs.Answer.{answered};
 ghost use Rattle.pb_mini_program.specs.OutFolder.{out_folder};
-ghost use Rattle.pb_mini_program.specs.Writing.{FailsToPut, IsFolder, IsReply, MemoryEnds, NoneFailed, StopsPutting, WriteFails, kept, outside};
+ghost use Rattle.pb_mini_program.specs.Writing.{FailsToPut, IsFolder, IsReply, MemoryEnds, PutsIn, StopsPutting, WriteFails, WritesAll, kept, outside, past_calls};
 
 use crate::fault::Fault;
 use crate::out_folder::out_folder;
@@ -23,7 +23,7 @@ fn write_files<P: Place>(
     files: &[(RelativePath, Bytes)],
 ) -> Result<(), PlaceFault>
     ensures written { IsTrue P.tells → OnOk result (P.world place.new ≡ put_reply (Some folder.now) files.now (P.world place.old)) }
-    ensures whole { OnOk result (NoneFailed (P.counts place.old) (P.counts place.new)) }
+    ensures whole { OnOk result (P.counts place.new ≡ past_calls (length files.now) (P.counts place.old)) }
     ensures fault { IfErr result (λ e. e ≢ PlaceFault.OutOfMemory → FailsToPut P.tells folder.now files.now (kept (P.world place.old) (P.counts place.old)) (kept (P.world place.new) (P.counts place.new))) }
     ensures memory { IfErr result (λ e. e ≡ PlaceFault.OutOfMemory → StopsPutting P.tells folder.now files.now (kept (P.world place.old) (P.counts place.old)) (kept (P.world place.new) (P.counts place.new))) }
 {
@@ -44,11 +44,12 @@ fn leave_files<P: Place, V: View>(
     files: &[(RelativePath, Bytes)],
 ) -> Result<(), Fault>
     ensures files { IsTrue V.tells → IsTrue P.tells → OnOk result (files.now ≡ (answered words.now [] (V.shown view.now)).files → P.world place.new ≡ put_reply (out_folder words.now (V.shown view.now)) files.now (P.world place.old)) }
-    ensures whole { OnOk result (NoneFailed (P.counts place.old) (P.counts place.new)) }
+    ensures whole { OnOk result ((folder : Option (List ℕ)) × (files.now ≡ (answered words.now [] (V.shown view.now)).files → IsFolder V.tells words.now (V.shown view.now) folder)
+        × PutsIn P.tells folder files.now (kept (P.world place.old) (P.counts place.old)) (kept (P.world place.new) (P.counts place.new))) }
     ensures read { IfErr result (λ e. e ≡ Fault.Read → V.fails view.now × (place.new ≡ place.old)) }
-    ensures write { IfErr result (λ e. e ≡ Fault.Write → (folder : List ℕ) × (files.now ≡ (answered words.now [] (V.shown view.now)).files → IsFolder V.tells words.now (V.shown view.now) folder)
+    ensures write { IfErr result (λ e. e ≡ Fault.Write → (folder : List ℕ) × (files.now ≡ (answered words.now [] (V.shown view.now)).files → IsFolder V.tells words.now (V.shown view.now) (Some folder))
         × FailsToPut P.tells folder files.now (kept (P.world place.old) (P.counts place.old)) (kept (P.world place.new) (P.counts place.new))) }
-    ensures memory { IfErr result (λ e. e ≡ Fault.OutOfMemory → (place.new ≡ place.old) ⊎ ((folder : List ℕ) × (files.now ≡ (answered words.now [] (V.shown view.now)).files → IsFolder V.tells words.now (V.shown view.now) folder)
+    ensures memory { IfErr result (λ e. e ≡ Fault.OutOfMemory → (place.new ≡ place.old) ⊎ ((folder : List ℕ) × (files.now ≡ (answered words.now [] (V.shown view.now)).files → IsFolder V.tells words.now (V.shown view.now) (Some folder))
         × StopsPutting P.tells folder files.now (kept (P.world place.old) (P.counts place.old)) (kept (P.world place.new) (P.counts place.new)))) }
 {
     if files.is_empty() {
@@ -77,7 +78,9 @@ pub fn carry_out<V: View, P: Place, O: Out, E: Out>(
     ensures stdout { IsTrue V.tells → OnOk result (Appends (O.taken out.old) (O.taken out.new) (answered words.now [] (V.shown view.now)).stdout) }
     ensures stderr { IsTrue V.tells → OnOk result (Appends (E.taken err.old) (E.taken err.new) (answered words.now [] (V.shown view.now)).stderr) }
     ensures files { IsTrue V.tells → IsTrue P.tells → OnOk result (P.world place.new ≡ put_reply (out_folder words.now (V.shown view.now)) (answered words.now [] (V.shown view.now)).files (P.world place.old)) }
-    ensures whole { OnOk result (NoneFailed (P.counts place.old) (P.counts place.new) × (O.faults out.new ≡ O.faults out.old) × (E.faults err.new ≡ E.faults err.old)) }
+    ensures whole { OnOk result ((reply : Reply) × IsReply V.tells words.now (V.shown view.now) reply × WritesAll V.tells P.tells words.now (V.shown view.now) reply
+        (outside (P.world place.old) (P.counts place.old) (O.taken out.old) (O.faults out.old) (E.taken err.old) (E.faults err.old))
+        (outside (P.world place.new) (P.counts place.new) (O.taken out.new) (O.faults out.new) (E.taken err.new) (E.faults err.new))) }
     ensures read { IfErr result (λ e. e ≡ Fault.Read → V.fails view.now × (place.new ≡ place.old) × (out.new ≡ out.old) × (err.new ≡ err.old)) }
     ensures write { IfErr result (λ e. e ≡ Fault.Write → (reply : Reply) × IsReply V.tells words.now (V.shown view.now) reply × WriteFails V.tells P.tells words.now (V.shown view.now) reply
         (outside (P.world place.old) (P.counts place.old) (O.taken out.old) (O.faults out.old) (E.taken err.old) (E.faults err.old))

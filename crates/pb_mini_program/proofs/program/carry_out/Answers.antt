@@ -26,7 +26,7 @@ returns-then-not-write_all-clause-write g c write =
       c.in_ok-reply.ensures.reply,
       inr (inl (
         files_put g.V.View.tells g.P.Place.tells c.args.words.now (g.V.View.shown c.args.view.now) c.in_ok-reply.reply c.as_slice.result.now
-            (kept (g.P.Place.world old) (g.P.Place.counts old)) (kept (g.P.Place.world new) (g.P.Place.counts new)) c.in_ok-reply.ensures.reply c.as_slice.ensures c.in_ok-leave_files.ensures.whole c.in_ok-leave_files.ensures.files,
+            (kept (g.P.Place.world old) (g.P.Place.counts old)) (kept (g.P.Place.world new) (g.P.Place.counts new)) c.in_ok-reply.ensures.reply c.as_slice.ensures c.in_ok-leave_files.ensures.whole,
         sink_fails c.as_slice-2.result.now c.in_ok-reply.reply.stdout record { taken = g.O.Out.taken c.args.out.now; faults = g.O.Out.faults c.args.out.now } record { taken = g.O.Out.taken c.write_all.new.out; faults = g.O.Out.faults c.write_all.new.out }
             c.as_slice-2.ensures (c.write_all.ensures.part (search rules)) (c.write_all.ensures.fault (search rules)),
         refl,
@@ -41,7 +41,7 @@ returns-then-not-write_all-2-clause-write g c write =
       c.in_ok-reply.ensures.reply,
       inr (inr (
         files_put g.V.View.tells g.P.Place.tells c.args.words.now (g.V.View.shown c.args.view.now) c.in_ok-reply.reply c.as_slice.result.now
-            (kept (g.P.Place.world old) (g.P.Place.counts old)) (kept (g.P.Place.world new) (g.P.Place.counts new)) c.in_ok-reply.ensures.reply c.as_slice.ensures c.in_ok-leave_files.ensures.whole c.in_ok-leave_files.ensures.files,
+            (kept (g.P.Place.world old) (g.P.Place.counts old)) (kept (g.P.Place.world new) (g.P.Place.counts new)) c.in_ok-reply.ensures.reply c.as_slice.ensures c.in_ok-leave_files.ensures.whole,
         sink_takes c.as_slice-2.result.now c.in_ok-reply.reply.stdout record { taken = g.O.Out.taken c.args.out.now; faults = g.O.Out.faults c.args.out.now } record { taken = g.O.Out.taken c.write_all.new.out; faults = g.O.Out.faults c.write_all.new.out }
             c.as_slice-2.ensures (c.write_all.ensures.all (search rules)) (c.write_all.ensures.whole (search rules)),
         sink_fails c.as_slice-3.result.now c.in_ok-reply.reply.stderr record { taken = g.E.Out.taken c.args.err.now; faults = g.E.Out.faults c.args.err.now } record { taken = g.E.Out.taken c.write_all-2.new.out; faults = g.E.Out.faults c.write_all-2.new.out }

@@ -1,6 +1,6 @@
 use Rattle.std.proofs.Common.{◌<◌, length, rules, arith}
 use Rattle.pb_mini_program.specs.Writing.{kept}
-use Rattle.pb_mini_program.proofs.Filing.{fails_at, none_past, put_more, stops_at, stops_before}
+use Rattle.pb_mini_program.proofs.Filing.{fails_at, past_more, put_more, stops_at, stops_before}
 use Rattle.pb_mini_program.proofs.Stopping.{at_any, at_err}
 use Rattle.pb_mini_program.proofs.program.write_files.Goals as goal
 
@@ -11,7 +11,7 @@ returns-in_err-path-clause-memory g c =
     let on : c.loop-name.name-index < length c.args.files.now = omega arith in
     at_any _ c.from_residual.result
     (stops_before g.P.Place.tells c.args.folder.now c.args.files.now c.loop-name.name-index c.loop-name-item.result (kept (g.P.Place.world old) (g.P.Place.counts old)) (kept (g.P.Place.world mid) (g.P.Place.counts mid))
-    on c.loop-name-item.is c.loop-name.invariant.none c.loop-name.invariant.written)
+    on c.loop-name-item.is c.loop-name.invariant.called c.loop-name.invariant.written)
 
 pub returns-in_err-write-clause-fault : goal.returns-in_err-write-clause-fault
 returns-in_err-write-clause-fault g c =
@@ -22,7 +22,7 @@ returns-in_err-write-clause-fault g c =
     at_err _ c.from_residual-in_err-write.result c.in_err-write.field-0.0 (search rules) (λ other.
     fails_at g.P.Place.tells c.args.folder.now c.args.files.now c.loop-name.name-index c.loop-name-item.result c.in_ok-path.path c.as_slice.result.now c.in_err-write.field-0.0
     (kept (g.P.Place.world old) (g.P.Place.counts old)) (kept (g.P.Place.world mid) (g.P.Place.counts mid)) (kept (g.P.Place.world new) (g.P.Place.counts new))
-    on c.loop-name-item.is c.in_ok-path.ensures.path c.as_slice.ensures c.loop-name.invariant.none c.loop-name.invariant.written
+    on c.loop-name-item.is c.in_ok-path.ensures.path c.as_slice.ensures c.loop-name.invariant.called c.loop-name.invariant.written
     (c.in_err-write.ensures.fault other) c.in_err-write.ensures.counts c.in_err-write.ensures.err)
 
 pub returns-in_err-write-clause-memory : goal.returns-in_err-write-clause-memory
@@ -34,7 +34,7 @@ returns-in_err-write-clause-memory g c =
     at_err _ c.from_residual-in_err-write.result c.in_err-write.field-0.0 (search rules) (λ memory.
     stops_at g.P.Place.tells c.args.folder.now c.args.files.now c.loop-name.name-index c.loop-name-item.result c.in_ok-path.path c.as_slice.result.now c.in_err-write.field-0.0
     (kept (g.P.Place.world old) (g.P.Place.counts old)) (kept (g.P.Place.world mid) (g.P.Place.counts mid)) (kept (g.P.Place.world new) (g.P.Place.counts new))
-    on c.loop-name-item.is c.in_ok-path.ensures.path c.as_slice.ensures c.loop-name.invariant.none c.loop-name.invariant.written
+    on c.loop-name-item.is c.in_ok-path.ensures.path c.as_slice.ensures c.loop-name.invariant.called c.loop-name.invariant.written
     memory c.in_err-write.ensures.counts c.in_err-write.ensures.err)
 
 pub loop-name-preserved : goal.loop-name-preserved
@@ -44,5 +44,5 @@ loop-name-preserved g c =
       written = λ told.
           put_more c.args.folder.now c.args.files.now c.loop-name.name-index c.loop-name-item.result c.in_ok-path.path c.as_slice.result.now (g.P.Place.world c.args.place.now) (g.P.Place.world c.loop-name.place) (g.P.Place.world c.write.new.self)
           on c.loop-name-item.is c.in_ok-path.ensures.path c.as_slice.ensures (c.loop-name.invariant.written told) (c.in_ok-write.ensures.ok told);
-      none = none_past (g.P.Place.counts c.args.place.now) (g.P.Place.counts c.loop-name.place) (g.P.Place.counts c.write.new.self) c.loop-name.invariant.none c.in_ok-write.ensures.counts;
+      called = past_more (g.P.Place.counts c.args.place.now) (g.P.Place.counts c.loop-name.place) (g.P.Place.counts c.write.new.self) c.loop-name.name-index c.loop-name.invariant.called c.in_ok-write.ensures.counts;
     }
