@@ -3,15 +3,16 @@ use Rattle.std.proofs.Common.{◌≡◌, ◌≢◌, ◌∙◌, ◌||◌, ℕ, Bo
 use Rattle.std.proofs.lemmas.Bool.{cases_Bool, false≢true}
 use Rattle.std.specs.Prelude.{◌==◌, IfSome}
 use Rattle.pb_place.specs.Children.{child_at, is_flying}
-use Rattle.pb_place.specs.Counts.{without}
+use Rattle.pb_place.specs.Counts.{Counts, without}
 use Rattle.pb_place.specs.Paths.{is_at_or_below}
 use Rattle.pb_place.specs.World.{World, Answers, ChangesOnly, ChangesOnlyInSome}
 use Rattle.pb_place.specs.declared.child_in_flight.ChildInFlight.{ChildInFlight}
 use Rattle.pb_place.specs.declared.command.Command.{Command}
-use Rattle.pb_place.proofs.Folders.{only_started}
+use Rattle.pb_place.proofs.Folders.{only_same, only_started}
 use Rattle.pb_project.specs.Targets.{unit_at}
 use Rattle.pb_unit.specs.declared.plan.Planned.{Planned}
 use Rattle.pb_run.specs.Halves.{Basis, IsBegun, WaitsBy, WritesTo, view_in, child_in, child_of}
+use Rattle.pb_run.specs.Landing.{HasEnded}
 use Rattle.pb_run.specs.Launching.{IsSpawned}
 use Rattle.pb_run.specs.Standing.{IsInOrder}
 use Rattle.pb_run.specs.declared.begun.Awaited.{Awaited}
@@ -84,3 +85,15 @@ module _ (launched : Option Launched) (l : Launched) (is : launched ≡ Some l) 
   pub stays_apart : (flying' : List ChildInFlight) (ticket : ℕ) (f : ChildInFlight) → flying' ≡ without l.ticket flying → IfSome launched (λ k. ticket ≢ k.ticket) → child_at ticket flying ≡ Some f → child_at ticket flying' ≡ Some f
   stays_apart flying' ticket f flies apart there =
       ap (child_at ticket) flies ∙ flies_without ticket l.ticket flying (subst (λ (o : Option Launched). IfSome o (λ k. ticket ≢ k.ticket)) is apart) ∙ there
+
+-- Beyond what its child left, a unit's answer changes the place of its record alone.
+
+pub none_changed : (inside : List ℕ → Bool) (old new : World) → new ≡ old → ChangesOnly inside old new
+none_changed inside old new same = subst (ChangesOnly inside old) (sym same) (only_same inside old)
+
+pub record_alone : (folder root key : List ℕ) (w v new : World) → folder ≡ root → v ≡ w → ChangesOnly (is_at_or_below (place_of folder key)) v new → ChangesOnly (is_at_or_below (place_of root key)) w new
+record_alone folder root key w v new is_folder same only =
+    subst (λ (x : World). ChangesOnly (is_at_or_below (place_of root key)) x new) same (subst (λ (f : List ℕ). ChangesOnly (is_at_or_below (place_of f key)) v new) is_folder only)
+
+pub ended_anyway : (ticket : ℕ) (well stood less : Type 0) (before after : World) (old new : Counts) → (less → well) → HasEnded ticket well stood before after old new → HasEnded ticket less stood before after old new
+ended_anyway ticket well stood less before after old new weaker ended = record { answer = ended.answer; counted = ended.counted; answered = λ x. ended.answered (weaker x); only = ended.only; lands = ended.lands }

@@ -5,3 +5,4 @@ pub mod Causes
 pub mod Unfolding
 pub mod Halves
 pub mod Launching
+pub mod Landing

@@ -1,6 +1,6 @@
 //! A unit's run, in halves: it begins, with a child or without; it answers, or its answer is dropped. And both in turn.
 
-ghost use Rattle.std.specs.Prelude.{◌≡◌, ◌≢◌, ◌+◌, ◌⊎◌, ℕ, true, false, List, Option, IsTrue, IsSome, IfOk, IfErr, IfSome, MatchOption, MatchResult, Some, None, max, length, is_some, slice_get, slice_set};
+ghost use Rattle.std.specs.Prelude.{◌≡◌, ◌≢◌, ◌+◌, ◌⊎◌, ℕ, true, false, List, Option, IsTrue, IsSome, IsOk, IfOk, IfErr, IfSome, MatchOption, MatchResult, Some, None, max, length, is_some, slice_get, slice_set};
 ghost use Rattle.std.specs.FinMap as finite;
 ghost use Rattle.pb_command.specs.Command.{command_of};
 ghost use Rattle.pb_directive.specs.declared.directive.Directive.{Directive};
@@ -16,13 +16,15 @@ ghost use Rattle.pb_answer.specs.declared.bad_unit.BadUnit.{BadUnit};
 ghost use Rattle.pb_record.specs.Parts.{IsReading};
 ghost use Rattle.pb_run.specs.Causes.{Takes, Begins, Lands, Drops, Runs, MayBeginUnit, MayAnswerUnit, MayRunUnit, is_of_start, is_spent};
 ghost use Rattle.pb_run.specs.Halves.{Footing, Basis, basis, outcomes_in, Keeps, IsBegun, CanBegin, CanAnswer, BeginsApart, WritesTo, awaits_number, child_of};
+ghost use Rattle.pb_run.specs.Landing.{EndsBy};
+ghost use Rattle.pb_run.specs.Launching.{HasLooked, Launches, LaunchEnds};
 ghost use Rattle.pb_run.specs.Outcome.{outcome_by, directives_in};
 ghost use Rattle.pb_run.specs.Standing.{IsCommandOf, IsInOrder, records_folder};
 ghost use Rattle.pb_run.specs.declared.begun.Begun.{Begun};
 ghost use Rattle.pb_unit.specs.declared.plan.Planned.{Planned};
 ghost use Rattle.pb_soundness.specs.Apart.{is_of};
 ghost use Rattle.pb_soundness.specs.Numbers.{after};
-ghost use Rattle.pb_soundness.specs.Records.{Reading, record_at};
+ghost use Rattle.pb_soundness.specs.Records.{Reading, place_of, record_at};
 ghost use Rattle.pb_store.specs.Differences.{FirstDifference};
 ghost use Rattle.pb_store.specs.declared.difference.Difference.{Difference};
 ghost use Rattle.pb_store.specs.Migrating.{TakesNumber, lacks_number};
@@ -43,8 +45,9 @@ use std::alloc::Global;
 
 /// Begins the unit at a place of a plan, which has not begun, and all that it reaches has answered and is good: `done`
 /// holds what their runs said. Looks for what differs from the unit's record. Where something does, a run number is
-/// taken, the record is removed, the output folder is emptied and the unit's child is spawned, in this order: no text
-/// counts as the unit's record then; where nothing does, or the look fails, or no run number is left, nothing is changed.
+/// taken, the record is removed, the output folder is emptied and the unit's child is spawned, in this order, by one
+/// call each and no other: no text counts as the unit's record then; where nothing does, or the look fails, or no run
+/// number is left, nothing is changed.
 ///
 /// Faults: Device, where a file, a folder or a variable cannot be read; where something differs, Child too, where the
 /// child cannot be spawned, and Device, where the record or the folder cannot be removed, or no run number is left;
@@ -90,6 +93,8 @@ pub fn begin_unit<P: Place>(
     ensures number { IfOk result (λ made. MatchOption (child_of made.begun) (store.new.next ≡ store.old.next) (λ launched. (store.old.next ≡ Some launched.number) × (store.new.next ≡ after launched.number))) }
     ensures most { MatchResult result (λ made. MatchOption (child_of made.begun) (P.most place.new ≡ P.most place.old) (λ launched. P.most place.new ≡ max (P.most place.old) (length (P.counts place.old).starts.flying + 1))) (λ e. P.most place.new ≡ P.most place.old) }
     ensures takes { Takes Begins (MayBeginUnit store.old.next unit.now.key) result (P.counts place.old) (P.counts place.new) }
+    ensures launches { IfOk result (λ made. IfSome (child_of made.begun) (λ launched. (looked : P) × HasLooked P.tells (P.world place.old) (P.world looked) (P.counts place.old) (P.counts looked) × Launches P.child made.begun.command launched.ticket (P.counts looked) (P.counts place.new))) }
+    ensures launch_ends { IfErr result (λ e. is_of_start e ≡ true → (looked : P) × HasLooked P.tells (P.world place.old) (P.world looked) (P.counts place.old) (P.counts looked) × LaunchEnds (place_of (records_folder project.now) unit.now.key) unit.now.out e (P.counts looked) (P.counts place.new)) }
 {
     // Every growth before the first call: a child that is in flight has its name.
     let name = match unit.key.copy(alloc) {
@@ -138,10 +143,11 @@ pub fn begin_unit<P: Place>(
 /// Faults: Child, where the child gave no answer; Device, where a file, a folder or a variable cannot be read, the
 /// record cannot be written, or no run number is left for a record that has none; OutOfMemory. Each has the unit's key,
 /// and no call of the place comes after one that failed. Whatever it answers, the child is in flight no more, and the
-/// others fly on. Where the child writes into the unit's folder, only that folder and the unit's record change,
-/// whatever the records hold and the child leaves, and where the unit is bad that folder alone: no record of it is
-/// kept. Where the unit has no child in flight and its record has a number, nothing is changed. A run number is taken
-/// at most for a record that has none. A unit that is bad is no fault.
+/// others fly on. The child's end changes only files inside the child's folder, and what comes after it only the unit's
+/// record. Where the child writes into the unit's folder, only that folder and the unit's record change, whatever the
+/// records hold and the child leaves, and where the unit is bad that folder alone: no record of it is kept. Where the
+/// unit has no child in flight and its record has a number, nothing is changed. A run number is taken at most for a
+/// record that has none. A unit that is bad is no fault.
 pub fn answer_unit<P: Place>(
     alloc: Global,
     place: &mut P,
@@ -181,6 +187,7 @@ pub fn answer_unit<P: Place>(
     ensures spends { IfErr result (λ e. is_spent e ≡ true → awaits_number begun.awaited ≡ true) }
     ensures most { P.most place.new ≡ P.most place.old }
     ensures takes { Takes (Lands (child_of begun)) (MayAnswerUnit store.old.next unit.now.key (child_of begun)) result (P.counts place.old) (P.counts place.new) }
+    ensures lands { IsTrue P.tells → (left : P) × EndsBy (child_of begun) (IsOk result) (P.still place.old) (P.world place.old) (P.world left) (P.counts place.old) (P.counts left) × ChangesOnly (is_at_or_below (place_of (records_folder project.now) unit.now.key)) (P.world left) (P.world place.new) }
 {
     let Begun {
         unit: name,

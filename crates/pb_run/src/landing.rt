@@ -1,6 +1,6 @@
 //! A unit that answers: its child's end, or its record again; the judgement; the record kept or renewed.
 
-ghost use Rattle.std.specs.Prelude.{◌≡◌, ◌++◌, ℕ, true, false, List, Option, IsTrue, IsSome, IfOk, IfErr, IfSome, MatchResult, OnOk, Some, None, All, is_some, map, slice_get, slice_set};
+ghost use Rattle.std.specs.Prelude.{◌≡◌, ◌++◌, ℕ, true, false, List, Option, IsTrue, IsSome, IsOk, IfOk, IfErr, IfSome, MatchResult, OnOk, Some, None, All, is_some, map, slice_get, slice_set};
 ghost use Rattle.std.specs.FinMap as finite;
 ghost use Rattle.pb_command.specs.Answers.{answered_of};
 ghost use Rattle.pb_command.specs.Judge.{file_at};
@@ -19,6 +19,7 @@ ghost use Rattle.pb_place.specs.Folders.{files_in};
 ghost use Rattle.pb_answer.specs.declared.bad_unit.BadUnit.{BadUnit};
 ghost use Rattle.pb_project.specs.declared.project.Setup.{Setup};
 ghost use Rattle.pb_run.specs.Halves.{Footing, basis, begun_with, outcomes_in, key_at, needed_keys, Keeps, IsBegun, CanAnswer, BeginsApart, WritesTo};
+ghost use Rattle.pb_run.specs.Landing.{HasEnded};
 ghost use Rattle.pb_run.specs.Standing.{IsCommandOf, IsInOrder, records_folder};
 ghost use Rattle.pb_run.specs.declared.begun.Awaited.TheVariants as awaited;
 ghost use Rattle.pb_run.specs.declared.begun.Begun.{Begun};
@@ -59,6 +60,7 @@ pub(crate) fn finish<P: Place>(
     ensures most { P.most place.new ≡ P.most place.old }
     ensures still { StaysStillBut launched.now.ticket (P.counts place.old).starts.flying (P.world place.old) (P.world place.new) (P.still place.old) (P.still place.new) }
     ensures takes { (next : Option ℕ) → Takes (Lands (Some launched.now)) (MayAnswerUnit next unit (Some launched.now)) result (P.counts place.old) (P.counts place.new) }
+    ensures ended { IsTrue P.tells → HasEnded launched.now.ticket (IsOk result) (P.still place.old launched.now.ticket) (P.world place.old) (P.world place.new) (P.counts place.old) (P.counts place.new) }
 {
     match place.finish(alloc, launched.ticket) {
         Ok(ended) => Ok(ended),
@@ -232,7 +234,8 @@ fn unstarted(ran: Ran) -> Ran
     }
 }
 
-/// Answers a unit that has a child: asks for its end, judges the answer, and keeps the record where it is good.
+/// Answers a unit that has a child: asks for its end, judges the answer, and keeps the record where it is good. After
+/// the child's end it changes the record's place alone.
 pub(crate) fn land<P: Place>(
     alloc: Global,
     place: &mut P,
@@ -268,6 +271,7 @@ pub(crate) fn land<P: Place>(
     ensures directives { IfOk result (λ ran. directives_in (outcome_by finite.empty ran) ≡ ran.directives) }
     ensures most { P.most place.new ≡ P.most place.old }
     ensures takes { Takes (Lands (Some launched.now)) (MayAnswerUnit store.now.next unit.now.key (Some launched.now)) result (P.counts place.old) (P.counts place.new) }
+    ensures lands { IsTrue P.tells → (left : P) × HasEnded launched.now.ticket (IsOk result) (P.still place.old launched.now.ticket) (P.world place.old) (P.world left) (P.counts place.old) (P.counts left) × ChangesOnly (is_at_or_below (place_of (records_folder project.now) unit.now.key)) (P.world left) (P.world place.new) }
 {
     let ended = match finish(alloc, place, name, launched) {
         Ok(ended) => ended,
@@ -298,7 +302,7 @@ pub(crate) fn land<P: Place>(
 }
 
 /// Answers a unit of which nothing differs: judges what its record gives again, and gives the record a run number where
-/// it has none. A record that has one is not read.
+/// it has none. A record that has one is not read. Only the record's place changes.
 pub(crate) fn reuse<P: Place>(
     alloc: Global,
     place: &mut P,
@@ -336,6 +340,7 @@ pub(crate) fn reuse<P: Place>(
     ensures untaken { again.now.numbered ≡ true → store.new.next ≡ store.old.next }
     ensures spends { IfErr result (λ e. is_spent e ≡ true → again.now.numbered ≡ false) }
     ensures takes { Takes (Lands None) (MayAnswerUnit store.old.next unit.now.key None) result (P.counts place.old) (P.counts place.new) }
+    ensures lands { IsTrue P.tells → ChangesOnly (is_at_or_below (place_of (records_folder project.now) unit.now.key)) (P.world place.old) (P.world place.new) }
 {
     let judgement = match judged_now(alloc, place, project, unit, command, &again.ended) {
         Ok(judgement) => judgement,

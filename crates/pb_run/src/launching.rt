@@ -7,7 +7,7 @@ ghost use Rattle.pb_place.specs.World.{ChangesOnly, ChangesOnlyInSome};
 ghost use Rattle.pb_record.specs.Parts.{IsReading};
 ghost use Rattle.pb_record.specs.declared.record.Record.{Record};
 ghost use Rattle.pb_run.specs.Causes.{Takes, NoStart, IsLifted, MayBeginUnit, is_of_start};
-ghost use Rattle.pb_run.specs.Launching.{IsSpawned};
+ghost use Rattle.pb_run.specs.Launching.{IsSpawned, Calls, OneCall, DropEnds, Spawns, SpawnEnds, SpawnsAnew, AnewEnds, Launches, LaunchEnds};
 ghost use Rattle.pb_soundness.specs.Apart.{is_of, KeepsStill, KeepsStillOutside};
 ghost use Rattle.pb_soundness.specs.Inputs.{Judge};
 ghost use Rattle.pb_soundness.specs.Numbers.{after, IsAhead};
@@ -58,7 +58,7 @@ pub(crate) fn compare<P: Place>(
     }
 }
 
-/// Removes the record of a unit, and gives the run number of its next one.
+/// Removes the record of a unit, by one call, and gives the run number of its next one.
 #[tactic(auto, using(crate::proofs::Causing::drop_laws))]
 fn drop_record<P: Place>(
     alloc: Global,
@@ -79,6 +79,7 @@ fn drop_record<P: Place>(
     ensures most { P.most place.new ≡ P.most place.old }
     ensures still { IsTrue P.tells → KeepsStillOutside (is_at_or_below (place_of store.old.folder key.now)) (P.counts place.old).starts.flying (P.still place.old) (P.still place.new) }
     ensures takes { Takes NoStart (MayBeginUnit store.old.next key.now) result (P.counts place.old) (P.counts place.new) }
+    ensures calls { Calls OneCall (DropEnds (place_of store.old.folder key.now)) result (P.counts place.old) (P.counts place.new) }
 {
     let unit = match key.copy(alloc) {
         Ok(unit) => unit,
@@ -90,7 +91,7 @@ fn drop_record<P: Place>(
     }
 }
 
-/// Spawns the child of a unit.
+/// Spawns the child of a unit, by one call.
 #[tactic(auto, using(crate::proofs::Spawning::spawn_laws))]
 fn spawn<P: Place>(
     alloc: Global,
@@ -104,6 +105,7 @@ fn spawn<P: Place>(
     ensures most { MatchResult result (λ ticket. P.most place.new ≡ max (P.most place.old) (length (P.counts place.old).starts.flying + 1)) (λ e. P.most place.new ≡ P.most place.old) }
     ensures still { StaysStill (P.counts place.old).starts.flying (P.world place.old) (P.world place.new) (P.still place.old) (P.still place.new) }
     ensures takes { (next : Option ℕ) → Takes IsLifted (MayBeginUnit next key.now) result (P.counts place.old) (P.counts place.new) }
+    ensures calls { Calls (Spawns P.child command.now) SpawnEnds result (P.counts place.old) (P.counts place.new) }
 {
     let unit = match key.copy(alloc) {
         Ok(unit) => unit,
@@ -115,7 +117,7 @@ fn spawn<P: Place>(
     }
 }
 
-/// Empties the output folder of a unit, and spawns its child.
+/// Empties the output folder of a unit, and spawns its child, each by one call.
 #[tactic(auto, using(crate::proofs::Spawning::launch_laws))]
 fn spawn_anew<P: Place>(
     alloc: Global,
@@ -129,6 +131,7 @@ fn spawn_anew<P: Place>(
     ensures most { MatchResult result (λ ticket. P.most place.new ≡ max (P.most place.old) (length (P.counts place.old).starts.flying + 1)) (λ e. P.most place.new ≡ P.most place.old) }
     ensures still { IsTrue P.tells → KeepsStillOutside (is_at_or_below unit.now.out) (P.counts place.old).starts.flying (P.still place.old) (P.still place.new) }
     ensures takes { (next : Option ℕ) → Takes IsLifted (MayBeginUnit next unit.now.key) result (P.counts place.old) (P.counts place.new) }
+    ensures calls { Calls (SpawnsAnew P.child command.now) (AnewEnds unit.now.out) result (P.counts place.old) (P.counts place.new) }
 {
     // Emptied before the child is there, so that nothing old counts as its own.
     empty(alloc, place, unit.key.as_str(), &unit.out)?;
@@ -139,7 +142,7 @@ fn spawn_anew<P: Place>(
 }
 
 /// Launches the child of a unit of which something differs: takes a run number, removes the record, empties the output
-/// folder and spawns the child.
+/// folder and spawns the child, by one call each and no other.
 #[tactic(auto, using(crate::proofs::Spawning::launch_laws))]
 pub(crate) fn launch<P: Place>(
     alloc: Global,
@@ -165,6 +168,7 @@ pub(crate) fn launch<P: Place>(
     ensures most { MatchResult result (λ launched. P.most place.new ≡ max (P.most place.old) (length (P.counts place.old).starts.flying + 1)) (λ e. P.most place.new ≡ P.most place.old) }
     ensures still { IsTrue P.tells → KeepsStillOutside (is_of store.old.folder unit.now.key) (P.counts place.old).starts.flying (P.still place.old) (P.still place.new) }
     ensures takes { Takes (λ launched. IsLifted launched.ticket) (MayBeginUnit store.old.next unit.now.key) result (P.counts place.old) (P.counts place.new) }
+    ensures calls { Calls (λ launched. Launches P.child command.now launched.ticket) (LaunchEnds (place_of store.old.folder unit.now.key) unit.now.out) result (P.counts place.old) (P.counts place.new) }
 {
     // The record goes before the folder is emptied: a build that ends between leaves no record that lies.
     let number = drop_record(alloc, place, store, &unit.key)?;

@@ -5,6 +5,7 @@ ghost use Rattle.pb_place.specs.Paths.{is_at_or_below};
 ghost use Rattle.pb_place.specs.World.{Ends, ChangesOnly, ChangesOnlyInSome, removed};
 ghost use Rattle.pb_place.specs.declared.command.Ended.{Ended};
 ghost use Rattle.pb_run.specs.Causes.{Takes, NoStart, OneStart, MayStart, MayRemove, MayRead};
+ghost use Rattle.pb_run.specs.Launching.{Calls, OneCall, RemovalEnds};
 ghost use Rattle.pb_command.specs.Judge.{file_at};
 ghost use Rattle.pb_soundness.specs.Apart.{KeepsStill, KeepsStillOutside};
 
@@ -38,7 +39,7 @@ pub fn start<P: Place>(
     }
 }
 
-/// Empties the output folder of the unit of this key.
+/// Empties the output folder of the unit of this key, by one call.
 #[tactic(auto, using(pb_place::proofs::Folders::change_laws))]
 pub(crate) fn empty<P: Place>(
     alloc: Global,
@@ -51,6 +52,7 @@ pub(crate) fn empty<P: Place>(
     ensures most { P.most place.new ≡ P.most place.old }
     ensures still { IsTrue P.tells → KeepsStillOutside (is_at_or_below folder.now) (P.counts place.old).starts.flying (P.still place.old) (P.still place.new) }
     ensures takes { Takes NoStart (MayRemove key.now) result (P.counts place.old) (P.counts place.new) }
+    ensures calls { Calls OneCall (RemovalEnds folder.now) result (P.counts place.old) (P.counts place.new) }
 {
     let unit = match Text::from_str(alloc, key) {
         Ok(unit) => unit,

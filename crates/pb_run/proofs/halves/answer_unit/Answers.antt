@@ -1,4 +1,4 @@
-use Rattle.std.proofs.Common.{◌∙◌, ap, subst, sym}
+use Rattle.std.proofs.Common.{◌∙◌, ap, refl, subst, sym}
 use Rattle.std.proofs.lemmas.Bool.{false≢true}
 use Rattle.pb_place.specs.Children.{child_at}
 use Rattle.pb_place.specs.Counts.{Starts}
@@ -6,6 +6,7 @@ use Rattle.pb_place.specs.Paths.{is_at_or_below}
 use Rattle.pb_place.specs.World.{ChangesOnly}
 use Rattle.pb_place.proofs.Folders.{only_same}
 use Rattle.pb_run.specs.Halves.{WritesTo, basis, child_in, child_of}
+use Rattle.pb_run.specs.Landing.{EndsBy}
 use Rattle.pb_run.specs.declared.begun.Awaited.{Awaited}
 use Rattle.pb_run.specs.declared.begun.Awaited.TheVariants as awaited
 use Rattle.pb_run.proofs.Kept.{flying_answer}
@@ -86,3 +87,37 @@ returns-in-Child-clause-spends g c spent =
 
 pub returns-clause-spends : goal.returns-clause-spends
 returns-clause-spends g c spent = awaited_numberless c.args.begun.awaited c.in-Record.again c.in-Record.is (c.in-Err-reuse.ensures.spends spent)
+
+pub returns-in-Ok-clause-lands : goal.returns-in-Ok-clause-lands
+returns-in-Ok-clause-lands g c told =
+    let (left, ended, only) = c.in-Ok.ensures.lands told in (
+      left,
+      subst (λ (o : Awaited). EndsBy (child_in o) _ (g.P.Place.still c.args.place.now) (g.P.Place.world c.args.place.now) (g.P.Place.world left) (g.P.Place.counts c.args.place.now) (g.P.Place.counts left)) (sym c.in-Child.is) ended,
+      only,
+    )
+
+pub returns-in-Child-clause-lands : goal.returns-in-Child-clause-lands
+returns-in-Child-clause-lands g c told =
+    let (left, ended, only) = c.in-Err.ensures.lands told in (
+      left,
+      subst (λ (o : Awaited). EndsBy (child_in o) _ (g.P.Place.still c.args.place.now) (g.P.Place.world c.args.place.now) (g.P.Place.world left) (g.P.Place.counts c.args.place.now) (g.P.Place.counts left)) (sym c.in-Child.is) ended,
+      only,
+    )
+
+pub returns-in-Ok-reuse-clause-lands : goal.returns-in-Ok-reuse-clause-lands
+returns-in-Ok-reuse-clause-lands g c told = (
+  c.args.place.now,
+  subst
+      (λ (o : Awaited). EndsBy (child_in o) _ (g.P.Place.still c.args.place.now) (g.P.Place.world c.args.place.now) (g.P.Place.world c.args.place.now) (g.P.Place.counts c.args.place.now) (g.P.Place.counts c.args.place.now))
+      (sym c.in-Record.is) (refl, refl),
+  c.in-Ok-reuse.ensures.lands told,
+)
+
+pub returns-clause-lands : goal.returns-clause-lands
+returns-clause-lands g c told = (
+  c.args.place.now,
+  subst
+      (λ (o : Awaited). EndsBy (child_in o) _ (g.P.Place.still c.args.place.now) (g.P.Place.world c.args.place.now) (g.P.Place.world c.args.place.now) (g.P.Place.counts c.args.place.now) (g.P.Place.counts c.args.place.now))
+      (sym c.in-Record.is) (refl, refl),
+  c.in-Err-reuse.ensures.lands told,
+)

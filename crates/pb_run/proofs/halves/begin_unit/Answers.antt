@@ -4,11 +4,12 @@ use Rattle.pb_place.specs.Children.{child_at}
 use Rattle.pb_place.specs.Counts.{Starts}
 use Rattle.pb_place.specs.World.{World, ChangesOnly}
 use Rattle.pb_run.specs.Halves.{CanBegin, basis}
+use Rattle.pb_run.specs.Launching.{LaunchEnds}
 use Rattle.pb_run.proofs.Halving.{begun_none, begun_some, flies_lifted, flying_begun, keeps_launched, keeps_same, others_begun, others_same, out_asked, still_after}
 use Rattle.pb_run.proofs.Writes.{spawned_writes}
 use Rattle.pb_run.proofs.halves.begin_unit.Goals as goal
 use Rattle.pb_soundness.specs.Apart.{is_of}
-use Rattle.pb_soundness.specs.Records.{record_at}
+use Rattle.pb_soundness.specs.Records.{place_of, record_at}
 use Rattle.pb_store.specs.Keeping.{Leaves}
 
 pub returns-in-Err-clause-keeps : goal.returns-in-Err-clause-keeps
@@ -100,3 +101,17 @@ returns-in-Ok-launch-clause-spent g c none told = c.in-Ok-launch.ensures.spent n
 
 pub returns-in-Err-launch-clause-spent : goal.returns-in-Err-launch-clause-spent
 returns-in-Err-launch-clause-spent g c none told = c.in-Err-launch.ensures.spent none told ∙ c.in-Ok-compare.ensures.same told
+
+pub returns-in-Ok-launch-clause-launches : goal.returns-in-Ok-launch-clause-launches
+returns-in-Ok-launch-clause-launches g c = (
+  c.compare.new.place,
+  record { same = c.in-Ok-compare.ensures.same; failures = c.in-Ok-compare.ensures.takes.0; starts = c.in-Ok-compare.ensures.takes.1 },
+  c.in-Ok-launch.ensures.calls,
+)
+
+pub returns-in-Err-launch-clause-launch_ends : goal.returns-in-Err-launch-clause-launch_ends
+returns-in-Err-launch-clause-launch_ends g c of_start = (
+  c.compare.new.place,
+  record { same = c.in-Ok-compare.ensures.same; failures = c.in-Ok-compare.ensures.takes.0; starts = c.in-Ok-compare.ensures.takes.1 },
+  subst (λ (folder : List ℕ). LaunchEnds (place_of folder c.args.unit.now.key) c.args.unit.now.out c.in-Err-launch.fault (g.P.Place.counts c.compare.new.place) (g.P.Place.counts c.launch.new.place)) c.requires.folder c.in-Err-launch.ensures.calls,
+)

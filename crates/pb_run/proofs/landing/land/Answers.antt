@@ -12,7 +12,7 @@ use Rattle.pb_run.specs.Outcome.{outcome_by}
 use Rattle.pb_run.proofs.Answering.{landed_gives, landed_only}
 use Rattle.pb_run.proofs.Ending.{TellsAnswer, landed_more, landed_told}
 use Rattle.pb_run.proofs.Settling.{keeps_bad, keeps_landed}
-use Rattle.pb_run.proofs.Writes.{ended_only, record_only, unkept_only}
+use Rattle.pb_run.proofs.Writes.{ended_anyway, ended_only, none_changed, record_alone, record_only, unkept_only}
 use Rattle.pb_run.proofs.landing.land.Goals as goal
 use Rattle.pb_run.specs.Standing.{records_folder}
 
@@ -123,3 +123,30 @@ returns-then-is_some-clause-unkept g c told writes bad =
 
 pub returns-in-Ok-keep-clause-unkept : goal.returns-in-Ok-keep-clause-unkept
 returns-in-Ok-keep-clause-unkept g c told writes bad = absurd (false≢true (sym (sym c.is_some.ensures ∙ c.if-is_some.false) ∙ bad))
+
+pub returns-in-Err-clause-lands : goal.returns-in-Err-clause-lands
+returns-in-Err-clause-lands g c told = (c.finish.new.place, c.in-Err.ensures.ended told, none_changed _ (g.P.Place.world c.finish.new.place) (g.P.Place.world c.finish.new.place) refl)
+
+pub returns-in-Err-judged_now-clause-lands : goal.returns-in-Err-judged_now-clause-lands
+returns-in-Err-judged_now-clause-lands g c told =
+    (c.finish.new.place, ended_anyway _ _ _ _ (g.P.Place.world c.args.place.now) (g.P.Place.world c.finish.new.place) (g.P.Place.counts c.args.place.now) (g.P.Place.counts c.finish.new.place) (λ wrong. absurd (false≢true wrong)) (c.in-Ok.ensures.ended told), none_changed _ (g.P.Place.world c.finish.new.place) (g.P.Place.world c.judged_now.new.place) (c.in-Err-judged_now.ensures.same told))
+
+pub returns-then-is_some-clause-lands : goal.returns-then-is_some-clause-lands
+returns-then-is_some-clause-lands g c told =
+    (c.finish.new.place, c.in-Ok.ensures.ended told, none_changed _ (g.P.Place.world c.finish.new.place) (g.P.Place.world c.judged_now.new.place) (c.in-Ok-judged_now.ensures.same told))
+
+pub returns-in-Ok-keep-clause-lands : goal.returns-in-Ok-keep-clause-lands
+returns-in-Ok-keep-clause-lands g c told = (
+  c.finish.new.place,
+  c.in-Ok.ensures.ended told,
+  record_alone c.args.store.now.folder (records_folder c.args.project.now) c.args.unit.now.key (g.P.Place.world c.finish.new.place) (g.P.Place.world c.judged_now.new.place) (g.P.Place.world c.keep.new.place) c.requires.folder
+      (c.in-Ok-judged_now.ensures.same told) (c.in-Ok-keep.ensures.only told),
+)
+
+pub returns-clause-lands : goal.returns-clause-lands
+returns-clause-lands g c told = (
+  c.finish.new.place,
+  ended_anyway _ _ _ _ (g.P.Place.world c.args.place.now) (g.P.Place.world c.finish.new.place) (g.P.Place.counts c.args.place.now) (g.P.Place.counts c.finish.new.place) (λ wrong. absurd (false≢true wrong)) (c.in-Ok.ensures.ended told),
+  record_alone c.args.store.now.folder (records_folder c.args.project.now) c.args.unit.now.key (g.P.Place.world c.finish.new.place) (g.P.Place.world c.judged_now.new.place) (g.P.Place.world c.keep.new.place) c.requires.folder
+      (c.in-Ok-judged_now.ensures.same told) (c.in-Err-keep.ensures.only told),
+)

@@ -6,6 +6,7 @@ use Rattle.pb_run.specs.Halves.{basis}
 use Rattle.pb_run.specs.Standing.{records_folder}
 use Rattle.pb_run.proofs.Causing.{follow_spares}
 use Rattle.pb_run.proofs.Reusing.{flying_alone, flying_follow, keeps_bad_again, keeps_numbered, keeps_renewed, keeps_unrenewed, keys_needed, others_renewed, others_unchanged, renewed_outcome, renewed_so, renewing_so, replay_outcome, reused_only, reused_same, reused_still}
+use Rattle.pb_run.proofs.Writes.{none_changed, record_alone}
 use Rattle.pb_run.proofs.landing.reuse.Goals as goal
 
 pub returns-in-Err-clause-others : goal.returns-in-Err-clause-others
@@ -145,3 +146,22 @@ returns-in-Err-clause-spends g c spent =
 
 pub returns-clause-spends : goal.returns-clause-spends
 returns-clause-spends g c spent = c.if-again.false
+
+pub returns-in-Err-clause-lands : goal.returns-in-Err-clause-lands
+returns-in-Err-clause-lands g c told = none_changed _ (g.P.Place.world c.args.place.now) (g.P.Place.world c.judged_now.new.place) (c.in-Err.ensures.same told)
+
+pub returns-then-is_some-clause-lands : goal.returns-then-is_some-clause-lands
+returns-then-is_some-clause-lands g c told = none_changed _ (g.P.Place.world c.args.place.now) (g.P.Place.world c.judged_now.new.place) (c.in-Ok.ensures.same told)
+
+pub returns-then-again-clause-lands : goal.returns-then-again-clause-lands
+returns-then-again-clause-lands g c told = none_changed _ (g.P.Place.world c.args.place.now) (g.P.Place.world c.judged_now.new.place) (c.in-Ok.ensures.same told)
+
+pub returns-in-Ok-migrate-clause-lands : goal.returns-in-Ok-migrate-clause-lands
+returns-in-Ok-migrate-clause-lands g c told =
+    record_alone c.args.store.now.folder (records_folder c.args.project.now) c.args.unit.now.key (g.P.Place.world c.args.place.now) (g.P.Place.world c.judged_now.new.place) (g.P.Place.world c.migrate.new.place) c.requires.folder
+    (c.in-Ok.ensures.same told) (c.in-Ok-migrate.ensures.only told)
+
+pub returns-clause-lands : goal.returns-clause-lands
+returns-clause-lands g c told =
+    record_alone c.args.store.now.folder (records_folder c.args.project.now) c.args.unit.now.key (g.P.Place.world c.args.place.now) (g.P.Place.world c.judged_now.new.place) (g.P.Place.world c.migrate.new.place) c.requires.folder
+    (c.in-Ok.ensures.same told) (c.in-Err-migrate.ensures.only told)
