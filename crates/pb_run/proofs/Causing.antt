@@ -1,5 +1,6 @@
 -- The fault of a call of the store or of the place, as one of a unit.
-use Rattle.std.proofs.Common.{◌≡◌, ◌≢◌, ◌⊎◌, ℕ, false, List, Option, Some, None, Err, refl, sym, ap, subst, inl, inr, ◌∙◌}
+use Rattle.std.proofs.Common.{◌≡◌, ◌≢◌, ◌⊎◌, ℕ, true, false, List, Option, Some, None, Err, refl, sym, ap, subst, inl, inr, ◌∙◌}
+use Rattle.std.proofs.lemmas.Bool.{false≢true}
 use Rattle.pb_answer.specs.declared.fault.BuildFault.{BuildFault}
 use Rattle.pb_answer.specs.declared.fault.BuildFault.TheVariants.{Plan, Toolchain, Child, Device, Sink, OutOfMemory}
 use Rattle.pb_answer.specs.declared.fault.DeviceFault.TheVariants.{Place, NumbersSpent}
@@ -10,7 +11,7 @@ use Rattle.pb_place.specs.declared.place.PlaceFault.{PlaceFault}
 use Rattle.pb_place.specs.declared.place.PlaceFault.TheVariants as place
 use Rattle.pb_place.specs.declared.place.StartFault.{StartFault}
 use Rattle.pb_place.specs.declared.place.StartFault.TheVariants as start
-use Rattle.pb_run.specs.Causes.{FailedLast, HasCause, MayAnswerUnit, MayBeginUnit, MayFollow, MayRead, MayRemove, child_fault, device_fault, is_of_start, is_spent, store_fault}
+use Rattle.pb_run.specs.Causes.{FailedLast, HasCause, MayAnswerUnit, MayBeginUnit, MayFollow, MayRead, MayRemove, child_fault, device_fault, is_of_start, is_of_write, is_spent, store_fault}
 use Rattle.pb_run.specs.declared.begun.Launched.{Launched}
 use Rattle.pb_store.specs.Causes as causes
 use Rattle.pb_store.specs.declared.fault.StoreFault.{StoreFault}
@@ -186,8 +187,48 @@ land_spares next key launched (Device unit NumbersSpent) old new may = absurd (s
 land_spares next key launched Sink old new may = refl
 land_spares next key launched OutOfMemory old new may = refl
 
+-- What is written.
+
+-- a write that the store tells as failed
+written_of : (unit : List ℕ) (e : StoreFault) → is_of_write (store_fault unit e) ≡ true → e ≡ store.Place place.Write
+written_of unit (store.Place place.Read) so = absurd (false≢true so)
+written_of unit (store.Place place.List) so = absurd (false≢true so)
+written_of unit (store.Place place.Write) so = refl
+written_of unit (store.Place place.Remove) so = absurd (false≢true so)
+written_of unit (store.Place place.Variable) so = absurd (false≢true so)
+written_of unit (store.Place place.OutOfMemory) so = absurd (false≢true so)
+written_of unit store.NumbersSpent so = absurd (false≢true so)
+written_of unit store.OutOfMemory so = absurd (false≢true so)
+
+pub store_written : (unit : List ℕ) (e : StoreFault) (told : BuildFault) (named path : List ℕ) → told ≡ store_fault unit e → (e ≡ store.Place place.Write → named ≡ path) → is_of_write told ≡ true → named ≡ path
+store_written unit e told named path is from so = from (written_of unit e (sym (ap is_of_write is) ∙ so))
+
+-- a read is none, nor is the end of a child
+read_fault : (fault : PlaceFault) → fault ≡ place.Read → (unit : List ℕ) → is_of_write (Device unit (Place fault)) ≡ false
+read_fault fault is unit = subst (λ f. is_of_write (Device unit (Place f)) ≡ false) (sym is) refl
+
+pub read_unwritten : (key : List ℕ) (e : BuildFault) (old new : Starts) → MayRead key e old new → is_of_write e ≡ false
+read_unwritten key (Plan refusal) old new may = refl
+read_unwritten key Toolchain old new may = refl
+read_unwritten key (Child unit fault) old new may = refl
+read_unwritten key (Device unit (Place fault)) old new may = read_fault fault (same_fault fault place.Read may.1) unit
+read_unwritten key (Device unit NumbersSpent) old new may = refl
+read_unwritten key Sink old new may = refl
+read_unwritten key OutOfMemory old new may = refl
+
+child_unwritten : (unit : List ℕ) (e : StartFault) → is_of_write (child_fault unit e) ≡ false
+child_unwritten unit start.CannotStart = refl
+child_unwritten unit start.Died = refl
+child_unwritten unit start.Capture = refl
+child_unwritten unit start.OutOfMemory = refl
+
+pub end_unwritten : (unit : List ℕ) (e : StartFault) (told : BuildFault) → told ≡ child_fault unit e → is_of_write told ≡ false
+end_unwritten unit e told is = ap is_of_write is ∙ child_unwritten unit e
+
 pub ruleset look_laws = (look_told, look_none)
 
 pub ruleset drop_laws = (drop_told)
 
-pub ruleset keep_laws = (keep_told)
+pub ruleset keep_laws = (keep_told, store_written)
+
+pub ruleset read_laws = (read_follows, read_unwritten)

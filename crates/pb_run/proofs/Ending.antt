@@ -11,6 +11,7 @@ use Rattle.pb_place.specs.declared.place.StartFault.{StartFault}
 use Rattle.pb_place.specs.declared.place.StartFault.TheVariants as start
 use Rattle.pb_run.specs.Causes.{FailedLast, HasCause, IsLifted, MayBeginUnit, MayFollow, MayAnswerUnit, LandsBy, child_fault, device_fault, store_fault}
 use Rattle.pb_run.specs.declared.begun.Launched.{Launched}
+use Rattle.pb_run.proofs.Causing.{end_unwritten}
 use Rattle.pb_store.specs.Causes as causes
 use Rattle.pb_store.specs.declared.fault.StoreFault.{StoreFault}
 use Rattle.pb_store.specs.declared.fault.StoreFault.TheVariants as store
@@ -115,4 +116,4 @@ migrated_told next key store.OutOfMemory old new starts may cause = (starts, cau
 pub migrate_told : (next : Option ℕ) (key unit : List ℕ) (e : StoreFault) (told : BuildFault) (old new : Counts) → told ≡ store_fault unit e → unit ≡ key → (new.starts ≡ old.starts) × (causes.MayMigrate next e × causes.HasCause e old new) → TellsAnswer next key None old new told
 migrate_told next key unit e told old new is named takes = subst (TellsAnswer next key None old new) (sym (is ∙ ap (λ k. store_fault k e) named)) (migrated_told next key e old new takes.0 takes.1.0 takes.1.1)
 
-pub ruleset finish_laws = (finish_lands, finish_told)
+pub ruleset finish_laws = (finish_lands, finish_told, end_unwritten)

@@ -70,6 +70,11 @@ abbrev pub is_spent : BuildFault → Bool
 is_spent (Device unit NumbersSpent) = true
 is_spent fault = false
 
+-- a file could not be written
+abbrev pub is_of_write : BuildFault → Bool
+is_of_write (Device unit (Place place.Write)) = true
+is_of_write fault = false
+
 -- what a step says of the counters. Where it ended well: no call failed, and so many children were started; as many fly as before. Else: that it may tell this fault after so many starts, and the fault's cause
 abbrev pub Takes : {T : Type 0} → (T → Starts → Starts → Type 0) → (BuildFault → Starts → Starts → Type 0) → Result T BuildFault → Counts → Counts → Type 0
 Takes Begins May result old new = MatchResult result (λ x. (new.failures ≡ old.failures) × Begins x old.starts new.starts) (λ e. May e old.starts new.starts × HasCause e old new)

@@ -14,7 +14,7 @@ ghost use Rattle.pb_place.specs.declared.child_in_flight.ChildInFlight.{ChildInF
 ghost use Rattle.pb_project.specs.Targets.{unit_at};
 ghost use Rattle.pb_answer.specs.declared.bad_unit.BadUnit.{BadUnit};
 ghost use Rattle.pb_record.specs.Parts.{IsReading};
-ghost use Rattle.pb_run.specs.Causes.{Takes, Begins, Lands, Drops, Runs, MayBeginUnit, MayAnswerUnit, MayRunUnit, is_of_start, is_spent};
+ghost use Rattle.pb_run.specs.Causes.{Takes, Begins, Lands, Drops, Runs, MayBeginUnit, MayAnswerUnit, MayRunUnit, is_of_start, is_of_write, is_spent};
 ghost use Rattle.pb_run.specs.Halves.{Footing, Basis, basis, outcomes_in, Keeps, IsBegun, CanBegin, CanAnswer, BeginsApart, WritesTo, awaits_number, child_of};
 ghost use Rattle.pb_run.specs.Landing.{EndsBy};
 ghost use Rattle.pb_run.specs.Launching.{HasLooked, Launches, LaunchEnds};
@@ -141,7 +141,7 @@ pub fn begin_unit<P: Place>(
 /// unit began, and gives a record of format 1 a run number: one that has a number is not read once more.
 ///
 /// Faults: Child, where the child gave no answer; Device, where a file, a folder or a variable cannot be read, the
-/// record cannot be written, or no run number is left for a record that has none; OutOfMemory. Each has the unit's key,
+/// record, the one file that is written, cannot be, or no run number is left for a record that has none; OutOfMemory. Each has the unit's key,
 /// and no call of the place comes after one that failed. Whatever it answers, the child is in flight no more, and the
 /// others fly on. The child's end changes only files inside the child's folder, and what comes after it only the unit's
 /// record. Where the child writes into the unit's folder, only that folder and the unit's record change, whatever the
@@ -185,6 +185,7 @@ pub fn answer_unit<P: Place>(
     ensures next { TakesNumber store.old.next store.new.next }
     ensures untaken { awaits_number begun.awaited ≡ false → store.new.next ≡ store.old.next }
     ensures spends { IfErr result (λ e. is_spent e ≡ true → awaits_number begun.awaited ≡ true) }
+    ensures written { IfErr result (λ e. is_of_write e ≡ true → (P.counts place.new).named ≡ place_of (records_folder project.now) unit.now.key) }
     ensures most { P.most place.new ≡ P.most place.old }
     ensures takes { Takes (Lands (child_of begun)) (MayAnswerUnit store.old.next unit.now.key (child_of begun)) result (P.counts place.old) (P.counts place.new) }
     ensures lands { IsTrue P.tells → (left : P) × EndsBy (child_of begun) (IsOk result) (P.still place.old) (P.world place.old) (P.world left) (P.counts place.old) (P.counts left) × ChangesOnly (is_at_or_below (place_of (records_folder project.now) unit.now.key)) (P.world left) (P.world place.new) }

@@ -11,7 +11,7 @@ ghost use Rattle.pb_project.specs.Targets.{dep_info_of};
 ghost use Rattle.pb_record.specs.Parts.{IsReading};
 ghost use Rattle.pb_record.specs.Sorted.{are_sorted};
 ghost use Rattle.pb_record.specs.declared.record.Record.{Record};
-ghost use Rattle.pb_run.specs.Causes.{Takes, NoStart, Lands, MayFollow, MayAnswerUnit, is_spent};
+ghost use Rattle.pb_run.specs.Causes.{Takes, NoStart, Lands, MayFollow, MayAnswerUnit, is_of_write, is_spent};
 ghost use Rattle.pb_directive.specs.declared.directive.Directive.{Directive};
 ghost use Rattle.pb_flight.specs.declared.flight.State.{State};
 ghost use Rattle.pb_flight.specs.declared.flight.State.TheVariants as state;
@@ -61,6 +61,7 @@ pub(crate) fn finish<P: Place>(
     ensures still { StaysStillBut launched.now.ticket (P.counts place.old).starts.flying (P.world place.old) (P.world place.new) (P.still place.old) (P.still place.new) }
     ensures takes { (next : Option ℕ) → Takes (Lands (Some launched.now)) (MayAnswerUnit next unit (Some launched.now)) result (P.counts place.old) (P.counts place.new) }
     ensures ended { IsTrue P.tells → HasEnded launched.now.ticket (IsOk result) (P.still place.old launched.now.ticket) (P.world place.old) (P.world place.new) (P.counts place.old) (P.counts place.new) }
+    ensures unwritten { IfErr result (λ e. is_of_write e ≡ false) }
 {
     match place.finish(alloc, launched.ticket) {
         Ok(ended) => Ok(ended),
@@ -69,6 +70,7 @@ pub(crate) fn finish<P: Place>(
 }
 
 /// Judges the answer of a unit's child by what stands in its output folder.
+#[tactic(auto, using(crate::proofs::Causing::read_laws))]
 pub(crate) fn judged_now<P: Place>(
     alloc: Global,
     place: &mut P,
@@ -84,6 +86,7 @@ pub(crate) fn judged_now<P: Place>(
     ensures most { P.most place.new ≡ P.most place.old }
     ensures still { IsTrue P.tells → KeepsStill (P.still place.old) (P.still place.new) }
     ensures takes { Takes NoStart (MayFollow unit.now.key) result (P.counts place.old) (P.counts place.new) }
+    ensures unwritten { IfErr result (λ e. is_of_write e ≡ false) }
 {
     let path = match dep_info_path(alloc, project, unit) {
         Ok(path) => path,
@@ -161,6 +164,7 @@ fn keep<P: Place>(
     ensures most { P.most place.new ≡ P.most place.old }
     ensures still { IsTrue P.tells → KeepsStillOutside (is_at_or_below (place_of store.now.folder unit.now.key)) (P.counts place.old).starts.flying (P.still place.old) (P.still place.new) }
     ensures takes { Takes NoStart (MayFollow unit.now.key) result (P.counts place.old) (P.counts place.new) }
+    ensures written { IfErr result (λ e. is_of_write e ≡ true → (P.counts place.new).named ≡ place_of store.now.folder unit.now.key) }
 {
     let needs = match needed_keys(alloc, project, unit) {
         Ok(needs) => needs,
@@ -207,6 +211,7 @@ fn migrate<P: Place>(
     ensures most { P.most place.new ≡ P.most place.old }
     ensures still { IsTrue P.tells → KeepsStillOutside (is_at_or_below (place_of store.old.folder unit.now.key)) (P.counts place.old).starts.flying (P.still place.old) (P.still place.new) }
     ensures takes { Takes NoStart (MayAnswerUnit store.old.next unit.now.key None) result (P.counts place.old) (P.counts place.new) }
+    ensures written { IfErr result (λ e. is_of_write e ≡ true → (P.counts place.new).named ≡ place_of store.old.folder unit.now.key) }
 {
     let needs = match needed_keys(alloc, project, unit) {
         Ok(needs) => needs,
@@ -272,6 +277,7 @@ pub(crate) fn land<P: Place>(
     ensures most { P.most place.new ≡ P.most place.old }
     ensures takes { Takes (Lands (Some launched.now)) (MayAnswerUnit store.now.next unit.now.key (Some launched.now)) result (P.counts place.old) (P.counts place.new) }
     ensures lands { IsTrue P.tells → (left : P) × HasEnded launched.now.ticket (IsOk result) (P.still place.old launched.now.ticket) (P.world place.old) (P.world left) (P.counts place.old) (P.counts left) × ChangesOnly (is_at_or_below (place_of (records_folder project.now) unit.now.key)) (P.world left) (P.world place.new) }
+    ensures written { IfErr result (λ e. is_of_write e ≡ true → (P.counts place.new).named ≡ place_of (records_folder project.now) unit.now.key) }
 {
     let ended = match finish(alloc, place, name, launched) {
         Ok(ended) => ended,
@@ -341,6 +347,7 @@ pub(crate) fn reuse<P: Place>(
     ensures spends { IfErr result (λ e. is_spent e ≡ true → again.now.numbered ≡ false) }
     ensures takes { Takes (Lands None) (MayAnswerUnit store.old.next unit.now.key None) result (P.counts place.old) (P.counts place.new) }
     ensures lands { IsTrue P.tells → ChangesOnly (is_at_or_below (place_of (records_folder project.now) unit.now.key)) (P.world place.old) (P.world place.new) }
+    ensures written { IfErr result (λ e. is_of_write e ≡ true → (P.counts place.new).named ≡ place_of (records_folder project.now) unit.now.key) }
 {
     let judgement = match judged_now(alloc, place, project, unit, command, &again.ended) {
         Ok(judgement) => judgement,
