@@ -65,7 +65,7 @@ none_is_same read folder key c w (Some d) told = tt
 
 -- the reading of texts is one
 
-one_read : (read : Reading) → IsReading read → reading ≡ read
+pub one_read : (read : Reading) → IsReading read → reading ≡ read
 one_read read is = λ i text. one_reading text (reading text) (read text) (reading_reads text) (is text) i
 
 pub first_for : (read : Reading) (folder key : List ℕ) (c : Command) (w : World) (found : Option Difference) → IsReading read → FirstDifference reading folder key c w found → FirstDifference read folder key c w found

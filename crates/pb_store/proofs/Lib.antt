@@ -8,3 +8,8 @@ pub mod Still
 pub mod Once
 pub mod Names
 pub mod Called
+pub mod Looking
+pub mod LookingAt
+pub mod Alike
+pub mod LookingOver
+pub mod LookingBy

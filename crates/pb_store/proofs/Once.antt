@@ -37,7 +37,7 @@ module _ {A B : Type 0} (Holds : A → Type 0) (told : A → B) where
   all_here [] here after (holds, all) = holds
   all_here (x ∷ before) here after (holds, all) = all_here before here after all
 
-  none_fails : (row : List A) (b : B) → AllByRecursion Holds row → IsFirst Holds told row b → ⊥
+  pub none_fails : (row : List A) (b : B) → AllByRecursion Holds row → IsFirst Holds told row b → ⊥
   none_fails row b all first = first.fails (all_here first.before first.here first.after (subst (AllByRecursion Holds) first.place all))
 
   one_here : (before other : List A) (here there : A) (after behind : List A) → before ++ here ∷ after ≡ other ++ there ∷ behind → AllByRecursion Holds before → AllByRecursion Holds other → (Holds here → ⊥) → (Holds there → ⊥) → here ≡ there
@@ -53,7 +53,7 @@ module _ {A B : Type 0} (Holds : A → Type 0) (told : A → B) where
 
 -- the command that was asked asks the same
 
-asks_of : (a : Asked) (c : commands.Command) → command_of a ≡ c → AsksAs a c
+pub asks_of : (a : Asked) (c : commands.Command) → command_of a ≡ c → AsksAs a c
 asks_of a c same = record {
   program = ap (λ (d : commands.Command). d.program) same;
   words = ap (λ (d : commands.Command). d.words) same;
@@ -64,16 +64,16 @@ asks_of a c same = record {
   reads = ap (λ (d : commands.Command). d.reads) same;
 }
 
-sets_of : (a : Asked) (c : commands.Command) → command_of a ≡ c → a.pairs ≡ c.pairs
+pub sets_of : (a : Asked) (c : commands.Command) → command_of a ≡ c → a.pairs ≡ c.pairs
 sets_of a c same = ap (λ (d : commands.Command). d.pairs) same
 
 asks_all : (a : Asked) (c : commands.Command) → AsksAs a c → AllByRecursion (SamePart a c) parts
 asks_all a c asks = (asks.program, (asks.words, (asks.folder, (asks.out, (asks.target, (asks.toolchain, (asks.reads, tt)))))))
 
-part_apart : (a : Asked) (c : commands.Command) (part : CommandPart) → AsksAs a c → IsFirst (SamePart a c) (λ p. p) parts part → ⊥
+pub part_apart : (a : Asked) (c : commands.Command) (part : CommandPart) → AsksAs a c → IsFirst (SamePart a c) (λ p. p) parts part → ⊥
 part_apart a c part asks first = none_fails (SamePart a c) (λ p. p) parts part (asks_all a c asks) first
 
-name_apart : (a : Asked) (c : commands.Command) (name : List ℕ) → command_of a ≡ c → IsFirstName a.pairs c.pairs name → ⊥
+pub name_apart : (a : Asked) (c : commands.Command) (name : List ℕ) → command_of a ≡ c → IsFirstName a.pairs c.pairs name → ⊥
 name_apart a c name same first = names_apart a.pairs c.pairs name first (sets_of a c same)
 
 -- what is told of a record is one

@@ -47,16 +47,16 @@ found_all : (es : Entries) → T (is_sorted (slice_cmp nat_cmp) es) → AllByRec
 found_all [] sorted = tt
 found_all (e ∷ es) sorted = (ap (λ b. cond b (Some e.1) (at e.0 es)) (tied e.0), found_later e es es (first _ _ sorted) (found_all es (second _ _ sorted)))
 
-all_weaker : {A : Type 0} (P Q : A → Type 0) → ((x : A) → P x → Q x) → (xs : List A) → AllByRecursion P xs → AllByRecursion Q xs
+pub all_weaker : {A : Type 0} (P Q : A → Type 0) → ((x : A) → P x → Q x) → (xs : List A) → AllByRecursion P xs → AllByRecursion Q xs
 all_weaker P Q more [] all = tt
 all_weaker P Q more (x ∷ xs) (here, all) = (more x here, all_weaker P Q more xs all)
 
-entries_found : (m : Map) → AllByRecursion (λ e. get m e.0 ≡ Some e.1) (entries m)
+pub entries_found : (m : Map) → AllByRecursion (λ e. get m e.0 ≡ Some e.1) (entries m)
 entries_found m = all_weaker (λ e. at e.0 (entries m) ≡ Some e.1) (λ e. get m e.0 ≡ Some e.1) (λ e here. get-entries m e.0 ∙ here) (entries m) (found_all (entries m) (entries_sorted m))
 
 -- the files below a folder, read one by one
 
-kept_passes : (b : Bool) (o : Option (List ℕ)) (x : List ℕ) → cond b o None ≡ Some x → (b ≡ true) × (o ≡ Some x)
+pub kept_passes : (b : Bool) (o : Option (List ℕ)) (x : List ℕ) → cond b o None ≡ Some x → (b ≡ true) × (o ≡ Some x)
 kept_passes true o x e = (refl, e)
 kept_passes false o x e = absurd (cc)
 

@@ -7,3 +7,4 @@ pub mod Differences
 pub mod Presence
 pub mod Replaying
 pub mod Calls
+pub mod Looking

@@ -12,6 +12,7 @@ ghost use Rattle.pb_soundness.specs.Records.{Reading, is_key, out_of, record_at}
 ghost use Rattle.pb_soundness.specs.Reuse.{IsSame, number_if};
 ghost use Rattle.pb_store.specs.Causes.{Takes, MayRead, MayLook};
 ghost use Rattle.pb_store.specs.Differences.{IsFirst, FirstOrAll, IsPresent, HasNumber, HasFiles, AreNeeded, FirstNeed, FirstFrom, FirstDifference, NamesPaths};
+ghost use Rattle.pb_store.specs.Looking.{Looks, name_looked, inputs_looked, record_looked, numbers_looked, out_looked, copies_looked, needed_looked, around_looked, from_looked, looked_at};
 ghost use Rattle.pb_store.specs.Replaying.{CarriesReplayed, difference_in};
 
 use crate::asking::{first_part, first_variable};
@@ -50,6 +51,7 @@ fn is_present<P: Place>(
     ensures most { P.most place.new ≡ P.most place.old }
     ensures still { IsTrue P.tells → KeepsStill (P.still place.old) (P.still place.new) }
     ensures takes { Takes MayLook result (P.counts place.old) (P.counts place.new) }
+    ensures looks { IsTrue P.tells → Looks result (name_looked target.now (P.world place.old) (name_of input.now)) (P.counts place.old) (P.counts place.new) }
 {
     let name = match name_of(alloc, input) {
         Ok(name) => name,
@@ -73,6 +75,7 @@ fn first_input<P: Place>(
     ensures most { P.most place.new ≡ P.most place.old }
     ensures still { IsTrue P.tells → KeepsStill (P.still place.old) (P.still place.new) }
     ensures takes { Takes MayLook result (P.counts place.old) (P.counts place.new) }
+    ensures looks { IsTrue P.tells → Looks result (inputs_looked target.now (P.world place.old) inputs.now) (P.counts place.old) (P.counts place.new) }
 {
     for input in inputs {
         match is_present(alloc, place, target, input) {
@@ -115,6 +118,7 @@ fn standing_number<P: Place>(
     ensures most { P.most place.new ≡ P.most place.old }
     ensures still { IsTrue P.tells → KeepsStill (P.still place.old) (P.still place.new) }
     ensures takes { Takes MayRead result (P.counts place.old) (P.counts place.new) }
+    ensures looks { Looks result (record_looked folder.now key.now) (P.counts place.old) (P.counts place.new) }
 {
     if !is_key(key) {
         return Ok(None);
@@ -147,6 +151,7 @@ fn has_number<P: Place>(
     ensures most { P.most place.new ≡ P.most place.old }
     ensures still { IsTrue P.tells → KeepsStill (P.still place.old) (P.still place.new) }
     ensures takes { Takes MayRead result (P.counts place.old) (P.counts place.new) }
+    ensures looks { Looks result (record_looked folder.now need.now.0) (P.counts place.old) (P.counts place.new) }
 {
     match standing_number(alloc, place, folder, &need.0) {
         Ok(found) => Ok(is_number(found, need.1)),
@@ -166,6 +171,7 @@ fn first_number<P: Place>(
     ensures most { P.most place.new ≡ P.most place.old }
     ensures still { IsTrue P.tells → KeepsStill (P.still place.old) (P.still place.new) }
     ensures takes { Takes MayLook result (P.counts place.old) (P.counts place.new) }
+    ensures looks { IsTrue P.tells → Looks result (numbers_looked folder.now (record_at reading folder.now (P.world place.old).files) needs.now) (P.counts place.old) (P.counts place.new) }
 {
     for need in needs {
         match has_number(alloc, place, folder, need) {
@@ -204,6 +210,7 @@ fn has_files<P: Place>(
     ensures most { P.most place.new ≡ P.most place.old }
     ensures still { IsTrue P.tells → KeepsStill (P.still place.old) (P.still place.new) }
     ensures takes { Takes MayLook result (P.counts place.old) (P.counts place.new) }
+    ensures looks { IsTrue P.tells → Looks result (out_looked folder.now (P.world place.old) need.now.0) (P.counts place.old) (P.counts place.new) }
 {
     let out = match out_path(alloc, folder, &need.0) {
         Ok(Some(out)) => out,
@@ -228,6 +235,7 @@ fn first_copy<P: Place>(
     ensures most { P.most place.new ≡ P.most place.old }
     ensures still { IsTrue P.tells → KeepsStill (P.still place.old) (P.still place.new) }
     ensures takes { Takes MayLook result (P.counts place.old) (P.counts place.new) }
+    ensures looks { IsTrue P.tells → Looks result (copies_looked folder.now (P.world place.old) copies.now) (P.counts place.old) (P.counts place.new) }
 {
     for need in copies {
         match has_files(alloc, place, folder, need) {
@@ -256,6 +264,7 @@ fn first_need<P: Place>(
     ensures most { P.most place.new ≡ P.most place.old }
     ensures still { IsTrue P.tells → KeepsStill (P.still place.old) (P.still place.new) }
     ensures takes { Takes MayLook result (P.counts place.old) (P.counts place.new) }
+    ensures looks { IsTrue P.tells → Looks result (needed_looked folder.now (record_at reading folder.now (P.world place.old).files) (P.world place.old) needed.now) (P.counts place.old) (P.counts place.new) }
 {
     match needed {
         Needed::Copies(copies) => first_copy(alloc, place, folder, copies.as_slice()),
@@ -276,6 +285,7 @@ fn first_around<P: Place>(
     ensures most { P.most place.new ≡ P.most place.old }
     ensures still { IsTrue P.tells → KeepsStill (P.still place.old) (P.still place.new) }
     ensures takes { Takes MayLook result (P.counts place.old) (P.counts place.new) }
+    ensures looks { IsTrue P.tells → Looks result (around_looked folder.now (record_at reading folder.now (P.world place.old).files) command.now.target (P.world place.old) kept.now) (P.counts place.old) (P.counts place.new) }
 {
     match first_input(alloc, place, &command.target, kept.inputs.as_slice()) {
         Ok(Some(name)) => return Ok(Some(Difference::Input(name))),
@@ -302,6 +312,7 @@ fn first_from<P: Place>(
     ensures most { P.most place.new ≡ P.most place.old }
     ensures still { IsTrue P.tells → KeepsStill (P.still place.old) (P.still place.new) }
     ensures takes { Takes MayLook result (P.counts place.old) (P.counts place.new) }
+    ensures looks { IsTrue P.tells → Looks result (from_looked folder.now (record_at reading folder.now (P.world place.old).files) command.now (P.world place.old) kept.now) (P.counts place.old) (P.counts place.new) }
 {
     if let Some(part) = first_part(&kept.asked, command) {
         return Ok(Some(Difference::Command(part)));
@@ -330,6 +341,7 @@ fn compare<P: Place>(
     ensures most { P.most place.new ≡ P.most place.old }
     ensures still { IsTrue P.tells → KeepsStill (P.still place.old) (P.still place.new) }
     ensures takes { Takes MayLook result (P.counts place.old) (P.counts place.new) }
+    ensures looks { IsTrue P.tells → Looks result (looked_at reading folder.now key.now command.now (P.world place.old)) (P.counts place.old) (P.counts place.new) }
 {
     let kept = match record_at(alloc, place, folder, key) {
         Ok(Some(kept)) => kept,
@@ -347,7 +359,7 @@ fn compare<P: Place>(
 impl Store {
     /// Compares a unit with its record, for a command that would build it again: what differs first; or, where the
     /// record says what a child would answer, what it gives again in the child's place. Each input is read and compared
-    /// in turn, and let go. Our own rule of when a unit is built again.
+    /// in turn, and let go; after the first that differs none is looked at. Our own rule of when a unit is built again.
     ///
     /// Faults: Place, where a file cannot be read, a folder not be listed or a variable not be read; OutOfMemory.
     #[tactic(auto, using(crate::proofs::Once::difference_laws))]
@@ -367,6 +379,7 @@ impl Store {
         ensures most { P.most place.new ≡ P.most place.old }
         ensures still { IsTrue P.tells → KeepsStill (P.still place.old) (P.still place.new) }
         ensures takes { Takes MayLook result (P.counts place.old) (P.counts place.new) }
+        ensures looks { (read : Reading) → IsReading read → IsTrue P.tells → Looks result (looked_at read self.now.folder key.now command.now (P.world place.old)) (P.counts place.old) (P.counts place.new) }
     {
         compare(alloc, place, &self.folder, key, command)
     }

@@ -1,14 +1,16 @@
 //! The present values of inputs, beside the recorded ones.
 
-ghost use Rattle.std.specs.Prelude.{◌≡◌, true, IsTrue, IfOk, Decides, List, ℕ, map};
+ghost use Rattle.std.specs.Prelude.{◌≡◌, ◌∷◌, true, IsTrue, IfOk, Decides, List, [], ℕ, map};
 ghost use Rattle.std.specs.FinMap as finite;
 ghost use Rattle.std.specs.List.{filter_map};
+ghost use Rattle.pb_place.specs.Paths.{inside};
 ghost use Rattle.pb_place.specs.World.{from_nothing, listed, removed};
-ghost use Rattle.pb_record.specs.declared.record.InputName.TheVariants.{Variable};
+ghost use Rattle.pb_record.specs.declared.record.InputName.TheVariants.{Path, Variable};
 ghost use Rattle.pb_soundness.specs.Apart.{KeepsStill};
 ghost use Rattle.pb_soundness.specs.Inputs.{contents, input_in, name_of, path_input};
 ghost use Rattle.pb_store.specs.Causes.{Takes, MayRead, MayLook};
-ghost use Rattle.pb_store.specs.Presence.{file_in};
+ghost use Rattle.pb_store.specs.Looking.{Looks, name_looked, names_looked, source_looked};
+ghost use Rattle.pb_store.specs.Presence.{file_in, file_looked, files_looked};
 
 use crate::fault::{StoreFault, stored};
 use crate::store::text_of;
@@ -31,6 +33,7 @@ fn source_at<P: Place>(
     ensures most { P.most place.new ≡ P.most place.old }
     ensures still { IsTrue P.tells → KeepsStill (P.still place.old) (P.still place.new) }
     ensures takes { Takes MayRead result (P.counts place.old) (P.counts place.new) }
+    ensures looks { Looks result (source_looked target.now path.now) (P.counts place.old) (P.counts place.new) }
 {
     if path.starts_with(target) {
         return Ok(None);
@@ -53,6 +56,7 @@ fn file_at<P: Place>(
     ensures most { P.most place.new ≡ P.most place.old }
     ensures still { IsTrue P.tells → KeepsStill (P.still place.old) (P.still place.new) }
     ensures takes { Takes MayRead result (P.counts place.old) (P.counts place.new) }
+    ensures looks { Looks result (file_looked path.now (inside folder.now path.now)) (P.counts place.old) (P.counts place.new) }
 {
     let relative = match path.inside(alloc, folder) {
         Ok(Some(relative)) => relative,
@@ -78,6 +82,7 @@ fn files_at<P: Place>(
     ensures most { P.most place.new ≡ P.most place.old }
     ensures still { IsTrue P.tells → KeepsStill (P.still place.old) (P.still place.new) }
     ensures takes { Takes MayRead result (P.counts place.old) (P.counts place.new) }
+    ensures looks { Looks result (files_looked folder.now paths.now) (P.counts place.old) (P.counts place.new) }
 {
     let mut made = Items::new(alloc);
     for path in paths {
@@ -93,7 +98,7 @@ fn files_at<P: Place>(
 }
 
 /// The paths of the files below a folder that are not at or below the target folder.
-#[tactic(auto, using(crate::proofs::Still::stands_same))]
+#[tactic(auto, using(crate::proofs::Still::stands_same, crate::proofs::Looking::stops_once))]
 fn paths_outside<P: Place>(
     alloc: Global,
     place: &mut P,
@@ -105,6 +110,7 @@ fn paths_outside<P: Place>(
     ensures most { P.most place.new ≡ P.most place.old }
     ensures still { IsTrue P.tells → KeepsStill (P.still place.old) (P.still place.new) }
     ensures takes { Takes MayLook result (P.counts place.old) (P.counts place.new) }
+    ensures looks { Looks result (folder.now ∷ []) (P.counts place.old) (P.counts place.new) }
 {
     match place.list_outside(alloc, folder, target) {
         Ok(paths) => Ok(paths),
@@ -113,7 +119,7 @@ fn paths_outside<P: Place>(
 }
 
 /// The paths of the files below a folder.
-#[tactic(auto, using(crate::proofs::Still::stands_same))]
+#[tactic(auto, using(crate::proofs::Still::stands_same, crate::proofs::Looking::stops_once))]
 fn paths_below<P: Place>(
     alloc: Global,
     place: &mut P,
@@ -124,6 +130,7 @@ fn paths_below<P: Place>(
     ensures most { P.most place.new ≡ P.most place.old }
     ensures still { IsTrue P.tells → KeepsStill (P.still place.old) (P.still place.new) }
     ensures takes { Takes MayLook result (P.counts place.old) (P.counts place.new) }
+    ensures looks { Looks result (folder.now ∷ []) (P.counts place.old) (P.counts place.new) }
 {
     match place.list(alloc, folder) {
         Ok(paths) => Ok(paths),
@@ -144,6 +151,7 @@ fn sources_in<P: Place>(
     ensures most { P.most place.new ≡ P.most place.old }
     ensures still { IsTrue P.tells → KeepsStill (P.still place.old) (P.still place.new) }
     ensures takes { Takes MayLook result (P.counts place.old) (P.counts place.new) }
+    ensures looks { IsTrue P.tells → Looks result (folder.now ∷ listed folder.now (removed target.now (P.world place.old))) (P.counts place.old) (P.counts place.new) }
 {
     let paths = paths_outside(alloc, place, target, folder)?;
     match files_at(alloc, place, folder, paths.as_slice()) {
@@ -164,6 +172,7 @@ pub(crate) fn files_in<P: Place>(
     ensures most { P.most place.new ≡ P.most place.old }
     ensures still { IsTrue P.tells → KeepsStill (P.still place.old) (P.still place.new) }
     ensures takes { Takes MayLook result (P.counts place.old) (P.counts place.new) }
+    ensures looks { IsTrue P.tells → Looks result (folder.now ∷ listed folder.now (P.world place.old)) (P.counts place.old) (P.counts place.new) }
 {
     let paths = paths_below(alloc, place, folder)?;
     match files_at(alloc, place, folder, paths.as_slice()) {
@@ -173,13 +182,14 @@ pub(crate) fn files_in<P: Place>(
 }
 
 /// The text of a variable; none where it is not set.
-#[tactic(auto, using(crate::proofs::Still::stands_same))]
+#[tactic(auto, using(crate::proofs::Still::stands_same, crate::proofs::Looking::stops_once))]
 fn text_in<P: Place>(alloc: Global, place: &mut P, name: &Text) -> Result<Option<Text>, StoreFault>
     ensures ok { IsTrue P.tells → IfOk result (λ found. found ≡ finite.get (P.world place.old).variables name.now) }
     ensures same { IsTrue P.tells → P.world place.new ≡ P.world place.old }
     ensures most { P.most place.new ≡ P.most place.old }
     ensures still { IsTrue P.tells → KeepsStill (P.still place.old) (P.still place.new) }
     ensures takes { Takes MayLook result (P.counts place.old) (P.counts place.new) }
+    ensures looks { Looks result (name.now ∷ []) (P.counts place.old) (P.counts place.new) }
 {
     match place.variable(alloc, name.as_str()) {
         Ok(found) => Ok(found),
@@ -199,6 +209,7 @@ fn path_now<P: Place>(
     ensures most { P.most place.new ≡ P.most place.old }
     ensures still { IsTrue P.tells → KeepsStill (P.still place.old) (P.still place.new) }
     ensures takes { Takes MayLook result (P.counts place.old) (P.counts place.new) }
+    ensures looks { IsTrue P.tells → Looks result (name_looked target.now (P.world place.old) (Path path.now)) (P.counts place.old) (P.counts place.new) }
 {
     let name = match path.copy(alloc) {
         Ok(name) => name,
@@ -227,6 +238,7 @@ fn value_now<P: Place>(
     ensures most { P.most place.new ≡ P.most place.old }
     ensures still { IsTrue P.tells → KeepsStill (P.still place.old) (P.still place.new) }
     ensures takes { Takes MayLook result (P.counts place.old) (P.counts place.new) }
+    ensures looks { Looks result (name.now ∷ []) (P.counts place.old) (P.counts place.new) }
 {
     let copied = match name.copy(alloc) {
         Ok(copied) => copied,
@@ -250,6 +262,7 @@ pub(crate) fn input_now<P: Place>(
     ensures most { P.most place.new ≡ P.most place.old }
     ensures still { IsTrue P.tells → KeepsStill (P.still place.old) (P.still place.new) }
     ensures takes { Takes MayLook result (P.counts place.old) (P.counts place.new) }
+    ensures looks { IsTrue P.tells → Looks result (name_looked target.now (P.world place.old) name.now) (P.counts place.old) (P.counts place.new) }
 {
     match name {
         InputName::Path(path) => path_now(alloc, place, target, path),
@@ -269,6 +282,7 @@ pub(crate) fn present<P: Place>(
     ensures most { P.most place.new ≡ P.most place.old }
     ensures still { IsTrue P.tells → KeepsStill (P.still place.old) (P.still place.new) }
     ensures takes { Takes MayLook result (P.counts place.old) (P.counts place.new) }
+    ensures looks { IsTrue P.tells → Looks result (names_looked target.now (P.world place.old) names.now) (P.counts place.old) (P.counts place.new) }
 {
     let mut made = Items::new(alloc);
     for name in names {

@@ -1,6 +1,6 @@
 //! The record of a unit that was built, kept with the run number that was given for it.
 
-ghost use Rattle.std.specs.Prelude.{◌≡◌, ℕ, Option, true, IsTrue, IfErr, IfOk, OnOk, OnErr, Some, All, map};
+ghost use Rattle.std.specs.Prelude.{◌≡◌, ◌++◌, ◌∷◌, [], ℕ, Option, true, IsTrue, IfErr, IfOk, OnOk, OnErr, Some, All, map};
 ghost use Rattle.pb_place.specs.declared.place.PlaceFault.TheVariants as place_fault;
 ghost use Rattle.pb_place.specs.Paths.{is_at_or_below};
 ghost use Rattle.pb_place.specs.World.{ChangesOnly, Torn, written};
@@ -14,6 +14,7 @@ ghost use Rattle.pb_store.specs.Calls.{CallsOnce, looked};
 ghost use Rattle.pb_store.specs.declared.fault.StoreFault.TheVariants as store_fault;
 ghost use Rattle.pb_store.specs.Causes.{Takes, MayRead, MayLook, MayWrite, MayKeep};
 ghost use Rattle.pb_store.specs.Keeping.{Leaves, IsKept, HasNeeds, MayPut, kept_of, numbered, or_zero};
+ghost use Rattle.pb_store.specs.Looking.{Looks, kept_called, names_looked, needs_looked};
 ghost use Rattle.pb_record.specs.Commands.{of_parts};
 ghost use Rattle.pb_record.specs.Parts.{IsReading};
 ghost use Rattle.pb_record.specs.Sorted.{are_sorted};
@@ -62,6 +63,7 @@ fn number_at<P: Place>(
     ensures most { P.most place.new ≡ P.most place.old }
     ensures still { IsTrue P.tells → KeepsStill (P.still place.old) (P.still place.new) }
     ensures takes { Takes MayRead result (P.counts place.old) (P.counts place.new) }
+    ensures looks { Looks result (place_of folder.now key.now ∷ []) (P.counts place.old) (P.counts place.new) }
 {
     match record_at(alloc, place, folder, key) {
         Ok(found) => Ok(number_or_zero(&found)),
@@ -82,6 +84,7 @@ fn numbered_one<P: Place>(
     ensures most { P.most place.new ≡ P.most place.old }
     ensures still { IsTrue P.tells → KeepsStill (P.still place.old) (P.still place.new) }
     ensures takes { Takes MayRead result (P.counts place.old) (P.counts place.new) }
+    ensures looks { Looks result (place_of folder.now key.now ∷ []) (P.counts place.old) (P.counts place.new) }
 {
     let name = match key.copy(alloc) {
         Ok(name) => name,
@@ -106,6 +109,7 @@ pub(crate) fn numbered<P: Place>(
     ensures most { P.most place.new ≡ P.most place.old }
     ensures still { IsTrue P.tells → KeepsStill (P.still place.old) (P.still place.new) }
     ensures takes { Takes MayRead result (P.counts place.old) (P.counts place.new) }
+    ensures looks { Looks result (needs_looked folder.now needs.now) (P.counts place.old) (P.counts place.new) }
 {
     let mut pairs = Items::new(alloc);
     for need in needs {
@@ -240,6 +244,7 @@ fn kept_now<P: Place>(
     ensures most { P.most place.new ≡ P.most place.old }
     ensures still { IsTrue P.tells → KeepsStill (P.still place.old) (P.still place.new) }
     ensures takes { Takes MayLook result (P.counts place.old) (P.counts place.new) }
+    ensures looks { IsTrue P.tells → Looks result (needs_looked folder.now needs.now ++ names_looked command.now.target (P.world place.old) names.now) (P.counts place.old) (P.counts place.new) }
 {
     // Read before the write, so that the record says what stands now.
     let numbers = numbered(alloc, place, folder, needs)?;
@@ -283,6 +288,7 @@ impl Store {
         ensures takes { Takes MayKeep result (P.counts place.old) (P.counts place.new) }
         ensures before { IsTrue P.tells → IfErr result (λ e. looked e ≡ true → P.world place.new ≡ P.world place.old) }
         ensures written { IfErr result (λ e. e ≡ store_fault.Place place_fault.Write → (P.counts place.new).named ≡ place_of self.now.folder key.now) }
+        ensures calls { IsTrue P.tells → Looks result (kept_called self.now.folder key.now command.now.target (P.world place.old) needs.now names.now) (P.counts place.old) (P.counts place.new) }
     {
         let _ = self.folder.as_str();
         let kept = match kept_now(

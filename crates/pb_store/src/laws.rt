@@ -2,6 +2,7 @@
 
 ghost use Rattle.pb_store.specs.Asking.{FirstNameIsFirst};
 ghost use Rattle.pb_store.specs.Differences.{DifferencesAreOne};
+ghost use Rattle.pb_store.specs.Looking.{TestsDecide};
 
 /// What differs first of a unit is determined by the world: two calls of `differs` in one world that answer well give
 /// the same answer.
@@ -14,4 +15,10 @@ pub fn differences_are_one()
 /// text, or none.
 pub fn first_name_is_first()
     ensures { FirstNameIsFirst }
+{}
+
+/// The tests by which it is said how far `differs` looks decide just that by which it tells a difference: of an input
+/// its present value, of a needed unit its number or its files, and of a command each part and each variable.
+pub fn tests_decide()
+    ensures { TestsDecide }
 {}

@@ -1,14 +1,15 @@
 //! A store is opened: what the records of a folder name says which run number is the next.
 
-ghost use Rattle.std.specs.Prelude.{◌≡◌, max, IsTrue, IfErr, IfOk};
-ghost use Rattle.std.specs.List.{fold};
+ghost use Rattle.std.specs.Prelude.{◌≡◌, ◌∷◌, [], if◌then◌else◌, max, IsTrue, IfErr, IfOk, OnOk};
+ghost use Rattle.std.specs.List.{filter, fold};
 ghost use Rattle.std.specs.FinMap as map;
 ghost use Rattle.pb_place.specs.World.{listed_directly};
 ghost use Rattle.pb_soundness.specs.Apart.{KeepsStill};
 ghost use Rattle.pb_soundness.specs.Numbers.{IsAhead};
-ghost use Rattle.pb_soundness.specs.Records.{Reading, read_text, record_at};
+ghost use Rattle.pb_soundness.specs.Records.{Reading, ends_as_record, read_text, record_at};
 ghost use Rattle.pb_store.specs.Calls.{OpensBy, ReadsAt, ReadsOneOf, ReadsRecord};
 ghost use Rattle.pb_store.specs.Causes.{TakesOpen};
+ghost use Rattle.pb_store.specs.Looking.{opened_looked, past_calls};
 ghost use Rattle.pb_store.specs.Opening.{greatest_named, greatest_if, greatest_at, greatest_of, next_in};
 ghost use Rattle.pb_record.specs.Parts.{IsReading};
 
@@ -72,6 +73,7 @@ fn read_greatest<P: Place>(alloc: Global, place: &mut P, path: PathText) -> Resu
     ensures still { IsTrue P.tells → KeepsStill (P.still place.old) (P.still place.new) }
     ensures takes { TakesOpen result (P.counts place.old) (P.counts place.new) }
     ensures told { IfErr result (ReadsAt path) }
+    ensures looks { OnOk result (P.counts place.new ≡ past_calls (path ∷ []) (P.counts place.old)) }
 {
     let text = match place.read(alloc, &path) {
         Ok(text) => text,
@@ -91,6 +93,7 @@ fn greatest_at<P: Place>(alloc: Global, place: &mut P, path: PathText) -> Result
     ensures still { IsTrue P.tells → KeepsStill (P.still place.old) (P.still place.new) }
     ensures takes { TakesOpen result (P.counts place.old) (P.counts place.new) }
     ensures told { IfErr result (ReadsRecord path) }
+    ensures looks { OnOk result (P.counts place.new ≡ past_calls (if ends_as_record path then path ∷ [] else []) (P.counts place.old)) }
 {
     if !ends_as_record(path.as_str().as_bytes()) {
         return Ok(0);
@@ -110,6 +113,7 @@ fn greatest_of<P: Place>(
     ensures still { IsTrue P.tells → KeepsStill (P.still place.old) (P.still place.new) }
     ensures takes { TakesOpen result (P.counts place.old) (P.counts place.new) }
     ensures told { IfErr result (ReadsOneOf paths) }
+    ensures looks { OnOk result (P.counts place.new ≡ past_calls (filter ends_as_record paths) (P.counts place.old)) }
 {
     let mut greatest = 0;
     for path in paths.into_vec() {
@@ -141,6 +145,7 @@ impl Store {
         ensures still { IsTrue P.tells → KeepsStill (P.still place.old) (P.still place.new) }
         ensures takes { TakesOpen result (P.counts place.old) (P.counts place.new) }
         ensures told { IfErr result (OpensBy P.tells folder (P.world place.old)) }
+        ensures looks { IsTrue P.tells → OnOk result (P.counts place.new ≡ past_calls (opened_looked folder (P.world place.old)) (P.counts place.old)) }
     {
         let paths = match place.list_directly(alloc, &folder) {
             Ok(paths) => paths,

@@ -1,11 +1,12 @@
 //! The records of a profile folder.
 
-ghost use Rattle.std.specs.Prelude.{◌≡◌, true, IsTrue, IfOk, option_map};
+ghost use Rattle.std.specs.Prelude.{◌≡◌, ◌∷◌, true, IsTrue, IfOk, List, [], option_map};
 ghost use Rattle.std.specs.FinMap as map;
 ghost use Rattle.pb_place.specs.Paths.{is_path};
 ghost use Rattle.pb_soundness.specs.Apart.{KeepsStill};
 ghost use Rattle.pb_soundness.specs.Records.{Reading, is_key, place_of, record_at, read_text, if_of_key};
 ghost use Rattle.pb_store.specs.Causes.{Takes, MayRead};
+ghost use Rattle.pb_store.specs.Looking.{Looks};
 ghost use Rattle.pb_record.specs.Parts.{IsReading};
 
 use crate::fault::{StoreFault, stored};
@@ -42,7 +43,7 @@ pub(crate) fn place_path(
 }
 
 /// The bytes of a file.
-#[tactic(auto, using(crate::proofs::Still::stands_same))]
+#[tactic(auto, using(crate::proofs::Still::stands_same, crate::proofs::Looking::stops_once))]
 pub(crate) fn text_of<P: Place>(
     alloc: Global,
     place: &mut P,
@@ -53,6 +54,7 @@ pub(crate) fn text_of<P: Place>(
     ensures most { P.most place.new ≡ P.most place.old }
     ensures still { IsTrue P.tells → KeepsStill (P.still place.old) (P.still place.new) }
     ensures takes { Takes MayRead result (P.counts place.old) (P.counts place.new) }
+    ensures looks { Looks result (path.now ∷ []) (P.counts place.old) (P.counts place.new) }
 {
     match place.read(alloc, path) {
         Ok(found) => Ok(found),
@@ -73,6 +75,7 @@ fn text_at<P: Place>(
     ensures most { P.most place.new ≡ P.most place.old }
     ensures still { IsTrue P.tells → KeepsStill (P.still place.old) (P.still place.new) }
     ensures takes { Takes MayRead result (P.counts place.old) (P.counts place.new) }
+    ensures looks { Looks result (place_of folder.now key.now ∷ []) (P.counts place.old) (P.counts place.new) }
 {
     let path = match place_path(alloc, folder, key) {
         Ok(path) => path,
@@ -124,6 +127,7 @@ pub(crate) fn record_at<P: Place>(
     ensures most { P.most place.new ≡ P.most place.old }
     ensures still { IsTrue P.tells → KeepsStill (P.still place.old) (P.still place.new) }
     ensures takes { Takes MayRead result (P.counts place.old) (P.counts place.new) }
+    ensures looks { Looks result (place_of folder.now key.now ∷ []) (P.counts place.old) (P.counts place.new) }
 {
     let text = text_at(alloc, place, folder, key)?;
     match read_text(alloc, &text) {

@@ -1,7 +1,9 @@
-use Rattle.std.proofs.Common.{◌≡◌, take, IsTrue}
+use Rattle.std.proofs.Common.{◌≡◌, take, drop, IsTrue}
 use Rattle.std.specs.List.{AllByRecursion}
 use Rattle.pb_soundness.specs.Apart.{KeepsStill}
 use Rattle.pb_store.specs.Differences.{HasFiles}
+use Rattle.pb_store.specs.Looking.{copies_looked}
+use Rattle.pb_store.proofs.Looking.{Reached}
 use Rattle.pb_store.proofs.differing.first_copy.Given as goal
 
 abbrev pub invariant-loop-need : goal.invariant-loop-need
@@ -10,6 +12,7 @@ invariant-loop-need g l = record {
   most : g.P.Place.most l.place ≡ g.P.Place.most l.fn.place;
   still : IsTrue g.P.Place.tells → KeepsStill (g.P.Place.still l.fn.place) (g.P.Place.still l.place);
   all : IsTrue g.P.Place.tells → AllByRecursion (HasFiles l.folder (g.P.Place.world l.fn.place).files) (take l.need-index l.copies);
+  looks : IsTrue g.P.Place.tells → Reached (copies_looked l.folder (g.P.Place.world l.fn.place) l.copies) (copies_looked l.folder (g.P.Place.world l.fn.place) (drop l.need-index l.copies)) (g.P.Place.counts l.fn.place) (g.P.Place.counts l.place);
   starts : (g.P.Place.counts l.place).starts ≡ (g.P.Place.counts l.fn.place).starts;
   failures : (g.P.Place.counts l.place).failures ≡ (g.P.Place.counts l.fn.place).failures;
 }

@@ -1,6 +1,7 @@
 use Rattle.std.proofs.Common.{arith, rules}
 use Rattle.std.proofs.lemmas.Grind.{common_steps}
 use Rattle.pb_store.proofs.Called.{reads_one, within_head, within_tail}
+use Rattle.pb_store.proofs.LookingBy.{row_read}
 use Rattle.pb_store.proofs.opening.greatest_of.Goals as goal
 
 pub returns-in_err-number-clause-told : goal.returns-in_err-number-clause-told
@@ -15,6 +16,7 @@ loop-path-preserved g c = record {
   still = first_of (search rules, grind (arith, common_steps));
   found = first_of (search rules, grind (arith, common_steps));
   within = within_tail _ _ _ _ c.loop-path.invariant.within c.in-Some.ensures.steps.0;
+  looks = row_read _ _ _ _ _ _ c.loop-path.invariant.looks c.in-Some.ensures.steps.0 c.in_ok-number.ensures.looks;
   starts = first_of (search rules, grind (arith, common_steps));
   failures = first_of (search rules, grind (arith, common_steps));
 }

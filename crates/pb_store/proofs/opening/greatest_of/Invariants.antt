@@ -1,8 +1,9 @@
 use Rattle.std.proofs.Common.{◌≡◌, ℕ, max, IsTrue, Contains, List}
-use Rattle.std.specs.List.{fold}
+use Rattle.std.specs.List.{filter, fold}
 use Rattle.std.specs.Vec.Iter.{into_iter_items}
 use Rattle.pb_soundness.specs.Apart.{KeepsStill}
-use Rattle.pb_soundness.specs.Records.{Reading}
+use Rattle.pb_soundness.specs.Records.{Reading, ends_as_record}
+use Rattle.pb_store.specs.Looking.{past_calls}
 use Rattle.pb_store.specs.Opening.{greatest_at, greatest_of}
 use Rattle.pb_record.specs.Parts.{IsReading}
 use Rattle.pb_store.proofs.opening.greatest_of.Given as goal
@@ -14,6 +15,7 @@ invariant-loop-path g l = record {
   still : IsTrue g.P.Place.tells → KeepsStill (g.P.Place.still l.fn.place) (g.P.Place.still l.place);
   found : (read : Reading) → IsReading read → IsTrue g.P.Place.tells → fold (λ m path. max m (greatest_at read (g.P.Place.world l.fn.place).files path)) l.greatest (into_iter_items l.path-iterator) ≡ greatest_of read (g.P.Place.world l.fn.place).files l.fn.paths;
   within : (p : List ℕ) → Contains (into_iter_items l.path-iterator) p → Contains l.fn.paths p;
+  looks : past_calls (filter ends_as_record (into_iter_items l.path-iterator)) (g.P.Place.counts l.place) ≡ past_calls (filter ends_as_record l.fn.paths) (g.P.Place.counts l.fn.place);
   starts : (g.P.Place.counts l.place).starts ≡ (g.P.Place.counts l.fn.place).starts;
   failures : (g.P.Place.counts l.place).failures ≡ (g.P.Place.counts l.fn.place).failures;
 }

@@ -1,10 +1,13 @@
-use Rattle.std.proofs.Common.{sym, subst}
+use Rattle.std.proofs.Common.{◌++◌, [], ◌∷◌, sym, subst}
 use Rattle.pb_place.specs.World.{World}
 use Rattle.pb_soundness.specs.Numbers.{IsAhead}
-use Rattle.pb_soundness.specs.Records.{record_at}
+use Rattle.pb_soundness.specs.Records.{place_of, record_at}
 use Rattle.pb_soundness.specs.Sound.{Sound}
+use Rattle.pb_store.specs.Looking.{names_looked, needs_looked}
 use Rattle.pb_store.proofs.Earned.{may_keep, kept_before}
 use Rattle.pb_store.proofs.Called.{named_once, no_look, no_write}
+use Rattle.pb_store.proofs.Looking.{made_both, stops_first, stops_then}
+use Rattle.pb_store.proofs.LookingBy.{ends_stops}
 use Rattle.pb_store.proofs.store.Store.keep.Goals as goal
 
 pub returns-in-Ok-put_record-clause-sound : goal.returns-in-Ok-put_record-clause-sound
@@ -39,3 +42,13 @@ returns-clause-before g c told look = absurd (no_look _ c.in-Err-put_record.ensu
 
 pub returns-clause-written : goal.returns-clause-written
 returns-clause-written g c is = named_once _ _ _ _ c.in-Err-put_record.ensures.calls is
+
+pub returns-in-Err-clause-calls : goal.returns-in-Err-clause-calls
+returns-in-Err-clause-calls g c told = stops_first _ _ _ _ _ (c.in-Err.ensures.looks told)
+
+pub returns-in-Ok-put_record-clause-calls : goal.returns-in-Ok-put_record-clause-calls
+returns-in-Ok-put_record-clause-calls g c told =
+    made_both (needs_looked c.args.self.now.folder c.args.needs.now ++ names_looked c.args.command.now.target (g.P.Place.world c.args.place.now) c.args.names.now) (place_of c.args.self.now.folder c.args.key.now ∷ []) (g.P.Place.counts c.args.place.now) _ _ (c.in-Ok.ensures.looks told) c.in-Ok-put_record.ensures.calls
+
+pub returns-clause-calls : goal.returns-clause-calls
+returns-clause-calls g c told = stops_then _ _ _ _ _ _ (c.in-Ok.ensures.looks told) (ends_stops _ _ _ _ c.in-Err-put_record.ensures.takes.1.0 c.in-Err-put_record.ensures.calls)

@@ -1,5 +1,6 @@
 use Rattle.pb_store.proofs.Ahead.{opened_ahead, opened_next}
 use Rattle.pb_store.proofs.Called.{opens_by_listing, opens_by_reading}
+use Rattle.pb_store.proofs.LookingBy.{folder_opened}
 use Rattle.pb_store.proofs.store.Store.open.Goals as goal
 
 pub returns-in-Ok-greatest_of-clause-ahead : goal.returns-in-Ok-greatest_of-clause-ahead
@@ -12,3 +13,6 @@ returns-in-Err-clause-told g c = opens_by_listing g.P.Place.tells c.args.folder 
 
 pub returns-in-Err-greatest_of-clause-told : goal.returns-in-Err-greatest_of-clause-told
 returns-in-Err-greatest_of-clause-told g c = opens_by_reading g.P.Place.tells c.args.folder (g.P.Place.world c.args.place.now) _ _ c.in-Ok.ensures.ok c.in-Err-greatest_of.ensures.told
+
+pub returns-in-Ok-greatest_of-clause-looks : goal.returns-in-Ok-greatest_of-clause-looks
+returns-in-Ok-greatest_of-clause-looks g c told = folder_opened c.args.folder (g.P.Place.world c.args.place.now) _ _ _ _ (c.in-Ok.ensures.ok told) c.in-Ok.ensures.counts c.in-Ok-greatest_of.ensures.looks

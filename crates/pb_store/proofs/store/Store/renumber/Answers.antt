@@ -1,7 +1,10 @@
-use Rattle.std.proofs.Common.{rules}
+use Rattle.std.proofs.Common.{[], ◌∷◌, rules, inr}
 use Rattle.pb_soundness.specs.Records.{place_of}
+use Rattle.pb_store.specs.Looking.{needs_looked}
 use Rattle.pb_store.proofs.Migrated.{migrated_sound, migrated_ahead}
 use Rattle.pb_store.proofs.Called.{named_once, no_look, read_unwritten}
+use Rattle.pb_store.proofs.Looking.{looks_told, made_both, stops_first, stops_then}
+use Rattle.pb_store.proofs.LookingBy.{ends_stops}
 use Rattle.pb_store.proofs.store.Store.renumber.Goals as goal
 
 pub returns-in-Ok-clause-sound : goal.returns-in-Ok-clause-sound
@@ -34,3 +37,12 @@ returns-clause-before g c look = absurd (no_look _ c.in-Err.ensures.takes.1.0 lo
 
 pub returns-clause-written : goal.returns-clause-written
 returns-clause-written g c is = named_once _ _ _ _ c.in-Err.ensures.calls is
+
+pub returns-in_err-numbers-clause-calls : goal.returns-in_err-numbers-clause-calls
+returns-in_err-numbers-clause-calls g c = inr (looks_told c.from_residual.result c.in_err-numbers.field-0.0 _ _ _ (search rules) (stops_first _ _ _ _ _ c.in_err-numbers.ensures.looks))
+
+pub returns-in-Ok-clause-calls : goal.returns-in-Ok-clause-calls
+returns-in-Ok-clause-calls g c = inr (made_both (needs_looked c.args.self.now.folder c.args.needs.now) (place_of c.args.self.now.folder c.args.key.now ∷ []) (g.P.Place.counts c.args.place.now) _ _ c.in_ok-numbers.ensures.looks c.in-Ok.ensures.calls)
+
+pub returns-clause-calls : goal.returns-clause-calls
+returns-clause-calls g c = inr (stops_then _ _ _ _ _ _ c.in_ok-numbers.ensures.looks (ends_stops _ _ _ _ c.in-Err.ensures.takes.1.0 c.in-Err.ensures.calls))

@@ -1,0 +1,183 @@
+-- Where a call of the store looks and writes, and how often: the name that each call of the place is given (a path, or a variable's name), in order.
+use Rattle.std.specs.Prelude.{◌≡◌, ◌⊎◌, ◌++◌, ◌∷◌, ◌==◌, ◌&&◌, if◌then◌else◌, ℕ, Bool, true, false, List, [], Option, Some, None, Result, MatchResult, Decides}
+use Rattle.std.specs.Cmp.Lexicographic.{pointwise}
+use Rattle.std.specs.FinMap as finite
+use Rattle.std.specs.List.{filter, list_all}
+use Rattle.std.specs.Str.{bytes_eq}
+use Rattle.pb_place.specs.Counts.{Counts, past_call, past_place_fault}
+use Rattle.pb_place.specs.Paths.{is_at_or_below, is_relative}
+use Rattle.pb_place.specs.World.{World, Map, from_nothing, listed, listed_directly, removed}
+use Rattle.pb_place.specs.declared.command.Command as commands
+use Rattle.pb_place.specs.declared.place.PlaceFault.{PlaceFault}
+use Rattle.pb_record.specs.Commands.{command_of}
+use Rattle.pb_record.specs.declared.asked.Asked.{Asked}
+use Rattle.pb_record.specs.declared.record.Input.{Input}
+use Rattle.pb_record.specs.declared.record.Input.TheVariants.{File, Tree, Value}
+use Rattle.pb_record.specs.declared.record.InputName.{InputName}
+use Rattle.pb_record.specs.declared.record.InputName.TheVariants.{Path, Variable}
+use Rattle.pb_record.specs.declared.record.Needed.{Needed}
+use Rattle.pb_record.specs.declared.record.Needed.TheVariants.{Copies, Numbers}
+use Rattle.pb_record.specs.declared.record.Record.{Record}
+use Rattle.pb_soundness.specs.Grounded.{Standing}
+use Rattle.pb_soundness.specs.Inputs.{contents, input_in, name_of}
+use Rattle.pb_soundness.specs.Records.{Reading, ends_as_record, is_key, out_of, place_of, record_at}
+use Rattle.pb_soundness.specs.Reuse.{number_if}
+use Rattle.pb_store.specs.Differences.{HasFiles, HasNumber, IsPresent, same_files}
+use Rattle.pb_store.specs.Migrating.{lacks_number}
+use Rattle.pb_store.specs.declared.fault.StoreFault.{StoreFault}
+use Rattle.pb_store.specs.declared.fault.StoreFault.TheVariants.{Place, NumbersSpent, OutOfMemory}
+
+-- these calls were made, and each went well
+abbrev pub past_calls : List (List ℕ) → Counts → Counts
+past_calls [] c = c
+past_calls (name ∷ names) c = past_calls names (past_call c)
+
+-- one of these calls failed, with this fault: those before it went well, and it was the last
+abbrev pub FailsAt : PlaceFault → List (List ℕ) → Counts → Counts → Type 0
+FailsAt fault [] old new = ⊥
+FailsAt fault (name ∷ names) old new = (new ≡ past_place_fault name fault old) ⊎ FailsAt fault names (past_call old) new
+
+-- the first few of these calls were made, or all, and no other
+abbrev pub MakesSome : List (List ℕ) → Counts → Counts → Type 0
+MakesSome [] old new = new ≡ old
+MakesSome (name ∷ names) old new = (new ≡ old) ⊎ MakesSome names (past_call old) new
+
+-- where a call failed, it was one of these; where memory was refused, the first few of them were made; no other fault is told
+abbrev pub StopsAt : StoreFault → List (List ℕ) → Counts → Counts → Type 0
+StopsAt (Place fault) names old new = FailsAt fault names old new
+StopsAt NumbersSpent names old new = ⊥
+StopsAt OutOfMemory names old new = MakesSome names old new
+
+-- where it ended well, these calls were made, and no more; else it stopped at one of them. The counters hold how many went well, and the name of one that failed, not the order
+abbrev pub Looks : {T : Type 0} → Result T StoreFault → List (List ℕ) → Counts → Counts → Type 0
+Looks result names old new = MatchResult result (λ x. new ≡ past_calls names old) (λ e. StopsAt e names old new)
+
+-- of a row, what is looked at for each item in turn, up to and with the first that differs
+abbrev pub looked_up_to : {A : Type 0} → (A → Bool) → (A → List (List ℕ)) → List A → List (List ℕ)
+looked_up_to is_same look [] = []
+looked_up_to is_same look (x ∷ xs) = look x ++ (if is_same x then looked_up_to is_same look xs else [])
+
+-- a file of the sources is read; at or below the target folder none is
+abbrev pub source_looked : List ℕ → List ℕ → List (List ℕ)
+source_looked target path = if is_at_or_below target path then [] else path ∷ []
+
+-- where no file is there, the folder is listed, but for what is at or below the target folder, and then each file listed is read
+abbrev pub folder_looked : List ℕ → World → List ℕ → Option (List ℕ) → List (List ℕ)
+folder_looked target w path (Some bytes) = []
+folder_looked target w path None = path ∷ listed path (removed target w)
+
+-- for an input: of a path the file, or the folder; of a variable its name
+abbrev pub name_looked : List ℕ → World → InputName → List (List ℕ)
+name_looked target w (Path path) = source_looked target path ++ folder_looked target w path (finite.get (from_nothing target w).files path)
+name_looked target w (Variable name) = name ∷ []
+
+-- two texts, or none, are the same
+abbrev pub same_text : Option (List ℕ) → Option (List ℕ) → Bool
+same_text None None = true
+same_text None (Some other) = false
+same_text (Some text) None = false
+same_text (Some text) (Some other) = bytes_eq text other
+
+-- two inputs are the same: their kind, their name and their value
+abbrev pub same_input : Input → Input → Bool
+same_input (File path bytes) (File other others) = bytes_eq path other && bytes_eq bytes others
+same_input (File path bytes) (Tree other others) = false
+same_input (File path bytes) (Value other text) = false
+same_input (Tree path files) (File other others) = false
+same_input (Tree path files) (Tree other others) = bytes_eq path other && same_files files others
+same_input (Tree path files) (Value other text) = false
+same_input (Value name text) (File other others) = false
+same_input (Value name text) (Tree other others) = false
+same_input (Value name text) (Value other second) = bytes_eq name other && same_text text second
+
+-- an input has its present value
+unfoldable pub is_present : List ℕ → World → Input → Bool
+is_present target w i = same_input (input_in target w (name_of i)) i
+
+-- the inputs of a record, up to and with the first whose value is not the present one
+abbrev pub inputs_looked : List ℕ → World → List Input → List (List ℕ)
+inputs_looked target w inputs = looked_up_to (is_present target w) (λ i. name_looked target w (name_of i)) inputs
+
+-- the place of a unit's record is read; a text that is no key names none
+abbrev pub record_looked : List ℕ → List ℕ → List (List ℕ)
+record_looked folder key = if is_key key then place_of folder key ∷ [] else []
+
+-- the folder of a unit is listed, and then each file there is read; a text that is no path in a folder names none
+abbrev pub out_looked : List ℕ → World → List ℕ → List (List ℕ)
+out_looked folder w key = if is_relative key then out_of folder key ∷ listed (out_of folder key) w else []
+
+-- this is the number
+abbrev pub is_number : Option ℕ → ℕ → Bool
+is_number None number = false
+is_number (Some own) number = own == number
+
+-- a needed unit has the number, or the files, with which a record names it
+unfoldable pub has_number : Standing → List ℕ × ℕ → Bool
+has_number at need = is_number (number_if (at need.0)) need.1
+
+unfoldable pub has_files : List ℕ → Map → List ℕ × List (List ℕ × List ℕ) → Bool
+has_files folder files need = is_relative need.0 && same_files (contents (out_of folder need.0) files) need.1
+
+-- the units that a record names by number, or by copies, up to and with the first that is not as it names it
+abbrev pub numbers_looked : List ℕ → Standing → List (List ℕ × ℕ) → List (List ℕ)
+numbers_looked folder at needs = looked_up_to (has_number at) (λ need. record_looked folder need.0) needs
+
+abbrev pub copies_looked : List ℕ → World → List (List ℕ × List (List ℕ × List ℕ)) → List (List ℕ)
+copies_looked folder w copies = looked_up_to (has_files folder w.files) (λ need. out_looked folder w need.0) copies
+
+abbrev pub needed_looked : List ℕ → Standing → World → Needed → List (List ℕ)
+needed_looked folder at w (Copies copies) = copies_looked folder w copies
+needed_looked folder at w (Numbers number needs) = numbers_looked folder at needs
+
+-- its inputs, and then, where each has its present value, the units that it names
+unfoldable pub around_looked : List ℕ → Standing → List ℕ → World → Record → List (List ℕ)
+around_looked folder at target w r = inputs_looked target w r.inputs ++ (if list_all (is_present target w) r.inputs then needed_looked folder at w r.needed else [])
+
+abbrev pub same_texts : List (List ℕ) → List (List ℕ) → Bool
+same_texts texts others = pointwise (pointwise ◌==◌) texts others
+
+-- a command is the one that was asked, part for part, and variable for variable
+unfoldable pub is_asked : Asked → commands.Command → Bool
+is_asked a c = bytes_eq a.program c.program && (same_texts a.words c.words && (bytes_eq a.folder c.folder && (same_text (Some a.out) c.out && (bytes_eq a.target c.target && (bytes_eq a.toolchain c.toolchain && (same_texts a.reads c.reads && same_files a.pairs c.pairs))))))
+
+-- for a record: nothing where its command is another
+unfoldable pub from_looked : List ℕ → Standing → commands.Command → World → Record → List (List ℕ)
+from_looked folder at c w r = if is_asked r.asked c then around_looked folder at c.target w r else []
+
+abbrev pub kept_looked : List ℕ → Standing → commands.Command → World → Option Record → List (List ℕ)
+kept_looked folder at c w None = []
+kept_looked folder at c w (Some r) = from_looked folder at c w r
+
+-- for a unit: the place of its record is read, and then it is looked where the record that counts there leads
+unfoldable pub looked_at : Reading → List ℕ → List ℕ → commands.Command → World → List (List ℕ)
+looked_at read folder key c w = place_of folder key ∷ kept_looked folder (record_at read folder w.files) c w (record_at read folder w.files key)
+
+-- to open a folder it is listed, and then each record directly in it is read, in the order of the listing
+abbrev pub opened_looked : List ℕ → World → List (List ℕ)
+opened_looked folder w = folder ∷ filter ends_as_record (listed_directly folder w)
+
+-- for needed units the place of each record is read, and for inputs it is looked at each, in their order
+abbrev pub needs_looked : List ℕ → List (List ℕ) → List (List ℕ)
+needs_looked folder needs = looked_up_to (λ need. true) (λ need. place_of folder need ∷ []) needs
+
+abbrev pub names_looked : List ℕ → World → List InputName → List (List ℕ)
+names_looked target w names = looked_up_to (λ name. true) (name_looked target w) names
+
+-- to keep a record the needed units and the inputs are looked at, and then it is written in its place
+abbrev pub kept_called : List ℕ → List ℕ → List ℕ → World → List (List ℕ) → List InputName → List (List ℕ)
+kept_called folder key target w needs names = (needs_looked folder needs ++ names_looked target w names) ++ (place_of folder key ∷ [])
+
+-- to number a record the needed units are looked at, and then it is written in its place
+abbrev pub renumbered_called : List ℕ → List ℕ → List (List ℕ) → List (List ℕ)
+renumbered_called folder key needs = needs_looked folder needs ++ (place_of folder key ∷ [])
+
+-- to migrate a record its place is read, and where one without a number counts there, it is numbered
+abbrev pub migrated_called : List ℕ → List ℕ → List (List ℕ) → Option Record → List (List ℕ)
+migrated_called folder key needs found = place_of folder key ∷ (if lacks_number found then renumbered_called folder key needs else [])
+
+-- The tests by which it is said how far it looks decide just that by which a difference is told.
+pub record TestsDecide : Type 0 where
+  pub input : (target : List ℕ) (w : World) (i : Input) → Decides (is_present target w i) (IsPresent target w i)
+  pub number : (at : Standing) (need : List ℕ × ℕ) → Decides (has_number at need) (HasNumber at need)
+  pub copies : (folder : List ℕ) (files : Map) (need : List ℕ × List (List ℕ × List ℕ)) → Decides (has_files folder files need) (HasFiles folder files need)
+  pub command : (a : Asked) (c : commands.Command) → Decides (is_asked a c) (command_of a ≡ c)
