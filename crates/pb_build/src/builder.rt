@@ -11,7 +11,7 @@ ghost use Rattle.pb_build.specs.Planning.{IsProject, IsToldRefusal};
 ghost use Rattle.pb_build.specs.Private.{IsReadyFor, IsSilentFault, IsUnrefused, unopened};
 ghost use Rattle.pb_build.specs.Result.{setup_of};
 ghost use Rattle.pb_run.specs.Causes.{Takes, NoStart, OneStart};
-ghost use Rattle.pb_run.specs.Standing.{IsInOrder, records_folder};
+ghost use Rattle.pb_run.specs.Standing.{records_folder};
 ghost use Rattle.pb_project.specs.declared.project.Project.{Project};
 ghost use Rattle.pb_soundness.specs.Records.{Reading};
 ghost use Rattle.pb_store.specs.Opening.{next_in};
@@ -27,8 +27,8 @@ use pb_message::{finish_line, write_lines};
 use pb_package::Options;
 use pb_place::{Out, PathText, Place, RelativePath};
 use pb_profile::folder_of;
-use pb_project::{Project, Setup};
-use pb_run::deviceless;
+use pb_project::Setup;
+use pb_run::{OrderedProject, deviceless};
 use pb_store::{OpenFault, Store};
 use pb_turns::run_turns;
 use std::alloc::{AllocError, Global};
@@ -39,7 +39,7 @@ pub struct Prepared {
     /// How things are compiled.
     pub setup: Setup,
     /// What is built.
-    pub project: Project,
+    pub project: OrderedProject,
     /// The records of the profile's folder.
     pub store: Store,
 }
@@ -64,11 +64,12 @@ fn setup_of(
     })
 }
 
-/// The folder of the records of a project that is in order: the profile's, in the target folder.
-fn records_folder(alloc: Global, project: &Project) -> Result<PathText, AllocError>
-    requires order { IsInOrder project.now }
+/// The folder of a project's records: the profile's, in the target folder.
+fn records_folder(alloc: Global, project: &OrderedProject) -> Result<PathText, AllocError>
     ensures { IfOk result (λ folder. folder ≡ records_folder project.now) }
 {
+    project.is_in_order();
+    let project = project.get();
     let name = Text::from_str(alloc, folder_of(project.profile.as_str()))?;
     match RelativePath::of(name) {
         Some(name) => {
@@ -90,8 +91,11 @@ fn unopened(fault: OpenFault) -> BuildFault
 }
 
 /// Opens the store of a project's records.
-fn opened<P: Place>(alloc: Global, place: &mut P, project: &Project) -> Result<Store, BuildFault>
-    requires order { IsInOrder project.now }
+fn opened<P: Place>(
+    alloc: Global,
+    place: &mut P,
+    project: &OrderedProject,
+) -> Result<Store, BuildFault>
     ensures folder { IfOk result (λ store. store.folder ≡ records_folder project.now) }
     ensures next { (read : Reading) → IsReading read → IsTrue P.tells → IfOk result (λ store. store.next ≡ next_in read (records_folder project.now) (P.world place.old)) }
     ensures same { IsTrue P.tells → P.world place.new ≡ P.world place.old }
@@ -116,10 +120,8 @@ fn ready<P: Place>(
     place: &mut P,
     options: &Options,
     environment: Environment,
-    project: Project,
+    project: OrderedProject,
 ) -> Result<Prepared, BuildFault>
-    requires order { IsInOrder project }
-    ensures order { IfOk result (λ prepared. IsInOrder prepared.project) }
     ensures folder { IfOk result (λ prepared. prepared.store.folder ≡ records_folder prepared.project) }
     ensures ready { IsTrue P.tells → IfOk result (IsReadyFor P.child options.now environment project (P.world place.old)) }
     ensures silent { IsTrue P.tells → IfErr result (IsSilentFault P.child environment project (P.world place.old)) }
@@ -129,7 +131,7 @@ fn ready<P: Place>(
     ensures takes { Takes OneStart MayReady result (P.counts place.old) (P.counts place.new) }
     ensures names { NamesCall result (P.counts place.new) }
 {
-    let toolchain = match ask(alloc, place, &environment, &project) {
+    let toolchain = match ask(alloc, place, &environment, project.get()) {
         Ok(toolchain) => toolchain,
         Err(fault) => return Err(fault),
     };
@@ -153,7 +155,7 @@ pub struct BuildPlan {
     /// What the variables and the options say.
     pub environment: Environment,
     /// What is built.
-    pub project: Project,
+    pub project: OrderedProject,
 }
 
 /// Plans a build. In this order: the variables `RUSTC`, `RUSTFLAGS` and `CARGO_TARGET_DIR`; the workspace; what is
@@ -167,7 +169,6 @@ pub fn plan_build<P: Place>(
     options: &Options,
 ) -> Result<BuildPlan, BuildFault>
     ensures plan { IsTrue P.tells → IfOk result (IsPlanOf options.now (P.world place.old)) }
-    ensures order { IfOk result (λ plan. IsInOrder plan.project) }
     ensures same { IsTrue P.tells → P.world place.new ≡ P.world place.old }
     ensures most { P.most place.new ≡ P.most place.old }
     ensures unstarted { (P.counts place.new).starts ≡ (P.counts place.old).starts }
@@ -197,8 +198,6 @@ fn prepare<P: Place>(
     plan: Result<BuildPlan, BuildFault>,
 ) -> Result<Prepared, BuildFault>
     requires none { (P.counts place.old).starts.flying ≡ [] }
-    requires order { IfOk plan (λ plan. IsInOrder plan.project) }
-    ensures order { IfOk result (λ prepared. IsInOrder prepared.project) }
     ensures folder { IfOk result (λ prepared. prepared.store.folder ≡ records_folder prepared.project) }
     ensures prepares { IfOk result (λ prepared. (from : Moment) → PlansFrom P.tells options.now plan from record { world = P.world place.old; counts = P.counts place.old; most = P.most place.old; heard = from.heard }
         → Prepares P.tells P.child options.now prepared from.world (P.world place.new) from.counts (P.counts place.new) from.most (P.most place.new)) }
@@ -213,7 +212,10 @@ fn prepare<P: Place>(
         Err(fault) => return Err(fault),
     };
     match ready(alloc, place, options, plan.environment, plan.project) {
-        Ok(prepared) => Ok(prepared),
+        Ok(prepared) => {
+            prepared.project.is_in_order();
+            Ok(prepared)
+        }
         Err(fault) => Err(fault),
     }
 }
@@ -229,7 +231,6 @@ fn work<P: Place, O: Out, T: Turn>(
     turn: &mut T,
 ) -> Result<Summary, BuildFault>
     requires none { (P.counts place.old).starts.flying ≡ [] }
-    requires order { IfOk plan (λ plan. IsInOrder plan.project) }
     ensures { (from : Moment) → PlansFrom P.tells options.now plan from (moment (P.world place.old) (P.counts place.old) (P.most place.old) (O.taken out.old) (O.faults out.old))
         → Works P.tells P.child T.turns options.now turn.old turn.new result from (moment (P.world place.new) (P.counts place.new) (P.most place.new) (O.taken out.new) (O.faults out.new)) }
 {
@@ -278,7 +279,6 @@ pub fn build_plan_turns<P: Place, O: Out, T: Turn>(
     turn: &mut T,
 ) -> Result<Summary, BuildFault>
     requires none { (P.counts place.old).starts.flying ≡ [] }
-    requires order { IfOk plan (λ plan. IsInOrder plan.project) }
     ensures { (from : Moment) → PlansFrom P.tells options.now plan from (moment (P.world place.old) (P.counts place.old) (P.most place.old) (O.taken out.old) (O.faults out.old))
         → Builds P.tells P.child T.turns options.now turn.old turn.new result from (moment (P.world place.new) (P.counts place.new) (P.most place.new) (O.taken out.new) (O.faults out.new)) }
 {
@@ -295,7 +295,6 @@ pub fn build_plan<P: Place, O: Out>(
     plan: Result<BuildPlan, BuildFault>,
 ) -> Result<Summary, BuildFault>
     requires none { (P.counts place.old).starts.flying ≡ [] }
-    requires order { IfOk plan (λ plan. IsInOrder plan.project) }
     ensures { (from : Moment) → PlansFrom P.tells options.now plan from (moment (P.world place.old) (P.counts place.old) (P.most place.old) (O.taken out.old) (O.faults out.old))
         → BuildsFirst P.tells P.child options.now result from (moment (P.world place.new) (P.counts place.new) (P.most place.new) (O.taken out.new) (O.faults out.new)) }
 {
@@ -387,7 +386,7 @@ pub fn build<P: Place, O: Out>(
 fn without_library(plan: BuildPlan) -> Items<Text>
     ensures { result ≡ plan.project.plan.without_library }
 {
-    let project = plan.project;
+    let project = plan.project.into_project();
     let plan = project.plan;
     plan.without_library
 }

@@ -1,6 +1,6 @@
 //! What a build is of: the workspace that is read, its features and its plan.
 
-ghost use Rattle.std.specs.Prelude.{◌≡◌, ◌⊎◌, ◌<◌, All, AllPairs, IfOk, IfErr, IsTrue, Ok, Err, length};
+ghost use Rattle.std.specs.Prelude.{◌≡◌, ◌⊎◌, AllPairs, IfOk, IfErr, IsTrue, Ok, Err};
 ghost use Rattle.pb_place.specs.World.{World};
 ghost use Rattle.pb_build.specs.Causes.{MayPlan, NamesCall};
 ghost use Rattle.pb_build.specs.Planning.{IsFeatured, IsProject, IsRefused, IsToldRefusal};
@@ -8,7 +8,6 @@ ghost use Rattle.pb_build.specs.Private.{IsRefusedOf, unread};
 ghost use Rattle.pb_build.specs.declared.environment.Environment.{Environment};
 ghost use Rattle.pb_workspace.specs.Loaded.{workspace_of};
 ghost use Rattle.pb_workspace.specs.Selected.{selected};
-ghost use Rattle.pb_package.specs.Settled.{IsSettled};
 ghost use Rattle.pb_feature.specs.Faults as feature;
 ghost use Rattle.pb_unit.specs.Plan as plan;
 ghost use Rattle.pb_answer.specs.declared.fault.BuildFault.TheVariants as build_fault;
@@ -18,14 +17,14 @@ ghost use Rattle.pb_unit.specs.declared.fault.PlanFault.{PlanFault};
 ghost use Rattle.pb_package.specs.declared.fault.LoadFault.{LoadFault};
 ghost use Rattle.pb_package.specs.declared.options.Selection.{Selection};
 ghost use Rattle.pb_run.specs.Causes.{Takes, NoStart};
-ghost use Rattle.pb_run.specs.Standing.{IsInOrder};
 
 use pb_answer::{BuildFault, DeviceFault, Refusal};
 use pb_data::TryCopy;
 use pb_feature::{FeatureFault, Features, resolve};
-use pb_package::{LoadFault, Options, Selection, Workspace};
+use pb_package::{LoadFault, Options, SelectedWorkspace, SettledWorkspace};
 use pb_place::{PathText, Place};
 use pb_project::Project;
+use pb_run::OrderedProject;
 use pb_unit::{Plan, PlanFault};
 use pb_workspace::{load, selected};
 use std::alloc::Global;
@@ -50,9 +49,8 @@ fn read<P: Place>(
     place: &mut P,
     options: &Options,
     target: &PathText,
-) -> Result<Workspace, BuildFault>
+) -> Result<SettledWorkspace, BuildFault>
     ensures ok { IsTrue P.tells → IfOk result (λ ws. workspace_of options.now.manifest target.now (P.world place.old) ≡ Ok ws) }
-    ensures settled { IfOk result IsSettled }
     ensures same { IsTrue P.tells → P.world place.new ≡ P.world place.old }
     ensures most { P.most place.new ≡ P.most place.old }
     ensures refused { IsTrue P.tells → IfErr result (IsToldRefusal options.now target.now (P.world place.old)) }
@@ -66,31 +64,28 @@ fn read<P: Place>(
 }
 
 /// The packages that are selected, and what is asked of them.
-fn select(alloc: Global, workspace: &Workspace, options: &Options) -> Result<Selection, BuildFault>
-    requires settled { IsSettled workspace.now }
-    ensures ok { IfOk result (λ selection. selected workspace.now options.now ≡ Ok selection) }
-    ensures within { IfOk result (λ selection. All (λ place. place < length workspace.now.packages) selection.packages) }
+fn select<'a>(
+    alloc: Global,
+    workspace: &'a SettledWorkspace,
+    options: &Options,
+) -> Result<SelectedWorkspace<'a>, BuildFault>
+    ensures workspace { IfOk result (λ chosen. chosen.workspace ≡ workspace.now) }
+    ensures ok { IfOk result (λ chosen. selected chosen.workspace options.now ≡ Ok chosen.selection) }
     ensures refused { IfErr result (λ e. (e ≡ build_fault.OutOfMemory) ⊎ ((fault : LoadFault) × (e ≡ build_fault.Plan (refusal.Load fault)) × (selected workspace.now options.now ≡ Err fault))) }
 {
     match selected(alloc, workspace, options) {
-        Ok(selection) => Ok(selection),
+        Ok(chosen) => Ok(chosen),
         Err(LoadFault::OutOfMemory) => Err(BuildFault::OutOfMemory),
         Err(fault) => Err(BuildFault::Plan(Refusal::Load(fault))),
     }
 }
 
 /// The features that are on.
-fn featured(
-    alloc: Global,
-    workspace: &Workspace,
-    selection: &Selection,
-) -> Result<Features, BuildFault>
-    requires settled { IsSettled workspace.now }
-    requires selected { All (λ p. p < length workspace.now.packages) selection.now.packages }
-    ensures featured { IfOk result (IsFeatured workspace.now selection.now) }
-    ensures refused { IfErr result (λ e. (e ≡ build_fault.OutOfMemory) ⊎ ((fault : FeatureFault) × (e ≡ build_fault.Plan (refusal.Feature fault)) × feature.Refuses workspace.now selection.now fault)) }
+fn featured(alloc: Global, chosen: &SelectedWorkspace<'_>) -> Result<Features, BuildFault>
+    ensures featured { IfOk result (IsFeatured chosen.now.workspace chosen.now.selection) }
+    ensures refused { IfErr result (λ e. (e ≡ build_fault.OutOfMemory) ⊎ ((fault : FeatureFault) × (e ≡ build_fault.Plan (refusal.Feature fault)) × feature.Refuses chosen.now.workspace chosen.now.selection fault)) }
 {
-    match resolve(alloc, workspace, selection) {
+    match resolve(alloc, chosen) {
         Ok(features) => Ok(features),
         Err(FeatureFault::OutOfMemory) => Err(BuildFault::OutOfMemory),
         Err(fault) => Err(BuildFault::Plan(Refusal::Feature(fault))),
@@ -100,56 +95,72 @@ fn featured(
 /// The plan.
 fn plan_of(
     alloc: Global,
-    workspace: &Workspace,
+    chosen: &SelectedWorkspace<'_>,
     features: &Features,
-    selection: &Selection,
     profile: &str,
 ) -> Result<Plan, BuildFault>
-    requires settled { IsSettled workspace.now }
-    requires selected { All (λ p. p < length workspace.now.packages) selection.now.packages }
-    ensures planned { IfOk result (plan.IsPlan workspace.now features.now selection.now profile.now) }
+    ensures planned { IfOk result (plan.IsPlan chosen.now.workspace features.now chosen.now.selection profile.now) }
     ensures apart { IfOk result (λ planned. AllPairs plan.LieApart planned.planned) }
-    ensures refused { IfErr result (λ e. (e ≡ build_fault.OutOfMemory) ⊎ ((fault : PlanFault) × (e ≡ build_fault.Plan (refusal.Plan fault)) × plan.Refuses workspace.now features.now selection.now profile.now fault)) }
+    ensures refused { IfErr result (λ e. (e ≡ build_fault.OutOfMemory) ⊎ ((fault : PlanFault) × (e ≡ build_fault.Plan (refusal.Plan fault)) × plan.Refuses chosen.now.workspace features.now chosen.now.selection profile.now fault)) }
 {
-    match Plan::plan(alloc, workspace, features, selection, profile) {
+    match Plan::plan(alloc, chosen, features, profile) {
         Ok(plan) => Ok(plan),
         Err(PlanFault::OutOfMemory) => Err(BuildFault::OutOfMemory),
         Err(fault) => Err(BuildFault::Plan(Refusal::Plan(fault))),
     }
 }
 
-/// The project of a workspace that was read: what is selected of it, its features and its plan.
-fn project_of(alloc: Global, options: &Options, workspace: Workspace) -> Result<Project, BuildFault>
-    requires settled { IsSettled workspace }
-    ensures project { IfOk result (λ project. (project.workspace ≡ workspace) × (project.profile ≡ options.now.profile) × ((selection : Selection) × (selected workspace options.now ≡ Ok selection)
-        × IsFeatured workspace selection project.features × plan.IsPlan workspace project.features selection options.now.profile project.plan)) }
-    ensures order { IfOk result IsInOrder }
-    ensures refused { IfErr result (IsRefusedOf options.now workspace) }
+/// The features and the plan of what is selected of a workspace.
+fn parts_of(
+    alloc: Global,
+    options: &Options,
+    workspace: &SettledWorkspace,
+) -> Result<(Features, Plan), BuildFault>
+    ensures parts { IfOk result (λ made. (selection : Selection) × (selected workspace.now options.now ≡ Ok selection) × IsFeatured workspace.now selection made.0 × plan.IsPlan workspace.now made.0 selection options.now.profile made.1) }
+    ensures apart { IfOk result (λ made. AllPairs plan.LieApart made.1.planned) }
+    ensures refused { IfErr result (IsRefusedOf options.now workspace.now) }
 {
-    let selection = match select(alloc, &workspace, options) {
-        Ok(selection) => selection,
+    let chosen = match select(alloc, workspace, options) {
+        Ok(chosen) => chosen,
         Err(fault) => return Err(fault),
     };
-    let features = match featured(alloc, &workspace, &selection) {
+    let features = match featured(alloc, &chosen) {
         Ok(features) => features,
         Err(fault) => return Err(fault),
     };
-    let _ = workspace.target.as_str();
-    let asked = options.profile.as_str();
-    let plan = match plan_of(alloc, &workspace, &features, &selection, asked) {
-        Ok(plan) => plan,
+    match plan_of(alloc, &chosen, &features, options.profile.as_str()) {
+        Ok(plan) => Ok((features, plan)),
+        Err(fault) => Err(fault),
+    }
+}
+
+/// The project of a workspace that was read: what is selected of it, its features and its plan.
+fn project_of(
+    alloc: Global,
+    options: &Options,
+    workspace: SettledWorkspace,
+) -> Result<OrderedProject, BuildFault>
+    ensures project { IfOk result (λ project. (project.workspace ≡ workspace) × (project.profile ≡ options.now.profile) × ((selection : Selection) × (selected workspace options.now ≡ Ok selection)
+        × IsFeatured workspace selection project.features × plan.IsPlan workspace project.features selection options.now.profile project.plan)) }
+    ensures refused { IfErr result (IsRefusedOf options.now workspace) }
+{
+    let parts = match parts_of(alloc, options, &workspace) {
+        Ok(parts) => parts,
         Err(fault) => return Err(fault),
     };
     let profile = match options.profile.copy(alloc) {
         Ok(profile) => profile,
         Err(_) => return Err(BuildFault::OutOfMemory),
     };
-    Ok(Project {
+    let (features, plan) = parts;
+    let workspace = workspace.into_workspace();
+    let _ = workspace.target.as_str();
+    Ok(OrderedProject::new(Project {
         workspace,
         features,
         plan,
         profile,
-    })
+    }))
 }
 
 /// Reads the workspace, and plans the build. Faults: Plan, with the first refusal; Device, with the path of the call
@@ -159,9 +170,8 @@ pub(crate) fn planned<P: Place>(
     place: &mut P,
     options: &Options,
     target: &PathText,
-) -> Result<Project, BuildFault>
+) -> Result<OrderedProject, BuildFault>
     ensures project { IsTrue P.tells → IfOk result (IsProject options.now target.now (P.world place.old)) }
-    ensures order { IfOk result IsInOrder }
     ensures same { IsTrue P.tells → P.world place.new ≡ P.world place.old }
     ensures most { P.most place.new ≡ P.most place.old }
     ensures refused { IsTrue P.tells → IfErr result (IsToldRefusal options.now target.now (P.world place.old)) }

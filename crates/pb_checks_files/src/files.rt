@@ -1,9 +1,8 @@
 //! Files in memory, and the workspace of them.
 
-ghost use Rattle.std.specs.Prelude.{◌≡◌, IfOk};
-ghost use Rattle.pb_package.specs.Settled.{IsSettled};
+ghost use Rattle.std.specs.Prelude.{◌≡◌};
 
-use pb_package::{LoadFault, Workspace};
+use pb_package::{LoadFault, SettledWorkspace};
 use pb_place::{Child, Memory, PathFault, PathText};
 use pb_workspace::load;
 use std::alloc::Global;
@@ -29,9 +28,7 @@ pub fn put_files<C: Child>(
 pub fn workspace_in<C: Child>(
     alloc: Global,
     memory: &mut Memory<C>,
-) -> Result<Result<Workspace, LoadFault>, PathFault>
-    ensures { IfOk result (λ answer. IfOk answer IsSettled) }
-{
+) -> Result<Result<SettledWorkspace, LoadFault>, PathFault> {
     let manifest = PathText::parse(alloc, "/w/Cargo.toml")?;
     let target = PathText::parse(alloc, "/w/target")?;
     Ok(load(alloc, memory, &manifest, &target))

@@ -1,11 +1,8 @@
 //! The parts of a case, workspaces of tests, and what is asked of them.
 
-ghost use Rattle.std.specs.Prelude.{IfOk};
-ghost use Rattle.pb_package.specs.Settled.{IsSettled};
-
 use pb_checks_files::{Silent, no_options, put_files, workspace_in};
 use pb_data::Text;
-use pb_package::{Options, Workspace};
+use pb_package::{Options, SettledWorkspace};
 use pb_place::Memory;
 use std::alloc::{AllocError, Global};
 use std::test::Fail;
@@ -22,9 +19,7 @@ fn workspace_at(
     memory: &mut Memory<Silent>,
     first: &str,
     files: &str,
-) -> Result<Workspace, Fail>
-    ensures { IfOk result IsSettled }
-{
+) -> Result<SettledWorkspace, Fail> {
     put_files(alloc, memory, first)?;
     put_files(alloc, memory, files)?;
     let workspace = workspace_in(alloc, memory)??;
@@ -32,9 +27,7 @@ fn workspace_at(
 }
 
 /// The workspace of these files, behind those of a first text.
-pub fn workspace_of(alloc: Global, first: &str, files: &str) -> Result<Workspace, Fail>
-    ensures { IfOk result IsSettled }
-{
+pub fn workspace_of(alloc: Global, first: &str, files: &str) -> Result<SettledWorkspace, Fail> {
     let mut memory = Memory::new(alloc, Silent);
     workspace_at(alloc, &mut memory, first, files)
 }

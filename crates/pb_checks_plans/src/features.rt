@@ -1,13 +1,11 @@
 //! Features, by a table of manifests with what is asked for and what is on.
 
-ghost use Rattle.pb_package.specs.Settled.{IsSettled};
-
 use crate::asking::{options_of, parts_of, workspace_of};
 use crate::enabled::put_enabled;
 use crate::resolutions::RESOLUTIONS;
 use pb_checks_files::Shown;
 use pb_feature::{FeatureFault, Features, resolve};
-use pb_package::Workspace;
+use pb_package::{SettledWorkspace, Workspace};
 use pb_workspace::selected;
 use std::alloc::Global;
 use std::process::Abort;
@@ -29,24 +27,25 @@ fn says(
 }
 
 /// Whether this is on for words, or this is the refusal.
-fn is_resolved(alloc: Global, workspace: &Workspace, words: &str, want: &str) -> Result<bool, Fail>
-    requires { IsSettled workspace.now }
-{
+fn is_resolved(
+    alloc: Global,
+    workspace: &SettledWorkspace,
+    words: &str,
+    want: &str,
+) -> Result<bool, Fail> {
     let options = options_of(alloc, words, "; ")?;
-    let selection = selected(alloc, workspace, &options)?;
-    let answer = resolve(alloc, workspace, &selection);
-    Ok(says(alloc, workspace, &answer, want))
+    let chosen = selected(alloc, workspace, &options)?;
+    let answer = resolve(alloc, &chosen);
+    Ok(says(alloc, workspace.get(), &answer, want))
 }
 
 /// Asks the questions about a workspace, one a line, each with its answer behind ` = `. How many there were.
 fn ask_all(
     rt: &impl Abort,
     alloc: Global,
-    workspace: &Workspace,
+    workspace: &SettledWorkspace,
     questions: &str,
-) -> Result<usize, Fail>
-    requires { IsSettled workspace.now }
-{
+) -> Result<usize, Fail> {
     let mut count = 0usize;
     for line in questions.lines() {
         if let Some((words, want)) = line.split_once(" = ") {

@@ -1,8 +1,5 @@
 //! Plans, against a table of plans written by hand.
 
-ghost use Rattle.std.specs.Prelude.{◌<◌, All, length};
-ghost use Rattle.pb_package.specs.Settled.{IsSettled};
-
 use crate::asking::{options_of, parts_of, workspace_of};
 use crate::cases::CASES;
 use crate::script_cases::SCRIPT_CASES;
@@ -10,7 +7,7 @@ use crate::show::{put_fault, put_plan, put_texts};
 use pb_checks_files::Shown;
 use pb_data::Text;
 use pb_feature::resolve;
-use pb_package::{Selection, Side, Workspace};
+use pb_package::{SelectedWorkspace, SettledWorkspace, Side, Workspace};
 use pb_unit::{Plan, PlanFault, Unit, What};
 use pb_workspace::selected;
 use std::alloc::{AllocError, Global};
@@ -31,28 +28,22 @@ const ROOT: &str = "@ /w/Cargo.toml\n[workspace]\nmembers = [\"*\"]\n";
 /// The plan of a selection.
 fn planned(
     alloc: Global,
-    workspace: &Workspace,
-    selection: &Selection,
+    chosen: &SelectedWorkspace<'_>,
     words: &str,
-) -> Result<Result<Plan, PlanFault>, Fail>
-    requires settled { IsSettled workspace.now }
-    requires within { All (λ place. place < length workspace.now.packages) selection.now.packages }
-{
-    let features = resolve(alloc, workspace, selection)?;
-    Ok(Plan::plan(alloc, workspace, &features, selection, profile_in(words)))
+) -> Result<Result<Plan, PlanFault>, Fail> {
+    let features = resolve(alloc, chosen)?;
+    Ok(Plan::plan(alloc, chosen, &features, profile_in(words)))
 }
 
 /// The plan of a workspace.
 fn plan_of(
     alloc: Global,
-    workspace: &Workspace,
+    workspace: &SettledWorkspace,
     words: &str,
-) -> Result<Result<Plan, PlanFault>, Fail>
-    requires { IsSettled workspace.now }
-{
+) -> Result<Result<Plan, PlanFault>, Fail> {
     let options = options_of(alloc, words, " ")?;
-    let selection = selected(alloc, workspace, &options)?;
-    planned(alloc, workspace, &selection, words)
+    let chosen = selected(alloc, workspace, &options)?;
+    planned(alloc, &chosen, words)
 }
 
 /// Puts what an answer is shown as.
@@ -70,9 +61,12 @@ fn put_answer(out: &mut Shown, answer: &Result<Plan, PlanFault>, words: &str) {
 }
 
 /// Whether the plan of a workspace is shown as this.
-fn is_answered(alloc: Global, workspace: &Workspace, words: &str, want: &str) -> Result<bool, Fail>
-    requires { IsSettled workspace.now }
-{
+fn is_answered(
+    alloc: Global,
+    workspace: &SettledWorkspace,
+    words: &str,
+    want: &str,
+) -> Result<bool, Fail> {
     let answer = plan_of(alloc, workspace, words)?;
     let mut out = Shown::new(alloc);
     put_answer(&mut out, &answer, words);
@@ -83,11 +77,9 @@ fn is_answered(alloc: Global, workspace: &Workspace, words: &str, want: &str) ->
 fn ask_all(
     rt: &impl Abort,
     alloc: Global,
-    workspace: &Workspace,
+    workspace: &SettledWorkspace,
     questions: &str,
-) -> Result<usize, Fail>
-    requires { IsSettled workspace.now }
-{
+) -> Result<usize, Fail> {
     let mut count = 0usize;
     for line in questions.lines() {
         if let Some((words, want)) = line.split_once(" = ") {
@@ -138,9 +130,11 @@ fn has_units(answer: &Result<Plan, PlanFault>, wanted: Option<usize>) -> bool {
 }
 
 /// Whether the plan of the package of a workspace has so many units.
-fn plans_units(alloc: Global, workspace: &Workspace, wanted: Option<usize>) -> Result<bool, Fail>
-    requires { IsSettled workspace.now }
-{
+fn plans_units(
+    alloc: Global,
+    workspace: &SettledWorkspace,
+    wanted: Option<usize>,
+) -> Result<bool, Fail> {
     let answer = plan_of(alloc, workspace, "a")?;
     Ok(has_units(&answer, wanted))
 }
@@ -189,9 +183,7 @@ fn has_folders(alloc: Global, plan: &Plan) -> bool {
 }
 
 /// Whether the plan of a workspace under the profile `bench` has these folders and levels.
-fn bench_has_folders(alloc: Global, workspace: &Workspace) -> Result<bool, Fail>
-    requires { IsSettled workspace.now }
-{
+fn bench_has_folders(alloc: Global, workspace: &SettledWorkspace) -> Result<bool, Fail> {
     match plan_of(alloc, workspace, "a @bench")? {
         Ok(plan) => Ok(has_folders(alloc, &plan)),
         Err(_) => Ok(false),
@@ -234,7 +226,7 @@ fn has_keys(alloc: Global, workspace: &Workspace) -> Result<bool, AllocError> {
 /// Whether the folders, levels and keys of `BOTH_SIDES` are right.
 fn are_both_right(alloc: Global) -> Result<bool, Fail> {
     let workspace = workspace_of(alloc, ROOT, BOTH_SIDES)?;
-    let has_keys = has_keys(alloc, &workspace)?;
+    let has_keys = has_keys(alloc, workspace.get())?;
     Ok(bench_has_folders(alloc, &workspace)? && has_keys)
 }
 

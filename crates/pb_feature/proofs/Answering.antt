@@ -10,7 +10,7 @@ use Rattle.pb_feature.specs.Answered.{is_answered, IsUnanswered}
 use Rattle.pb_feature.specs.Checked.{IsFirstBelow, IsSofar}
 use Rattle.pb_feature.proofs.Refusing.{refused_item, refused_asked, refused_missing, none_refused}
 
-module _ (ws : Workspace) (selection : Selection) (qs rs : List Package) (same : qs ≡ ws.packages) (same_rs : rs ≡ ws.packages) where
+module _ (ws : Workspace) (selection asked : Selection) (qs rs : List Package) (same : qs ≡ ws.packages) (same_rs : rs ≡ ws.packages) (same_asked : asked ≡ selection) where
   pub item_error : (e : FeatureFault) → ((place : ℕ) × IsFirstBelow qs (length qs) place e) → (e ≡ OutOfMemory) ⊎ Refuses ws selection e
   item_error e (place, first) = inr (refused_item ws selection place e (subst (λ q. IsFirstBelow q (length q) place e) same first))
 
@@ -21,14 +21,16 @@ module _ (ws : Workspace) (selection : Selection) (qs rs : List Package) (same :
   right_is sofar = subst (λ q. IsSofar q (length q) None) same sofar
 
   abbrev Answered : Type 0
-  Answered = All (λ text. is_answered rs selection.packages text ≡ true) selection.features
+  Answered = All (λ text. is_answered rs asked.packages text ≡ true) asked.features
 
   answered_is : Answered → All (λ text. is_answered ws.packages selection.packages text ≡ true) selection.features
-  answered_is each = subst (λ q. All (λ text. is_answered q selection.packages text ≡ true) selection.features) same_rs each
+  answered_is each =
+      subst (λ (s : Selection). All (λ text. is_answered ws.packages s.packages text ≡ true) s.features) same_asked
+      (subst (λ q. All (λ text. is_answered q asked.packages text ≡ true) asked.features) same_rs each)
 
-  pub asked_error : Right → (e : FeatureFault) → (e ≡ OutOfMemory) ⊎ ((e ≡ NoSuchFeature) × IsUnanswered rs selection) → (e ≡ OutOfMemory) ⊎ Refuses ws selection e
+  pub asked_error : Right → (e : FeatureFault) → (e ≡ OutOfMemory) ⊎ ((e ≡ NoSuchFeature) × IsUnanswered rs asked) → (e ≡ OutOfMemory) ⊎ Refuses ws selection e
   asked_error right e (inl memory) = inl memory
-  asked_error right e (inr (is, none)) = inr (subst (Refuses ws selection) (sym is) (refused_asked ws selection (right_is right) (subst (λ q. IsUnanswered q selection) same_rs none)))
+  asked_error right e (inr (is, none)) = inr (subst (Refuses ws selection) (sym is) (refused_asked ws selection (right_is right) (subst (IsUnanswered ws.packages) same_asked (subst (λ q. IsUnanswered q asked) same_rs none))))
 
   pub missing_error : Right → Answered → (e : FeatureFault) → (e ≡ OutOfMemory) ⊎ ((e ≡ NoSuchFeature) × IsMissing ws selection) → (e ≡ OutOfMemory) ⊎ Refuses ws selection e
   missing_error right each e (inl memory) = inl memory

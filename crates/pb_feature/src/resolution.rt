@@ -22,25 +22,32 @@ use crate::resolved::{Features, features_marked, is_marked};
 use crate::rules::rules_of;
 use crate::seeds::seeds_of;
 use pb_closure::derived;
-use pb_package::{Selection, Side, Workspace};
+use pb_package::{Package, SelectedWorkspace, Side};
 use std::alloc::{AllocError, Global};
+
+/// The packages of the workspace that something is selected of.
+fn packages_of<'a>(selected: &'a SelectedWorkspace<'_>) -> &'a [Package]
+    ensures packages { result.now ≡ selected.now.workspace.packages }
+    ensures settled { IsSettled selected.now.workspace }
+{
+    selected.workspace().get().packages.as_slice()
+}
 
 /// Which numbers follow from what is chosen.
 fn marks_of(
     alloc: Global,
-    workspace: &Workspace,
+    selected: &SelectedWorkspace<'_>,
     bases: &[usize],
     count: usize,
-    selection: &Selection,
 ) -> Result<Vec<bool>, AllocError>
-    requires settled { IsSettled workspace.now }
-    requires selected { All (λ p. p < length workspace.now.packages) selection.now.packages }
-    requires bases { bases.now ≡ bases_from 0 workspace.now.packages }
-    requires count { count ≡ end_from 0 workspace.now.packages * 2 }
-    ensures { IfOk result (λ marks. IsLeast (Least (Contains (seeds_of workspace.now.packages bases.now selection.now)) (joined_by (rules_of workspace.now.packages bases.now))) (is_on marks.items)) }
+    requires bases { bases.now ≡ bases_from 0 selected.now.workspace.packages }
+    requires count { count ≡ end_from 0 selected.now.workspace.packages * 2 }
+    ensures least { IfOk result (λ marks. IsLeast (Least (Contains (seeds_of selected.now.workspace.packages bases.now selected.now.selection)) (joined_by (rules_of selected.now.workspace.packages bases.now))) (is_on marks.items)) }
+    ensures within { All (λ p. p < length selected.now.workspace.packages) selected.now.selection.packages }
 {
+    let selection = selected.selection();
     let ground = Ground {
-        packages: workspace.packages.as_slice(),
+        packages: packages_of(selected),
         bases,
     };
     let seeds = seeds_of(alloc, &ground, selection)?;
@@ -72,24 +79,16 @@ fn check_missing(ground: &Ground<'_>, marks: &[bool]) -> Result<(), FeatureFault
 }
 
 /// What is on, where each feature that is asked of a package is there.
-fn resolved(
-    alloc: Global,
-    workspace: &Workspace,
-    selection: &Selection,
-) -> Result<Features, FeatureFault>
-    requires settled { IsSettled workspace.now }
-    requires selected { All (λ p. p < length workspace.now.packages) selection.now.packages }
-    ensures exactly { IfOk result (IsResolved workspace.now selection.now) }
-    ensures complete { OnOk result (IsMissing workspace.now selection.now → ⊥) }
-    ensures missing { IfErr result (λ e. (e ≡ OutOfMemory) ⊎ ((e ≡ NoSuchFeature) × IsMissing workspace.now selection.now)) }
+fn resolved(alloc: Global, selected: &SelectedWorkspace<'_>) -> Result<Features, FeatureFault>
+    ensures exactly { IfOk result (IsResolved selected.now.workspace selected.now.selection) }
+    ensures complete { OnOk result (IsMissing selected.now.workspace selected.now.selection → ⊥) }
+    ensures missing { IfErr result (λ e. (e ≡ OutOfMemory) ⊎ ((e ≡ NoSuchFeature) × IsMissing selected.now.workspace selected.now.selection)) }
 {
-    let made = bases_of(alloc, workspace.packages.as_slice())?;
+    let packages = packages_of(selected);
+    let made = bases_of(alloc, packages)?;
     let bases = made.bases.as_slice();
-    let marks = marks_of(alloc, workspace, bases, made.count, selection)?;
-    let ground = Ground {
-        packages: workspace.packages.as_slice(),
-        bases,
-    };
+    let marks = marks_of(alloc, selected, bases, made.count)?;
+    let ground = Ground { packages, bases };
     check_missing(&ground, marks.as_slice())?;
     let features = features_marked(alloc, &ground, marks.as_slice())?;
     Ok(features)
@@ -98,23 +97,17 @@ fn resolved(
 /// Which packages, features and entries are on, on each of two sides: the least set of what is chosen and
 /// what the rules give (The Cargo Book, Features, resolver 2).
 ///
-/// The workspace is one that was read, and the selection names places of its packages. Refused, in this
-/// order: the first wrong item of the first package in byte order of names; an asked feature that no
-/// selected package has; a feature that is asked of a package which is on and does not have it. Beside
-/// these there is want of memory alone.
-pub fn resolve(
-    alloc: Global,
-    workspace: &Workspace,
-    selection: &Selection,
-) -> Result<Features, FeatureFault>
-    requires settled { IsSettled workspace.now }
-    requires selected { All (λ p. p < length workspace.now.packages) selection.now.packages }
-    ensures resolved { IfOk result (IsResolved workspace.now selection.now) }
-    ensures right { OnOk result ((fault : FeatureFault) → Refuses workspace.now selection.now fault → ⊥) }
-    ensures refused { IfErr result (λ e. (e ≡ OutOfMemory) ⊎ Refuses workspace.now selection.now e) }
+/// Refused, in this order: the first wrong item of the first package in byte order of names; an asked
+/// feature that no selected package has; a feature that is asked of a package which is on and does not have
+/// it. Beside these there is want of memory alone.
+pub fn resolve(alloc: Global, selected: &SelectedWorkspace<'_>) -> Result<Features, FeatureFault>
+    ensures resolved { IfOk result (IsResolved selected.now.workspace selected.now.selection) }
+    ensures right { OnOk result ((fault : FeatureFault) → Refuses selected.now.workspace selected.now.selection fault → ⊥) }
+    ensures refused { IfErr result (λ e. (e ≡ OutOfMemory) ⊎ Refuses selected.now.workspace selected.now.selection e) }
 {
-    check_items(workspace.packages.as_slice())?;
-    check_asked(alloc, workspace.packages.as_slice(), selection)?;
-    let features = resolved(alloc, workspace, selection)?;
+    let packages = packages_of(selected);
+    check_items(packages)?;
+    check_asked(alloc, packages, selected.selection())?;
+    let features = resolved(alloc, selected)?;
     Ok(features)
 }

@@ -10,6 +10,7 @@ use Rattle.pb_manifest.specs.declared.feature.Feature.{Feature}
 use Rattle.pb_package.specs.declared.package.Package.{Package}
 use Rattle.pb_package.specs.declared.package.Binary.{Binary}
 use Rattle.pb_package.specs.declared.package.Entry.{Entry}
+use Rattle.pb_package.specs.declared.options.Selection.{Selection}
 use Rattle.pb_package.specs.declared.workspace.DefaultMembers.{DefaultMembers}
 use Rattle.pb_package.specs.declared.workspace.DefaultMembers.TheVariants.{Unwritten, Named, Unknown}
 use Rattle.pb_package.specs.declared.workspace.Workspace.{Workspace}
@@ -43,3 +44,8 @@ pub record IsSettled (ws : Workspace) : Type 0 where
   pub packages : All (IsPackage (length ws.packages)) ws.packages
   pub root : IfSome ws.root_package (λ place. place < length ws.packages)
   pub defaults : IfNamed ws.default_members (All (λ place. place < length ws.packages))
+
+-- a workspace, and what is selected of it
+pub record Selected : Type 0 where
+  pub workspace : Workspace
+  pub selection : Selection

@@ -9,6 +9,7 @@ pub mod by_name;
 pub mod fault;
 pub mod options;
 pub mod package;
+pub mod settled;
 pub mod workspace;
 
 pub use by_key::EntriesByKey;
@@ -16,4 +17,5 @@ pub use by_name::{BinariesByName, FeaturesByName};
 pub use fault::LoadFault;
 pub use options::{Options, Selection};
 pub use package::{About, Binary, DependencyKind, Entry, Library, Package, Side};
+pub use settled::{SelectedWorkspace, SettledWorkspace};
 pub use workspace::{DefaultMembers, Workspace};

@@ -9,6 +9,9 @@ use Rattle.pb_place.specs.Counts.{Counts, counted_spawn, one_start, past_call, p
 use Rattle.pb_place.specs.World.{World, Answers, ChangesOnly}
 use Rattle.pb_place.specs.declared.child_in_flight.ChildInFlight.{ChildInFlight}
 use Rattle.pb_place.specs.declared.command.Command.{Command}
+use Rattle.pb_record.specs.Parts.{IsReading}
+use Rattle.pb_soundness.specs.Records.{Reading}
+use Rattle.pb_store.specs.Looking.{past_calls}
 
 -- a child was spawned where since the first world only such paths had changed and its folder was empty; it flies, and what it sees stands still
 pub record IsSpawned (inside : List ℕ → Bool) (child : Answers) (c : Command) (old : World) (ticket : ℕ) (flying : List ChildInFlight) (still : ℕ → Type 0) : Type 0 where
@@ -68,8 +71,9 @@ AnewEnds folder e old new = RemovalEnds folder e old new ⊎ SpawnEnds e (past_c
 abbrev pub LaunchEnds : List ℕ → List ℕ → BuildFault → Counts → Counts → Type 0
 LaunchEnds path folder e old new = DropEnds path e old new ⊎ AnewEnds folder e (past_call old) new
 
--- what a look leaves as it was: the world, where it is told, how many calls failed, and the starts
-pub record HasLooked (tells : Bool) (before after : World) (old new : Counts) : Type 0 where
+-- what a comparison leaves as it was: the world, where it is told, how many calls failed, and the starts; and, where it is told, just these calls were made, in this order
+pub record HasLooked (tells : Bool) (names : Reading → List (List ℕ)) (before after : World) (old new : Counts) : Type 0 where
   pub same : IsTrue tells → after ≡ before
   pub failures : new.failures ≡ old.failures
   pub starts : new.starts ≡ old.starts
+  pub looks : (read : Reading) → IsReading read → IsTrue tells → new ≡ past_calls (names read) old

@@ -26,22 +26,36 @@ ghost use Rattle.pb_soundness.specs.Apart.{is_of};
 ghost use Rattle.pb_soundness.specs.Numbers.{after};
 ghost use Rattle.pb_soundness.specs.Records.{Reading, place_of, record_at};
 ghost use Rattle.pb_store.specs.Differences.{FirstDifference};
+ghost use Rattle.pb_store.specs.Looking.{looked_at, past_calls};
 ghost use Rattle.pb_store.specs.declared.difference.Difference.{Difference};
 ghost use Rattle.pb_store.specs.Migrating.{TakesNumber, lacks_number};
 
 use crate::begun::{Awaited, Beginning, Begun};
 use crate::landing::{land, reuse};
 use crate::launching::{compare, launch};
+use crate::ordered::OrderedProject;
 use crate::ran::Ran;
 use pb_answer::BuildFault;
-use pb_command::command;
 use pb_data::TryCopy;
 use pb_directive::Directives;
-use pb_place::Place;
-use pb_project::{Project, Setup};
+use pb_place::{Command, Place};
+use pb_project::Setup;
 use pb_store::{Compared, Difference, Store};
 use pb_unit::Planned;
-use std::alloc::Global;
+use std::alloc::{AllocError, Global};
+
+/// The command of a unit of a project.
+fn command(
+    alloc: Global,
+    setup: &Setup,
+    project: &OrderedProject,
+    unit: &Planned,
+    done: &[Option<Directives>],
+) -> Result<Command, AllocError>
+    ensures { IfOk result (λ c. c ≡ command_of setup.now project.now unit.now done.now) }
+{
+    pb_command::command(alloc, setup, project.get(), unit, done)
+}
 
 /// Begins the unit at a place of a plan, which has not begun, and all that it reaches has answered and is good: `done`
 /// holds what their runs said. Looks for what differs from the unit's record. Where something does, a run number is
@@ -58,12 +72,11 @@ pub fn begin_unit<P: Place>(
     place: &mut P,
     store: &mut Store,
     setup: &Setup,
-    project: &Project,
+    project: &OrderedProject,
     done: &[Option<Directives>],
     index: usize,
     unit: &Planned,
 ) -> Result<Beginning, BuildFault>
-    requires order { IsInOrder project.now }
     requires unit { slice_get project.now.plan.planned index ≡ Some unit.now }
     requires folder { store.old.folder ≡ records_folder project.now }
     ensures unit { IfOk result (λ made. made.begun.unit ≡ unit.now.key) }
@@ -93,9 +106,11 @@ pub fn begin_unit<P: Place>(
     ensures number { IfOk result (λ made. MatchOption (child_of made.begun) (store.new.next ≡ store.old.next) (λ launched. (store.old.next ≡ Some launched.number) × (store.new.next ≡ after launched.number))) }
     ensures most { MatchResult result (λ made. MatchOption (child_of made.begun) (P.most place.new ≡ P.most place.old) (λ launched. P.most place.new ≡ max (P.most place.old) (length (P.counts place.old).starts.flying + 1))) (λ e. P.most place.new ≡ P.most place.old) }
     ensures takes { Takes Begins (MayBeginUnit store.old.next unit.now.key) result (P.counts place.old) (P.counts place.new) }
-    ensures launches { IfOk result (λ made. IfSome (child_of made.begun) (λ launched. (looked : P) × HasLooked P.tells (P.world place.old) (P.world looked) (P.counts place.old) (P.counts looked) × Launches P.child made.begun.command launched.ticket (P.counts looked) (P.counts place.new))) }
-    ensures launch_ends { IfErr result (λ e. is_of_start e ≡ true → (looked : P) × HasLooked P.tells (P.world place.old) (P.world looked) (P.counts place.old) (P.counts looked) × LaunchEnds (place_of (records_folder project.now) unit.now.key) unit.now.out e (P.counts looked) (P.counts place.new)) }
+    ensures looks { (read : Reading) → IsReading read → IsTrue P.tells → IfOk result (λ made. child_of made.begun ≡ None → P.counts place.new ≡ past_calls (looked_at read (records_folder project.now) unit.now.key made.begun.command (P.world place.old)) (P.counts place.old)) }
+    ensures launches { IfOk result (λ made. IfSome (child_of made.begun) (λ launched. (looked : P) × HasLooked P.tells (λ read. looked_at read (records_folder project.now) unit.now.key made.begun.command (P.world place.old)) (P.world place.old) (P.world looked) (P.counts place.old) (P.counts looked) × Launches P.child made.begun.command launched.ticket (P.counts looked) (P.counts place.new))) }
+    ensures launch_ends { IfErr result (λ e. is_of_start e ≡ true → (looked : P) × HasLooked P.tells (λ read. looked_at read (records_folder project.now) unit.now.key (command_of setup.now project.now unit.now done.now) (P.world place.old)) (P.world place.old) (P.world looked) (P.counts place.old) (P.counts looked) × LaunchEnds (place_of (records_folder project.now) unit.now.key) unit.now.out e (P.counts looked) (P.counts place.new)) }
 {
+    project.is_in_order();
     // Every growth before the first call: a child that is in flight has its name.
     let name = match unit.key.copy(alloc) {
         Ok(name) => name,
@@ -152,12 +167,11 @@ pub fn answer_unit<P: Place>(
     alloc: Global,
     place: &mut P,
     store: &mut Store,
-    project: &Project,
+    project: &OrderedProject,
     index: usize,
     unit: &Planned,
     begun: Begun,
 ) -> Result<Ran, BuildFault>
-    requires order { IsInOrder project.now }
     requires unit { slice_get project.now.plan.planned index ≡ Some unit.now }
     requires folder { store.old.folder ≡ records_folder project.now }
     requires named { begun.unit ≡ unit.now.key }
@@ -254,12 +268,11 @@ pub fn run_unit<P: Place>(
     place: &mut P,
     store: &mut Store,
     setup: &Setup,
-    project: &Project,
+    project: &OrderedProject,
     done: &[Option<Directives>],
     index: usize,
     unit: &Planned,
 ) -> Result<Run, BuildFault>
-    requires order { IsInOrder project.now }
     requires unit { slice_get project.now.plan.planned index ≡ Some unit.now }
     requires folder { store.old.folder ≡ records_folder project.now }
     ensures outcome { (footing : Footing) (read : Reading) (sources : World) (states : List (State BadUnit)) → IsReading read → IsTrue P.tells
@@ -279,6 +292,7 @@ pub fn run_unit<P: Place>(
     ensures next { TakesNumber store.old.next store.new.next }
     ensures takes { Takes Runs (MayRunUnit store.old.next unit.now.key) result (P.counts place.old) (P.counts place.new) }
 {
+    project.is_in_order();
     let made = match begin_unit(alloc, place, store, setup, project, done, index, unit) {
         Ok(made) => made,
         Err(fault) => return Err(fault),

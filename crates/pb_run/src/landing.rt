@@ -20,7 +20,7 @@ ghost use Rattle.pb_answer.specs.declared.bad_unit.BadUnit.{BadUnit};
 ghost use Rattle.pb_project.specs.declared.project.Setup.{Setup};
 ghost use Rattle.pb_run.specs.Halves.{Footing, basis, begun_with, outcomes_in, key_at, needed_keys, Keeps, IsBegun, CanAnswer, BeginsApart, WritesTo};
 ghost use Rattle.pb_run.specs.Landing.{HasEnded};
-ghost use Rattle.pb_run.specs.Standing.{IsCommandOf, IsInOrder, records_folder};
+ghost use Rattle.pb_run.specs.Standing.{IsCommandOf, records_folder};
 ghost use Rattle.pb_run.specs.declared.begun.Awaited.TheVariants as awaited;
 ghost use Rattle.pb_run.specs.declared.begun.Begun.{Begun};
 ghost use Rattle.pb_run.specs.Outcome.{judgement_by, outcome_by, directives_in, unstarted};
@@ -35,6 +35,7 @@ ghost use Rattle.pb_store.specs.Migrating.{IsMigrated, TakesNumber, lacks_number
 
 use crate::begun::Launched;
 use crate::faults::{childless, storeless};
+use crate::ordered::OrderedProject;
 use crate::ran::{Judgement, Ran, judged};
 use crate::running::read_at;
 use pb_answer::BuildFault;
@@ -74,7 +75,7 @@ pub(crate) fn finish<P: Place>(
 pub(crate) fn judged_now<P: Place>(
     alloc: Global,
     place: &mut P,
-    project: &Project,
+    project: &OrderedProject,
     unit: &Planned,
     command: &Command,
     ended: &Ended,
@@ -88,13 +89,13 @@ pub(crate) fn judged_now<P: Place>(
     ensures takes { Takes NoStart (MayFollow unit.now.key) result (P.counts place.old) (P.counts place.new) }
     ensures unwritten { IfErr result (λ e. is_of_write e ≡ false) }
 {
-    let path = match dep_info_path(alloc, project, unit) {
+    let path = match dep_info_path(alloc, project.get(), unit) {
         Ok(path) => path,
         Err(_) => return Err(BuildFault::OutOfMemory),
     };
     // Dep-info before judging: the judgement is of bytes, and makes no call.
     let dep_info = read_at(alloc, place, unit.key.as_str(), &path)?;
-    match judged(alloc, project, unit, command, ended, &dep_info) {
+    match judged(alloc, project.get(), unit, command, ended, &dep_info) {
         Ok(judgement) => Ok(judgement),
         Err(_) => Err(BuildFault::OutOfMemory),
     }
@@ -131,11 +132,15 @@ fn push_keys(
 }
 
 /// The keys of the units that a unit needs, in plan order.
-fn needed_keys(alloc: Global, project: &Project, unit: &Planned) -> Result<Items<Text>, AllocError>
+fn needed_keys(
+    alloc: Global,
+    project: &OrderedProject,
+    unit: &Planned,
+) -> Result<Items<Text>, AllocError>
     ensures { IfOk result (λ keys. keys ≡ needed_keys project.now unit.now) }
 {
     let mut keys = Items::new(alloc);
-    push_keys(alloc, &mut keys, project, unit.needs.as_slice())?;
+    push_keys(alloc, &mut keys, project.get(), unit.needs.as_slice())?;
     Ok(keys)
 }
 
@@ -145,7 +150,7 @@ fn keep<P: Place>(
     alloc: Global,
     place: &mut P,
     store: &Store,
-    project: &Project,
+    project: &OrderedProject,
     unit: &Planned,
     command: &Command,
     number: u64,
@@ -194,7 +199,7 @@ fn migrate<P: Place>(
     alloc: Global,
     place: &mut P,
     store: &mut Store,
-    project: &Project,
+    project: &OrderedProject,
     unit: &Planned,
 ) -> Result<(), BuildFault>
     requires key { is_key unit.now.key ≡ true }
@@ -245,14 +250,13 @@ pub(crate) fn land<P: Place>(
     alloc: Global,
     place: &mut P,
     store: &Store,
-    project: &Project,
+    project: &OrderedProject,
     index: usize,
     unit: &Planned,
     name: Text,
     command: &Command,
     launched: &Launched,
 ) -> Result<Ran, BuildFault>
-    requires order { IsInOrder project.now }
     requires unit { slice_get project.now.plan.planned index ≡ Some unit.now }
     requires folder { store.now.folder ≡ records_folder project.now }
     requires named { name ≡ unit.now.key }
@@ -279,6 +283,7 @@ pub(crate) fn land<P: Place>(
     ensures lands { IsTrue P.tells → (left : P) × HasEnded launched.now.ticket (IsOk result) (P.still place.old launched.now.ticket) (P.world place.old) (P.world left) (P.counts place.old) (P.counts left) × ChangesOnly (is_at_or_below (place_of (records_folder project.now) unit.now.key)) (P.world left) (P.world place.new) }
     ensures written { IfErr result (λ e. is_of_write e ≡ true → (P.counts place.new).named ≡ place_of (records_folder project.now) unit.now.key) }
 {
+    project.is_in_order();
     let ended = match finish(alloc, place, name, launched) {
         Ok(ended) => ended,
         Err(fault) => return Err(fault),
@@ -313,13 +318,12 @@ pub(crate) fn reuse<P: Place>(
     alloc: Global,
     place: &mut P,
     store: &mut Store,
-    project: &Project,
+    project: &OrderedProject,
     index: usize,
     unit: &Planned,
     command: &Command,
     again: &Replayed,
 ) -> Result<Ran, BuildFault>
-    requires order { IsInOrder project.now }
     requires unit { slice_get project.now.plan.planned index ≡ Some unit.now }
     requires folder { store.old.folder ≡ records_folder project.now }
     requires asks { IsCommandOf project.now unit.now command.now }
@@ -349,6 +353,7 @@ pub(crate) fn reuse<P: Place>(
     ensures lands { IsTrue P.tells → ChangesOnly (is_at_or_below (place_of (records_folder project.now) unit.now.key)) (P.world place.old) (P.world place.new) }
     ensures written { IfErr result (λ e. is_of_write e ≡ true → (P.counts place.new).named ≡ place_of (records_folder project.now) unit.now.key) }
 {
+    project.is_in_order();
     let judgement = match judged_now(alloc, place, project, unit, command, &again.ended) {
         Ok(judgement) => judgement,
         Err(fault) => return Err(fault),

@@ -16,6 +16,7 @@ ghost use Rattle.pb_soundness.specs.Reuse.{IsSame};
 ghost use Rattle.pb_soundness.specs.Sound.{Sound};
 ghost use Rattle.pb_store.specs.Differences.{FirstDifference};
 ghost use Rattle.pb_store.specs.Keeping.{Leaves};
+ghost use Rattle.pb_store.specs.Looking.{looked_at, past_calls};
 ghost use Rattle.pb_store.specs.Migrating.{TakesNumber};
 ghost use Rattle.pb_store.specs.Replaying.{CarriesReplayed, difference_in};
 
@@ -47,6 +48,7 @@ pub(crate) fn compare<P: Place>(
     ensures still { IsTrue P.tells → KeepsStill (P.still place.old) (P.still place.new) }
     ensures takes { Takes NoStart (MayBeginUnit store.now.next key.now) result (P.counts place.old) (P.counts place.new) }
     ensures looks { IfErr result (λ e. is_of_start e ≡ false) }
+    ensures looked { (read : Reading) → IsReading read → IsTrue P.tells → IfOk result (λ compared. P.counts place.new ≡ past_calls (looked_at read store.now.folder key.now command.now (P.world place.old)) (P.counts place.old)) }
 {
     let unit = match key.copy(alloc) {
         Ok(unit) => unit,

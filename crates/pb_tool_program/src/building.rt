@@ -70,7 +70,7 @@ fn note<E: Out>(alloc: Global, err: &mut E, plan: &Result<BuildPlan, BuildFault>
         Ok(plan) => plan,
         Err(_) => return,
     };
-    let names = plan.project.plan.without_library.as_slice();
+    let names = plan.project.without_library();
     if names.is_empty() {
         return;
     }

@@ -18,8 +18,8 @@ use pb_data::{Bytes, Text};
 use pb_directive::Directives;
 use pb_flight::{Answer, Crew};
 use pb_place::{Out, Place, write_all};
-use pb_project::{Project, Setup};
-use pb_run::{Beginning, Begun, Ran, answer_unit, begin_unit, lines_of_unit};
+use pb_project::Setup;
+use pb_run::{Beginning, Begun, OrderedProject, Ran, answer_unit, begin_unit, lines_of_unit};
 use pb_store::{Difference, Store};
 use std::alloc::{AllocError, Global};
 
@@ -38,7 +38,7 @@ pub struct UnitCrew {
     /// How things are compiled.
     pub setup: Setup,
     /// What is built.
-    pub project: Project,
+    pub project: OrderedProject,
     /// The records of the profile's folder.
     pub store: Store,
     /// What the runs among the units have said: none of a unit that has not answered, or is bad, or is no run.
@@ -124,7 +124,7 @@ fn begin_at<P: Place>(
         Err(_) => return Err(BuildFault::OutOfMemory),
     }
     let project = &crew.project;
-    let planned = &project.plan.planned.as_slice()[unit];
+    let planned = &project.units()[unit];
     let made = match begin_unit(
         alloc,
         place,
@@ -196,14 +196,14 @@ fn answer_at<P: Place>(
     // Out of the list first: after a fault too it flies no more.
     let Aloft { unit, begun } = crew.aloft.remove(index);
     let project = &crew.project;
-    let planned = &project.plan.planned.as_slice()[unit];
+    let planned = &project.units()[unit];
     let ran = match answer_unit(alloc, place, &mut crew.store, project, unit, planned, begun) {
         Ok(ran) => ran,
         Err(fault) => return Err(fault),
     };
     let lines = match lines_of_unit(
         alloc,
-        project,
+        project.get(),
         planned,
         ran.started,
         ran.messages.as_slice(),

@@ -2,7 +2,7 @@
 
 ghost use Rattle.std.specs.Prelude.{◌≡◌, [], ℕ, List, IfOk, length, map, None};
 ghost use Rattle.pb_flight.specs.Table.{fresh, first_bad};
-ghost use Rattle.pb_run.specs.Standing.{IsInOrder, records_folder};
+ghost use Rattle.pb_run.specs.Standing.{records_folder};
 ghost use Rattle.pb_turns.specs.Crew.{needs_of};
 ghost use Rattle.pb_turns.specs.Ends.{TurnsEnd, nothing_said};
 ghost use Rattle.pb_turns.specs.Moments.{moment};
@@ -16,7 +16,8 @@ use pb_data::Items;
 use pb_directive::Directives;
 use pb_flight::{Flight, Turn, drive};
 use pb_place::{Out, Place};
-use pb_project::{Project, Setup};
+use pb_project::Setup;
+use pb_run::OrderedProject;
 use pb_store::Store;
 use pb_unit::Planned;
 use std::alloc::{AllocError, Global};
@@ -55,10 +56,10 @@ fn nothing_noted<T: Drop>(alloc: Global, units: &[Planned]) -> Result<Vec<Option
 }
 
 /// A flight of a project's units on which nothing has begun.
-fn flight_of(alloc: Global, project: &Project) -> Result<Flight<BadUnit>, AllocError>
+fn flight_of(alloc: Global, project: &OrderedProject) -> Result<Flight<BadUnit>, AllocError>
     ensures { IfOk result (λ flight. flight ≡ fresh (needs_of project.now)) }
 {
-    let needs = needs_of(alloc, project.plan.planned.as_slice())?;
+    let needs = needs_of(alloc, project.units())?;
     Flight::new(alloc, needs)
 }
 
@@ -71,10 +72,9 @@ fn sum_up(alloc: Global, crew: &UnitCrew, flight: Flight<BadUnit>) -> Result<Sum
 {
     let bad = flight.first_bad();
     let states = flight.into_states();
-    let project = &crew.project;
     summary_of(
         alloc,
-        project.plan.planned.as_slice(),
+        crew.project.units(),
         states,
         crew.done.as_slice(),
         crew.started.as_slice(),
@@ -94,25 +94,25 @@ pub fn run_turns<P: Place, O: Out, T: Turn>(
     place: &mut P,
     out: &mut O,
     setup: Setup,
-    project: Project,
+    project: OrderedProject,
     store: Store,
     turn: &mut T,
 ) -> Result<Summary, BuildFault>
-    requires order { IsInOrder project }
     requires folder { store.folder ≡ records_folder project }
     requires none { (P.counts place.old).starts.flying ≡ [] }
     ensures { TurnsEnd P.tells P.child T.turns setup project store.next turn.old turn.new result
         (moment (P.world place.old) (P.counts place.old) (P.most place.old) (O.taken out.old) (O.faults out.old)) (moment (P.world place.new) (P.counts place.new) (P.most place.new) (O.taken out.new) (O.faults out.new)) }
 {
+    project.is_in_order();
     let mut flight = match flight_of(alloc, &project) {
         Ok(flight) => flight,
         Err(_) => return Err(BuildFault::OutOfMemory),
     };
-    let done = match nothing_noted(alloc, project.plan.planned.as_slice()) {
+    let done = match nothing_noted(alloc, project.units()) {
         Ok(done) => done,
         Err(_) => return Err(BuildFault::OutOfMemory),
     };
-    let reasons = match nothing_noted(alloc, project.plan.planned.as_slice()) {
+    let reasons = match nothing_noted(alloc, project.units()) {
         Ok(reasons) => reasons,
         Err(_) => return Err(BuildFault::OutOfMemory),
     };

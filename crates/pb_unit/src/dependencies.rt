@@ -1,13 +1,12 @@
 //! What the enabled entries of a package lead to, as numbers of units.
 
 ghost use Rattle.std.specs.Prelude.{◌≡◌, ◌++◌, ◌<◌, OnOk, All, map, slice_get};
-ghost use Rattle.pb_package.specs.Settled.{IsSettled};
 ghost use Rattle.pb_unit.specs.declared.unit.What.TheVariants.{Lib, Script, Run};
 ghost use Rattle.pb_unit.specs.Units.{unit, has_library, has_script, hands_on, is_normal, is_build, entries_at, own_library, own_run};
 ghost use Rattle.pb_unit.specs.Drawing.{number, needed, leads, all_numbers};
 
 use pb_feature::Features;
-use pb_package::{DependencyKind, Entry, Side, Workspace};
+use pb_package::{DependencyKind, Entry, SettledWorkspace, Side, Workspace};
 use std::alloc::AllocError;
 
 /// What a unit needs of the package to which an enabled entry leads.
@@ -53,12 +52,11 @@ fn hands_on(workspace: &Workspace, place: usize) -> bool
 
 /// The entries of the package at a place.
 #[tactic(auto, using(crate::proofs::Graphs::entries_few))]
-fn entries_at(workspace: &Workspace, place: usize) -> &[Entry]
-    requires { IsSettled workspace.now }
+fn entries_at(workspace: &SettledWorkspace, place: usize) -> &[Entry]
     ensures entries { result.now ≡ entries_at workspace.now place }
     ensures few { All (λ e. e.to < 256) result.now }
 {
-    match workspace.packages.as_slice().get(place) {
+    match workspace.get().packages.as_slice().get(place) {
         Some(owner) => owner.entries.as_slice(),
         None => &[],
     }
@@ -112,13 +110,13 @@ fn run_number(owner: usize, side: Side) -> usize
 }
 
 /// Whether an entry leads to a need of this kind.
-fn leads(workspace: &Workspace, need: Need, entry: &Entry) -> bool
+fn leads(workspace: &SettledWorkspace, need: Need, entry: &Entry) -> bool
     ensures { result ≡ leads need workspace.now entry.now }
 {
     match need {
-        Need::Lib => is_normal(entry.kind) && has_library(workspace, entry.to),
-        Need::Tool => is_build(entry.kind) && has_library(workspace, entry.to),
-        Need::Run => is_normal(entry.kind) && hands_on(workspace, entry.to),
+        Need::Lib => is_normal(entry.kind) && has_library(workspace.get(), entry.to),
+        Need::Tool => is_build(entry.kind) && has_library(workspace.get(), entry.to),
+        Need::Run => is_normal(entry.kind) && hands_on(workspace.get(), entry.to),
     }
 }
 
@@ -137,13 +135,12 @@ fn needed_number(need: Need, owner: usize, side: Side) -> usize
 /// Adds the needs of this kind to which the enabled entries of the package at a place lead.
 pub(crate) fn add_needed(
     numbers: &mut Vec<usize>,
-    workspace: &Workspace,
+    workspace: &SettledWorkspace,
     features: &Features,
     place: usize,
     side: Side,
     need: Need,
 ) -> Result<(), AllocError>
-    requires { IsSettled workspace.now }
     ensures { OnOk result (numbers.new.items ≡ numbers.old.items ++ all_numbers need workspace.now features.now place side) }
 {
     let entries = entries_at(workspace, place);
@@ -159,14 +156,14 @@ pub(crate) fn add_needed(
 /// Adds the package's own library, where it has one.
 pub(crate) fn add_own_library(
     numbers: &mut Vec<usize>,
-    workspace: &Workspace,
+    workspace: &SettledWorkspace,
     place: usize,
     side: Side,
 ) -> Result<(), AllocError>
     requires { place < 256 }
     ensures { OnOk result (numbers.new.items ≡ numbers.old.items ++ map number (own_library workspace.now place side)) }
 {
-    if has_library(workspace, place) {
+    if has_library(workspace.get(), place) {
         numbers.push(library_number(place, side))?;
     }
     Ok(())
@@ -175,14 +172,14 @@ pub(crate) fn add_own_library(
 /// Adds the run of the package's own script, where it has one.
 pub(crate) fn add_own_run(
     numbers: &mut Vec<usize>,
-    workspace: &Workspace,
+    workspace: &SettledWorkspace,
     place: usize,
     side: Side,
 ) -> Result<(), AllocError>
     requires { place < 256 }
     ensures { OnOk result (numbers.new.items ≡ numbers.old.items ++ map number (own_run workspace.now place side)) }
 {
-    if has_script(workspace, place) {
+    if has_script(workspace.get(), place) {
         numbers.push(run_number(place, side))?;
     }
     Ok(())

@@ -2,7 +2,6 @@
 
 ghost use Rattle.std.specs.Prelude.{◌≡◌, ◌<◌, ◌≤◌, ℕ, IfOk, All, Contains, map, length};
 ghost use Rattle.pb_order.specs.Graph.{IsGraph};
-ghost use Rattle.pb_package.specs.Settled.{IsSettled};
 ghost use Rattle.pb_unit.specs.Drawing.{node_of, IsDrawn};
 
 use crate::candidates::candidates;
@@ -12,7 +11,7 @@ use crate::unit::Unit;
 use pb_data::Items;
 use pb_feature::Features;
 use pb_order::Node;
-use pb_package::{Selection, Workspace};
+use pb_package::{SelectedWorkspace, SettledWorkspace};
 use std::alloc::{AllocError, Global};
 
 /// The units that a plan may have, as the nodes of a graph, and which of them are roots.
@@ -29,15 +28,14 @@ pub(crate) struct Drawing {
 /// The node of a unit.
 fn node_of(
     alloc: Global,
-    workspace: &Workspace,
+    workspace: &SettledWorkspace,
     features: &Features,
     unit: &Unit,
 ) -> Result<Node, AllocError>
-    requires settled { IsSettled workspace.now }
-    requires owner { unit.now.owner < 256 }
+    requires { unit.now.owner < 256 }
     ensures { IfOk result (λ node. node ≡ node_of workspace.now features.now unit.now) }
 {
-    let key = unit.key(alloc, workspace)?;
+    let key = unit.key(alloc, workspace.get())?;
     let needs = needed_by(alloc, workspace, features, unit)?;
     Ok(Node {
         key,
@@ -48,12 +46,11 @@ fn node_of(
 /// The nodes of units.
 fn nodes_of(
     alloc: Global,
-    workspace: &Workspace,
+    workspace: &SettledWorkspace,
     features: &Features,
     units: &[Unit],
 ) -> Result<Vec<Node>, AllocError>
-    requires settled { IsSettled workspace.now }
-    requires owners { All (λ u. u.owner < 256) units.now }
+    requires { All (λ u. u.owner < 256) units.now }
     ensures { IfOk result (λ nodes. nodes.items ≡ map (node_of workspace.now features.now) units.now) }
 {
     let mut nodes = Vec::new(alloc);
@@ -66,17 +63,15 @@ fn nodes_of(
 /// The graph of the units that a plan may have.
 pub(crate) fn drawn(
     alloc: Global,
-    workspace: &Workspace,
+    selected: &SelectedWorkspace<'_>,
     features: &Features,
-    selection: &Selection,
 ) -> Result<Drawing, AllocError>
-    requires settled { IsSettled workspace.now }
-    requires selected { All (λ p. p < length workspace.now.packages) selection.now.packages }
-    ensures { IfOk result (λ d. IsDrawn workspace.now features.now selection.now d.units d.nodes d.roots) }
+    ensures { IfOk result (λ d. IsDrawn selected.now.workspace features.now selected.now.selection d.units d.nodes d.roots) }
 {
-    let units = candidates(alloc, workspace, features, selection)?;
+    let workspace = selected.workspace();
+    let units = candidates(alloc, workspace.get(), features, selected.selection())?;
     let nodes = nodes_of(alloc, workspace, features, units.as_slice())?;
-    let roots = roots(alloc, workspace, selection, units.as_slice())?;
+    let roots = roots(alloc, selected, units.as_slice())?;
     Ok(Drawing {
         units: Items::from_vec(units),
         nodes: Items::from_vec(nodes),

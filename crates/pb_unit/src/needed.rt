@@ -1,7 +1,6 @@
 //! What a unit needs, as numbers of units.
 
 ghost use Rattle.std.specs.Prelude.{◌≡◌, ◌<◌, IfOk, map, length};
-ghost use Rattle.pb_package.specs.Settled.{IsSettled};
 ghost use Rattle.pb_unit.specs.declared.unit.What.TheVariants.{Lib, Bin, Script, Run};
 ghost use Rattle.pb_unit.specs.Units.{needs, needs_of};
 ghost use Rattle.pb_unit.specs.Drawing.{number};
@@ -9,19 +8,18 @@ ghost use Rattle.pb_unit.specs.Drawing.{number};
 use crate::dependencies::{Need, add_needed, add_own_library, add_own_run, script_number};
 use crate::unit::{Unit, What};
 use pb_feature::Features;
-use pb_package::{Side, Workspace};
+use pb_package::{SettledWorkspace, Side};
 use std::alloc::{AllocError, Global};
 
 /// What a library needs.
 fn by_library(
     alloc: Global,
-    workspace: &Workspace,
+    workspace: &SettledWorkspace,
     features: &Features,
     place: usize,
     side: Side,
 ) -> Result<Vec<usize>, AllocError>
-    requires settled { IsSettled workspace.now }
-    requires place { place < 256 }
+    requires { place < 256 }
     ensures { IfOk result (λ numbers. numbers.items ≡ map number (needs_of workspace.now features.now place side Lib)) }
 {
     let mut numbers = Vec::new(alloc);
@@ -33,14 +31,13 @@ fn by_library(
 /// What a binary needs.
 fn by_binary(
     alloc: Global,
-    workspace: &Workspace,
+    workspace: &SettledWorkspace,
     features: &Features,
     place: usize,
     side: Side,
     name: &str,
 ) -> Result<Vec<usize>, AllocError>
-    requires settled { IsSettled workspace.now }
-    requires place { place < 256 }
+    requires { place < 256 }
     ensures { IfOk result (λ numbers. numbers.items ≡ map number (needs_of workspace.now features.now place side (Bin name.now))) }
 {
     let mut numbers = Vec::new(alloc);
@@ -53,12 +50,11 @@ fn by_binary(
 /// What a script needs.
 fn by_script(
     alloc: Global,
-    workspace: &Workspace,
+    workspace: &SettledWorkspace,
     features: &Features,
     place: usize,
     side: Side,
 ) -> Result<Vec<usize>, AllocError>
-    requires settled { IsSettled workspace.now }
     ensures { IfOk result (λ numbers. numbers.items ≡ map number (needs_of workspace.now features.now place side Script)) }
 {
     let mut numbers = Vec::new(alloc);
@@ -69,13 +65,12 @@ fn by_script(
 /// What a run needs.
 fn by_run(
     alloc: Global,
-    workspace: &Workspace,
+    workspace: &SettledWorkspace,
     features: &Features,
     place: usize,
     side: Side,
 ) -> Result<Vec<usize>, AllocError>
-    requires settled { IsSettled workspace.now }
-    requires place { place < 256 }
+    requires { place < 256 }
     ensures { IfOk result (λ numbers. numbers.items ≡ map number (needs_of workspace.now features.now place side Run)) }
 {
     let mut numbers = Vec::new(alloc);
@@ -87,12 +82,11 @@ fn by_run(
 /// What a unit needs: an own library, libraries, tools and runs, by what it makes.
 pub(crate) fn needed_by(
     alloc: Global,
-    workspace: &Workspace,
+    workspace: &SettledWorkspace,
     features: &Features,
     unit: &Unit,
 ) -> Result<Vec<usize>, AllocError>
-    requires settled { IsSettled workspace.now }
-    requires owner { unit.now.owner < 256 }
+    requires { unit.now.owner < 256 }
     ensures { IfOk result (λ numbers. numbers.items ≡ map number (needs workspace.now features.now unit.now)) }
 {
     match &unit.what {

@@ -20,7 +20,7 @@ use pb_data::{Items, Text, TryCopy};
 use pb_feature::Features;
 use pb_order::order::order;
 use pb_order::{OrderFault, Step};
-use pb_package::{Selection, Workspace};
+use pb_package::{SelectedWorkspace, Workspace};
 use pb_place::{PathText, RelativePath};
 use pb_profile::{Ancestor, ProfileFault, Settings, folder_of, line_of, settings_along};
 use std::alloc::{AllocError, Global};
@@ -56,6 +56,16 @@ pub struct Plan {
     /// The names of the packages without a library to which enabled dependencies lead, in byte order,
     /// each once.
     pub without_library: Items<Text>,
+}
+
+/// The workspace that something is selected of. The selection is looked at for what its type says of it.
+fn workspace_of<'a>(selected: &'a SelectedWorkspace<'_>) -> &'a Workspace
+    ensures value { result.now ≡ selected.now.workspace }
+    ensures settled { IsSettled selected.now.workspace }
+    ensures within { All (λ p. p < length selected.now.workspace.packages) selected.now.selection.packages }
+{
+    selected.selection();
+    selected.workspace().get()
 }
 
 /// The line of the asked profile, and its folder.
@@ -125,19 +135,17 @@ fn refusal(alloc: Global, workspace: &Workspace, units: &[Unit], fault: OrderFau
 /// The order of the roots and all that they reach.
 fn ordered(
     alloc: Global,
-    workspace: &Workspace,
+    selected: &SelectedWorkspace<'_>,
     features: &Features,
-    selection: &Selection,
     drawing: &Drawing,
 ) -> Result<Items<Step>, PlanFault>
-    requires settled { IsSettled workspace.now }
-    requires selected { All (λ p. p < length workspace.now.packages) selection.now.packages }
-    requires drawn { IsDrawn workspace.now features.now selection.now drawing.now.units drawing.now.nodes drawing.now.roots }
+    requires { IsDrawn selected.now.workspace features.now selected.now.selection drawing.now.units drawing.now.nodes drawing.now.roots }
     ensures order { IfOk result (IsOrder drawing.now.nodes drawing.now.roots) }
     ensures some { IfOk result (λ steps. 0 < length steps) }
     ensures few { IfOk result (λ steps. length steps ≤ 4096) }
-    ensures stopped { IfErr result (λ e. (e ≡ OutOfMemory) ⊎ Stops workspace.now features.now selection.now e) }
+    ensures stopped { IfErr result (λ e. (e ≡ OutOfMemory) ⊎ Stops selected.now.workspace features.now selected.now.selection e) }
 {
+    let workspace = workspace_of(selected);
     let nodes = drawing.nodes.as_slice();
     let steps = match order(alloc, nodes, drawing.roots.as_slice(), MOST_UNITS) {
         Ok(steps) => steps,
@@ -210,29 +218,26 @@ impl Plan {
     /// - a script needs the host's libraries of its enabled build dependencies;
     /// - a run needs its script, and the runs of the enabled dependencies with a library and `links`.
     ///
-    /// The workspace is one that was read, and the selection names places of its packages. Refused, in
-    /// this order: Profile where the profile gives no settings; Cycle where units of the plan reach
+    /// Refused, in this order: Profile where the profile gives no settings; Cycle where units of the plan reach
     /// themselves; TooManyUnits where there are more than 4,096; NothingToBuild where there is none. Beside
     /// these there is want of memory alone.
     pub fn plan(
         alloc: Global,
-        workspace: &Workspace,
+        selected: &SelectedWorkspace<'_>,
         features: &Features,
-        selection: &Selection,
         profile: &str,
     ) -> Result<Plan, PlanFault>
-        requires settled { IsSettled workspace.now }
-        requires selected { All (λ p. p < length workspace.now.packages) selection.now.packages }
-        ensures plan { IfOk result (IsPlan workspace.now features.now selection.now profile.now) }
+        ensures plan { IfOk result (IsPlan selected.now.workspace features.now selected.now.selection profile.now) }
         ensures apart { IfOk result (λ plan. AllPairs LieApart plan.planned) }
-        ensures refused { IfErr result (λ e. (e ≡ OutOfMemory) ⊎ Refuses workspace.now features.now selection.now profile.now e) }
+        ensures refused { IfErr result (λ e. (e ≡ OutOfMemory) ⊎ Refuses selected.now.workspace features.now selected.now.selection profile.now e) }
     {
+        let workspace = workspace_of(selected);
         let frame = match framed(alloc, workspace, profile) {
             Ok(frame) => frame,
             Err(fault) => return Err(fault),
         };
-        let drawing = drawn(alloc, workspace, features, selection)?;
-        let steps = match ordered(alloc, workspace, features, selection, &drawing) {
+        let drawing = drawn(alloc, selected, features)?;
+        let steps = match ordered(alloc, selected, features, &drawing) {
             Ok(steps) => steps,
             Err(fault) => return Err(fault),
         };

@@ -9,7 +9,7 @@ use crate::candidates::asks_libraries;
 use crate::dependencies::has_library;
 use crate::unit::{Unit, What};
 use pb_closure::derived;
-use pb_package::{Selection, Side, Workspace};
+use pb_package::{SelectedWorkspace, SettledWorkspace, Side};
 use std::alloc::{AllocError, Global};
 
 /// Whether it is the target's side.
@@ -42,7 +42,7 @@ fn is_marked(marks: &[bool], place: usize) -> bool
 }
 
 /// Whether a candidate is a root.
-fn is_root(workspace: &Workspace, asked: bool, marks: &[bool], unit: &Unit) -> bool
+fn is_root(workspace: &SettledWorkspace, asked: bool, marks: &[bool], unit: &Unit) -> bool
     ensures { result ≡ is_root workspace.now asked marks.now unit.now }
 {
     match unit.what {
@@ -50,7 +50,7 @@ fn is_root(workspace: &Workspace, asked: bool, marks: &[bool], unit: &Unit) -> b
             asked
                 && is_target(unit.side)
                 && is_marked(marks, unit.owner)
-                && has_library(workspace, unit.owner)
+                && has_library(workspace.get(), unit.owner)
         }
         What::Bin(_) => true,
         What::Script => false,
@@ -61,7 +61,7 @@ fn is_root(workspace: &Workspace, asked: bool, marks: &[bool], unit: &Unit) -> b
 /// The numbers of the candidates that are roots.
 fn roots_marked(
     alloc: Global,
-    workspace: &Workspace,
+    workspace: &SettledWorkspace,
     asked: bool,
     marks: &[bool],
     units: &[Unit],
@@ -80,14 +80,14 @@ fn roots_marked(
 /// The numbers of the candidates that are roots.
 pub(crate) fn roots(
     alloc: Global,
-    workspace: &Workspace,
-    selection: &Selection,
+    selected: &SelectedWorkspace<'_>,
     units: &[Unit],
 ) -> Result<Vec<usize>, AllocError>
-    requires { All (λ p. p < length workspace.now.packages) selection.now.packages }
-    ensures { IfOk result (λ roots. AreRoots workspace.now selection.now units.now roots.items) }
+    ensures { IfOk result (λ roots. AreRoots selected.now.workspace selected.now.selection units.now roots.items) }
 {
-    let count = workspace.packages.len();
+    let workspace = selected.workspace();
+    let selection = selected.selection();
+    let count = workspace.get().packages.len();
     let marks = selected_marks(alloc, count, selection.packages.as_slice())?;
     let asked = asks_libraries(selection);
     let roots = roots_marked(alloc, workspace, asked, marks.as_slice(), units)?;

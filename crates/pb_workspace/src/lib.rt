@@ -39,6 +39,7 @@ pub use loading::load;
 pub use normal_paths::workspace_has_paths;
 pub use pb_package::{
     About, BinariesByName, Binary, DefaultMembers, DependencyKind, EntriesByKey, Entry,
-    FeaturesByName, Library, LoadFault, Options, Package, Selection, Side, Workspace,
+    FeaturesByName, Library, LoadFault, Options, Package, SelectedWorkspace, Selection,
+    SettledWorkspace, Side, Workspace,
 };
 pub use selecting::selected;

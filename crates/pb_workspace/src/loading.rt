@@ -14,7 +14,6 @@ ghost use Rattle.pb_workspace.specs.Frames.{frame_of};
 ghost use Rattle.pb_workspace.specs.Loaded.{root_parts, at_root, nothing_read, root_read, others_read, packages_read, workspace_from, workspace_in, workspace_of};
 ghost use Rattle.pb_workspace.specs.Drafted.{ArePromised, HasSharedInOrder, IsReading};
 ghost use Rattle.pb_workspace.specs.NormalPaths.{HasNormalPaths};
-ghost use Rattle.pb_package.specs.Settled.{IsSettled};
 
 use crate::assembled::assembled;
 use crate::by_folder::ByFolder;
@@ -30,7 +29,7 @@ use crate::rounds::{
 use crate::wanted::Standing;
 use pb_data::{Items, TryCopy};
 use pb_manifest::{Package, Profile, WorkspaceTable};
-use pb_package::{LoadFault, Workspace};
+use pb_package::{LoadFault, SettledWorkspace, Workspace};
 use pb_place::{PathText, Place};
 use std::alloc::{AllocError, Global};
 
@@ -219,17 +218,16 @@ fn finished(
     frame: &Frame,
     profiles: Items<Profile>,
     read: Reading,
-) -> Result<Workspace, LoadFault>
+) -> Result<SettledWorkspace, LoadFault>
     requires { IsReading read }
     ensures told { Gives load_fault.OutOfMemory (λ ws. ws) result (workspace_from target.now frame.now profiles (values_of read.found)) }
-    ensures settled { IfOk result IsSettled }
     ensures paths { IfOk result HasNormalPaths }
     ensures here { IfErr result (λ e. is_failure e ≡ false) }
 {
     let drafts = read.found.into_values(alloc)?;
     let made = workspace_from(alloc, target, frame, profiles, drafts)?;
     workspace_has_paths(&made);
-    Ok(made)
+    Ok(SettledWorkspace::new(made))
 }
 
 /// The workspace of a root package and a frame.
@@ -242,12 +240,11 @@ fn workspace_in<P: Place>(
     profiles: Items<Profile>,
     tables: Tables,
     found: Option<Package>,
-) -> Result<Workspace, LoadFault>
+) -> Result<SettledWorkspace, LoadFault>
     requires binaries { All (λ b. is_name b.name ≡ true) tables.binaries }
     requires promised { ArePromised tables }
     requires found_name { IfSome found (λ p. is_name p.name ≡ true) }
     ensures ok { IsTrue P.tells → Told result (workspace_in (from_nothing target.now (P.world place.old)) target.now frame.now profiles tables found) }
-    ensures settled { IfOk result IsSettled }
     ensures paths { IfOk result HasNormalPaths }
     ensures same { IsTrue P.tells → P.world place.new ≡ P.world place.old }
     ensures most { P.most place.new ≡ P.most place.old }
@@ -276,9 +273,8 @@ pub fn load<P: Place>(
     place: &mut P,
     manifest: &PathText,
     target: &PathText,
-) -> Result<Workspace, LoadFault>
+) -> Result<SettledWorkspace, LoadFault>
     ensures ok { IsTrue P.tells → Told result (workspace_of manifest.now target.now (P.world place.old)) }
-    ensures settled { IfOk result IsSettled }
     ensures paths { IfOk result HasNormalPaths }
     ensures same { IsTrue P.tells → P.world place.new ≡ P.world place.old }
     ensures most { P.most place.new ≡ P.most place.old }

@@ -1,15 +1,17 @@
 //! Which packages of a workspace a build is asked for, and with which features.
 
-ghost use Rattle.std.specs.Prelude.{◌≡◌, ◌<◌, ◌++◌, ◌==◌, All, IfOk, OnOk, length, map, filter};
+ghost use Rattle.std.specs.Prelude.{◌≡◌, ◌++◌, ◌==◌, IfOk, OnOk, map, filter};
 ghost use Rattle.std.specs.List.{flat_map, list_any, slice_split};
 ghost use Rattle.pb_data.specs.Gives.{Gives};
 ghost use Rattle.pb_data.specs.Mentions.{is_mentioned};
 ghost use Rattle.pb_workspace.specs.Selected.{places_where, members_of, is_member_named, is_named_member, name_members, named_members, root_or_members, by_default, selected_packages, is_word, spaced_words, feature_words, selection_of, selected};
-ghost use Rattle.pb_package.specs.Settled.{IsSettled};
 ghost use Rattle.pb_package.specs.declared.fault.LoadFault.TheVariants as load_fault;
 
 use pb_data::{Items, Text, TryCopy};
-use pb_package::{DefaultMembers, LoadFault, Options, Package, Selection, Workspace};
+use pb_package::{
+    DefaultMembers, LoadFault, Options, Package, SelectedWorkspace, Selection, SettledWorkspace,
+    Workspace,
+};
 use std::alloc::{AllocError, Global};
 
 /// The places of all members.
@@ -252,16 +254,16 @@ fn selection_of(
 /// The features are what stands between the commas and spaces of the texts of `--features`, in their order,
 /// empty parts dropped.
 ///
-/// Of a workspace that was read each chosen place is that of one of its packages.
-pub fn selected(
+/// Each chosen place is that of one of the workspace's packages, as the type says.
+pub fn selected<'a>(
     alloc: Global,
-    workspace: &Workspace,
+    workspace: &'a SettledWorkspace,
     options: &Options,
-) -> Result<Selection, LoadFault>
-    ensures told { Gives load_fault.OutOfMemory (λ selection. selection) result (selected workspace.now options.now) }
-    ensures within { IsSettled workspace.now → IfOk result (λ selection. All (λ place. place < length workspace.now.packages) selection.packages) }
+) -> Result<SelectedWorkspace<'a>, LoadFault>
+    ensures told { Gives load_fault.OutOfMemory (λ chosen. chosen.selection) result (selected workspace.now options.now) }
+    ensures workspace { IfOk result (λ chosen. chosen.workspace ≡ workspace.now) }
 {
-    let packages = selected_packages(alloc, workspace, options)?;
+    let packages = selected_packages(alloc, workspace.get(), options)?;
     let selection = selection_of(alloc, options, packages)?;
-    Ok(selection)
+    Ok(SelectedWorkspace::new(workspace, selection))
 }

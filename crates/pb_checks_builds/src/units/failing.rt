@@ -1,7 +1,7 @@
 //! Runs of units in which one call of the place fails, each call in turn.
 
 ghost use Rattle.std.specs.Prelude.{◌≡◌};
-ghost use Rattle.pb_run.specs.Standing.{IsInOrder, records_folder};
+ghost use Rattle.pb_run.specs.Standing.{records_folder};
 
 use crate::units::ready::{Bench, bench_of, project_in};
 use crate::units::steps::{call, make_steps};
@@ -9,7 +9,7 @@ use crate::units::trials::FILES;
 use pb_checks_files::put_files;
 use pb_mini::Mini;
 use pb_place::{Memory, Place};
-use pb_project::Project;
+use pb_run::OrderedProject;
 use std::alloc::Global;
 use std::test::Fail;
 
@@ -18,12 +18,11 @@ use std::test::Fail;
 fn fail_at(
     alloc: Global,
     place: &mut Memory<Mini>,
-    project: &Project,
+    project: &OrderedProject,
     bench: &mut Bench,
     trial: &Trial,
     number: u64,
 ) -> Result<String, Fail>
-    requires order { IsInOrder project.now }
     requires folder { bench.old.store.folder ≡ records_folder project.now }
 {
     place.fuse(number);
@@ -75,12 +74,10 @@ struct Trial {
 fn fail_after(
     alloc: Global,
     place: &mut Memory<Mini>,
-    project: &Project,
+    project: &OrderedProject,
     trial: &Trial,
     number: u64,
-) -> Result<String, Fail>
-    requires { IsInOrder project.now }
-{
+) -> Result<String, Fail> {
     let mut bench = bench_of(alloc, place, project)?;
     make_steps(alloc, place, project, &mut bench, trial.steps)?;
     fail_at(alloc, place, project, &mut bench, trial, number)

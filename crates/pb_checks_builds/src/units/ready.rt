@@ -1,21 +1,18 @@
 //! What units are run with: the project of files in memory, and the store of its records.
 
-ghost use Rattle.std.specs.Prelude.{◌≡◌, ◌<◌, All, IfOk, IfSome, length};
-ghost use Rattle.pb_package.specs.Settled.{IsSettled};
-ghost use Rattle.pb_run.specs.Standing.{IsInOrder, records_folder};
+ghost use Rattle.std.specs.Prelude.{◌≡◌, IfOk};
+ghost use Rattle.pb_run.specs.Standing.{records_folder};
 
-use pb_checks_files::{no_options, workspace_in};
+use pb_build::plan_build;
+use pb_checks_files::no_options;
 use pb_data::{Bytes, Items, Text};
 use pb_directive::Directives;
-use pb_feature::{Features, resolve};
 use pb_mini::Mini;
-use pb_package::{Options, Selection, Workspace};
 use pb_place::{Memory, PathText, RelativePath};
 use pb_profile::folder_of;
-use pb_project::{Project, Setup};
+use pb_project::Setup;
+use pb_run::OrderedProject;
 use pb_store::Store;
-use pb_unit::Plan;
-use pb_workspace::selected;
 use std::alloc::{AllocError, Global};
 use std::test::Fail;
 
@@ -39,66 +36,11 @@ pub struct Bench {
     pub told: Told,
 }
 
-/// The project of a selection with these features, or none where it has no plan.
-#[tactic(auto, using(pb_build::proofs::InOrder::in_order))]
-fn of_features(
-    alloc: Global,
-    workspace: Workspace,
-    features: Features,
-    selection: &Selection,
-    profile: Text,
-) -> Option<Project>
-    requires settled { IsSettled workspace }
-    requires within { All (λ place. place < length workspace.packages) selection.now.packages }
-    ensures order { IfSome result IsInOrder }
-{
-    let _ = workspace.target.as_str();
-    match Plan::plan(alloc, &workspace, &features, selection, profile.as_str()) {
-        Ok(plan) => Some(Project {
-            workspace,
-            features,
-            plan,
-            profile,
-        }),
-        Err(_) => None,
-    }
-}
-
-/// The project of a selection, or none where its features or its plan are refused.
-fn of_selection(
-    alloc: Global,
-    workspace: Workspace,
-    selection: &Selection,
-    profile: Text,
-) -> Option<Project>
-    requires settled { IsSettled workspace }
-    requires within { All (λ place. place < length workspace.packages) selection.now.packages }
-    ensures order { IfSome result IsInOrder }
-{
-    match resolve(alloc, &workspace, selection) {
-        Ok(features) => of_features(alloc, workspace, features, selection, profile),
-        Err(_) => None,
-    }
-}
-
-/// The project of a workspace, or none where what is asked for is refused.
-fn planned(alloc: Global, workspace: Workspace, options: Options) -> Option<Project>
-    requires { IsSettled workspace }
-    ensures order { IfSome result IsInOrder }
-{
-    match selected(alloc, &workspace, &options) {
-        Ok(selection) => of_selection(alloc, workspace, &selection, options.profile),
-        Err(_) => None,
-    }
-}
-
 /// The project at `/w`, whose target folder is `/w/target`, or none where it is refused.
-pub fn project_in(alloc: Global, place: &mut Memory<Mini>) -> Result<Option<Project>, Fail>
-    ensures order { IfOk result (λ found. IfSome found IsInOrder) }
-{
+pub fn project_in(alloc: Global, place: &mut Memory<Mini>) -> Result<Option<OrderedProject>, Fail> {
     let options = no_options(alloc)?;
-    match workspace_in(alloc, place)? {
-        Ok(workspace) => Ok(planned(alloc, workspace, options)),
+    match plan_build(alloc, place, &options) {
+        Ok(plan) => Ok(Some(plan.project)),
         Err(_) => Ok(None),
     }
 }
@@ -127,10 +69,15 @@ fn setup_of(alloc: Global) -> Result<Setup, AllocError> {
 }
 
 /// Opens the store of a project's records.
-pub fn store_of(alloc: Global, place: &mut Memory<Mini>, project: &Project) -> Result<Store, Fail>
-    requires order { IsInOrder project.now }
+pub fn store_of(
+    alloc: Global,
+    place: &mut Memory<Mini>,
+    project: &OrderedProject,
+) -> Result<Store, Fail>
     ensures folder { IfOk result (λ store. store.folder ≡ records_folder project.now) }
 {
+    project.is_in_order();
+    let project = project.get();
     let name = Text::from_str(alloc, folder_of(project.profile.as_str()))?;
     match RelativePath::of(name) {
         Some(name) => {
@@ -143,9 +90,9 @@ pub fn store_of(alloc: Global, place: &mut Memory<Mini>, project: &Project) -> R
 }
 
 /// What the units of a project have told at first: nothing.
-fn nothing_told(alloc: Global, project: &Project) -> Result<Told, AllocError> {
+fn nothing_told(alloc: Global, project: &OrderedProject) -> Result<Told, AllocError> {
     let mut done = Vec::new(alloc);
-    for _ in project.plan.units() {
+    for _ in project.units() {
         done.push(None)?;
     }
     Ok(Told {
@@ -155,8 +102,11 @@ fn nothing_told(alloc: Global, project: &Project) -> Result<Told, AllocError> {
 }
 
 /// What the units of a project are run with at first.
-pub fn bench_of(alloc: Global, place: &mut Memory<Mini>, project: &Project) -> Result<Bench, Fail>
-    requires order { IsInOrder project.now }
+pub fn bench_of(
+    alloc: Global,
+    place: &mut Memory<Mini>,
+    project: &OrderedProject,
+) -> Result<Bench, Fail>
     ensures folder { IfOk result (λ bench. bench.store.folder ≡ records_folder project.now) }
 {
     let setup = setup_of(alloc)?;

@@ -4,16 +4,16 @@ ghost use Rattle.std.specs.Prelude.{◌≡◌, IfOk, IfSome, Some, true, slice_g
 ghost use Rattle.pb_place.specs.Children.{is_flying};
 ghost use Rattle.pb_place.specs.Memory.{counts_in};
 ghost use Rattle.pb_run.specs.Halves.{child_of};
-ghost use Rattle.pb_run.specs.Standing.{IsCommandOf, IsInOrder, records_folder};
+ghost use Rattle.pb_run.specs.Standing.{IsCommandOf, records_folder};
 
 use crate::units::ready::{Bench, Told};
 use pb_answer::{BuildFault, Summary, result_line};
 use pb_mini::Mini;
 use pb_place::{Memory, Place};
-use pb_project::{Project, unit_at};
+use pb_project::unit_at;
 use pb_run::{
-    Awaited, Beginning, Begun, Ran, Run, answer_unit, begin_unit, drop_unit, lines_of_unit,
-    run_unit,
+    Awaited, Beginning, Begun, OrderedProject, Ran, Run, answer_unit, begin_unit, drop_unit,
+    lines_of_unit, run_unit,
 };
 use pb_store::Difference;
 use pb_unit::Planned;
@@ -53,7 +53,7 @@ fn tell_ran(
 /// Notes what came of a unit, and tells it in words.
 fn note(
     alloc: Global,
-    project: &Project,
+    project: &OrderedProject,
     unit: &Planned,
     told: &mut Told,
     index: usize,
@@ -61,7 +61,13 @@ fn note(
     difference: &Option<Difference>,
 ) -> Result<String, AllocError> {
     let said = tell_ran(alloc, &ran, difference)?;
-    told.lines = lines_of_unit(alloc, project, unit, ran.started, ran.messages.as_slice())?;
+    told.lines = lines_of_unit(
+        alloc,
+        project.get(),
+        unit,
+        ran.started,
+        ran.messages.as_slice(),
+    )?;
     if index < told.done.len() {
         told.done[index] = ran.directives;
     }
@@ -72,15 +78,14 @@ fn note(
 pub fn run(
     alloc: Global,
     place: &mut Memory<Mini>,
-    project: &Project,
+    project: &OrderedProject,
     bench: &mut Bench,
     index: usize,
 ) -> Result<String, AllocError>
-    requires order { IsInOrder project.now }
     requires folder { bench.old.store.folder ≡ records_folder project.now }
     ensures folder { bench.new.store.folder ≡ records_folder project.now }
 {
-    let unit = match unit_at(project, index) {
+    let unit = match unit_at(project.get(), index) {
         Some(unit) => unit,
         None => return String::from_str(alloc, "no unit"),
     };
@@ -132,12 +137,11 @@ fn drop_begun(alloc: Global, place: &mut Memory<Mini>, begun: &Begun) {
 fn begin(
     alloc: Global,
     place: &mut Memory<Mini>,
-    project: &Project,
+    project: &OrderedProject,
     bench: &mut Bench,
     index: usize,
     unit: &Planned,
 ) -> Result<Beginning, BuildFault>
-    requires order { IsInOrder project.now }
     requires unit { slice_get project.now.plan.planned index ≡ Some unit.now }
     requires folder { bench.old.store.folder ≡ records_folder project.now }
     ensures folder { bench.new.store.folder ≡ records_folder project.now }
@@ -161,15 +165,14 @@ fn begin(
 pub fn begin_and_drop(
     alloc: Global,
     place: &mut Memory<Mini>,
-    project: &Project,
+    project: &OrderedProject,
     bench: &mut Bench,
     index: usize,
 ) -> Result<String, AllocError>
-    requires order { IsInOrder project.now }
     requires folder { bench.old.store.folder ≡ records_folder project.now }
     ensures folder { bench.new.store.folder ≡ records_folder project.now }
 {
-    let unit = match unit_at(project, index) {
+    let unit = match unit_at(project.get(), index) {
         Some(unit) => unit,
         None => return String::from_str(alloc, "no unit"),
     };
@@ -186,13 +189,12 @@ pub fn begin_and_drop(
 fn answer(
     alloc: Global,
     place: &mut Memory<Mini>,
-    project: &Project,
+    project: &OrderedProject,
     bench: &mut Bench,
     index: usize,
     unit: &Planned,
     made: Beginning,
 ) -> Result<String, AllocError>
-    requires order { IsInOrder project.now }
     requires unit { slice_get project.now.plan.planned index ≡ Some unit.now }
     requires folder { bench.old.store.folder ≡ records_folder project.now }
     requires named { made.begun.unit ≡ unit.now.key }
@@ -234,21 +236,20 @@ fn joined(
 pub fn run_both(
     alloc: Global,
     place: &mut Memory<Mini>,
-    project: &Project,
+    project: &OrderedProject,
     bench: &mut Bench,
     one: usize,
     other: usize,
     turned: bool,
 ) -> Result<String, AllocError>
-    requires order { IsInOrder project.now }
     requires folder { bench.old.store.folder ≡ records_folder project.now }
     ensures folder { bench.new.store.folder ≡ records_folder project.now }
 {
-    let first = match unit_at(project, one) {
+    let first = match unit_at(project.get(), one) {
         Some(unit) => unit,
         None => return String::from_str(alloc, "no unit"),
     };
-    let second = match unit_at(project, other) {
+    let second = match unit_at(project.get(), other) {
         Some(unit) => unit,
         None => return String::from_str(alloc, "no unit"),
     };

@@ -2,14 +2,15 @@
 
 ghost use Rattle.std.specs.Prelude.{◌≡◌, ◌≢◌};
 ghost use Rattle.pb_place.specs.declared.place.StartFault.TheVariants as StartFault;
-ghost use Rattle.pb_run.specs.Standing.{IsInOrder, records_folder};
+ghost use Rattle.pb_run.specs.Standing.{records_folder};
 
 use crate::units::ready::{Bench, put_file, store_of};
 use crate::units::running::{begin_and_drop, run, run_both};
 use pb_data::{Bytes, Text};
 use pb_mini::Mini;
 use pb_place::{Memory, PathText, Place, StartFault};
-use pb_project::{Project, Setup};
+use pb_project::Setup;
+use pb_run::OrderedProject;
 use std::alloc::Global;
 use std::test::Fail;
 
@@ -73,13 +74,12 @@ fn number_of(word: &str) -> usize {
 pub fn call(
     alloc: Global,
     place: &mut Memory<Mini>,
-    project: &Project,
+    project: &OrderedProject,
     bench: &mut Bench,
     verb: &str,
     first: &str,
     rest: &str,
 ) -> Result<String, Fail>
-    requires order { IsInOrder project.now }
     requires folder { bench.old.store.folder ≡ records_folder project.now }
     ensures folder { bench.new.store.folder ≡ records_folder project.now }
 {
@@ -123,10 +123,9 @@ fn look(
 fn reopen(
     alloc: Global,
     place: &mut Memory<Mini>,
-    project: &Project,
+    project: &OrderedProject,
     bench: &mut Bench,
 ) -> Result<(), Fail>
-    requires order { IsInOrder project.now }
     requires folder { bench.old.store.folder ≡ records_folder project.now }
     ensures folder { bench.new.store.folder ≡ records_folder project.now }
 {
@@ -147,12 +146,11 @@ fn add(told: &mut String, said: &str) -> Result<(), Fail> {
 fn step(
     alloc: Global,
     place: &mut Memory<Mini>,
-    project: &Project,
+    project: &OrderedProject,
     bench: &mut Bench,
     line: &str,
     told: &mut String,
 ) -> Result<(), Fail>
-    requires order { IsInOrder project.now }
     requires folder { bench.old.store.folder ≡ records_folder project.now }
     ensures folder { bench.new.store.folder ≡ records_folder project.now }
 {
@@ -173,11 +171,10 @@ fn step(
 pub fn make_steps(
     alloc: Global,
     place: &mut Memory<Mini>,
-    project: &Project,
+    project: &OrderedProject,
     bench: &mut Bench,
     steps: &str,
 ) -> Result<String, Fail>
-    requires order { IsInOrder project.now }
     requires folder { bench.old.store.folder ≡ records_folder project.now }
     ensures folder { bench.new.store.folder ≡ records_folder project.now }
 {

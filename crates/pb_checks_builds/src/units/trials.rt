@@ -1,13 +1,11 @@
 //! Trials: steps on a project, and what they tell.
 
-ghost use Rattle.pb_run.specs.Standing.{IsInOrder};
-
 use crate::units::ready::{bench_of, project_in};
 use crate::units::steps::make_steps;
 use pb_checks_files::put_files;
 use pb_mini::Mini;
 use pb_place::Memory;
-use pb_project::Project;
+use pb_run::OrderedProject;
 use std::alloc::Global;
 use std::test::Fail;
 
@@ -20,11 +18,9 @@ pub const FILES: &str =
 fn told_by(
     alloc: Global,
     place: &mut Memory<Mini>,
-    project: &Project,
+    project: &OrderedProject,
     steps: &str,
-) -> Result<String, Fail>
-    requires { IsInOrder project.now }
-{
+) -> Result<String, Fail> {
     let mut bench = bench_of(alloc, place, project)?;
     make_steps(alloc, place, project, &mut bench, steps)
 }

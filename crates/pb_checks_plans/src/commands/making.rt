@@ -1,13 +1,10 @@
 //! Projects of tests, from files in memory.
 
-ghost use Rattle.std.specs.Prelude.{◌<◌, All, length};
-ghost use Rattle.pb_package.specs.Settled.{IsSettled};
-
 use pb_checks_files::{Silent, no_options, workspace_in};
 use pb_data::{Bytes, Items, Text};
 use pb_directive::{Directives, read_directives};
 use pb_feature::{Features, resolve};
-use pb_package::{Options, Selection, Workspace};
+use pb_package::{Options, SelectedWorkspace, SettledWorkspace};
 use pb_place::{Memory, PathText};
 use pb_project::Project;
 use pb_unit::{Plan, Planned, What};
@@ -45,52 +42,29 @@ pub fn options_of(alloc: Global, words: &str) -> Result<Options, Fail> {
     Ok(options)
 }
 
-/// The project of a selection with these features, or none where it has no plan.
-fn of_features(
+/// What is on of what is selected, and the plan of it, or none where these are refused.
+fn plan_of(
     alloc: Global,
-    workspace: Workspace,
-    features: Features,
-    selection: &Selection,
-    profile: Text,
-) -> Option<Project>
-    requires settled { IsSettled workspace }
-    requires within { All (λ place. place < length workspace.packages) selection.now.packages }
-{
-    match Plan::plan(alloc, &workspace, &features, selection, profile.as_str()) {
-        Ok(plan) => Some(Project {
-            workspace,
-            features,
-            plan,
-            profile,
-        }),
-        Err(_) => None,
-    }
-}
-
-/// The project of a selection, or none where its features or its plan are refused.
-fn of_selection(
-    alloc: Global,
-    workspace: Workspace,
-    selection: &Selection,
-    profile: Text,
-) -> Option<Project>
-    requires settled { IsSettled workspace }
-    requires within { All (λ place. place < length workspace.packages) selection.now.packages }
-{
-    match resolve(alloc, &workspace, selection) {
-        Ok(features) => of_features(alloc, workspace, features, selection, profile),
-        Err(_) => None,
-    }
+    chosen: &SelectedWorkspace<'_>,
+    profile: &str,
+) -> Option<(Features, Plan)> {
+    let features = resolve(alloc, chosen).ok()?;
+    let plan = Plan::plan(alloc, chosen, &features, profile).ok()?;
+    Some((features, plan))
 }
 
 /// The project of a workspace, or none where what is asked for is refused.
-fn planned(alloc: Global, workspace: Workspace, options: Options) -> Option<Project>
-    requires { IsSettled workspace }
-{
-    match selected(alloc, &workspace, &options) {
-        Ok(selection) => of_selection(alloc, workspace, &selection, options.profile),
-        Err(_) => None,
-    }
+fn planned(alloc: Global, workspace: SettledWorkspace, options: Options) -> Option<Project> {
+    let (features, plan) = match selected(alloc, &workspace, &options) {
+        Ok(chosen) => plan_of(alloc, &chosen, options.profile.as_str())?,
+        Err(_) => return None,
+    };
+    Some(Project {
+        workspace: workspace.into_workspace(),
+        features,
+        plan,
+        profile: options.profile,
+    })
 }
 
 /// The project at `/w`, whose target folder is `/w/target`, or none where it is refused.

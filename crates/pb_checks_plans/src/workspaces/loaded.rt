@@ -4,7 +4,7 @@ use crate::asking::{options_of, parts_of};
 use crate::workspaces::cases::CASES;
 use crate::workspaces::show::{put_answer, put_places};
 use pb_checks_files::{Shown, Silent, put_files, workspace_in};
-use pb_package::{LoadFault, Selection, Workspace};
+use pb_package::{LoadFault, SelectedWorkspace, SettledWorkspace};
 use pb_place::{Memory, PathFault, PathText, Place};
 use pb_workspace::{load, selected};
 use std::alloc::Global;
@@ -12,9 +12,9 @@ use std::process::Abort;
 use std::test::Fail;
 
 /// Puts what is selected: the places, or the refusal.
-fn put_selected(out: &mut Shown, answer: &Result<Selection, LoadFault>) {
+fn put_selected(out: &mut Shown, answer: &Result<SelectedWorkspace<'_>, LoadFault>) {
     match answer {
-        Ok(selection) => put_places(out, "", selection.packages.as_slice()),
+        Ok(chosen) => put_places(out, "", chosen.selection().packages.as_slice()),
         Err(fault) => {
             out.put(&[" "]);
             out.put_value(fault);
@@ -26,7 +26,7 @@ fn put_selected(out: &mut Shown, answer: &Result<Selection, LoadFault>) {
 /// Puts the selection that a word stands for.
 fn put_selection(
     alloc: Global,
-    workspace: &Workspace,
+    workspace: &SettledWorkspace,
     word: &str,
     out: &mut Shown,
 ) -> Result<(), Fail> {
@@ -39,7 +39,7 @@ fn put_selection(
 /// Puts a line for each word that stands for a selection: `WORD =` and what is selected.
 fn put_selections(
     alloc: Global,
-    workspace: &Workspace,
+    workspace: &SettledWorkspace,
     words: &str,
     out: &mut Shown,
 ) -> Result<(), Fail> {
@@ -55,7 +55,7 @@ fn put_selections(
 /// Whether an answer, with a line for each word that stands for a selection in it, is shown as this.
 fn says(
     alloc: Global,
-    answer: &Result<Workspace, LoadFault>,
+    answer: &Result<SettledWorkspace, LoadFault>,
     words: &str,
     want: &str,
 ) -> Result<bool, Fail> {
@@ -120,9 +120,9 @@ fn put_many(alloc: Global, memory: &mut Memory<Silent>, count: usize) -> Result<
 }
 
 /// How many packages an answer has; none where these are too many.
-fn count_in(answer: &Result<Workspace, LoadFault>) -> usize {
+fn count_in(answer: &Result<SettledWorkspace, LoadFault>) -> usize {
     match answer {
-        Ok(found) => found.packages.len(),
+        Ok(found) => found.get().packages.len(),
         Err(LoadFault::TooMany) => 0,
         Err(_) => usize::MAX,
     }

@@ -4,13 +4,14 @@ use pb_checks_files::Shown;
 use pb_data::Text;
 use pb_manifest::{Edition, Feature, FeatureItem};
 use pb_package::{
-    About, Binary, DefaultMembers, DependencyKind, Entry, Library, LoadFault, Package, Workspace,
+    About, Binary, DefaultMembers, DependencyKind, Entry, Library, LoadFault, Package,
+    SettledWorkspace, Workspace,
 };
 
 /// Puts the answer of the loader in lines.
-pub fn put_answer(out: &mut Shown, answer: &Result<Workspace, LoadFault>) {
+pub fn put_answer(out: &mut Shown, answer: &Result<SettledWorkspace, LoadFault>) {
     match answer {
-        Ok(workspace) => put_workspace(out, workspace),
+        Ok(workspace) => put_workspace(out, workspace.get()),
         Err(fault) => put_fault(out, fault),
     }
 }

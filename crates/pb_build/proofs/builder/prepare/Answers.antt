@@ -21,7 +21,7 @@ returns-in-Ok-ready-clause-prepares g c = λ from planned.
       is = λ told.
           prepared_of g.P.Place.child c.args.options.now environment project (g.P.Place.world c.args.place.now) from.world c.in-Ok-ready.prepared (p.stays told) (p.is told).0
           (subst (λ (e : Environment). IsProject c.args.options.now e.target from.world project) (sym (p.is told).0) (p.is told).1) (c.in-Ok-ready.ensures.ready told);
-      order = c.in-Ok-ready.ensures.order;
+      order = c.is_in_order.ensures;
       stays = λ told. c.in-Ok-ready.ensures.same told ∙ p.stays told;
       starts = c.in-Ok-ready.ensures.takes.1 ∙ ap up_starts p.takes.1;
       failures = c.in-Ok-ready.ensures.takes.0 ∙ p.takes.0;

@@ -3,58 +3,61 @@ use Rattle.pb_command.specs.Judge.{judge}
 use Rattle.pb_place.specs.Children.{child_at}
 use Rattle.pb_place.specs.Counts.{Starts}
 use Rattle.pb_place.specs.World.{World, ChangesOnly}
+use Rattle.pb_place.specs.declared.command.Command.{Command}
 use Rattle.pb_run.specs.Halves.{CanBegin, basis}
 use Rattle.pb_run.specs.Launching.{LaunchEnds}
+use Rattle.pb_run.specs.Standing.{records_folder}
 use Rattle.pb_run.proofs.Halving.{begun_none, begun_some, flies_lifted, flying_begun, keeps_launched, keeps_same, others_begun, others_same, out_asked, still_after}
 use Rattle.pb_run.proofs.Writes.{spawned_writes}
 use Rattle.pb_run.proofs.halves.begin_unit.Goals as goal
 use Rattle.pb_soundness.specs.Apart.{is_of}
 use Rattle.pb_soundness.specs.Records.{place_of, record_at}
 use Rattle.pb_store.specs.Keeping.{Leaves}
+use Rattle.pb_store.specs.Looking.{looked_at, past_calls}
 
 pub returns-in-Err-clause-keeps : goal.returns-in-Err-clause-keeps
 returns-in-Err-clause-keeps g c footing read sources states is told can =
-    keeps_same (basis footing read g.P.Place.child c.args.setup.now c.args.project.now sources) c.requires.order c.args.index c.args.unit.now c.requires.unit states c.args.done.now c.args.store.now.next (g.P.Place.world c.args.place.now) can (g.P.Place.world c.args.place.now) refl
+    keeps_same (basis footing read g.P.Place.child c.args.setup.now c.args.project.now sources) c.is_in_order.ensures c.args.index c.args.unit.now c.requires.unit states c.args.done.now c.args.store.now.next (g.P.Place.world c.args.place.now) can (g.P.Place.world c.args.place.now) refl
 
 pub returns-in-Err-command-clause-keeps : goal.returns-in-Err-command-clause-keeps
 returns-in-Err-command-clause-keeps g c footing read sources states is told can =
-    keeps_same (basis footing read g.P.Place.child c.args.setup.now c.args.project.now sources) c.requires.order c.args.index c.args.unit.now c.requires.unit states c.args.done.now c.args.store.now.next (g.P.Place.world c.args.place.now) can (g.P.Place.world c.args.place.now) refl
+    keeps_same (basis footing read g.P.Place.child c.args.setup.now c.args.project.now sources) c.is_in_order.ensures c.args.index c.args.unit.now c.requires.unit states c.args.done.now c.args.store.now.next (g.P.Place.world c.args.place.now) can (g.P.Place.world c.args.place.now) refl
 
 pub returns-in-Err-compare-clause-keeps : goal.returns-in-Err-compare-clause-keeps
 returns-in-Err-compare-clause-keeps g c footing read sources states is told can =
-    keeps_same (basis footing read g.P.Place.child c.args.setup.now c.args.project.now sources) c.requires.order c.args.index c.args.unit.now c.requires.unit states c.args.done.now c.args.store.now.next (g.P.Place.world c.args.place.now) can (g.P.Place.world c.compare.new.place) (c.in-Err-compare.ensures.same told)
+    keeps_same (basis footing read g.P.Place.child c.args.setup.now c.args.project.now sources) c.is_in_order.ensures c.args.index c.args.unit.now c.requires.unit states c.args.done.now c.args.store.now.next (g.P.Place.world c.args.place.now) can (g.P.Place.world c.compare.new.place) (c.in-Err-compare.ensures.same told)
 
 pub returns-in-Same-clause-keeps : goal.returns-in-Same-clause-keeps
 returns-in-Same-clause-keeps g c footing read sources states is told can =
-    keeps_same (basis footing read g.P.Place.child c.args.setup.now c.args.project.now sources) c.requires.order c.args.index c.args.unit.now c.requires.unit states c.args.done.now c.args.store.now.next (g.P.Place.world c.args.place.now) can (g.P.Place.world c.compare.new.place) (c.in-Ok-compare.ensures.same told)
+    keeps_same (basis footing read g.P.Place.child c.args.setup.now c.args.project.now sources) c.is_in_order.ensures c.args.index c.args.unit.now c.requires.unit states c.args.done.now c.args.store.now.next (g.P.Place.world c.args.place.now) can (g.P.Place.world c.compare.new.place) (c.in-Ok-compare.ensures.same told)
 
 pub returns-in-Err-compare-clause-others : goal.returns-in-Err-compare-clause-others
 returns-in-Err-compare-clause-others g c footing read sources states other its is told can apart =
-    others_same (basis footing read g.P.Place.child c.args.setup.now c.args.project.now sources) c.requires.order c.args.index c.args.unit.now c.requires.unit states c.args.done.now c.args.store.now.next (g.P.Place.world c.args.place.now) can other its (g.P.Place.counts c.args.place.now).starts.flying (g.P.Place.still c.args.place.now) apart (g.P.Place.world c.compare.new.place) (g.P.Place.counts c.compare.new.place).starts.flying (g.P.Place.still c.compare.new.place) (c.in-Err-compare.ensures.same told)
+    others_same (basis footing read g.P.Place.child c.args.setup.now c.args.project.now sources) c.is_in_order.ensures c.args.index c.args.unit.now c.requires.unit states c.args.done.now c.args.store.now.next (g.P.Place.world c.args.place.now) can other its (g.P.Place.counts c.args.place.now).starts.flying (g.P.Place.still c.args.place.now) apart (g.P.Place.world c.compare.new.place) (g.P.Place.counts c.compare.new.place).starts.flying (g.P.Place.still c.compare.new.place) (c.in-Err-compare.ensures.same told)
     (flying_begun c.args.store.now.next c.args.unit.now.key _ (g.P.Place.counts c.args.place.now).starts (g.P.Place.counts c.compare.new.place).starts c.in-Err-compare.ensures.takes.0) (c.in-Err-compare.ensures.still told)
 
 pub returns-in-Same-clause-others : goal.returns-in-Same-clause-others
 returns-in-Same-clause-others g c footing read sources states other its is told can apart =
-    others_same (basis footing read g.P.Place.child c.args.setup.now c.args.project.now sources) c.requires.order c.args.index c.args.unit.now c.requires.unit states c.args.done.now c.args.store.now.next (g.P.Place.world c.args.place.now) can other its (g.P.Place.counts c.args.place.now).starts.flying (g.P.Place.still c.args.place.now) apart (g.P.Place.world c.compare.new.place) (g.P.Place.counts c.compare.new.place).starts.flying (g.P.Place.still c.compare.new.place) (c.in-Ok-compare.ensures.same told) (ap (λ (s : Starts). s.flying) c.in-Ok-compare.ensures.takes.1) (c.in-Ok-compare.ensures.still told)
+    others_same (basis footing read g.P.Place.child c.args.setup.now c.args.project.now sources) c.is_in_order.ensures c.args.index c.args.unit.now c.requires.unit states c.args.done.now c.args.store.now.next (g.P.Place.world c.args.place.now) can other its (g.P.Place.counts c.args.place.now).starts.flying (g.P.Place.still c.args.place.now) apart (g.P.Place.world c.compare.new.place) (g.P.Place.counts c.compare.new.place).starts.flying (g.P.Place.still c.compare.new.place) (c.in-Ok-compare.ensures.same told) (ap (λ (s : Starts). s.flying) c.in-Ok-compare.ensures.takes.1) (c.in-Ok-compare.ensures.still told)
 
 pub returns-in-Same-clause-begun : goal.returns-in-Same-clause-begun
 returns-in-Same-clause-begun g c footing read sources states is told can =
-    begun_none (basis footing read g.P.Place.child c.args.setup.now c.args.project.now sources) c.requires.order c.args.index c.args.unit.now c.requires.unit states c.args.done.now c.args.store.now.next (g.P.Place.world c.args.place.now) can _ c.in-Ok-command.command c.in-Same.again (g.P.Place.world c.compare.new.place) c.args.store.now.folder (g.P.Place.counts c.compare.new.place).starts.flying (g.P.Place.still c.compare.new.place) (c.in-Ok-compare.ensures.same told) c.requires.folder c.in-Ok-command.ensures
+    begun_none (basis footing read g.P.Place.child c.args.setup.now c.args.project.now sources) c.is_in_order.ensures c.args.index c.args.unit.now c.requires.unit states c.args.done.now c.args.store.now.next (g.P.Place.world c.args.place.now) can _ c.in-Ok-command.command c.in-Same.again (g.P.Place.world c.compare.new.place) c.args.store.now.folder (g.P.Place.counts c.compare.new.place).starts.flying (g.P.Place.still c.compare.new.place) (c.in-Ok-compare.ensures.same told) c.requires.folder c.in-Ok-command.ensures
     (rw c.in-Same.is at (c.in-Ok-compare.ensures.none read is told)) (rw c.in-Same.is at (c.in-Ok-compare.ensures.carries read is told))
 
 pub returns-in-Ok-launch-clause-keeps : goal.returns-in-Ok-launch-clause-keeps
 returns-in-Ok-launch-clause-keeps g c footing read sources states is told can =
-    keeps_launched (basis footing read g.P.Place.child c.args.setup.now c.args.project.now sources) c.requires.order c.args.index c.args.unit.now c.requires.unit states c.args.done.now c.args.store.now.next (g.P.Place.world c.compare.new.place) (subst (CanBegin (basis footing read g.P.Place.child c.args.setup.now c.args.project.now sources) states c.args.done.now c.args.index c.args.unit.now c.args.store.now.next) (sym (c.in-Ok-compare.ensures.same told)) can) c.args.store.now.folder c.requires.folder
+    keeps_launched (basis footing read g.P.Place.child c.args.setup.now c.args.project.now sources) c.is_in_order.ensures c.args.index c.args.unit.now c.requires.unit states c.args.done.now c.args.store.now.next (g.P.Place.world c.compare.new.place) (subst (CanBegin (basis footing read g.P.Place.child c.args.setup.now c.args.project.now sources) states c.args.done.now c.args.index c.args.unit.now c.args.store.now.next) (sym (c.in-Ok-compare.ensures.same told)) can) c.args.store.now.folder c.requires.folder
     (g.P.Place.world c.launch.new.place) c.launch.new.store.next (c.in-Ok-launch.ensures.only told) (c.in-Ok-launch.ensures.sound read judge told) (c.in-Ok-launch.ensures.ahead read told)
 
 pub returns-in-Ok-launch-clause-begun : goal.returns-in-Ok-launch-clause-begun
 returns-in-Ok-launch-clause-begun g c footing read sources states is told can =
-    begun_some (basis footing read g.P.Place.child c.args.setup.now c.args.project.now sources) c.requires.order c.args.index c.args.unit.now c.requires.unit states c.args.done.now c.args.store.now.next (g.P.Place.world c.compare.new.place) (subst (CanBegin (basis footing read g.P.Place.child c.args.setup.now c.args.project.now sources) states c.args.done.now c.args.index c.args.unit.now c.args.store.now.next) (sym (c.in-Ok-compare.ensures.same told)) can) c.args.store.now.folder c.requires.folder
+    begun_some (basis footing read g.P.Place.child c.args.setup.now c.args.project.now sources) c.is_in_order.ensures c.args.index c.args.unit.now c.requires.unit states c.args.done.now c.args.store.now.next (g.P.Place.world c.compare.new.place) (subst (CanBegin (basis footing read g.P.Place.child c.args.setup.now c.args.project.now sources) states c.args.done.now c.args.index c.args.unit.now c.args.store.now.next) (sym (c.in-Ok-compare.ensures.same told)) can) c.args.store.now.folder c.requires.folder
     (g.P.Place.world c.launch.new.place) c.launch.new.store.next (c.in-Ok-launch.ensures.only told) _ c.in-Ok-command.command c.in-Ok-launch.launched (g.P.Place.counts c.launch.new.place).starts.flying (g.P.Place.still c.launch.new.place) c.in-Ok-command.ensures (c.in-Ok-launch.ensures.spawned told) (c.in-Ok-launch.ensures.gone read told) c.in-Ok-launch.ensures.number.0 c.in-Ok-launch.ensures.number.1
 
 pub returns-in-Ok-launch-clause-others : goal.returns-in-Ok-launch-clause-others
 returns-in-Ok-launch-clause-others g c footing read sources states other its is told can apart =
-    others_begun (basis footing read g.P.Place.child c.args.setup.now c.args.project.now sources) c.requires.order c.args.index c.args.unit.now c.requires.unit states c.args.done.now c.args.store.now.next (g.P.Place.world c.args.place.now) can other its (g.P.Place.counts c.args.place.now).starts.flying (g.P.Place.still c.args.place.now) apart c.args.store.now.folder (g.P.Place.world c.launch.new.place) c.launch.new.store.next (g.P.Place.counts c.launch.new.place).starts.flying (g.P.Place.still c.launch.new.place) c.requires.folder
+    others_begun (basis footing read g.P.Place.child c.args.setup.now c.args.project.now sources) c.is_in_order.ensures c.args.index c.args.unit.now c.requires.unit states c.args.done.now c.args.store.now.next (g.P.Place.world c.args.place.now) can other its (g.P.Place.counts c.args.place.now).starts.flying (g.P.Place.still c.args.place.now) apart c.args.store.now.folder (g.P.Place.world c.launch.new.place) c.launch.new.store.next (g.P.Place.counts c.launch.new.place).starts.flying (g.P.Place.still c.launch.new.place) c.requires.folder
     (subst (λ (v : World). ChangesOnly (is_of c.args.store.now.folder c.args.unit.now.key) v (g.P.Place.world c.launch.new.place)) (c.in-Ok-compare.ensures.same told) (c.in-Ok-launch.ensures.only told)) c.in-Ok-launch.ensures.next
     (subst (λ (v : World). Leaves None (record_at read c.args.store.now.folder v.files c.args.unit.now.key) (record_at read c.args.store.now.folder (g.P.Place.world c.launch.new.place).files c.args.unit.now.key)) (c.in-Ok-compare.ensures.same told) (c.in-Ok-launch.ensures.left read told))
     (λ t f there. flies_lifted c.in-Ok-launch.launched.ticket t (g.P.Place.counts c.compare.new.place).starts (g.P.Place.counts c.launch.new.place).starts f c.in-Ok-launch.ensures.takes.1 (ap (child_at t) (ap (λ (s : Starts). s.flying) c.in-Ok-compare.ensures.takes.1) ∙ there))
@@ -62,12 +65,12 @@ returns-in-Ok-launch-clause-others g c footing read sources states other its is 
 
 pub returns-in-Err-launch-clause-keeps : goal.returns-in-Err-launch-clause-keeps
 returns-in-Err-launch-clause-keeps g c footing read sources states is told can =
-    keeps_launched (basis footing read g.P.Place.child c.args.setup.now c.args.project.now sources) c.requires.order c.args.index c.args.unit.now c.requires.unit states c.args.done.now c.args.store.now.next (g.P.Place.world c.compare.new.place) (subst (CanBegin (basis footing read g.P.Place.child c.args.setup.now c.args.project.now sources) states c.args.done.now c.args.index c.args.unit.now c.args.store.now.next) (sym (c.in-Ok-compare.ensures.same told)) can) c.args.store.now.folder c.requires.folder
+    keeps_launched (basis footing read g.P.Place.child c.args.setup.now c.args.project.now sources) c.is_in_order.ensures c.args.index c.args.unit.now c.requires.unit states c.args.done.now c.args.store.now.next (g.P.Place.world c.compare.new.place) (subst (CanBegin (basis footing read g.P.Place.child c.args.setup.now c.args.project.now sources) states c.args.done.now c.args.index c.args.unit.now c.args.store.now.next) (sym (c.in-Ok-compare.ensures.same told)) can) c.args.store.now.folder c.requires.folder
     (g.P.Place.world c.launch.new.place) c.launch.new.store.next (c.in-Err-launch.ensures.only told) (c.in-Err-launch.ensures.sound read judge told) (c.in-Err-launch.ensures.ahead read told)
 
 pub returns-in-Err-launch-clause-others : goal.returns-in-Err-launch-clause-others
 returns-in-Err-launch-clause-others g c footing read sources states other its is told can apart =
-    others_begun (basis footing read g.P.Place.child c.args.setup.now c.args.project.now sources) c.requires.order c.args.index c.args.unit.now c.requires.unit states c.args.done.now c.args.store.now.next (g.P.Place.world c.args.place.now) can other its (g.P.Place.counts c.args.place.now).starts.flying (g.P.Place.still c.args.place.now) apart c.args.store.now.folder (g.P.Place.world c.launch.new.place) c.launch.new.store.next (g.P.Place.counts c.launch.new.place).starts.flying (g.P.Place.still c.launch.new.place) c.requires.folder
+    others_begun (basis footing read g.P.Place.child c.args.setup.now c.args.project.now sources) c.is_in_order.ensures c.args.index c.args.unit.now c.requires.unit states c.args.done.now c.args.store.now.next (g.P.Place.world c.args.place.now) can other its (g.P.Place.counts c.args.place.now).starts.flying (g.P.Place.still c.args.place.now) apart c.args.store.now.folder (g.P.Place.world c.launch.new.place) c.launch.new.store.next (g.P.Place.counts c.launch.new.place).starts.flying (g.P.Place.still c.launch.new.place) c.requires.folder
     (subst (λ (v : World). ChangesOnly (is_of c.args.store.now.folder c.args.unit.now.key) v (g.P.Place.world c.launch.new.place)) (c.in-Ok-compare.ensures.same told) (c.in-Err-launch.ensures.only told)) c.in-Err-launch.ensures.next
     (subst (λ (v : World). Leaves None (record_at read c.args.store.now.folder v.files c.args.unit.now.key) (record_at read c.args.store.now.folder (g.P.Place.world c.launch.new.place).files c.args.unit.now.key)) (c.in-Ok-compare.ensures.same told) (c.in-Err-launch.ensures.left read told))
     (λ t f there. ap (child_at t) (flying_begun c.args.store.now.next c.args.unit.now.key _ (g.P.Place.counts c.compare.new.place).starts (g.P.Place.counts c.launch.new.place).starts c.in-Err-launch.ensures.takes.0 ∙ (ap (λ (s : Starts). s.flying) c.in-Ok-compare.ensures.takes.1)) ∙ there)
@@ -76,7 +79,7 @@ returns-in-Err-launch-clause-others g c footing read sources states other its is
 pub returns-in-Ok-launch-clause-writes : goal.returns-in-Ok-launch-clause-writes
 returns-in-Ok-launch-clause-writes g c told =
     spawned_writes c.args.unit.now.out (is_of c.args.store.now.folder c.args.unit.now.key) g.P.Place.child c.in-Ok-command.command (g.P.Place.world c.compare.new.place) c.in-Ok-launch.launched (g.P.Place.counts c.launch.new.place).starts.flying (g.P.Place.still c.launch.new.place)
-    (out_asked c.args.project.now c.args.setup.now c.args.index c.args.unit.now c.args.done.now c.in-Ok-command.command c.requires.order c.requires.unit c.in-Ok-command.ensures) (c.in-Ok-launch.ensures.spawned told)
+    (out_asked c.args.project.now c.args.setup.now c.args.index c.args.unit.now c.args.done.now c.in-Ok-command.command c.is_in_order.ensures c.requires.unit c.in-Ok-command.ensures) (c.in-Ok-launch.ensures.spawned told)
 
 pub returns-in-Err-compare-clause-stay : goal.returns-in-Err-compare-clause-stay
 returns-in-Err-compare-clause-stay g c ticket its there = ap (child_at ticket) (flying_begun c.args.store.now.next c.args.unit.now.key _ (g.P.Place.counts c.args.place.now).starts (g.P.Place.counts c.compare.new.place).starts c.in-Err-compare.ensures.takes.0) ∙ there
@@ -105,13 +108,16 @@ returns-in-Err-launch-clause-spent g c none told = c.in-Err-launch.ensures.spent
 pub returns-in-Ok-launch-clause-launches : goal.returns-in-Ok-launch-clause-launches
 returns-in-Ok-launch-clause-launches g c = (
   c.compare.new.place,
-  record { same = c.in-Ok-compare.ensures.same; failures = c.in-Ok-compare.ensures.takes.0; starts = c.in-Ok-compare.ensures.takes.1 },
+  record { same = c.in-Ok-compare.ensures.same; failures = c.in-Ok-compare.ensures.takes.0; starts = c.in-Ok-compare.ensures.takes.1; looks = λ read reading told. c.in-Ok-compare.ensures.looked read reading told ∙ ap (λ (folder : List ℕ). past_calls (looked_at read folder c.args.unit.now.key c.in-Ok-command.command (g.P.Place.world c.args.place.now)) (g.P.Place.counts c.args.place.now)) c.requires.folder },
   c.in-Ok-launch.ensures.calls,
 )
 
 pub returns-in-Err-launch-clause-launch_ends : goal.returns-in-Err-launch-clause-launch_ends
 returns-in-Err-launch-clause-launch_ends g c of_start = (
   c.compare.new.place,
-  record { same = c.in-Ok-compare.ensures.same; failures = c.in-Ok-compare.ensures.takes.0; starts = c.in-Ok-compare.ensures.takes.1 },
+  record { same = c.in-Ok-compare.ensures.same; failures = c.in-Ok-compare.ensures.takes.0; starts = c.in-Ok-compare.ensures.takes.1; looks = λ read reading told. c.in-Ok-compare.ensures.looked read reading told ∙ ap (λ (folder : List ℕ). past_calls (looked_at read folder c.args.unit.now.key c.in-Ok-command.command (g.P.Place.world c.args.place.now)) (g.P.Place.counts c.args.place.now)) c.requires.folder ∙ ap (λ (command : Command). past_calls (looked_at read (records_folder c.args.project.now) c.args.unit.now.key command (g.P.Place.world c.args.place.now)) (g.P.Place.counts c.args.place.now)) c.in-Ok-command.ensures },
   subst (λ (folder : List ℕ). LaunchEnds (place_of folder c.args.unit.now.key) c.args.unit.now.out c.in-Err-launch.fault (g.P.Place.counts c.compare.new.place) (g.P.Place.counts c.launch.new.place)) c.requires.folder c.in-Err-launch.ensures.calls,
 )
+
+pub returns-in-Same-clause-looks : goal.returns-in-Same-clause-looks
+returns-in-Same-clause-looks g c read reading told none = c.in-Ok-compare.ensures.looked read reading told ∙ ap (λ (folder : List ℕ). past_calls (looked_at read folder c.args.unit.now.key c.in-Ok-command.command (g.P.Place.world c.args.place.now)) (g.P.Place.counts c.args.place.now)) c.requires.folder

@@ -51,7 +51,7 @@ returns-in-Err-answer_unit-clause-takes g c =
 pub returns-in-Ok-answer_unit-clause-unrecorded : goal.returns-in-Ok-answer_unit-clause-unrecorded
 returns-in-Ok-answer_unit-clause-unrecorded g c read told differs bad =
     launched_gone read (records_folder c.args.project.now) c.args.unit.now.key c.args.unit.now.out (g.P.Place.world c.begin_unit.new.place) (g.P.Place.world c.answer_unit.new.place)
-    (c.requires.order.keys c.args.index c.args.unit.now c.requires.unit) (c.requires.order.folders c.args.index c.args.unit.now c.requires.unit)
+    (c.is_in_order.ensures.keys c.args.index c.args.unit.now c.requires.unit) (c.is_in_order.ensures.folders c.args.index c.args.unit.now c.requires.unit)
     (c.in-Ok-answer_unit.ensures.unkept told (c.in-Ok.ensures.writes told) bad) (c.in-Ok.ensures.dropped read told (c.in-Ok.ensures.spawned ∙ differs))
 
 pub returns-in-Ok-answer_unit-clause-next : goal.returns-in-Ok-answer_unit-clause-next

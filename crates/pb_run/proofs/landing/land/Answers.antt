@@ -18,32 +18,32 @@ use Rattle.pb_run.specs.Standing.{records_folder}
 
 pub returns-in-Err-clause-keeps : goal.returns-in-Err-clause-keeps
 returns-in-Err-clause-keeps g c footing read setup sources states done is told can =
-    keeps_landed (basis footing read g.P.Place.child setup c.args.project.now sources) c.requires.order c.args.index c.args.unit.now c.requires.unit c.args.unit.now.key c.args.command.now c.args.launched.now c.args.store.now.next (g.P.Place.world c.args.place.now) (g.P.Place.counts c.args.place.now).starts.flying (g.P.Place.still c.args.place.now) states done can (g.P.Place.world c.finish.new.place) (landed_only (basis footing read g.P.Place.child setup c.args.project.now sources) c.requires.order c.args.index c.args.unit.now c.requires.unit c.args.unit.now.key c.args.command.now c.args.launched.now c.args.store.now.next (g.P.Place.counts c.args.place.now).starts.flying (g.P.Place.still c.args.place.now) (g.P.Place.world c.args.place.now) (g.P.Place.world c.finish.new.place) can.begun_so (c.in-Err.ensures.only told)) (g.P.Place.world c.finish.new.place) refl
+    keeps_landed (basis footing read g.P.Place.child setup c.args.project.now sources) c.is_in_order.ensures c.args.index c.args.unit.now c.requires.unit c.args.unit.now.key c.args.command.now c.args.launched.now c.args.store.now.next (g.P.Place.world c.args.place.now) (g.P.Place.counts c.args.place.now).starts.flying (g.P.Place.still c.args.place.now) states done can (g.P.Place.world c.finish.new.place) (landed_only (basis footing read g.P.Place.child setup c.args.project.now sources) c.is_in_order.ensures c.args.index c.args.unit.now c.requires.unit c.args.unit.now.key c.args.command.now c.args.launched.now c.args.store.now.next (g.P.Place.counts c.args.place.now).starts.flying (g.P.Place.still c.args.place.now) (g.P.Place.world c.args.place.now) (g.P.Place.world c.finish.new.place) can.begun_so (c.in-Err.ensures.only told)) (g.P.Place.world c.finish.new.place) refl
 
 pub returns-in-Err-judged_now-clause-keeps : goal.returns-in-Err-judged_now-clause-keeps
 returns-in-Err-judged_now-clause-keeps g c footing read setup sources states done is told can =
-    keeps_landed (basis footing read g.P.Place.child setup c.args.project.now sources) c.requires.order c.args.index c.args.unit.now c.requires.unit c.args.unit.now.key c.args.command.now c.args.launched.now c.args.store.now.next (g.P.Place.world c.args.place.now) (g.P.Place.counts c.args.place.now).starts.flying (g.P.Place.still c.args.place.now) states done can (g.P.Place.world c.finish.new.place) (landed_only (basis footing read g.P.Place.child setup c.args.project.now sources) c.requires.order c.args.index c.args.unit.now c.requires.unit c.args.unit.now.key c.args.command.now c.args.launched.now c.args.store.now.next (g.P.Place.counts c.args.place.now).starts.flying (g.P.Place.still c.args.place.now) (g.P.Place.world c.args.place.now) (g.P.Place.world c.finish.new.place) can.begun_so (c.in-Ok.ensures.only told)) (g.P.Place.world c.judged_now.new.place) (c.in-Err-judged_now.ensures.same told)
+    keeps_landed (basis footing read g.P.Place.child setup c.args.project.now sources) c.is_in_order.ensures c.args.index c.args.unit.now c.requires.unit c.args.unit.now.key c.args.command.now c.args.launched.now c.args.store.now.next (g.P.Place.world c.args.place.now) (g.P.Place.counts c.args.place.now).starts.flying (g.P.Place.still c.args.place.now) states done can (g.P.Place.world c.finish.new.place) (landed_only (basis footing read g.P.Place.child setup c.args.project.now sources) c.is_in_order.ensures c.args.index c.args.unit.now c.requires.unit c.args.unit.now.key c.args.command.now c.args.launched.now c.args.store.now.next (g.P.Place.counts c.args.place.now).starts.flying (g.P.Place.still c.args.place.now) (g.P.Place.world c.args.place.now) (g.P.Place.world c.finish.new.place) can.begun_so (c.in-Ok.ensures.only told)) (g.P.Place.world c.judged_now.new.place) (c.in-Err-judged_now.ensures.same told)
 
 pub returns-then-is_some-clause-outcome : goal.returns-then-is_some-clause-outcome
 returns-then-is_some-clause-outcome g c footing read setup sources states done is told can =
-    (subst (λ (v : World). slice_get (outcomes_in (basis footing read g.P.Place.child setup c.args.project.now sources)) c.args.index ≡ Some (outcome_by (files_in c.args.unit.now.out v.files) c.in-Ok-judged_now.judgement.ran)) (sym (c.in-Ok-judged_now.ensures.same told)) (landed_gives (basis footing read g.P.Place.child setup c.args.project.now sources) c.requires.order c.args.index c.args.unit.now c.requires.unit c.args.unit.now.key c.args.command.now c.args.launched.now c.args.store.now.next (g.P.Place.counts c.args.place.now).starts.flying (g.P.Place.still c.args.place.now) states done (g.P.Place.world c.args.place.now) (g.P.Place.world c.finish.new.place) c.in-Ok.ended c.in-Ok-judged_now.judgement can (λ stood. c.in-Ok.ensures.ok told stood) (c.in-Ok-judged_now.ensures.judged told)))
+    (subst (λ (v : World). slice_get (outcomes_in (basis footing read g.P.Place.child setup c.args.project.now sources)) c.args.index ≡ Some (outcome_by (files_in c.args.unit.now.out v.files) c.in-Ok-judged_now.judgement.ran)) (sym (c.in-Ok-judged_now.ensures.same told)) (landed_gives (basis footing read g.P.Place.child setup c.args.project.now sources) c.is_in_order.ensures c.args.index c.args.unit.now c.requires.unit c.args.unit.now.key c.args.command.now c.args.launched.now c.args.store.now.next (g.P.Place.counts c.args.place.now).starts.flying (g.P.Place.still c.args.place.now) states done (g.P.Place.world c.args.place.now) (g.P.Place.world c.finish.new.place) c.in-Ok.ended c.in-Ok-judged_now.judgement can (λ stood. c.in-Ok.ensures.ok told stood) (c.in-Ok-judged_now.ensures.judged told)))
 
 pub returns-then-is_some-clause-keeps : goal.returns-then-is_some-clause-keeps
 returns-then-is_some-clause-keeps g c footing read setup sources states done is told can lines =
-    keeps_bad (basis footing read g.P.Place.child setup c.args.project.now sources) c.requires.order c.args.index c.args.unit.now c.requires.unit c.args.unit.now.key c.args.command.now c.args.launched.now c.args.store.now.next (g.P.Place.world c.args.place.now) (g.P.Place.counts c.args.place.now).starts.flying (g.P.Place.still c.args.place.now) states done can (g.P.Place.world c.finish.new.place) (landed_only (basis footing read g.P.Place.child setup c.args.project.now sources) c.requires.order c.args.index c.args.unit.now c.requires.unit c.args.unit.now.key c.args.command.now c.args.launched.now c.args.store.now.next (g.P.Place.counts c.args.place.now).starts.flying (g.P.Place.still c.args.place.now) (g.P.Place.world c.args.place.now) (g.P.Place.world c.finish.new.place) can.begun_so (c.in-Ok.ensures.only told)) (g.P.Place.world c.judged_now.new.place) c.in-Ok-judged_now.judgement.ran lines (c.in-Ok-judged_now.ensures.same told) (sym c.is_some.ensures ∙ c.if-is_some.true)
-    (subst (λ (v : World). slice_get (outcomes_in (basis footing read g.P.Place.child setup c.args.project.now sources)) c.args.index ≡ Some (outcome_by (files_in c.args.unit.now.out v.files) c.in-Ok-judged_now.judgement.ran)) (sym (c.in-Ok-judged_now.ensures.same told)) (landed_gives (basis footing read g.P.Place.child setup c.args.project.now sources) c.requires.order c.args.index c.args.unit.now c.requires.unit c.args.unit.now.key c.args.command.now c.args.launched.now c.args.store.now.next (g.P.Place.counts c.args.place.now).starts.flying (g.P.Place.still c.args.place.now) states done (g.P.Place.world c.args.place.now) (g.P.Place.world c.finish.new.place) c.in-Ok.ended c.in-Ok-judged_now.judgement can (λ stood. c.in-Ok.ensures.ok told stood) (c.in-Ok-judged_now.ensures.judged told)))
+    keeps_bad (basis footing read g.P.Place.child setup c.args.project.now sources) c.is_in_order.ensures c.args.index c.args.unit.now c.requires.unit c.args.unit.now.key c.args.command.now c.args.launched.now c.args.store.now.next (g.P.Place.world c.args.place.now) (g.P.Place.counts c.args.place.now).starts.flying (g.P.Place.still c.args.place.now) states done can (g.P.Place.world c.finish.new.place) (landed_only (basis footing read g.P.Place.child setup c.args.project.now sources) c.is_in_order.ensures c.args.index c.args.unit.now c.requires.unit c.args.unit.now.key c.args.command.now c.args.launched.now c.args.store.now.next (g.P.Place.counts c.args.place.now).starts.flying (g.P.Place.still c.args.place.now) (g.P.Place.world c.args.place.now) (g.P.Place.world c.finish.new.place) can.begun_so (c.in-Ok.ensures.only told)) (g.P.Place.world c.judged_now.new.place) c.in-Ok-judged_now.judgement.ran lines (c.in-Ok-judged_now.ensures.same told) (sym c.is_some.ensures ∙ c.if-is_some.true)
+    (subst (λ (v : World). slice_get (outcomes_in (basis footing read g.P.Place.child setup c.args.project.now sources)) c.args.index ≡ Some (outcome_by (files_in c.args.unit.now.out v.files) c.in-Ok-judged_now.judgement.ran)) (sym (c.in-Ok-judged_now.ensures.same told)) (landed_gives (basis footing read g.P.Place.child setup c.args.project.now sources) c.is_in_order.ensures c.args.index c.args.unit.now c.requires.unit c.args.unit.now.key c.args.command.now c.args.launched.now c.args.store.now.next (g.P.Place.counts c.args.place.now).starts.flying (g.P.Place.still c.args.place.now) states done (g.P.Place.world c.args.place.now) (g.P.Place.world c.finish.new.place) c.in-Ok.ended c.in-Ok-judged_now.judgement can (λ stood. c.in-Ok.ensures.ok told stood) (c.in-Ok-judged_now.ensures.judged told)))
 
 pub returns-in-Err-clause-only : goal.returns-in-Err-clause-only
 returns-in-Err-clause-only g c told writes =
-    unkept_only (records_folder c.args.project.now) c.args.unit.now.key c.args.unit.now.out (c.requires.order.folders c.args.index c.args.unit.now c.requires.unit) c.args.launched.now (g.P.Place.counts c.args.place.now).starts.flying c.requires.flies writes (g.P.Place.world c.args.place.now) (g.P.Place.world c.finish.new.place) (g.P.Place.world c.finish.new.place) (c.in-Err.ensures.only told) refl
+    unkept_only (records_folder c.args.project.now) c.args.unit.now.key c.args.unit.now.out (c.is_in_order.ensures.folders c.args.index c.args.unit.now c.requires.unit) c.args.launched.now (g.P.Place.counts c.args.place.now).starts.flying c.requires.flies writes (g.P.Place.world c.args.place.now) (g.P.Place.world c.finish.new.place) (g.P.Place.world c.finish.new.place) (c.in-Err.ensures.only told) refl
 
 pub returns-in-Err-judged_now-clause-only : goal.returns-in-Err-judged_now-clause-only
 returns-in-Err-judged_now-clause-only g c told writes =
-    unkept_only (records_folder c.args.project.now) c.args.unit.now.key c.args.unit.now.out (c.requires.order.folders c.args.index c.args.unit.now c.requires.unit) c.args.launched.now (g.P.Place.counts c.args.place.now).starts.flying c.requires.flies writes (g.P.Place.world c.args.place.now) (g.P.Place.world c.finish.new.place) (g.P.Place.world c.judged_now.new.place) (c.in-Ok.ensures.only told) (c.in-Err-judged_now.ensures.same told)
+    unkept_only (records_folder c.args.project.now) c.args.unit.now.key c.args.unit.now.out (c.is_in_order.ensures.folders c.args.index c.args.unit.now c.requires.unit) c.args.launched.now (g.P.Place.counts c.args.place.now).starts.flying c.requires.flies writes (g.P.Place.world c.args.place.now) (g.P.Place.world c.finish.new.place) (g.P.Place.world c.judged_now.new.place) (c.in-Ok.ensures.only told) (c.in-Err-judged_now.ensures.same told)
 
 pub returns-then-is_some-clause-only : goal.returns-then-is_some-clause-only
 returns-then-is_some-clause-only g c told writes =
-    unkept_only (records_folder c.args.project.now) c.args.unit.now.key c.args.unit.now.out (c.requires.order.folders c.args.index c.args.unit.now c.requires.unit) c.args.launched.now (g.P.Place.counts c.args.place.now).starts.flying c.requires.flies writes (g.P.Place.world c.args.place.now) (g.P.Place.world c.finish.new.place) (g.P.Place.world c.judged_now.new.place) (c.in-Ok.ensures.only told) (c.in-Ok-judged_now.ensures.same told)
+    unkept_only (records_folder c.args.project.now) c.args.unit.now.key c.args.unit.now.out (c.is_in_order.ensures.folders c.args.index c.args.unit.now c.requires.unit) c.args.launched.now (g.P.Place.counts c.args.place.now).starts.flying c.requires.flies writes (g.P.Place.world c.args.place.now) (g.P.Place.world c.finish.new.place) (g.P.Place.world c.judged_now.new.place) (c.in-Ok.ensures.only told) (c.in-Ok-judged_now.ensures.same told)
 
 pub returns-in-Err-judged_now-clause-takes : goal.returns-in-Err-judged_now-clause-takes
 returns-in-Err-judged_now-clause-takes g c =
@@ -51,7 +51,7 @@ returns-in-Err-judged_now-clause-takes g c =
 
 pub returns-in-Err-clause-others : goal.returns-in-Err-clause-others
 returns-in-Err-clause-others g c footing read setup sources states done other its is told can apart =
-    others_ended (basis footing read g.P.Place.child setup c.args.project.now sources) c.requires.order c.args.index c.args.unit.now c.requires.unit c.args.command.now c.args.launched.now c.args.store.now.next (g.P.Place.world c.args.place.now) (g.P.Place.counts c.args.place.now).starts.flying (g.P.Place.still c.args.place.now) states done can (g.P.Place.world c.finish.new.place) (c.in-Err.ensures.only told) other its (g.P.Place.world c.finish.new.place) (g.P.Place.counts c.finish.new.place).starts.flying (g.P.Place.still c.finish.new.place) (g.P.Place.still c.finish.new.place) refl (flying_answer c.args.store.now.next _ c.args.launched.now _ (g.P.Place.counts c.args.place.now).starts (g.P.Place.counts c.finish.new.place).starts (c.in-Err.ensures.takes c.args.store.now.next).0) c.in-Err.ensures.still (λ t stood. stood) apart
+    others_ended (basis footing read g.P.Place.child setup c.args.project.now sources) c.is_in_order.ensures c.args.index c.args.unit.now c.requires.unit c.args.command.now c.args.launched.now c.args.store.now.next (g.P.Place.world c.args.place.now) (g.P.Place.counts c.args.place.now).starts.flying (g.P.Place.still c.args.place.now) states done can (g.P.Place.world c.finish.new.place) (c.in-Err.ensures.only told) other its (g.P.Place.world c.finish.new.place) (g.P.Place.counts c.finish.new.place).starts.flying (g.P.Place.still c.finish.new.place) (g.P.Place.still c.finish.new.place) refl (flying_answer c.args.store.now.next _ c.args.launched.now _ (g.P.Place.counts c.args.place.now).starts (g.P.Place.counts c.finish.new.place).starts (c.in-Err.ensures.takes c.args.store.now.next).0) c.in-Err.ensures.still (λ t stood. stood) apart
 
 pub returns-in-Err-clause-takes : goal.returns-in-Err-clause-takes
 returns-in-Err-clause-takes g c =
@@ -59,11 +59,11 @@ returns-in-Err-clause-takes g c =
 
 pub returns-in-Err-judged_now-clause-others : goal.returns-in-Err-judged_now-clause-others
 returns-in-Err-judged_now-clause-others g c footing read setup sources states done other its is told can apart =
-    others_ended (basis footing read g.P.Place.child setup c.args.project.now sources) c.requires.order c.args.index c.args.unit.now c.requires.unit c.args.command.now c.args.launched.now c.args.store.now.next (g.P.Place.world c.args.place.now) (g.P.Place.counts c.args.place.now).starts.flying (g.P.Place.still c.args.place.now) states done can (g.P.Place.world c.finish.new.place) (c.in-Ok.ensures.only told) other its (g.P.Place.world c.judged_now.new.place) (g.P.Place.counts c.judged_now.new.place).starts.flying (g.P.Place.still c.finish.new.place) (g.P.Place.still c.judged_now.new.place) (c.in-Err-judged_now.ensures.same told) (flying_follow c.args.unit.now.key _ (g.P.Place.counts c.finish.new.place).starts (g.P.Place.counts c.judged_now.new.place).starts c.in-Err-judged_now.ensures.takes.0 ∙ (ap (λ (s : Starts). s.flying) (c.in-Ok.ensures.takes c.args.store.now.next).1)) c.in-Ok.ensures.still (c.in-Err-judged_now.ensures.still told) apart
+    others_ended (basis footing read g.P.Place.child setup c.args.project.now sources) c.is_in_order.ensures c.args.index c.args.unit.now c.requires.unit c.args.command.now c.args.launched.now c.args.store.now.next (g.P.Place.world c.args.place.now) (g.P.Place.counts c.args.place.now).starts.flying (g.P.Place.still c.args.place.now) states done can (g.P.Place.world c.finish.new.place) (c.in-Ok.ensures.only told) other its (g.P.Place.world c.judged_now.new.place) (g.P.Place.counts c.judged_now.new.place).starts.flying (g.P.Place.still c.finish.new.place) (g.P.Place.still c.judged_now.new.place) (c.in-Err-judged_now.ensures.same told) (flying_follow c.args.unit.now.key _ (g.P.Place.counts c.finish.new.place).starts (g.P.Place.counts c.judged_now.new.place).starts c.in-Err-judged_now.ensures.takes.0 ∙ (ap (λ (s : Starts). s.flying) (c.in-Ok.ensures.takes c.args.store.now.next).1)) c.in-Ok.ensures.still (c.in-Err-judged_now.ensures.still told) apart
 
 pub returns-then-is_some-clause-others : goal.returns-then-is_some-clause-others
 returns-then-is_some-clause-others g c footing read setup sources states done other its is told can apart =
-    others_ended (basis footing read g.P.Place.child setup c.args.project.now sources) c.requires.order c.args.index c.args.unit.now c.requires.unit c.args.command.now c.args.launched.now c.args.store.now.next (g.P.Place.world c.args.place.now) (g.P.Place.counts c.args.place.now).starts.flying (g.P.Place.still c.args.place.now) states done can (g.P.Place.world c.finish.new.place) (c.in-Ok.ensures.only told) other its (g.P.Place.world c.judged_now.new.place) (g.P.Place.counts c.judged_now.new.place).starts.flying (g.P.Place.still c.finish.new.place) (g.P.Place.still c.judged_now.new.place) (c.in-Ok-judged_now.ensures.same told) (ap (λ (s : Starts). s.flying) (c.in-Ok-judged_now.ensures.takes.1 ∙ (c.in-Ok.ensures.takes c.args.store.now.next).1)) c.in-Ok.ensures.still (c.in-Ok-judged_now.ensures.still told) apart
+    others_ended (basis footing read g.P.Place.child setup c.args.project.now sources) c.is_in_order.ensures c.args.index c.args.unit.now c.requires.unit c.args.command.now c.args.launched.now c.args.store.now.next (g.P.Place.world c.args.place.now) (g.P.Place.counts c.args.place.now).starts.flying (g.P.Place.still c.args.place.now) states done can (g.P.Place.world c.finish.new.place) (c.in-Ok.ensures.only told) other its (g.P.Place.world c.judged_now.new.place) (g.P.Place.counts c.judged_now.new.place).starts.flying (g.P.Place.still c.finish.new.place) (g.P.Place.still c.judged_now.new.place) (c.in-Ok-judged_now.ensures.same told) (ap (λ (s : Starts). s.flying) (c.in-Ok-judged_now.ensures.takes.1 ∙ (c.in-Ok.ensures.takes c.args.store.now.next).1)) c.in-Ok.ensures.still (c.in-Ok-judged_now.ensures.still told) apart
 
 pub returns-then-is_some-clause-takes : goal.returns-then-is_some-clause-takes
 returns-then-is_some-clause-takes g c =
@@ -71,11 +71,11 @@ returns-then-is_some-clause-takes g c =
 
 pub keep-requires-clause-keys : goal.keep-requires-clause-keys
 keep-requires-clause-keys g c =
-    needed_are_keys c.args.project.now c.args.unit.now c.requires.order
+    needed_are_keys c.args.project.now c.args.unit.now c.is_in_order.ensures
 
 pub keep-requires-clause-out : goal.keep-requires-clause-out
 keep-requires-clause-out g c =
-    out_lies c.args.project.now c.args.index c.args.unit.now c.args.store.now.folder c.args.command.now c.requires.order c.requires.unit c.requires.folder c.requires.asks
+    out_lies c.args.project.now c.args.index c.args.unit.now c.args.store.now.folder c.args.command.now c.is_in_order.ensures c.requires.unit c.requires.folder c.requires.asks
 
 pub keep-requires-clause-sorted : goal.keep-requires-clause-sorted
 keep-requires-clause-sorted g c =
@@ -83,31 +83,31 @@ keep-requires-clause-sorted g c =
 
 pub returns-in-Ok-keep-clause-outcome : goal.returns-in-Ok-keep-clause-outcome
 returns-in-Ok-keep-clause-outcome g c footing read setup sources states done is told can =
-    outcome_kept (basis footing read g.P.Place.child setup c.args.project.now sources) c.requires.order c.args.index c.args.unit.now c.requires.unit c.args.command.now c.args.launched.now c.args.store.now.next (g.P.Place.world c.args.place.now) (g.P.Place.counts c.args.place.now).starts.flying (g.P.Place.still c.args.place.now) states done can (g.P.Place.world c.finish.new.place) (c.in-Ok.ensures.only told) (g.P.Place.world c.judged_now.new.place) (c.in-Ok-judged_now.ensures.same told) c.in-Ok.ended c.in-Ok-judged_now.judgement (λ stood. c.in-Ok.ensures.ok told stood) (c.in-Ok-judged_now.ensures.judged told) c.args.store.now.folder c.requires.folder (g.P.Place.world c.keep.new.place) (c.in-Ok-keep.ensures.only told)
+    outcome_kept (basis footing read g.P.Place.child setup c.args.project.now sources) c.is_in_order.ensures c.args.index c.args.unit.now c.requires.unit c.args.command.now c.args.launched.now c.args.store.now.next (g.P.Place.world c.args.place.now) (g.P.Place.counts c.args.place.now).starts.flying (g.P.Place.still c.args.place.now) states done can (g.P.Place.world c.finish.new.place) (c.in-Ok.ensures.only told) (g.P.Place.world c.judged_now.new.place) (c.in-Ok-judged_now.ensures.same told) c.in-Ok.ended c.in-Ok-judged_now.judgement (λ stood. c.in-Ok.ensures.ok told stood) (c.in-Ok-judged_now.ensures.judged told) c.args.store.now.folder c.requires.folder (g.P.Place.world c.keep.new.place) (c.in-Ok-keep.ensures.only told)
 
 pub returns-in-Ok-keep-clause-keeps : goal.returns-in-Ok-keep-clause-keeps
 returns-in-Ok-keep-clause-keeps g c footing read setup sources states done is told can lines =
-    keeps_kept (basis footing read g.P.Place.child setup c.args.project.now sources) c.requires.order c.args.index c.args.unit.now c.requires.unit c.args.command.now c.args.launched.now c.args.store.now.next (g.P.Place.world c.args.place.now) (g.P.Place.counts c.args.place.now).starts.flying (g.P.Place.still c.args.place.now) states done can (g.P.Place.world c.finish.new.place) (c.in-Ok.ensures.only told) (g.P.Place.world c.judged_now.new.place) (c.in-Ok-judged_now.ensures.same told) c.in-Ok.ended c.in-Ok-judged_now.judgement (λ stood. c.in-Ok.ensures.ok told stood) (c.in-Ok-judged_now.ensures.judged told) c.args.store.now.folder c.requires.folder (g.P.Place.world c.keep.new.place) (sym c.is_some.ensures ∙ c.if-is_some.false) c.as_slice.result.now c.as_slice.ensures (record { sound = c.in-Ok-keep.ensures.sound read judge is told; ahead = c.in-Ok-keep.ensures.ahead read is told; only = c.in-Ok-keep.ensures.only told }) lines (c.in-Ok-keep.ensures.stands read is told)
+    keeps_kept (basis footing read g.P.Place.child setup c.args.project.now sources) c.is_in_order.ensures c.args.index c.args.unit.now c.requires.unit c.args.command.now c.args.launched.now c.args.store.now.next (g.P.Place.world c.args.place.now) (g.P.Place.counts c.args.place.now).starts.flying (g.P.Place.still c.args.place.now) states done can (g.P.Place.world c.finish.new.place) (c.in-Ok.ensures.only told) (g.P.Place.world c.judged_now.new.place) (c.in-Ok-judged_now.ensures.same told) c.in-Ok.ended c.in-Ok-judged_now.judgement (λ stood. c.in-Ok.ensures.ok told stood) (c.in-Ok-judged_now.ensures.judged told) c.args.store.now.folder c.requires.folder (g.P.Place.world c.keep.new.place) (sym c.is_some.ensures ∙ c.if-is_some.false) c.as_slice.result.now c.as_slice.ensures (record { sound = c.in-Ok-keep.ensures.sound read judge is told; ahead = c.in-Ok-keep.ensures.ahead read is told; only = c.in-Ok-keep.ensures.only told }) lines (c.in-Ok-keep.ensures.stands read is told)
 
 pub returns-clause-keeps : goal.returns-clause-keeps
 returns-clause-keeps g c footing read setup sources states done is told can =
-    keeps_over (basis footing read g.P.Place.child setup c.args.project.now sources) c.requires.order c.args.index c.args.unit.now c.requires.unit c.args.command.now c.args.launched.now c.args.store.now.next (g.P.Place.world c.args.place.now) (g.P.Place.counts c.args.place.now).starts.flying (g.P.Place.still c.args.place.now) states done can (g.P.Place.world c.finish.new.place) (c.in-Ok.ensures.only told) (g.P.Place.world c.judged_now.new.place) (c.in-Ok-judged_now.ensures.same told) c.in-Ok.ended c.in-Ok-judged_now.judgement (λ stood. c.in-Ok.ensures.ok told stood) (c.in-Ok-judged_now.ensures.judged told) c.args.store.now.folder c.requires.folder (g.P.Place.world c.keep.new.place) (sym c.is_some.ensures ∙ c.if-is_some.false) c.as_slice.result.now c.as_slice.ensures (record { sound = c.in-Err-keep.ensures.sound read judge is told; ahead = c.in-Err-keep.ensures.ahead read is told; only = c.in-Err-keep.ensures.only told })
+    keeps_over (basis footing read g.P.Place.child setup c.args.project.now sources) c.is_in_order.ensures c.args.index c.args.unit.now c.requires.unit c.args.command.now c.args.launched.now c.args.store.now.next (g.P.Place.world c.args.place.now) (g.P.Place.counts c.args.place.now).starts.flying (g.P.Place.still c.args.place.now) states done can (g.P.Place.world c.finish.new.place) (c.in-Ok.ensures.only told) (g.P.Place.world c.judged_now.new.place) (c.in-Ok-judged_now.ensures.same told) c.in-Ok.ended c.in-Ok-judged_now.judgement (λ stood. c.in-Ok.ensures.ok told stood) (c.in-Ok-judged_now.ensures.judged told) c.args.store.now.folder c.requires.folder (g.P.Place.world c.keep.new.place) (sym c.is_some.ensures ∙ c.if-is_some.false) c.as_slice.result.now c.as_slice.ensures (record { sound = c.in-Err-keep.ensures.sound read judge is told; ahead = c.in-Err-keep.ensures.ahead read is told; only = c.in-Err-keep.ensures.only told })
 
 pub returns-in-Ok-keep-clause-others : goal.returns-in-Ok-keep-clause-others
 returns-in-Ok-keep-clause-others g c footing read setup sources states done other its is told can apart =
-    others_kept (basis footing read g.P.Place.child setup c.args.project.now sources) c.requires.order c.args.index c.args.unit.now c.requires.unit c.args.command.now c.args.launched.now c.args.store.now.next (g.P.Place.world c.args.place.now) (g.P.Place.counts c.args.place.now).starts.flying (g.P.Place.still c.args.place.now) states done can (g.P.Place.world c.finish.new.place) (c.in-Ok.ensures.only told) (g.P.Place.world c.judged_now.new.place) (c.in-Ok-judged_now.ensures.same told) c.in-Ok.ended c.in-Ok-judged_now.judgement c.args.store.now.folder c.as_slice.result.now (g.P.Place.world c.keep.new.place) other its (g.P.Place.counts c.judged_now.new.place).starts.flying (g.P.Place.counts c.keep.new.place).starts.flying (g.P.Place.still c.finish.new.place) (g.P.Place.still c.judged_now.new.place) (g.P.Place.still c.keep.new.place) c.requires.folder (c.in-Ok-keep.ensures.only told) (c.in-Ok-keep.ensures.left read is told) (ap (λ (s : Starts). s.flying) (c.in-Ok-judged_now.ensures.takes.1 ∙ (c.in-Ok.ensures.takes c.args.store.now.next).1)) (ap (λ (s : Starts). s.flying) c.in-Ok-keep.ensures.takes.1) c.in-Ok.ensures.still (c.in-Ok-judged_now.ensures.still told) (c.in-Ok-keep.ensures.still told) apart
+    others_kept (basis footing read g.P.Place.child setup c.args.project.now sources) c.is_in_order.ensures c.args.index c.args.unit.now c.requires.unit c.args.command.now c.args.launched.now c.args.store.now.next (g.P.Place.world c.args.place.now) (g.P.Place.counts c.args.place.now).starts.flying (g.P.Place.still c.args.place.now) states done can (g.P.Place.world c.finish.new.place) (c.in-Ok.ensures.only told) (g.P.Place.world c.judged_now.new.place) (c.in-Ok-judged_now.ensures.same told) c.in-Ok.ended c.in-Ok-judged_now.judgement c.args.store.now.folder c.as_slice.result.now (g.P.Place.world c.keep.new.place) other its (g.P.Place.counts c.judged_now.new.place).starts.flying (g.P.Place.counts c.keep.new.place).starts.flying (g.P.Place.still c.finish.new.place) (g.P.Place.still c.judged_now.new.place) (g.P.Place.still c.keep.new.place) c.requires.folder (c.in-Ok-keep.ensures.only told) (c.in-Ok-keep.ensures.left read is told) (ap (λ (s : Starts). s.flying) (c.in-Ok-judged_now.ensures.takes.1 ∙ (c.in-Ok.ensures.takes c.args.store.now.next).1)) (ap (λ (s : Starts). s.flying) c.in-Ok-keep.ensures.takes.1) c.in-Ok.ensures.still (c.in-Ok-judged_now.ensures.still told) (c.in-Ok-keep.ensures.still told) apart
 
 pub returns-clause-others : goal.returns-clause-others
 returns-clause-others g c footing read setup sources states done other its is told can apart =
-    others_kept (basis footing read g.P.Place.child setup c.args.project.now sources) c.requires.order c.args.index c.args.unit.now c.requires.unit c.args.command.now c.args.launched.now c.args.store.now.next (g.P.Place.world c.args.place.now) (g.P.Place.counts c.args.place.now).starts.flying (g.P.Place.still c.args.place.now) states done can (g.P.Place.world c.finish.new.place) (c.in-Ok.ensures.only told) (g.P.Place.world c.judged_now.new.place) (c.in-Ok-judged_now.ensures.same told) c.in-Ok.ended c.in-Ok-judged_now.judgement c.args.store.now.folder c.as_slice.result.now (g.P.Place.world c.keep.new.place) other its (g.P.Place.counts c.judged_now.new.place).starts.flying (g.P.Place.counts c.keep.new.place).starts.flying (g.P.Place.still c.finish.new.place) (g.P.Place.still c.judged_now.new.place) (g.P.Place.still c.keep.new.place) c.requires.folder (c.in-Err-keep.ensures.only told) (c.in-Err-keep.ensures.left read is told) (ap (λ (s : Starts). s.flying) (c.in-Ok-judged_now.ensures.takes.1 ∙ (c.in-Ok.ensures.takes c.args.store.now.next).1)) (flying_follow c.args.unit.now.key _ (g.P.Place.counts c.judged_now.new.place).starts (g.P.Place.counts c.keep.new.place).starts c.in-Err-keep.ensures.takes.0) c.in-Ok.ensures.still (c.in-Ok-judged_now.ensures.still told) (c.in-Err-keep.ensures.still told) apart
+    others_kept (basis footing read g.P.Place.child setup c.args.project.now sources) c.is_in_order.ensures c.args.index c.args.unit.now c.requires.unit c.args.command.now c.args.launched.now c.args.store.now.next (g.P.Place.world c.args.place.now) (g.P.Place.counts c.args.place.now).starts.flying (g.P.Place.still c.args.place.now) states done can (g.P.Place.world c.finish.new.place) (c.in-Ok.ensures.only told) (g.P.Place.world c.judged_now.new.place) (c.in-Ok-judged_now.ensures.same told) c.in-Ok.ended c.in-Ok-judged_now.judgement c.args.store.now.folder c.as_slice.result.now (g.P.Place.world c.keep.new.place) other its (g.P.Place.counts c.judged_now.new.place).starts.flying (g.P.Place.counts c.keep.new.place).starts.flying (g.P.Place.still c.finish.new.place) (g.P.Place.still c.judged_now.new.place) (g.P.Place.still c.keep.new.place) c.requires.folder (c.in-Err-keep.ensures.only told) (c.in-Err-keep.ensures.left read is told) (ap (λ (s : Starts). s.flying) (c.in-Ok-judged_now.ensures.takes.1 ∙ (c.in-Ok.ensures.takes c.args.store.now.next).1)) (flying_follow c.args.unit.now.key _ (g.P.Place.counts c.judged_now.new.place).starts (g.P.Place.counts c.keep.new.place).starts c.in-Err-keep.ensures.takes.0) c.in-Ok.ensures.still (c.in-Ok-judged_now.ensures.still told) (c.in-Err-keep.ensures.still told) apart
 
 pub returns-in-Ok-keep-clause-only : goal.returns-in-Ok-keep-clause-only
 returns-in-Ok-keep-clause-only g c told writes =
-    record_only (records_folder c.args.project.now) c.args.unit.now.key c.args.unit.now.out (c.requires.order.folders c.args.index c.args.unit.now c.requires.unit) c.args.launched.now (g.P.Place.counts c.args.place.now).starts.flying c.requires.flies writes (g.P.Place.world c.args.place.now) (g.P.Place.world c.finish.new.place) (g.P.Place.world c.judged_now.new.place) (c.in-Ok.ensures.only told) (c.in-Ok-judged_now.ensures.same told) c.args.store.now.folder (g.P.Place.world c.keep.new.place) c.requires.folder (c.in-Ok-keep.ensures.only told)
+    record_only (records_folder c.args.project.now) c.args.unit.now.key c.args.unit.now.out (c.is_in_order.ensures.folders c.args.index c.args.unit.now c.requires.unit) c.args.launched.now (g.P.Place.counts c.args.place.now).starts.flying c.requires.flies writes (g.P.Place.world c.args.place.now) (g.P.Place.world c.finish.new.place) (g.P.Place.world c.judged_now.new.place) (c.in-Ok.ensures.only told) (c.in-Ok-judged_now.ensures.same told) c.args.store.now.folder (g.P.Place.world c.keep.new.place) c.requires.folder (c.in-Ok-keep.ensures.only told)
 
 pub returns-clause-only : goal.returns-clause-only
 returns-clause-only g c told writes =
-    record_only (records_folder c.args.project.now) c.args.unit.now.key c.args.unit.now.out (c.requires.order.folders c.args.index c.args.unit.now c.requires.unit) c.args.launched.now (g.P.Place.counts c.args.place.now).starts.flying c.requires.flies writes (g.P.Place.world c.args.place.now) (g.P.Place.world c.finish.new.place) (g.P.Place.world c.judged_now.new.place) (c.in-Ok.ensures.only told) (c.in-Ok-judged_now.ensures.same told) c.args.store.now.folder (g.P.Place.world c.keep.new.place) c.requires.folder (c.in-Err-keep.ensures.only told)
+    record_only (records_folder c.args.project.now) c.args.unit.now.key c.args.unit.now.out (c.is_in_order.ensures.folders c.args.index c.args.unit.now c.requires.unit) c.args.launched.now (g.P.Place.counts c.args.place.now).starts.flying c.requires.flies writes (g.P.Place.world c.args.place.now) (g.P.Place.world c.finish.new.place) (g.P.Place.world c.judged_now.new.place) (c.in-Ok.ensures.only told) (c.in-Ok-judged_now.ensures.same told) c.args.store.now.folder (g.P.Place.world c.keep.new.place) c.requires.folder (c.in-Err-keep.ensures.only told)
 
 pub returns-in-Ok-keep-clause-takes : goal.returns-in-Ok-keep-clause-takes
 returns-in-Ok-keep-clause-takes g c =

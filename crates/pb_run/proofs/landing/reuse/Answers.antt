@@ -11,63 +11,63 @@ use Rattle.pb_run.proofs.landing.reuse.Goals as goal
 
 pub returns-in-Err-clause-others : goal.returns-in-Err-clause-others
 returns-in-Err-clause-others g c footing read setup sources states done other its is told can apart =
-    others_unchanged (basis footing read g.P.Place.child setup c.args.project.now sources) c.requires.order c.args.index c.args.unit.now c.requires.unit c.args.unit.now.key c.args.command.now c.args.again.now c.args.store.now.next (g.P.Place.world c.args.place.now) (g.P.Place.counts c.args.place.now).starts.flying (g.P.Place.still c.args.place.now) states done can other its (g.P.Place.world c.judged_now.new.place) (g.P.Place.counts c.judged_now.new.place).starts.flying (g.P.Place.still c.judged_now.new.place) apart (c.in-Err.ensures.same told)
+    others_unchanged (basis footing read g.P.Place.child setup c.args.project.now sources) c.is_in_order.ensures c.args.index c.args.unit.now c.requires.unit c.args.unit.now.key c.args.command.now c.args.again.now c.args.store.now.next (g.P.Place.world c.args.place.now) (g.P.Place.counts c.args.place.now).starts.flying (g.P.Place.still c.args.place.now) states done can other its (g.P.Place.world c.judged_now.new.place) (g.P.Place.counts c.judged_now.new.place).starts.flying (g.P.Place.still c.judged_now.new.place) apart (c.in-Err.ensures.same told)
     (flying_follow c.args.unit.now.key _ (g.P.Place.counts c.args.place.now).starts (g.P.Place.counts c.judged_now.new.place).starts c.in-Err.ensures.takes.0) (c.in-Err.ensures.still told)
 
 pub returns-then-is_some-clause-outcome : goal.returns-then-is_some-clause-outcome
 returns-then-is_some-clause-outcome g c footing read setup sources states done is told can =
-    replay_outcome (basis footing read g.P.Place.child setup c.args.project.now sources) c.requires.order c.args.index c.args.unit.now c.requires.unit c.args.unit.now.key c.args.command.now c.args.again.now c.args.store.now.next (g.P.Place.world c.args.place.now) (g.P.Place.counts c.args.place.now).starts.flying (g.P.Place.still c.args.place.now) states done can c.in-Ok.judgement (g.P.Place.world c.judged_now.new.place) c.unstarted-ran.result (c.in-Ok.ensures.same told) (c.in-Ok.ensures.judged told) c.unstarted-ran.ensures
+    replay_outcome (basis footing read g.P.Place.child setup c.args.project.now sources) c.is_in_order.ensures c.args.index c.args.unit.now c.requires.unit c.args.unit.now.key c.args.command.now c.args.again.now c.args.store.now.next (g.P.Place.world c.args.place.now) (g.P.Place.counts c.args.place.now).starts.flying (g.P.Place.still c.args.place.now) states done can c.in-Ok.judgement (g.P.Place.world c.judged_now.new.place) c.unstarted-ran.result (c.in-Ok.ensures.same told) (c.in-Ok.ensures.judged told) c.unstarted-ran.ensures
 
 pub returns-then-is_some-clause-keeps : goal.returns-then-is_some-clause-keeps
 returns-then-is_some-clause-keeps g c footing read setup sources states done is told can lines =
-    keeps_bad_again (basis footing read g.P.Place.child setup c.args.project.now sources) c.requires.order c.args.index c.args.unit.now c.requires.unit c.args.unit.now.key c.args.command.now c.args.again.now c.args.store.now.next (g.P.Place.world c.args.place.now) (g.P.Place.counts c.args.place.now).starts.flying (g.P.Place.still c.args.place.now) states done can (g.P.Place.world c.judged_now.new.place) c.unstarted-ran.result lines (c.in-Ok.ensures.same told) (sym c.is_some.ensures ∙ c.if-is_some.true)
-    (replay_outcome (basis footing read g.P.Place.child setup c.args.project.now sources) c.requires.order c.args.index c.args.unit.now c.requires.unit c.args.unit.now.key c.args.command.now c.args.again.now c.args.store.now.next (g.P.Place.world c.args.place.now) (g.P.Place.counts c.args.place.now).starts.flying (g.P.Place.still c.args.place.now) states done can c.in-Ok.judgement (g.P.Place.world c.judged_now.new.place) c.unstarted-ran.result (c.in-Ok.ensures.same told) (c.in-Ok.ensures.judged told) c.unstarted-ran.ensures)
+    keeps_bad_again (basis footing read g.P.Place.child setup c.args.project.now sources) c.is_in_order.ensures c.args.index c.args.unit.now c.requires.unit c.args.unit.now.key c.args.command.now c.args.again.now c.args.store.now.next (g.P.Place.world c.args.place.now) (g.P.Place.counts c.args.place.now).starts.flying (g.P.Place.still c.args.place.now) states done can (g.P.Place.world c.judged_now.new.place) c.unstarted-ran.result lines (c.in-Ok.ensures.same told) (sym c.is_some.ensures ∙ c.if-is_some.true)
+    (replay_outcome (basis footing read g.P.Place.child setup c.args.project.now sources) c.is_in_order.ensures c.args.index c.args.unit.now c.requires.unit c.args.unit.now.key c.args.command.now c.args.again.now c.args.store.now.next (g.P.Place.world c.args.place.now) (g.P.Place.counts c.args.place.now).starts.flying (g.P.Place.still c.args.place.now) states done can c.in-Ok.judgement (g.P.Place.world c.judged_now.new.place) c.unstarted-ran.result (c.in-Ok.ensures.same told) (c.in-Ok.ensures.judged told) c.unstarted-ran.ensures)
 
 pub returns-then-is_some-clause-others : goal.returns-then-is_some-clause-others
 returns-then-is_some-clause-others g c footing read setup sources states done other its is told can apart =
-    others_unchanged (basis footing read g.P.Place.child setup c.args.project.now sources) c.requires.order c.args.index c.args.unit.now c.requires.unit c.args.unit.now.key c.args.command.now c.args.again.now c.args.store.now.next (g.P.Place.world c.args.place.now) (g.P.Place.counts c.args.place.now).starts.flying (g.P.Place.still c.args.place.now) states done can other its (g.P.Place.world c.judged_now.new.place) (g.P.Place.counts c.judged_now.new.place).starts.flying (g.P.Place.still c.judged_now.new.place) apart (c.in-Ok.ensures.same told)
+    others_unchanged (basis footing read g.P.Place.child setup c.args.project.now sources) c.is_in_order.ensures c.args.index c.args.unit.now c.requires.unit c.args.unit.now.key c.args.command.now c.args.again.now c.args.store.now.next (g.P.Place.world c.args.place.now) (g.P.Place.counts c.args.place.now).starts.flying (g.P.Place.still c.args.place.now) states done can other its (g.P.Place.world c.judged_now.new.place) (g.P.Place.counts c.judged_now.new.place).starts.flying (g.P.Place.still c.judged_now.new.place) apart (c.in-Ok.ensures.same told)
     (ap (λ (s : Starts). s.flying) c.in-Ok.ensures.takes.1) (c.in-Ok.ensures.still told)
 
 pub returns-then-again-clause-outcome : goal.returns-then-again-clause-outcome
 returns-then-again-clause-outcome g c footing read setup sources states done is told can =
-    replay_outcome (basis footing read g.P.Place.child setup c.args.project.now sources) c.requires.order c.args.index c.args.unit.now c.requires.unit c.args.unit.now.key c.args.command.now c.args.again.now c.args.store.now.next (g.P.Place.world c.args.place.now) (g.P.Place.counts c.args.place.now).starts.flying (g.P.Place.still c.args.place.now) states done can c.in-Ok.judgement (g.P.Place.world c.judged_now.new.place) c.unstarted-ran.result (c.in-Ok.ensures.same told) (c.in-Ok.ensures.judged told) c.unstarted-ran.ensures
+    replay_outcome (basis footing read g.P.Place.child setup c.args.project.now sources) c.is_in_order.ensures c.args.index c.args.unit.now c.requires.unit c.args.unit.now.key c.args.command.now c.args.again.now c.args.store.now.next (g.P.Place.world c.args.place.now) (g.P.Place.counts c.args.place.now).starts.flying (g.P.Place.still c.args.place.now) states done can c.in-Ok.judgement (g.P.Place.world c.judged_now.new.place) c.unstarted-ran.result (c.in-Ok.ensures.same told) (c.in-Ok.ensures.judged told) c.unstarted-ran.ensures
 
 pub returns-then-again-clause-keeps : goal.returns-then-again-clause-keeps
 returns-then-again-clause-keeps g c footing read setup sources states done is told can lines =
-    keeps_numbered (basis footing read g.P.Place.child setup c.args.project.now sources) c.requires.order c.args.index c.args.unit.now c.requires.unit c.args.unit.now.key c.args.command.now c.args.again.now c.args.store.now.next (g.P.Place.world c.args.place.now) (g.P.Place.counts c.args.place.now).starts.flying (g.P.Place.still c.args.place.now) states done can (g.P.Place.world c.judged_now.new.place) c.unstarted-ran.result lines (c.in-Ok.ensures.same told) c.if-again.true
-    (replay_outcome (basis footing read g.P.Place.child setup c.args.project.now sources) c.requires.order c.args.index c.args.unit.now c.requires.unit c.args.unit.now.key c.args.command.now c.args.again.now c.args.store.now.next (g.P.Place.world c.args.place.now) (g.P.Place.counts c.args.place.now).starts.flying (g.P.Place.still c.args.place.now) states done can c.in-Ok.judgement (g.P.Place.world c.judged_now.new.place) c.unstarted-ran.result (c.in-Ok.ensures.same told) (c.in-Ok.ensures.judged told) c.unstarted-ran.ensures)
+    keeps_numbered (basis footing read g.P.Place.child setup c.args.project.now sources) c.is_in_order.ensures c.args.index c.args.unit.now c.requires.unit c.args.unit.now.key c.args.command.now c.args.again.now c.args.store.now.next (g.P.Place.world c.args.place.now) (g.P.Place.counts c.args.place.now).starts.flying (g.P.Place.still c.args.place.now) states done can (g.P.Place.world c.judged_now.new.place) c.unstarted-ran.result lines (c.in-Ok.ensures.same told) c.if-again.true
+    (replay_outcome (basis footing read g.P.Place.child setup c.args.project.now sources) c.is_in_order.ensures c.args.index c.args.unit.now c.requires.unit c.args.unit.now.key c.args.command.now c.args.again.now c.args.store.now.next (g.P.Place.world c.args.place.now) (g.P.Place.counts c.args.place.now).starts.flying (g.P.Place.still c.args.place.now) states done can c.in-Ok.judgement (g.P.Place.world c.judged_now.new.place) c.unstarted-ran.result (c.in-Ok.ensures.same told) (c.in-Ok.ensures.judged told) c.unstarted-ran.ensures)
 
 pub returns-then-again-clause-others : goal.returns-then-again-clause-others
 returns-then-again-clause-others g c footing read setup sources states done other its is told can apart =
-    others_unchanged (basis footing read g.P.Place.child setup c.args.project.now sources) c.requires.order c.args.index c.args.unit.now c.requires.unit c.args.unit.now.key c.args.command.now c.args.again.now c.args.store.now.next (g.P.Place.world c.args.place.now) (g.P.Place.counts c.args.place.now).starts.flying (g.P.Place.still c.args.place.now) states done can other its (g.P.Place.world c.judged_now.new.place) (g.P.Place.counts c.judged_now.new.place).starts.flying (g.P.Place.still c.judged_now.new.place) apart (c.in-Ok.ensures.same told)
+    others_unchanged (basis footing read g.P.Place.child setup c.args.project.now sources) c.is_in_order.ensures c.args.index c.args.unit.now c.requires.unit c.args.unit.now.key c.args.command.now c.args.again.now c.args.store.now.next (g.P.Place.world c.args.place.now) (g.P.Place.counts c.args.place.now).starts.flying (g.P.Place.still c.args.place.now) states done can other its (g.P.Place.world c.judged_now.new.place) (g.P.Place.counts c.judged_now.new.place).starts.flying (g.P.Place.still c.judged_now.new.place) apart (c.in-Ok.ensures.same told)
     (ap (λ (s : Starts). s.flying) c.in-Ok.ensures.takes.1) (c.in-Ok.ensures.still told)
 
 pub migrate-requires-clause-keys : goal.migrate-requires-clause-keys
 migrate-requires-clause-keys g c =
-    keys_needed c.args.project.now c.requires.order c.args.unit.now
+    keys_needed c.args.project.now c.is_in_order.ensures c.args.unit.now
 
 pub returns-in-Ok-migrate-clause-outcome : goal.returns-in-Ok-migrate-clause-outcome
 returns-in-Ok-migrate-clause-outcome g c footing read setup sources states done is told can =
-    renewed_outcome (basis footing read g.P.Place.child setup c.args.project.now sources) c.requires.order c.args.index c.args.unit.now c.requires.unit c.args.unit.now.key c.args.command.now c.args.again.now c.args.store.now.next (g.P.Place.world c.args.place.now) (g.P.Place.counts c.args.place.now).starts.flying (g.P.Place.still c.args.place.now) states done can c.args.store.now.folder c.in-Ok.judgement (g.P.Place.world c.judged_now.new.place) (g.P.Place.world c.migrate.new.place) c.unstarted-ran.result c.requires.folder (c.in-Ok.ensures.same told) (c.in-Ok.ensures.judged told) c.unstarted-ran.ensures (c.in-Ok-migrate.ensures.only told)
+    renewed_outcome (basis footing read g.P.Place.child setup c.args.project.now sources) c.is_in_order.ensures c.args.index c.args.unit.now c.requires.unit c.args.unit.now.key c.args.command.now c.args.again.now c.args.store.now.next (g.P.Place.world c.args.place.now) (g.P.Place.counts c.args.place.now).starts.flying (g.P.Place.still c.args.place.now) states done can c.args.store.now.folder c.in-Ok.judgement (g.P.Place.world c.judged_now.new.place) (g.P.Place.world c.migrate.new.place) c.unstarted-ran.result c.requires.folder (c.in-Ok.ensures.same told) (c.in-Ok.ensures.judged told) c.unstarted-ran.ensures (c.in-Ok-migrate.ensures.only told)
 
 pub returns-in-Ok-migrate-clause-keeps : goal.returns-in-Ok-migrate-clause-keeps
 returns-in-Ok-migrate-clause-keeps g c footing read setup sources states done is told can lines =
-    keeps_renewed (basis footing read g.P.Place.child setup c.args.project.now sources) c.requires.order c.args.index c.args.unit.now c.requires.unit c.args.unit.now.key c.args.command.now c.args.again.now c.args.store.now.next (g.P.Place.world c.args.place.now) (g.P.Place.counts c.args.place.now).starts.flying (g.P.Place.still c.args.place.now) states done can (g.P.Place.world c.migrate.new.place) c.migrate.new.store.next
-    (renewing_so (basis footing read g.P.Place.child setup c.args.project.now sources) c.requires.order c.args.index c.args.unit.now c.requires.unit c.args.unit.now.key c.args.command.now c.args.again.now c.args.store.now.next (g.P.Place.world c.args.place.now) (g.P.Place.counts c.args.place.now).starts.flying (g.P.Place.still c.args.place.now) states done can c.args.store.now.folder (g.P.Place.world c.judged_now.new.place) (g.P.Place.world c.migrate.new.place) c.migrate.new.store.next c.requires.folder (c.in-Ok.ensures.same told)
+    keeps_renewed (basis footing read g.P.Place.child setup c.args.project.now sources) c.is_in_order.ensures c.args.index c.args.unit.now c.requires.unit c.args.unit.now.key c.args.command.now c.args.again.now c.args.store.now.next (g.P.Place.world c.args.place.now) (g.P.Place.counts c.args.place.now).starts.flying (g.P.Place.still c.args.place.now) states done can (g.P.Place.world c.migrate.new.place) c.migrate.new.store.next
+    (renewing_so (basis footing read g.P.Place.child setup c.args.project.now sources) c.is_in_order.ensures c.args.index c.args.unit.now c.requires.unit c.args.unit.now.key c.args.command.now c.args.again.now c.args.store.now.next (g.P.Place.world c.args.place.now) (g.P.Place.counts c.args.place.now).starts.flying (g.P.Place.still c.args.place.now) states done can c.args.store.now.folder (g.P.Place.world c.judged_now.new.place) (g.P.Place.world c.migrate.new.place) c.migrate.new.store.next c.requires.folder (c.in-Ok.ensures.same told)
     record {
       sound = λ r. c.in-Ok-migrate.ensures.sound read judge c.args.command.now r is told;
       ahead = λ r. c.in-Ok-migrate.ensures.ahead read judge c.args.command.now r is told;
       only = c.in-Ok-migrate.ensures.only told;
       left = c.in-Ok-migrate.ensures.left read is told;
     }) c.unstarted-ran.result lines
-    (renewed_so (basis footing read g.P.Place.child setup c.args.project.now sources) c.requires.order c.args.index c.args.unit.now c.requires.unit c.args.unit.now.key c.args.command.now c.args.again.now c.args.store.now.next (g.P.Place.world c.args.place.now) (g.P.Place.counts c.args.place.now).starts.flying (g.P.Place.still c.args.place.now) states done can c.args.store.now.folder (g.P.Place.world c.judged_now.new.place) (g.P.Place.world c.migrate.new.place) c.requires.folder (c.in-Ok.ensures.same told)
+    (renewed_so (basis footing read g.P.Place.child setup c.args.project.now sources) c.is_in_order.ensures c.args.index c.args.unit.now c.requires.unit c.args.unit.now.key c.args.command.now c.args.again.now c.args.store.now.next (g.P.Place.world c.args.place.now) (g.P.Place.counts c.args.place.now).starts.flying (g.P.Place.still c.args.place.now) states done can c.args.store.now.folder (g.P.Place.world c.judged_now.new.place) (g.P.Place.world c.migrate.new.place) c.requires.folder (c.in-Ok.ensures.same told)
     record { stands = c.in-Ok-migrate.ensures.stands read is told; numbered_now = λ s. c.in-Ok-migrate.ensures.numbered read s is told })
-    (renewed_outcome (basis footing read g.P.Place.child setup c.args.project.now sources) c.requires.order c.args.index c.args.unit.now c.requires.unit c.args.unit.now.key c.args.command.now c.args.again.now c.args.store.now.next (g.P.Place.world c.args.place.now) (g.P.Place.counts c.args.place.now).starts.flying (g.P.Place.still c.args.place.now) states done can c.args.store.now.folder c.in-Ok.judgement (g.P.Place.world c.judged_now.new.place) (g.P.Place.world c.migrate.new.place) c.unstarted-ran.result c.requires.folder (c.in-Ok.ensures.same told) (c.in-Ok.ensures.judged told) c.unstarted-ran.ensures (c.in-Ok-migrate.ensures.only told))
+    (renewed_outcome (basis footing read g.P.Place.child setup c.args.project.now sources) c.is_in_order.ensures c.args.index c.args.unit.now c.requires.unit c.args.unit.now.key c.args.command.now c.args.again.now c.args.store.now.next (g.P.Place.world c.args.place.now) (g.P.Place.counts c.args.place.now).starts.flying (g.P.Place.still c.args.place.now) states done can c.args.store.now.folder c.in-Ok.judgement (g.P.Place.world c.judged_now.new.place) (g.P.Place.world c.migrate.new.place) c.unstarted-ran.result c.requires.folder (c.in-Ok.ensures.same told) (c.in-Ok.ensures.judged told) c.unstarted-ran.ensures (c.in-Ok-migrate.ensures.only told))
 
 pub returns-in-Ok-migrate-clause-others : goal.returns-in-Ok-migrate-clause-others
 returns-in-Ok-migrate-clause-others g c footing read setup sources states done other its is told can apart =
-    others_renewed (basis footing read g.P.Place.child setup c.args.project.now sources) c.requires.order c.args.index c.args.unit.now c.requires.unit c.args.unit.now.key c.args.command.now c.args.again.now c.args.store.now.next (g.P.Place.world c.args.place.now) (g.P.Place.counts c.args.place.now).starts.flying (g.P.Place.still c.args.place.now) states done can (g.P.Place.world c.migrate.new.place) c.migrate.new.store.next
-    (renewing_so (basis footing read g.P.Place.child setup c.args.project.now sources) c.requires.order c.args.index c.args.unit.now c.requires.unit c.args.unit.now.key c.args.command.now c.args.again.now c.args.store.now.next (g.P.Place.world c.args.place.now) (g.P.Place.counts c.args.place.now).starts.flying (g.P.Place.still c.args.place.now) states done can c.args.store.now.folder (g.P.Place.world c.judged_now.new.place) (g.P.Place.world c.migrate.new.place) c.migrate.new.store.next c.requires.folder (c.in-Ok.ensures.same told)
+    others_renewed (basis footing read g.P.Place.child setup c.args.project.now sources) c.is_in_order.ensures c.args.index c.args.unit.now c.requires.unit c.args.unit.now.key c.args.command.now c.args.again.now c.args.store.now.next (g.P.Place.world c.args.place.now) (g.P.Place.counts c.args.place.now).starts.flying (g.P.Place.still c.args.place.now) states done can (g.P.Place.world c.migrate.new.place) c.migrate.new.store.next
+    (renewing_so (basis footing read g.P.Place.child setup c.args.project.now sources) c.is_in_order.ensures c.args.index c.args.unit.now c.requires.unit c.args.unit.now.key c.args.command.now c.args.again.now c.args.store.now.next (g.P.Place.world c.args.place.now) (g.P.Place.counts c.args.place.now).starts.flying (g.P.Place.still c.args.place.now) states done can c.args.store.now.folder (g.P.Place.world c.judged_now.new.place) (g.P.Place.world c.migrate.new.place) c.migrate.new.store.next c.requires.folder (c.in-Ok.ensures.same told)
     record {
       sound = λ r. c.in-Ok-migrate.ensures.sound read judge c.args.command.now r is told;
       ahead = λ r. c.in-Ok-migrate.ensures.ahead read judge c.args.command.now r is told;
@@ -83,8 +83,8 @@ returns-in-Ok-migrate-clause-only g c told =
 
 pub returns-clause-keeps : goal.returns-clause-keeps
 returns-clause-keeps g c footing read setup sources states done is told can =
-    keeps_unrenewed (basis footing read g.P.Place.child setup c.args.project.now sources) c.requires.order c.args.index c.args.unit.now c.requires.unit c.args.unit.now.key c.args.command.now c.args.again.now c.args.store.now.next (g.P.Place.world c.args.place.now) (g.P.Place.counts c.args.place.now).starts.flying (g.P.Place.still c.args.place.now) states done can (g.P.Place.world c.migrate.new.place) c.migrate.new.store.next
-    (renewing_so (basis footing read g.P.Place.child setup c.args.project.now sources) c.requires.order c.args.index c.args.unit.now c.requires.unit c.args.unit.now.key c.args.command.now c.args.again.now c.args.store.now.next (g.P.Place.world c.args.place.now) (g.P.Place.counts c.args.place.now).starts.flying (g.P.Place.still c.args.place.now) states done can c.args.store.now.folder (g.P.Place.world c.judged_now.new.place) (g.P.Place.world c.migrate.new.place) c.migrate.new.store.next c.requires.folder (c.in-Ok.ensures.same told)
+    keeps_unrenewed (basis footing read g.P.Place.child setup c.args.project.now sources) c.is_in_order.ensures c.args.index c.args.unit.now c.requires.unit c.args.unit.now.key c.args.command.now c.args.again.now c.args.store.now.next (g.P.Place.world c.args.place.now) (g.P.Place.counts c.args.place.now).starts.flying (g.P.Place.still c.args.place.now) states done can (g.P.Place.world c.migrate.new.place) c.migrate.new.store.next
+    (renewing_so (basis footing read g.P.Place.child setup c.args.project.now sources) c.is_in_order.ensures c.args.index c.args.unit.now c.requires.unit c.args.unit.now.key c.args.command.now c.args.again.now c.args.store.now.next (g.P.Place.world c.args.place.now) (g.P.Place.counts c.args.place.now).starts.flying (g.P.Place.still c.args.place.now) states done can c.args.store.now.folder (g.P.Place.world c.judged_now.new.place) (g.P.Place.world c.migrate.new.place) c.migrate.new.store.next c.requires.folder (c.in-Ok.ensures.same told)
     record {
       sound = λ r. c.in-Err-migrate.ensures.sound read judge c.args.command.now r is told;
       ahead = λ r. c.in-Err-migrate.ensures.ahead read judge c.args.command.now r is told;
@@ -94,8 +94,8 @@ returns-clause-keeps g c footing read setup sources states done is told can =
 
 pub returns-clause-others : goal.returns-clause-others
 returns-clause-others g c footing read setup sources states done other its is told can apart =
-    others_renewed (basis footing read g.P.Place.child setup c.args.project.now sources) c.requires.order c.args.index c.args.unit.now c.requires.unit c.args.unit.now.key c.args.command.now c.args.again.now c.args.store.now.next (g.P.Place.world c.args.place.now) (g.P.Place.counts c.args.place.now).starts.flying (g.P.Place.still c.args.place.now) states done can (g.P.Place.world c.migrate.new.place) c.migrate.new.store.next
-    (renewing_so (basis footing read g.P.Place.child setup c.args.project.now sources) c.requires.order c.args.index c.args.unit.now c.requires.unit c.args.unit.now.key c.args.command.now c.args.again.now c.args.store.now.next (g.P.Place.world c.args.place.now) (g.P.Place.counts c.args.place.now).starts.flying (g.P.Place.still c.args.place.now) states done can c.args.store.now.folder (g.P.Place.world c.judged_now.new.place) (g.P.Place.world c.migrate.new.place) c.migrate.new.store.next c.requires.folder (c.in-Ok.ensures.same told)
+    others_renewed (basis footing read g.P.Place.child setup c.args.project.now sources) c.is_in_order.ensures c.args.index c.args.unit.now c.requires.unit c.args.unit.now.key c.args.command.now c.args.again.now c.args.store.now.next (g.P.Place.world c.args.place.now) (g.P.Place.counts c.args.place.now).starts.flying (g.P.Place.still c.args.place.now) states done can (g.P.Place.world c.migrate.new.place) c.migrate.new.store.next
+    (renewing_so (basis footing read g.P.Place.child setup c.args.project.now sources) c.is_in_order.ensures c.args.index c.args.unit.now c.requires.unit c.args.unit.now.key c.args.command.now c.args.again.now c.args.store.now.next (g.P.Place.world c.args.place.now) (g.P.Place.counts c.args.place.now).starts.flying (g.P.Place.still c.args.place.now) states done can c.args.store.now.folder (g.P.Place.world c.judged_now.new.place) (g.P.Place.world c.migrate.new.place) c.migrate.new.store.next c.requires.folder (c.in-Ok.ensures.same told)
     record {
       sound = λ r. c.in-Err-migrate.ensures.sound read judge c.args.command.now r is told;
       ahead = λ r. c.in-Err-migrate.ensures.ahead read judge c.args.command.now r is told;

@@ -12,15 +12,15 @@ returns-in-Ok-notes_of g c =
     let old : Heard = record { taken = g.E.Out.taken c.args.err.now; faults = g.E.Out.faults c.args.err.now } in
     let new : Heard = record { taken = g.E.Out.taken c.write_all.new.out; faults = g.E.Out.faults c.write_all.new.out } in
     subst (λ (plan : Result BuildPlan BuildFault). NotesOf plan old new) (sym c.in-Ok.is)
-    (subst (λ names. TellsOr notes_lost (notes_of names) old new) c.as_slice-names.ensures
-    (tells_some notes_lost (notes_of c.as_slice-names.result.now) old new (notes_some c.as_slice-names.result.now (sym c.is_empty.ensures ∙ c.if-is_empty.false))
-    (inl (tells_by c.write_all.result (notes_of c.as_slice-names.result.now) c.as_bytes.result.now old new (c.as_bytes.ensures.value ∙ c.in-Ok-notes_of.ensures) c.write_all.ensures.all c.write_all.ensures.whole c.write_all.ensures.part c.write_all.ensures.fault))))
+    (subst (λ names. TellsOr notes_lost (notes_of names) old new) c.without_library-names.ensures
+    (tells_some notes_lost (notes_of c.without_library-names.result.now) old new (notes_some c.without_library-names.result.now (sym c.is_empty.ensures ∙ c.if-is_empty.false))
+    (inl (tells_by c.write_all.result (notes_of c.without_library-names.result.now) c.as_bytes.result.now old new (c.as_bytes.ensures.value ∙ c.in-Ok-notes_of.ensures) c.write_all.ensures.all c.write_all.ensures.whole c.write_all.ensures.part c.write_all.ensures.fault))))
 
 pub returns-in-Err-notes_of : goal.returns-in-Err-notes_of
 returns-in-Err-notes_of g c =
     let old : Heard = record { taken = g.E.Out.taken c.args.err.now; faults = g.E.Out.faults c.args.err.now } in
     let new : Heard = record { taken = g.E.Out.taken c.write_all-in-Err-notes_of.new.out; faults = g.E.Out.faults c.write_all-in-Err-notes_of.new.out } in
     subst (λ (plan : Result BuildPlan BuildFault). NotesOf plan old new) (sym c.in-Ok.is)
-    (subst (λ names. TellsOr notes_lost (notes_of names) old new) c.as_slice-names.ensures
-    (tells_some notes_lost (notes_of c.as_slice-names.result.now) old new (notes_some c.as_slice-names.result.now (sym c.is_empty.ensures ∙ c.if-is_empty.false))
+    (subst (λ names. TellsOr notes_lost (notes_of names) old new) c.without_library-names.ensures
+    (tells_some notes_lost (notes_of c.without_library-names.result.now) old new (notes_some c.without_library-names.result.now (sym c.is_empty.ensures ∙ c.if-is_empty.false))
     (inr (tells_by c.write_all-in-Err-notes_of.result notes_lost notes_lost old new refl c.write_all-in-Err-notes_of.ensures.all c.write_all-in-Err-notes_of.ensures.whole c.write_all-in-Err-notes_of.ensures.part c.write_all-in-Err-notes_of.ensures.fault))))

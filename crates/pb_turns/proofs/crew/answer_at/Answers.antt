@@ -39,7 +39,7 @@ answer_unit-requires-clause-asks g c =
     let at_index = slice_get_read c.args.crew.now.aloft.items (length c.args.crew.now.aloft.items) c.args.index c.remove-unit.result refl
     (subst (λ n. c.args.index < n) (length-map c.args.crew.now.aloft.items place_of_unit) c.requires.within) c.remove-unit.ensures.value in
     let of_plan = all_get (IsOfPlan c.args.crew.now.project) c.args.crew.now.aloft.items c.args.index c.remove-unit.result c.requires.manned.units at_index in
-    let there = there_of c.args.crew.now.project.plan.planned c.as_slice.result.now c.remove-unit.result.unit c.index-as_slice-unit.result of_plan.unit of_plan.there c.as_slice.ensures c.index-as_slice-unit.is in
+    let there = there_of c.args.crew.now.project.plan.planned c.units.result.now c.remove-unit.result.unit c.index-units-unit.result of_plan.unit of_plan.there c.units.ensures c.index-units-unit.is in
     subst (λ u. IsCommandOf c.args.crew.now.project u c.remove-unit.result.begun.command) (injective (sym of_plan.there ∙ there)) of_plan.asks
 
 pub answer_unit-requires-clause-flies : goal.answer_unit-requires-clause-flies
@@ -53,8 +53,8 @@ note_answer-requires g c =
     let at_index = slice_get_read c.args.crew.now.aloft.items (length c.args.crew.now.aloft.items) c.args.index c.remove-unit.result refl
     (subst (λ n. c.args.index < n) (length-map c.args.crew.now.aloft.items place_of_unit) c.requires.within) c.remove-unit.ensures.value in
     let of_plan = all_get (IsOfPlan c.args.crew.now.project) c.args.crew.now.aloft.items c.args.index c.remove-unit.result c.requires.manned.units at_index in
-    let there = there_of c.args.crew.now.project.plan.planned c.as_slice.result.now c.remove-unit.result.unit c.index-as_slice-unit.result of_plan.unit of_plan.there c.as_slice.ensures c.index-as_slice-unit.is in
-    record { within = subst (λ n. c.remove-unit.result.unit < n) (sym c.requires.manned.long) (slice_get_within c.args.crew.now.project.plan.planned c.remove-unit.result.unit c.index-as_slice-unit.result there) }
+    let there = there_of c.args.crew.now.project.plan.planned c.units.result.now c.remove-unit.result.unit c.index-units-unit.result of_plan.unit of_plan.there c.units.ensures c.index-units-unit.is in
+    record { within = subst (λ n. c.remove-unit.result.unit < n) (sym c.requires.manned.long) (slice_get_within c.args.crew.now.project.plan.planned c.remove-unit.result.unit c.index-units-unit.result there) }
 
 pub returns-in-Err-clause-manned : goal.returns-in-Err-clause-manned
 returns-in-Err-clause-manned g c =
@@ -90,47 +90,47 @@ returns-in-Err-clause-story g c = λ first at taken faults es given unit s flyin
     let at_index = slice_get_read c.args.crew.now.aloft.items (length c.args.crew.now.aloft.items) c.args.index c.remove-unit.result refl
     (subst (λ n. c.args.index < n) (length-map c.args.crew.now.aloft.items place_of_unit) c.requires.within) c.remove-unit.ensures.value in
     let of_plan = all_get (IsOfPlan c.args.crew.now.project) c.args.crew.now.aloft.items c.args.index c.remove-unit.result c.requires.manned.units at_index in
-    let there = there_of c.args.crew.now.project.plan.planned c.as_slice.result.now c.remove-unit.result.unit c.index-as_slice-unit.result of_plan.unit of_plan.there c.as_slice.ensures c.index-as_slice-unit.is in
+    let there = there_of c.args.crew.now.project.plan.planned c.units.result.now c.remove-unit.result.unit c.index-units-unit.result of_plan.unit of_plan.there c.units.ensures c.index-units-unit.is in
     let now = moment (g.P.Place.world c.args.place.now) (g.P.Place.counts c.args.place.now) (g.P.Place.most c.args.place.now) taken faults in
     let new = moment (g.P.Place.world c.answer_unit.new.place) (g.P.Place.counts c.answer_unit.new.place) (g.P.Place.most c.answer_unit.new.place) taken faults in
     let its = injective (sym is_unit ∙ get_map place_of_unit c.args.crew.now.aloft.items c.args.index c.remove-unit.result at_index) in
     let begun = subst (λ n. slice_get (states_in c.args.crew.now.project es) n ≡ Some Begun) its flies in
-    let only : IsTrue g.P.Place.tells → ChangesOnly (is_of (records_folder c.args.crew.now.project) c.index-as_slice-unit.result.key) now.world new.world =
+    let only : IsTrue g.P.Place.tells → ChangesOnly (is_of (records_folder c.args.crew.now.project) c.index-units-unit.result.key) now.world new.world =
     λ t. c.answer_unit.ensures.only t (its_writes c.args.crew.now.project c.requires.manned.order at.world c.args.crew.now.aloft.items es now.world new.world now.counts.starts.flying new.counts.starts.flying (s.changes t) (λ j y at_j. flying_of c.args.crew.now now.counts j y c.requires.manned at_j)
-    c.args.index c.remove-unit.result at_index c.index-as_slice-unit.result there) in
+    c.args.index c.remove-unit.result at_index c.index-units-unit.result there) in
     let left : UnitCrew = record { setup = c.args.crew.now.setup; project = c.args.crew.now.project; store = c.answer_unit.new.store; done = c.args.crew.now.done; aloft = c.remove-unit.new.self; started = c.args.crew.now.started; reasons = c.args.crew.now.reasons } in
     let manned = manned_answered c.args.crew.now left now.counts new.counts c.args.index c.remove-unit.result c.requires.manned at_index refl c.answer_unit.ensures.folder refl refl c.remove-unit.ensures.items c.answer_unit.ensures.next
     (answer_fault_lands _ _ (child_of c.remove-unit.result.begun) c.in-Err.fault _ _ c.in-Err.ensures.takes.0) in
-    let alone : IsTrue g.P.Place.tells → NoneWritesTo c.index-as_slice-unit.result.out new.counts.starts.flying =
+    let alone : IsTrue g.P.Place.tells → NoneWritesTo c.index-units-unit.result.out new.counts.starts.flying =
     λ t. none_writes c.args.crew.now.project manned.order at.world new.world c.remove-unit.new.self.items es new.counts.starts.flying manned.units manned.tickets
     (changes_less c.args.crew.now.project c.requires.manned.order at.world c.args.crew.now.aloft.items es now.world new.world now.counts.starts.flying new.counts.starts.flying (s.changes t) (λ j y at_j. flying_of c.args.crew.now now.counts j y c.requires.manned at_j)
-    c.args.index c.remove-unit.result at_index c.index-as_slice-unit.result there c.requires.manned.units_apart c.requires.manned.tickets_apart
+    c.args.index c.remove-unit.result at_index c.index-units-unit.result there c.requires.manned.units_apart c.requires.manned.tickets_apart
     (only t) c.answer_unit.ensures.stay c.remove-unit.new.self.items c.remove-unit.ensures.items)
-    c.remove-unit.result.unit c.index-as_slice-unit.result there
+    c.remove-unit.result.unit c.index-units-unit.result there
     (λ has. apart_removed (places_of c.args.crew.now.aloft.items) c.args.index c.remove-unit.result.unit c.requires.manned.units_apart (get_map place_of_unit c.args.crew.now.aloft.items c.args.index c.remove-unit.result at_index)
     (subst (λ (ps : List ℕ). Contains ps c.remove-unit.result.unit) (ap (λ items. map place_of_unit items) c.remove-unit.ensures.items ∙ map_removed place_of_unit c.args.crew.now.aloft.items c.args.index) has)) in
     record {
       setup = s.setup;
       project = s.project;
-      stops = stops_answered c.args.crew.now.project at now new c.args.crew.now.started.items c.args.crew.now.aloft.items es given s.goes is_given c.args.index c.remove-unit.result at_index begun refl c.index-as_slice-unit.result there g.P.Place.tells alone c.args.crew.now.store.next c.in-Err.fault
+      stops = stops_answered c.args.crew.now.project at now new c.args.crew.now.started.items c.args.crew.now.aloft.items es given s.goes is_given c.args.index c.remove-unit.result at_index begun refl c.index-units-unit.result there g.P.Place.tells alone c.args.crew.now.store.next c.in-Err.fault
           c.in-Err.ensures.takes.0 c.in-Err.ensures.takes.1;
-      spent = spends_answered IsUntold es first.store.next c.args.crew.now.store.next c.index-as_slice-unit.result.key (child_of c.remove-unit.result.begun) c.in-Err.fault now.counts.starts new.counts.starts c.in-Err.ensures.takes.0 s.numbers;
+      spent = spends_answered IsUntold es first.store.next c.args.crew.now.store.next c.index-units-unit.result.key (child_of c.remove-unit.result.begun) c.in-Err.fault now.counts.starts new.counts.starts c.in-Err.ensures.takes.0 s.numbers;
       before = es;
-      came = came_answering c.args.crew.now.project c.args.crew.now.store.next c.index-as_slice-unit.result.key (child_of c.remove-unit.result.begun) c.in-Err.fault now.counts.starts new.counts.starts c.in-Err.ensures.takes.0 es;
+      came = came_answering c.args.crew.now.project c.args.crew.now.store.next c.index-units-unit.result.key (child_of c.remove-unit.result.begun) c.in-Err.fault now.counts.starts new.counts.starts c.in-Err.ensures.takes.0 es;
       names = subst (λ n. NamesUnit c.args.crew.now.project c.in-Err.fault (Some n) es es) (sym its)
-          (names_answering c.args.crew.now.project c.args.crew.now.store.next c.remove-unit.result.unit c.index-as_slice-unit.result (child_of c.remove-unit.result.begun) c.in-Err.fault now.counts.starts new.counts.starts there c.in-Err.ensures.takes.0 es);
+          (names_answering c.args.crew.now.project c.args.crew.now.store.next c.remove-unit.result.unit c.index-units-unit.result (child_of c.remove-unit.result.begun) c.in-Err.fault now.counts.starts new.counts.starts there c.in-Err.ensures.takes.0 es);
       most = c.answer_unit.ensures.most ∙ s.goes.most;
       changes = λ t. changes_less c.args.crew.now.project c.requires.manned.order at.world c.args.crew.now.aloft.items es now.world new.world now.counts.starts.flying new.counts.starts.flying (s.changes t) (λ j y at_j. flying_of c.args.crew.now now.counts j y c.requires.manned at_j)
-          c.args.index c.remove-unit.result at_index c.index-as_slice-unit.result there c.requires.manned.units_apart c.requires.manned.tickets_apart
+          c.args.index c.remove-unit.result at_index c.index-units-unit.result there c.requires.manned.units_apart c.requires.manned.tickets_apart
           (only t) c.answer_unit.ensures.stay c.remove-unit.new.self.items c.remove-unit.ensures.items;
       unrecorded = λ t. subst (λ n. KeepsNoneInFlight c.args.crew.now.project es (Some n) new.world) (sym its)
-          (flight_asked c.args.crew.now.project c.requires.manned.order es now.world new.world c.remove-unit.result.unit c.index-as_slice-unit.result there (only t) (s.unrecorded t));
-      happened = failed_happened g.P.Place.tells g.P.Place.child first c.args.crew.now at now new (g.P.Place.still c.args.place.now) (g.P.Place.still c.answer_unit.new.place) es given c.args.index c.remove-unit.result c.index-as_slice-unit.result there s at_index
+          (flight_asked c.args.crew.now.project c.requires.manned.order es now.world new.world c.remove-unit.result.unit c.index-units-unit.result there (only t) (s.unrecorded t));
+      happened = failed_happened g.P.Place.tells g.P.Place.child first c.args.crew.now at now new (g.P.Place.still c.args.place.now) (g.P.Place.still c.answer_unit.new.place) es given c.args.index c.remove-unit.result c.index-units-unit.result there s at_index
           c.requires.manned.units_apart c.requires.manned.tickets_apart c.requires.manned.numbers_apart c.answer_unit.new.store.next c.answer_unit.ensures.others c.requires.manned.order only c.answer_unit.ensures.same
           c.remove-unit.new.self.items c.remove-unit.ensures.items c.in-Err.ensures.keeps;
       caused = λ t f r sources reading k.
           let b = basis f r g.P.Place.child c.args.crew.now.setup c.args.crew.now.project sources in (
-            spends_answered (LacksNoNumber b at.world) es first.store.next c.args.crew.now.store.next c.index-as_slice-unit.result.key (child_of c.remove-unit.result.begun) c.in-Err.fault now.counts.starts new.counts.starts c.in-Err.ensures.takes.0 (s.taken t f r sources reading k),
+            spends_answered (LacksNoNumber b at.world) es first.store.next c.args.crew.now.store.next c.index-units-unit.result.key (child_of c.remove-unit.result.begun) c.in-Err.fault now.counts.starts new.counts.starts c.in-Err.ensures.takes.0 (s.taken t f r sources reading k),
             none_began b c.in-Err.fault es at.world new.world,
           );
     }
@@ -140,14 +140,14 @@ returns-in-Err-lines_of_unit-clause-story g c = λ first at taken faults es give
     let at_index = slice_get_read c.args.crew.now.aloft.items (length c.args.crew.now.aloft.items) c.args.index c.remove-unit.result refl
     (subst (λ n. c.args.index < n) (length-map c.args.crew.now.aloft.items place_of_unit) c.requires.within) c.remove-unit.ensures.value in
     let of_plan = all_get (IsOfPlan c.args.crew.now.project) c.args.crew.now.aloft.items c.args.index c.remove-unit.result c.requires.manned.units at_index in
-    let there = there_of c.args.crew.now.project.plan.planned c.as_slice.result.now c.remove-unit.result.unit c.index-as_slice-unit.result of_plan.unit of_plan.there c.as_slice.ensures c.index-as_slice-unit.is in
+    let there = there_of c.args.crew.now.project.plan.planned c.units.result.now c.remove-unit.result.unit c.index-units-unit.result of_plan.unit of_plan.there c.units.ensures c.index-units-unit.is in
     let now = moment (g.P.Place.world c.args.place.now) (g.P.Place.counts c.args.place.now) (g.P.Place.most c.args.place.now) taken faults in
     let new = moment (g.P.Place.world c.answer_unit.new.place) (g.P.Place.counts c.answer_unit.new.place) (g.P.Place.most c.answer_unit.new.place) taken faults in
     let its = injective (sym is_unit ∙ get_map place_of_unit c.args.crew.now.aloft.items c.args.index c.remove-unit.result at_index) in
     let begun = subst (λ n. slice_get (states_in c.args.crew.now.project es) n ≡ Some Begun) its flies in
-    let only : IsTrue g.P.Place.tells → ChangesOnly (is_of (records_folder c.args.crew.now.project) c.index-as_slice-unit.result.key) now.world new.world =
+    let only : IsTrue g.P.Place.tells → ChangesOnly (is_of (records_folder c.args.crew.now.project) c.index-units-unit.result.key) now.world new.world =
     λ t. c.answer_unit.ensures.only t (its_writes c.args.crew.now.project c.requires.manned.order at.world c.args.crew.now.aloft.items es now.world new.world now.counts.starts.flying new.counts.starts.flying (s.changes t) (λ j y at_j. flying_of c.args.crew.now now.counts j y c.requires.manned at_j)
-    c.args.index c.remove-unit.result at_index c.index-as_slice-unit.result there) in
+    c.args.index c.remove-unit.result at_index c.index-units-unit.result there) in
     record {
       setup = s.setup;
       project = s.project;
@@ -158,11 +158,11 @@ returns-in-Err-lines_of_unit-clause-story g c = λ first at taken faults es give
       names = tt;
       most = c.answer_unit.ensures.most ∙ s.goes.most;
       changes = λ t. changes_less c.args.crew.now.project c.requires.manned.order at.world c.args.crew.now.aloft.items es now.world new.world now.counts.starts.flying new.counts.starts.flying (s.changes t) (λ j y at_j. flying_of c.args.crew.now now.counts j y c.requires.manned at_j)
-          c.args.index c.remove-unit.result at_index c.index-as_slice-unit.result there c.requires.manned.units_apart c.requires.manned.tickets_apart
+          c.args.index c.remove-unit.result at_index c.index-units-unit.result there c.requires.manned.units_apart c.requires.manned.tickets_apart
           (only t) c.answer_unit.ensures.stay c.remove-unit.new.self.items c.remove-unit.ensures.items;
       unrecorded = λ t. subst (λ n. KeepsNoneInFlight c.args.crew.now.project es (Some n) new.world) (sym its)
-          (flight_asked c.args.crew.now.project c.requires.manned.order es now.world new.world c.remove-unit.result.unit c.index-as_slice-unit.result there (only t) (s.unrecorded t));
-      happened = untold_happened g.P.Place.tells g.P.Place.child first c.args.crew.now at now new (g.P.Place.still c.args.place.now) (g.P.Place.still c.answer_unit.new.place) es given c.args.index c.remove-unit.result c.index-as_slice-unit.result there s at_index
+          (flight_asked c.args.crew.now.project c.requires.manned.order es now.world new.world c.remove-unit.result.unit c.index-units-unit.result there (only t) (s.unrecorded t));
+      happened = untold_happened g.P.Place.tells g.P.Place.child first c.args.crew.now at now new (g.P.Place.still c.args.place.now) (g.P.Place.still c.answer_unit.new.place) es given c.args.index c.remove-unit.result c.index-units-unit.result there s at_index
           c.requires.manned.units_apart c.requires.manned.tickets_apart c.requires.manned.numbers_apart c.answer_unit.new.store.next c.answer_unit.ensures.others c.requires.manned.order only c.answer_unit.ensures.same
           c.in-Ok.ran c.in-Ok.ensures.outcome c.in-Ok.ensures.keeps c.in-Ok.ensures.directives c.remove-unit.new.self.items c.remove-unit.ensures.items;
       caused = λ t f r sources reading k. (tt, none_began (basis f r g.P.Place.child c.args.crew.now.setup c.args.crew.now.project sources) OutOfMemory es at.world new.world);
@@ -173,14 +173,14 @@ returns-clause-story g c = λ first at taken faults es given unit s flying lawfu
     let at_index = slice_get_read c.args.crew.now.aloft.items (length c.args.crew.now.aloft.items) c.args.index c.remove-unit.result refl
     (subst (λ n. c.args.index < n) (length-map c.args.crew.now.aloft.items place_of_unit) c.requires.within) c.remove-unit.ensures.value in
     let of_plan = all_get (IsOfPlan c.args.crew.now.project) c.args.crew.now.aloft.items c.args.index c.remove-unit.result c.requires.manned.units at_index in
-    let there = there_of c.args.crew.now.project.plan.planned c.as_slice.result.now c.remove-unit.result.unit c.index-as_slice-unit.result of_plan.unit of_plan.there c.as_slice.ensures c.index-as_slice-unit.is in
+    let there = there_of c.args.crew.now.project.plan.planned c.units.result.now c.remove-unit.result.unit c.index-units-unit.result of_plan.unit of_plan.there c.units.ensures c.index-units-unit.is in
     let now = moment (g.P.Place.world c.args.place.now) (g.P.Place.counts c.args.place.now) (g.P.Place.most c.args.place.now) taken faults in
     let new = moment (g.P.Place.world c.answer_unit.new.place) (g.P.Place.counts c.answer_unit.new.place) (g.P.Place.most c.answer_unit.new.place) taken faults in
     let its = injective (sym is_unit ∙ get_map place_of_unit c.args.crew.now.aloft.items c.args.index c.remove-unit.result at_index) in
     let begun = subst (λ n. slice_get (states_in c.args.crew.now.project es) n ≡ Some Begun) its flies in
-    let only : IsTrue g.P.Place.tells → ChangesOnly (is_of (records_folder c.args.crew.now.project) c.index-as_slice-unit.result.key) now.world new.world =
+    let only : IsTrue g.P.Place.tells → ChangesOnly (is_of (records_folder c.args.crew.now.project) c.index-units-unit.result.key) now.world new.world =
     λ t. c.answer_unit.ensures.only t (its_writes c.args.crew.now.project c.requires.manned.order at.world c.args.crew.now.aloft.items es now.world new.world now.counts.starts.flying new.counts.starts.flying (s.changes t) (λ j y at_j. flying_of c.args.crew.now now.counts j y c.requires.manned at_j)
-    c.args.index c.remove-unit.result at_index c.index-as_slice-unit.result there) in
+    c.args.index c.remove-unit.result at_index c.index-units-unit.result there) in
     let crew : UnitCrew = record { setup = c.args.crew.now.setup; project = c.args.crew.now.project; store = c.answer_unit.new.store; done = c.note_answer.new.done; aloft = c.remove-unit.new.self; started = c.args.crew.now.started; reasons = c.args.crew.now.reasons } in
     let answer : Answer BadUnit = record { fault = c.in-Ok.ran.bad; lines = c.in-Ok-lines_of_unit.lines } in
     let childless : is_started es c.remove-unit.result.unit ≡ true → c.answer_unit.new.store.next ≡ c.args.crew.now.store.next =
@@ -196,17 +196,17 @@ returns-clause-story g c = λ first at taken faults es given unit s flying lawfu
       numbers = numbers_answered IsUntold es first.store.next c.args.crew.now.store.next c.answer_unit.new.store.next c.remove-unit.result.unit answer c.answer_unit.ensures.next childless (λ untold. absurd untold) s.numbers;
       taken = answered_taken g.P.Place.tells g.P.Place.child first c.args.crew.now at now (g.P.Place.still c.args.place.now) es given s c.args.index c.remove-unit.result at_index answer c.answer_unit.new.store.next c.answer_unit.ensures.next childless c.answer_unit.ensures.untaken;
       changes = λ t. changes_after c.args.crew.now.project c.requires.manned.order at.world c.args.crew.now.aloft.items es now.world new.world now.counts.starts.flying new.counts.starts.flying (s.changes t) (λ j y at_j. flying_of c.args.crew.now now.counts j y c.requires.manned at_j)
-          c.args.index c.remove-unit.result at_index c.index-as_slice-unit.result there c.requires.manned.units_apart c.requires.manned.tickets_apart
+          c.args.index c.remove-unit.result at_index c.index-units-unit.result there c.requires.manned.units_apart c.requires.manned.tickets_apart
           (only t) c.answer_unit.ensures.stay c.remove-unit.new.self.items c.remove-unit.ensures.items answer
-          (λ bad none read. launched_gone read (records_folder c.args.crew.now.project) c.index-as_slice-unit.result.key c.index-as_slice-unit.result.out now.world new.world
-          (c.requires.manned.order.keys c.remove-unit.result.unit c.index-as_slice-unit.result there) (c.requires.manned.order.folders c.remove-unit.result.unit c.index-as_slice-unit.result there)
+          (λ bad none read. launched_gone read (records_folder c.args.crew.now.project) c.index-units-unit.result.key c.index-units-unit.result.out now.world new.world
+          (c.requires.manned.order.keys c.remove-unit.result.unit c.index-units-unit.result there) (c.requires.manned.order.folders c.remove-unit.result.unit c.index-units-unit.result there)
           (c.in-Ok.ensures.unkept t (its_writes c.args.crew.now.project c.requires.manned.order at.world c.args.crew.now.aloft.items es now.world new.world now.counts.starts.flying new.counts.starts.flying (s.changes t) (λ j y at_j. flying_of c.args.crew.now now.counts j y c.requires.manned at_j)
-          c.args.index c.remove-unit.result at_index c.index-as_slice-unit.result there) bad) (none read));
-      unrecorded = λ t. flight_given c.args.crew.now.project c.requires.manned.order es now.world new.world c.remove-unit.result.unit c.index-as_slice-unit.result there (only t) (s.unrecorded t) answer begun;
-      happened = answered_happened g.P.Place.tells g.P.Place.child first c.args.crew.now at now new (g.P.Place.still c.args.place.now) (g.P.Place.still c.answer_unit.new.place) es given c.args.index c.remove-unit.result c.index-as_slice-unit.result there s at_index
+          c.args.index c.remove-unit.result at_index c.index-units-unit.result there) bad) (none read));
+      unrecorded = λ t. flight_given c.args.crew.now.project c.requires.manned.order es now.world new.world c.remove-unit.result.unit c.index-units-unit.result there (only t) (s.unrecorded t) answer begun;
+      happened = answered_happened g.P.Place.tells g.P.Place.child first c.args.crew.now at now new (g.P.Place.still c.args.place.now) (g.P.Place.still c.answer_unit.new.place) es given c.args.index c.remove-unit.result c.index-units-unit.result there s at_index
           c.requires.manned.units_apart c.requires.manned.tickets_apart c.requires.manned.numbers_apart c.answer_unit.new.store.next c.answer_unit.ensures.others c.requires.manned.order only c.answer_unit.ensures.same
           c.in-Ok.ran c.in-Ok.ensures.outcome c.in-Ok.ensures.keeps c.in-Ok.ensures.directives c.in-Ok-lines_of_unit.lines c.remove-unit.new.self.items c.note_answer.new.done.items c.remove-unit.ensures.items c.note_answer.ensures.done
-          c.in-Ok.ensures.started (c.in-Ok-lines_of_unit.ensures ∙ ap (λ ms. unit_lines c.args.crew.now.project c.index-as_slice-unit.result c.in-Ok.ran.started ms) c.as_slice-2.ensures);
-      quiet = answered_quiet g.P.Place.tells g.P.Place.child first c.args.crew.now at now new (g.P.Place.still c.args.place.now) es given s c.args.index c.remove-unit.result c.index-as_slice-unit.result there at_index answer c.answer_unit.ensures.same;
+          c.in-Ok.ensures.started (c.in-Ok-lines_of_unit.ensures ∙ ap (λ p. unit_lines p c.index-units-unit.result c.in-Ok.ran.started c.as_slice.result.now) c.get.ensures ∙ ap (λ ms. unit_lines c.args.crew.now.project c.index-units-unit.result c.in-Ok.ran.started ms) c.as_slice.ensures);
+      quiet = answered_quiet g.P.Place.tells g.P.Place.child first c.args.crew.now at now new (g.P.Place.still c.args.place.now) es given s c.args.index c.remove-unit.result c.index-units-unit.result there at_index answer c.answer_unit.ensures.same;
       unnoted = notes_answered c.args.crew.now.project es first.reasons.items c.args.crew.now.reasons.items c.remove-unit.result.unit answer begun s.unnoted;
     })

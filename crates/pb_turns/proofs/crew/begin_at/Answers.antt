@@ -21,7 +21,7 @@ use Rattle.pb_turns.proofs.Unkept.{flight_begun, flight_unbegun}
 use Rattle.pb_turns.proofs.crew.begin_at.Goals as goal
 
 pub begin_unit-requires-clause-unit : goal.begin_unit-requires-clause-unit
-begin_unit-requires-clause-unit g c = there_at c.args.crew.now.project.plan.planned c.as_slice.result.now c.args.unit c.index-as_slice-unit.result c.requires.unit c.as_slice.ensures c.index-as_slice-unit.is
+begin_unit-requires-clause-unit g c = there_at c.args.crew.now.project.plan.planned c.units.result.now c.args.unit c.index-units-unit.result c.requires.unit c.units.ensures c.index-units-unit.is
 
 pub note_begun-requires-clause-within : goal.note_begun-requires-clause-within
 note_begun-requires-clause-within g c = within_reasons c.args.crew.now c.args.unit c.requires.manned.reasoned c.requires.unit
@@ -33,9 +33,9 @@ returns-in-Err-begin_unit-clause-manned g c =
 
 pub returns-clause-manned : goal.returns-clause-manned
 returns-clause-manned g c =
-    let there = there_at c.args.crew.now.project.plan.planned c.as_slice.result.now c.args.unit c.index-as_slice-unit.result c.requires.unit c.as_slice.ensures c.index-as_slice-unit.is in
+    let there = there_at c.args.crew.now.project.plan.planned c.units.result.now c.args.unit c.index-units-unit.result c.requires.unit c.units.ensures c.index-units-unit.is in
     manned_begun c.args.crew.now _ (g.P.Place.counts c.args.place.now) (g.P.Place.counts c.begin_unit.new.place) record { unit = c.args.unit; begun = c.in-Ok-begin_unit.made.begun } c.requires.manned c.requires.grounded
-    record { unit = c.index-as_slice-unit.result; there = there; key = c.in-Ok-begin_unit.ensures.unit; asks = (c.args.crew.now.setup, c.as_slice-2.result.now, c.in-Ok-begin_unit.ensures.asks) }
+    record { unit = c.index-units-unit.result; there = there; key = c.in-Ok-begin_unit.ensures.unit; asks = (c.args.crew.now.setup, c.as_slice.result.now, c.in-Ok-begin_unit.ensures.asks) }
     refl c.begin_unit.ensures.folder refl (ap length c.note_begun.ensures.reasons ∙ length_set c.args.crew.now.reasons.items c.args.unit (Some c.in-Ok-begin_unit.made.difference)) (c.note_begun.ensures.aloft ∙ ap (λ items. items ++ record { unit = c.args.unit; begun = c.in-Ok-begin_unit.made.begun } ∷ []) c.make_room.ensures.aloft)
     c.begin_unit.ensures.next c.in-Ok-begin_unit.ensures.takes.1 (by_number c.args.crew.now.store.next c.begin_unit.new.store.next (child_of c.in-Ok-begin_unit.made.begun) c.in-Ok-begin_unit.ensures.number)
 
@@ -63,17 +63,17 @@ returns-in-Err-clause-story g c = λ first at taken faults es given s flying law
 
 pub returns-in-Err-begin_unit-clause-story : goal.returns-in-Err-begin_unit-clause-story
 returns-in-Err-begin_unit-clause-story g c = λ first at taken faults es given s flying lawful is_given may.
-    let there = there_at c.args.crew.now.project.plan.planned c.as_slice.result.now c.args.unit c.index-as_slice-unit.result c.requires.unit c.as_slice.ensures c.index-as_slice-unit.is in
-    let alone : IsTrue g.P.Place.tells → NoneWritesTo c.index-as_slice-unit.result.out (g.P.Place.counts c.begin_unit.new.place).starts.flying =
+    let there = there_at c.args.crew.now.project.plan.planned c.units.result.now c.args.unit c.index-units-unit.result c.requires.unit c.units.ensures c.index-units-unit.is in
+    let alone : IsTrue g.P.Place.tells → NoneWritesTo c.index-units-unit.result.out (g.P.Place.counts c.begin_unit.new.place).starts.flying =
     λ t. none_writes c.args.crew.now.project c.requires.manned.order at.world (g.P.Place.world c.begin_unit.new.place) c.args.crew.now.aloft.items (Began c.args.unit false ∷ es) (g.P.Place.counts c.begin_unit.new.place).starts.flying
     c.requires.manned.units (ap (map ticket_of_child) (begin_fault_flies _ _ c.in-Err-begin_unit.fault _ _ c.in-Err-begin_unit.ensures.takes.0) ∙ c.requires.manned.tickets)
     (changes_begun c.args.crew.now.project c.requires.manned.order at.world c.args.crew.now.aloft.items es (g.P.Place.world c.args.place.now) (g.P.Place.world c.begin_unit.new.place) (g.P.Place.counts c.args.place.now).starts.flying (g.P.Place.counts c.begin_unit.new.place).starts.flying
     (s.changes t) (λ index a at. flying_of c.args.crew.now (g.P.Place.counts c.args.place.now) index a c.requires.manned at)
-    c.args.unit c.index-as_slice-unit.result there may.untouched (c.begin_unit.ensures.only t) c.begin_unit.ensures.stay false c.args.crew.now.aloft.items refl)
-    c.args.unit c.index-as_slice-unit.result there c.requires.grounded in
+    c.args.unit c.index-units-unit.result there may.untouched (c.begin_unit.ensures.only t) c.begin_unit.ensures.stay false c.args.crew.now.aloft.items refl)
+    c.args.unit c.index-units-unit.result there c.requires.grounded in
     let (spawned, stops, spends, came, names) = stops_begun c.args.crew.now.project at (moment (g.P.Place.world c.args.place.now) (g.P.Place.counts c.args.place.now) (g.P.Place.most c.args.place.now) taken faults)
     (moment (g.P.Place.world c.begin_unit.new.place) (g.P.Place.counts c.begin_unit.new.place) (g.P.Place.most c.begin_unit.new.place) taken faults)
-    c.args.crew.now.started.items c.args.crew.now.aloft.items es given c.args.unit s.goes is_given may.untouched refl c.index-as_slice-unit.result there g.P.Place.tells alone c.args.crew.now.store.next c.in-Err-begin_unit.fault
+    c.args.crew.now.started.items c.args.crew.now.aloft.items es given c.args.unit s.goes is_given may.untouched refl c.index-units-unit.result there g.P.Place.tells alone c.args.crew.now.store.next c.in-Err-begin_unit.fault
     c.in-Err-begin_unit.ensures.takes.0 c.in-Err-begin_unit.ensures.takes.1 in (
       spawned,
       record {
@@ -87,22 +87,22 @@ returns-in-Err-begin_unit-clause-story g c = λ first at taken faults es given s
         most = c.in-Err-begin_unit.ensures.most ∙ s.goes.most;
         changes = λ t. changes_begun c.args.crew.now.project c.requires.manned.order at.world c.args.crew.now.aloft.items es (g.P.Place.world c.args.place.now) (g.P.Place.world c.begin_unit.new.place) (g.P.Place.counts c.args.place.now).starts.flying (g.P.Place.counts c.begin_unit.new.place).starts.flying
             (s.changes t) (λ index a at. flying_of c.args.crew.now (g.P.Place.counts c.args.place.now) index a c.requires.manned at)
-            c.args.unit c.index-as_slice-unit.result there may.untouched (c.begin_unit.ensures.only t) c.begin_unit.ensures.stay spawned c.make_room.new.aloft.items c.make_room.ensures.aloft;
-        unrecorded = λ t. flight_unbegun c.args.crew.now.project c.requires.manned.order es (g.P.Place.world c.args.place.now) (g.P.Place.world c.begin_unit.new.place) c.args.unit c.index-as_slice-unit.result there (c.begin_unit.ensures.only t) (s.unrecorded t) may.untouched;
+            c.args.unit c.index-units-unit.result there may.untouched (c.begin_unit.ensures.only t) c.begin_unit.ensures.stay spawned c.make_room.new.aloft.items c.make_room.ensures.aloft;
+        unrecorded = λ t. flight_unbegun c.args.crew.now.project c.requires.manned.order es (g.P.Place.world c.args.place.now) (g.P.Place.world c.begin_unit.new.place) c.args.unit c.index-units-unit.result there (c.begin_unit.ensures.only t) (s.unrecorded t) may.untouched;
         happened = failed_happened g.P.Place.tells g.P.Place.child first c.args.crew.now at (moment (g.P.Place.world c.args.place.now) (g.P.Place.counts c.args.place.now) (g.P.Place.most c.args.place.now) taken faults)
             (moment (g.P.Place.world c.begin_unit.new.place) (g.P.Place.counts c.begin_unit.new.place) (g.P.Place.most c.begin_unit.new.place) taken faults) (g.P.Place.still c.args.place.now) (g.P.Place.still c.begin_unit.new.place)
-            es given c.args.unit c.index-as_slice-unit.result c.requires.manned.order there s may c.begin_unit.new.store.next c.as_slice-2.result.now c.as_slice-2.ensures.value
+            es given c.args.unit c.index-units-unit.result c.requires.manned.order there s may c.begin_unit.new.store.next c.as_slice.result.now c.as_slice.ensures.value
             c.begin_unit.ensures.keeps c.begin_unit.ensures.others c.begin_unit.ensures.only spawned c.make_room.new.aloft.items c.make_room.ensures.aloft;
         caused = failed_caused g.P.Place.tells g.P.Place.child first c.args.crew.now at (moment (g.P.Place.world c.args.place.now) (g.P.Place.counts c.args.place.now) (g.P.Place.most c.args.place.now) taken faults)
             (moment (g.P.Place.world c.begin_unit.new.place) (g.P.Place.counts c.begin_unit.new.place) (g.P.Place.most c.begin_unit.new.place) taken faults) (g.P.Place.still c.args.place.now) (g.P.Place.still c.begin_unit.new.place)
-            es given c.args.unit c.index-as_slice-unit.result c.requires.manned.order there s may c.begin_unit.new.store.next c.as_slice-2.result.now c.as_slice-2.ensures.value
+            es given c.args.unit c.index-units-unit.result c.requires.manned.order there s may c.begin_unit.new.store.next c.as_slice.result.now c.as_slice.ensures.value
             c.begin_unit.ensures.keeps c.begin_unit.ensures.others c.begin_unit.ensures.only spawned c.in-Err-begin_unit.fault spends (within_reasons c.args.crew.now c.args.unit c.requires.manned.reasoned c.requires.unit) c.in-Err-begin_unit.ensures.cause;
       },
     )
 
 pub returns-clause-story : goal.returns-clause-story
 returns-clause-story g c = λ first at taken faults es given s flying lawful is_given may.
-    let there = there_at c.args.crew.now.project.plan.planned c.as_slice.result.now c.args.unit c.index-as_slice-unit.result c.requires.unit c.as_slice.ensures c.index-as_slice-unit.is in
+    let there = there_at c.args.crew.now.project.plan.planned c.units.result.now c.args.unit c.index-units-unit.result c.requires.unit c.units.ensures c.index-units-unit.is in
     let now = moment (g.P.Place.world c.args.place.now) (g.P.Place.counts c.args.place.now) (g.P.Place.most c.args.place.now) taken faults in
     let new = moment (g.P.Place.world c.begin_unit.new.place) (g.P.Place.counts c.begin_unit.new.place) (g.P.Place.most c.begin_unit.new.place) taken faults in
     let more = c.note_begun.ensures.aloft ∙ ap (λ items. items ++ record { unit = c.args.unit; begun = c.in-Ok-begin_unit.made.begun } ∷ []) c.make_room.ensures.aloft in
@@ -118,12 +118,12 @@ returns-clause-story g c = λ first at taken faults es given s flying lawful is_
       numbers = numbers_begun IsUntold es first.store.next c.args.crew.now.store.next c.begin_unit.new.store.next c.args.unit (child_of c.in-Ok-begin_unit.made.begun) c.in-Ok-begin_unit.ensures.number s.numbers;
       taken = begun_taken g.P.Place.tells g.P.Place.child first c.args.crew.now at now (g.P.Place.still c.args.place.now) es given c.args.unit s c.begin_unit.new.store.next (child_of c.in-Ok-begin_unit.made.begun) c.in-Ok-begin_unit.ensures.number;
       changes = λ t. changes_more c.args.crew.now.project c.requires.manned.order at.world c.args.crew.now.aloft.items es now.world new.world now.counts.starts.flying new.counts.starts.flying (s.changes t) (λ index a at. flying_of c.args.crew.now (g.P.Place.counts c.args.place.now) index a c.requires.manned at)
-          c.args.unit c.index-as_slice-unit.result there may.untouched (c.begin_unit.ensures.only t) c.begin_unit.ensures.stay (is_some (child_of c.in-Ok-begin_unit.made.begun))
+          c.args.unit c.index-units-unit.result there may.untouched (c.begin_unit.ensures.only t) c.begin_unit.ensures.stay (is_some (child_of c.in-Ok-begin_unit.made.begun))
           record { unit = c.args.unit; begun = c.in-Ok-begin_unit.made.begun } c.note_begun.new.aloft.items refl more (c.in-Ok-begin_unit.ensures.writes t) refl (λ launched read. c.in-Ok-begin_unit.ensures.dropped read t launched);
-      unrecorded = λ t. flight_begun c.args.crew.now.project c.requires.manned.order es now.world new.world c.args.unit c.index-as_slice-unit.result there (c.begin_unit.ensures.only t) (s.unrecorded t) (is_some (child_of c.in-Ok-begin_unit.made.begun)) may.untouched
+      unrecorded = λ t. flight_begun c.args.crew.now.project c.requires.manned.order es now.world new.world c.args.unit c.index-units-unit.result there (c.begin_unit.ensures.only t) (s.unrecorded t) (is_some (child_of c.in-Ok-begin_unit.made.begun)) may.untouched
           (λ launched read. c.in-Ok-begin_unit.ensures.dropped read t launched);
       happened = begun_happened g.P.Place.tells g.P.Place.child first c.args.crew.now at now new (g.P.Place.still c.args.place.now) (g.P.Place.still c.begin_unit.new.place)
-          es given c.args.unit c.index-as_slice-unit.result c.requires.manned.order there s may c.begin_unit.new.store.next c.as_slice-2.result.now c.as_slice-2.ensures.value
+          es given c.args.unit c.index-units-unit.result c.requires.manned.order there s may c.begin_unit.new.store.next c.as_slice.result.now c.as_slice.ensures.value
           c.begin_unit.ensures.keeps c.begin_unit.ensures.others c.begin_unit.ensures.only c.in-Ok-begin_unit.made.begun c.note_begun.new.aloft.items c.in-Ok-begin_unit.made.difference c.note_begun.new.reasons.items more c.in-Ok-begin_unit.ensures.begun c.in-Ok-begin_unit.ensures.differs
           c.in-Ok-begin_unit.ensures.spawned (within_reasons c.args.crew.now c.args.unit c.requires.manned.reasoned c.requires.unit) c.in-Ok-begin_unit.ensures.same c.note_begun.ensures.reasons;
       quiet = begun_quiet g.P.Place.tells g.P.Place.child first c.args.crew.now at now new (g.P.Place.still c.args.place.now) es given c.args.unit s c.in-Ok-begin_unit.made.begun c.in-Ok-begin_unit.ensures.same;

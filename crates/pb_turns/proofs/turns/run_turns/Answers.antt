@@ -7,7 +7,7 @@ use Rattle.pb_unit.specs.declared.plan.Planned.{Planned}
 use Rattle.pb_turns.proofs.turns.run_turns.Goals as goal
 
 pub drive-driven-requires-clause-order : goal.drive-driven-requires-clause-order
-drive-driven-requires-clause-order g c = in_plan_order c.args.project c.requires.order
+drive-driven-requires-clause-order g c = in_plan_order c.args.project c.is_in_order.ensures
 
 pub returns-in-Err : goal.returns-in-Err
 returns-in-Err g c = ends_before g.P.Place.tells g.P.Place.child g.T.Turn.turns c.args.setup c.args.project c.args.store.next c.args.turn.now
@@ -33,13 +33,13 @@ returns-in-Ok-sum_up g c =
     let at : Moment = moment (g.P.Place.world c.args.place.now) (g.P.Place.counts c.args.place.now) (g.P.Place.most c.args.place.now) (g.O.Out.taken c.args.out.now) (g.O.Out.faults c.args.out.now) in
     let mid : Moment = moment (g.P.Place.world c.drive-driven.new.place) (g.P.Place.counts c.drive-driven.new.place) (g.P.Place.most c.drive-driven.new.place) (g.O.Out.taken c.drive-driven.new.out) (g.O.Out.faults c.drive-driven.new.out) in
     let new : Moment = moment (g.P.Place.world c.drain.new.place) (g.P.Place.counts c.drain.new.place) (g.P.Place.most c.drain.new.place) (g.O.Out.taken c.drive-driven.new.out) (g.O.Out.faults c.drive-driven.new.out) in
-    let said : first.done.items ≡ nothing_said first.project = c.in-Ok-nothing_noted.ensures ∙ ap (map (λ (u : Planned). None)) c.as_slice.ensures in
+    let said : first.done.items ≡ nothing_said first.project = c.in-Ok-nothing_noted.ensures ∙ ap (map (λ (u : Planned). None)) c.units.ensures in
     let begins = story_first g.P.Place.tells g.P.Place.child first at (g.P.Place.still c.args.place.now) c.new.ensures.items c.new-2.ensures.items in
     let (es, flown, story) = c.in-Ok-driven.ensures.goes first c.args.place.now c.args.out.now begins in
     ends_whole g.P.Place.tells g.P.Place.child g.T.Turn.turns first c.drive-driven.new.crew c.drain.new.crew c.args.turn.now c.drive-driven.new.turn at mid new (g.P.Place.still c.drive-driven.new.place) (g.P.Place.still c.drain.new.place) es said
     c.drain.ensures.drained c.drain.ensures.landed refl c.drain.ensures.same c.drain.ensures.changes c.drain.ensures.unrecorded c.drain.ensures.happened c.drain.ensures.began c.drain.ensures.started
     c.drive-driven.new.flight _ flown story c.in-Ok-driven.ensures.finished c.drain.ensures.most c.in-Ok-sum_up.summary c.in-Ok-sum_up.ensures
-    (c.in-Ok-nothing_noted-2.ensures ∙ ap (map (λ (u : Planned). None)) c.as_slice-2.ensures)
+    (c.in-Ok-nothing_noted-2.ensures ∙ ap (map (λ (u : Planned). None)) c.units-2.ensures)
 
 pub returns-in-Ok-driven : goal.returns-in-Ok-driven
 returns-in-Ok-driven g c =
@@ -47,7 +47,7 @@ returns-in-Ok-driven g c =
     let at : Moment = moment (g.P.Place.world c.args.place.now) (g.P.Place.counts c.args.place.now) (g.P.Place.most c.args.place.now) (g.O.Out.taken c.args.out.now) (g.O.Out.faults c.args.out.now) in
     let mid : Moment = moment (g.P.Place.world c.drive-driven.new.place) (g.P.Place.counts c.drive-driven.new.place) (g.P.Place.most c.drive-driven.new.place) (g.O.Out.taken c.drive-driven.new.out) (g.O.Out.faults c.drive-driven.new.out) in
     let new : Moment = moment (g.P.Place.world c.drain.new.place) (g.P.Place.counts c.drain.new.place) (g.P.Place.most c.drain.new.place) (g.O.Out.taken c.drive-driven.new.out) (g.O.Out.faults c.drive-driven.new.out) in
-    let said : first.done.items ≡ nothing_said first.project = c.in-Ok-nothing_noted.ensures ∙ ap (map (λ (u : Planned). None)) c.as_slice.ensures in
+    let said : first.done.items ≡ nothing_said first.project = c.in-Ok-nothing_noted.ensures ∙ ap (map (λ (u : Planned). None)) c.units.ensures in
     let begins = story_first g.P.Place.tells g.P.Place.child first at (g.P.Place.still c.args.place.now) c.new.ensures.items c.new-2.ensures.items in
     let (es, flown, story) = c.in-Ok-driven.ensures.goes first c.args.place.now c.args.out.now begins in
     ends_cut g.P.Place.tells g.P.Place.child g.T.Turn.turns first c.drive-driven.new.crew c.drain.new.crew c.args.turn.now c.drive-driven.new.turn at mid new (g.P.Place.still c.drive-driven.new.place) (g.P.Place.still c.drain.new.place) es said
@@ -61,7 +61,7 @@ returns g c =
     let at : Moment = moment (g.P.Place.world c.args.place.now) (g.P.Place.counts c.args.place.now) (g.P.Place.most c.args.place.now) (g.O.Out.taken c.args.out.now) (g.O.Out.faults c.args.out.now) in
     let mid : Moment = moment (g.P.Place.world c.drive-driven.new.place) (g.P.Place.counts c.drive-driven.new.place) (g.P.Place.most c.drive-driven.new.place) (g.O.Out.taken c.drive-driven.new.out) (g.O.Out.faults c.drive-driven.new.out) in
     let new : Moment = moment (g.P.Place.world c.drain.new.place) (g.P.Place.counts c.drain.new.place) (g.P.Place.most c.drain.new.place) (g.O.Out.taken c.drive-driven.new.out) (g.O.Out.faults c.drive-driven.new.out) in
-    let said : first.done.items ≡ nothing_said first.project = c.in-Ok-nothing_noted.ensures ∙ ap (map (λ (u : Planned). None)) c.as_slice.ensures in
+    let said : first.done.items ≡ nothing_said first.project = c.in-Ok-nothing_noted.ensures ∙ ap (map (λ (u : Planned). None)) c.units.ensures in
     let begins = story_first g.P.Place.tells g.P.Place.child first at (g.P.Place.still c.args.place.now) c.new.ensures.items c.new-2.ensures.items in
     let (last, es, asked, flies, hands, ends) = c.in-Err-driven.ensures.goes first c.args.place.now c.args.out.now begins in
     ends_cut g.P.Place.tells g.P.Place.child g.T.Turn.turns first c.drive-driven.new.crew c.drain.new.crew c.args.turn.now last at mid new (g.P.Place.still c.drive-driven.new.place) (g.P.Place.still c.drain.new.place) es said

@@ -1,5 +1,6 @@
-use Rattle.std.proofs.Common.{◌≡◌, inl, inr, List, ◌<◌, All, map, length, sym, subst, true}
+use Rattle.std.proofs.Common.{◌≡◌, ◌∙◌, ap, inl, inr, List, ◌<◌, All, map, length, sym, subst, true, Ok, Err}
 use Rattle.std.specs.List.{AllZip}
+use Rattle.pb_package.specs.declared.workspace.Workspace.{Workspace}
 use Rattle.pb_order.specs.declared.graph.Step.{Step}
 use Rattle.pb_profile.specs.Line.{seen}
 use Rattle.pb_place.specs.Paths.{is_relative}
@@ -7,7 +8,7 @@ use Rattle.pb_unit.specs.declared.unit.Unit.{Unit}
 use Rattle.pb_unit.specs.declared.plan.Planned.{Planned}
 use Rattle.pb_unit.specs.declared.fault.PlanFault.{PlanFault}
 use Rattle.pb_unit.specs.Drawing.{IsMade}
-use Rattle.pb_unit.specs.Plan.{Refuses, by_profile, by_units}
+use Rattle.pb_unit.specs.Plan.{AreWithoutLibrary, Refuses, by_profile, by_units, profile_folder, profile_line}
 use Rattle.pb_unit.proofs.Drafting.{owners_there}
 use Rattle.pb_unit.proofs.Planning.{steps_within, steps_relative, plan_is, apart_is}
 use Rattle.pb_unit.proofs.plan.Plan.plan.Goals as goal
@@ -15,40 +16,46 @@ use Rattle.pb_unit.proofs.plan.Plan.plan.Goals as goal
 pub returns-in-Err-clause-refused : goal.returns-in-Err-clause-refused
 returns-in-Err-clause-refused c = elim c.in-Err.ensures.refused [
   | inl memory ↦ inl memory
-  | inr told ↦ inr (subst (λ (e : PlanFault). Refuses c.args.workspace.now c.args.features.now c.args.selection.now c.args.profile.now e) (sym told.1) (by_profile told.0 told.2))
+  | inr told ↦ inr (subst (λ (e : PlanFault). Refuses c.args.selected.now.workspace c.args.features.now c.args.selected.now.selection c.args.profile.now e) (sym told.1) (by_profile told.0 (subst (λ (ws : Workspace). profile_line ws c.args.profile.now ≡ Err told.0) c.workspace_of-workspace.ensures.value told.2)))
 ]
 
 pub returns-in-Err-ordered-clause-refused : goal.returns-in-Err-ordered-clause-refused
 returns-in-Err-ordered-clause-refused c = elim c.in-Err-ordered.ensures.stopped [
   | inl memory ↦ inl memory
-  | inr stops ↦ inr (by_units c.in-Err-ordered.fault (record { line = map seen c.in-Ok.frame.line.items; is = c.in-Ok.ensures.line }) stops)
+  | inr stops ↦ inr (by_units c.in-Err-ordered.fault (record { line = map seen c.in-Ok.frame.line.items; is = subst (λ (ws : Workspace). profile_line ws c.args.profile.now ≡ Ok (map seen c.in-Ok.frame.line.items)) c.workspace_of-workspace.ensures.value c.in-Ok.ensures.line }) stops)
 ]
 
 pub all_made-requires-clause-nodes : goal.all_made-requires-clause-nodes
 all_made-requires-clause-nodes c =
-    subst (λ (l : List Step). All (λ (s : Step). s.node < length c.as_slice-units.result.now) l) (sym c.into_vec.ensures) (steps_within c.args.workspace.now c.args.features.now c.args.selection.now c.requires.settled c.requires.selected _ _ _ c.in_ok-drawing.ensures _ c.in-Ok-ordered.ensures.order _ c.as_slice-units.ensures)
+    subst (λ (l : List Step). All (λ (s : Step). s.node < length c.as_slice-units.result.now) l) (sym c.into_vec.ensures) (steps_within c.args.selected.now.workspace c.args.features.now c.args.selected.now.selection c.workspace_of-workspace.ensures.settled c.workspace_of-workspace.ensures.within _ _ _ c.in_ok-drawing.ensures _ c.in-Ok-ordered.ensures.order _ c.as_slice-units.ensures)
 
 pub all_made-requires-clause-owners : goal.all_made-requires-clause-owners
-all_made-requires-clause-owners c = owners_there c.args.workspace.now c.args.features.now c.args.selection.now _ c.requires.settled c.requires.selected c.in_ok-drawing.ensures.candidates _ c.as_slice-units.ensures
+all_made-requires-clause-owners c =
+    subst (λ (ws : Workspace). All (λ (u : Unit). u.owner < length ws.packages) c.as_slice-units.result.now) (sym c.workspace_of-workspace.ensures.value)
+    (owners_there c.args.selected.now.workspace c.args.features.now c.args.selected.now.selection _ c.workspace_of-workspace.ensures.settled c.workspace_of-workspace.ensures.within c.in_ok-drawing.ensures.candidates _ c.as_slice-units.ensures)
 
 pub all_made-requires-clause-names : goal.all_made-requires-clause-names
 all_made-requires-clause-names c =
-    subst (λ (l : List Step). All (λ (s : Step). is_relative s.key ≡ true) l) (sym c.into_vec.ensures) (steps_relative c.args.workspace.now c.args.features.now c.args.selection.now c.requires.settled c.requires.selected _ _ _ c.in_ok-drawing.ensures _ c.in-Ok-ordered.ensures.order)
+    subst (λ (l : List Step). All (λ (s : Step). is_relative s.key ≡ true) l) (sym c.into_vec.ensures) (steps_relative c.args.selected.now.workspace c.args.features.now c.args.selected.now.selection c.workspace_of-workspace.ensures.settled c.workspace_of-workspace.ensures.within _ _ _ c.in_ok-drawing.ensures _ c.in-Ok-ordered.ensures.order)
 
 pub returns-clause-plan : goal.returns-clause-plan
 returns-clause-plan c =
     let line = map seen c.in-Ok.frame.line.items in
-    let made : AllZip (IsMade c.args.workspace.now line c.in-Ok.frame.folder c.in_ok-drawing.drawing.units) c.in-Ok-ordered.steps c.from_vec.result =
-    subst (λ (l : List Planned). AllZip (IsMade c.args.workspace.now line c.in-Ok.frame.folder c.in_ok-drawing.drawing.units) c.in-Ok-ordered.steps l) (sym c.from_vec.ensures)
-    (subst (λ (s : List Step). AllZip (IsMade c.args.workspace.now line c.in-Ok.frame.folder c.in_ok-drawing.drawing.units) s c.in_ok-planned.planned.items) c.into_vec.ensures
-    (subst (λ (u : List Unit). AllZip (IsMade c.args.workspace.now line c.in-Ok.frame.folder u) c.into_vec.result.items c.in_ok-planned.planned.items) c.as_slice-units.ensures c.in_ok-planned.ensures)) in
-    plan_is c.args.workspace.now c.args.features.now c.args.selection.now c.requires.settled c.requires.selected _ _ _ c.in_ok-drawing.ensures c.in-Ok-ordered.steps c.in-Ok-ordered.ensures.order line c.in-Ok.frame.folder c.from_vec.result made c.args.profile.now _ c.in-Ok.ensures.line c.in-Ok.ensures.folder c.in-Ok-ordered.ensures.some c.in-Ok-ordered.ensures.few c.in_ok-without_library.ensures
+    let made : AllZip (IsMade c.args.selected.now.workspace line c.in-Ok.frame.folder c.in_ok-drawing.drawing.units) c.in-Ok-ordered.steps c.from_vec.result =
+    subst (λ (l : List Planned). AllZip (IsMade c.args.selected.now.workspace line c.in-Ok.frame.folder c.in_ok-drawing.drawing.units) c.in-Ok-ordered.steps l) (sym c.from_vec.ensures)
+    (subst (λ (s : List Step). AllZip (IsMade c.args.selected.now.workspace line c.in-Ok.frame.folder c.in_ok-drawing.drawing.units) s c.in_ok-planned.planned.items) c.into_vec.ensures
+    (subst (λ (u : List Unit). AllZip (IsMade c.args.selected.now.workspace line c.in-Ok.frame.folder u) c.into_vec.result.items c.in_ok-planned.planned.items) c.as_slice-units.ensures
+    (subst (λ (ws : Workspace). AllZip (IsMade ws line c.in-Ok.frame.folder c.as_slice-units.result.now) c.into_vec.result.items c.in_ok-planned.planned.items) c.workspace_of-workspace.ensures.value c.in_ok-planned.ensures))) in
+    plan_is c.args.selected.now.workspace c.args.features.now c.args.selected.now.selection c.workspace_of-workspace.ensures.settled c.workspace_of-workspace.ensures.within _ _ _ c.in_ok-drawing.ensures c.in-Ok-ordered.steps c.in-Ok-ordered.ensures.order line c.in-Ok.frame.folder c.from_vec.result made c.args.profile.now _
+    (subst (λ (ws : Workspace). profile_line ws c.args.profile.now ≡ Ok line) c.workspace_of-workspace.ensures.value c.in-Ok.ensures.line) (c.in-Ok.ensures.folder ∙ ap (λ (ws : Workspace). profile_folder ws c.args.profile.now) c.workspace_of-workspace.ensures.value) c.in-Ok-ordered.ensures.some c.in-Ok-ordered.ensures.few
+    (subst (λ (ws : Workspace). AreWithoutLibrary ws c.args.features.now c.in_ok-without_library.without_library) c.workspace_of-workspace.ensures.value c.in_ok-without_library.ensures)
 
 pub returns-clause-apart : goal.returns-clause-apart
 returns-clause-apart c =
     let line = map seen c.in-Ok.frame.line.items in
-    let made : AllZip (IsMade c.args.workspace.now line c.in-Ok.frame.folder c.in_ok-drawing.drawing.units) c.in-Ok-ordered.steps c.from_vec.result =
-    subst (λ (l : List Planned). AllZip (IsMade c.args.workspace.now line c.in-Ok.frame.folder c.in_ok-drawing.drawing.units) c.in-Ok-ordered.steps l) (sym c.from_vec.ensures)
-    (subst (λ (s : List Step). AllZip (IsMade c.args.workspace.now line c.in-Ok.frame.folder c.in_ok-drawing.drawing.units) s c.in_ok-planned.planned.items) c.into_vec.ensures
-    (subst (λ (u : List Unit). AllZip (IsMade c.args.workspace.now line c.in-Ok.frame.folder u) c.into_vec.result.items c.in_ok-planned.planned.items) c.as_slice-units.ensures c.in_ok-planned.ensures)) in
-    apart_is c.args.workspace.now c.args.features.now c.args.selection.now c.requires.settled c.requires.selected _ _ _ c.in_ok-drawing.ensures c.in-Ok-ordered.steps c.in-Ok-ordered.ensures.order line c.in-Ok.frame.folder c.from_vec.result made c.in-Ok.ensures.path
+    let made : AllZip (IsMade c.args.selected.now.workspace line c.in-Ok.frame.folder c.in_ok-drawing.drawing.units) c.in-Ok-ordered.steps c.from_vec.result =
+    subst (λ (l : List Planned). AllZip (IsMade c.args.selected.now.workspace line c.in-Ok.frame.folder c.in_ok-drawing.drawing.units) c.in-Ok-ordered.steps l) (sym c.from_vec.ensures)
+    (subst (λ (s : List Step). AllZip (IsMade c.args.selected.now.workspace line c.in-Ok.frame.folder c.in_ok-drawing.drawing.units) s c.in_ok-planned.planned.items) c.into_vec.ensures
+    (subst (λ (u : List Unit). AllZip (IsMade c.args.selected.now.workspace line c.in-Ok.frame.folder u) c.into_vec.result.items c.in_ok-planned.planned.items) c.as_slice-units.ensures
+    (subst (λ (ws : Workspace). AllZip (IsMade ws line c.in-Ok.frame.folder c.as_slice-units.result.now) c.into_vec.result.items c.in_ok-planned.planned.items) c.workspace_of-workspace.ensures.value c.in_ok-planned.ensures))) in
+    apart_is c.args.selected.now.workspace c.args.features.now c.args.selected.now.selection c.workspace_of-workspace.ensures.settled c.workspace_of-workspace.ensures.within _ _ _ c.in_ok-drawing.ensures c.in-Ok-ordered.steps c.in-Ok-ordered.ensures.order line c.in-Ok.frame.folder c.from_vec.result made c.in-Ok.ensures.path

@@ -1,0 +1,72 @@
+//! A project that is in order.
+
+use pb_data::Text;
+use pb_project::Project;
+use pb_unit::Planned;
+use std::marker::Model;
+
+/// A project that is in order: its workspace is settled, its plan is one, and the units' folders lie apart by their keys.
+/// Contracts see the project.
+#[derive(Drop)]
+pub struct OrderedProject {
+    inside: Project,
+}
+
+impl Model for OrderedProject {
+    ghost use Rattle.pb_project.specs.declared.project.Project.{Project};
+    ghost use Rattle.pb_run.specs.Standing.{IsInOrder};
+
+    ghost Value = { Project };
+
+    ghost view = { λ a. a.inside };
+
+    ghost invariant = { λ a. IsInOrder a.inside };
+}
+
+impl OrderedProject {
+    ghost use Rattle.std.specs.Prelude.{◌≡◌};
+    ghost use Rattle.pb_run.specs.Standing.{IsInOrder};
+
+    /// A project that is planned in order.
+    pub fn new(project: Project) -> OrderedProject
+        requires { IsInOrder project }
+        ensures { result ≡ project }
+    {
+        OrderedProject { inside: project }
+    }
+
+    /// The project itself.
+    pub fn get(&self) -> &Project
+        ensures { result.now ≡ self.now }
+    {
+        &self.inside
+    }
+
+    /// The project itself, taken out.
+    pub fn into_project(self) -> Project
+        ensures { result ≡ self }
+    {
+        self.inside
+    }
+
+    /// The units of its plan, in plan order.
+    pub fn units(&self) -> &[Planned]
+        ensures { result.now ≡ self.now.plan.planned }
+    {
+        self.inside.plan.planned.as_slice()
+    }
+
+    /// The names of the packages without a library to which enabled dependencies of its plan lead.
+    pub fn without_library(&self) -> &[Text]
+        ensures { result.now ≡ self.now.plan.without_library }
+    {
+        self.inside.plan.without_library()
+    }
+
+    /// A law: it is in order. It does nothing.
+    pub fn is_in_order(&self)
+        ensures { IsInOrder self.now }
+    {
+        let _ = &self.inside;
+    }
+}
