@@ -125,11 +125,17 @@ def own_words(crate, said, place):
     return next((it for it in told if not NAMES.match(it)), (told or [verdict])[0] if "not proved" in verdict else verdict)
 
 
-def tried_together(crate, batch, work):
-    """What a check of the crate with all these edits says of each, as `own_words`; nothing of one that does not compile."""
+def afresh(crate, work):
+    """The folder of a crate in the copy, as the crate stands, with no edit."""
     folder = f"{work}/crates/{crate}"
     shutil.rmtree(folder, ignore_errors=True)
     copied(f"{TOP}/crates/{crate}", folder)
+    return folder
+
+
+def tried_together(crate, batch, work):
+    """What a check of the crate with all these edits says of each, as `own_words`; nothing of one that does not compile."""
+    folder = afresh(crate, work)
     for edit in batch:
         for file, old, new in edit.pairs:
             write(f"{folder}/{file}", read(f"{folder}/{file}").replace(old, new))
@@ -149,9 +155,7 @@ def tried_together(crate, batch, work):
 
 def tried_alone(crate, edits, work):
     """What `rt must-fail` says of each."""
-    folder = f"{work}/crates/{crate}"
-    shutil.rmtree(folder, ignore_errors=True)
-    copied(f"{TOP}/crates/{crate}", folder)
+    folder = afresh(crate, work)
     shutil.rmtree(f"{folder}/must-fail", ignore_errors=True)
     os.mkdir(f"{folder}/must-fail")
     for edit in edits:
@@ -244,6 +248,8 @@ def main():
         for crate in crates:
             if os.path.isdir(f"{TOP}/bench/edits/{crate}"):
                 count, left = tried(crate, work)
+                # The crates above stand on it as it is.
+                afresh(crate, work)
                 noted(crate, count, left)
                 wrong += [crate] if left else []
     print(f"\nnot all were refused: {' '.join(wrong)}" if wrong else "\nall were refused")
