@@ -31,6 +31,6 @@ abbrev pub starts_code : Coded Starts
 starts_code = code_by _ (coded× coded_ℕ (coded_list child_code)) (λ s. (s.count, s.flying)) (λ t. record { count = t.0; flying = t.1 }) (λ _. refl)
 
 abbrev pub counts_code : Coded Counts
-counts_code = code_by _ (coded× coded_ℕ (coded× starts_code (coded× coded_ℕ (coded× (coded_option failure_code) text_code))))
-    (λ c. (c.failures, (c.starts, (c.late, (c.last, c.named)))))
-    (λ t. record { failures = t.0; starts = t.1.0; late = t.1.1.0; last = t.1.1.1.0; named = t.1.1.1.1 }) (λ _. refl)
+counts_code = code_by _ (coded× coded_ℕ (coded× coded_ℕ (coded× starts_code (coded× coded_ℕ (coded× (coded_option failure_code) text_code)))))
+    (λ c. (c.calls, (c.failures, (c.starts, (c.late, (c.last, c.named))))))
+    (λ t. record { calls = t.0; failures = t.1.0; starts = t.1.1.0; late = t.1.1.1.0; last = t.1.1.1.1.0; named = t.1.1.1.1.1 }) (λ _. refl)

@@ -15,6 +15,7 @@ use std::marker::Model;
 /// what flies is for the place to say.
 #[derive(Debug, Drop)]
 pub struct Tally {
+    calls: u64,
     failures: u64,
     starts: u64,
     late: u64,
@@ -31,7 +32,7 @@ impl Model for Tally {
 
     ghost coded = { counts_code };
 
-    ghost view = { λ t. record { failures = t.failures; starts = record { count = t.starts; flying = [] }; late = t.late; last = t.last; named = t.named } };
+    ghost view = { λ t. record { calls = t.calls; failures = t.failures; starts = record { count = t.starts; flying = [] }; late = t.late; last = t.last; named = t.named } };
 }
 
 impl Tally {
@@ -40,6 +41,7 @@ impl Tally {
         ensures { result ≡ no_calls }
     {
         Tally {
+            calls: 0,
             failures: 0,
             starts: 0,
             late: 0,
@@ -73,6 +75,7 @@ impl Tally {
     pub fn pass(&mut self)
         ensures { self.new ≡ past_call self.old }
     {
+        self.calls = self.calls.saturating_add(1);
         if self.failures != 0 {
             self.late = self.late.saturating_add(1);
         } else {
@@ -80,7 +83,7 @@ impl Tally {
         }
     }
 
-    /// Counts a call that failed.
+    /// Counts a fault of the outside. Which call it came from is counted beside it.
     pub fn fail(&mut self, failure: Failure)
         ensures { self.new ≡ past_fault failure self.old }
     {
@@ -121,6 +124,7 @@ impl Tally {
                 Err(PlaceFault::OutOfMemory)
             }
             Err(fault) => {
+                self.calls = self.calls.saturating_add(1);
                 self.fail(Failure::Called(fault));
                 self.named = name;
                 Err(fault)
@@ -144,6 +148,7 @@ impl Tally {
                 Err(StartFault::OutOfMemory)
             }
             Err(fault) => {
+                self.calls = self.calls.saturating_add(1);
                 self.fail(Failure::Started(fault));
                 Err(fault)
             }
@@ -174,6 +179,7 @@ impl Tally {
     {
         match Text::from_str(alloc, name) {
             Ok(named) => {
+                self.calls = self.calls.saturating_add(1);
                 self.fail(Failure::Called(fault));
                 self.named = named;
                 fault
