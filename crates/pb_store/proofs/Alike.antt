@@ -4,6 +4,7 @@ use Rattle.std.specs.Prelude.{Decides}
 use Rattle.std.specs.List.{AllByRecursion, list_all}
 use Rattle.std.proofs.lemmas.Bool.Decides.{Decides-and, Decides-like, Decides-eqb, same_from_decides}
 use Rattle.std.proofs.lemmas.Slice.Eq.{bytes_eq-Decides}
+use Rattle.pb_place.specs.CallsInTurn.{past_calls}
 use Rattle.pb_place.specs.Counts.{Counts}
 use Rattle.pb_place.specs.Paths.{is_relative}
 use Rattle.pb_place.specs.World.{World, Map}
@@ -18,7 +19,7 @@ use Rattle.pb_soundness.specs.Inputs.{contents, input_in, name_of}
 use Rattle.pb_soundness.specs.Records.{out_of}
 use Rattle.pb_soundness.specs.Reuse.{number_if}
 use Rattle.pb_store.specs.Differences.{HasFiles, HasNumber, IsPresent, same_files}
-use Rattle.pb_store.specs.Looking.{TestsDecide, has_files, has_number, is_asked, is_number, is_present, looked_up_to, past_calls, same_input, same_text, same_texts}
+use Rattle.pb_store.specs.Looking.{TestsDecide, has_files, has_number, is_asked, is_number, is_present, looked_up_to, same_input, same_text, same_texts}
 use Rattle.pb_store.proofs.Firsts.{files_same}
 use Rattle.pb_store.proofs.Looking.{Reached, row_ends, row_on}
 use Rattle.pb_store.proofs.Once.{asks_of, sets_of}

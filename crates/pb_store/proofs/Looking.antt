@@ -1,50 +1,16 @@
 -- Lemmas on where a comparison looks: one step after the other.
 use Rattle.std.proofs.Common.{◌≡◌, ◌∙◌, ◌++◌, ◌+◌, ◌<◌, ◌≤◌, inl, inr, ℕ, Bool, true, false, cond, List, [], ◌∷◌, drop, length, get_or, Result, Ok, Err, refl, sym, ap, subst, append_assoc}
 use Rattle.std.proofs.lemmas.List.{drop_all, drop_more}
-use Rattle.pb_place.specs.Counts.{Counts, past_call, past_place_fault}
+use Rattle.pb_place.specs.CallsInTurn.{MakesSome, past_calls}
+use Rattle.pb_place.specs.Counts.{Counts, past_place_fault}
 use Rattle.pb_place.specs.World.{World}
 use Rattle.pb_place.specs.declared.place.PlaceFault.{PlaceFault}
 use Rattle.pb_place.specs.declared.place.PlaceFault.TheVariants as place
+use Rattle.pb_place.proofs.CallsInTurn.{append_none, fails_left, fails_right, made_both, some_all, some_left, some_right}
 use Rattle.pb_store.specs.Causes.{stored}
-use Rattle.pb_store.specs.Looking.{FailsAt, Looks, MakesSome, StopsAt, looked_up_to, past_calls}
+use Rattle.pb_store.specs.Looking.{Looks, StopsAt, looked_up_to}
 use Rattle.pb_store.specs.declared.fault.StoreFault.{StoreFault}
 use Rattle.pb_store.specs.declared.fault.StoreFault.TheVariants.{Place, NumbersSpent, OutOfMemory}
-
-pub append_none : {A : Type 0} (xs : List A) → xs ++ [] ≡ xs
-append_none [] = refl
-append_none (x ∷ xs) = ap (λ ys. x ∷ ys) (append_none xs)
-
-pub past_calls-append : (a b : List (List ℕ)) (c : Counts) → past_calls (a ++ b) c ≡ past_calls b (past_calls a c)
-past_calls-append [] b c = refl
-past_calls-append (name ∷ a) b c = past_calls-append a b (past_call c)
-
--- the first few of some calls
-
-pub some_none : (names : List (List ℕ)) (c : Counts) → MakesSome names c c
-some_none [] c = refl
-some_none (name ∷ names) c = inl refl
-
-pub some_all : (names : List (List ℕ)) (c : Counts) → MakesSome names c (past_calls names c)
-some_all [] c = refl
-some_all (name ∷ names) c = inr (some_all names (past_call c))
-
-some_left : (a b : List (List ℕ)) (old new : Counts) → MakesSome a old new → MakesSome (a ++ b) old new
-some_left [] b old new is = subst (λ c. MakesSome b old c) (sym is) (some_none b old)
-some_left (name ∷ a) b old new (inl is) = inl is
-some_left (name ∷ a) b old new (inr is) = inr (some_left a b (past_call old) new is)
-
-some_right : (a b : List (List ℕ)) (old mid new : Counts) → mid ≡ past_calls a old → MakesSome b mid new → MakesSome (a ++ b) old new
-some_right [] b old mid new is some = subst (λ c. MakesSome b c new) is some
-some_right (name ∷ a) b old mid new is some = inr (some_right a b (past_call old) mid new is some)
-
-fails_left : (fault : PlaceFault) (a b : List (List ℕ)) (old new : Counts) → FailsAt fault a old new → FailsAt fault (a ++ b) old new
-fails_left fault [] b old new is = absurd is
-fails_left fault (name ∷ a) b old new (inl is) = inl is
-fails_left fault (name ∷ a) b old new (inr is) = inr (fails_left fault a b (past_call old) new is)
-
-fails_right : (fault : PlaceFault) (a b : List (List ℕ)) (old mid new : Counts) → mid ≡ past_calls a old → FailsAt fault b mid new → FailsAt fault (a ++ b) old new
-fails_right fault [] b old mid new is fails = subst (λ c. FailsAt fault b c new) is fails
-fails_right fault (name ∷ a) b old mid new is fails = inr (fails_right fault a b (past_call old) mid new is fails)
 
 -- a first step stops it, and no second comes
 pub stops_first : (e : StoreFault) (a b : List (List ℕ)) (old new : Counts) → StopsAt e a old new → StopsAt e (a ++ b) old new
@@ -59,9 +25,6 @@ stops_then NumbersSpent a b old mid new first is = is
 stops_then OutOfMemory a b old mid new first is = some_right a b old mid new first is
 
 -- both are made
-pub made_both : (a b : List (List ℕ)) (old mid new : Counts) → mid ≡ past_calls a old → new ≡ past_calls b mid → new ≡ past_calls (a ++ b) old
-made_both a b old mid new first second = second ∙ ap (past_calls b) first ∙ sym (past_calls-append a b old)
-
 pub looks_both : {T : Type 0} (result : Result T StoreFault) (a b : List (List ℕ)) (old mid new : Counts) → mid ≡ past_calls a old → Looks result b mid new → Looks result (a ++ b) old new
 looks_both (Ok x) a b old mid new first second = made_both a b old mid new first second
 looks_both (Err e) a b old mid new first second = stops_then e a b old mid new first second

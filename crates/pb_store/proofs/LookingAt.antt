@@ -2,15 +2,17 @@
 use Rattle.std.proofs.Common.{◌≡◌, ◌∙◌, ◌++◌, ◌+◌, ℕ, true, cond, List, [], ◌∷◌, map, drop, length, Some, None, refl, sym, ap, subst}
 use Rattle.std.specs.FinMap.{get, keys, entries}
 use Rattle.std.specs.List.{AllByRecursion}
+use Rattle.pb_place.specs.CallsInTurn.{past_calls}
 use Rattle.pb_place.specs.Counts.{Counts, past_call}
 use Rattle.pb_place.specs.Folders.{files_in}
 use Rattle.pb_place.specs.Paths.{is_below, stem}
 use Rattle.pb_place.specs.World.{World, Map, listed}
+use Rattle.pb_place.proofs.CallsInTurn.{made_both}
 use Rattle.pb_place.proofs.MapLemmas.{get-kept}
-use Rattle.pb_store.specs.Looking.{StopsAt, past_calls}
+use Rattle.pb_store.specs.Looking.{StopsAt}
 use Rattle.pb_store.specs.Presence.{file_looked, files_looked}
 use Rattle.pb_store.specs.declared.fault.StoreFault.{StoreFault}
-use Rattle.pb_store.proofs.Looking.{made_both, stops_first, stops_then}
+use Rattle.pb_store.proofs.Looking.{stops_first, stops_then}
 use Rattle.pb_store.proofs.Present.{all_weaker, entries_found, kept_passes}
 
 -- each file listed in a folder is below it, and so it is read

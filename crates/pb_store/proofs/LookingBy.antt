@@ -1,16 +1,18 @@
 -- How often opening and keeping look and write.
 use Rattle.std.proofs.Common.{◌≡◌, ◌∙◌, ◌++◌, ℕ, Bool, true, false, cond, List, [], ◌∷◌, Result, refl, sym, ap, subst, inl}
 use Rattle.std.specs.List.{filter}
+use Rattle.pb_place.specs.CallsInTurn.{MakesSome, past_calls}
 use Rattle.pb_place.specs.Counts.{Counts, past_call}
 use Rattle.pb_place.specs.World.{World, listed_directly}
+use Rattle.pb_place.proofs.CallsInTurn.{made_both, some_all}
 use Rattle.pb_soundness.specs.Records.{ends_as_record}
 use Rattle.pb_store.specs.Calls.{EndsOnce}
 use Rattle.pb_store.specs.Causes.{MayWrite}
-use Rattle.pb_store.specs.Looking.{Looks, MakesSome, StopsAt, past_calls, opened_looked, names_looked, needs_looked}
+use Rattle.pb_store.specs.Looking.{Looks, StopsAt, opened_looked, names_looked, needs_looked}
 use Rattle.pb_store.specs.declared.fault.StoreFault.{StoreFault}
 use Rattle.pb_store.specs.declared.fault.StoreFault.TheVariants.{Place, NumbersSpent, OutOfMemory}
 use Rattle.pb_record.specs.declared.record.InputName.{InputName}
-use Rattle.pb_store.proofs.Looking.{looks_both, made_both, some_all}
+use Rattle.pb_store.proofs.Looking.{looks_both}
 
 -- opening: one file more of a row
 one_read : (b : Bool) (path : List ℕ) (rest : List (List ℕ)) (c : Counts) → past_calls (cond b (path ∷ rest) rest) c ≡ past_calls rest (past_calls (cond b (path ∷ []) []) c)

@@ -2,9 +2,11 @@
 use Rattle.std.proofs.Common.{◌≡◌, ◌∙◌, ◌++◌, ℕ, Bool, true, false, cond, List, [], ◌∷◌, Option, Some, None, Result, refl, sym, ap, subst}
 use Rattle.std.specs.Prelude.{Decides, MatchOption}
 use Rattle.std.specs.List.{list_all}
+use Rattle.pb_place.specs.CallsInTurn.{past_calls}
 use Rattle.pb_place.specs.Counts.{Counts}
 use Rattle.pb_place.specs.World.{World}
 use Rattle.pb_place.specs.declared.command.Command as commands
+use Rattle.pb_place.proofs.CallsInTurn.{append_none}
 use Rattle.pb_record.proofs.ReadingLemmas.{reading}
 use Rattle.pb_record.specs.Commands.{command_of}
 use Rattle.pb_record.specs.Parts.{IsReading}
@@ -18,10 +20,10 @@ use Rattle.pb_store.specs.Asking.{IsFirstName, SamePart, parts}
 use Rattle.pb_store.specs.Differences.{IsFirst, IsPresent}
 use Rattle.pb_store.specs.declared.difference.CommandPart.{CommandPart}
 use Rattle.pb_store.specs.declared.fault.StoreFault.{StoreFault}
-use Rattle.pb_store.specs.Looking.{Looks, StopsAt, past_calls, is_present, inputs_looked, needed_looked, around_looked, from_looked, kept_looked, looked_at}
+use Rattle.pb_store.specs.Looking.{Looks, StopsAt, is_present, inputs_looked, needed_looked, around_looked, from_looked, kept_looked, looked_at}
 use Rattle.pb_store.proofs.Alike.{all_decided, asked_decides, present_decides}
 use Rattle.pb_store.proofs.Firsts.{one_read}
-use Rattle.pb_store.proofs.Looking.{append_none, looks_both, stops_first}
+use Rattle.pb_store.proofs.Looking.{looks_both, stops_first}
 use Rattle.pb_store.proofs.Once.{asks_of, name_apart, none_fails, part_apart}
 
 refuted : {P : Type 0} (b : Bool) → Decides b P → (P → ⊥) → b ≡ false

@@ -1,14 +1,14 @@
--- Where a call of the store looks and writes, and how often: the name that each call of the place is given (a path, or a variable's name), in order.
-use Rattle.std.specs.Prelude.{◌≡◌, ◌⊎◌, ◌++◌, ◌∷◌, ◌==◌, ◌&&◌, if◌then◌else◌, ℕ, Bool, true, false, List, [], Option, Some, None, Result, MatchResult, Decides}
+-- Where a call of the store looks and writes, how often and in which order: the name that each call of the place is given (a path, or a variable's name), in turn.
+use Rattle.std.specs.Prelude.{◌≡◌, ◌++◌, ◌∷◌, ◌==◌, ◌&&◌, if◌then◌else◌, ℕ, Bool, true, false, List, [], Option, Some, None, Result, MatchResult, Decides}
 use Rattle.std.specs.Cmp.Lexicographic.{pointwise}
 use Rattle.std.specs.FinMap as finite
 use Rattle.std.specs.List.{filter, list_all}
 use Rattle.std.specs.Str.{bytes_eq}
-use Rattle.pb_place.specs.Counts.{Counts, past_call, past_place_fault}
+use Rattle.pb_place.specs.CallsInTurn.{FailsAt, MakesSome, past_calls}
+use Rattle.pb_place.specs.Counts.{Counts}
 use Rattle.pb_place.specs.Paths.{is_at_or_below, is_relative}
 use Rattle.pb_place.specs.World.{World, Map, from_nothing, listed, listed_directly, removed}
 use Rattle.pb_place.specs.declared.command.Command as commands
-use Rattle.pb_place.specs.declared.place.PlaceFault.{PlaceFault}
 use Rattle.pb_record.specs.Commands.{command_of}
 use Rattle.pb_record.specs.declared.asked.Asked.{Asked}
 use Rattle.pb_record.specs.declared.record.Input.{Input}
@@ -27,28 +27,13 @@ use Rattle.pb_store.specs.Migrating.{lacks_number}
 use Rattle.pb_store.specs.declared.fault.StoreFault.{StoreFault}
 use Rattle.pb_store.specs.declared.fault.StoreFault.TheVariants.{Place, NumbersSpent, OutOfMemory}
 
--- these calls were made, and each went well
-abbrev pub past_calls : List (List ℕ) → Counts → Counts
-past_calls [] c = c
-past_calls (name ∷ names) c = past_calls names (past_call c)
-
--- one of these calls failed, with this fault: those before it went well, and it was the last
-abbrev pub FailsAt : PlaceFault → List (List ℕ) → Counts → Counts → Type 0
-FailsAt fault [] old new = ⊥
-FailsAt fault (name ∷ names) old new = (new ≡ past_place_fault name fault old) ⊎ FailsAt fault names (past_call old) new
-
--- the first few of these calls were made, or all, and no other
-abbrev pub MakesSome : List (List ℕ) → Counts → Counts → Type 0
-MakesSome [] old new = new ≡ old
-MakesSome (name ∷ names) old new = (new ≡ old) ⊎ MakesSome names (past_call old) new
-
 -- where a call failed, it was one of these; where memory was refused, the first few of them were made; no other fault is told
 abbrev pub StopsAt : StoreFault → List (List ℕ) → Counts → Counts → Type 0
 StopsAt (Place fault) names old new = FailsAt fault names old new
 StopsAt NumbersSpent names old new = ⊥
 StopsAt OutOfMemory names old new = MakesSome names old new
 
--- where it ended well, these calls were made, and no more; else it stopped at one of them. The counters hold how many went well, and the name of one that failed, not the order
+-- where it ended well, these calls were made, and no more; else it stopped at one of them. Every call is counted, and one that failed tells its turn and its name, so the list is told in its order
 abbrev pub Looks : {T : Type 0} → Result T StoreFault → List (List ℕ) → Counts → Counts → Type 0
 Looks result names old new = MatchResult result (λ x. new ≡ past_calls names old) (λ e. StopsAt e names old new)
 

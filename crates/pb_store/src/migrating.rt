@@ -1,6 +1,7 @@
 //! A record of format 1 that becomes one of format 2.
 
 ghost use Rattle.std.specs.Prelude.{is_some, false, ◌≡◌, ◌⊎◌, ◌∷◌, [], ℕ, List, true, IsTrue, IfErr, IfOk, OnOk, Some, None, Err, All};
+ghost use Rattle.pb_place.specs.CallsInTurn.{past_calls};
 ghost use Rattle.pb_place.specs.declared.place.PlaceFault.TheVariants as place_fault;
 ghost use Rattle.pb_place.specs.Paths.{is_at_or_below};
 ghost use Rattle.pb_place.specs.World.{ChangesOnly};
@@ -15,7 +16,7 @@ ghost use Rattle.pb_soundness.specs.Sound.{Sound};
 ghost use Rattle.pb_store.specs.Calls.{looked};
 ghost use Rattle.pb_store.specs.Causes.{Takes, MayMigrate};
 ghost use Rattle.pb_store.specs.Keeping.{Leaves, numbered};
-ghost use Rattle.pb_store.specs.Looking.{Looks, past_calls, migrated_called, renumbered_called};
+ghost use Rattle.pb_store.specs.Looking.{Looks, migrated_called, renumbered_called};
 ghost use Rattle.pb_store.specs.declared.fault.StoreFault.TheVariants as store_fault;
 ghost use Rattle.pb_store.specs.Migrating.{IsMigrated, TakesNumber, lacks_number, migrated, numbered_record};
 

@@ -3,13 +3,14 @@
 ghost use Rattle.std.specs.Prelude.{◌≡◌, ◌∷◌, [], if◌then◌else◌, max, IsTrue, IfErr, IfOk, OnOk};
 ghost use Rattle.std.specs.List.{filter, fold};
 ghost use Rattle.std.specs.FinMap as map;
+ghost use Rattle.pb_place.specs.CallsInTurn.{past_calls};
 ghost use Rattle.pb_place.specs.World.{listed_directly};
 ghost use Rattle.pb_soundness.specs.Apart.{KeepsStill};
 ghost use Rattle.pb_soundness.specs.Numbers.{IsAhead};
 ghost use Rattle.pb_soundness.specs.Records.{Reading, ends_as_record, read_text, record_at};
 ghost use Rattle.pb_store.specs.Calls.{OpensBy, ReadsAt, ReadsOneOf, ReadsRecord};
 ghost use Rattle.pb_store.specs.Causes.{TakesOpen};
-ghost use Rattle.pb_store.specs.Looking.{opened_looked, past_calls};
+ghost use Rattle.pb_store.specs.Looking.{opened_looked};
 ghost use Rattle.pb_store.specs.Opening.{greatest_named, greatest_if, greatest_at, greatest_of, next_in};
 ghost use Rattle.pb_record.specs.Parts.{IsReading};
 

@@ -1,7 +1,7 @@
 use Rattle.std.proofs.Common.{rules}
+use Rattle.pb_place.proofs.CallsInTurn.{some_none}
 use Rattle.pb_record.proofs.ReadingLemmas.{reading}
 use Rattle.pb_soundness.specs.Records.{record_at}
-use Rattle.pb_store.proofs.Looking.{some_none}
 use Rattle.pb_store.proofs.LookingOver.{from_then, name_unlooked, part_unlooked}
 use Rattle.pb_store.proofs.differing.first_from.Goals as goal
 

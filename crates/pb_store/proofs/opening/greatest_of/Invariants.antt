@@ -1,9 +1,9 @@
 use Rattle.std.proofs.Common.{◌≡◌, ℕ, max, IsTrue, Contains, List}
 use Rattle.std.specs.List.{filter, fold}
 use Rattle.std.specs.Vec.Iter.{into_iter_items}
+use Rattle.pb_place.specs.CallsInTurn.{past_calls}
 use Rattle.pb_soundness.specs.Apart.{KeepsStill}
 use Rattle.pb_soundness.specs.Records.{Reading, ends_as_record}
-use Rattle.pb_store.specs.Looking.{past_calls}
 use Rattle.pb_store.specs.Opening.{greatest_at, greatest_of}
 use Rattle.pb_record.specs.Parts.{IsReading}
 use Rattle.pb_store.proofs.opening.greatest_of.Given as goal

@@ -1,12 +1,13 @@
 use Rattle.std.proofs.Common.{◌++◌, [], ◌∷◌, sym, subst}
 use Rattle.pb_place.specs.World.{World}
+use Rattle.pb_place.proofs.CallsInTurn.{made_both}
 use Rattle.pb_soundness.specs.Numbers.{IsAhead}
 use Rattle.pb_soundness.specs.Records.{place_of, record_at}
 use Rattle.pb_soundness.specs.Sound.{Sound}
 use Rattle.pb_store.specs.Looking.{names_looked, needs_looked}
 use Rattle.pb_store.proofs.Earned.{may_keep, kept_before}
 use Rattle.pb_store.proofs.Called.{named_once, no_look, no_write}
-use Rattle.pb_store.proofs.Looking.{made_both, stops_first, stops_then}
+use Rattle.pb_store.proofs.Looking.{stops_first, stops_then}
 use Rattle.pb_store.proofs.LookingBy.{ends_stops}
 use Rattle.pb_store.proofs.store.Store.keep.Goals as goal
 

@@ -1,9 +1,10 @@
 use Rattle.std.proofs.Common.{[], ◌∷◌, rules, inr}
+use Rattle.pb_place.proofs.CallsInTurn.{made_both}
 use Rattle.pb_soundness.specs.Records.{place_of}
 use Rattle.pb_store.specs.Looking.{needs_looked}
 use Rattle.pb_store.proofs.Migrated.{migrated_sound, migrated_ahead}
 use Rattle.pb_store.proofs.Called.{named_once, no_look, read_unwritten}
-use Rattle.pb_store.proofs.Looking.{looks_told, made_both, stops_first, stops_then}
+use Rattle.pb_store.proofs.Looking.{looks_told, stops_first, stops_then}
 use Rattle.pb_store.proofs.LookingBy.{ends_stops}
 use Rattle.pb_store.proofs.store.Store.renumber.Goals as goal
 
