@@ -3,6 +3,7 @@ use Rattle.std.proofs.Common.{◌≡◌, ◌∙◌, ◌++◌, ◌<◌, ◌≤◌
 use Rattle.std.proofs.Math.Seq.{drop-cons}
 use Rattle.std.specs.List.{flat_map}
 use Rattle.pb_data.specs.Gives.{◌>>=◌}
+use Rattle.pb_place.specs.CallsInTurn.{past_calls}
 use Rattle.pb_place.specs.Counts.{Counts}
 use Rattle.pb_place.specs.World.{World, from_nothing}
 use Rattle.pb_package.specs.declared.fault.LoadFault.{LoadFault}
@@ -11,7 +12,7 @@ use Rattle.pb_workspace.specs.declared.rounds.Reading.{Reading}
 use Rattle.pb_workspace.specs.ByFolder.{folders_of}
 use Rattle.pb_workspace.specs.Causes.{is_failure, is_outside}
 use Rattle.pb_workspace.specs.MemberFolders.{member_folders}
-use Rattle.pb_workspace.specs.LookedAt.{after, Looks, past_calls, folder_looked, one_looked, all_looked, round_looked, rounds_looked, members_looked, others_looked}
+use Rattle.pb_workspace.specs.LookedAt.{after, Looks, folder_looked, one_looked, all_looked, round_looked, rounds_looked, members_looked, others_looked}
 use Rattle.pb_workspace.specs.Rounds.{all_read, draft_at, one_read, round}
 use Rattle.pb_workspace.proofs.Looking.{Ends, ends_both, looks_both, looks_first, looks_no_further, looks_none, looks_then}
 

@@ -1,19 +1,21 @@
 -- What a reading of a workspace looks at (our own choice where The Cargo Book is silent): the path that each call of the place is given, in order, up to the first refusal. `sources` is the world without what lies at or below the target folder.
-use Rattle.std.specs.Prelude.{◌≡◌, ◌⊎◌, ℕ, zero, suc, false, true, nat_le, if◌then◌else◌, Contains, List, [], ◌∷◌, ◌++◌, length, Option, Some, None, Result, Ok, Err, MatchResult}
+use Rattle.std.specs.Prelude.{◌≡◌, ℕ, zero, suc, false, true, nat_le, if◌then◌else◌, List, [], ◌∷◌, ◌++◌, length, Option, Some, None, Result, Ok, Err, MatchResult}
 use Rattle.std.specs.List.{flat_map}
 use Rattle.std.specs.Str.{bytes_eq}
-use Rattle.pb_place.specs.Counts.{Counts, past_call}
+use Rattle.pb_place.specs.CallsInTurn.{FailsAt, MakesSome, past_calls}
+use Rattle.pb_place.specs.Counts.{Counts}
 use Rattle.pb_place.specs.Paths.{folder_of, is_at_or_below}
 use Rattle.pb_place.specs.World.{World, from_nothing}
 use Rattle.pb_manifest.specs.declared.package.Package.{Package}
 use Rattle.pb_package.specs.declared.fault.LoadFault.{LoadFault}
+use Rattle.pb_package.specs.declared.fault.LoadFault.TheVariants.{Place}
 use Rattle.pb_workspace.specs.declared.draft.Draft.{Draft}
 use Rattle.pb_workspace.specs.declared.draft.Tables.{Tables}
 use Rattle.pb_workspace.specs.declared.frame.Frame.{Frame}
 use Rattle.pb_workspace.specs.declared.rounds.Reading.{Reading}
 use Rattle.pb_workspace.specs.declared.wanted.Standing.{Standing}
 use Rattle.pb_workspace.specs.ByFolder.{folders_of, has}
-use Rattle.pb_workspace.specs.Causes.{is_failure, is_outside, path_told}
+use Rattle.pb_workspace.specs.Causes.{is_failure, is_outside}
 use Rattle.pb_workspace.specs.FoundBinaries.{bin_folder}
 use Rattle.pb_workspace.specs.Frames.{frame_of}
 use Rattle.pb_workspace.specs.Globs.{is_glob}
@@ -23,20 +25,15 @@ use Rattle.pb_workspace.specs.MemberFolders.{base_of, is_manifest, member_folder
 use Rattle.pb_workspace.specs.Members.{parts_meant}
 use Rattle.pb_workspace.specs.Rounds.{all_read, draft_at, one_read, parts_at, round, standing_in}
 
--- so many calls more
-abbrev pub past_calls : List (List ℕ) → Counts → Counts
-past_calls [] c = c
-past_calls (path ∷ paths) c = past_calls paths (past_call c)
+-- the call that failed was one of these: those before it went well, and it was the last
+abbrev pub FailsOn : LoadFault → List (List ℕ) → Counts → Counts → Type 0
+FailsOn (Place path fault) paths old new = FailsAt fault paths old new
+FailsOn e paths old new = ⊥
 
--- the first few of these calls were made, or all, and no other
-abbrev pub LooksAtSome : List (List ℕ) → Counts → Counts → Type 0
-LooksAtSome [] old new = new ≡ old
-LooksAtSome (path ∷ paths) old new = (new ≡ old) ⊎ LooksAtSome paths (past_call old) new
-
--- where a value or a refusal is told, just these calls were made; where memory was refused, the first few of them; a call that failed was on one of their paths. Calls are told apart where one had failed before: the counter `late` has their number then
+-- where a value or a refusal is told, just these calls were made; where memory was refused, the first few of them; where a call failed, it was one of these, and the last. Each call is counted, and one that failed tells its turn and its name, so the paths are told in their order
 abbrev pub Looks : {T : Type 0} → Result T LoadFault → List (List ℕ) → Counts → Counts → Type 0
 Looks result paths old new = MatchResult result (λ _. new ≡ past_calls paths old)
-    (λ e. (is_outside e ≡ false → new ≡ past_calls paths old) × (is_failure e ≡ false → LooksAtSome paths old new) × (is_failure e ≡ true → Contains paths (path_told e)))
+    (λ e. (is_outside e ≡ false → new ≡ past_calls paths old) × (is_failure e ≡ false → MakesSome paths old new) × (is_failure e ≡ true → FailsOn e paths old new))
 
 -- a call on a path, unless it lies at or below the target folder
 abbrev pub looked : List ℕ → List ℕ → List (List ℕ)

@@ -1,8 +1,9 @@
 use Rattle.std.proofs.Common.{◌≡◌, rules, subst}
+use Rattle.pb_place.specs.CallsInTurn.{past_calls}
 use Rattle.pb_workspace.proofs.Looking.{Ends, ends_both, looks_first}
 use Rattle.pb_workspace.specs.FoundBinaries.{bin_folder}
 use Rattle.pb_workspace.specs.Listings.{source_folder}
-use Rattle.pb_workspace.specs.LookedAt.{looked, past_calls}
+use Rattle.pb_workspace.specs.LookedAt.{looked}
 use Rattle.pb_workspace.proofs.listings.listings_of.Goals as goal
 
 pub returns-in_err-in_src-clause-looks : goal.returns-in_err-in_src-clause-looks
