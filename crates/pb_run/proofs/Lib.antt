@@ -1,4 +1,5 @@
 pub mod Answering
+pub mod Calling
 pub mod Causing
 pub mod Commands
 pub mod Ending

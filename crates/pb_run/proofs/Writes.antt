@@ -1,5 +1,5 @@
 -- The folder into which the child of a unit writes, and the others that fly.
-use Rattle.std.proofs.Common.{◌≡◌, ◌≢◌, ◌∙◌, ◌||◌, ℕ, Bool, true, cond, List, [], ◌∷◌, Option, Some, sym, ap, subst, inl, inr}
+use Rattle.std.proofs.Common.{◌≡◌, ◌≢◌, ◌∙◌, ◌||◌, ℕ, Bool, true, cond, List, [], ◌∷◌, Option, Some, Result, sym, ap, subst, inl, inr}
 use Rattle.std.proofs.lemmas.Bool.{cases_Bool, false≢true}
 use Rattle.std.specs.Prelude.{◌==◌, IfSome}
 use Rattle.pb_place.specs.Children.{child_at, is_flying}
@@ -8,6 +8,8 @@ use Rattle.pb_place.specs.Paths.{is_at_or_below}
 use Rattle.pb_place.specs.World.{World, Answers, ChangesOnly, ChangesOnlyInSome}
 use Rattle.pb_place.specs.declared.child_in_flight.ChildInFlight.{ChildInFlight}
 use Rattle.pb_place.specs.declared.command.Command.{Command}
+use Rattle.pb_place.specs.declared.command.Ended.{Ended}
+use Rattle.pb_place.specs.declared.place.StartFault.{StartFault}
 use Rattle.pb_place.proofs.Folders.{only_same, only_started}
 use Rattle.pb_project.specs.Targets.{unit_at}
 use Rattle.pb_unit.specs.declared.plan.Planned.{Planned}
@@ -95,5 +97,5 @@ pub record_alone : (folder root key : List ℕ) (w v new : World) → folder ≡
 record_alone folder root key w v new is_folder same only =
     subst (λ (x : World). ChangesOnly (is_at_or_below (place_of root key)) x new) same (subst (λ (f : List ℕ). ChangesOnly (is_at_or_below (place_of f key)) v new) is_folder only)
 
-pub ended_anyway : (ticket : ℕ) (well stood less : Type 0) (before after : World) (old new : Counts) → (less → well) → HasEnded ticket well stood before after old new → HasEnded ticket less stood before after old new
-ended_anyway ticket well stood less before after old new weaker ended = record { answer = ended.answer; counted = ended.counted; answered = λ x. ended.answered (weaker x); only = ended.only; lands = ended.lands }
+pub ended_anyway : (ticket : ℕ) (answer : Result Ended StartFault) (well stood less : Type 0) (before after : World) (old new : Counts) → (less → well) → HasEnded ticket answer well stood before after old new → HasEnded ticket answer less stood before after old new
+ended_anyway ticket answer well stood less before after old new weaker ended = record { counted = ended.counted; answered = λ x. ended.answered (weaker x); only = ended.only; lands = ended.lands }

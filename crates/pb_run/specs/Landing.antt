@@ -1,21 +1,63 @@
--- From where a unit is judged: what the end of its child left, where it has one.
-use Rattle.std.specs.Prelude.{◌≡◌, ℕ, Option, Some, None, Result, IsOk, IfOk, IfSome}
+-- What comes of a unit that has begun: what the end of its child left, where it has one, and which calls come behind it.
+use Rattle.std.specs.Prelude.{◌≡◌, ◌++◌, ◌∷◌, ℕ, if◌then◌else◌, is_some, List, [], Option, Some, None, Result, Ok, Err, IsOk, IfOk, IfSome}
+use Rattle.pb_answer.specs.declared.fault.BuildFault.{BuildFault}
+use Rattle.pb_command.specs.Answers.{answered_of}
+use Rattle.pb_command.specs.Judge.{file_at}
 use Rattle.pb_place.specs.Children.{LandsAs, child_at}
 use Rattle.pb_place.specs.Counts.{Counts, counted_finish}
 use Rattle.pb_place.specs.World.{World, ChangesOnlyInSome}
+use Rattle.pb_place.specs.declared.command.Command.{Command}
 use Rattle.pb_place.specs.declared.command.Ended.{Ended}
 use Rattle.pb_place.specs.declared.place.StartFault.{StartFault}
-use Rattle.pb_run.specs.declared.begun.Launched.{Launched}
+use Rattle.pb_project.specs.Targets.{dep_info_of}
+use Rattle.pb_project.specs.declared.project.Project.{Project}
+use Rattle.pb_record.specs.declared.record.InputName.{InputName}
+use Rattle.pb_run.specs.Causes.{MakesInTurn}
+use Rattle.pb_run.specs.Halves.{needed_keys}
+use Rattle.pb_run.specs.Outcome.{judgement_by}
+use Rattle.pb_run.specs.Standing.{records_folder}
+use Rattle.pb_run.specs.declared.begun.Awaited.{Awaited}
+use Rattle.pb_run.specs.declared.begun.Awaited.TheVariants as awaited
+use Rattle.pb_run.specs.declared.ran.Judgement.{Judgement}
+use Rattle.pb_soundness.specs.Records.{Reading, record_at}
+use Rattle.pb_store.specs.Looking.{kept_called, migrated_called}
+use Rattle.pb_unit.specs.declared.plan.Planned.{Planned}
 
--- the end of the child of this ticket was asked for, by one call and no other, and changed the child's folder alone; where all went well it answered, and then, where it stood still, it left what was fixed when it was spawned
-pub record HasEnded (ticket : ℕ) (well stood : Type 0) (before after : World) (old new : Counts) : Type 0 where
-  pub answer : Result Ended StartFault
+-- the end of the child of this ticket was asked for, by one call and no other, which gave this answer, and changed the child's folder alone; where all went well it answered, and then, where it stood still, it left what was fixed when it was spawned
+pub record HasEnded (ticket : ℕ) (answer : Result Ended StartFault) (well stood : Type 0) (before after : World) (old new : Counts) : Type 0 where
   pub counted : new ≡ counted_finish ticket answer old
   pub answered : well → IsOk answer
   pub only : IfSome (child_at ticket old.starts.flying) (λ spawned. ChangesOnlyInSome spawned.command.out before after)
   pub lands : stood → IfOk answer (λ ended. IfSome (child_at ticket old.starts.flying) (λ spawned. LandsAs spawned before ended after))
 
--- the child of a unit has ended so, where it has one; else nothing was done
-abbrev pub EndsBy : Option Launched → Type 0 → (ℕ → Type 0) → World → World → Counts → Counts → Type 0
-EndsBy None well still before after old new = (after ≡ before) × (new ≡ old)
-EndsBy (Some launched) well still before after old new = HasEnded launched.ticket well (still launched.ticket) before after old new
+-- the child of a unit has ended so, where it has one; else nothing was done, and its record gives the answer again
+abbrev pub EndsBy : Awaited → Result Ended StartFault → Type 0 → (ℕ → Type 0) → World → World → Counts → Counts → Type 0
+EndsBy (awaited.Child launched) answer well still before after old new = HasEnded launched.ticket answer well (still launched.ticket) before after old new
+EndsBy (awaited.Record again) answer well still before after old new = (after ≡ before) × (new ≡ old) × (answer ≡ Ok again.ended)
+
+-- What is called once the answer is there.
+
+-- the dep-info of a unit is read, where it has one
+abbrev pub dep_info_looked : Option (List ℕ) → List (List ℕ)
+dep_info_looked None = []
+dep_info_looked (Some path) = path ∷ []
+
+-- where its child was started, its record is kept; else a record that has no run number is given one
+abbrev pub recorded_called : Reading → Project → Planned → Command → World → List InputName → Awaited → List (List ℕ)
+recorded_called read project u c w names (awaited.Child launched) = kept_called (records_folder project) u.key c.target w (needed_keys project u) names
+recorded_called read project u c w names (awaited.Record again) =
+    if again.numbered then [] else migrated_called (records_folder project) u.key (needed_keys project u) (record_at read (records_folder project) w.files u.key)
+
+-- but for a unit that is bad
+abbrev pub judged_called : Reading → Project → Planned → Command → World → Awaited → Judgement → List (List ℕ)
+judged_called read project u c w by j = if is_some j.ran.bad then [] else recorded_called read project u c w j.names by
+
+-- first the dep-info; and what is called next is by the judgement of the answer
+abbrev pub answered_called : Reading → Project → Planned → Command → World → Awaited → Ended → List (List ℕ)
+answered_called read project u c w by ended =
+    dep_info_looked (dep_info_of project u) ++ judged_called read project u c w by (judgement_by project u ended (answered_of project u c ended (file_at (dep_info_of project u) w.files)))
+
+-- behind the answer of a child just these calls were made, in this order; where it gave none, no call
+abbrev pub CallsBehind : {T : Type 0} → (Ended → List (List ℕ)) → Result Ended StartFault → Result T BuildFault → Counts → Counts → Type 0
+CallsBehind names (Ok ended) result old new = MakesInTurn result (names ended) old new
+CallsBehind names (Err fault) result old new = new ≡ old

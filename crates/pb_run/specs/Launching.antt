@@ -4,6 +4,7 @@ use Rattle.std.specs.FinMap as finite
 use Rattle.pb_answer.specs.declared.fault.BuildFault.{BuildFault}
 use Rattle.pb_answer.specs.declared.fault.BuildFault.TheVariants.{Child, Device, OutOfMemory}
 use Rattle.pb_answer.specs.declared.fault.DeviceFault.TheVariants.{Place, NumbersSpent}
+use Rattle.pb_place.specs.CallsInTurn.{past_calls}
 use Rattle.pb_place.specs.Children.{child_at, child_spawned, inside_out}
 use Rattle.pb_place.specs.Counts.{Counts, counted_spawn, one_start, past_call, past_place_fault, past_start_fault}
 use Rattle.pb_place.specs.World.{World, Answers, ChangesOnly}
@@ -11,7 +12,6 @@ use Rattle.pb_place.specs.declared.child_in_flight.ChildInFlight.{ChildInFlight}
 use Rattle.pb_place.specs.declared.command.Command.{Command}
 use Rattle.pb_record.specs.Parts.{IsReading}
 use Rattle.pb_soundness.specs.Records.{Reading}
-use Rattle.pb_store.specs.Looking.{past_calls}
 
 -- a child was spawned where since the first world only such paths had changed and its folder was empty; it flies, and what it sees stands still
 pub record IsSpawned (inside : List ℕ → Bool) (child : Answers) (c : Command) (old : World) (ticket : ℕ) (flying : List ChildInFlight) (still : ℕ → Type 0) : Type 0 where
@@ -47,7 +47,11 @@ pub record Spawns (child : Answers) (c : Command) (ticket : ℕ) (old new : Coun
   pub spawned : World
   pub counted : new ≡ counted_spawn (child_spawned (child c) c spawned) (Ok ticket) old
 
--- the one call, which spawns a child, failed; where memory was refused, it or none was made
+-- a child was started and has ended, by one call
+abbrev pub RunsOnce : {T : Type 0} → T → Counts → Counts → Type 0
+RunsOnce x old new = new ≡ past_call (one_start old)
+
+-- the one call, which spawns a child, failed, or the end of that child did; where memory was refused, it or none was made
 abbrev pub SpawnEnds : BuildFault → Counts → Counts → Type 0
 SpawnEnds (Child unit fault) old new = new ≡ past_start_fault fault (one_start old)
 SpawnEnds OutOfMemory old new = (new ≡ old) ⊎ (new ≡ past_call (one_start old))

@@ -1,6 +1,6 @@
 //! A unit's run, in halves: it begins, with a child or without; it answers, or its answer is dropped. And both in turn.
 
-ghost use Rattle.std.specs.Prelude.{◌≡◌, ◌≢◌, ◌+◌, ◌⊎◌, ℕ, true, false, List, Option, IsTrue, IsSome, IsOk, IfOk, IfErr, IfSome, MatchOption, MatchResult, Some, None, max, length, is_some, slice_get, slice_set};
+ghost use Rattle.std.specs.Prelude.{◌≡◌, ◌≢◌, ◌+◌, ◌⊎◌, ℕ, true, false, List, Option, IsTrue, IsSome, IsOk, IfOk, IfErr, IfSome, MatchOption, MatchResult, Some, None, Result, max, length, is_some, slice_get, slice_set};
 ghost use Rattle.std.specs.FinMap as finite;
 ghost use Rattle.pb_command.specs.Command.{command_of};
 ghost use Rattle.pb_directive.specs.declared.directive.Directive.{Directive};
@@ -11,12 +11,14 @@ ghost use Rattle.pb_place.specs.Folders.{files_in};
 ghost use Rattle.pb_place.specs.Paths.{is_at_or_below};
 ghost use Rattle.pb_place.specs.World.{World, ChangesOnly};
 ghost use Rattle.pb_place.specs.declared.child_in_flight.ChildInFlight.{ChildInFlight};
+ghost use Rattle.pb_place.specs.declared.command.Ended.{Ended};
+ghost use Rattle.pb_place.specs.declared.place.StartFault.{StartFault};
 ghost use Rattle.pb_project.specs.Targets.{unit_at};
 ghost use Rattle.pb_answer.specs.declared.bad_unit.BadUnit.{BadUnit};
 ghost use Rattle.pb_record.specs.Parts.{IsReading};
-ghost use Rattle.pb_run.specs.Causes.{Takes, Begins, Lands, Drops, Runs, MayBeginUnit, MayAnswerUnit, MayRunUnit, is_of_start, is_of_write, is_spent};
+ghost use Rattle.pb_run.specs.Causes.{Takes, Begins, Lands, Drops, Runs, MayBeginUnit, MayAnswerUnit, MayRunUnit, StopsAt, is_of_start, is_of_write, is_spent};
 ghost use Rattle.pb_run.specs.Halves.{Footing, Basis, basis, outcomes_in, Keeps, IsBegun, CanBegin, CanAnswer, BeginsApart, WritesTo, awaits_number, child_of};
-ghost use Rattle.pb_run.specs.Landing.{EndsBy};
+ghost use Rattle.pb_run.specs.Landing.{EndsBy, CallsBehind, answered_called};
 ghost use Rattle.pb_run.specs.Launching.{HasLooked, Launches, LaunchEnds};
 ghost use Rattle.pb_run.specs.Outcome.{outcome_by, directives_in};
 ghost use Rattle.pb_run.specs.Standing.{IsCommandOf, IsInOrder, records_folder};
@@ -26,7 +28,8 @@ ghost use Rattle.pb_soundness.specs.Apart.{is_of};
 ghost use Rattle.pb_soundness.specs.Numbers.{after};
 ghost use Rattle.pb_soundness.specs.Records.{Reading, place_of, record_at};
 ghost use Rattle.pb_store.specs.Differences.{FirstDifference};
-ghost use Rattle.pb_store.specs.Looking.{looked_at, past_calls};
+ghost use Rattle.pb_place.specs.CallsInTurn.{past_calls};
+ghost use Rattle.pb_store.specs.Looking.{looked_at};
 ghost use Rattle.pb_store.specs.declared.difference.Difference.{Difference};
 ghost use Rattle.pb_store.specs.Migrating.{TakesNumber, lacks_number};
 
@@ -108,6 +111,8 @@ pub fn begin_unit<P: Place>(
     ensures takes { Takes Begins (MayBeginUnit store.old.next unit.now.key) result (P.counts place.old) (P.counts place.new) }
     ensures looks { (read : Reading) → IsReading read → IsTrue P.tells → IfOk result (λ made. child_of made.begun ≡ None → P.counts place.new ≡ past_calls (looked_at read (records_folder project.now) unit.now.key made.begun.command (P.world place.old)) (P.counts place.old)) }
     ensures launches { IfOk result (λ made. IfSome (child_of made.begun) (λ launched. (looked : P) × HasLooked P.tells (λ read. looked_at read (records_folder project.now) unit.now.key made.begun.command (P.world place.old)) (P.world place.old) (P.world looked) (P.counts place.old) (P.counts looked) × Launches P.child made.begun.command launched.ticket (P.counts looked) (P.counts place.new))) }
+    ensures stops { IsTrue P.tells → IfErr result (λ e. ((read : Reading) → IsReading read → StopsAt e (looked_at read (records_folder project.now) unit.now.key (command_of setup.now project.now unit.now done.now) (P.world place.old)) (P.counts place.old) (P.counts place.new))
+        ⊎ ((looked : P) × HasLooked P.tells (λ read. looked_at read (records_folder project.now) unit.now.key (command_of setup.now project.now unit.now done.now) (P.world place.old)) (P.world place.old) (P.world looked) (P.counts place.old) (P.counts looked) × LaunchEnds (place_of (records_folder project.now) unit.now.key) unit.now.out e (P.counts looked) (P.counts place.new))) }
     ensures launch_ends { IfErr result (λ e. is_of_start e ≡ true → (looked : P) × HasLooked P.tells (λ read. looked_at read (records_folder project.now) unit.now.key (command_of setup.now project.now unit.now done.now) (P.world place.old)) (P.world place.old) (P.world looked) (P.counts place.old) (P.counts looked) × LaunchEnds (place_of (records_folder project.now) unit.now.key) unit.now.out e (P.counts looked) (P.counts place.new)) }
 {
     project.is_in_order();
@@ -202,7 +207,9 @@ pub fn answer_unit<P: Place>(
     ensures written { IfErr result (λ e. is_of_write e ≡ true → (P.counts place.new).named ≡ place_of (records_folder project.now) unit.now.key) }
     ensures most { P.most place.new ≡ P.most place.old }
     ensures takes { Takes (Lands (child_of begun)) (MayAnswerUnit store.old.next unit.now.key (child_of begun)) result (P.counts place.old) (P.counts place.new) }
-    ensures lands { IsTrue P.tells → (left : P) × EndsBy (child_of begun) (IsOk result) (P.still place.old) (P.world place.old) (P.world left) (P.counts place.old) (P.counts left) × ChangesOnly (is_at_or_below (place_of (records_folder project.now) unit.now.key)) (P.world left) (P.world place.new) }
+    ensures lands { IsTrue P.tells → (left : P) × (answer : Result Ended StartFault) × EndsBy begun.awaited answer (IsOk result) (P.still place.old) (P.world place.old) (P.world left) (P.counts place.old) (P.counts left)
+        × ChangesOnly (is_at_or_below (place_of (records_folder project.now) unit.now.key)) (P.world left) (P.world place.new)
+        × ((read : Reading) → IsReading read → CallsBehind (answered_called read project.now unit.now begun.command (P.world left) begun.awaited) answer result (P.counts left) (P.counts place.new)) }
 {
     let Begun {
         unit: name,

@@ -1,17 +1,19 @@
 //! A unit that answers: its child's end, or its record again; the judgement; the record kept or renewed.
 
-ghost use Rattle.std.specs.Prelude.{◌≡◌, ◌++◌, ℕ, true, false, List, Option, IsTrue, IsSome, IsOk, IfOk, IfErr, IfSome, MatchResult, OnOk, Some, None, All, is_some, map, slice_get, slice_set};
+ghost use Rattle.std.specs.Prelude.{◌≡◌, ◌++◌, ℕ, true, false, List, Option, IsTrue, IsSome, IsOk, IfOk, IfErr, IfSome, MatchResult, OnOk, Ok, Err, Some, None, Result, All, is_some, map, slice_get, slice_set};
 ghost use Rattle.std.specs.FinMap as finite;
 ghost use Rattle.pb_command.specs.Answers.{answered_of};
 ghost use Rattle.pb_command.specs.Judge.{file_at};
 ghost use Rattle.pb_place.specs.Children.{is_flying, child_at, LandsAs, StaysStillBut};
 ghost use Rattle.pb_place.specs.Paths.{is_at_or_below};
 ghost use Rattle.pb_place.specs.World.{World, ChangesOnly, ChangesOnlyInSome};
+ghost use Rattle.pb_place.specs.declared.command.Ended.{Ended};
+ghost use Rattle.pb_place.specs.declared.place.StartFault.{StartFault};
 ghost use Rattle.pb_project.specs.Targets.{dep_info_of};
 ghost use Rattle.pb_record.specs.Parts.{IsReading};
 ghost use Rattle.pb_record.specs.Sorted.{are_sorted};
 ghost use Rattle.pb_record.specs.declared.record.Record.{Record};
-ghost use Rattle.pb_run.specs.Causes.{Takes, NoStart, Lands, MayFollow, MayAnswerUnit, is_of_write, is_spent};
+ghost use Rattle.pb_run.specs.Causes.{Takes, NoStart, Lands, MayFollow, MayAnswerUnit, MakesInTurn, is_of_write, is_spent};
 ghost use Rattle.pb_directive.specs.declared.directive.Directive.{Directive};
 ghost use Rattle.pb_flight.specs.declared.flight.State.{State};
 ghost use Rattle.pb_flight.specs.declared.flight.State.TheVariants as state;
@@ -19,7 +21,7 @@ ghost use Rattle.pb_place.specs.Folders.{files_in};
 ghost use Rattle.pb_answer.specs.declared.bad_unit.BadUnit.{BadUnit};
 ghost use Rattle.pb_project.specs.declared.project.Setup.{Setup};
 ghost use Rattle.pb_run.specs.Halves.{Footing, basis, begun_with, outcomes_in, key_at, needed_keys, Keeps, IsBegun, CanAnswer, BeginsApart, WritesTo};
-ghost use Rattle.pb_run.specs.Landing.{HasEnded};
+ghost use Rattle.pb_run.specs.Landing.{HasEnded, CallsBehind, answered_called, dep_info_looked};
 ghost use Rattle.pb_run.specs.Standing.{IsCommandOf, records_folder};
 ghost use Rattle.pb_run.specs.declared.begun.Awaited.TheVariants as awaited;
 ghost use Rattle.pb_run.specs.declared.begun.Begun.{Begun};
@@ -31,6 +33,7 @@ ghost use Rattle.pb_soundness.specs.Numbers.{IsAhead, IsBefore};
 ghost use Rattle.pb_soundness.specs.Records.{Reading, is_key, number_of, out_of, place_of, record_at};
 ghost use Rattle.pb_soundness.specs.Sound.{Sound};
 ghost use Rattle.pb_store.specs.Keeping.{HasNeeds, IsKept, Leaves, kept_of, numbered};
+ghost use Rattle.pb_store.specs.Looking.{kept_called, migrated_called};
 ghost use Rattle.pb_store.specs.Migrating.{IsMigrated, TakesNumber, lacks_number, migrated};
 
 use crate::begun::Launched;
@@ -61,7 +64,9 @@ pub(crate) fn finish<P: Place>(
     ensures most { P.most place.new ≡ P.most place.old }
     ensures still { StaysStillBut launched.now.ticket (P.counts place.old).starts.flying (P.world place.old) (P.world place.new) (P.still place.old) (P.still place.new) }
     ensures takes { (next : Option ℕ) → Takes (Lands (Some launched.now)) (MayAnswerUnit next unit (Some launched.now)) result (P.counts place.old) (P.counts place.new) }
-    ensures ended { IsTrue P.tells → HasEnded launched.now.ticket (IsOk result) (P.still place.old launched.now.ticket) (P.world place.old) (P.world place.new) (P.counts place.old) (P.counts place.new) }
+    ensures ended { IsTrue P.tells → MatchResult result
+        (λ ended. HasEnded launched.now.ticket (Ok ended) (IsOk result) (P.still place.old launched.now.ticket) (P.world place.old) (P.world place.new) (P.counts place.old) (P.counts place.new))
+        (λ e. (fault : StartFault) × HasEnded launched.now.ticket (Err fault) (IsOk result) (P.still place.old launched.now.ticket) (P.world place.old) (P.world place.new) (P.counts place.old) (P.counts place.new)) }
     ensures unwritten { IfErr result (λ e. is_of_write e ≡ false) }
 {
     match place.finish(alloc, launched.ticket) {
@@ -71,7 +76,7 @@ pub(crate) fn finish<P: Place>(
 }
 
 /// Judges the answer of a unit's child by what stands in its output folder.
-#[tactic(auto, using(crate::proofs::Causing::read_laws))]
+#[tactic(auto, using(crate::proofs::Causing::read_laws, crate::proofs::Calling::call_laws))]
 pub(crate) fn judged_now<P: Place>(
     alloc: Global,
     place: &mut P,
@@ -88,6 +93,7 @@ pub(crate) fn judged_now<P: Place>(
     ensures still { IsTrue P.tells → KeepsStill (P.still place.old) (P.still place.new) }
     ensures takes { Takes NoStart (MayFollow unit.now.key) result (P.counts place.old) (P.counts place.new) }
     ensures unwritten { IfErr result (λ e. is_of_write e ≡ false) }
+    ensures calls { MakesInTurn result (dep_info_looked (dep_info_of project.now unit.now)) (P.counts place.old) (P.counts place.new) }
 {
     let path = match dep_info_path(alloc, project.get(), unit) {
         Ok(path) => path,
@@ -145,7 +151,7 @@ fn needed_keys(
 }
 
 /// Keeps the record of a unit whose answer is good.
-#[tactic(auto, using(crate::proofs::Causing::keep_laws))]
+#[tactic(auto, using(crate::proofs::Causing::keep_laws, crate::proofs::Calling::store_laws))]
 fn keep<P: Place>(
     alloc: Global,
     place: &mut P,
@@ -170,6 +176,7 @@ fn keep<P: Place>(
     ensures still { IsTrue P.tells → KeepsStillOutside (is_at_or_below (place_of store.now.folder unit.now.key)) (P.counts place.old).starts.flying (P.still place.old) (P.still place.new) }
     ensures takes { Takes NoStart (MayFollow unit.now.key) result (P.counts place.old) (P.counts place.new) }
     ensures written { IfErr result (λ e. is_of_write e ≡ true → (P.counts place.new).named ≡ place_of store.now.folder unit.now.key) }
+    ensures calls { IsTrue P.tells → MakesInTurn result (kept_called store.now.folder unit.now.key command.now.target (P.world place.old) (needed_keys project.now unit.now) names.now) (P.counts place.old) (P.counts place.new) }
 {
     let needs = match needed_keys(alloc, project, unit) {
         Ok(needs) => needs,
@@ -195,6 +202,7 @@ fn keep<P: Place>(
 }
 
 /// Gives the record of a unit a run number, where it has none.
+#[tactic(auto, using(crate::proofs::Calling::migrate_laws))]
 fn migrate<P: Place>(
     alloc: Global,
     place: &mut P,
@@ -217,6 +225,7 @@ fn migrate<P: Place>(
     ensures still { IsTrue P.tells → KeepsStillOutside (is_at_or_below (place_of store.old.folder unit.now.key)) (P.counts place.old).starts.flying (P.still place.old) (P.still place.new) }
     ensures takes { Takes NoStart (MayAnswerUnit store.old.next unit.now.key None) result (P.counts place.old) (P.counts place.new) }
     ensures written { IfErr result (λ e. is_of_write e ≡ true → (P.counts place.new).named ≡ place_of store.old.folder unit.now.key) }
+    ensures calls { (read : Reading) → IsReading read → IsTrue P.tells → MakesInTurn result (migrated_called store.old.folder unit.now.key (needed_keys project.now unit.now) (record_at read store.old.folder (P.world place.old).files unit.now.key)) (P.counts place.old) (P.counts place.new) }
 {
     let needs = match needed_keys(alloc, project, unit) {
         Ok(needs) => needs,
@@ -280,7 +289,9 @@ pub(crate) fn land<P: Place>(
     ensures directives { IfOk result (λ ran. directives_in (outcome_by finite.empty ran) ≡ ran.directives) }
     ensures most { P.most place.new ≡ P.most place.old }
     ensures takes { Takes (Lands (Some launched.now)) (MayAnswerUnit store.now.next unit.now.key (Some launched.now)) result (P.counts place.old) (P.counts place.new) }
-    ensures lands { IsTrue P.tells → (left : P) × HasEnded launched.now.ticket (IsOk result) (P.still place.old launched.now.ticket) (P.world place.old) (P.world left) (P.counts place.old) (P.counts left) × ChangesOnly (is_at_or_below (place_of (records_folder project.now) unit.now.key)) (P.world left) (P.world place.new) }
+    ensures lands { IsTrue P.tells → (left : P) × (answer : Result Ended StartFault) × HasEnded launched.now.ticket answer (IsOk result) (P.still place.old launched.now.ticket) (P.world place.old) (P.world left) (P.counts place.old) (P.counts left)
+        × ChangesOnly (is_at_or_below (place_of (records_folder project.now) unit.now.key)) (P.world left) (P.world place.new)
+        × ((read : Reading) → IsReading read → CallsBehind (answered_called read project.now unit.now command.now (P.world left) (awaited.Child launched.now)) answer result (P.counts left) (P.counts place.new)) }
     ensures written { IfErr result (λ e. is_of_write e ≡ true → (P.counts place.new).named ≡ place_of (records_folder project.now) unit.now.key) }
 {
     project.is_in_order();
@@ -351,6 +362,7 @@ pub(crate) fn reuse<P: Place>(
     ensures spends { IfErr result (λ e. is_spent e ≡ true → again.now.numbered ≡ false) }
     ensures takes { Takes (Lands None) (MayAnswerUnit store.old.next unit.now.key None) result (P.counts place.old) (P.counts place.new) }
     ensures lands { IsTrue P.tells → ChangesOnly (is_at_or_below (place_of (records_folder project.now) unit.now.key)) (P.world place.old) (P.world place.new) }
+    ensures calls { (read : Reading) → IsReading read → IsTrue P.tells → MakesInTurn result (answered_called read project.now unit.now command.now (P.world place.old) (awaited.Record again.now) again.now.ended) (P.counts place.old) (P.counts place.new) }
     ensures written { IfErr result (λ e. is_of_write e ≡ true → (P.counts place.new).named ≡ place_of (records_folder project.now) unit.now.key) }
 {
     project.is_in_order();

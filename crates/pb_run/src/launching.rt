@@ -6,7 +6,7 @@ ghost use Rattle.pb_place.specs.Paths.{is_path, is_at_or_below};
 ghost use Rattle.pb_place.specs.World.{ChangesOnly, ChangesOnlyInSome};
 ghost use Rattle.pb_record.specs.Parts.{IsReading};
 ghost use Rattle.pb_record.specs.declared.record.Record.{Record};
-ghost use Rattle.pb_run.specs.Causes.{Takes, NoStart, IsLifted, MayBeginUnit, is_of_start};
+ghost use Rattle.pb_run.specs.Causes.{Takes, NoStart, IsLifted, MayBeginUnit, MakesInTurn, is_of_start};
 ghost use Rattle.pb_run.specs.Launching.{IsSpawned, Calls, OneCall, DropEnds, Spawns, SpawnEnds, SpawnsAnew, AnewEnds, Launches, LaunchEnds};
 ghost use Rattle.pb_soundness.specs.Apart.{is_of, KeepsStill, KeepsStillOutside};
 ghost use Rattle.pb_soundness.specs.Inputs.{Judge};
@@ -16,7 +16,7 @@ ghost use Rattle.pb_soundness.specs.Reuse.{IsSame};
 ghost use Rattle.pb_soundness.specs.Sound.{Sound};
 ghost use Rattle.pb_store.specs.Differences.{FirstDifference};
 ghost use Rattle.pb_store.specs.Keeping.{Leaves};
-ghost use Rattle.pb_store.specs.Looking.{looked_at, past_calls};
+ghost use Rattle.pb_store.specs.Looking.{looked_at};
 ghost use Rattle.pb_store.specs.Migrating.{TakesNumber};
 ghost use Rattle.pb_store.specs.Replaying.{CarriesReplayed, difference_in};
 
@@ -31,7 +31,7 @@ use pb_unit::Planned;
 use std::alloc::Global;
 
 /// Compares a unit with its record.
-#[tactic(auto, using(crate::proofs::Causing::look_laws))]
+#[tactic(auto, using(crate::proofs::Causing::look_laws, crate::proofs::Calling::store_laws))]
 pub(crate) fn compare<P: Place>(
     alloc: Global,
     place: &mut P,
@@ -48,7 +48,7 @@ pub(crate) fn compare<P: Place>(
     ensures still { IsTrue P.tells → KeepsStill (P.still place.old) (P.still place.new) }
     ensures takes { Takes NoStart (MayBeginUnit store.now.next key.now) result (P.counts place.old) (P.counts place.new) }
     ensures looks { IfErr result (λ e. is_of_start e ≡ false) }
-    ensures looked { (read : Reading) → IsReading read → IsTrue P.tells → IfOk result (λ compared. P.counts place.new ≡ past_calls (looked_at read store.now.folder key.now command.now (P.world place.old)) (P.counts place.old)) }
+    ensures looked { (read : Reading) → IsReading read → IsTrue P.tells → MakesInTurn result (looked_at read store.now.folder key.now command.now (P.world place.old)) (P.counts place.old) (P.counts place.new) }
 {
     let unit = match key.copy(alloc) {
         Ok(unit) => unit,

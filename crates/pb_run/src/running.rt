@@ -4,8 +4,9 @@ ghost use Rattle.std.specs.Prelude.{◌≡◌, ◌⊎◌, ◌+◌, max, length, 
 ghost use Rattle.pb_place.specs.Paths.{is_at_or_below};
 ghost use Rattle.pb_place.specs.World.{Ends, ChangesOnly, ChangesOnlyInSome, removed};
 ghost use Rattle.pb_place.specs.declared.command.Ended.{Ended};
-ghost use Rattle.pb_run.specs.Causes.{Takes, NoStart, OneStart, MayStart, MayRemove, MayRead};
-ghost use Rattle.pb_run.specs.Launching.{Calls, OneCall, RemovalEnds};
+ghost use Rattle.pb_run.specs.Causes.{Takes, NoStart, OneStart, MayStart, MayRemove, MayRead, MakesInTurn};
+ghost use Rattle.pb_run.specs.Landing.{dep_info_looked};
+ghost use Rattle.pb_run.specs.Launching.{Calls, OneCall, RemovalEnds, RunsOnce, SpawnEnds};
 ghost use Rattle.pb_command.specs.Judge.{file_at};
 ghost use Rattle.pb_soundness.specs.Apart.{KeepsStill, KeepsStillOutside};
 
@@ -16,7 +17,7 @@ use pb_data::{Bytes, Text};
 use pb_place::{Command, Ended, PathText, Place};
 use std::alloc::Global;
 
-/// Starts a child. Its faults have this name: `-vV` for the query of the compiler's version, else a unit's key.
+/// Starts a child, by one call, and waits for its end. Its faults have this name: `-vV` for the query of the compiler's version, else a unit's key.
 pub fn start<P: Place>(
     alloc: Global,
     place: &mut P,
@@ -28,6 +29,7 @@ pub fn start<P: Place>(
     ensures most { OnOk result (P.most place.new ≡ max (P.most place.old) (length (P.counts place.old).starts.flying + 1)) }
     ensures most_else { OnErr result ((P.most place.new ≡ P.most place.old) ⊎ (P.most place.new ≡ max (P.most place.old) (length (P.counts place.old).starts.flying + 1))) }
     ensures takes { Takes OneStart (MayStart name.now) result (P.counts place.old) (P.counts place.new) }
+    ensures calls { Calls RunsOnce SpawnEnds result (P.counts place.old) (P.counts place.new) }
 {
     let unit = match Text::from_str(alloc, name) {
         Ok(unit) => unit,
@@ -64,8 +66,8 @@ pub(crate) fn empty<P: Place>(
     }
 }
 
-/// Reads a file of the unit of this key, where one is named.
-#[tactic(auto, using(pb_store::proofs::Still::stands_same))]
+/// Reads a file of the unit of this key, where one is named, by one call.
+#[tactic(auto, using(pb_store::proofs::Still::stands_same, crate::proofs::Calling::call_laws))]
 pub(crate) fn read_at<P: Place>(
     alloc: Global,
     place: &mut P,
@@ -77,6 +79,7 @@ pub(crate) fn read_at<P: Place>(
     ensures most { P.most place.new ≡ P.most place.old }
     ensures still { IsTrue P.tells → KeepsStill (P.still place.old) (P.still place.new) }
     ensures takes { Takes NoStart (MayRead key.now) result (P.counts place.old) (P.counts place.new) }
+    ensures calls { MakesInTurn result (dep_info_looked path.now) (P.counts place.old) (P.counts place.new) }
 {
     let path = match path {
         Some(path) => path,

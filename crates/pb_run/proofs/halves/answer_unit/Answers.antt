@@ -1,4 +1,4 @@
-use Rattle.std.proofs.Common.{◌∙◌, ap, refl, subst, sym}
+use Rattle.std.proofs.Common.{◌∙◌, Ok, ap, refl, subst, sym}
 use Rattle.std.proofs.lemmas.Bool.{false≢true}
 use Rattle.pb_place.specs.Children.{child_at}
 use Rattle.pb_place.specs.Counts.{Starts}
@@ -6,9 +6,10 @@ use Rattle.pb_place.specs.Paths.{is_at_or_below}
 use Rattle.pb_place.specs.World.{ChangesOnly}
 use Rattle.pb_place.proofs.Folders.{only_same}
 use Rattle.pb_run.specs.Halves.{WritesTo, basis, child_in, child_of}
-use Rattle.pb_run.specs.Landing.{EndsBy}
+use Rattle.pb_run.specs.Landing.{CallsBehind, EndsBy, answered_called}
 use Rattle.pb_run.specs.declared.begun.Awaited.{Awaited}
 use Rattle.pb_run.specs.declared.begun.Awaited.TheVariants as awaited
+use Rattle.pb_run.proofs.Calling.{ended_badly, ended_well}
 use Rattle.pb_run.proofs.Kept.{flying_answer}
 use Rattle.pb_run.proofs.Causing.{land_spares}
 use Rattle.pb_run.proofs.Reusing.{awaited_numberless, can_by_parts, flying_alone, no_child, numbered_awaited}
@@ -90,34 +91,46 @@ returns-clause-spends g c spent = awaited_numberless c.args.begun.awaited c.in-R
 
 pub returns-in-Ok-clause-lands : goal.returns-in-Ok-clause-lands
 returns-in-Ok-clause-lands g c told =
-    let (left, ended, only) = c.in-Ok.ensures.lands told in (
+    let (left, answer, ended, only, calls) = c.in-Ok.ensures.lands told in (
       left,
-      subst (λ (o : Awaited). EndsBy (child_in o) _ (g.P.Place.still c.args.place.now) (g.P.Place.world c.args.place.now) (g.P.Place.world left) (g.P.Place.counts c.args.place.now) (g.P.Place.counts left)) (sym c.in-Child.is) ended,
+      answer,
+      subst (λ (o : Awaited). EndsBy o answer _ (g.P.Place.still c.args.place.now) (g.P.Place.world c.args.place.now) (g.P.Place.world left) (g.P.Place.counts c.args.place.now) (g.P.Place.counts left)) (sym c.in-Child.is) ended,
       only,
+      λ read reading. subst (λ (o : Awaited). CallsBehind (answered_called read c.args.project.now c.args.unit.now c.args.begun.command (g.P.Place.world left) o) answer (ended_well c.in-Ok.ran) (g.P.Place.counts left) (g.P.Place.counts c.land.new.place)) (sym c.in-Child.is) (calls read reading),
     )
 
 pub returns-in-Child-clause-lands : goal.returns-in-Child-clause-lands
 returns-in-Child-clause-lands g c told =
-    let (left, ended, only) = c.in-Err.ensures.lands told in (
+    let (left, answer, ended, only, calls) = c.in-Err.ensures.lands told in (
       left,
-      subst (λ (o : Awaited). EndsBy (child_in o) _ (g.P.Place.still c.args.place.now) (g.P.Place.world c.args.place.now) (g.P.Place.world left) (g.P.Place.counts c.args.place.now) (g.P.Place.counts left)) (sym c.in-Child.is) ended,
+      answer,
+      subst (λ (o : Awaited). EndsBy o answer _ (g.P.Place.still c.args.place.now) (g.P.Place.world c.args.place.now) (g.P.Place.world left) (g.P.Place.counts c.args.place.now) (g.P.Place.counts left)) (sym c.in-Child.is) ended,
       only,
+      λ read reading. subst (λ (o : Awaited). CallsBehind (answered_called read c.args.project.now c.args.unit.now c.args.begun.command (g.P.Place.world left) o) answer (ended_badly c.in-Err.fault) (g.P.Place.counts left) (g.P.Place.counts c.land.new.place)) (sym c.in-Child.is) (calls read reading),
     )
 
 pub returns-in-Ok-reuse-clause-lands : goal.returns-in-Ok-reuse-clause-lands
 returns-in-Ok-reuse-clause-lands g c told = (
   c.args.place.now,
+  Ok c.in-Record.again.ended,
   subst
-      (λ (o : Awaited). EndsBy (child_in o) _ (g.P.Place.still c.args.place.now) (g.P.Place.world c.args.place.now) (g.P.Place.world c.args.place.now) (g.P.Place.counts c.args.place.now) (g.P.Place.counts c.args.place.now))
-      (sym c.in-Record.is) (refl, refl),
+      (λ (o : Awaited). EndsBy o (Ok c.in-Record.again.ended) _ (g.P.Place.still c.args.place.now) (g.P.Place.world c.args.place.now) (g.P.Place.world c.args.place.now) (g.P.Place.counts c.args.place.now) (g.P.Place.counts c.args.place.now))
+      (sym c.in-Record.is) (refl, refl, refl),
   c.in-Ok-reuse.ensures.lands told,
+  λ read reading. subst
+      (λ (o : Awaited). CallsBehind (answered_called read c.args.project.now c.args.unit.now c.args.begun.command (g.P.Place.world c.args.place.now) o) (Ok c.in-Record.again.ended) (ended_well c.in-Ok-reuse.ran) (g.P.Place.counts c.args.place.now) (g.P.Place.counts c.reuse.new.place))
+      (sym c.in-Record.is) (c.in-Ok-reuse.ensures.calls read reading told),
 )
 
 pub returns-clause-lands : goal.returns-clause-lands
 returns-clause-lands g c told = (
   c.args.place.now,
+  Ok c.in-Record.again.ended,
   subst
-      (λ (o : Awaited). EndsBy (child_in o) _ (g.P.Place.still c.args.place.now) (g.P.Place.world c.args.place.now) (g.P.Place.world c.args.place.now) (g.P.Place.counts c.args.place.now) (g.P.Place.counts c.args.place.now))
-      (sym c.in-Record.is) (refl, refl),
+      (λ (o : Awaited). EndsBy o (Ok c.in-Record.again.ended) _ (g.P.Place.still c.args.place.now) (g.P.Place.world c.args.place.now) (g.P.Place.world c.args.place.now) (g.P.Place.counts c.args.place.now) (g.P.Place.counts c.args.place.now))
+      (sym c.in-Record.is) (refl, refl, refl),
   c.in-Err-reuse.ensures.lands told,
+  λ read reading. subst
+      (λ (o : Awaited). CallsBehind (answered_called read c.args.project.now c.args.unit.now c.args.begun.command (g.P.Place.world c.args.place.now) o) (Ok c.in-Record.again.ended) (ended_badly c.in-Err-reuse.fault) (g.P.Place.counts c.args.place.now) (g.P.Place.counts c.reuse.new.place))
+      (sym c.in-Record.is) (c.in-Err-reuse.ensures.calls read reading told),
 )

@@ -1,19 +1,22 @@
-use Rattle.std.proofs.Common.{◌≡◌, ◌∙◌, ℕ, List, None, ap, refl, subst, sym}
+use Rattle.std.proofs.Common.{◌≡◌, ◌∙◌, ℕ, List, None, ap, inl, inr, refl, subst, sym}
 use Rattle.pb_command.specs.Judge.{judge}
+use Rattle.pb_place.specs.CallsInTurn.{past_calls}
 use Rattle.pb_place.specs.Children.{child_at}
 use Rattle.pb_place.specs.Counts.{Starts}
 use Rattle.pb_place.specs.World.{World, ChangesOnly}
 use Rattle.pb_place.specs.declared.command.Command.{Command}
+use Rattle.pb_run.specs.Causes.{StopsAt}
 use Rattle.pb_run.specs.Halves.{CanBegin, basis}
 use Rattle.pb_run.specs.Launching.{LaunchEnds}
 use Rattle.pb_run.specs.Standing.{records_folder}
+use Rattle.pb_run.proofs.Calling.{memory_first}
 use Rattle.pb_run.proofs.Halving.{begun_none, begun_some, flies_lifted, flying_begun, keeps_launched, keeps_same, others_begun, others_same, out_asked, still_after}
 use Rattle.pb_run.proofs.Writes.{spawned_writes}
 use Rattle.pb_run.proofs.halves.begin_unit.Goals as goal
 use Rattle.pb_soundness.specs.Apart.{is_of}
 use Rattle.pb_soundness.specs.Records.{place_of, record_at}
 use Rattle.pb_store.specs.Keeping.{Leaves}
-use Rattle.pb_store.specs.Looking.{looked_at, past_calls}
+use Rattle.pb_store.specs.Looking.{looked_at}
 
 pub returns-in-Err-clause-keeps : goal.returns-in-Err-clause-keeps
 returns-in-Err-clause-keeps g c footing read sources states is told can =
@@ -114,6 +117,25 @@ returns-in-Ok-launch-clause-launches g c = (
 
 pub returns-in-Err-launch-clause-launch_ends : goal.returns-in-Err-launch-clause-launch_ends
 returns-in-Err-launch-clause-launch_ends g c of_start = (
+  c.compare.new.place,
+  record { same = c.in-Ok-compare.ensures.same; failures = c.in-Ok-compare.ensures.takes.0; starts = c.in-Ok-compare.ensures.takes.1; looks = λ read reading told. c.in-Ok-compare.ensures.looked read reading told ∙ ap (λ (folder : List ℕ). past_calls (looked_at read folder c.args.unit.now.key c.in-Ok-command.command (g.P.Place.world c.args.place.now)) (g.P.Place.counts c.args.place.now)) c.requires.folder ∙ ap (λ (command : Command). past_calls (looked_at read (records_folder c.args.project.now) c.args.unit.now.key command (g.P.Place.world c.args.place.now)) (g.P.Place.counts c.args.place.now)) c.in-Ok-command.ensures },
+  subst (λ (folder : List ℕ). LaunchEnds (place_of folder c.args.unit.now.key) c.args.unit.now.out c.in-Err-launch.fault (g.P.Place.counts c.compare.new.place) (g.P.Place.counts c.launch.new.place)) c.requires.folder c.in-Err-launch.ensures.calls,
+)
+
+pub returns-in-Err-clause-stops : goal.returns-in-Err-clause-stops
+returns-in-Err-clause-stops g c told = inl (λ read reading. memory_first _ (g.P.Place.counts c.args.place.now))
+
+pub returns-in-Err-command-clause-stops : goal.returns-in-Err-command-clause-stops
+returns-in-Err-command-clause-stops g c told = inl (λ read reading. memory_first _ (g.P.Place.counts c.args.place.now))
+
+pub returns-in-Err-compare-clause-stops : goal.returns-in-Err-compare-clause-stops
+returns-in-Err-compare-clause-stops g c told = inl (λ read reading.
+    subst (λ (command : Command). StopsAt c.in-Err-compare.fault (looked_at read (records_folder c.args.project.now) c.args.unit.now.key command (g.P.Place.world c.args.place.now)) (g.P.Place.counts c.args.place.now) (g.P.Place.counts c.compare.new.place)) c.in-Ok-command.ensures
+    (subst (λ (folder : List ℕ). StopsAt c.in-Err-compare.fault (looked_at read folder c.args.unit.now.key c.in-Ok-command.command (g.P.Place.world c.args.place.now)) (g.P.Place.counts c.args.place.now) (g.P.Place.counts c.compare.new.place)) c.requires.folder
+    (c.in-Err-compare.ensures.looked read reading told)))
+
+pub returns-in-Err-launch-clause-stops : goal.returns-in-Err-launch-clause-stops
+returns-in-Err-launch-clause-stops g c told = inr (
   c.compare.new.place,
   record { same = c.in-Ok-compare.ensures.same; failures = c.in-Ok-compare.ensures.takes.0; starts = c.in-Ok-compare.ensures.takes.1; looks = λ read reading told. c.in-Ok-compare.ensures.looked read reading told ∙ ap (λ (folder : List ℕ). past_calls (looked_at read folder c.args.unit.now.key c.in-Ok-command.command (g.P.Place.world c.args.place.now)) (g.P.Place.counts c.args.place.now)) c.requires.folder ∙ ap (λ (command : Command). past_calls (looked_at read (records_folder c.args.project.now) c.args.unit.now.key command (g.P.Place.world c.args.place.now)) (g.P.Place.counts c.args.place.now)) c.in-Ok-command.ensures },
   subst (λ (folder : List ℕ). LaunchEnds (place_of folder c.args.unit.now.key) c.args.unit.now.out c.in-Err-launch.fault (g.P.Place.counts c.compare.new.place) (g.P.Place.counts c.launch.new.place)) c.requires.folder c.in-Err-launch.ensures.calls,

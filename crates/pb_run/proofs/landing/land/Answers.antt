@@ -1,4 +1,4 @@
-use Rattle.std.proofs.Common.{◌≡◌, ◌∙◌, Some, ap, refl, slice_get, subst, sym}
+use Rattle.std.proofs.Common.{◌≡◌, ◌∙◌, Err, Ok, Some, ap, refl, slice_get, subst, sym}
 use Rattle.pb_command.specs.Judge.{judge}
 use Rattle.pb_place.specs.Counts.{Starts}
 use Rattle.pb_run.proofs.Halving.{out_lies}
@@ -9,7 +9,11 @@ use Rattle.pb_place.specs.Paths.{is_at_or_below}
 use Rattle.std.proofs.lemmas.Bool.{false≢true}
 use Rattle.pb_run.specs.Halves.{basis, outcomes_in}
 use Rattle.pb_run.specs.Outcome.{outcome_by}
+use Rattle.pb_project.specs.Targets.{dep_info_of}
+use Rattle.pb_run.specs.Landing.{dep_info_looked}
+use Rattle.pb_run.specs.declared.begun.Awaited.TheVariants as awaited
 use Rattle.pb_run.proofs.Answering.{landed_gives, landed_only}
+use Rattle.pb_run.proofs.Calling.{bad_made, ended_badly, ended_well, good_made, kept_so, stops_first}
 use Rattle.pb_run.proofs.Ending.{TellsAnswer, landed_more, landed_told}
 use Rattle.pb_run.proofs.Settling.{keeps_bad, keeps_landed}
 use Rattle.pb_run.proofs.Writes.{ended_anyway, ended_only, none_changed, record_alone, record_only, unkept_only}
@@ -125,28 +129,51 @@ pub returns-in-Ok-keep-clause-unkept : goal.returns-in-Ok-keep-clause-unkept
 returns-in-Ok-keep-clause-unkept g c told writes bad = absurd (false≢true (sym (sym c.is_some.ensures ∙ c.if-is_some.false) ∙ bad))
 
 pub returns-in-Err-clause-lands : goal.returns-in-Err-clause-lands
-returns-in-Err-clause-lands g c told = (c.finish.new.place, c.in-Err.ensures.ended told, none_changed _ (g.P.Place.world c.finish.new.place) (g.P.Place.world c.finish.new.place) refl)
+returns-in-Err-clause-lands g c told =
+    let (fault, ended) = c.in-Err.ensures.ended told in
+    (c.finish.new.place, Err fault, ended, none_changed _ (g.P.Place.world c.finish.new.place) (g.P.Place.world c.finish.new.place) refl, λ read reading. refl)
 
 pub returns-in-Err-judged_now-clause-lands : goal.returns-in-Err-judged_now-clause-lands
-returns-in-Err-judged_now-clause-lands g c told =
-    (c.finish.new.place, ended_anyway _ _ _ _ (g.P.Place.world c.args.place.now) (g.P.Place.world c.finish.new.place) (g.P.Place.counts c.args.place.now) (g.P.Place.counts c.finish.new.place) (λ wrong. absurd (false≢true wrong)) (c.in-Ok.ensures.ended told), none_changed _ (g.P.Place.world c.finish.new.place) (g.P.Place.world c.judged_now.new.place) (c.in-Err-judged_now.ensures.same told))
+returns-in-Err-judged_now-clause-lands g c told = (
+  c.finish.new.place,
+  Ok c.in-Ok.ended,
+  ended_anyway _ _ _ _ _ (g.P.Place.world c.args.place.now) (g.P.Place.world c.finish.new.place) (g.P.Place.counts c.args.place.now) (g.P.Place.counts c.finish.new.place) (λ wrong. absurd (false≢true wrong)) (c.in-Ok.ensures.ended told),
+  none_changed _ (g.P.Place.world c.finish.new.place) (g.P.Place.world c.judged_now.new.place) (c.in-Err-judged_now.ensures.same told),
+  λ read reading. stops_first c.in-Err-judged_now.fault (dep_info_looked (dep_info_of c.args.project.now c.args.unit.now)) _ (g.P.Place.counts c.finish.new.place) (g.P.Place.counts c.judged_now.new.place) c.in-Err-judged_now.ensures.calls,
+)
 
 pub returns-then-is_some-clause-lands : goal.returns-then-is_some-clause-lands
-returns-then-is_some-clause-lands g c told =
-    (c.finish.new.place, c.in-Ok.ensures.ended told, none_changed _ (g.P.Place.world c.finish.new.place) (g.P.Place.world c.judged_now.new.place) (c.in-Ok-judged_now.ensures.same told))
+returns-then-is_some-clause-lands g c told = (
+  c.finish.new.place,
+  Ok c.in-Ok.ended,
+  c.in-Ok.ensures.ended told,
+  none_changed _ (g.P.Place.world c.finish.new.place) (g.P.Place.world c.judged_now.new.place) (c.in-Ok-judged_now.ensures.same told),
+  λ read reading. bad_made read c.args.project.now c.args.unit.now c.args.command.now (awaited.Child c.args.launched.now) (g.P.Place.world c.finish.new.place) c.in-Ok.ended c.in-Ok-judged_now.judgement (c.in-Ok-judged_now.ensures.judged told)
+      (g.P.Place.counts c.finish.new.place) (g.P.Place.counts c.judged_now.new.place) c.in-Ok-judged_now.ensures.calls (sym c.is_some.ensures ∙ c.if-is_some.true),
+)
 
 pub returns-in-Ok-keep-clause-lands : goal.returns-in-Ok-keep-clause-lands
 returns-in-Ok-keep-clause-lands g c told = (
   c.finish.new.place,
+  Ok c.in-Ok.ended,
   c.in-Ok.ensures.ended told,
   record_alone c.args.store.now.folder (records_folder c.args.project.now) c.args.unit.now.key (g.P.Place.world c.finish.new.place) (g.P.Place.world c.judged_now.new.place) (g.P.Place.world c.keep.new.place) c.requires.folder
       (c.in-Ok-judged_now.ensures.same told) (c.in-Ok-keep.ensures.only told),
+  λ read reading. good_made read c.args.project.now c.args.unit.now c.args.command.now (awaited.Child c.args.launched.now) (g.P.Place.world c.finish.new.place) c.in-Ok.ended c.in-Ok-judged_now.judgement (c.in-Ok-judged_now.ensures.judged told)
+      (g.P.Place.counts c.finish.new.place) (g.P.Place.counts c.judged_now.new.place) c.in-Ok-judged_now.ensures.calls (ended_well c.in-Ok-judged_now.judgement.ran) _ (g.P.Place.counts c.keep.new.place) (sym c.is_some.ensures ∙ c.if-is_some.false)
+      (kept_so read c.args.project.now c.args.unit.now c.args.command.now c.args.launched.now c.args.store.now.folder (g.P.Place.world c.judged_now.new.place) (g.P.Place.world c.finish.new.place) c.as_slice.result.now c.in-Ok-judged_now.judgement.names c.requires.folder (c.in-Ok-judged_now.ensures.same told) c.as_slice.ensures)
+      (c.in-Ok-keep.ensures.calls told),
 )
 
 pub returns-clause-lands : goal.returns-clause-lands
 returns-clause-lands g c told = (
   c.finish.new.place,
-  ended_anyway _ _ _ _ (g.P.Place.world c.args.place.now) (g.P.Place.world c.finish.new.place) (g.P.Place.counts c.args.place.now) (g.P.Place.counts c.finish.new.place) (λ wrong. absurd (false≢true wrong)) (c.in-Ok.ensures.ended told),
+  Ok c.in-Ok.ended,
+  ended_anyway _ _ _ _ _ (g.P.Place.world c.args.place.now) (g.P.Place.world c.finish.new.place) (g.P.Place.counts c.args.place.now) (g.P.Place.counts c.finish.new.place) (λ wrong. absurd (false≢true wrong)) (c.in-Ok.ensures.ended told),
   record_alone c.args.store.now.folder (records_folder c.args.project.now) c.args.unit.now.key (g.P.Place.world c.finish.new.place) (g.P.Place.world c.judged_now.new.place) (g.P.Place.world c.keep.new.place) c.requires.folder
       (c.in-Ok-judged_now.ensures.same told) (c.in-Err-keep.ensures.only told),
+  λ read reading. good_made read c.args.project.now c.args.unit.now c.args.command.now (awaited.Child c.args.launched.now) (g.P.Place.world c.finish.new.place) c.in-Ok.ended c.in-Ok-judged_now.judgement (c.in-Ok-judged_now.ensures.judged told)
+      (g.P.Place.counts c.finish.new.place) (g.P.Place.counts c.judged_now.new.place) c.in-Ok-judged_now.ensures.calls (ended_badly c.in-Err-keep.fault) _ (g.P.Place.counts c.keep.new.place) (sym c.is_some.ensures ∙ c.if-is_some.false)
+      (kept_so read c.args.project.now c.args.unit.now c.args.command.now c.args.launched.now c.args.store.now.folder (g.P.Place.world c.judged_now.new.place) (g.P.Place.world c.finish.new.place) c.as_slice.result.now c.in-Ok-judged_now.judgement.names c.requires.folder (c.in-Ok-judged_now.ensures.same told) c.as_slice.ensures)
+      (c.in-Err-keep.ensures.calls told),
 )

@@ -1,9 +1,14 @@
-use Rattle.std.proofs.Common.{◌∙◌, ap, sym}
+use Rattle.std.proofs.Common.{◌∙◌, [], ap, is_some, refl, sym}
 use Rattle.std.proofs.lemmas.Bool.{false≢true}
 use Rattle.pb_command.specs.Judge.{judge}
 use Rattle.pb_place.specs.Counts.{Starts}
+use Rattle.pb_project.specs.Targets.{dep_info_of}
 use Rattle.pb_run.specs.Halves.{basis}
+use Rattle.pb_run.specs.Landing.{dep_info_looked}
 use Rattle.pb_run.specs.Standing.{records_folder}
+use Rattle.pb_run.specs.declared.begun.Awaited.TheVariants as awaited
+use Rattle.pb_run.specs.declared.ran.Ran.{Ran}
+use Rattle.pb_run.proofs.Calling.{bad_made, ended_badly, ended_well, good_made, numbered_so, renewed_names, stops_first}
 use Rattle.pb_run.proofs.Causing.{follow_spares}
 use Rattle.pb_run.proofs.Reusing.{flying_alone, flying_follow, keeps_bad_again, keeps_numbered, keeps_renewed, keeps_unrenewed, keys_needed, others_renewed, others_unchanged, renewed_outcome, renewed_so, renewing_so, replay_outcome, reused_only, reused_same, reused_still}
 use Rattle.pb_run.proofs.Writes.{none_changed, record_alone}
@@ -165,3 +170,32 @@ pub returns-clause-lands : goal.returns-clause-lands
 returns-clause-lands g c told =
     record_alone c.args.store.now.folder (records_folder c.args.project.now) c.args.unit.now.key (g.P.Place.world c.args.place.now) (g.P.Place.world c.judged_now.new.place) (g.P.Place.world c.migrate.new.place) c.requires.folder
     (c.in-Ok.ensures.same told) (c.in-Err-migrate.ensures.only told)
+
+pub returns-in-Err-clause-calls : goal.returns-in-Err-clause-calls
+returns-in-Err-clause-calls g c read reading told =
+    stops_first c.in-Err.fault (dep_info_looked (dep_info_of c.args.project.now c.args.unit.now)) _ (g.P.Place.counts c.args.place.now) (g.P.Place.counts c.judged_now.new.place) c.in-Err.ensures.calls
+
+pub returns-then-is_some-clause-calls : goal.returns-then-is_some-clause-calls
+returns-then-is_some-clause-calls g c read reading told =
+    bad_made read c.args.project.now c.args.unit.now c.args.command.now (awaited.Record c.args.again.now) (g.P.Place.world c.args.place.now) c.args.again.now.ended c.in-Ok.judgement (c.in-Ok.ensures.judged told)
+    (g.P.Place.counts c.args.place.now) (g.P.Place.counts c.judged_now.new.place) c.in-Ok.ensures.calls (ap (λ (r : Ran). is_some r.bad) (sym c.unstarted-ran.ensures) ∙ sym c.is_some.ensures ∙ c.if-is_some.true)
+
+pub returns-then-again-clause-calls : goal.returns-then-again-clause-calls
+returns-then-again-clause-calls g c read reading told =
+    good_made read c.args.project.now c.args.unit.now c.args.command.now (awaited.Record c.args.again.now) (g.P.Place.world c.args.place.now) c.args.again.now.ended c.in-Ok.judgement (c.in-Ok.ensures.judged told)
+    (g.P.Place.counts c.args.place.now) (g.P.Place.counts c.judged_now.new.place) c.in-Ok.ensures.calls (ended_well c.unstarted-ran.result) [] (g.P.Place.counts c.judged_now.new.place) (ap (λ (r : Ran). is_some r.bad) (sym c.unstarted-ran.ensures) ∙ sym c.is_some.ensures ∙ c.if-is_some.false)
+    (numbered_so read c.args.project.now c.args.unit.now c.args.command.now c.args.again.now (g.P.Place.world c.args.place.now) c.in-Ok.judgement.names c.if-again.true) refl
+
+pub returns-in-Ok-migrate-clause-calls : goal.returns-in-Ok-migrate-clause-calls
+returns-in-Ok-migrate-clause-calls g c read reading told =
+    good_made read c.args.project.now c.args.unit.now c.args.command.now (awaited.Record c.args.again.now) (g.P.Place.world c.args.place.now) c.args.again.now.ended c.in-Ok.judgement (c.in-Ok.ensures.judged told)
+    (g.P.Place.counts c.args.place.now) (g.P.Place.counts c.judged_now.new.place) c.in-Ok.ensures.calls (ended_well c.unstarted-ran.result) _ (g.P.Place.counts c.migrate.new.place) (ap (λ (r : Ran). is_some r.bad) (sym c.unstarted-ran.ensures) ∙ sym c.is_some.ensures ∙ c.if-is_some.false)
+    (renewed_names read c.args.project.now c.args.unit.now c.args.command.now c.args.again.now c.args.store.now.folder (g.P.Place.world c.judged_now.new.place) (g.P.Place.world c.args.place.now) c.in-Ok.judgement.names c.requires.folder (c.in-Ok.ensures.same told) c.if-again.false)
+    (c.in-Ok-migrate.ensures.calls read reading told)
+
+pub returns-clause-calls : goal.returns-clause-calls
+returns-clause-calls g c read reading told =
+    good_made read c.args.project.now c.args.unit.now c.args.command.now (awaited.Record c.args.again.now) (g.P.Place.world c.args.place.now) c.args.again.now.ended c.in-Ok.judgement (c.in-Ok.ensures.judged told)
+    (g.P.Place.counts c.args.place.now) (g.P.Place.counts c.judged_now.new.place) c.in-Ok.ensures.calls (ended_badly c.in-Err-migrate.fault) _ (g.P.Place.counts c.migrate.new.place) (ap (λ (r : Ran). is_some r.bad) (sym c.unstarted-ran.ensures) ∙ sym c.is_some.ensures ∙ c.if-is_some.false)
+    (renewed_names read c.args.project.now c.args.unit.now c.args.command.now c.args.again.now c.args.store.now.folder (g.P.Place.world c.judged_now.new.place) (g.P.Place.world c.args.place.now) c.in-Ok.judgement.names c.requires.folder (c.in-Ok.ensures.same told) c.if-again.false)
+    (c.in-Err-migrate.ensures.calls read reading told)

@@ -1,0 +1,162 @@
+-- Calls of a unit in turn, with the faults that a build tells of them.
+use Rattle.std.proofs.Common.{◌≡◌, ◌∙◌, ◌++◌, ◌⊎◌, inl, inr, ℕ, true, false, cond, is_some, List, [], ◌∷◌, Result, Ok, Err, sym, ap, subst}
+use Rattle.pb_answer.specs.declared.fault.BuildFault.{BuildFault}
+use Rattle.pb_answer.specs.declared.fault.BuildFault.TheVariants.{Plan, Toolchain, Child, Device, Sink, OutOfMemory}
+use Rattle.pb_answer.specs.declared.fault.DeviceFault.TheVariants.{Place, NumbersSpent}
+use Rattle.pb_place.specs.CallsInTurn.{FailsAt, MakesSome, past_calls}
+use Rattle.pb_place.specs.Counts.{Counts, past_call, past_place_fault}
+use Rattle.pb_place.specs.declared.place.PlaceFault.{PlaceFault}
+use Rattle.pb_place.specs.declared.place.PlaceFault.TheVariants as place
+use Rattle.pb_place.specs.World.{World}
+use Rattle.pb_place.specs.declared.command.Command.{Command}
+use Rattle.pb_place.specs.declared.command.Ended.{Ended}
+use Rattle.pb_place.proofs.CallsInTurn.{fails_left, fails_right, made_both, some_all, some_left, some_none, some_right}
+use Rattle.pb_command.specs.Answers.{answered_of}
+use Rattle.pb_command.specs.Judge.{file_at}
+use Rattle.pb_project.specs.Targets.{dep_info_of}
+use Rattle.pb_project.specs.declared.project.Project.{Project}
+use Rattle.pb_record.specs.declared.record.InputName.{InputName}
+use Rattle.pb_run.specs.Causes.{MakesInTurn, StopsAt, device_fault, store_fault}
+use Rattle.pb_run.specs.Halves.{needed_keys}
+use Rattle.pb_run.specs.Landing.{answered_called, dep_info_looked, judged_called, recorded_called}
+use Rattle.pb_run.specs.Outcome.{judgement_by}
+use Rattle.pb_run.specs.Standing.{records_folder}
+use Rattle.pb_run.specs.declared.begun.Awaited.{Awaited}
+use Rattle.pb_run.specs.declared.begun.Awaited.TheVariants as awaited
+use Rattle.pb_run.specs.declared.begun.Launched.{Launched}
+use Rattle.pb_run.specs.declared.ran.Judgement.{Judgement}
+use Rattle.pb_run.specs.declared.ran.Ran.{Ran}
+use Rattle.pb_soundness.specs.Records.{Reading, record_at}
+use Rattle.pb_store.specs.Looking as looking
+use Rattle.pb_store.specs.Looking.{kept_called, migrated_called}
+use Rattle.pb_store.specs.declared.replaying.Replayed.{Replayed}
+use Rattle.pb_unit.specs.declared.plan.Planned.{Planned}
+use Rattle.pb_store.specs.declared.fault.StoreFault.{StoreFault}
+use Rattle.pb_store.specs.declared.fault.StoreFault.TheVariants as store
+
+-- a first step stops it, and no second comes
+pub stops_first : (e : BuildFault) (a b : List (List ℕ)) (old new : Counts) → StopsAt e a old new → StopsAt e (a ++ b) old new
+stops_first (Plan refusal) a b old new is = is
+stops_first Toolchain a b old new is = is
+stops_first (Child unit fault) a b old new is = is
+stops_first (Device unit (Place fault)) a b old new is = fails_left fault a b old new is
+stops_first (Device unit NumbersSpent) a b old new is = some_left a b old new is
+stops_first Sink a b old new is = is
+stops_first OutOfMemory a b old new is = some_left a b old new is
+
+-- a second step stops it, after a first
+pub stops_then : (e : BuildFault) (a b : List (List ℕ)) (old mid new : Counts) → mid ≡ past_calls a old → StopsAt e b mid new → StopsAt e (a ++ b) old new
+stops_then (Plan refusal) a b old mid new first is = is
+stops_then Toolchain a b old mid new first is = is
+stops_then (Child unit fault) a b old mid new first is = is
+stops_then (Device unit (Place fault)) a b old mid new first is = fails_right fault a b old mid new first is
+stops_then (Device unit NumbersSpent) a b old mid new first is = some_right a b old mid new first is
+stops_then Sink a b old mid new first is = is
+stops_then OutOfMemory a b old mid new first is = some_right a b old mid new first is
+
+-- memory is refused before the first call, or behind the last
+pub memory_first : (names : List (List ℕ)) (c : Counts) → StopsAt OutOfMemory names c c
+memory_first names c = some_none names c
+
+pub memory_last : (names : List (List ℕ)) (old new : Counts) → new ≡ past_calls names old → StopsAt OutOfMemory names old new
+memory_last names old new is = subst (λ c. MakesSome names old c) (sym is) (some_all names old)
+
+-- the one call
+one_stops : (name unit : List ℕ) (fault : PlaceFault) (old new : Counts) → new ≡ past_place_fault name fault old → StopsAt (device_fault unit fault) (name ∷ []) old new
+one_stops name unit place.Read old new is = inl is
+one_stops name unit place.List old new is = inl is
+one_stops name unit place.Write old new is = inl is
+one_stops name unit place.Remove old new is = inl is
+one_stops name unit place.Variable old new is = inl is
+one_stops name unit place.OutOfMemory old new is = inr is
+
+pub call_stops : (name unit : List ℕ) (fault : PlaceFault) (told : BuildFault) (old new : Counts) → told ≡ device_fault unit fault → new ≡ past_place_fault name fault old → StopsAt told (name ∷ []) old new
+call_stops name unit fault told old new is counts = subst (λ e. StopsAt e (name ∷ []) old new) (sym is) (one_stops name unit fault old new counts)
+
+-- a call of the store
+memory_some : (names : List (List ℕ)) (old new : Counts) → FailsAt place.OutOfMemory names old new → MakesSome names old new
+memory_some [] old new is = absurd is
+memory_some (name ∷ names) old new (inl is) = inr (subst (λ c. MakesSome names (past_call old) c) (sym is) (some_none names (past_call old)))
+memory_some (name ∷ names) old new (inr is) = inr (memory_some names (past_call old) new is)
+
+stored_stops : (unit : List ℕ) (e : StoreFault) (names : List (List ℕ)) (old new : Counts) → looking.StopsAt e names old new → StopsAt (store_fault unit e) names old new
+stored_stops unit (store.Place place.Read) names old new is = is
+stored_stops unit (store.Place place.List) names old new is = is
+stored_stops unit (store.Place place.Write) names old new is = is
+stored_stops unit (store.Place place.Remove) names old new is = is
+stored_stops unit (store.Place place.Variable) names old new is = is
+stored_stops unit (store.Place place.OutOfMemory) names old new is = memory_some names old new is
+stored_stops unit store.NumbersSpent names old new is = absurd is
+stored_stops unit store.OutOfMemory names old new is = is
+
+pub store_stops : (unit : List ℕ) (e : StoreFault) (told : BuildFault) (names : List (List ℕ)) (old new : Counts) → told ≡ store_fault unit e → looking.StopsAt e names old new → StopsAt told names old new
+store_stops unit e told names old new is stops = subst (λ f. StopsAt f names old new) (sym is) (stored_stops unit e names old new stops)
+
+-- one that gives a record a number may find none left, behind the reading of the record
+spent_some : (name : List ℕ) (more : List (List ℕ)) (old new : Counts) → new ≡ past_calls (name ∷ []) old → MakesSome (name ∷ more) old new
+spent_some name more old new is = inr (subst (λ c. MakesSome more (past_call old) c) (sym is) (some_none more (past_call old)))
+
+no_spent : {T : Type 0} (r : Result T StoreFault) (e : StoreFault) → r ≡ Err e → r ≡ Err store.NumbersSpent → e ≡ store.NumbersSpent
+no_spent r e is spent = cc
+
+pub migrate_stops : {T : Type 0} (r : Result T StoreFault) (unit : List ℕ) (e : StoreFault) (told : BuildFault) (name : List ℕ) (more : List (List ℕ)) (old new : Counts) → r ≡ Err e → told ≡ store_fault unit e
+    → ((r ≡ Err store.NumbersSpent) × (new ≡ past_calls (name ∷ []) old)) ⊎ looking.StopsAt e (name ∷ more) old new → StopsAt told (name ∷ more) old new
+migrate_stops r unit e told name more old new so is (inl spent) =
+    subst (λ f. StopsAt f (name ∷ more) old new) (sym (is ∙ ap (store_fault unit) (no_spent r e so spent.0))) (spent_some name more old new spent.1)
+migrate_stops r unit e told name more old new so is (inr stops) = store_stops unit e told (name ∷ more) old new is stops
+
+pub ruleset call_laws = (call_stops, memory_first, memory_last)
+
+pub ruleset store_laws = (store_stops, memory_first)
+
+pub ruleset migrate_laws = (migrate_stops, memory_first)
+
+-- what came of a unit, and a fault
+abbrev pub ended_well : Ran → Result Ran BuildFault
+ended_well ran = Ok ran
+
+abbrev pub ended_badly : BuildFault → Result Ran BuildFault
+ended_badly fault = Err fault
+
+-- Two steps in turn.
+pub made_then : {T : Type 0} (result : Result T BuildFault) (a b : List (List ℕ)) (old mid new : Counts) → mid ≡ past_calls a old → MakesInTurn result b mid new → MakesInTurn result (a ++ b) old new
+made_then (Ok x) a b old mid new first second = made_both a b old mid new first second
+made_then (Err e) a b old mid new first second = stops_then e a b old mid new first second
+
+-- What comes behind the dep-info, by the judgement of the answer.
+module _ (read : Reading) (project : Project) (u : Planned) (c : Command) (by : Awaited) (w : World) (ended : Ended) (j : Judgement)
+    (judged : j ≡ judgement_by project u ended (answered_of project u c ended (file_at (dep_info_of project u) w.files))) (old mid : Counts) (first : mid ≡ past_calls (dep_info_looked (dep_info_of project u)) old) where
+  told_of : {T : Type 0} (result : Result T BuildFault) (new : Counts) → MakesInTurn result (judged_called read project u c w by j) mid new → MakesInTurn result (answered_called read project u c w by ended) old new
+  told_of result new makes =
+      subst (λ (x : Judgement). MakesInTurn result (dep_info_looked (dep_info_of project u) ++ judged_called read project u c w by x) old new) judged
+      (made_then result (dep_info_looked (dep_info_of project u)) (judged_called read project u c w by j) old mid new first makes)
+
+  -- the unit is bad
+  pub bad_made : is_some j.ran.bad ≡ true → mid ≡ past_calls (answered_called read project u c w by ended) old
+  bad_made bad =
+      subst (λ (x : Judgement). mid ≡ past_calls (dep_info_looked (dep_info_of project u) ++ judged_called read project u c w by x) old) judged
+      (made_both (dep_info_looked (dep_info_of project u)) (judged_called read project u c w by j) old mid mid first (ap (λ b. past_calls (cond b [] (recorded_called read project u c w j.names by)) mid) (sym bad)))
+
+  -- it is good, and just these calls were made then
+  pub good_made : {T : Type 0} (result : Result T BuildFault) (names : List (List ℕ)) (new : Counts) → is_some j.ran.bad ≡ false → names ≡ recorded_called read project u c w j.names by → MakesInTurn result names mid new
+      → MakesInTurn result (answered_called read project u c w by ended) old new
+  good_made result names new good are makes =
+      told_of result new (subst (λ b. MakesInTurn result (cond b [] (recorded_called read project u c w j.names by)) mid new) (sym good) (subst (λ (ns : List (List ℕ)). MakesInTurn result ns mid new) are makes))
+
+-- the record is kept; it has a number; it is given one
+pub kept_so : (read : Reading) (project : Project) (u : Planned) (c : Command) (l : Launched) (folder : List ℕ) (v w : World) (names known : List InputName) → folder ≡ records_folder project → v ≡ w → names ≡ known
+    → kept_called folder u.key c.target v (needed_keys project u) names ≡ recorded_called read project u c w known (awaited.Child l)
+kept_so read project u c l folder v w names known is same are =
+    ap (λ (f : List ℕ). kept_called f u.key c.target v (needed_keys project u) names) is
+    ∙ ap (λ (x : World). kept_called (records_folder project) u.key c.target x (needed_keys project u) names) same
+    ∙ ap (λ (ns : List InputName). kept_called (records_folder project) u.key c.target w (needed_keys project u) ns) are
+
+pub numbered_so : (read : Reading) (project : Project) (u : Planned) (c : Command) (again : Replayed) (w : World) (known : List InputName) → again.numbered ≡ true → [] ≡ recorded_called read project u c w known (awaited.Record again)
+numbered_so read project u c again w known is = ap (λ b. cond b [] (migrated_called (records_folder project) u.key (needed_keys project u) (record_at read (records_folder project) w.files u.key))) (sym is)
+
+pub renewed_names : (read : Reading) (project : Project) (u : Planned) (c : Command) (again : Replayed) (folder : List ℕ) (v w : World) (known : List InputName) → folder ≡ records_folder project → v ≡ w → again.numbered ≡ false
+    → migrated_called folder u.key (needed_keys project u) (record_at read folder v.files u.key) ≡ recorded_called read project u c w known (awaited.Record again)
+renewed_names read project u c again folder v w known is same lacks =
+    ap (λ (f : List ℕ). migrated_called f u.key (needed_keys project u) (record_at read f v.files u.key)) is
+    ∙ ap (λ (x : World). migrated_called (records_folder project) u.key (needed_keys project u) (record_at read (records_folder project) x.files u.key)) same
+    ∙ ap (λ b. cond b [] (migrated_called (records_folder project) u.key (needed_keys project u) (record_at read (records_folder project) w.files u.key))) (sym lacks)
