@@ -5,9 +5,10 @@ ghost use Rattle.pb_place.specs.Counts.{up, counted, counted_start};
 
 use pb_place::{Failure, PlaceFault, StartFault};
 
-/// The three counters of a place, and its last fault.
+/// The counters of a place, and its last fault.
 #[derive(Clone, Copy, PartialEq, Eq)]
 struct Counters {
+    calls: u64,
     failures: u64,
     starts: u64,
     late: u64,
@@ -16,6 +17,7 @@ struct Counters {
 
 /// The counters after a call that did not fail.
 fn past_call(before: Counters) -> Counters
+    ensures calls { result.calls ≡ up before.calls }
     ensures failures { result.failures ≡ before.failures }
     ensures starts { result.starts ≡ before.starts }
     ensures late { result.late ≡ (if before.failures == 0 then 0 else up before.late) }
@@ -26,17 +28,23 @@ fn past_call(before: Counters) -> Counters
     } else {
         before.late.saturating_add(1)
     };
-    Counters { late, ..before }
+    Counters {
+        calls: before.calls.saturating_add(1),
+        late,
+        ..before
+    }
 }
 
 /// The counters after a call that failed.
 fn past_fault(failure: Failure, before: Counters) -> Counters
+    ensures calls { result.calls ≡ up before.calls }
     ensures failures { result.failures ≡ up before.failures }
     ensures starts { result.starts ≡ before.starts }
     ensures late { result.late ≡ 0 }
     ensures last { result.last ≡ Some failure }
 {
     Counters {
+        calls: before.calls.saturating_add(1),
         failures: before.failures.saturating_add(1),
         late: 0,
         last: Some(failure),
@@ -46,10 +54,11 @@ fn past_fault(failure: Failure, before: Counters) -> Counters
 
 /// The counters after a call on files or variables.
 fn after_call(answer: Result<(), PlaceFault>, before: Counters) -> Counters
-    ensures failures { result.failures ≡ (counted [] answer record { failures = before.failures; starts = record { count = before.starts; flying = [] }; late = before.late; last = before.last; named = [] }).failures }
-    ensures starts { result.starts ≡ (counted [] answer record { failures = before.failures; starts = record { count = before.starts; flying = [] }; late = before.late; last = before.last; named = [] }).starts.count }
-    ensures late { result.late ≡ (counted [] answer record { failures = before.failures; starts = record { count = before.starts; flying = [] }; late = before.late; last = before.last; named = [] }).late }
-    ensures last { result.last ≡ (counted [] answer record { failures = before.failures; starts = record { count = before.starts; flying = [] }; late = before.late; last = before.last; named = [] }).last }
+    ensures calls { result.calls ≡ (counted [] answer record { calls = before.calls; failures = before.failures; starts = record { count = before.starts; flying = [] }; late = before.late; last = before.last; named = [] }).calls }
+    ensures failures { result.failures ≡ (counted [] answer record { calls = before.calls; failures = before.failures; starts = record { count = before.starts; flying = [] }; late = before.late; last = before.last; named = [] }).failures }
+    ensures starts { result.starts ≡ (counted [] answer record { calls = before.calls; failures = before.failures; starts = record { count = before.starts; flying = [] }; late = before.late; last = before.last; named = [] }).starts.count }
+    ensures late { result.late ≡ (counted [] answer record { calls = before.calls; failures = before.failures; starts = record { count = before.starts; flying = [] }; late = before.late; last = before.last; named = [] }).late }
+    ensures last { result.last ≡ (counted [] answer record { calls = before.calls; failures = before.failures; starts = record { count = before.starts; flying = [] }; late = before.late; last = before.last; named = [] }).last }
 {
     match answer {
         Ok(()) => past_call(before),
@@ -60,10 +69,11 @@ fn after_call(answer: Result<(), PlaceFault>, before: Counters) -> Counters
 
 /// The counters after a start.
 fn after_start(answer: Result<(), StartFault>, before: Counters) -> Counters
-    ensures failures { result.failures ≡ (counted_start answer record { failures = before.failures; starts = record { count = before.starts; flying = [] }; late = before.late; last = before.last; named = [] }).failures }
-    ensures starts { result.starts ≡ (counted_start answer record { failures = before.failures; starts = record { count = before.starts; flying = [] }; late = before.late; last = before.last; named = [] }).starts.count }
-    ensures late { result.late ≡ (counted_start answer record { failures = before.failures; starts = record { count = before.starts; flying = [] }; late = before.late; last = before.last; named = [] }).late }
-    ensures last { result.last ≡ (counted_start answer record { failures = before.failures; starts = record { count = before.starts; flying = [] }; late = before.late; last = before.last; named = [] }).last }
+    ensures calls { result.calls ≡ (counted_start answer record { calls = before.calls; failures = before.failures; starts = record { count = before.starts; flying = [] }; late = before.late; last = before.last; named = [] }).calls }
+    ensures failures { result.failures ≡ (counted_start answer record { calls = before.calls; failures = before.failures; starts = record { count = before.starts; flying = [] }; late = before.late; last = before.last; named = [] }).failures }
+    ensures starts { result.starts ≡ (counted_start answer record { calls = before.calls; failures = before.failures; starts = record { count = before.starts; flying = [] }; late = before.late; last = before.last; named = [] }).starts.count }
+    ensures late { result.late ≡ (counted_start answer record { calls = before.calls; failures = before.failures; starts = record { count = before.starts; flying = [] }; late = before.late; last = before.last; named = [] }).late }
+    ensures last { result.last ≡ (counted_start answer record { calls = before.calls; failures = before.failures; starts = record { count = before.starts; flying = [] }; late = before.late; last = before.last; named = [] }).last }
 {
     let begun = Counters {
         starts: before.starts.saturating_add(1),
@@ -77,8 +87,9 @@ fn after_start(answer: Result<(), StartFault>, before: Counters) -> Counters
 }
 
 /// The counters with these numbers.
-fn of_numbers(failures: u64, starts: u64, late: u64) -> Counters {
+fn of_numbers(calls: u64, failures: u64, starts: u64, late: u64) -> Counters {
     Counters {
+        calls,
         failures,
         starts,
         late,
@@ -99,9 +110,9 @@ const LATE: &[(u64, u64, u64)] = &[(0, 0, 0), (0, 1, 1), (4, 2, 5), (u64::MAX, 1
 
 /// Whether calls and starts that do not fail, or want memory, give these counters.
 fn pass(late: u64, failures: u64, want: u64) -> bool {
-    let before = of_numbers(failures, 3, late);
-    let after = of_numbers(failures, 3, want);
-    let begun = of_numbers(failures, 4, want);
+    let before = of_numbers(7, failures, 3, late);
+    let after = of_numbers(8, failures, 3, want);
+    let begun = of_numbers(8, failures, 4, want);
     after_call(Ok(()), before) == after
         && after_call(Err(PlaceFault::OutOfMemory), before) == after
         && after_start(Ok(()), before) == begun
@@ -119,8 +130,8 @@ const CALLED: &[PlaceFault] = &[
 
 /// Whether a call that fails so is counted.
 fn is_counted(fault: PlaceFault) -> bool {
-    after_call(Err(fault), of_numbers(1, 3, 9))
-        == after_fault(Failure::Called(fault), of_numbers(2, 3, 0))
+    after_call(Err(fault), of_numbers(7, 1, 3, 9))
+        == after_fault(Failure::Called(fault), of_numbers(8, 2, 3, 0))
 }
 
 /// Faults of starts.
@@ -132,14 +143,14 @@ const STARTED: &[StartFault] = &[
 
 /// Whether a start that fails so is counted.
 fn start_is_counted(fault: StartFault) -> bool {
-    after_start(Err(fault), of_numbers(0, 3, 0))
-        == after_fault(Failure::Started(fault), of_numbers(1, 4, 0))
+    after_start(Err(fault), of_numbers(0, 0, 3, 0))
+        == after_fault(Failure::Started(fault), of_numbers(1, 1, 4, 0))
 }
 
 /// Whether full counters stay so after a call and a start that fail.
 fn full_stay() -> bool {
-    let full = of_numbers(u64::MAX, u64::MAX, 9);
-    let failed = of_numbers(u64::MAX, u64::MAX, 0);
+    let full = of_numbers(u64::MAX, u64::MAX, u64::MAX, 9);
+    let failed = of_numbers(u64::MAX, u64::MAX, u64::MAX, 0);
     let read = Failure::Called(PlaceFault::Read);
     let died = Failure::Started(StartFault::Died);
     after_call(Err(PlaceFault::Read), full) == after_fault(read, failed)
@@ -149,8 +160,8 @@ fn full_stay() -> bool {
 /// Whether a call that passes, and want of memory, leave the last fault.
 fn last_stays() -> bool {
     let read = Failure::Called(PlaceFault::Read);
-    let before = after_fault(read, of_numbers(1, 0, 0));
-    let after = after_fault(read, of_numbers(1, 0, 1));
+    let before = after_fault(read, of_numbers(4, 1, 0, 0));
+    let after = after_fault(read, of_numbers(5, 1, 0, 1));
     after_call(Ok(()), before) == after && after_call(Err(PlaceFault::OutOfMemory), before) == after
 }
 
