@@ -1,14 +1,16 @@
 -- Files that are put in a folder in turn, up to one at which that ended.
-use Rattle.std.proofs.Common.{◌≡◌, ◌∙◌, ◌<◌, ◌≤◌, ◌+◌, ◌==◌, ℕ, zero, suc, Bool, true, List, [], ◌∷◌, ◌++◌, length, take, drop, get_or, IsTrue, Option, Some, None, refl, sym, ap, ap₂, subst, inl, inr, arith}
-use Rattle.std.proofs.lemmas.List.{drop_more, length-take-le, take_more, take-append-drop}
+use Rattle.std.proofs.Common.{◌≡◌, ◌∙◌, ◌<◌, ◌+◌, ◌==◌, ℕ, Bool, true, List, [], ◌∷◌, ◌++◌, length, take, drop, get_or, IsTrue, Option, Some, None, refl, sym, ap, ap₂, subst, inl, inr, arith}
+use Rattle.std.proofs.lemmas.List.{drop_more, take_more, take-append-drop}
 use Rattle.std.proofs.lemmas.Bool.Decides.{Decides-eqb}
 use Rattle.std.specs.FinMap as map
+use Rattle.pb_place.specs.CallsInTurn.{past_calls}
 use Rattle.pb_place.specs.Counts.{Counts, past_call, past_place_fault}
 use Rattle.pb_place.specs.Paths.{below}
 use Rattle.pb_place.specs.World.{World, Map, Torn, put_files, put_reply, written}
 use Rattle.pb_place.specs.declared.place.PlaceFault.{PlaceFault}
 use Rattle.pb_place.specs.declared.place.PlaceFault.TheVariants as place
-use Rattle.pb_mini_program.specs.Writing.{FailsToPut, Kept, PutsIn, StopsPutting, past_calls}
+use Rattle.pb_place.proofs.CallsInTurn.{made_both}
+use Rattle.pb_mini_program.specs.Writing.{FailsToPut, Kept, PutsIn, StopsPutting, paths_in}
 
 -- one file more
 put_last : (folder : List ℕ) (done : List (List ℕ × List ℕ)) (file : List ℕ × List ℕ) (m : Map)
@@ -28,20 +30,22 @@ put_more folder files i file path bytes old mid new on is is_path is_bytes put o
 parts : (files : List (List ℕ × List ℕ)) (i : ℕ) (file : List ℕ × List ℕ) → i < length files → file ≡ get_or files i file → files ≡ take i files ++ file ∷ drop (i + 1) files
 parts files i file on is = sym (take-append-drop i files) ∙ ap (λ r. take i files ++ r) (drop_more files i file on ∙ ap (λ f. f ∷ drop (i + 1) files) (sym is))
 
--- after calls that did not fail, all else than `late` is as it was
-none_failed : (n : ℕ) (c : Counts) → past_calls n c ≡ record c { late = (past_calls n c).late }
-none_failed zero c = refl
-none_failed (suc n) c =
-    let past : past_calls (suc n) c ≡ past_call record c { late = (past_calls n c).late } = ap past_call (none_failed n c) in
-    past ∙ sym (ap (λ d. record c { late = d.late }) past)
+-- one call more, for the file behind these
+paths_last : (folder : List ℕ) (done : List (List ℕ × List ℕ)) (file : List ℕ × List ℕ) → paths_in folder (done ++ file ∷ []) ≡ paths_in folder done ++ below folder file.0 ∷ []
+paths_last folder [] file = refl
+paths_last folder (f ∷ done) file = ap (λ paths. below folder f.0 ∷ paths) (paths_last folder done file)
 
--- one call more that did not fail
-pub past_more : (old mid new : Counts) (n : ℕ) → mid ≡ past_calls n old → new ≡ past_call mid → new ≡ past_calls (n + 1) old
-past_more old mid new n so is = let more : suc n ≡ n + 1 = omega arith in is ∙ ap past_call so ∙ ap (λ m. past_calls m old) more
+past_last : (folder : List ℕ) (done : List (List ℕ × List ℕ)) (file : List ℕ × List ℕ) (old mid new : Counts)
+    → mid ≡ past_calls (paths_in folder done) old → new ≡ past_call mid → new ≡ past_calls (paths_in folder (done ++ file ∷ [])) old
+past_last folder done file old mid new so is =
+    made_both (paths_in folder done) (below folder file.0 ∷ []) old mid new so is ∙ ap (λ paths. past_calls paths old) (sym (paths_last folder done file))
 
--- the files before one are as many as its place says
-taken : (files : List (List ℕ × List ℕ)) (i : ℕ) → i < length files → length (take i files) ≡ i
-taken files i on = let le : i ≤ length files = omega arith in length-take-le i files le
+pub past_more : (folder : List ℕ) (files : List (List ℕ × List ℕ)) (i : ℕ) (file : List ℕ × List ℕ) (old mid new : Counts)
+    → i < length files → file ≡ get_or files i file
+    → mid ≡ past_calls (paths_in folder (take i files)) old → new ≡ past_call mid → new ≡ past_calls (paths_in folder (take (i + 1) files)) old
+past_more folder files i file old mid new on here so is =
+    past_last folder (take i files) file old mid new so is
+    ∙ sym (ap (λ fs. past_calls (paths_in folder fs) old) (take_more files i file on ∙ ap (λ f. take i files ++ f ∷ []) (sym here)))
 
 torn : (path bytes path' bytes' : List ℕ) (mid mid' new : World) → path ≡ path' → bytes ≡ bytes' → mid ≡ mid' → Torn path bytes mid new → Torn path' bytes' mid' new
 torn path bytes path' bytes' mid mid' new p b m t =
@@ -50,21 +54,21 @@ torn path bytes path' bytes' mid mid' new p b m t =
 -- the write of this file failed
 pub fails_at : (tells : Bool) (folder : List ℕ) (files : List (List ℕ × List ℕ)) (i : ℕ) (file : List ℕ × List ℕ) (path bytes : List ℕ) (e : PlaceFault) (old mid new : Kept)
     → i < length files → file ≡ get_or files i file → path ≡ below folder file.0 → bytes ≡ file.1
-    → mid.counts ≡ past_calls i old.counts → (IsTrue tells → mid.world ≡ put_reply (Some folder) (take i files) old.world)
+    → mid.counts ≡ past_calls (paths_in folder (take i files)) old.counts → (IsTrue tells → mid.world ≡ put_reply (Some folder) (take i files) old.world)
     → e ≡ place.Write → new.counts ≡ past_place_fault path e mid.counts → (IsTrue tells → Torn path bytes mid.world new.world) → FailsToPut tells folder files old new
 fails_at tells folder files i file path bytes e old mid new on is is_path is_bytes so put is_write counts tears = (
   take i files,
   file,
   drop (i + 1) files,
   parts files i file on is,
-  counts ∙ ap₂ (λ p f. past_place_fault p f mid.counts) is_path is_write ∙ ap (past_place_fault (below folder file.0) place.Write) (so ∙ none_failed i old.counts),
+  counts ∙ ap₂ (λ p f. past_place_fault p f mid.counts) is_path is_write ∙ ap (past_place_fault (below folder file.0) place.Write) so,
   λ told. torn path bytes (below folder file.0) file.1 mid.world (put_reply (Some folder) (take i files) old.world) new.world is_path is_bytes (put told) (tears told),
 )
 
 -- memory was refused at its write
 pub stops_at : (tells : Bool) (folder : List ℕ) (files : List (List ℕ × List ℕ)) (i : ℕ) (file : List ℕ × List ℕ) (path bytes : List ℕ) (e : PlaceFault) (old mid new : Kept)
     → i < length files → file ≡ get_or files i file → path ≡ below folder file.0 → bytes ≡ file.1
-    → mid.counts ≡ past_calls i old.counts → (IsTrue tells → mid.world ≡ put_reply (Some folder) (take i files) old.world)
+    → mid.counts ≡ past_calls (paths_in folder (take i files)) old.counts → (IsTrue tells → mid.world ≡ put_reply (Some folder) (take i files) old.world)
     → e ≡ place.OutOfMemory → new.counts ≡ past_place_fault path e mid.counts → (IsTrue tells → Torn path bytes mid.world new.world) → StopsPutting tells folder files old new
 stops_at tells folder files i file path bytes e old mid new on is is_path is_bytes so put is_memory counts tears = (
   take i files,
@@ -72,7 +76,7 @@ stops_at tells folder files i file path bytes e old mid new on is is_path is_byt
   drop (i + 1) files,
   parts files i file on is,
   inr (
-    past_more old.counts mid.counts new.counts i so (counts ∙ ap (λ f. past_place_fault path f mid.counts) is_memory) ∙ sym (ap (λ n. past_calls (n + 1) old.counts) (taken files i on)),
+    past_last folder (take i files) file old.counts mid.counts new.counts so (counts ∙ ap (λ f. past_place_fault path f mid.counts) is_memory),
     λ told. torn path bytes (below folder file.0) file.1 mid.world (put_reply (Some folder) (take i files) old.world) new.world is_path is_bytes (put told) (tears told),
   ),
 )
@@ -80,13 +84,13 @@ stops_at tells folder files i file path bytes e old mid new on is is_path is_byt
 -- or before it
 pub stops_before : (tells : Bool) (folder : List ℕ) (files : List (List ℕ × List ℕ)) (i : ℕ) (file : List ℕ × List ℕ) (old new : Kept)
     → i < length files → file ≡ get_or files i file
-    → new.counts ≡ past_calls i old.counts → (IsTrue tells → new.world ≡ put_reply (Some folder) (take i files) old.world) → StopsPutting tells folder files old new
+    → new.counts ≡ past_calls (paths_in folder (take i files)) old.counts → (IsTrue tells → new.world ≡ put_reply (Some folder) (take i files) old.world) → StopsPutting tells folder files old new
 stops_before tells folder files i file old new on is so put = (
   take i files,
   file,
   drop (i + 1) files,
   parts files i file on is,
-  inl (so ∙ sym (ap (λ n. past_calls n old.counts) (taken files i on)), put),
+  inl (so, put),
 )
 
 -- no files are put anywhere

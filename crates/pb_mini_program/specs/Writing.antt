@@ -1,7 +1,8 @@
 -- What the program writes of a reply, and at what it stops: first the files, then the output, then standard error. Nothing is written behind a write that failed.
-use Rattle.std.specs.Prelude.{◌≡◌, ◌⊎◌, ℕ, zero, suc, ◌+◌, Bool, List, [], ◌∷◌, ◌++◌, length, take, Option, Some, None, IsTrue}
+use Rattle.std.specs.Prelude.{◌≡◌, ◌⊎◌, ℕ, Bool, List, [], ◌∷◌, ◌++◌, take, Option, Some, None, IsTrue}
 use Rattle.std.specs.Io.KnownBytes.{Appends}
-use Rattle.pb_place.specs.Counts.{Counts, up, past_call, past_place_fault}
+use Rattle.pb_place.specs.CallsInTurn.{past_calls}
+use Rattle.pb_place.specs.Counts.{Counts, up, past_place_fault}
 use Rattle.pb_place.specs.Paths.{below}
 use Rattle.pb_place.specs.World.{World, Torn, put_reply}
 use Rattle.pb_place.specs.declared.child.Reply.{Reply}
@@ -30,17 +31,17 @@ pub record Kept : Type 0 where
 abbrev pub kept : World → Counts → Kept
 kept world counts = record { world = world; counts = counts }
 
--- after so many calls, none of which failed
-abbrev pub past_calls : ℕ → Counts → Counts
-past_calls zero c = c
-past_calls (suc n) c = past_call (past_calls n c)
+-- the paths of files in a folder, in turn
+abbrev pub paths_in : List ℕ → List (List ℕ × List ℕ) → List (List ℕ)
+paths_in folder [] = []
+paths_in folder (file ∷ files) = below folder file.0 ∷ paths_in folder files
 
--- after files were put in a folder: one call for each, and none where there is no folder
+-- after files were put in a folder: one call for each, in turn, and none where there is no folder
 abbrev pub past_puts : Option (List ℕ) → List (List ℕ × List ℕ) → Counts → Counts
 past_puts None files c = c
-past_puts (Some folder) files c = past_calls (length files) c
+past_puts (Some folder) files c = past_calls (paths_in folder files) c
 
--- files were put in a folder, by one call for each, and none failed; where there is no folder, no call was made
+-- files were put in a folder, by one call for each, in turn, and none failed; where there is no folder, no call was made
 abbrev pub PutsIn : Bool → Option (List ℕ) → List (List ℕ × List ℕ) → Kept → Kept → Type 0
 PutsIn tells folder files old new = (new.counts ≡ past_puts folder files old.counts) × (IsTrue tells → new.world ≡ put_reply folder files old.world)
 
@@ -48,18 +49,18 @@ PutsIn tells folder files old new = (new.counts ≡ past_puts folder files old.c
 abbrev pub PutsUpTo : List ℕ → List (List ℕ × List ℕ) → List ℕ × List ℕ → World → World → Type 0
 PutsUpTo folder done file old new = Torn (below folder file.0) file.1 (put_reply (Some folder) done old) new
 
--- at one of some files the write failed, and no call came after it; those before it were put in the folder
+-- at one of some files the write failed: the calls before it were those for the files before it, which were put in the folder, and no call came after it
 abbrev pub FailsToPut : Bool → List ℕ → List (List ℕ × List ℕ) → Kept → Kept → Type 0
 FailsToPut tells folder files old new =
     (done : List (List ℕ × List ℕ)) × (file : List ℕ × List ℕ) × (left : List (List ℕ × List ℕ)) × (files ≡ done ++ file ∷ left)
-    × (new.counts ≡ past_place_fault (below folder file.0) place.Write old.counts) × (IsTrue tells → PutsUpTo folder done file old.world new.world)
+    × (new.counts ≡ past_place_fault (below folder file.0) place.Write (past_calls (paths_in folder done) old.counts)) × (IsTrue tells → PutsUpTo folder done file old.world new.world)
 
 -- memory was refused at one of some files, before its write or in it, which is a call that did not fail; those before it were put in the folder
 abbrev pub StopsPutting : Bool → List ℕ → List (List ℕ × List ℕ) → Kept → Kept → Type 0
 StopsPutting tells folder files old new =
     (done : List (List ℕ × List ℕ)) × (file : List ℕ × List ℕ) × (left : List (List ℕ × List ℕ)) × (files ≡ done ++ file ∷ left)
     × (PutsIn tells (Some folder) done old new
-    ⊎ ((new.counts ≡ past_calls (length done + 1) old.counts) × (IsTrue tells → PutsUpTo folder done file old.world new.world)))
+    ⊎ ((new.counts ≡ past_calls (paths_in folder (done ++ file ∷ [])) old.counts) × (IsTrue tells → PutsUpTo folder done file old.world new.world)))
 
 -- What is told of a reply, over a view: where the view tells what it shows, it is the small compiler's to these words.
 

@@ -44,5 +44,6 @@ loop-name-preserved g c =
       written = λ told.
           put_more c.args.folder.now c.args.files.now c.loop-name.name-index c.loop-name-item.result c.in_ok-path.path c.as_slice.result.now (g.P.Place.world c.args.place.now) (g.P.Place.world c.loop-name.place) (g.P.Place.world c.write.new.self)
           on c.loop-name-item.is c.in_ok-path.ensures.path c.as_slice.ensures (c.loop-name.invariant.written told) (c.in_ok-write.ensures.ok told);
-      called = past_more (g.P.Place.counts c.args.place.now) (g.P.Place.counts c.loop-name.place) (g.P.Place.counts c.write.new.self) c.loop-name.name-index c.loop-name.invariant.called c.in_ok-write.ensures.counts;
+      called = past_more c.args.folder.now c.args.files.now c.loop-name.name-index c.loop-name-item.result (g.P.Place.counts c.args.place.now) (g.P.Place.counts c.loop-name.place) (g.P.Place.counts c.write.new.self)
+          on c.loop-name-item.is c.loop-name.invariant.called c.in_ok-write.ensures.counts;
     }
