@@ -1,4 +1,5 @@
 pub mod Asking
+pub mod Called
 pub mod Preparing
 pub mod Staying
 pub mod Headline

@@ -1,6 +1,13 @@
--- How many children a build has started before its units, where a fault ends it, and what such a fault names.
-use Rattle.std.specs.Prelude.{◌≡◌, ◌⊎◌, codes, Result, MatchResult}
-use Rattle.pb_place.specs.Counts.{Counts, Starts, up_starts}
+-- How many children a build has started before its units, which calls it has made, where a fault ends it, and what such a fault names.
+use Rattle.std.specs.Prelude.{◌≡◌, ◌⊎◌, ◌++◌, ◌∷◌, ℕ, codes, List, [], Result, MatchResult}
+use Rattle.pb_place.specs.CallsInTurn.{past_calls}
+use Rattle.pb_place.specs.Counts.{Counts, Starts, one_start, past_call, up_starts}
+use Rattle.pb_place.specs.World.{World}
+use Rattle.pb_package.specs.declared.options.Options.{Options}
+use Rattle.pb_run.specs.Causes.{StopsAt}
+use Rattle.pb_run.specs.Launching.{SpawnEnds}
+use Rattle.pb_workspace.specs.LookedAt.{looked_at}
+use Rattle.pb_build.specs.Environment.{environment_of}
 use Rattle.pb_answer.specs.declared.fault.BuildFault.{BuildFault}
 use Rattle.pb_answer.specs.declared.fault.DeviceFault.TheVariants as device
 use Rattle.pb_answer.specs.declared.fault.BuildFault.TheVariants.{Plan, Toolchain, Child, Device, Sink, OutOfMemory}
@@ -45,3 +52,27 @@ Names OutOfMemory new = Unit {0}
 
 abbrev pub NamesCall : {T : Type 0} → Result T BuildFault → Counts → Type 0
 NamesCall result new = MatchResult result (λ _. Unit {0}) (λ e. Names e new)
+
+-- Which calls are made before the units.
+
+-- the variables that are asked for
+abbrev pub variables_asked : List (List ℕ)
+variables_asked = codes "RUSTC" ∷ codes "RUSTFLAGS" ∷ codes "CARGO_TARGET_DIR" ∷ []
+
+-- to plan a build they are asked for, and then the workspace is read
+abbrev pub plan_called : Options → World → List (List ℕ)
+plan_called options w = variables_asked ++ looked_at options.manifest (environment_of options w.variables).target w
+
+-- where the plan is refused, all of these calls were made; else it stopped at one of them
+abbrev pub PlanStopsAt : BuildFault → List (List ℕ) → Counts → Counts → Type 0
+PlanStopsAt (Plan why) names old new = new ≡ past_calls names old
+PlanStopsAt e names old new = StopsAt e names old new
+
+-- where there is a plan, just these calls were made, in this order
+abbrev pub PlansInTurn : {T : Type 0} → Result T BuildFault → List (List ℕ) → Counts → Counts → Type 0
+PlansInTurn result names old new = MatchResult result (λ x. new ≡ past_calls names old) (λ e. PlanStopsAt e names old new)
+
+-- to ask the compiler a child is started, by one call, also where it says no host
+abbrev pub AskEnds : BuildFault → Counts → Counts → Type 0
+AskEnds Toolchain old new = new ≡ past_call (one_start old)
+AskEnds e old new = SpawnEnds e old new

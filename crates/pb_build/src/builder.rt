@@ -2,7 +2,7 @@
 
 ghost use Rattle.std.specs.Prelude.{◌≡◌, ◌⊎◌, ◌+◌, [], max, length, IsTrue, IfOk, IfErr, OnErr};
 ghost use Rattle.pb_record.specs.Parts.{IsReading};
-ghost use Rattle.pb_build.specs.Causes.{MayPlan, MayReady, NamesCall};
+ghost use Rattle.pb_build.specs.Causes.{MayPlan, MayReady, NamesCall, PlansInTurn, plan_called};
 ghost use Rattle.pb_build.specs.Ending.{FailsBefore, IsPlanOf, PlansFrom, Prepares, Works, Closes, Builds, BuildsBy, BuildsFirst};
 ghost use Rattle.pb_build.specs.Environment.{environment_of};
 ghost use Rattle.pb_build.specs.Headline.{ByTurns, ByPick, ByFirst, Headline};
@@ -175,6 +175,7 @@ pub fn plan_build<P: Place>(
     ensures refused { IsTrue P.tells → IfErr result (IsToldRefusal options.now (environment_of options.now (P.world place.old).variables).target (P.world place.old)) }
     ensures takes { Takes NoStart MayPlan result (P.counts place.old) (P.counts place.new) }
     ensures named { NamesCall result (P.counts place.new) }
+    ensures calls { IsTrue P.tells → PlansInTurn result (plan_called options.now (P.world place.old)) (P.counts place.old) (P.counts place.new) }
 {
     let environment = match environment_of(alloc, place, options) {
         Ok(environment) => environment,

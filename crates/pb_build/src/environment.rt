@@ -1,13 +1,13 @@
 //! What the variables and the options say of a build, before a file is read.
 
-ghost use Rattle.std.specs.Prelude.{◌≡◌, IfOk, IfErr, IsTrue, codes};
+ghost use Rattle.std.specs.Prelude.{◌≡◌, ◌∷◌, [], IfOk, IfErr, IsTrue, codes};
 ghost use Rattle.std.specs.FinMap as finite;
 ghost use Rattle.pb_place.specs.Paths.{joined, below, folder_of};
 ghost use Rattle.pb_directive.specs.Directives.{words_of};
-ghost use Rattle.pb_build.specs.Causes.{MayPlan, NamesCall};
+ghost use Rattle.pb_build.specs.Causes.{MayPlan, NamesCall, variables_asked};
 ghost use Rattle.pb_build.specs.Environment.{set_text, rustc_of, flags_of, told_or, target_of, environment_of, environment_with};
 ghost use Rattle.pb_build.specs.Private.{IsUnrefused};
-ghost use Rattle.pb_run.specs.Causes.{Takes, NoStart};
+ghost use Rattle.pb_run.specs.Causes.{Takes, NoStart, MakesInTurn};
 
 use pb_answer::BuildFault;
 use pb_data::{Items, Text, TryCopy};
@@ -45,7 +45,8 @@ fn filled(found: Option<Text>) -> Option<Text>
     }
 }
 
-/// A variable that is set to some text: an empty one counts as absent (our own choice).
+/// A variable that is set to some text, asked for by one call: an empty one counts as absent (our own choice).
+#[tactic(auto, using(pb_run::proofs::Calling::call_laws))]
 fn variable<P: Place>(alloc: Global, place: &mut P, name: &str) -> Result<Option<Text>, BuildFault>
     ensures ok { IsTrue P.tells → IfOk result (λ found. found ≡ set_text (finite.get (P.world place.old).variables name.now)) }
     ensures same { IsTrue P.tells → P.world place.new ≡ P.world place.old }
@@ -53,6 +54,7 @@ fn variable<P: Place>(alloc: Global, place: &mut P, name: &str) -> Result<Option
     ensures takes { Takes NoStart MayPlan result (P.counts place.old) (P.counts place.new) }
     ensures names { NamesCall result (P.counts place.new) }
     ensures unrefused { IfErr result IsUnrefused }
+    ensures calls { MakesInTurn result (name.now ∷ []) (P.counts place.old) (P.counts place.new) }
 {
     let told = match Text::from_str(alloc, name) {
         Ok(told) => told,
@@ -171,6 +173,7 @@ pub(crate) fn environment_of<P: Place>(
     ensures takes { Takes NoStart MayPlan result (P.counts place.old) (P.counts place.new) }
     ensures names { NamesCall result (P.counts place.new) }
     ensures unrefused { IfErr result IsUnrefused }
+    ensures calls { MakesInTurn result variables_asked (P.counts place.old) (P.counts place.new) }
 {
     let rustc = match variable(alloc, place, "RUSTC") {
         Ok(rustc) => rustc,

@@ -2,11 +2,12 @@
 
 ghost use Rattle.std.specs.Prelude.{◌≡◌, ◌⊎◌, AllPairs, IfOk, IfErr, IsTrue, Ok, Err};
 ghost use Rattle.pb_place.specs.World.{World};
-ghost use Rattle.pb_build.specs.Causes.{MayPlan, NamesCall};
+ghost use Rattle.pb_build.specs.Causes.{MayPlan, NamesCall, PlansInTurn};
 ghost use Rattle.pb_build.specs.Planning.{IsFeatured, IsProject, IsRefused, IsToldRefusal};
 ghost use Rattle.pb_build.specs.Private.{IsRefusedOf, unread};
 ghost use Rattle.pb_build.specs.declared.environment.Environment.{Environment};
 ghost use Rattle.pb_workspace.specs.Loaded.{workspace_of};
+ghost use Rattle.pb_workspace.specs.LookedAt.{looked_at};
 ghost use Rattle.pb_workspace.specs.Selected.{selected};
 ghost use Rattle.pb_feature.specs.Faults as feature;
 ghost use Rattle.pb_unit.specs.Plan as plan;
@@ -56,6 +57,7 @@ fn read<P: Place>(
     ensures refused { IsTrue P.tells → IfErr result (IsToldRefusal options.now target.now (P.world place.old)) }
     ensures takes { Takes NoStart MayPlan result (P.counts place.old) (P.counts place.new) }
     ensures names { NamesCall result (P.counts place.new) }
+    ensures calls { IsTrue P.tells → PlansInTurn result (looked_at options.now.manifest target.now (P.world place.old)) (P.counts place.old) (P.counts place.new) }
 {
     match load(alloc, place, &options.manifest, target) {
         Ok(workspace) => Ok(workspace),
@@ -177,6 +179,7 @@ pub(crate) fn planned<P: Place>(
     ensures refused { IsTrue P.tells → IfErr result (IsToldRefusal options.now target.now (P.world place.old)) }
     ensures takes { Takes NoStart MayPlan result (P.counts place.old) (P.counts place.new) }
     ensures names { NamesCall result (P.counts place.new) }
+    ensures calls { IsTrue P.tells → PlansInTurn result (looked_at options.now.manifest target.now (P.world place.old)) (P.counts place.old) (P.counts place.new) }
 {
     let workspace = match read(alloc, place, options, target) {
         Ok(workspace) => workspace,

@@ -3,11 +3,12 @@
 ghost use Rattle.std.specs.Prelude.{◌≡◌, ◌⊎◌, ◌+◌, max, length, IfOk, OnErr, IsTrue, MatchResult, Some, None, codes};
 ghost use Rattle.std.specs.List.{list_any};
 ghost use Rattle.pb_place.specs.World.{World, from_nothing};
-ghost use Rattle.pb_build.specs.Causes.{MayAsk};
+ghost use Rattle.pb_build.specs.Causes.{AskEnds, MayAsk};
 ghost use Rattle.pb_build.specs.Result.{is_host, says_host, toolchain_in, toolchain_of};
 ghost use Rattle.pb_directive.specs.Lines.{lines_of};
 ghost use Rattle.pb_answer.specs.declared.fault.BuildFault.TheVariants as build_fault;
 ghost use Rattle.pb_run.specs.Causes.{Takes, OneStart};
+ghost use Rattle.pb_run.specs.Launching.{Calls, RunsOnce};
 
 use crate::environment::Environment;
 use pb_answer::BuildFault;
@@ -60,6 +61,7 @@ fn toolchain_in(ended: Ended) -> Option<Bytes>
 
 /// Asks the compiler for its version. Toolchain where it does not say its host; Child, with `-vV`, where it gave no
 /// answer.
+#[tactic(auto, using(crate::proofs::Called::ask_laws))]
 pub(crate) fn ask<P: Place>(
     alloc: Global,
     place: &mut P,
@@ -72,6 +74,7 @@ pub(crate) fn ask<P: Place>(
     ensures most { IfOk result (λ toolchain. P.most place.new ≡ max (P.most place.old) (length (P.counts place.old).starts.flying + 1)) }
     ensures most_else { OnErr result ((P.most place.new ≡ P.most place.old) ⊎ (P.most place.new ≡ max (P.most place.old) (length (P.counts place.old).starts.flying + 1))) }
     ensures takes { Takes OneStart MayAsk result (P.counts place.old) (P.counts place.new) }
+    ensures calls { Calls RunsOnce AskEnds result (P.counts place.old) (P.counts place.new) }
 {
     let command = match query(alloc, &environment.rustc, &project.workspace) {
         Ok(command) => command,

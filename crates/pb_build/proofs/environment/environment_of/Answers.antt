@@ -2,6 +2,7 @@ use Rattle.std.proofs.Common.{◌∙◌, ap, codes, List, ℕ, Option}
 use Rattle.std.specs.FinMap as finite
 use Rattle.pb_place.specs.World.{World}
 use Rattle.pb_build.specs.Environment.{set_text, environment_with}
+use Rattle.pb_build.proofs.Called.{all_asked, first_stops, second_stops, third_stops}
 use Rattle.pb_build.proofs.environment.environment_of.Goals as goal
 
 pub returns-in-Ok-environment_with-clause-ok : goal.returns-in-Ok-environment_with-clause-ok
@@ -15,3 +16,17 @@ returns-in-Ok-environment_with-clause-ok g c told =
     (c.in-Ok-variable.ensures.ok told ∙ ap (λ (w : World). set_text (finite.get w.variables (codes "RUSTFLAGS"))) first)
     ∙ ap (λ (x : Option (List ℕ)). environment_with options (set_text (finite.get (g.P.Place.world c.args.place.now).variables (codes "RUSTC"))) (set_text (finite.get (g.P.Place.world c.args.place.now).variables (codes "RUSTFLAGS"))) x)
     (c.in-Ok-variable-2.ensures.ok told ∙ ap (λ (w : World). set_text (finite.get w.variables (codes "CARGO_TARGET_DIR"))) second)
+
+pub returns-in-Err-clause-calls : goal.returns-in-Err-clause-calls
+returns-in-Err-clause-calls g c = first_stops c.in-Err.fault (g.P.Place.counts c.args.place.now) (g.P.Place.counts c.variable.new.place) c.in-Err.ensures.calls
+
+pub returns-in-Err-variable-clause-calls : goal.returns-in-Err-variable-clause-calls
+returns-in-Err-variable-clause-calls g c = second_stops c.in-Err-variable.fault (g.P.Place.counts c.args.place.now) (g.P.Place.counts c.variable.new.place) (g.P.Place.counts c.variable-2.new.place) c.in-Ok.ensures.calls c.in-Err-variable.ensures.calls
+
+pub returns-in-Err-variable-2-clause-calls : goal.returns-in-Err-variable-2-clause-calls
+returns-in-Err-variable-2-clause-calls g c =
+    third_stops c.in-Err-variable-2.fault (g.P.Place.counts c.args.place.now) (g.P.Place.counts c.variable.new.place) (g.P.Place.counts c.variable-2.new.place) (g.P.Place.counts c.variable-3.new.place) c.in-Ok.ensures.calls c.in-Ok-variable.ensures.calls c.in-Err-variable-2.ensures.calls
+
+pub returns-in-Ok-environment_with-clause-calls : goal.returns-in-Ok-environment_with-clause-calls
+returns-in-Ok-environment_with-clause-calls g c =
+    all_asked (g.P.Place.counts c.args.place.now) (g.P.Place.counts c.variable.new.place) (g.P.Place.counts c.variable-2.new.place) (g.P.Place.counts c.variable-3.new.place) c.in-Ok.ensures.calls c.in-Ok-variable.ensures.calls c.in-Ok-variable-2.ensures.calls

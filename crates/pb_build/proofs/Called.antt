@@ -1,0 +1,100 @@
+-- Calls before the units, in turn.
+use Rattle.std.proofs.Common.{◌≡◌, ◌∙◌, ◌++◌, ◌∷◌, ℕ, false, true, List, [], codes, refl, sym, ap, subst}
+use Rattle.pb_answer.specs.declared.fault.BuildFault.{BuildFault}
+use Rattle.pb_answer.specs.declared.fault.BuildFault.TheVariants.{Plan, Toolchain, Child, Device, Sink, OutOfMemory}
+use Rattle.pb_answer.specs.declared.fault.DeviceFault.TheVariants as device
+use Rattle.pb_build.specs.Causes.{AskEnds, PlanStopsAt, variables_asked}
+use Rattle.pb_build.specs.Private.{IsRefusedOf, unread}
+use Rattle.pb_package.specs.declared.fault.LoadFault.{LoadFault}
+use Rattle.pb_package.specs.declared.fault.LoadFault.TheVariants as load
+use Rattle.pb_package.specs.declared.options.Options.{Options}
+use Rattle.pb_package.specs.declared.workspace.Workspace.{Workspace}
+use Rattle.pb_place.specs.CallsInTurn.{MakesSome, past_calls}
+use Rattle.pb_place.specs.Counts.{Counts, past_call}
+use Rattle.pb_place.proofs.CallsInTurn.{made_both}
+use Rattle.pb_run.specs.Causes.{StopsAt}
+use Rattle.pb_run.specs.Launching.{SpawnEnds}
+use Rattle.pb_run.proofs.Calling.{memory_last, stops_first, stops_then}
+use Rattle.pb_workspace.specs.Causes.{is_failure, is_outside}
+use Rattle.pb_workspace.specs.LookedAt.{FailsOn}
+
+-- a fault at a variable, and behind all of them
+abbrev RUSTC : List ℕ
+RUSTC = codes "RUSTC"
+
+abbrev RUSTFLAGS : List ℕ
+RUSTFLAGS = codes "RUSTFLAGS"
+
+abbrev TARGET : List ℕ
+TARGET = codes "CARGO_TARGET_DIR"
+
+pub first_stops : (e : BuildFault) (old new : Counts) → StopsAt e (RUSTC ∷ []) old new → StopsAt e variables_asked old new
+first_stops e old new is = stops_first e (RUSTC ∷ []) (RUSTFLAGS ∷ TARGET ∷ []) old new is
+
+pub second_stops : (e : BuildFault) (old mid new : Counts) → mid ≡ past_call old → StopsAt e (RUSTFLAGS ∷ []) mid new → StopsAt e variables_asked old new
+second_stops e old mid new first is = stops_then e (RUSTC ∷ []) (RUSTFLAGS ∷ TARGET ∷ []) old mid new first (stops_first e (RUSTFLAGS ∷ []) (TARGET ∷ []) mid new is)
+
+pub third_stops : (e : BuildFault) (old mid last new : Counts) → mid ≡ past_call old → last ≡ past_call mid → StopsAt e (TARGET ∷ []) last new → StopsAt e variables_asked old new
+third_stops e old mid last new first second is = stops_then e (RUSTC ∷ RUSTFLAGS ∷ []) (TARGET ∷ []) old last new (second ∙ ap past_call first) is
+
+pub all_asked : (old mid last new : Counts) → mid ≡ past_call old → last ≡ past_call mid → new ≡ past_call last → new ≡ past_calls variables_asked old
+all_asked old mid last new first second third = third ∙ ap past_call (second ∙ ap past_call first)
+
+-- a workspace that is not read
+abbrev Ends : LoadFault → List (List ℕ) → Counts → Counts → Type 0
+Ends e names old new = (is_outside e ≡ false → new ≡ past_calls names old) × (is_failure e ≡ false → MakesSome names old new) × (is_failure e ≡ true → FailsOn e names old new)
+
+load_stops : (e : LoadFault) (names : List (List ℕ)) (old new : Counts) → Ends e names old new → PlanStopsAt (unread e) names old new
+load_stops (load.NoManifest path) names old new ends = ends.0 refl
+load_stops (load.Manifest path fault) names old new ends = ends.0 refl
+load_stops load.SameName names old new ends = ends.0 refl
+load_stops load.NameMismatch names old new ends = ends.0 refl
+load_stops load.VersionMismatch names old new ends = ends.0 refl
+load_stops load.LinksTwice names old new ends = ends.0 refl
+load_stops load.LinksWithoutScript names old new ends = ends.0 refl
+load_stops load.NoInherited names old new ends = ends.0 refl
+load_stops load.TooMany names old new ends = ends.0 refl
+load_stops load.SameBinary names old new ends = ends.0 refl
+load_stops (load.Place path fault) names old new ends = ends.2 refl
+load_stops load.NoSuchPackage names old new ends = ends.0 refl
+load_stops load.OutOfMemory names old new ends = ends.1 refl
+
+pub unread_stops : (e : LoadFault) (told : BuildFault) (names : List (List ℕ)) (old new : Counts) → told ≡ unread e → Ends e names old new → PlanStopsAt told names old new
+unread_stops e told names old new is ends = subst (λ f. PlanStopsAt f names old new) (sym is) (load_stops e names old new ends)
+
+-- one that was read, and of which no plan is made
+pub refused_stops : (options : Options) (ws : Workspace) (e : BuildFault) (names : List (List ℕ)) (old new : Counts) → IsRefusedOf options ws e → new ≡ past_calls names old → PlanStopsAt e names old new
+refused_stops options ws (Plan why) names old new may made = made
+refused_stops options ws Toolchain names old new may made = absurd may
+refused_stops options ws (Child unit fault) names old new may made = absurd may
+refused_stops options ws (Device name fault) names old new may made = absurd may
+refused_stops options ws Sink names old new may made = absurd may
+refused_stops options ws OutOfMemory names old new may made = memory_last names old new made
+
+-- the variables, and then the workspace
+pub plan_first : (e : BuildFault) (a b : List (List ℕ)) (old new : Counts) → StopsAt e a old new → PlanStopsAt e (a ++ b) old new
+plan_first (Plan why) a b old new is = absurd is
+plan_first Toolchain a b old new is = absurd is
+plan_first (Child unit fault) a b old new is = absurd is
+plan_first (Device unit fault) a b old new is = stops_first (Device unit fault) a b old new is
+plan_first Sink a b old new is = absurd is
+plan_first OutOfMemory a b old new is = stops_first OutOfMemory a b old new is
+
+pub plan_then : (e : BuildFault) (a b : List (List ℕ)) (old mid new : Counts) → mid ≡ past_calls a old → PlanStopsAt e b mid new → PlanStopsAt e (a ++ b) old new
+plan_then (Plan why) a b old mid new first is = made_both a b old mid new first is
+plan_then Toolchain a b old mid new first is = absurd is
+plan_then (Child unit fault) a b old mid new first is = absurd is
+plan_then (Device unit fault) a b old mid new first is = stops_then (Device unit fault) a b old mid new first is
+plan_then Sink a b old mid new first is = absurd is
+plan_then OutOfMemory a b old mid new first is = stops_then OutOfMemory a b old mid new first is
+
+-- the query
+pub ask_stops : (e : BuildFault) (old new : Counts) → SpawnEnds e old new → AskEnds e old new
+ask_stops (Plan why) old new is = is
+ask_stops Toolchain old new is = absurd is
+ask_stops (Child unit fault) old new is = is
+ask_stops (Device unit fault) old new is = is
+ask_stops Sink old new is = is
+ask_stops OutOfMemory old new is = is
+
+pub ruleset ask_laws = (ask_stops)

@@ -1,0 +1,19 @@
+use Rattle.std.proofs.Common.{◌≡◌, ◌++◌, subst}
+use Rattle.pb_build.proofs.Called.{plan_first}
+use Rattle.pb_build.proofs.builder.plan_build.Goals as goal
+use Rattle.pb_build.specs.Causes.{variables_asked}
+use Rattle.pb_build.specs.declared.environment.Environment.{Environment}
+use Rattle.pb_place.proofs.CallsInTurn.{made_both}
+use Rattle.pb_place.specs.CallsInTurn.{past_calls}
+use Rattle.pb_place.specs.World.{World}
+use Rattle.pb_workspace.specs.LookedAt.{looked_at}
+
+pub returns-in-Err-clause-calls : goal.returns-in-Err-clause-calls
+returns-in-Err-clause-calls g c told =
+    plan_first c.in-Err.fault variables_asked _ (g.P.Place.counts c.args.place.now) (g.P.Place.counts c.environment_of.new.place) c.in-Err.ensures.calls
+
+pub returns-in-Ok-planned-clause-calls : goal.returns-in-Ok-planned-clause-calls
+returns-in-Ok-planned-clause-calls g c told =
+    let made = made_both variables_asked (looked_at c.args.options.now.manifest c.in-Ok.environment.target (g.P.Place.world c.environment_of.new.place)) (g.P.Place.counts c.args.place.now) (g.P.Place.counts c.environment_of.new.place) (g.P.Place.counts c.planned.new.place) c.in-Ok.ensures.calls (c.in-Ok-planned.ensures.calls told) in
+    subst (λ (e : Environment). g.P.Place.counts c.planned.new.place ≡ past_calls (variables_asked ++ looked_at c.args.options.now.manifest e.target (g.P.Place.world c.args.place.now)) (g.P.Place.counts c.args.place.now)) (c.in-Ok.ensures.ok told)
+    (subst (λ (w : World). g.P.Place.counts c.planned.new.place ≡ past_calls (variables_asked ++ looked_at c.args.options.now.manifest c.in-Ok.environment.target w) (g.P.Place.counts c.args.place.now)) (c.in-Ok.ensures.same told) made)
