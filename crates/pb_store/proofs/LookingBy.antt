@@ -1,20 +1,45 @@
 -- How often opening and keeping look and write.
-use Rattle.std.proofs.Common.{◌≡◌, ◌∙◌, ◌++◌, ℕ, Bool, true, false, cond, List, [], ◌∷◌, Result, refl, sym, ap, subst, inl}
+use Rattle.std.proofs.Common.{◌≡◌, ◌∙◌, ◌++◌, ℕ, Bool, true, false, cond, List, [], ◌∷◌, Result, refl, sym, ap, subst, inl, inr}
 use Rattle.std.specs.List.{filter}
 use Rattle.pb_place.specs.CallsInTurn.{MakesSome, past_calls}
-use Rattle.pb_place.specs.Counts.{Counts, past_call}
+use Rattle.pb_place.specs.Counts.{Counts, past_call, past_place_fault}
 use Rattle.pb_place.specs.World.{World, listed_directly}
-use Rattle.pb_place.proofs.CallsInTurn.{made_both, some_all}
+use Rattle.pb_place.specs.declared.place.PlaceFault.{PlaceFault}
+use Rattle.pb_place.specs.declared.place.PlaceFault.TheVariants as place
+use Rattle.pb_place.proofs.CallsInTurn.{fails_left, fails_right, made_both, some_all, some_left, some_right}
 use Rattle.pb_soundness.specs.Records.{ends_as_record}
 use Rattle.pb_store.specs.Calls.{EndsOnce}
-use Rattle.pb_store.specs.Causes.{MayWrite}
-use Rattle.pb_store.specs.Looking.{Looks, StopsAt, opened_looked, names_looked, needs_looked}
+use Rattle.pb_store.specs.Causes.{MayWrite, opened}
+use Rattle.pb_store.specs.Looking.{Looks, OpeningStopsAt, StopsAt, opened_looked, names_looked, needs_looked}
+use Rattle.pb_store.specs.declared.fault.OpenFault.{OpenFault}
+use Rattle.pb_store.specs.declared.fault.OpenFault.TheVariants as open_fault
 use Rattle.pb_store.specs.declared.fault.StoreFault.{StoreFault}
 use Rattle.pb_store.specs.declared.fault.StoreFault.TheVariants.{Place, NumbersSpent, OutOfMemory}
 use Rattle.pb_record.specs.declared.record.InputName.{InputName}
-use Rattle.pb_store.proofs.Looking.{looks_both}
+use Rattle.pb_store.proofs.Looking.{Reached, looks_both, reached_on}
 
--- opening: one file more of a row
+-- opening: a first step stops it, or a second, after a first
+opening_stops_first : (e : OpenFault) (a b : List (List ℕ)) (old new : Counts) → OpeningStopsAt e a old new → OpeningStopsAt e (a ++ b) old new
+opening_stops_first (open_fault.Place path fault) a b old new is = fails_left fault a b old new is
+opening_stops_first open_fault.OutOfMemory a b old new is = some_left a b old new is
+
+opening_stops_then : (e : OpenFault) (a b : List (List ℕ)) (old mid new : Counts) → mid ≡ past_calls a old → OpeningStopsAt e b mid new → OpeningStopsAt e (a ++ b) old new
+opening_stops_then (open_fault.Place path fault) a b old mid new first is = fails_right fault a b old mid new first is
+opening_stops_then open_fault.OutOfMemory a b old mid new first is = some_right a b old mid new first is
+
+-- the one call
+one_opened : (name path : List ℕ) (fault : PlaceFault) (old new : Counts) → new ≡ past_place_fault name fault old → OpeningStopsAt (opened path fault) (name ∷ []) old new
+one_opened name path place.Read old new is = inl is
+one_opened name path place.List old new is = inl is
+one_opened name path place.Write old new is = inl is
+one_opened name path place.Remove old new is = inl is
+one_opened name path place.Variable old new is = inl is
+one_opened name path place.OutOfMemory old new is = inr is
+
+pub opening_stops_once : (name path : List ℕ) (fault : PlaceFault) (e : OpenFault) (old new : Counts) → e ≡ opened path fault → new ≡ past_place_fault name fault old → OpeningStopsAt e (name ∷ []) old new
+opening_stops_once name path fault e old new told is = subst (λ f. OpeningStopsAt f (name ∷ []) old new) (sym told) (one_opened name path fault old new is)
+
+-- one file more of a row
 one_read : (b : Bool) (path : List ℕ) (rest : List (List ℕ)) (c : Counts) → past_calls (cond b (path ∷ rest) rest) c ≡ past_calls rest (past_calls (cond b (path ∷ []) []) c)
 one_read true path rest c = refl
 one_read false path rest c = refl
@@ -26,6 +51,34 @@ row_read items rest path old new whole before cut made =
 
 pub folder_opened : (folder : List ℕ) (w : World) (paths : List (List ℕ)) (old mid new : Counts) → paths ≡ listed_directly folder w → mid ≡ past_call old → new ≡ past_calls (filter ends_as_record paths) mid → new ≡ past_calls (opened_looked folder w) old
 folder_opened folder w paths old mid new are first second = second ∙ ap (past_calls (filter ends_as_record paths)) first ∙ ap (λ xs. past_calls (filter ends_as_record xs) (past_call old)) are
+
+row_parts : (b : Bool) (path : List ℕ) (rest : List (List ℕ)) → cond b (path ∷ rest) rest ≡ cond b (path ∷ []) [] ++ rest
+row_parts true path rest = refl
+row_parts false path rest = refl
+
+first_parts : (items rest : List (List ℕ)) (path : List ℕ) → items ≡ path ∷ rest → filter ends_as_record items ≡ cond (ends_as_record path) (path ∷ []) [] ++ filter ends_as_record rest
+first_parts items rest path cut = ap (filter ends_as_record) cut ∙ row_parts (ends_as_record path) path (filter ends_as_record rest)
+
+pub row_reached : (items rest : List (List ℕ)) (path : List ℕ) (whole : List (List ℕ)) (old mid new : Counts) → Reached whole (filter ends_as_record items) old mid → items ≡ path ∷ rest
+    → new ≡ past_calls (cond (ends_as_record path) (path ∷ []) []) mid → Reached whole (filter ends_as_record rest) old new
+row_reached items rest path whole old mid new reached cut made =
+    reached_on whole (cond (ends_as_record path) (path ∷ []) []) (filter ends_as_record rest) old mid new (subst (λ names. Reached whole names old mid) (first_parts items rest path cut) reached) made
+
+pub row_unread : (e : OpenFault) (items rest : List (List ℕ)) (path : List ℕ) (whole : List (List ℕ)) (old mid new : Counts) → Reached whole (filter ends_as_record items) old mid → items ≡ path ∷ rest
+    → OpeningStopsAt e (cond (ends_as_record path) (path ∷ []) []) mid new → OpeningStopsAt e whole old new
+row_unread e items rest path whole old mid new reached cut stops =
+    subst (λ names. OpeningStopsAt e names old new) (sym reached.place)
+    (opening_stops_then e reached.before (filter ends_as_record items) old mid new reached.made
+    (subst (λ names. OpeningStopsAt e names mid new) (sym (first_parts items rest path cut)) (opening_stops_first e (cond (ends_as_record path) (path ∷ []) []) (filter ends_as_record rest) mid new stops)))
+
+-- the folder could not be listed, or one of the records not be read
+pub folder_unlisted : (folder : List ℕ) (w : World) (fault : PlaceFault) (e : OpenFault) (old new : Counts) → e ≡ opened folder fault → new ≡ past_place_fault folder fault old → OpeningStopsAt e (opened_looked folder w) old new
+folder_unlisted folder w fault e old new told is = opening_stops_first e (folder ∷ []) (filter ends_as_record (listed_directly folder w)) old new (opening_stops_once folder folder fault e old new told is)
+
+pub folder_unread : (folder : List ℕ) (w : World) (paths : List (List ℕ)) (e : OpenFault) (old mid new : Counts) → paths ≡ listed_directly folder w → mid ≡ past_call old → OpeningStopsAt e (filter ends_as_record paths) mid new
+    → OpeningStopsAt e (opened_looked folder w) old new
+folder_unread folder w paths e old mid new are first second =
+    opening_stops_then e (folder ∷ []) (filter ends_as_record (listed_directly folder w)) old mid new first (subst (λ xs. OpeningStopsAt e (filter ends_as_record xs) mid new) are second)
 
 -- the one call that writes
 pub ends_stops : (path : List ℕ) (e : StoreFault) (old new : Counts) → MayWrite e → EndsOnce path e old new → StopsAt e (path ∷ []) old new

@@ -24,6 +24,8 @@ use Rattle.pb_soundness.specs.Records.{Reading, ends_as_record, is_key, out_of, 
 use Rattle.pb_soundness.specs.Reuse.{number_if}
 use Rattle.pb_store.specs.Differences.{HasFiles, HasNumber, IsPresent, same_files}
 use Rattle.pb_store.specs.Migrating.{lacks_number}
+use Rattle.pb_store.specs.declared.fault.OpenFault.{OpenFault}
+use Rattle.pb_store.specs.declared.fault.OpenFault.TheVariants as open_fault
 use Rattle.pb_store.specs.declared.fault.StoreFault.{StoreFault}
 use Rattle.pb_store.specs.declared.fault.StoreFault.TheVariants.{Place, NumbersSpent, OutOfMemory}
 
@@ -36,6 +38,14 @@ StopsAt OutOfMemory names old new = MakesSome names old new
 -- where it ended well, these calls were made, and no more; else it stopped at one of them. Every call is counted, and one that failed tells its turn and its name, so the list is told in its order
 abbrev pub Looks : {T : Type 0} → Result T StoreFault → List (List ℕ) → Counts → Counts → Type 0
 Looks result names old new = MatchResult result (λ x. new ≡ past_calls names old) (λ e. StopsAt e names old new)
+
+-- of opening likewise
+abbrev pub OpeningStopsAt : OpenFault → List (List ℕ) → Counts → Counts → Type 0
+OpeningStopsAt (open_fault.Place path fault) names old new = FailsAt fault names old new
+OpeningStopsAt open_fault.OutOfMemory names old new = MakesSome names old new
+
+abbrev pub OpensLooking : {T : Type 0} → Result T OpenFault → List (List ℕ) → Counts → Counts → Type 0
+OpensLooking result names old new = MatchResult result (λ x. new ≡ past_calls names old) (λ e. OpeningStopsAt e names old new)
 
 -- of a row, what is looked at for each item in turn, up to and with the first that differs
 abbrev pub looked_up_to : {A : Type 0} → (A → Bool) → (A → List (List ℕ)) → List A → List (List ℕ)

@@ -1,6 +1,6 @@
 //! A record of format 1 that becomes one of format 2.
 
-ghost use Rattle.std.specs.Prelude.{is_some, false, ◌≡◌, ◌⊎◌, ◌∷◌, [], ℕ, List, true, IsTrue, IfErr, IfOk, OnOk, Some, None, Err, All};
+ghost use Rattle.std.specs.Prelude.{is_some, false, ◌≡◌, ◌⊎◌, ◌∷◌, [], ℕ, true, IsTrue, IfErr, OnOk, Some, None, Err, All};
 ghost use Rattle.pb_place.specs.CallsInTurn.{past_calls};
 ghost use Rattle.pb_place.specs.declared.place.PlaceFault.TheVariants as place_fault;
 ghost use Rattle.pb_place.specs.Paths.{is_at_or_below};
@@ -10,7 +10,7 @@ ghost use Rattle.pb_record.specs.Parts.{IsReading};
 ghost use Rattle.pb_record.specs.declared.record.Record.{Record};
 ghost use Rattle.pb_soundness.specs.Apart.{KeepsStillOutside};
 ghost use Rattle.pb_soundness.specs.Inputs.{Judge};
-ghost use Rattle.pb_soundness.specs.Numbers.{after, IsAhead};
+ghost use Rattle.pb_soundness.specs.Numbers.{IsAhead};
 ghost use Rattle.pb_soundness.specs.Records.{Reading, is_key, place_of, record_at, number_of};
 ghost use Rattle.pb_soundness.specs.Sound.{Sound};
 ghost use Rattle.pb_store.specs.Calls.{looked};

@@ -1,16 +1,14 @@
 //! A store is opened: what the records of a folder name says which run number is the next.
 
-ghost use Rattle.std.specs.Prelude.{◌≡◌, ◌∷◌, [], if◌then◌else◌, max, IsTrue, IfErr, IfOk, OnOk};
+ghost use Rattle.std.specs.Prelude.{◌≡◌, ◌∷◌, [], if◌then◌else◌, max, IsTrue, IfErr, IfOk};
 ghost use Rattle.std.specs.List.{filter, fold};
 ghost use Rattle.std.specs.FinMap as map;
-ghost use Rattle.pb_place.specs.CallsInTurn.{past_calls};
-ghost use Rattle.pb_place.specs.World.{listed_directly};
 ghost use Rattle.pb_soundness.specs.Apart.{KeepsStill};
 ghost use Rattle.pb_soundness.specs.Numbers.{IsAhead};
 ghost use Rattle.pb_soundness.specs.Records.{Reading, ends_as_record, read_text, record_at};
 ghost use Rattle.pb_store.specs.Calls.{OpensBy, ReadsAt, ReadsOneOf, ReadsRecord};
 ghost use Rattle.pb_store.specs.Causes.{TakesOpen};
-ghost use Rattle.pb_store.specs.Looking.{opened_looked};
+ghost use Rattle.pb_store.specs.Looking.{OpensLooking, opened_looked};
 ghost use Rattle.pb_store.specs.Opening.{greatest_named, greatest_if, greatest_at, greatest_of, next_in};
 ghost use Rattle.pb_record.specs.Parts.{IsReading};
 
@@ -74,7 +72,7 @@ fn read_greatest<P: Place>(alloc: Global, place: &mut P, path: PathText) -> Resu
     ensures still { IsTrue P.tells → KeepsStill (P.still place.old) (P.still place.new) }
     ensures takes { TakesOpen result (P.counts place.old) (P.counts place.new) }
     ensures told { IfErr result (ReadsAt path) }
-    ensures looks { OnOk result (P.counts place.new ≡ past_calls (path ∷ []) (P.counts place.old)) }
+    ensures looks { OpensLooking result (path ∷ []) (P.counts place.old) (P.counts place.new) }
 {
     let text = match place.read(alloc, &path) {
         Ok(text) => text,
@@ -94,7 +92,7 @@ fn greatest_at<P: Place>(alloc: Global, place: &mut P, path: PathText) -> Result
     ensures still { IsTrue P.tells → KeepsStill (P.still place.old) (P.still place.new) }
     ensures takes { TakesOpen result (P.counts place.old) (P.counts place.new) }
     ensures told { IfErr result (ReadsRecord path) }
-    ensures looks { OnOk result (P.counts place.new ≡ past_calls (if ends_as_record path then path ∷ [] else []) (P.counts place.old)) }
+    ensures looks { OpensLooking result (if ends_as_record path then path ∷ [] else []) (P.counts place.old) (P.counts place.new) }
 {
     if !ends_as_record(path.as_str().as_bytes()) {
         return Ok(0);
@@ -114,7 +112,7 @@ fn greatest_of<P: Place>(
     ensures still { IsTrue P.tells → KeepsStill (P.still place.old) (P.still place.new) }
     ensures takes { TakesOpen result (P.counts place.old) (P.counts place.new) }
     ensures told { IfErr result (ReadsOneOf paths) }
-    ensures looks { OnOk result (P.counts place.new ≡ past_calls (filter ends_as_record paths) (P.counts place.old)) }
+    ensures looks { OpensLooking result (filter ends_as_record paths) (P.counts place.old) (P.counts place.new) }
 {
     let mut greatest = 0;
     for path in paths.into_vec() {
@@ -146,7 +144,7 @@ impl Store {
         ensures still { IsTrue P.tells → KeepsStill (P.still place.old) (P.still place.new) }
         ensures takes { TakesOpen result (P.counts place.old) (P.counts place.new) }
         ensures told { IfErr result (OpensBy P.tells folder (P.world place.old)) }
-        ensures looks { IsTrue P.tells → OnOk result (P.counts place.new ≡ past_calls (opened_looked folder (P.world place.old)) (P.counts place.old)) }
+        ensures looks { IsTrue P.tells → OpensLooking result (opened_looked folder (P.world place.old)) (P.counts place.old) (P.counts place.new) }
     {
         let paths = match place.list_directly(alloc, &folder) {
             Ok(paths) => paths,

@@ -6,6 +6,7 @@ use Rattle.pb_soundness.specs.Apart.{KeepsStill}
 use Rattle.pb_soundness.specs.Records.{Reading, ends_as_record}
 use Rattle.pb_store.specs.Opening.{greatest_at, greatest_of}
 use Rattle.pb_record.specs.Parts.{IsReading}
+use Rattle.pb_store.proofs.Looking.{Reached}
 use Rattle.pb_store.proofs.opening.greatest_of.Given as goal
 
 abbrev pub invariant-loop-path : goal.invariant-loop-path
@@ -16,6 +17,7 @@ invariant-loop-path g l = record {
   found : (read : Reading) → IsReading read → IsTrue g.P.Place.tells → fold (λ m path. max m (greatest_at read (g.P.Place.world l.fn.place).files path)) l.greatest (into_iter_items l.path-iterator) ≡ greatest_of read (g.P.Place.world l.fn.place).files l.fn.paths;
   within : (p : List ℕ) → Contains (into_iter_items l.path-iterator) p → Contains l.fn.paths p;
   looks : past_calls (filter ends_as_record (into_iter_items l.path-iterator)) (g.P.Place.counts l.place) ≡ past_calls (filter ends_as_record l.fn.paths) (g.P.Place.counts l.fn.place);
+  reached : Reached (filter ends_as_record l.fn.paths) (filter ends_as_record (into_iter_items l.path-iterator)) (g.P.Place.counts l.fn.place) (g.P.Place.counts l.place);
   starts : (g.P.Place.counts l.place).starts ≡ (g.P.Place.counts l.fn.place).starts;
   failures : (g.P.Place.counts l.place).failures ≡ (g.P.Place.counts l.fn.place).failures;
 }

@@ -1,6 +1,6 @@
 use Rattle.pb_store.proofs.Ahead.{opened_ahead, opened_next}
 use Rattle.pb_store.proofs.Called.{opens_by_listing, opens_by_reading}
-use Rattle.pb_store.proofs.LookingBy.{folder_opened}
+use Rattle.pb_store.proofs.LookingBy.{folder_opened, folder_unlisted, folder_unread}
 use Rattle.pb_store.proofs.store.Store.open.Goals as goal
 
 pub returns-in-Ok-greatest_of-clause-ahead : goal.returns-in-Ok-greatest_of-clause-ahead
@@ -16,3 +16,9 @@ returns-in-Err-greatest_of-clause-told g c = opens_by_reading g.P.Place.tells c.
 
 pub returns-in-Ok-greatest_of-clause-looks : goal.returns-in-Ok-greatest_of-clause-looks
 returns-in-Ok-greatest_of-clause-looks g c told = folder_opened c.args.folder (g.P.Place.world c.args.place.now) _ _ _ _ (c.in-Ok.ensures.ok told) c.in-Ok.ensures.counts c.in-Ok-greatest_of.ensures.looks
+
+pub returns-in-Err-clause-looks : goal.returns-in-Err-clause-looks
+returns-in-Err-clause-looks g c told = folder_unlisted c.args.folder (g.P.Place.world c.args.place.now) c.in-Err.fault _ _ _ c.opened.ensures c.in-Err.ensures.counts
+
+pub returns-in-Err-greatest_of-clause-looks : goal.returns-in-Err-greatest_of-clause-looks
+returns-in-Err-greatest_of-clause-looks g c told = folder_unread c.args.folder (g.P.Place.world c.args.place.now) _ _ _ _ _ (c.in-Ok.ensures.ok told) c.in-Ok.ensures.counts c.in-Err-greatest_of.ensures.looks
