@@ -2,7 +2,6 @@
 use Rattle.std.proofs.Common.{◌≡◌, ◌∙◌, ◌++◌, ◌∷◌, ℕ, false, true, List, [], codes, refl, sym, ap, subst}
 use Rattle.pb_answer.specs.declared.fault.BuildFault.{BuildFault}
 use Rattle.pb_answer.specs.declared.fault.BuildFault.TheVariants.{Plan, Toolchain, Child, Device, Sink, OutOfMemory}
-use Rattle.pb_answer.specs.declared.fault.DeviceFault.TheVariants as device
 use Rattle.pb_build.specs.Causes.{AskEnds, PlanStopsAt, variables_asked}
 use Rattle.pb_build.specs.Private.{IsRefusedOf, unread}
 use Rattle.pb_package.specs.declared.fault.LoadFault.{LoadFault}
@@ -11,7 +10,6 @@ use Rattle.pb_package.specs.declared.options.Options.{Options}
 use Rattle.pb_package.specs.declared.workspace.Workspace.{Workspace}
 use Rattle.pb_place.specs.CallsInTurn.{MakesSome, past_calls}
 use Rattle.pb_place.specs.Counts.{Counts, past_call}
-use Rattle.pb_place.proofs.CallsInTurn.{made_both}
 use Rattle.pb_run.specs.Causes.{StopsAt}
 use Rattle.pb_run.specs.Launching.{SpawnEnds}
 use Rattle.pb_run.proofs.Calling.{memory_last, stops_first, stops_then}
@@ -79,14 +77,6 @@ plan_first (Child unit fault) a b old new is = absurd is
 plan_first (Device unit fault) a b old new is = stops_first (Device unit fault) a b old new is
 plan_first Sink a b old new is = absurd is
 plan_first OutOfMemory a b old new is = stops_first OutOfMemory a b old new is
-
-pub plan_then : (e : BuildFault) (a b : List (List ℕ)) (old mid new : Counts) → mid ≡ past_calls a old → PlanStopsAt e b mid new → PlanStopsAt e (a ++ b) old new
-plan_then (Plan why) a b old mid new first is = made_both a b old mid new first is
-plan_then Toolchain a b old mid new first is = absurd is
-plan_then (Child unit fault) a b old mid new first is = absurd is
-plan_then (Device unit fault) a b old mid new first is = stops_then (Device unit fault) a b old mid new first is
-plan_then Sink a b old mid new first is = absurd is
-plan_then OutOfMemory a b old mid new first is = stops_then OutOfMemory a b old mid new first is
 
 -- the query
 pub ask_stops : (e : BuildFault) (old new : Counts) → SpawnEnds e old new → AskEnds e old new
