@@ -1,5 +1,5 @@
 -- The lines of the units that were started, one after another.
-use Rattle.std.proofs.Common.{◌≡◌, ◌∙◌, ◌++◌, List, [], ◌∷◌, ℕ, zero, suc, Option, Some, None, refl, sym, ap, slice_get, drop}
+use Rattle.std.proofs.Common.{◌≡◌, ◌∙◌, ◌++◌, List, [], ◌∷◌, ℕ, zero, suc, Some, None, refl, ap, slice_get, drop}
 use Rattle.pb_answer.specs.Explanation.{line_if, started_lines}
 use Rattle.pb_store.specs.declared.difference.Difference.{Difference}
 

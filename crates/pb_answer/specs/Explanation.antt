@@ -1,9 +1,8 @@
 -- What people are told of a build that came to its end, beside its message lines (our own choice of words).
-use Rattle.std.specs.Prelude.{ℕ, ◌==◌, ◌-◌, Bool, true, if◌then◌else◌, codes, length, slice_get, drop, List, [], ◌∷◌, ◌++◌, Option, Some, None}
+use Rattle.std.specs.Prelude.{ℕ, ◌==◌, ◌-◌, if◌then◌else◌, codes, length, slice_get, drop, List, [], ◌∷◌, ◌++◌, Option, Some, None}
 use Rattle.std.specs.Fmt.{decimal}
 use Rattle.std.specs.List.{concat}
 use Rattle.pb_answer.specs.declared.summary.Summary.{Summary}
-use Rattle.pb_record.specs.declared.record.InputName.{InputName}
 use Rattle.pb_record.specs.declared.record.InputName.TheVariants.{Path, Variable}
 use Rattle.pb_project.specs.declared.fault.UnitFault.{UnitFault}
 use Rattle.pb_store.specs.declared.difference.CommandPart.{CommandPart}

@@ -12,7 +12,7 @@ use Rattle.pb_directive.specs.Lines.{split_first}
 use Rattle.pb_data.specs.Mentions.{mentioned_all}
 use Rattle.pb_directive.specs.Directives.{is_empty, some_word}
 use Rattle.pb_directive.specs.DepInfo.{ends_outputs, after_outputs, parts_of, rule_words, onto_part}
-use Rattle.pb_directive.proofs.WordLemmas.{Cut, cut_of, split_first-shorter, words_cons}
+use Rattle.pb_directive.proofs.WordLemmas.{cut_of, split_first-shorter, words_cons}
 
 -- the text is cut at the first such byte
 pub record Around (byte : ℕ) (text part rest : List ℕ) : Type 0 where

@@ -1,7 +1,7 @@
 -- The small compiler is honest on the compiles of units.
-use Rattle.std.proofs.Common.{◌≡◌, ◌==◌, ℕ, ◌&&◌, ◌||◌, Bool, true, false, cond, codes, List, [], ◌∷◌, ◌++◌, Option, Some, None, Result, Ok, Err, refl, sym, ◌∙◌, ap, subst}
+use Rattle.std.proofs.Common.{◌≡◌, ◌==◌, ℕ, ◌&&◌, Bool, true, false, cond, codes, List, [], ◌∷◌, ◌++◌, Option, Some, None, Result, Ok, Err, refl, sym, ◌∙◌, ap, subst}
 use Rattle.std.specs.FinMap as finite
-use Rattle.std.specs.List.{AllByRecursion, list_any}
+use Rattle.std.specs.List.{AllByRecursion}
 use Rattle.std.specs.Str.{bytes_eq}
 use Rattle.pb_data.specs.Mentions.{is_mentioned, once}
 use Rattle.pb_data.specs.Table.{value_at, table_of, names_of}
@@ -12,12 +12,11 @@ use Rattle.pb_directive.specs.Lines.{has_byte}
 use Rattle.pb_directive.specs.declared.dep_info.DepInfo.{DepInfo}
 use Rattle.pb_directive.specs.declared.directive.Directive.{Directive}
 use Rattle.pb_directive.specs.declared.fault.LineFault.{LineFault}
-use Rattle.pb_place.specs.Paths.{below, is_path, is_absolute, is_relative, is_at_or_below, is_below, parsed}
+use Rattle.pb_place.specs.Paths.{below, is_path, is_absolute, is_relative, parsed}
 use Rattle.pb_place.specs.World.{World}
 use Rattle.pb_place.specs.declared.child.Reply.{Reply}
 use Rattle.pb_place.specs.declared.command.Command.{Command}
 use Rattle.pb_place.specs.declared.path.PathFault.{PathFault}
-use Rattle.pb_place.proofs.Within.{at_below}
 use Rattle.pb_unit.specs.declared.plan.Planned.{Planned}
 use Rattle.pb_package.specs.declared.package.Entry.{Entry}
 use Rattle.pb_package.specs.declared.package.Package.{Package}
@@ -37,7 +36,7 @@ use Rattle.pb_command.specs.Judge.{replied_files, file_at}
 use Rattle.pb_mini.specs.Answer.{request_of, replied_if}
 use Rattle.pb_mini.specs.CommandLine as line
 use Rattle.pb_mini.specs.DepInfo.{dep_info_text}
-use Rattle.pb_mini.specs.Honesty.{SameFile, is_below_some, GivenBelow, names_if, names_read, file_named, each_once}
+use Rattle.pb_mini.specs.Honesty.{SameFile, GivenBelow, names_if, names_read, file_named, each_once}
 use Rattle.pb_mini.specs.declared.command_line.Arguments.{Arguments}
 use Rattle.pb_mini.specs.declared.command_line.CommandLine.{CommandLine}
 use Rattle.pb_mini.specs.declared.command_line.Settled.{Settled}
@@ -57,7 +56,7 @@ use Rattle.pb_honesty.proofs.Given.{NamesBelow, given_below}
 use Rattle.pb_honesty.proofs.Grouping.{in_fixed, with_flags}
 use Rattle.pb_honesty.proofs.Libraries.{externs_hold}
 use Rattle.pb_honesty.proofs.Making.{reply_found}
-use Rattle.pb_honesty.proofs.Mentioning.{or_right, all_among, one_among}
+use Rattle.pb_honesty.proofs.Mentioning.{all_among, one_among}
 use Rattle.pb_honesty.proofs.Named.{ArePaths, compile_paths, parsed_path_is}
 use Rattle.pb_honesty.proofs.Parsing.{opened, all_so}
 

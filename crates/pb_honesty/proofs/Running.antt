@@ -1,5 +1,5 @@
 -- The small compiler is honest on the runs of scripts, and so on the command of every unit.
-use Rattle.std.proofs.Common.{◌≡◌, ℕ, ◌++◌, ◌⊎◌, inl, inr, Bool, true, false, cond, codes, List, [], ◌∷◌, length, Option, Some, None, unwrap_or, Result, Ok, Err, IfSome, refl, sym, ◌∙◌, ap, subst}
+use Rattle.std.proofs.Common.{◌≡◌, ℕ, ◌++◌, ◌⊎◌, inl, inr, Bool, true, false, cond, codes, List, [], ◌∷◌, length, Option, Some, None, unwrap_or, Ok, Err, IfSome, refl, sym, ◌∙◌, ap, subst}
 use Rattle.std.specs.FinMap as finite
 use Rattle.std.specs.List.{AllByRecursion, flat_map, list_any}
 use Rattle.std.specs.Option.{option_or}

@@ -2,28 +2,23 @@
 use Rattle.std.proofs.Common.{◌≡◌, ◌||◌, ℕ, Bool, true, false, not, cond, List, [], ◌∷◌, Option, Some, None, Result, Ok, Err, refl, sym, ap, subst, ◌∙◌}
 use Rattle.std.specs.FinMap as finite
 use Rattle.std.specs.List.{AllByRecursion, list_any}
-use Rattle.pb_directive.specs.declared.directive.Directive.{Directive}
 use Rattle.pb_place.specs.Paths.{is_below, is_at_or_below}
 use Rattle.pb_place.specs.World.{World, Map, is_shown, seen_by, from_nothing}
 use Rattle.pb_place.specs.declared.command.Command.{Command}
 use Rattle.pb_place.proofs.Folders.{get-sources, get-seen}
-use Rattle.pb_unit.specs.declared.plan.Planned.{Planned}
-use Rattle.pb_record.specs.declared.record.Input.{Input}
-use Rattle.pb_record.specs.declared.record.Input.TheVariants.{File, Tree, Value}
-use Rattle.pb_soundness.specs.Inputs.{contents, path_input, input_in, SameBelow, reply_in}
+use Rattle.pb_record.specs.declared.record.Input.TheVariants.{Value}
+use Rattle.pb_soundness.specs.Inputs.{path_input, input_in, SameBelow, reply_in}
 use Rattle.pb_project.specs.Targets.{package_of, dep_info_of}
 use Rattle.pb_project.specs.declared.answer.Answered.{Answered}
 use Rattle.pb_record.specs.declared.record.InputName.{InputName}
 use Rattle.pb_record.specs.declared.record.InputName.TheVariants.{Path, Variable}
 use Rattle.pb_project.specs.declared.fault.UnitFault.{UnitFault}
-use Rattle.pb_project.specs.declared.project.Project.{Project}
-use Rattle.pb_project.specs.declared.project.Setup.{Setup}
 use Rattle.pb_command.specs.Answers.{answered_of}
 use Rattle.pb_command.specs.Command.{command_of}
-use Rattle.pb_command.specs.Judge.{ended_by, replied_files, file_at, inputs_if, judge}
+use Rattle.pb_command.specs.Judge.{ended_by, replied_files, file_at, inputs_if}
 use Rattle.pb_command.proofs.Judged.{judges_as_answered}
 use Rattle.pb_mini.specs.Honesty.{SameFile}
-use Rattle.pb_honesty.specs.Honest.{small_compiler, CanTell, IsSmall, IsOfProject, SmallCompilerIsHonest}
+use Rattle.pb_honesty.specs.Honest.{small_compiler, SmallCompilerIsHonest}
 use Rattle.pb_honesty.proofs.Agreeing.{SameInput, SameAround}
 use Rattle.pb_honesty.proofs.Running.{by_owner}
 

@@ -1,9 +1,8 @@
 -- A child of which nothing is told.
-use Rattle.std.proofs.Common.{◌≡◌, ℕ, List, Option, Some, None, cond, Bool, true, false, refl, ap, sym, ◌∙◌}
-use Rattle.std.specs.FinMap.{get, retain_keys, empty, get-empty, same_map}
+use Rattle.std.proofs.Common.{◌≡◌, ℕ, List, Option, Some, None, cond, Bool, true, false, refl, sym, ◌∙◌}
+use Rattle.std.specs.FinMap.{get, empty, get-empty, same_map}
 use Rattle.std.specs.Ordering.{nat_cmp}
 use Rattle.std.specs.Cmp.Lexicographic.{slice_cmp, nat_list_cmp_total}
-use Rattle.pb_place.specs.World.{Map}
 use Rattle.pb_place.specs.Paths.{is_below}
 use Rattle.pb_place.specs.Children.{inside_out}
 use Rattle.pb_place.proofs.MapLemmas.{exact, get-kept}

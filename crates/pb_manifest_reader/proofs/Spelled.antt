@@ -1,7 +1,7 @@
 -- Each spelling of an item is read as the item.
-use Rattle.std.proofs.Common.{◌≡◌, ℕ, ◌+◌, suc, not, ◌||◌, ◌==◌, Bool, true, false, cond, [], ◌∷◌, ◌++◌, length, take, drop, None, Some, Ok, sym, ◌∙◌, ap, refl, arith, eqb, append_assoc, length-append, codes, inl, inr}
+use Rattle.std.proofs.Common.{◌≡◌, ℕ, ◌+◌, not, ◌||◌, ◌==◌, Bool, true, false, [], ◌∷◌, ◌++◌, length, Ok, sym, ◌∙◌, ap, refl, eqb, append_assoc, codes, inl, inr}
 use Rattle.std.proofs.lemmas.Bool.{cases_Bool, and_parts, false≢true}
-use Rattle.std.proofs.lemmas.Bool.Decides.{Decides-eqb, nat_tests}
+use Rattle.std.proofs.lemmas.Bool.Decides.{Decides-eqb}
 use Rattle.std.specs.List.{list_any, list_all}
 use Rattle.pb_manifest.proofs.Parting.{Without, neither, parted_none, parted_some}
 use Rattle.pb_manifest_reader.specs.Features.{whole_item, parted_item, item_from, item_in}

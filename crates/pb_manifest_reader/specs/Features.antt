@@ -1,6 +1,5 @@
 -- The table `[features]` (The Cargo Book, Features).
-use Rattle.std.specs.Prelude.{ℕ, List, ◌&&◌, ◌==◌, if◌then◌else◌, Option, Some, None, Ok, Err, codes, length}
-use Rattle.std.specs.List.{before_first, after_first, position_or_len}
+use Rattle.std.specs.Prelude.{List, ◌&&◌, ◌==◌, if◌then◌else◌, Option, Some, None, Ok, Err, codes, length}
 use Rattle.std.specs.Str.{bytes_eq}
 use Rattle.toml.specs.Data.{Data, Members}
 use Rattle.pb_data.specs.Gives.{◌>>=◌}

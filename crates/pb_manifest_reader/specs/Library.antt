@@ -1,5 +1,5 @@
 -- The table `[lib]` (The Cargo Book, Manifest Format and Cargo Targets).
-use Rattle.std.specs.Prelude.{ℕ, List, [], ◌∷◌, map, Bool, if◌then◌else◌, Option, Some, None, Ok, Err, codes}
+use Rattle.std.specs.Prelude.{List, Bool, if◌then◌else◌, Option, Some, None, Ok, Err, codes}
 use Rattle.std.specs.Str.{bytes_eq}
 use Rattle.toml.specs.Data.{Data, Members}
 use Rattle.pb_data.specs.Gives.{◌>>=◌}

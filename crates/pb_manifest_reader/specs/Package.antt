@@ -1,5 +1,5 @@
 -- The table `[package]` (The Cargo Book, Manifest Format).
-use Rattle.std.specs.Prelude.{ℕ, List, Bool, true, false, ◌||◌, if◌then◌else◌, Option, Some, None, Ok, Err, codes, unwrap_or}
+use Rattle.std.specs.Prelude.{Bool, true, false, ◌||◌, if◌then◌else◌, Option, Some, None, Ok, Err, codes, unwrap_or}
 use Rattle.std.specs.Str.{bytes_eq}
 use Rattle.toml.specs.Data.{Data, Members, as_str, as_bool}
 use Rattle.pb_data.specs.Gives.{◌>>=◌}

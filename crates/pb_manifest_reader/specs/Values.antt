@@ -1,7 +1,7 @@
 -- What stands at a key of a table, and what of it may stand there.
 --
 -- A definition that reads answers the value, or the first fault.
-use Rattle.std.specs.Prelude.{ℕ, List, [], ◌∷◌, Bool, true, false, if◌then◌else◌, Option, Some, None, Result, Ok, Err, is_some, unwrap_or}
+use Rattle.std.specs.Prelude.{List, [], ◌∷◌, Bool, true, false, if◌then◌else◌, Option, Some, None, Ok, Err, is_some, unwrap_or}
 use Rattle.toml.specs.Data.{Data, Items, no_items, item, Members, no_members, member, get_member, as_str, as_bool, as_table, as_array}
 use Rattle.pb_data.specs.Gives as answers
 use Rattle.pb_data.specs.Gives.{◌>>=◌, some_or}

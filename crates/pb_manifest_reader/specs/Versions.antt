@@ -1,5 +1,5 @@
 -- What the key `version` says: of a package, of a workspace, of a dependency.
-use Rattle.std.specs.Prelude.{ℕ, List, Bool, false, if◌then◌else◌, Option, Result, Ok, Err, is_ok, codes}
+use Rattle.std.specs.Prelude.{Option, Ok, codes}
 use Rattle.toml.specs.Data.{Data, Members}
 use Rattle.pb_data.specs.Gives.{◌>>=◌}
 use Rattle.pb_manifest.specs.Values.{Text, Read}

@@ -1,9 +1,8 @@
 -- Lemmas on calls in turn: one row behind another, and which call a fault tells.
-use Rattle.std.proofs.Common.{◌≡◌, ◌≢◌, ◌∙◌, ◌++◌, ◌+◌, ◌≤◌, inl, inr, ℕ, zero, suc, min, List, [], ◌∷◌, length, refl, sym, ap, subst, arith}
-use Rattle.pb_place.specs.CallsInTurn.{FailsAt, FaultTellsTurn, MakesSome, TellsTurn, past_calls}
-use Rattle.pb_place.specs.Counts.{Counts, past_call, past_place_fault, up}
+use Rattle.std.proofs.Common.{◌≡◌, ◌∙◌, ◌++◌, ◌+◌, ◌≤◌, inl, inr, ℕ, suc, List, [], ◌∷◌, length, refl, sym, ap, subst, arith}
+use Rattle.pb_place.specs.CallsInTurn.{FailsAt, FaultTellsTurn, MakesSome, past_calls}
+use Rattle.pb_place.specs.Counts.{Counts, past_call, up}
 use Rattle.pb_place.specs.declared.place.PlaceFault.{PlaceFault}
-use Rattle.pb_place.specs.declared.place.PlaceFault.TheVariants as place
 use Rattle.pb_place.proofs.Failing.{call_tells_fault}
 
 pub append_none : {A : Type 0} (xs : List A) → xs ++ [] ≡ xs

@@ -1,7 +1,7 @@
 -- What stands at a path after files were taken over.
 use Rattle.std.proofs.Common.{◌≡◌, ℕ, Bool, true, false, not, ◌&&◌, ◌||◌, List, [], ◌∷◌, Option, Some, None, zero, suc, take, ◌⊎◌, is_some, inl, inr, refl, sym, ap, ◌∙◌, cond}
 use Rattle.std.specs.List.{filter, list_all, list_any}
-use Rattle.std.specs.FinMap.{get, insert, empty, keys, retain_keys, from_entries, get-empty, same_map}
+use Rattle.std.specs.FinMap.{get, empty, keys, retain_keys, from_entries, get-empty, same_map}
 use Rattle.std.specs.List.Sorted.{IsStrictlySortedBy}
 use Rattle.std.specs.Cmp.Lexicographic.{slice_cmp, nat_list_cmp_total}
 use Rattle.std.specs.Ordering.{nat_cmp}

@@ -1,9 +1,8 @@
 -- Children in flight: each with what it will answer and leave, fixed when it was spawned.
-use Rattle.std.specs.Prelude.{◌≡◌, ◌≢◌, IfSome, ℕ, ◌==◌, ◌||◌, ◌++◌, Bool, false, not, List, [], ◌∷◌, length, max, Option, Some, None, Result, Ok, Err, if◌then◌else◌}
-use Rattle.std.specs.List.{list_any}
+use Rattle.std.specs.Prelude.{◌≡◌, ◌≢◌, IfSome, ℕ, ◌==◌, ◌||◌, Bool, false, not, List, [], ◌∷◌, max, Option, Some, None, Result, Ok, Err, if◌then◌else◌}
 use Rattle.std.specs.FinMap as map
 use Rattle.pb_place.specs.Paths.{is_below}
-use Rattle.pb_place.specs.World.{World, Map, AgreeBut, ChangesOnlyInSome, put_files, seen_by}
+use Rattle.pb_place.specs.World.{World, Map, put_files, seen_by}
 use Rattle.pb_place.specs.Folders.{files_in, over}
 use Rattle.pb_place.specs.declared.command.Command.{Command}
 use Rattle.pb_place.specs.declared.command.Ended.{Ended}

@@ -4,7 +4,7 @@ use Rattle.std.specs.Coded.{Coded, code_by, coded×, coded_ℕ, coded_ℤ, coded
 use Rattle.pb_place.specs.World.{World}
 use Rattle.pb_place.specs.Counts.{Counts, Starts}
 use Rattle.pb_place.specs.Maps.{map_code}
-use Rattle.pb_place.specs.Private.{failure_code, start_code}
+use Rattle.pb_place.specs.Private.{failure_code}
 use Rattle.pb_place.specs.declared.command.Command.{Command}
 use Rattle.pb_place.specs.declared.command.Ended.{Ended}
 use Rattle.pb_place.specs.declared.child_in_flight.ChildInFlight.{ChildInFlight}

@@ -1,10 +1,7 @@
 -- Run numbers: the next one is above all that records name.
-use Rattle.std.proofs.Common.{◌≡◌, ◌≢◌, ◌⊎◌, ◌<◌, ◌+◌, ◌==◌, ◌∙◌, ℕ, Bool, true, false, List, Option, Some, None, Contains, refl, sym, ap, subst, cond, inl, inr, arith}
+use Rattle.std.proofs.Common.{◌<◌, ◌+◌, ◌==◌, ◌∙◌, ℕ, Some, None, sym, subst, cond, inl, inr, arith}
 use Rattle.std.proofs.lemmas.Bool.{cases_Bool}
-use Rattle.pb_record.specs.declared.record.Record.{Record}
-use Rattle.pb_soundness.specs.Records.{number_of, needs_of}
-use Rattle.pb_soundness.specs.Grounded.{Standing}
-use Rattle.pb_soundness.specs.Numbers.{NoneNames, after, IsBefore, NamesBefore, IsAhead, StaysAheadLaw, GivenAheadLaw, NextIsNewLaw}
+use Rattle.pb_soundness.specs.Numbers.{after, IsBefore, StaysAheadLaw, GivenAheadLaw, NextIsNewLaw}
 use Rattle.pb_soundness.proofs.Becoming.{none_some}
 
 pub stays_ahead : StaysAheadLaw

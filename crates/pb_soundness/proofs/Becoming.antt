@@ -1,20 +1,18 @@
 -- A folder stays sound, where each record is gone, is as it was, or is a true one with a new number.
-use Rattle.std.proofs.Common.{◌≡◌, ◌≢◌, ◌<◌, ◌↔◌, ◌∙◌, ℕ, Bool, true, false, List, Option, Some, None, Contains, refl, sym, ap, subst, cond}
-use Rattle.std.specs.List.{list_any}
-use Rattle.std.specs.FinMap.{get}
+use Rattle.std.proofs.Common.{◌≡◌, ◌∙◌, ℕ, List, Some, None, Contains, sym, ap, subst}
 use Rattle.pb_place.specs.Folders.{files_in}
 use Rattle.pb_place.specs.Paths.{is_below}
-use Rattle.pb_place.specs.World.{World, Map, Answers}
+use Rattle.pb_place.specs.World.{Map, Answers}
 use Rattle.pb_record.specs.Commands.{command_of}
 use Rattle.pb_record.specs.declared.record.Needed.{Needed}
 use Rattle.pb_record.specs.declared.record.Needed.TheVariants.{Copies, Numbers}
 use Rattle.pb_record.specs.declared.record.Record.{Record}
-use Rattle.pb_soundness.specs.Inputs.{Judge, SameBelow, Agrees, reply_in}
+use Rattle.pb_soundness.specs.Inputs.{Judge, SameBelow, reply_in}
 use Rattle.pb_soundness.specs.Records.{Reading, out_of, record_at, number_of, needs_of}
 use Rattle.pb_soundness.specs.Grounded.{Standing, Grounded, grounded, Reaches, named, onward}
-use Rattle.pb_soundness.specs.Sound.{Sound, IsTrueRecord, TrueBy, TrueCopies, TrueNumbers, Rests, Backs}
+use Rattle.pb_soundness.specs.Sound.{Sound, IsTrueRecord, TrueBy, Rests, Backs}
 use Rattle.pb_soundness.proofs.Elements.{any_at, inside_same}
-use Rattle.pb_soundness.specs.Laws.{Became, gone, stays, renewed, Unnamed, StaysSound}
+use Rattle.pb_soundness.specs.Laws.{Became, gone, stays, renewed, StaysSound}
 
 pub one : {A : Type 0} (x y : A) → Some x ≡ Some y → x ≡ y
 one x y e = cc

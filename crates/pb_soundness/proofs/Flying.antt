@@ -1,19 +1,16 @@
 -- Records while other units' children are in flight.
-use Rattle.std.proofs.Common.{◌≡◌, ◌≢◌, ◌⊎◌, ◌↔◌, ◌<◌, ◌∙◌, ◌++◌, ◌||◌, zero, suc, ℕ, Bool, true, false, List, [], ◌∷◌, map, length, Option, Some, None, Contains, refl, sym, ap, subst, inl, inr, arith}
-use Rattle.std.proofs.lemmas.Bool.{cases_Bool, false≢true}
+use Rattle.std.proofs.Common.{◌≡◌, ◌≢◌, ◌∙◌, ◌||◌, ℕ, Bool, true, false, List, [], ◌∷◌, Some, Contains, refl, sym, ap, subst, inl, inr, arith}
+use Rattle.std.proofs.lemmas.Bool.{cases_Bool}
 use Rattle.std.proofs.lemmas.List.Elements.{Contains-append_right}
-use Rattle.std.specs.FinMap.{get}
 use Rattle.pb_place.specs.Folders.{files_in, FoldersAgree, LieApart}
-use Rattle.pb_place.specs.Paths.{is_path, is_below, is_at_or_below}
-use Rattle.pb_place.specs.World.{World, Map, ChangesOnly, seen_by, from_nothing}
+use Rattle.pb_place.specs.Paths.{is_path, is_at_or_below}
+use Rattle.pb_place.specs.World.{World, ChangesOnly, seen_by}
 use Rattle.pb_place.specs.declared.command.Command.{Command}
 use Rattle.pb_place.proofs.Folders.{files_alike, sources_alike, sees_alike}
-use Rattle.pb_place.proofs.Within.{at_below, at_or_below_on, below_then_at, at_then_below, outside_within, share_no_path}
-use Rattle.pb_record.specs.declared.record.Record.{Record}
-use Rattle.pb_soundness.specs.Records.{Reading, is_key, out_of, place_of, record_at, number_of, needs_of}
-use Rattle.pb_soundness.specs.Grounded.{Standing}
+use Rattle.pb_place.proofs.Within.{at_below, at_or_below_on, outside_within, share_no_path}
+use Rattle.pb_soundness.specs.Records.{Reading, is_key, out_of, place_of, record_at}
 use Rattle.pb_soundness.specs.Apart.{is_of, ReadsOthers, OthersLaw}
-use Rattle.pb_soundness.specs.Numbers.{NoneNames, NumberWaitsLaw}
+use Rattle.pb_soundness.specs.Numbers.{NumberWaitsLaw}
 use Rattle.pb_soundness.proofs.Places.{is_same, no_key, out_in, place_in, place_outside, places_differ, outs_apart, out_place_apart, record_same}
 
 pub contains_head : {X : Type 0} (x : X) (xs : List X) → Contains (x ∷ xs) x

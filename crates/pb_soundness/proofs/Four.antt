@@ -1,16 +1,15 @@
 -- The four laws of soundness.
-use Rattle.std.proofs.Common.{◌≡◌, ◌≢◌, ◌⊎◌, ◌∙◌, ℕ, Bool, true, false, List, Option, Some, None, refl, sym, ap, subst, inl, inr}
+use Rattle.std.proofs.Common.{◌≡◌, ◌≢◌, ◌∙◌, ℕ, true, List, Some, None, sym, subst, inl, inr}
 use Rattle.std.proofs.lemmas.Bool.{cases_Bool}
 use Rattle.std.specs.FinMap.{get}
-use Rattle.pb_place.specs.Folders.{files_in, LieApart}
-use Rattle.pb_place.specs.Paths.{is_path, is_below, is_at_or_below}
-use Rattle.pb_place.specs.World.{Map, Answers, AgreeBut}
+use Rattle.pb_place.specs.Folders.{files_in}
+use Rattle.pb_place.specs.Paths.{is_path, is_at_or_below}
+use Rattle.pb_place.specs.World.{Map, AgreeBut}
 use Rattle.pb_place.proofs.Folders.{files_alike}
 use Rattle.pb_place.proofs.Within.{at_below, below_on}
 use Rattle.pb_record.specs.declared.record.Record.{Record}
-use Rattle.pb_soundness.specs.Inputs.{Judge}
 use Rattle.pb_soundness.specs.Records.{Reading, is_key, out_of, place_of, record_at, number_of}
-use Rattle.pb_soundness.specs.Sound.{Sound, IsTrueRecord}
+use Rattle.pb_soundness.specs.Sound.{IsTrueRecord}
 use Rattle.pb_soundness.specs.Laws.{Became, gone, stays, renewed, Unnamed, OutsideLaw, InOutputLaw, WithoutRecordLaw, PutLaw}
 use Rattle.pb_soundness.proofs.Becoming.{Stays, stays_sound}
 use Rattle.pb_soundness.proofs.Places.{is_same, out_in, place_in, place_outside, places_differ, outs_apart, out_place_apart, folder_still, record_same, no_key}

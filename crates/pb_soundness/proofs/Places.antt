@@ -1,19 +1,19 @@
 -- Where the files of units and their records are: apart.
-use Rattle.std.proofs.Common.{◌≡◌, ◌≢◌, ◌⊎◌, ◌==◌, ◌&&◌, ◌||◌, ◌∙◌, ◌++◌, ◌+◌, ◌-◌, ◌<◌, ℕ, Bool, true, false, not, cond, codes, List, [], ◌∷◌, length, drop, Option, Some, None, refl, sym, ap, subst, inl, inr, arith, length-append}
+use Rattle.std.proofs.Common.{◌≡◌, ◌≢◌, ◌⊎◌, ◌==◌, ◌||◌, ◌∙◌, ◌++◌, ◌+◌, ◌-◌, ◌<◌, ℕ, Bool, true, false, not, cond, codes, List, [], ◌∷◌, length, drop, Option, Some, None, refl, sym, ap, inl, inr, arith, length-append}
 use Rattle.std.proofs.lemmas.Bool.{cases_Bool, false≢true}
 use Rattle.std.proofs.lemmas.List.{append_cancel_left, append_cancel_right}
 use Rattle.std.proofs.lemmas.List.Folds.{list_any-append}
 use Rattle.std.proofs.Math.Seq.{drop-append_seam}
 use Rattle.std.proofs.lemmas.Slice.Eq.{bytes_eq-Decides}
 use Rattle.std.specs.FinMap.{get}
-use Rattle.std.specs.List.{list_any, list_all}
+use Rattle.std.specs.List.{list_any}
 use Rattle.std.specs.Str.{bytes_eq}
 use Rattle.pb_place.specs.Folders.{files_in, LieApart}
-use Rattle.pb_place.specs.Paths.{stem, below, is_name, is_relative, is_path, has_byte_0, stays, leads_up, is_below, is_at_or_below}
+use Rattle.pb_place.specs.Paths.{stem, is_name, is_path, has_byte_0, stays, leads_up, is_below, is_at_or_below}
 use Rattle.pb_place.specs.World.{Map, AgreeBut}
 use Rattle.pb_place.proofs.Folders.{named_folders_lie_apart, files_alike}
-use Rattle.pb_place.proofs.PathLemmas.{and_left, and_right, below_is_path}
-use Rattle.pb_place.proofs.Within.{at_below, at_itself, at_cases, goes_below, names_lie_apart, share_no_path}
+use Rattle.pb_place.proofs.PathLemmas.{and_left, and_right}
+use Rattle.pb_place.proofs.Within.{at_below, goes_below, names_lie_apart, share_no_path}
 use Rattle.pb_record.specs.declared.record.Record.{Record}
 use Rattle.pb_soundness.specs.Records.{Reading, is_key, ends_as_record, out_of, place_of, record_at, read_text, if_of_key}
 

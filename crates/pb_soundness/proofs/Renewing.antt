@@ -1,29 +1,26 @@
 -- Reuse, and the records that are written.
-use Rattle.std.proofs.Common.{◌≡◌, ◌≢◌, ◌⊎◌, ◌↔◌, ◌<◌, ◌∙◌, ℕ, Bool, true, false, List, [], ◌∷◌, map, Option, Some, None, Contains, refl, sym, ap, subst, inl, inr, arith}
-use Rattle.std.specs.List.{list_any, AllByRecursion}
-use Rattle.std.specs.FinMap.{get}
+use Rattle.std.proofs.Common.{◌≡◌, ◌≢◌, ◌<◌, ◌∙◌, ℕ, true, List, [], ◌∷◌, map, Some, Contains, refl, sym, ap, subst, arith}
+use Rattle.std.specs.List.{AllByRecursion}
 use Rattle.pb_place.specs.Folders.{files_in}
-use Rattle.pb_place.specs.Paths.{is_path, is_below, is_at_or_below}
-use Rattle.pb_place.specs.World.{World, Map, Answers, AgreeBut}
+use Rattle.pb_place.specs.Paths.{is_below}
+use Rattle.pb_place.specs.World.{World, Map, Answers}
 use Rattle.pb_place.specs.declared.command.Command.{Command}
-use Rattle.pb_place.specs.declared.child.Reply.{Reply}
 use Rattle.pb_place.proofs.Within.{at_below, share_no_path}
-use Rattle.pb_record.specs.declared.record.InputName.{InputName}
 use Rattle.pb_record.specs.Commands.{command_of}
 use Rattle.pb_record.specs.declared.record.Input.{Input}
 use Rattle.pb_record.specs.declared.record.Needed.{Needed}
 use Rattle.pb_record.specs.declared.record.Needed.TheVariants.{Copies, Numbers}
 use Rattle.pb_record.specs.declared.record.Record.{Record}
 use Rattle.pb_soundness.specs.Inputs.{Judge, Agrees, SameBelow, IsHonest, input_in, name_of, reply_in}
-use Rattle.pb_soundness.specs.Records.{Reading, is_key, out_of, place_of, record_at, number_in, numbered_in, number_of, needs_of}
+use Rattle.pb_soundness.specs.Records.{Reading, out_of, place_of, record_at, number_in, numbered_in, number_of, needs_of}
 use Rattle.pb_soundness.specs.Grounded.{Standing, Grounded, grounded, Reaches, named, onward}
-use Rattle.pb_soundness.specs.Sound.{Sound, IsTrueRecord, TrueBy, TrueNumbers, Rests, Backs, HoldsCopies}
-use Rattle.pb_soundness.specs.Laws.{Became, Unnamed}
+use Rattle.pb_soundness.specs.Sound.{Sound, IsTrueRecord, TrueBy, TrueNumbers, Rests, Backs}
+use Rattle.pb_soundness.specs.Laws.{Became}
 use Rattle.pb_soundness.specs.Reuse.{number_if, NeededNow, IsSame, AreGrounded, GroundsLaw, ReuseLaw, ReadByNeeds, own, beyond, NamesNeeds, IsPut, RenewLaw, SparesLaw, PutGroundsLaw}
 use Rattle.pb_soundness.proofs.Elements.{any_at}
 use Rattle.pb_soundness.proofs.Becoming.{one, none_some, Stays, grounded_number, need_grounded, reached_grounded, reached, reaches, was_grounded}
 use Rattle.pb_soundness.proofs.Four.{other_stays, put_became, put}
-use Rattle.pb_soundness.proofs.Places.{is_same, its_key, out_place_apart, folder_still}
+use Rattle.pb_soundness.proofs.Places.{its_key, out_place_apart, folder_still}
 
 -- what is true of a record of format 2
 numbers_by : (judge : Judge) (child : Answers) (folder : List ℕ) (at : Standing) (files : Map) (key : List ℕ) (r : Record) (number : ℕ) (needed : Needed) → number_in needed ≡ Some number

@@ -1,9 +1,9 @@
 -- What keeps a folder sound.
-use Rattle.std.specs.Prelude.{◌≡◌, ◌≢◌, ℕ, true, List, Option, Some, None, Contains}
+use Rattle.std.specs.Prelude.{◌≡◌, ℕ, true, List, Some, None, Contains}
 use Rattle.std.specs.FinMap as finite
 use Rattle.pb_place.specs.Folders.{files_in}
 use Rattle.pb_place.specs.Paths.{is_path, is_at_or_below}
-use Rattle.pb_place.specs.World.{Map, Answers, AgreeBut, is_same_path}
+use Rattle.pb_place.specs.World.{Map, Answers, AgreeBut}
 use Rattle.pb_record.specs.declared.record.Record.{Record}
 use Rattle.pb_soundness.specs.Inputs.{Judge}
 use Rattle.pb_soundness.specs.Records.{Reading, is_key, out_of, place_of, record_at, number_of, needs_of}

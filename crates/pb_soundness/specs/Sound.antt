@@ -1,5 +1,5 @@
 -- True records, and a profile folder whose records are true.
-use Rattle.std.specs.Prelude.{◌≡◌, ◌<◌, ◌↔◌, ℕ, List, map, Option, Some, Contains, pos}
+use Rattle.std.specs.Prelude.{◌≡◌, ◌<◌, ◌↔◌, ℕ, List, map, Some, Contains, pos}
 use Rattle.std.specs.FinMap as finite
 use Rattle.pb_place.specs.Folders.{files_in}
 use Rattle.pb_place.specs.World.{World, Map, Answers, put_files}

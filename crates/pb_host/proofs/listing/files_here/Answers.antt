@@ -1,7 +1,5 @@
 use Rattle.std.proofs.Common.{sym}
-use Rattle.std.proofs.lemmas.List.Elements.{All-nil}
 use Rattle.pb_place.proofs.Within.{at_itself}
-use Rattle.pb_host.specs.declared.listing.Waiting.{Waiting}
 use Rattle.pb_host.proofs.Finding.{none_found, none_waits}
 use Rattle.pb_host.proofs.listing.files_here.Goals as goal
 

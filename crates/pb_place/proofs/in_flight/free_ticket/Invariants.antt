@@ -1,4 +1,4 @@
-use Rattle.std.proofs.Common.{◌≡◌, ◌<◌, ℕ, true, length}
+use Rattle.std.proofs.Common.{◌≡◌, ◌<◌, ℕ, true}
 use Rattle.pb_place.specs.Children.{is_flying}
 use Rattle.pb_place.specs.InFlight.{children_in}
 use Rattle.pb_place.proofs.in_flight.free_ticket.Given as goal

@@ -1,4 +1,4 @@
-use Rattle.std.proofs.Common.{◌≡◌, ◌∙◌, ◌==◌, ap, sym}
+use Rattle.std.proofs.Common.{◌∙◌, ◌==◌, ap, sym}
 use Rattle.std.specs.List.{list_any}
 use Rattle.pb_place.specs.InFlight.{children_in}
 use Rattle.pb_place.proofs.InFlight.{any_flying, entry_taken_at, entry_child, entry_others}

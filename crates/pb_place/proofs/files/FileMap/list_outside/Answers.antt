@@ -1,5 +1,5 @@
-use Rattle.std.proofs.Common.{◌≡◌, ◌∙◌, ap, not, List, ℕ}
-use Rattle.std.specs.List.{list_all, filter}
+use Rattle.std.proofs.Common.{◌∙◌, ap, not}
+use Rattle.std.specs.List.{list_all}
 use Rattle.std.specs.Ordering.{nat_cmp}
 use Rattle.std.specs.Cmp.Lexicographic.{slice_cmp}
 use Rattle.std.specs.FinMap.{keys, retain_keys, from_entries}

@@ -1,4 +1,4 @@
-use Rattle.std.proofs.Common.{◌≡◌, arith}
+use Rattle.std.proofs.Common.{arith}
 use Rattle.std.proofs.lemmas.Grind.{common_steps}
 use Rattle.pb_place.proofs.Copies.{one_safe, agree_same}
 use Rattle.pb_place.proofs.Worlds.{AgreeBut-then}

@@ -1,6 +1,6 @@
-use Rattle.std.proofs.Common.{◌≡◌, ◌∙◌, ◌/◌, ap, subst, sym, take, length, cond, None, List, ℕ, true}
+use Rattle.std.proofs.Common.{◌≡◌, ◌∙◌, ◌/◌, ap, subst, length, true}
 use Rattle.std.specs.FinMap.{keys, retain_keys}
-use Rattle.std.specs.List.{list_any, list_all}
+use Rattle.std.specs.List.{list_all}
 use Rattle.pb_place.specs.World.{Map, PartlyRemovedAt}
 use Rattle.pb_place.specs.Paths.{is_path, is_at_or_below}
 use Rattle.pb_place.specs.Copies.{half_removed}

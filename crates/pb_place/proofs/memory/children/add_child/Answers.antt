@@ -1,4 +1,4 @@
-use Rattle.std.proofs.Common.{◌≡◌, ◌∙◌, ◌+◌, ◌++◌, ◌∷◌, [], ap, sym, length, max, arith}
+use Rattle.std.proofs.Common.{◌≡◌, ◌∙◌, ◌+◌, ◌++◌, ◌∷◌, [], ap, sym, length, arith}
 use Rattle.std.proofs.lemmas.Grind.{common_steps}
 use Rattle.pb_place.specs.InFlight.{children_in}
 use Rattle.pb_place.proofs.InFlight.{children_push, children_len, one_more}

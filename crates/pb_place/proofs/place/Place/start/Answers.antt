@@ -1,7 +1,7 @@
-use Rattle.std.proofs.Common.{◌≡◌, ◌∙◌, ◌==◌, Option, Some, Ok, true, false, ap, sym, subst, refl, rules, arith}
-use Rattle.std.specs.Prelude.{IfOk, IfSome}
+use Rattle.std.proofs.Common.{◌≡◌, ◌∙◌, Some, ap}
+use Rattle.std.specs.Prelude.{IfSome}
 use Rattle.pb_place.specs.Children.{is_flying, child_at, child_spawned, LandsAs}
-use Rattle.pb_place.specs.Counts.{Counts, without, counted_finish}
+use Rattle.pb_place.specs.Counts.{Counts, counted_finish}
 use Rattle.pb_place.specs.World.{ChangesOnlyInSome, Ends}
 use Rattle.pb_place.specs.declared.child_in_flight.ChildInFlight.{ChildInFlight}
 use Rattle.pb_place.proofs.InFlight.{last_flies, last_at, last_gone, same_number}
