@@ -32,6 +32,7 @@ use Rattle.pb_run.specs.Standing.{IsInOrder}
 use Rattle.pb_run.specs.Telling.{unit_lines}
 use Rattle.pb_run.proofs.Shown.{each_of}
 use Rattle.pb_soundness.specs.Records.{Reading}
+use Rattle.pb_turns.specs.Calling.{CallsCut, CallsOver}
 use Rattle.pb_turns.specs.Crew.{needs_of, launched_of, ticket_of_child}
 use Rattle.pb_turns.specs.Ends.{rows_in, nothing_said, Stands, StandsWhole, StandsCut, EndsWhole, EndsCut, Grounding, Dropped, Drained}
 use Rattle.pb_turns.specs.Laws.{SaysFirstRows}
@@ -109,6 +110,7 @@ story_first tells child c at still aloft started = record {
   );
   unrecorded = λ t. none_in_flight c.project at.world;
   quiet = λ t f r s reading keeps none numbered. refl;
+  calls = λ t f r s reading keeps. (refl, refl);
   unnoted = λ place at. refl;
 }
 
@@ -249,6 +251,7 @@ module _ {S : Type 0} (tells : Bool) (child : Answers) (Turns : S → List ℕ �
           started = started (basis f r child c.setup c.project sources) fault es ends.before at.world t refl h started_for;
           spent = spent;
         });
+    calls = since_first (λ b. CallsCut b fault asked es ends.before at.world at.counts mid.counts) ends.setup ends.project ends.calls;
   }
 
   -- memory is refused for the summary
@@ -266,6 +269,7 @@ module _ {S : Type 0} (tells : Bool) (child : Answers) (Turns : S → List ℕ �
     unrecorded = s.unrecorded;
     happened = s.happened;
     caused = λ t f r sources reading keeps. (tt, no_start (basis f r child c.setup c.project sources) OutOfMemory es es at.world mid.world refl);
+    calls = λ t f r sources reading keeps. (mid.world, mid.counts, s.calls t f r sources reading keeps, inl refl);
   }
 
   module _ (table : Table BadUnit) (flying : List ℕ) (flown : IsFlown Turns (needs_of first.project) from es last table flying) (story : Story tells child first at c mid still es table.given) (finished : is_finished table.states ≡ true)
@@ -327,6 +331,7 @@ module _ {S : Type 0} (tells : Bool) (child : Answers) (Turns : S → List ℕ �
           (ap is_finished (sym states_are) ∙ finished) (length_states (needs_of c.project) es ∙ length-map c.project.plan.planned (λ (u : Planned). u.needs)) d.reasons.items at.world
           (subst (λ (items : Reasons). AllBeganFor (basis f r child c.setup c.project sources) es items at.world new.world) (sym (ap (λ (x : UnitCrew). x.reasons.items) same))
           (begun (basis f r child c.setup c.project sources) OutOfMemory es es c.reasons.items at.world t refl (lawful story.project flown.flies) (inl refl) h began)) first.store.next (c.store.next, story.taken t f r sources reading keeps) d.started.items started_is summary now_is);
+      calls = since_first (λ b. (w : World) × CallsOver b es at.world at.counts w mid.counts) story.setup story.project (λ t f r sources reading keeps. (mid.world, story.calls t f r sources reading keeps));
     }
 
 -- memory is refused before a unit begins
@@ -362,6 +367,7 @@ ends_before tells child Turns setup project next from at none = record {
     started = no_start (basis f r child setup project sources) OutOfMemory [] [] at.world at.world refl;
     spent = tt;
   };
+  calls = λ t f r sources reading keeps. (at.world, at.counts, (refl, refl), inl refl);
 }
 
 pub states_long : {S : Type 0} (Turns : S → List ℕ → List ℕ → Step → S → Type 0) (first c d : UnitCrew) (from last : S) (es : List (Event BadUnit)) (table : Table BadUnit) (flying : List ℕ) → IsFlown Turns (needs_of first.project) from es last table flying

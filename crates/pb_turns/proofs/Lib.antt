@@ -10,6 +10,7 @@ pub mod Unkept
 pub mod Changing
 pub mod Alone
 pub mod Counting
+pub mod Calling
 pub mod Beginning
 pub mod Answering
 pub mod Landing

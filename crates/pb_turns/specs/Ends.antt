@@ -22,6 +22,7 @@ use Rattle.pb_project.specs.declared.project.Setup.{Setup}
 use Rattle.pb_record.specs.Parts.{IsReading}
 use Rattle.pb_run.specs.Halves.{Footing, Basis, basis, Keeps}
 use Rattle.pb_soundness.specs.Records.{Reading}
+use Rattle.pb_turns.specs.Calling.{CallsCut, CallsOver}
 use Rattle.pb_turns.specs.Crew.{needs_of, ticket_of_child}
 use Rattle.pb_turns.specs.Moments.{Moment}
 use Rattle.pb_turns.specs.Rows.{Reasons, Row, rows_of, said_from, started_keys, key_told, said_told, bad_told, differences_of, kept_of, summary_of}
@@ -101,6 +102,7 @@ pub record EndsWhole {S : Type 0} (tells : Bool) (child : Answers) (Turns : S �
   pub unkept : IsTrue tells → KeepsNoneOfBad project es new.world
   pub dropped : IsTrue tells → KeepsNoneInFlight project es None new.world
   pub told : IsTrue tells → Grounding child setup project next old.world (λ b. StandsWhole b next es reasons summary old.world new.world)
+  pub calls : IsTrue tells → Grounding child setup project next old.world (λ b. (last : World) × CallsOver b es old.world old.counts last mid)
 
 -- a fault ended them: its cause, and what the sink had heard, are those of the moment before the children in flight were dropped; no more children flew at one time than by the events before it, and the turn was asked no more; and no record is kept of a unit whose answer was dropped
 pub record EndsCut {S : Type 0} (tells : Bool) (child : Answers) (Turns : S → List ℕ → List ℕ → Step → S → Type 0) (setup : Setup) (project : Project) (next : Option ℕ) (from back : S) (fault : BuildFault) (old new : Moment) : Type 0 where
@@ -123,6 +125,7 @@ pub record EndsCut {S : Type 0} (tells : Bool) (child : Answers) (Turns : S → 
   pub unkept : IsTrue tells → KeepsNoneOfBad project es new.world
   pub dropped : IsTrue tells → KeepsNoneInFlight project before asked new.world
   pub told : IsTrue tells → Grounding child setup project next old.world (λ b. StandsCut b fault next es before old.world new.world)
+  pub calls : IsTrue tells → Grounding child setup project next old.world (λ b. CallsCut b fault asked es before old.world old.counts mid.counts)
 
 -- how they end, by the answer
 abbrev pub TurnsEnd : {S : Type 0} → Bool → Answers → (S → List ℕ → List ℕ → Step → S → Type 0) → Setup → Project → Option ℕ → S → S → Result Summary BuildFault → Moment → Moment → Type 0

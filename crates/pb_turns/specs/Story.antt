@@ -33,6 +33,7 @@ use Rattle.pb_soundness.specs.Records.{Reading, place_of, record_at}
 use Rattle.pb_store.specs.Differences.{FirstDifference}
 use Rattle.pb_store.specs.Migrating.{TakesNumber, lacks_number}
 use Rattle.pb_store.specs.declared.difference.Difference.{Difference}
+use Rattle.pb_turns.specs.Calling.{CallsCut, CallsOver}
 use Rattle.pb_turns.specs.Crew.{needs_of, launched_of}
 use Rattle.pb_turns.specs.Moments.{Moment}
 use Rattle.pb_turns.specs.Rows.{Reasons, fault_in, messages_in, is_started}
@@ -232,6 +233,7 @@ pub record Story (tells : Bool) (child : Answers) (first : UnitCrew) (at : Momen
       → FromFirst child first at c (λ b. Happened b c.done.items c.aloft.items c.store.next es now.world now.counts.starts.flying still × AllBeganFor b es c.reasons.items at.world now.world)
   pub taken : IsTrue tells → FromFirst child first at c (λ b. NumbersGiven (LacksNoNumber b at.world) es first.store.next c.store.next)
   pub quiet : IsTrue tells → FromFirst child first at c (λ b. IsQuiet b es at.world now.world)
+  pub calls : IsTrue tells → FromFirst child first at c (λ b. CallsOver b es at.world at.counts now.world now.counts)
   pub unnoted : NotesBegun c.project es first.reasons.items c.reasons.items
 
 -- the last event is the beginning of the unit of this key
@@ -268,3 +270,4 @@ pub record StoryEnds (tells : Bool) (child : Answers) (fault : BuildFault) (aske
   pub happened : IsTrue tells
       → FromFirst child first at c (λ b. Happened b c.done.items c.aloft.items c.store.next es now.world now.counts.starts.flying still × AllBeganFor b before c.reasons.items at.world now.world)
   pub caused : IsTrue tells → FromFirst child first at c (λ b. Spends (LacksNoNumber b at.world) fault first.store.next es × StartedFor b fault before es at.world now.world)
+  pub calls : IsTrue tells → FromFirst child first at c (λ b. CallsCut b fault asked es before at.world at.counts now.counts)

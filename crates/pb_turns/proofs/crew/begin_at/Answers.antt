@@ -1,15 +1,18 @@
-use Rattle.std.proofs.Common.{◌∙◌, ◌++◌, ◌∷◌, [], Some, IsTrue, length, false, is_some, refl, sym, ap, subst, inr, map}
+use Rattle.std.proofs.Common.{◌∙◌, ◌++◌, ◌∷◌, [], Some, IsTrue, length, false, is_some, refl, sym, ap, subst, inl, inr, map}
 use Rattle.std.proofs.lemmas.Bool.{false≢true}
 use Rattle.pb_flight.specs.Events.{Began}
 use Rattle.pb_flight.specs.Table.{if_so}
 use Rattle.pb_flight.proofs.Lists.{length_set}
 use Rattle.pb_place.proofs.Folders.{only_same}
 use Rattle.pb_run.specs.Halves.{child_of}
+use Rattle.pb_run.specs.Standing.{records_folder}
+use Rattle.pb_store.specs.Looking.{looked_at}
 use Rattle.pb_turns.specs.Crew.{ticket_of_child}
 use Rattle.pb_turns.specs.Moments.{moment}
 use Rattle.pb_turns.specs.Story.{Story, IsUntold, NoneWritesTo}
 use Rattle.pb_turns.proofs.Alone.{none_writes}
 use Rattle.pb_turns.proofs.Beginning.{goes_lists, refused_happened, failed_caused, failed_happened, begun_happened, by_number}
+use Rattle.pb_turns.proofs.Calling.{calls_begun, calls_unbegun, launched_behind}
 use Rattle.pb_turns.proofs.Changing.{changes_begun, changes_more}
 use Rattle.pb_turns.proofs.Counting.{goes_begun, stops_begun, stops_refused_begun, children_are}
 use Rattle.pb_turns.proofs.Manning.{manned_same, manned_begun, begin_fault_flies, flying_of}
@@ -58,6 +61,7 @@ returns-in-Err-clause-story g c = λ first at taken faults es given s flying law
         unrecorded = s.unrecorded;
         happened = refused_happened g.P.Place.tells g.P.Place.child first c.args.crew.now at now now (g.P.Place.still c.args.place.now) (g.P.Place.still c.args.place.now) es given c.args.unit u c.requires.manned.order there s may c.make_room.new.aloft.items c.make_room.ensures.aloft;
         caused = λ t f r sources reading keeps. (tt, λ place spawned is so. absurd (false≢true so));
+        calls = λ t f r sources reading keeps. (now.world, now.counts, s.calls t f r sources reading keeps, inl refl);
       },
     )
 
@@ -97,6 +101,13 @@ returns-in-Err-begin_unit-clause-story g c = λ first at taken faults es given s
             (moment (g.P.Place.world c.begin_unit.new.place) (g.P.Place.counts c.begin_unit.new.place) (g.P.Place.most c.begin_unit.new.place) taken faults) (g.P.Place.still c.args.place.now) (g.P.Place.still c.begin_unit.new.place)
             es given c.args.unit c.index-units-unit.result c.requires.manned.order there s may c.begin_unit.new.store.next c.as_slice.result.now c.as_slice.ensures.value
             c.begin_unit.ensures.keeps c.begin_unit.ensures.others c.begin_unit.ensures.only spawned c.in-Err-begin_unit.fault spends (within_reasons c.args.crew.now c.args.unit c.requires.manned.reasoned c.requires.unit) c.in-Err-begin_unit.ensures.cause;
+        calls = calls_unbegun g.P.Place.tells g.P.Place.child first c.args.crew.now at (moment (g.P.Place.world c.args.place.now) (g.P.Place.counts c.args.place.now) (g.P.Place.most c.args.place.now) taken faults)
+            (moment (g.P.Place.world c.begin_unit.new.place) (g.P.Place.counts c.begin_unit.new.place) (g.P.Place.most c.begin_unit.new.place) taken faults) (g.P.Place.still c.args.place.now)
+            es given c.args.unit c.index-units-unit.result c.requires.manned.order there s may c.as_slice.result.now c.as_slice.ensures.value spawned c.in-Err-begin_unit.fault
+            (λ t. elim (c.in-Err-begin_unit.ensures.stops t) [
+              | inl look ↦ inl look
+              | inr (looked, has, ends) ↦ inr (g.P.Place.counts looked, λ read reading. has.looks read reading t, ends)
+            ]);
       },
     )
 
@@ -127,6 +138,10 @@ returns-clause-story g c = λ first at taken faults es given s flying lawful is_
           c.begin_unit.ensures.keeps c.begin_unit.ensures.others c.begin_unit.ensures.only c.in-Ok-begin_unit.made.begun c.note_begun.new.aloft.items c.in-Ok-begin_unit.made.difference c.note_begun.new.reasons.items more c.in-Ok-begin_unit.ensures.begun c.in-Ok-begin_unit.ensures.differs
           c.in-Ok-begin_unit.ensures.spawned (within_reasons c.args.crew.now c.args.unit c.requires.manned.reasoned c.requires.unit) c.in-Ok-begin_unit.ensures.same c.note_begun.ensures.reasons;
       quiet = begun_quiet g.P.Place.tells g.P.Place.child first c.args.crew.now at now new (g.P.Place.still c.args.place.now) es given c.args.unit s c.in-Ok-begin_unit.made.begun c.in-Ok-begin_unit.ensures.same;
+      calls = calls_begun g.P.Place.tells g.P.Place.child first c.args.crew.now at now new (g.P.Place.still c.args.place.now) es given c.args.unit c.index-units-unit.result c.requires.manned.order there s may c.as_slice.result.now c.as_slice.ensures.value
+          c.in-Ok-begin_unit.made.begun c.in-Ok-begin_unit.ensures.asks c.begin_unit.ensures.only c.in-Ok-begin_unit.ensures.same c.in-Ok-begin_unit.ensures.looks
+          (launched_behind g.P.Place.world g.P.Place.counts g.P.Place.tells g.P.Place.child c.in-Ok-begin_unit.made.begun.command (λ read. looked_at read (records_folder c.args.crew.now.project) c.index-units-unit.result.key c.in-Ok-begin_unit.made.begun.command now.world)
+          now.world now.counts new.counts (child_of c.in-Ok-begin_unit.made.begun) c.in-Ok-begin_unit.ensures.launches);
       unnoted = notes_begun c.args.crew.now.project es first.reasons.items c.args.crew.now.reasons.items c.note_begun.new.reasons.items c.args.unit (is_some (child_of c.in-Ok-begin_unit.made.begun)) (Some c.in-Ok-begin_unit.made.difference) may.untouched
           c.note_begun.ensures.reasons s.unnoted;
     }

@@ -1,4 +1,4 @@
-use Rattle.std.proofs.Common.{refl, subst, take}
+use Rattle.std.proofs.Common.{inl, refl, subst, take}
 use Rattle.std.proofs.lemmas.Bool.{false≢true}
 use Rattle.std.specs.Io.KnownBytes.{Appends}
 use Rattle.pb_turns.proofs.Counting.{goes_told, stops_sink}
@@ -15,6 +15,7 @@ returns-then-write_all-clause-story g c = λ first first_place first_out es give
   unrecorded = s.unrecorded;
   happened = s.happened;
   quiet = s.quiet;
+  calls = s.calls;
   unnoted = s.unnoted;
 }
 
@@ -34,4 +35,5 @@ returns-else-write_all-clause-story g c = λ first first_place first_out es give
       unrecorded = s.unrecorded;
       happened = s.happened;
       caused = λ t f r sources reading keeps. (tt, λ place spawned is so. absurd (false≢true so));
+      calls = λ t f r sources reading keeps. (g.P.Place.world c.args.place.now, g.P.Place.counts c.args.place.now, s.calls t f r sources reading keeps, inl refl);
     }

@@ -1,0 +1,90 @@
+-- Which calls of the place the units of a build make, event by event, and in which worlds.
+use Rattle.std.specs.Prelude.{◌≡◌, ◌⊎◌, ◌∷◌, [], ℕ, Bool, true, false, is_some, List, Option, Some, None, Result, Ok, Err, IsOk}
+use Rattle.pb_answer.specs.declared.bad_unit.BadUnit.{BadUnit}
+use Rattle.pb_answer.specs.declared.fault.BuildFault.{BuildFault}
+use Rattle.pb_flight.specs.Events.{Event, Began, Gave}
+use Rattle.pb_place.specs.CallsInTurn.{past_calls}
+use Rattle.pb_place.specs.Counts.{Counts}
+use Rattle.pb_place.specs.Paths.{is_at_or_below}
+use Rattle.pb_place.specs.World.{World, ChangesOnly}
+use Rattle.pb_place.specs.declared.command.Command.{Command}
+use Rattle.pb_place.specs.declared.command.Ended.{Ended}
+use Rattle.pb_place.specs.declared.place.StartFault.{StartFault}
+use Rattle.pb_project.specs.Targets.{unit_at}
+use Rattle.pb_run.specs.Causes.{StopsAt}
+use Rattle.pb_run.specs.Halves.{Basis, child_in, command_in, records_in}
+use Rattle.pb_run.specs.Landing.{CallsBehind, EndsBy, answered_called}
+use Rattle.pb_run.specs.Launching.{LaunchEnds, Launches}
+use Rattle.pb_run.specs.Standing.{records_folder}
+use Rattle.pb_run.specs.declared.begun.Awaited.{Awaited}
+use Rattle.pb_run.specs.declared.begun.Awaited.TheVariants as awaited
+use Rattle.pb_soundness.specs.Apart.{is_of}
+use Rattle.pb_soundness.specs.Records.{place_of}
+use Rattle.pb_store.specs.Looking.{looked_at}
+use Rattle.pb_store.specs.Replaying.{IsReplayed}
+use Rattle.pb_turns.specs.Rows.{is_started}
+use Rattle.pb_unit.specs.declared.plan.Planned.{Planned}
+
+-- A unit begins.
+
+-- the counters once a unit was looked at for a difference from its record
+abbrev pub past_look : Basis → Planned → Command → World → Counts → Counts
+past_look b u c w old = past_calls (looked_at b.read (records_folder b.project) u.key c w) old
+
+-- where nothing differed no other call was made, and nothing was changed; else its child was launched
+abbrev pub CallsToBegin : Basis → Planned → Command → Bool → World → Counts → World → Counts → Type 0
+CallsToBegin b u c false before old after new = (after ≡ before) × (new ≡ past_look b u c before old)
+CallsToBegin b u c true before old after new = (ticket : ℕ) × Launches b.child c ticket (past_look b u c before old) new
+
+-- the unit at a place began by just these calls
+pub record BeginsCalling (b : Basis) (place : ℕ) (spawned : Bool) (before : World) (old : Counts) (after : World) (new : Counts) : Type 0 where
+  pub unit : Planned
+  pub there : unit_at b.project place ≡ Some unit
+  pub only : ChangesOnly (is_of (records_folder b.project) unit.key) before after
+  pub calls : CallsToBegin b unit (command_in b place unit) spawned before old after new
+
+-- it could not begin: it stopped at a call of its look, or of the launch of its child
+abbrev pub StopsToBegin : Basis → Planned → Command → BuildFault → World → Counts → Counts → Type 0
+StopsToBegin b u c fault w old new = StopsAt fault (looked_at b.read (records_folder b.project) u.key c w) old new ⊎ LaunchEnds (place_of (records_folder b.project) u.key) u.out fault (past_look b u c w old) new
+
+pub record StopsBeginning (b : Basis) (place : ℕ) (fault : BuildFault) (w : World) (old new : Counts) : Type 0 where
+  pub unit : Planned
+  pub there : unit_at b.project place ≡ Some unit
+  pub stops : StopsToBegin b unit (command_in b place unit) fault w old new
+
+-- A unit answers.
+
+-- where it answers by its record, that is the one that counts now
+abbrev pub CountsNow : Basis → Planned → World → Awaited → Type 0
+CountsNow b u w (awaited.Child launched) = Unit {0}
+CountsNow b u w (awaited.Record again) = IsReplayed (records_in b w u.key) again
+
+-- the answer of the unit at a place was taken: the end of its child was asked for, where it has one, and behind it just the calls came that belong to the answer
+pub record AnswersCalling (b : Basis) (place : ℕ) (spawned : Bool) (result : Result (Unit {0}) BuildFault) (before : World) (old : Counts) (after : World) (new : Counts) : Type 0 where
+  pub unit : Planned
+  pub there : unit_at b.project place ≡ Some unit
+  pub by : Awaited
+  pub is_child : spawned ≡ is_some (child_in by)
+  pub counts_now : CountsNow b unit before by
+  pub left : World
+  pub mid : Counts
+  pub answer : Result Ended StartFault
+  pub ends : EndsBy by answer (IsOk result) (λ ticket. ⊥) before left old mid
+  pub only : ChangesOnly (is_at_or_below (place_of (records_folder b.project) unit.key)) left after
+  pub calls : CallsBehind (answered_called b.read b.project unit (command_in b place unit) left by) answer result mid new
+
+-- All of them.
+
+-- from a first moment of the place to a last one just these calls were made, over these events
+abbrev pub CallsOver : Basis → List (Event BadUnit) → World → Counts → World → Counts → Type 0
+CallsOver b [] first at last now = (last ≡ first) × (now ≡ at)
+CallsOver b (Began place spawned ∷ es) first at last now = (before : World) × (old : Counts) × CallsOver b es first at before old × BeginsCalling b place spawned before old last now
+CallsOver b (Gave place answer ∷ es) first at last now = (before : World) × (old : Counts) × CallsOver b es first at before old × AnswersCalling b place (is_started es place) (Ok tt) before old last now
+
+-- where a fault came, these last: as the answer of a unit was taken; as one could not begin; or none
+abbrev pub StopsLast : Basis → BuildFault → Option ℕ → List (Event BadUnit) → List (Event BadUnit) → World → Counts → Counts → Type 0
+StopsLast b fault (Some place) es before w old new = (after : World) × AnswersCalling b place (is_started before place) (Err fault) w old after new
+StopsLast b fault None es before w old new = (new ≡ old) ⊎ ((place : ℕ) × (spawned : Bool) × (es ≡ Began place spawned ∷ before) × StopsBeginning b place fault w old new)
+
+abbrev pub CallsCut : Basis → BuildFault → Option ℕ → List (Event BadUnit) → List (Event BadUnit) → World → Counts → Counts → Type 0
+CallsCut b fault asked es before first at new = (w : World) × (old : Counts) × CallsOver b before first at w old × StopsLast b fault asked es before w old new
