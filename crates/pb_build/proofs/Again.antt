@@ -75,7 +75,7 @@ record Ended {S : Type 0} (read : Reading) (child : Answers) (Turns : S → List
 
 module _ {S : Type 0} (read : Reading) (reading : IsReading read) (child : Answers) (Turns : S → List ℕ → List ℕ → Step → S → Type 0) (options : Options) (from last : S) (summary : Summary) (old new : Moment) where
   works_ended : (heard : Heard) → Works true child Turns options from last (Ok summary) old record new { heard = heard } → Ended read child Turns options from last summary old new
-  works_ended heard (inl none) = absurd (no_fault none.answer)
+  works_ended heard (inl early) = absurd (no_fault early.none_began.answer)
   works_ended heard (inr units) =
       let project = units.prepared.project in
       let is = units.prepares.is refl in

@@ -1,8 +1,10 @@
 -- Calls before the units, in turn.
-use Rattle.std.proofs.Common.{◌≡◌, ◌∙◌, ◌++◌, ◌∷◌, ℕ, false, true, List, [], codes, refl, sym, ap, subst}
+use Rattle.std.proofs.Common.{◌≡◌, ◌∙◌, ◌++◌, ◌∷◌, inr, ℕ, false, true, List, [], codes, refl, sym, ap, subst}
 use Rattle.pb_answer.specs.declared.fault.BuildFault.{BuildFault}
 use Rattle.pb_answer.specs.declared.fault.BuildFault.TheVariants.{Plan, Toolchain, Child, Device, Sink, OutOfMemory}
-use Rattle.pb_build.specs.Causes.{AskEnds, PlanStopsAt, variables_asked}
+use Rattle.pb_build.specs.Causes.{AskEnds, PlanStopsAt, ReadyStopsAt, StopsBefore, plan_called, ready_called, variables_asked}
+use Rattle.pb_build.specs.Environment.{environment_of}
+use Rattle.pb_build.specs.Planning.{IsProject}
 use Rattle.pb_build.specs.Private.{IsRefusedOf, unread}
 use Rattle.pb_package.specs.declared.fault.LoadFault.{LoadFault}
 use Rattle.pb_package.specs.declared.fault.LoadFault.TheVariants as load
@@ -10,9 +12,13 @@ use Rattle.pb_package.specs.declared.options.Options.{Options}
 use Rattle.pb_package.specs.declared.workspace.Workspace.{Workspace}
 use Rattle.pb_place.specs.CallsInTurn.{MakesSome, past_calls}
 use Rattle.pb_place.specs.Counts.{Counts, past_call}
+use Rattle.pb_place.specs.World.{World}
+use Rattle.pb_project.specs.declared.project.Project.{Project}
 use Rattle.pb_run.specs.Causes.{StopsAt}
 use Rattle.pb_run.specs.Launching.{SpawnEnds}
+use Rattle.pb_run.specs.Standing.{records_folder}
 use Rattle.pb_run.proofs.Calling.{memory_last, stops_first, stops_then}
+use Rattle.pb_store.specs.Looking.{opened_looked}
 use Rattle.pb_workspace.specs.Causes.{is_failure, is_outside}
 use Rattle.pb_workspace.specs.LookedAt.{FailsOn}
 
@@ -88,3 +94,16 @@ ask_stops Sink old new is = is
 ask_stops OutOfMemory old new is = is
 
 pub ruleset ask_laws = (ask_stops)
+
+-- the plan, and then the query and the opening
+pub plan_then : (options : Options) (project own : Project) (v w : World) (old mid new : Counts) → own ≡ project → v ≡ w → mid ≡ past_calls (plan_called options w) old → new ≡ ready_called (opened_looked (records_folder project) v) mid
+    → new ≡ ready_called (opened_looked (records_folder own) w) (past_calls (plan_called options w) old)
+plan_then options project own v w old mid new its same first made =
+    subst (λ (p : Project). new ≡ ready_called (opened_looked (records_folder p) w) (past_calls (plan_called options w) old)) (sym its)
+    (subst (λ (c : Counts). new ≡ ready_called (opened_looked (records_folder project) w) c) first (subst (λ (u : World). new ≡ ready_called (opened_looked (records_folder project) u) mid) same made))
+
+pub plan_then_stops : (options : Options) (project : Project) (e : BuildFault) (v w : World) (old mid new : Counts) → v ≡ w → IsProject options (environment_of options w.variables).target w project → mid ≡ past_calls (plan_called options w) old
+    → ReadyStopsAt e (opened_looked (records_folder project) v) mid new → StopsBefore options w e old new
+plan_then_stops options project e v w old mid new same is first stops =
+    inr
+    (project, is, subst (λ (c : Counts). ReadyStopsAt e (opened_looked (records_folder project) w) c new) first (subst (λ (u : World). ReadyStopsAt e (opened_looked (records_folder project) u) mid new) same stops))

@@ -255,7 +255,7 @@ module _ (footing : Footing) (read : Reading) (reading : IsReading read) (child 
 
     works_give : (result : Result Summary BuildFault) (old new : Moment) → RestsOn footing read child options old.world → Works true child Turns options from last result old new
         → GivesUnits footing read child (ByTurns Turns from) options result old new × LeavesRecords footing read child options old.world new.world
-    works_give result old new rests (inl none) = (none_gives result old new none, stay_true footing old.world new.world rests (none.stays refl))
+    works_give result old new rests (inl early) = (none_gives result old new early.none_began, stay_true footing old.world new.world rests (early.none_began.stays refl))
     works_give result old new rests (inr units) =
         let project = units.prepared.project in
         let is = units.prepares.is refl in

@@ -120,6 +120,7 @@ unheard tells options plan from here planned = record {
   stays = planned.stays;
   takes = planned.takes;
   named = planned.named;
+  calls = planned.calls;
   most = planned.most;
   heard = refl;
 }

@@ -51,7 +51,7 @@ module _ {S : Type 0} (child : Answers) (Turns : S → List ℕ → List ℕ →
   turns_within setup project next (Err fault) old new order ends = only_within project ends.es old.world new.world order (ends.only refl)
 
   works_within : (result : Result Summary BuildFault) (old new : Moment) → Works true child Turns options from last result old new → AgreeBut (is_at_or_below (records_of options old.world.variables)) old.world.files new.world.files
-  works_within result old new (inl none) q outside_it = ap (λ (w : World). get w.files q) (none.stays refl)
+  works_within result old new (inl early) q outside_it = ap (λ (w : World). get w.files q) (early.none_began.stays refl)
   works_within result old new (inr units) q outside_it =
       let project = units.prepared.project in
       let is = units.prepares.is refl in

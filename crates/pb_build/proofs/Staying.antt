@@ -44,7 +44,7 @@ module _ {S : Type 0} (tells : Bool) (child : Answers) (Turns : S → List ℕ �
   turns_stay setup project next (Err fault) old new told order ends = only_stay project ends.es old.world new.world order (ends.only told)
 
   works_stay : (result : Result Summary BuildFault) (old new : Moment) → IsTrue tells → Works tells child Turns options from last result old new → SourcesStay (environment_of options old.world.variables).target old.world new.world
-  works_stay result old new told (inl none) = ap (from_nothing (environment_of options old.world.variables).target) (none.stays told)
+  works_stay result old new told (inl early) = ap (from_nothing (environment_of options old.world.variables).target) (early.none_began.stays told)
   works_stay result old new told (inr units) =
       let project = units.prepared.project in
       let at = environment_of options old.world.variables in
@@ -62,7 +62,7 @@ module _ {S : Type 0} (tells : Bool) (child : Answers) (Turns : S → List ℕ �
   turns_landed setup project next (Err fault) old new ends = ends.landed
 
   works_landed : (result : Result Summary BuildFault) (old new : Moment) → Works tells child Turns options from last result old new → new.counts.starts.flying ≡ []
-  works_landed result old new (inl none) = none.landed
+  works_landed result old new (inl early) = early.none_began.landed
   works_landed result old new (inr units) = turns_landed units.prepared.setup units.prepared.project units.prepared.store.next result units.mid new units.ends
 
   pub builds_landed : (result : Result Summary BuildFault) (old new : Moment) → Builds tells child Turns options from last result old new → new.counts.starts.flying ≡ []

@@ -4,10 +4,14 @@ use Rattle.pb_place.specs.CallsInTurn.{past_calls}
 use Rattle.pb_place.specs.Counts.{Counts, Starts, one_start, past_call, up_starts}
 use Rattle.pb_place.specs.World.{World}
 use Rattle.pb_package.specs.declared.options.Options.{Options}
+use Rattle.pb_project.specs.declared.project.Project.{Project}
 use Rattle.pb_run.specs.Causes.{StopsAt}
 use Rattle.pb_run.specs.Launching.{SpawnEnds}
+use Rattle.pb_run.specs.Standing.{records_folder}
+use Rattle.pb_store.specs.Looking.{opened_looked}
 use Rattle.pb_workspace.specs.LookedAt.{looked_at}
 use Rattle.pb_build.specs.Environment.{environment_of}
+use Rattle.pb_build.specs.Planning.{IsProject}
 use Rattle.pb_answer.specs.declared.fault.BuildFault.{BuildFault}
 use Rattle.pb_answer.specs.declared.fault.DeviceFault.TheVariants as device
 use Rattle.pb_answer.specs.declared.fault.BuildFault.TheVariants.{Plan, Toolchain, Child, Device, Sink, OutOfMemory}
@@ -76,3 +80,21 @@ PlansInTurn result names old new = MatchResult result (λ x. new ≡ past_calls 
 abbrev pub AskEnds : BuildFault → Counts → Counts → Type 0
 AskEnds Toolchain old new = new ≡ past_call (one_start old)
 AskEnds e old new = SpawnEnds e old new
+
+-- the query is one call, and then the records are opened
+abbrev pub ready_called : List (List ℕ) → Counts → Counts
+ready_called names old = past_calls names (past_call (one_start old))
+
+-- it stopped at the query, or at a call by which the records are opened behind it
+abbrev pub ReadyStopsAt : BuildFault → List (List ℕ) → Counts → Counts → Type 0
+ReadyStopsAt e names old new = AskEnds e old new ⊎ StopsAt e names (past_call (one_start old)) new
+
+-- where all is ready, just these calls were made, in this order
+abbrev pub ReadiesInTurn : {T : Type 0} → Result T BuildFault → List (List ℕ) → Counts → Counts → Type 0
+ReadiesInTurn result names old new = MatchResult result (λ x. new ≡ ready_called names old) (λ e. ReadyStopsAt e names old new)
+
+-- a build of this world stopped before its units: at its plan; or, behind all calls of the plan, as a project of this world was made ready
+abbrev pub StopsBefore : Options → World → BuildFault → Counts → Counts → Type 0
+StopsBefore options w fault old new =
+    PlanStopsAt fault (plan_called options w) old new
+    ⊎ ((project : Project) × IsProject options (environment_of options w.variables).target w project × ReadyStopsAt fault (opened_looked (records_folder project) w) (past_calls (plan_called options w) old) new)

@@ -12,6 +12,7 @@ use Rattle.pb_flight.specs.declared.turn.Last.{Last}
 use Rattle.pb_flight.specs.declared.turn.Step.{Step}
 use Rattle.pb_message.specs.Message.{finish_line}
 use Rattle.pb_package.specs.declared.options.Options.{Options}
+use Rattle.pb_place.specs.CallsInTurn.{past_calls}
 use Rattle.pb_place.specs.Counts.{Counts, up, up_starts}
 use Rattle.pb_place.specs.World.{World, Answers, from_nothing}
 use Rattle.pb_place.specs.declared.place.Failure.TheVariants.{Called, Started}
@@ -20,10 +21,11 @@ use Rattle.pb_record.specs.Parts.{IsReading}
 use Rattle.pb_run.specs.Causes.{FailedLast, NoStart, Takes}
 use Rattle.pb_run.specs.Standing.{IsInOrder, records_folder}
 use Rattle.pb_soundness.specs.Records.{Reading}
+use Rattle.pb_store.specs.Looking.{opened_looked}
 use Rattle.pb_store.specs.Opening.{next_in}
 use Rattle.pb_turns.specs.Ends.{TurnsEnd}
 use Rattle.pb_turns.specs.Moments.{Heard, Moment}
-use Rattle.pb_build.specs.Causes.{MayPlan, NamesCall}
+use Rattle.pb_build.specs.Causes.{MayPlan, NamesCall, PlansInTurn, StopsBefore, plan_called, ready_called}
 use Rattle.pb_build.specs.Environment.{environment_of}
 use Rattle.pb_build.specs.Planning.{IsProject, IsRefused, IsToldRefusal}
 use Rattle.pb_build.specs.Result.{toolchain_of, setup_of}
@@ -40,13 +42,14 @@ Stays tells old new = IsTrue tells → new ≡ old
 abbrev pub IsPlanOf : Options → World → BuildPlan → Type 0
 IsPlanOf options w plan = (plan.environment ≡ environment_of options w.variables) × IsProject options (environment_of options w.variables).target w plan.project
 
--- between two moments a build was planned, and nothing else was done: nothing was changed or written, and no child was started
+-- between two moments a build was planned, and nothing else was done: nothing was changed or written, no child was started, and no call was made but those of its plan
 pub record PlansFrom (tells : Bool) (options : Options) (plan : Result BuildPlan BuildFault) (old new : Moment) : Type 0 where
   pub is : IsTrue tells → IfOk plan (IsPlanOf options old.world)
   pub refused : IsTrue tells → IfErr plan (IsToldRefusal options (environment_of options old.world.variables).target old.world)
   pub stays : Stays tells old.world new.world
   pub takes : Takes NoStart MayPlan plan old.counts new.counts
   pub named : NamesCall plan new.counts
+  pub calls : IsTrue tells → PlansInTurn plan (plan_called options old.world) old.counts new.counts
   pub most : new.most ≡ old.most
   pub heard : new.heard ≡ old.heard
 
@@ -73,13 +76,14 @@ pub record IsPrepared (child : Answers) (options : Options) (w : World) (prepare
   pub project : IsProject options (environment_of options w.variables).target w prepared.project
   pub next : (read : Reading) → IsReading read → prepared.store.next ≡ next_in read (records_folder prepared.project) w
 
--- they start after one query of the compiler, which answered; the project is in order, and nothing was changed
+-- they start after one query of the compiler, which answered; the project is in order, and nothing was changed; the calls were those of the plan, the query, and the opening of the records, in this order
 pub record Prepares (tells : Bool) (child : Answers) (options : Options) (prepared : Prepared) (old new : World) (before now : Counts) (most : ℕ) (after : ℕ) : Type 0 where
   pub is : IsTrue tells → IsPrepared child options old prepared
   pub order : IsInOrder prepared.project
   pub stays : Stays tells old new
   pub starts : now.starts ≡ up_starts before.starts
   pub failures : now.failures ≡ before.failures
+  pub calls : IsTrue tells → now ≡ ready_called (opened_looked (records_folder prepared.project) old) (past_calls (plan_called options old) before)
   pub at_most : after ≡ max most 1
 
 -- The units.
@@ -102,9 +106,14 @@ pub record NoneBegan (tells : Bool) (child : Answers) (options : Options) (resul
   pub heard : new.heard ≡ old.heard
   pub landed : new.counts.starts.flying ≡ []
 
+-- and its calls stopped there
+pub record StopsEarly (tells : Bool) (child : Answers) (options : Options) (result : Result Summary BuildFault) (old new : Moment) : Type 0 where
+  pub none_began : NoneBegan tells child options result old new
+  pub calls : IsTrue tells → StopsBefore options old.world none_began.fault old.counts new.counts
+
 -- a build's work up to its finish line
 abbrev pub Works : {S : Type 0} → Bool → Answers → (S → List ℕ → List ℕ → Step → S → Type 0) → Options → S → S → Result Summary BuildFault → Moment → Moment → Type 0
-Works tells child Turns options from last result old new = NoneBegan tells child options result old new ⊎ UnitsEnd tells child Turns options from last result old new
+Works tells child Turns options from last result old new = StopsEarly tells child options result old new ⊎ UnitsEnd tells child Turns options from last result old new
 
 -- The finish line.
 

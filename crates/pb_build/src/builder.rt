@@ -2,7 +2,7 @@
 
 ghost use Rattle.std.specs.Prelude.{◌≡◌, ◌⊎◌, ◌+◌, [], max, length, IsTrue, IfOk, IfErr, OnErr};
 ghost use Rattle.pb_record.specs.Parts.{IsReading};
-ghost use Rattle.pb_build.specs.Causes.{MayPlan, MayReady, NamesCall, PlansInTurn, plan_called};
+ghost use Rattle.pb_build.specs.Causes.{MayPlan, MayReady, NamesCall, PlansInTurn, ReadiesInTurn, StopsBefore, plan_called};
 ghost use Rattle.pb_build.specs.Ending.{FailsBefore, IsPlanOf, PlansFrom, Prepares, Works, Closes, Builds, BuildsBy, BuildsFirst};
 ghost use Rattle.pb_build.specs.Environment.{environment_of};
 ghost use Rattle.pb_build.specs.Headline.{ByTurns, ByPick, ByFirst, Headline};
@@ -10,10 +10,11 @@ ghost use Rattle.pb_build.specs.Kept.{SourcesStay};
 ghost use Rattle.pb_build.specs.Planning.{IsProject, IsToldRefusal};
 ghost use Rattle.pb_build.specs.Private.{IsReadyFor, IsSilentFault, IsUnrefused, unopened};
 ghost use Rattle.pb_build.specs.Result.{setup_of};
-ghost use Rattle.pb_run.specs.Causes.{Takes, NoStart, OneStart};
+ghost use Rattle.pb_run.specs.Causes.{MakesInTurn, Takes, NoStart, OneStart};
 ghost use Rattle.pb_run.specs.Standing.{records_folder};
 ghost use Rattle.pb_project.specs.declared.project.Project.{Project};
 ghost use Rattle.pb_soundness.specs.Records.{Reading};
+ghost use Rattle.pb_store.specs.Looking.{opened_looked};
 ghost use Rattle.pb_store.specs.Opening.{next_in};
 ghost use Rattle.pb_turns.specs.Moments.{Moment, moment};
 
@@ -103,6 +104,7 @@ fn opened<P: Place>(
     ensures takes { Takes NoStart MayPlan result (P.counts place.old) (P.counts place.new) }
     ensures names { NamesCall result (P.counts place.new) }
     ensures unrefused { IfErr result IsUnrefused }
+    ensures calls { IsTrue P.tells → MakesInTurn result (opened_looked (records_folder project.now) (P.world place.old)) (P.counts place.old) (P.counts place.new) }
 {
     let folder = match records_folder(alloc, project) {
         Ok(folder) => folder,
@@ -130,6 +132,7 @@ fn ready<P: Place>(
     ensures most_else { OnErr result ((P.most place.new ≡ P.most place.old) ⊎ (P.most place.new ≡ max (P.most place.old) (length (P.counts place.old).starts.flying + 1))) }
     ensures takes { Takes OneStart MayReady result (P.counts place.old) (P.counts place.new) }
     ensures names { NamesCall result (P.counts place.new) }
+    ensures calls { IsTrue P.tells → ReadiesInTurn result (opened_looked (records_folder project) (P.world place.old)) (P.counts place.old) (P.counts place.new) }
 {
     let toolchain = match ask(alloc, place, &environment, project.get()) {
         Ok(toolchain) => toolchain,
@@ -204,6 +207,8 @@ fn prepare<P: Place>(
         → Prepares P.tells P.child options.now prepared from.world (P.world place.new) from.counts (P.counts place.new) from.most (P.most place.new)) }
     ensures fails { IfErr result (λ e. (from : Moment) → PlansFrom P.tells options.now plan from record { world = P.world place.old; counts = P.counts place.old; most = P.most place.old; heard = from.heard }
         → FailsBefore P.tells P.child options.now e from.world from.counts (P.counts place.new)) }
+    ensures stops { IsTrue P.tells → IfErr result (λ e. (from : Moment) → PlansFrom P.tells options.now plan from record { world = P.world place.old; counts = P.counts place.old; most = P.most place.old; heard = from.heard }
+        → StopsBefore options.now from.world e from.counts (P.counts place.new)) }
     ensures same { IsTrue P.tells → P.world place.new ≡ P.world place.old }
     ensures most { OnErr result ((P.most place.new ≡ P.most place.old) ⊎ (P.most place.new ≡ max (P.most place.old) 1)) }
     ensures landed { (P.counts place.new).starts.flying ≡ [] }

@@ -12,6 +12,7 @@ returns-clause-builds g c =
       stays = c.plan_build-plan.ensures.same;
       takes = c.plan_build-plan.ensures.takes;
       named = c.plan_build-plan.ensures.named;
+      calls = c.plan_build-plan.ensures.calls;
       most = c.plan_build-plan.ensures.most;
       heard = refl;
     }

@@ -1,9 +1,10 @@
-use Rattle.std.proofs.Common.{◌∙◌, ◌+◌, List, max, length, ap, sym, subst}
+use Rattle.std.proofs.Common.{◌∙◌, ◌+◌, List, inl, max, length, ap, sym, subst}
 use Rattle.pb_place.specs.Counts.{up_starts}
 use Rattle.pb_place.specs.declared.child_in_flight.ChildInFlight.{ChildInFlight}
 use Rattle.pb_turns.proofs.Counting.{cause_from}
 use Rattle.pb_build.specs.Planning.{IsProject}
 use Rattle.pb_build.specs.declared.environment.Environment.{Environment}
+use Rattle.pb_build.proofs.Called.{plan_then, plan_then_stops}
 use Rattle.pb_build.proofs.Preparing.{prepared_of, plan_fails, ready_fails, may_ready_from, may_ready_landed, silent_of, plan_at}
 use Rattle.pb_build.proofs.builder.prepare.Goals as goal
 
@@ -25,6 +26,9 @@ returns-in-Ok-ready-clause-prepares g c = λ from planned.
       stays = λ told. c.in-Ok-ready.ensures.same told ∙ p.stays told;
       starts = c.in-Ok-ready.ensures.takes.1 ∙ ap up_starts p.takes.1;
       failures = c.in-Ok-ready.ensures.takes.0 ∙ p.takes.0;
+      calls = λ told.
+          plan_then c.args.options.now project c.in-Ok-ready.prepared.project (g.P.Place.world c.args.place.now) from.world from.counts (g.P.Place.counts c.args.place.now) (g.P.Place.counts c.ready.new.place)
+          (c.in-Ok-ready.ensures.ready told).project_is (p.stays told) (p.calls told) (c.in-Ok-ready.ensures.calls told);
       at_most =
           c.in-Ok-ready.ensures.most ∙ ap (λ m. max m (length (g.P.Place.counts c.args.place.now).starts.flying + 1)) p.most
           ∙ ap (λ (fs : List ChildInFlight). max from.most (length fs + 1)) c.requires.none;
@@ -48,3 +52,12 @@ returns-in-Err-ready-clause-fails g c = λ from planned.
 pub returns-in-Err-ready-clause-landed : goal.returns-in-Err-ready-clause-landed
 returns-in-Err-ready-clause-landed g c =
     may_ready_landed c.in-Err-ready.fault (g.P.Place.counts c.args.place.now).starts (g.P.Place.counts c.ready.new.place).starts c.in-Err-ready.ensures.takes.0 c.requires.none
+
+pub returns-in-Err-clause-stops : goal.returns-in-Err-clause-stops
+returns-in-Err-clause-stops g c told = λ from planned. inl ((plan_at g.P.Place.tells c.args.options.now _ _ from _ c.in-Err.is planned).calls told)
+
+pub returns-in-Err-ready-clause-stops : goal.returns-in-Err-ready-clause-stops
+returns-in-Err-ready-clause-stops g c told = λ from planned.
+    let p = plan_at g.P.Place.tells c.args.options.now _ _ from _ c.in-Ok.is planned in
+    let project = c.in-Ok.plan.project in
+    plan_then_stops c.args.options.now project c.in-Err-ready.fault (g.P.Place.world c.args.place.now) from.world from.counts (g.P.Place.counts c.args.place.now) (g.P.Place.counts c.ready.new.place) (p.stays told) (p.is told).1 (p.calls told) (c.in-Err-ready.ensures.calls told)

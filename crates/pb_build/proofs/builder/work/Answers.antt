@@ -5,13 +5,16 @@ use Rattle.pb_build.proofs.builder.work.Goals as goal
 
 pub returns-in-Err : goal.returns-in-Err
 returns-in-Err g c = λ from planned. inl record {
-  fault = c.in-Err.fault;
-  answer = refl;
-  why = c.in-Err.ensures.fails from (unheard g.P.Place.tells c.args.options.now c.args.plan from _ planned);
-  stays = λ told. c.in-Err.ensures.same told ∙ planned.stays told;
-  most = most_from _ _ _ planned.most c.in-Err.ensures.most;
-  heard = planned.heard;
-  landed = c.in-Err.ensures.landed;
+  none_began = record {
+    fault = c.in-Err.fault;
+    answer = refl;
+    why = c.in-Err.ensures.fails from (unheard g.P.Place.tells c.args.options.now c.args.plan from _ planned);
+    stays = λ told. c.in-Err.ensures.same told ∙ planned.stays told;
+    most = most_from _ _ _ planned.most c.in-Err.ensures.most;
+    heard = planned.heard;
+    landed = c.in-Err.ensures.landed;
+  };
+  calls = λ told. c.in-Err.ensures.stops told from (unheard g.P.Place.tells c.args.options.now c.args.plan from _ planned);
 }
 
 pub returns : goal.returns
