@@ -12,10 +12,11 @@
 #            the builders take turns. After LIMIT minutes (none) no other round is begun
 #   nothing  builds with nothing changed alone, twenty of each builder, by turns
 #   calls    the calls of the system in a build with nothing changed, by strace where it is there
-#   growth   a build with nothing changed of 64, 256 and 1,024 units side by side, and of chains of 64, 128 and 256, made
+#   growth   a build with nothing changed of 64 to 4,096 units side by side, and of chains of 64, 128 and 256, made
 #            with the small compiler: instructions outside the kernel by valgrind, memory, and the exponents
 #   dear     the first five functions of such a build by callgrind
-#   wide     one slow package beside 120 quick ones: what waits, since the unit that was begun first is answered first
+#   wide     one slow package beside 120 quick ones: what waits, since the unit that was begun first is answered first;
+#            the least of ROUNDS builds from nothing, the builders by turns
 #
 # SHAPES=WORDS takes the workspaces alone that these words name: chain, side, scripts, files, example. RESULTS=FILE keeps
 # the figures of `side` in a file, round by round, and begins with those that it has: so rounds of several runs make one
@@ -341,7 +342,8 @@ def mini_bytes(there):
     return sum(os.path.getsize(f"{above}/{name}") for above, _, names in os.walk(f"{there}-pb_tool") for name in names if name.endswith(".record"))
 
 
-GROWTH = [("side by side, a library and three binaries each", 3, False, (16, 64, 256)), ("in a chain", 0, True, (64, 128, 256))]
+SIDE = "side by side, a library and {} binaries each"
+GROWTH = [(SIDE.format("three"), 3, False, (16, 64, 256)), (SIDE.format("fifteen"), 15, False, (16, 64, 256)), ("in a chain", 0, True, (64, 128, 256))]
 
 
 def part_growth():
@@ -396,12 +398,13 @@ def part_wide():
     print("| jobs | which | clock | children's processor |\n|---|---|---|---|")
     environment = ENVIRONMENT | {"RUSTC": RUSTC}
     for jobs in (1, PROCESSORS):
-        for builder in ("pb_tool", "cargo"):
-            runs = []
-            for _ in range(3):
+        runs = {"pb_tool": [], "cargo": []}
+        for _ in range(max(rounds, 1)):
+            for builder, some in runs.items():
                 shutil.rmtree(f"{there}-{builder}", ignore_errors=True)
-                runs.append(measured(words_of(builder, there, jobs), environment))
-            run = least(runs)
+                some.append(measured(words_of(builder, there, jobs), environment))
+        for builder, some in runs.items():
+            run = least(some)
             print(f"| {jobs} | {builder} | {run.clock:.2f} | {run.children:.2f} |", flush=True)
 
 
