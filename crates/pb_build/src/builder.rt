@@ -136,11 +136,17 @@ fn ready<P: Place>(
 {
     let toolchain = match ask(alloc, place, &environment, project.get()) {
         Ok(toolchain) => toolchain,
-        Err(fault) => return Err(fault),
+        Err(fault) => {
+            drop((environment, project));
+            return Err(fault);
+        }
     };
     let setup = match setup_of(alloc, options, environment, toolchain) {
         Ok(setup) => setup,
-        Err(_) => return Err(BuildFault::OutOfMemory),
+        Err(_) => {
+            drop(project);
+            return Err(BuildFault::OutOfMemory);
+        }
     };
     match opened(alloc, place, &project) {
         Ok(store) => Ok(Prepared {
@@ -148,7 +154,10 @@ fn ready<P: Place>(
             project,
             store,
         }),
-        Err(fault) => Err(fault),
+        Err(fault) => {
+            drop((setup, project));
+            Err(fault)
+        }
     }
 }
 

@@ -148,11 +148,17 @@ fn project_of(
 {
     let parts = match parts_of(alloc, options, &workspace) {
         Ok(parts) => parts,
-        Err(fault) => return Err(fault),
+        Err(fault) => {
+            drop(workspace);
+            return Err(fault);
+        }
     };
     let profile = match options.profile.copy(alloc) {
         Ok(profile) => profile,
-        Err(_) => return Err(BuildFault::OutOfMemory),
+        Err(_) => {
+            drop((parts, workspace));
+            return Err(BuildFault::OutOfMemory);
+        }
     };
     let (features, plan) = parts;
     let workspace = workspace.into_workspace();

@@ -2,6 +2,8 @@
 
 ghost use Rattle.std.specs.Prelude.{◌≡◌, ◌++◌, IfOk, OnOk, option_map, Some};
 ghost use Rattle.pb_project.specs.Targets.{script_source};
+ghost use Rattle.pb_command.specs.Externs.{reads_of};
+ghost use Rattle.pb_command.specs.Pairs.{pairs_of};
 ghost use Rattle.pb_command.specs.Command.{query_of, crate_part, asked_part, words_of, compile_of, script_path, run_program, run_words, run_of, command_by, nothing_of, command_of};
 
 use crate::externs::{push_libraries, reads_of};
@@ -9,10 +11,10 @@ use crate::pairs::pairs_of;
 use crate::said::push_said;
 use crate::settings::push_settings;
 use crate::words::{push_copies, push_crate, push_features, push_output, push_word};
-use pb_data::{Bytes, Items, Text, TryCopy};
+use pb_data::{Bytes, Items, Text, TryCopy, with_next};
 use pb_directive::Directives;
 use pb_package::{Package, Workspace};
-use pb_place::Command;
+use pb_place::{Command, PathText};
 use pb_project::{Project, Setup, package_of, script_file};
 use pb_unit::{Planned, What};
 use std::alloc::{AllocError, Global};
@@ -88,6 +90,84 @@ fn words_of(
     Ok(words)
 }
 
+/// What a unit's child is started with.
+#[derive(Drop)]
+struct Asking {
+    program: Text,
+    words: Items<Text>,
+    folder: PathText,
+    pairs: Items<(Text, Text)>,
+}
+
+/// Where a unit's child writes, and what it may read there.
+#[derive(Drop)]
+struct Surroundings {
+    out: PathText,
+    target: PathText,
+    toolchain: Bytes,
+    reads: Items<PathText>,
+}
+
+/// Where the child of a unit writes, and what it may read there.
+fn surroundings_of(
+    alloc: Global,
+    setup: &Setup,
+    project: &Project,
+    unit: &Planned,
+) -> Result<Surroundings, AllocError>
+    ensures { IfOk result (λ s. s ≡ record { out = unit.now.out; target = project.now.workspace.target; toolchain = setup.now.toolchain; reads = reads_of project.now unit.now }) }
+{
+    let out = unit.out.copy(alloc)?;
+    let target = project.workspace.target.copy(alloc)?;
+    let toolchain = setup.toolchain.copy(alloc)?;
+    let reads = reads_of(alloc, project, unit)?;
+    Ok(Surroundings {
+        out,
+        target,
+        toolchain,
+        reads,
+    })
+}
+
+/// A command of its two parts.
+fn joined(asking: Asking, surroundings: Surroundings) -> Command
+    ensures { result ≡ record { program = asking.program; words = asking.words; folder = asking.folder; pairs = asking.pairs; out = Some surroundings.out; target = surroundings.target; toolchain = surroundings.toolchain; reads = surroundings.reads } }
+{
+    Command {
+        program: asking.program,
+        words: asking.words,
+        folder: asking.folder,
+        pairs: asking.pairs,
+        out: Some(surroundings.out),
+        target: surroundings.target,
+        toolchain: surroundings.toolchain,
+        reads: surroundings.reads,
+    }
+}
+
+/// What a compile is started with.
+fn compile_asking(
+    alloc: Global,
+    setup: &Setup,
+    project: &Project,
+    unit: &Planned,
+    done: &[Option<Directives>],
+    owner: &Package,
+) -> Result<Asking, AllocError>
+    ensures { IfOk result (λ asking. asking ≡ record { program = setup.now.rustc; words = words_of setup.now project.now unit.now done.now owner.now; folder = project.now.workspace.root; pairs = pairs_of setup.now project.now unit.now done.now owner.now }) }
+{
+    let program = setup.rustc.copy(alloc)?;
+    let folder = project.workspace.root.copy(alloc)?;
+    let words = words_of(alloc, setup, project, unit, done, owner)?;
+    let pairs = pairs_of(alloc, setup, project, unit, done, owner)?;
+    Ok(Asking {
+        program,
+        words,
+        folder,
+        pairs,
+    })
+}
+
 /// The compile of a unit.
 fn compile_of(
     alloc: Global,
@@ -99,19 +179,10 @@ fn compile_of(
 ) -> Result<Command, AllocError>
     ensures { IfOk result (λ command. command ≡ compile_of setup.now project.now unit.now done.now owner.now) }
 {
-    let words = words_of(alloc, setup, project, unit, done, owner)?;
-    let pairs = pairs_of(alloc, setup, project, unit, done, owner)?;
-    let reads = reads_of(alloc, project, unit)?;
-    Ok(Command {
-        program: setup.rustc.copy(alloc)?,
-        words,
-        folder: project.workspace.root.copy(alloc)?,
-        pairs,
-        out: Some(unit.out.copy(alloc)?),
-        target: project.workspace.target.copy(alloc)?,
-        toolchain: setup.toolchain.copy(alloc)?,
-        reads,
-    })
+    let asking = compile_asking(alloc, setup, project, unit, done, owner)?;
+    let surroundings = surroundings_of(alloc, setup, project, unit);
+    let (asking, surroundings) = with_next(asking, surroundings)?;
+    Ok(joined(asking, surroundings))
 }
 
 /// The path of the script that a run starts; empty where there is none.
@@ -149,6 +220,30 @@ fn run_words(alloc: Global, runner: &[Text], script: &Text) -> Result<Items<Text
     Ok(words)
 }
 
+/// What the run of a script is started with.
+fn run_asking(
+    alloc: Global,
+    setup: &Setup,
+    project: &Project,
+    unit: &Planned,
+    done: &[Option<Directives>],
+    owner: &Package,
+    script: &Text,
+) -> Result<Asking, AllocError>
+    ensures { IfOk result (λ asking. asking ≡ record { program = run_program setup.now.runner script.now; words = run_words setup.now.runner script.now; folder = owner.now.folder; pairs = pairs_of setup.now project.now unit.now done.now owner.now }) }
+{
+    let program = run_program(alloc, setup.runner.as_slice(), script)?;
+    let words = run_words(alloc, setup.runner.as_slice(), script)?;
+    let folder = owner.folder.copy(alloc)?;
+    let pairs = pairs_of(alloc, setup, project, unit, done, owner)?;
+    Ok(Asking {
+        program,
+        words,
+        folder,
+        pairs,
+    })
+}
+
 /// The run of a script.
 fn run_of(
     alloc: Global,
@@ -161,20 +256,10 @@ fn run_of(
     ensures { IfOk result (λ command. command ≡ run_of setup.now project.now unit.now done.now owner.now) }
 {
     let script = script_path(alloc, project, unit)?;
-    let program = run_program(alloc, setup.runner.as_slice(), &script)?;
-    let words = run_words(alloc, setup.runner.as_slice(), &script)?;
-    let pairs = pairs_of(alloc, setup, project, unit, done, owner)?;
-    let reads = reads_of(alloc, project, unit)?;
-    Ok(Command {
-        program,
-        words,
-        folder: owner.folder.copy(alloc)?,
-        pairs,
-        out: Some(unit.out.copy(alloc)?),
-        target: project.workspace.target.copy(alloc)?,
-        toolchain: setup.toolchain.copy(alloc)?,
-        reads,
-    })
+    let asking = run_asking(alloc, setup, project, unit, done, owner, &script)?;
+    let surroundings = surroundings_of(alloc, setup, project, unit);
+    let (asking, surroundings) = with_next(asking, surroundings)?;
+    Ok(joined(asking, surroundings))
 }
 
 /// The command of a unit of a package, by what it makes.
@@ -198,14 +283,18 @@ fn command_by(
 fn nothing_of(alloc: Global, setup: &Setup, project: &Project) -> Result<Command, AllocError>
     ensures { IfOk result (λ command. command ≡ nothing_of setup.now project.now) }
 {
+    let program = setup.rustc.copy(alloc)?;
+    let folder = project.workspace.root.copy(alloc)?;
+    let target = project.workspace.target.copy(alloc)?;
+    let toolchain = setup.toolchain.copy(alloc)?;
     Ok(Command {
-        program: setup.rustc.copy(alloc)?,
+        program,
         words: Items::new(alloc),
-        folder: project.workspace.root.copy(alloc)?,
+        folder,
         pairs: Items::new(alloc),
         out: None,
-        target: project.workspace.target.copy(alloc)?,
-        toolchain: setup.toolchain.copy(alloc)?,
+        target,
+        toolchain,
         reads: Items::new(alloc),
     })
 }

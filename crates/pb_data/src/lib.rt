@@ -7,6 +7,7 @@ pub mod copying;
 pub mod hashing;
 pub mod items;
 pub mod mentions;
+pub mod next;
 pub mod table;
 pub mod text;
 
@@ -14,5 +15,6 @@ pub use bytes::Bytes;
 pub use copying::TryCopy;
 pub use items::Items;
 pub use mentions::Mentions;
+pub use next::with_next;
 pub use table::Table;
 pub use text::Text;

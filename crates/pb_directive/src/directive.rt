@@ -4,7 +4,7 @@ use pb_data::{Items, Text};
 
 /// What one line of a build script's output gives (The Cargo Book, "Build Scripts"). A line
 /// `rustc-flags` gives a directive for each of its flags.
-#[derive(Debug, Drop)]
+#[derive(Drop)]
 pub enum Directive {
     /// `rerun-if-changed`: a path whose change makes the script run again.
     RerunIfChanged(Text),

@@ -1,3 +1,4 @@
+pub mod Placing
 pub mod Slots
 pub mod Finding
 pub mod Cells

@@ -52,8 +52,10 @@ fn marks_of(
     };
     let seeds = seeds_of(alloc, &ground, selection)?;
     let rules = rules_of(alloc, &ground)?;
-    let marks = derived(alloc, count, seeds.as_slice(), rules.as_slice())?;
-    Ok(marks)
+    match derived(alloc, count, seeds.as_slice(), rules.as_slice()) {
+        Ok(marks) => Ok(marks),
+        Err(fault) => Err(fault),
+    }
 }
 
 /// Whether the package at a place is given a feature that it does not have.

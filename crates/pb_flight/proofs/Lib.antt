@@ -1,3 +1,4 @@
+pub mod Looking
 pub mod Lists
 pub mod Listing
 pub mod Meeting

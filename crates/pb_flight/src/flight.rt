@@ -11,7 +11,7 @@ use std::alloc::{AllocError, Global};
 use std::marker::Model;
 
 /// What a unit answered.
-#[derive(Debug, Drop)]
+#[derive(Drop)]
 pub struct Answer<F> {
     /// Why it is bad, if it is.
     pub fault: Option<F>,
@@ -20,7 +20,7 @@ pub struct Answer<F> {
 }
 
 /// Where a unit stands.
-#[derive(Debug, Drop)]
+#[derive(Drop)]
 pub enum State<F> {
     /// It has not begun.
     Untouched,
@@ -33,7 +33,7 @@ pub enum State<F> {
 /// Which units of a plan have begun and what they answered, and whose lines have been handed out. A unit is known by
 /// its place in plan order. Contracts see what each unit needs, where each stands, and the lines of how many units
 /// have been handed out.
-#[derive(Debug, Drop)]
+#[derive(Drop)]
 pub struct Flight<F> {
     needs: Items<Items<usize>>,
     needed_by: Vec<Items<usize>>,
@@ -175,7 +175,7 @@ fn after<F>(states: &[State<F>], count: usize) -> &[State<F>]
 }
 
 /// Lines that are due, and of how many units.
-#[derive(Debug, Drop)]
+#[derive(Drop)]
 struct Due {
     lines: Vec<u8>,
     count: usize,
@@ -317,7 +317,12 @@ impl<F: Drop> Flight<F> {
     pub fn is_flying(&self, unit: usize) -> bool
         ensures { IsTrue result ↔ slice_get self.now.states unit ≡ Some Begun }
     {
-        matches!(self.states.as_slice().get(unit), Some(State::Begun))
+        match self.states.as_slice().get(unit) {
+            None => false,
+            Some(State::Untouched) => false,
+            Some(State::Begun) => true,
+            Some(State::Answered(_)) => false,
+        }
     }
 
     /// Whether all units have answered, or all up to and with the first bad one.

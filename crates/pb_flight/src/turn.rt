@@ -42,7 +42,7 @@ pub trait Pick {
 }
 
 /// Picks the first in plan order.
-#[derive(Debug, Drop)]
+#[derive(Drop)]
 pub struct First {}
 
 impl Pick for First {
@@ -54,7 +54,7 @@ impl Pick for First {
 }
 
 /// Picks the last in plan order.
-#[derive(Debug, Drop)]
+#[derive(Drop)]
 pub struct Last {}
 
 impl Pick for Last {
@@ -67,7 +67,7 @@ impl Pick for Last {
 
 /// A turn by a number of jobs: a unit begins, as it is picked, where one may and fewer than so many fly; else the one
 /// that was begun first is answered. No job counts as one (our own choice).
-#[derive(Debug, Drop)]
+#[derive(Drop)]
 pub struct Jobs<P> {
     /// Which unit begins.
     pub pick: P,

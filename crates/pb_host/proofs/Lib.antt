@@ -1,3 +1,4 @@
 mod Finding
+mod Nexts
 mod Variables
 mod Silence

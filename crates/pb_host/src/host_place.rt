@@ -15,7 +15,7 @@ use crate::listing::{files_below, files_directly, files_outside};
 use crate::reading::{file_at, variable_of};
 use crate::starting::{finish, spawn};
 use crate::writing::{remove_tree, write_file};
-use pb_data::{Bytes, Items, Text, TryCopy};
+use pb_data::{Bytes, Items, Text, TryCopy, with_next};
 use pb_place::in_flight::{Flying, flies, free_ticket, take_out};
 use pb_place::{
     ChildInFlight, Command, Ended, FileMap, PathText, Place, PlaceFault, StartFault, Tally,
@@ -82,15 +82,9 @@ impl<'a, R: Files + Env + Processes + AllocGlobal> HostPlace<'a, R> {
         // Room before the process: one that runs is always known.
         self.flying.reserve(1)?;
         let child = child_in_flight(alloc, command, ticket)?;
-        let process = spawn(self.runtime, alloc, command)?;
-        self.most = add_child(
-            &mut self.flying,
-            self.most,
-            Flying {
-                child,
-                kept: process,
-            },
-        );
+        let process = spawn(self.runtime, alloc, command);
+        let (child, kept) = with_next(child, process)?;
+        self.most = add_child(&mut self.flying, self.most, Flying { child, kept });
         Ok(ticket)
     }
 
@@ -105,8 +99,15 @@ impl<'a, R: Files + Env + Processes + AllocGlobal> HostPlace<'a, R> {
         let Some(flying) = take_out(&mut self.flying, ticket) else {
             unreachable!();
         };
-        finish(alloc, flying.kept)
+        finish(alloc, kept_of(flying))
     }
+}
+
+/// What a place keeps of a child in flight.
+fn kept_of<K: Drop>(flying: Flying<K>) -> K
+    ensures { result ≡ flying.kept }
+{
+    flying.kept
 }
 
 /// What is told of a child in flight: its ticket and its command.

@@ -1,6 +1,6 @@
 //! Listing real folders.
 
-ghost use Rattle.std.specs.Prelude.{◌≡◌, ◌≢◌, ℕ, List, true, Some, IfOk, IfErr, OnOk};
+ghost use Rattle.std.specs.Prelude.{◌≡◌, ◌≢◌, ◌+◌, ◌++◌, ◌∷◌, [], ℕ, List, true, Some, IfOk, IfErr, OnOk};
 ghost use Rattle.pb_place.specs.Paths.{is_below, is_at_or_below};
 ghost use Rattle.std.specs.Option.{option_copied};
 ghost use Rattle.pb_host.specs.Listing.{AreBelow, AreOutside, AreOrdered, StaysBelow, is_left_out};
@@ -87,6 +87,32 @@ fn standing_in<R: Files + AllocGlobal>(
     }
 }
 
+/// Finds a file.
+fn add_file(found: &mut Found, path: PathText) -> Result<(), PlaceFault>
+    ensures files { OnOk result (found.new.files.items ≡ found.old.files.items ++ path ∷ []) }
+    ensures waiting { found.new.waiting ≡ found.old.waiting }
+    ensures fault { IfErr result (λ e. e ≡ PlaceFault.OutOfMemory) }
+{
+    found.files.push(path)?;
+    Ok(())
+}
+
+/// Lets a folder wait. List where it lies too deep.
+fn add_folder(found: &mut Found, path: PathText, above: u8) -> Result<(), PlaceFault>
+    ensures waiting { OnOk result (found.new.waiting.items ≡ found.old.waiting.items ++ record { folder = path; depth = above + 1 } ∷ []) }
+    ensures files { found.new.files ≡ found.old.files }
+    ensures fault { IfErr result (λ e. e ≢ PlaceFault.OutOfMemory → e ≡ PlaceFault.List) }
+{
+    if above >= DEEPEST {
+        return Err(PlaceFault::List);
+    }
+    found.waiting.push(Waiting {
+        folder: path,
+        depth: above + 1,
+    })?;
+    Ok(())
+}
+
 /// Files an entry of a folder: a file is found, and a folder waits. List where its name is none, where it cannot be
 /// told what stands there, and where it is a folder that lies too deep.
 fn take_entry<R: Files + AllocGlobal>(
@@ -106,16 +132,8 @@ fn take_entry<R: Files + AllocGlobal>(
         return Ok(());
     }
     match standing_in(runtime, alloc, &here.folder, &path, name) {
-        Ok(Standing::File(_)) => found.files.push(path)?,
-        Ok(Standing::Folder) => {
-            if here.depth >= DEEPEST {
-                return Err(PlaceFault::List);
-            }
-            found.waiting.push(Waiting {
-                folder: path,
-                depth: here.depth + 1,
-            })?;
-        }
+        Ok(Standing::File(_)) => add_file(found, path)?,
+        Ok(Standing::Folder) => add_folder(found, path, here.depth)?,
         Ok(Standing::Nothing) => {}
         Err(error) => return Err(fault_of(error, PlaceFault::List)),
     }
@@ -125,6 +143,39 @@ fn take_entry<R: Files + AllocGlobal>(
 /// Whether an error says that there is no such folder, and the folder is the one that is listed: it need not be there.
 fn may_be_absent(here: &Waiting, error: &io::Error) -> bool {
     here.depth == 0 && says_absent(error)
+}
+
+/// The entries of a folder; none where it is the one that is listed, and is not there.
+fn entries_of<'a, R: Files + AllocGlobal>(
+    runtime: &'a R,
+    here: &Waiting,
+) -> Result<Option<fs::ReadDir<&'a R>>, PlaceFault>
+    ensures fault { IfErr result (λ e. e ≢ PlaceFault.OutOfMemory → e ≡ PlaceFault.List) }
+{
+    match fs::read_dir(&runtime, here.folder.as_str()) {
+        Ok(entries) => Ok(Some(entries)),
+        Err(error) if may_be_absent(here, &error) => Ok(None),
+        Err(error) => Err(fault_of(error, PlaceFault::List)),
+    }
+}
+
+/// Files an entry that a folder tells. List where it tells a failure.
+fn take_told<R: Files + AllocGlobal>(
+    runtime: &R,
+    alloc: Global,
+    left_out: Option<&PathText>,
+    found: &mut Found,
+    here: &Waiting,
+    entry: io::Result<fs::DirEntry<&R>>,
+) -> Result<(), PlaceFault>
+    ensures below { OnOk result ((above : List ℕ) → is_at_or_below above here.now.folder ≡ true → StaysBelow above found.old → StaysBelow above found.new) }
+    ensures outside { OnOk result (AreOutside (option_copied left_out.entry) found.old.files.items → AreOutside (option_copied left_out.entry) found.new.files.items) }
+    ensures fault { IfErr result (λ e. e ≢ PlaceFault.OutOfMemory → e ≡ PlaceFault.List) }
+{
+    match entry {
+        Ok(entry) => take_entry(runtime, alloc, left_out, found, here, entry.file_name()),
+        Err(error) => Err(fault_of(error, PlaceFault::List)),
+    }
 }
 
 /// Files the entries of a folder. Where the one that is listed is not there, it has none.
@@ -139,16 +190,11 @@ fn take_folder<R: Files + AllocGlobal>(
     ensures outside { OnOk result (AreOutside (option_copied left_out.entry) found.old.files.items → AreOutside (option_copied left_out.entry) found.new.files.items) }
     ensures fault { IfErr result (λ e. e ≢ PlaceFault.OutOfMemory → e ≡ PlaceFault.List) }
 {
-    let entries = match fs::read_dir(&runtime, here.folder.as_str()) {
-        Ok(entries) => entries,
-        Err(error) if may_be_absent(here, &error) => return Ok(()),
-        Err(error) => return Err(fault_of(error, PlaceFault::List)),
+    let Some(entries) = entries_of(runtime, here)? else {
+        return Ok(());
     };
     for entry in entries {
-        match entry {
-            Ok(entry) => take_entry(runtime, alloc, left_out, found, here, entry.file_name())?,
-            Err(error) => return Err(fault_of(error, PlaceFault::List)),
-        }
+        take_told(runtime, alloc, left_out, found, here, entry)?;
     }
     Ok(())
 }
@@ -182,9 +228,12 @@ fn files_found<R: Files + AllocGlobal>(
     Err(PlaceFault::List)
 }
 
-/// Whether an error says that an entry's name is not UTF-8.
-fn says_no_text(error: &io::Error) -> bool {
-    error.kind() == io::ErrorKind::InvalidFilename
+/// Whether an entry's name is not UTF-8.
+fn has_no_text<R: Files + AllocGlobal>(entry: &io::Result<fs::DirEntry<&R>>) -> bool {
+    match entry {
+        Ok(_) => false,
+        Err(error) => error.kind() == io::ErrorKind::InvalidFilename,
+    }
 }
 
 /// Files the entries of a folder whose names are UTF-8. Where the one that is listed is not there, it has none.
@@ -197,16 +246,12 @@ fn take_named<R: Files + AllocGlobal>(
     ensures below { OnOk result ((above : List ℕ) → is_at_or_below above here.now.folder ≡ true → StaysBelow above found.old → StaysBelow above found.new) }
     ensures fault { IfErr result (λ e. e ≢ PlaceFault.OutOfMemory → e ≡ PlaceFault.List) }
 {
-    let entries = match fs::read_dir(&runtime, here.folder.as_str()) {
-        Ok(entries) => entries,
-        Err(error) if may_be_absent(here, &error) => return Ok(()),
-        Err(error) => return Err(fault_of(error, PlaceFault::List)),
+    let Some(entries) = entries_of(runtime, here)? else {
+        return Ok(());
     };
     for entry in entries {
-        match entry {
-            Ok(entry) => take_entry(runtime, alloc, None, found, here, entry.file_name())?,
-            Err(error) if says_no_text(&error) => {}
-            Err(error) => return Err(fault_of(error, PlaceFault::List)),
+        if !has_no_text(&entry) {
+            take_told(runtime, alloc, None, found, here, entry)?;
         }
     }
     Ok(())

@@ -7,7 +7,7 @@ ghost use Rattle.std.specs.IoError.{error_kind};
 ghost use Rattle.pb_place.specs.declared.place.StartFault.TheVariants as start_fault;
 ghost use Rattle.pb_host.specs.Starting.{value_over, IsProcessOf};
 
-use pb_data::{Bytes, Text};
+use pb_data::{Bytes, Text, with_next};
 use pb_place::{Command, Ended, StartFault};
 use std::alloc::{AllocError, Global};
 use std::io::ErrorKind;
@@ -64,14 +64,27 @@ fn add_pairs(made: &mut process::Command, pairs: &[(Text, Text)]) -> Result<(), 
     Ok(())
 }
 
+/// Gives a process what a command says past its program.
+fn fill(made: &mut process::Command, command: &Command) -> Result<(), AllocError>
+    ensures program { OnOk result (command_program made.new ≡ command_program made.old) }
+    ensures words { OnOk result (command_args made.new ≡ command_args made.old ++ command.now.words) }
+    ensures folder { OnOk result (command_dir made.new ≡ Some command.now.folder) }
+    ensures inherits { OnOk result (clears_env made.new ≡ clears_env made.old) }
+    ensures pairs { OnOk result ((name : List ℕ) → command_var made.new name ≡ value_over name (command_var made.old name) command.now.pairs) }
+{
+    add_words(made, command.words.as_slice())?;
+    add_pairs(made, command.pairs.as_slice())?;
+    made.current_dir(command.folder.as_str())?;
+    Ok(())
+}
+
 /// The process of a command: its program and words, in its folder, with its pairs over the inherited variables.
 fn process_of(alloc: Global, command: &Command) -> Result<process::Command, AllocError>
     ensures { IfOk result (IsProcessOf command.now) }
 {
     let mut made = process::Command::new(alloc, command.program.as_str())?;
-    add_words(&mut made, command.words.as_slice())?;
-    add_pairs(&mut made, command.pairs.as_slice())?;
-    made.current_dir(command.folder.as_str())?;
+    let filled = fill(&mut made, command);
+    let (made, ()) = with_next(made, filled)?;
     Ok(made)
 }
 

@@ -1,5 +1,5 @@
 -- Each spelling of an item is read as the item.
-use Rattle.std.proofs.Common.{◌≡◌, ℕ, ◌+◌, not, ◌||◌, ◌==◌, Bool, true, false, [], ◌∷◌, ◌++◌, length, Ok, sym, ◌∙◌, ap, refl, eqb, append_assoc, codes, inl, inr}
+use Rattle.std.proofs.Common.{◌≡◌, ℕ, not, ◌||◌, ◌==◌, Bool, true, false, [], ◌∷◌, ◌++◌, length, Ok, sym, ◌∙◌, ap, refl, eqb, append_assoc, codes, inl, inr}
 use Rattle.std.proofs.lemmas.Bool.{cases_Bool, and_parts, false≢true}
 use Rattle.std.proofs.lemmas.Bool.Decides.{Decides-eqb}
 use Rattle.std.specs.List.{list_any, list_all}

@@ -13,7 +13,7 @@ use crate::profile::profiles_at;
 use crate::target::{binaries_at, library_of};
 use crate::values::{has, keys_at, table_at, value_at};
 use crate::workspace::workspace_of;
-use pb_data::{Items, Text};
+use pb_data::{Items, Text, with_next};
 use pb_manifest::{
     Binary, Dependency, Feature, Key, Library, Manifest, ManifestFault, Package, Profile,
     WorkspaceTable,
@@ -136,8 +136,8 @@ fn targets_of(alloc: Global, table: &Table) -> Result<Targets, ManifestFault>
     ensures { Gives result (targets_of (table_view table.now)) }
 {
     let package = package_at(alloc, table)?;
-    let library = library_at(alloc, table)?;
-    let binaries = binaries_at(alloc, table)?;
+    let found = with_next(package, library_at(alloc, table))?;
+    let ((package, library), binaries) = with_next(found, binaries_at(alloc, table))?;
     Ok(Targets {
         package,
         library,
@@ -174,7 +174,7 @@ fn document_of(alloc: Global, table: &Table) -> Result<Manifest, ManifestFault>
     supported(table)?;
     not_old(table)?;
     let targets = targets_of(alloc, table)?;
-    let tables = tables_of(alloc, table)?;
+    let (targets, tables) = with_next(targets, tables_of(alloc, table))?;
     Ok(Manifest {
         package: targets.package,
         library: targets.library,

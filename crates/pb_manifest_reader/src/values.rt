@@ -1,6 +1,6 @@
 //! Reads what stands at a key of a table.
 
-ghost use Rattle.std.specs.Prelude.{◌≡◌, option_map, Ok, Err, IfOk, IfErr, is_some};
+ghost use Rattle.std.specs.Prelude.{◌≡◌, option_map, IfOk, IfErr, is_some};
 ghost use Rattle.toml.specs.Data.{get_member, as_table};
 ghost use Rattle.toml.specs.View.{view, table_view, array_view, items_view};
 ghost use Rattle.pb_manifest.specs.Values.{Gives};

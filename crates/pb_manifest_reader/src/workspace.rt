@@ -9,7 +9,7 @@ use crate::package::{edition_at, readme_at, resolver_at};
 use crate::shared_dependency::shared_dependencies_at;
 use crate::values::{paths_at, table_at, text_at, texts_at};
 use crate::version::version_at;
-use pb_data::{Items, Text};
+use pb_data::{Items, Text, with_next};
 use pb_manifest::{
     Edition, Key, ManifestFault, Readme, Version, WorkspacePackage, WorkspaceTable, WrittenPath,
 };
@@ -131,7 +131,7 @@ pub(crate) fn workspace_of(alloc: Global, table: &Table) -> Result<WorkspaceTabl
     let exclude = listed_paths_at(alloc, table, Key::Exclude)?;
     let members = listed_paths_at(alloc, table, Key::Members)?;
     let package = workspace_package_at(alloc, table)?;
-    resolver_at(alloc, table)?;
+    let (package, ()) = with_next(package, resolver_at(alloc, table))?;
     Ok(WorkspaceTable {
         members,
         default_members,

@@ -10,3 +10,4 @@ pub mod Lookups
 pub mod Scope
 pub mod Script
 pub mod Verbs
+pub mod Private

@@ -1,12 +1,14 @@
 //! The words of a compile.
 
-ghost use Rattle.std.specs.Prelude.{◌≡◌, Ok, None, IfOk, OnOk, List, ◌∷◌, ℕ};
+ghost use Rattle.std.specs.Prelude.{◌≡◌, ◌||◌, codes, Ok, None, IfOk, OnOk, List, [], ◌∷◌, ℕ};
+ghost use Rattle.std.specs.Str.{bytes_eq};
 ghost use Rattle.pb_data.specs.Gives.{Gives};
 ghost use Rattle.pb_mini.specs.CommandLine.{takes_value, role_of, role_alone, with_value, joined, arguments_after, after, no_arguments, only, first, crate_type_of, image_name, dep_info_name, file_named, folder_of, settled_by, command_line_of};
+ghost use Rattle.pb_mini.specs.Private.{once_in, outputs_of};
 ghost use Rattle.pb_mini.specs.declared.command_line.CommandLineFault.TheVariants as fault;
 ghost use Rattle.pb_mini.specs.declared.command_line.Arguments.{Arguments};
 
-use pb_data::{Items, Text, TryCopy};
+use pb_data::{Items, Text, TryCopy, with_next};
 use pb_place::{PathFault, PathText, RelativePath};
 use std::alloc::{AllocError, AllocFailed, Global};
 use thiserror::Error;
@@ -122,19 +124,32 @@ pub struct Settled {
     pub source: Text,
 }
 
+/// Whether the next word says what is made, or where.
+fn is_for_crate(word: &str) -> bool
+    ensures { result ≡ (bytes_eq word.now (codes "--crate-name") || bytes_eq word.now (codes "--crate-type") || bytes_eq word.now (codes "--out-dir")) }
+{
+    word == "--crate-name" || word == "--crate-type" || word == "--out-dir"
+}
+
+/// Whether the next word is a setting or a condition.
+fn is_for_setting(word: &str) -> bool
+    ensures { result ≡ (bytes_eq word.now (codes "-C") || bytes_eq word.now (codes "--cfg") || bytes_eq word.now (codes "--check-cfg")) }
+{
+    word == "-C" || word == "--cfg" || word == "--check-cfg"
+}
+
+/// Whether the next word is a library, or where libraries are.
+fn is_for_library(word: &str) -> bool
+    ensures { result ≡ (bytes_eq word.now (codes "--extern") || bytes_eq word.now (codes "-L") || bytes_eq word.now (codes "-l")) }
+{
+    word == "--extern" || word == "-L" || word == "-l"
+}
+
 /// Whether the next word is the value of this one.
 fn takes_value(word: &str) -> bool
     ensures { result ≡ takes_value word.now }
 {
-    word == "--crate-name"
-        || word == "--crate-type"
-        || word == "--out-dir"
-        || word == "-C"
-        || word == "--cfg"
-        || word == "--check-cfg"
-        || word == "--extern"
-        || word == "-L"
-        || word == "-l"
+    is_for_crate(word) || is_for_setting(word) || is_for_library(word)
 }
 
 /// What the value of an option is for.
@@ -209,6 +224,31 @@ fn take_word(
     Ok(None)
 }
 
+/// Files the values of the words. What comes back is what an option that stands last waits for.
+fn add_words(
+    alloc: Global,
+    said: &mut Arguments,
+    words: &[Text],
+) -> Result<Option<Role>, AllocError>
+    ensures { IfOk result (λ waiting. after said.new (arguments_after waiting []) ≡ after said.old (arguments_after None words.now)) }
+{
+    let mut waiting = None;
+    for word in words {
+        waiting = take_word(alloc, said, waiting, word)?;
+    }
+    Ok(waiting)
+}
+
+/// Bad where an option waits for its value.
+fn ended(waiting: Option<Role>) -> Result<(), CommandLineFault>
+    ensures { Gives fault.OutOfMemory (λ _. no_arguments) result (arguments_after waiting []) }
+{
+    if waiting.is_some() {
+        return Err(CommandLineFault::Bad);
+    }
+    Ok(())
+}
+
 /// The values of the words. Bad where an option stands last, without its value.
 #[tactic(auto, using(crate::proofs::Words::after_nothing))]
 fn arguments_of(alloc: Global, words: &[Text]) -> Result<Arguments, CommandLineFault>
@@ -222,13 +262,9 @@ fn arguments_of(alloc: Global, words: &[Text]) -> Result<Arguments, CommandLineF
         externs: Items::new(alloc),
         conditions: Items::new(alloc),
     };
-    let mut waiting = None;
-    for word in words {
-        waiting = take_word(alloc, &mut said, waiting, word)?;
-    }
-    if waiting.is_some() {
-        return Err(CommandLineFault::Bad);
-    }
+    let waiting = add_words(alloc, &mut said, words);
+    let (said, waiting) = with_next(said, waiting)?;
+    let (said, ()) = with_next(said, ended(waiting))?;
     Ok(said)
 }
 
@@ -306,24 +342,83 @@ fn folder_of(alloc: Global, text: &str) -> Result<PathText, CommandLineFault>
     }
 }
 
-/// What the values settle. Bad where one that must stand once does not, or where a name or a folder is none.
-fn settled_by(alloc: Global, said: &Arguments) -> Result<Settled, CommandLineFault>
-    ensures { Gives fault.OutOfMemory (λ settled. settled) result (settled_by said.now) }
+/// What stands once.
+#[derive(Drop)]
+struct Once {
+    crate_type: CrateType,
+    crate_name: Text,
+    folder: Text,
+    source: Text,
+}
+
+/// The files inside the out folder, and that folder.
+#[derive(Drop)]
+struct Outputs {
+    image: RelativePath,
+    dep_info: RelativePath,
+    out_dir: PathText,
+}
+
+/// What of the values stands once. Bad where one that must does not.
+fn once_in(alloc: Global, said: &Arguments) -> Result<Once, CommandLineFault>
+    ensures { Gives fault.OutOfMemory (λ once. once) result (once_in said.now) }
 {
     let crate_name = only(alloc, said.crate_names.as_slice())?;
     let crate_type = crate_type_of(first(said.crate_types.as_slice())?.as_str());
     let folder = only(alloc, said.out_dirs.as_slice())?;
     let source = only(alloc, said.sources.as_slice())?;
-    let image = file_named(alloc, image_name(alloc, crate_type, crate_name.as_str())?)?;
-    let dep_info = file_named(alloc, dep_info_name(alloc, crate_name.as_str())?)?;
-    let out_dir = folder_of(alloc, folder.as_str())?;
-    Ok(Settled {
+    Ok(Once {
         crate_type,
         crate_name,
+        folder,
+        source,
+    })
+}
+
+/// The file of the image. Bad where the crate's name names none.
+fn image_named(alloc: Global, once: &Once) -> Result<RelativePath, CommandLineFault>
+    ensures { Gives fault.OutOfMemory (λ file. file) result (file_named (image_name once.now.crate_type once.now.crate_name)) }
+{
+    let name = image_name(alloc, once.crate_type, once.crate_name.as_str())?;
+    file_named(alloc, name)
+}
+
+/// The file of the dep-info. Bad where the crate's name names none.
+fn dep_info_named(alloc: Global, once: &Once) -> Result<RelativePath, CommandLineFault>
+    ensures { Gives fault.OutOfMemory (λ file. file) result (file_named (dep_info_name once.now.crate_name)) }
+{
+    let name = dep_info_name(alloc, once.crate_name.as_str())?;
+    file_named(alloc, name)
+}
+
+/// What a compile writes, and where. Bad where a name or the folder is none.
+fn outputs_of(alloc: Global, once: &Once) -> Result<Outputs, CommandLineFault>
+    ensures { Gives fault.OutOfMemory (λ outputs. outputs) result (outputs_of once.now) }
+{
+    let image = image_named(alloc, once)?;
+    let dep_info = dep_info_named(alloc, once)?;
+    let out_dir = folder_of(alloc, once.folder.as_str())?;
+    Ok(Outputs {
         image,
         dep_info,
         out_dir,
-        source,
+    })
+}
+
+/// What the values settle. Bad where one that must stand once does not, or where a name or a folder is none.
+fn settled_by(alloc: Global, said: &Arguments) -> Result<Settled, CommandLineFault>
+    ensures { Gives fault.OutOfMemory (λ settled. settled) result (settled_by said.now) }
+{
+    let once = once_in(alloc, said)?;
+    let outputs = outputs_of(alloc, &once);
+    let (once, outputs) = with_next(once, outputs)?;
+    Ok(Settled {
+        crate_type: once.crate_type,
+        crate_name: once.crate_name,
+        image: outputs.image,
+        dep_info: outputs.dep_info,
+        out_dir: outputs.out_dir,
+        source: once.source,
     })
 }
 

@@ -1,24 +1,25 @@
 //! A compile: its source, its image and its reply.
 
 ghost use Rattle.std.specs.Prelude.{◌≡◌, ◌++◌, [], IfOk, OnOk, IfErr, IsTrue, ℕ, List};
-ghost use Rattle.pb_mini.specs.Effects.{Does, followed_by, names_once, no_effects, reads};
+ghost use Rattle.pb_mini.specs.Effects.{Does, followed_by, joined, names_once, no_effects, reads};
 ghost use Rattle.pb_mini.specs.Lines.{lines_of};
 ghost use Rattle.pb_mini.specs.Verbs.{effects_from};
 ghost use Rattle.pb_mini.specs.Compile.{text_of, text_at, no_source, source_of, source_effects, effects_of, title, image_text, replied, files_of, compiled};
 ghost use Rattle.pb_mini.specs.DepInfo.{dep_info_text};
+ghost use Rattle.pb_mini.specs.Diagnostics.{diagnostics_text};
 ghost use Rattle.pb_place.specs.Paths.{below};
 ghost use Rattle.pb_place.specs.declared.child.ViewFault.TheVariants as view_fault;
 
 use crate::buffer::Buffer;
 use crate::command_line::{CommandLine, CrateType};
 use crate::dep_info::{Names, dep_info_text};
-use crate::diagnostic::{Level, diagnostics_text, has_error};
+use crate::diagnostic::{Diagnostic, Level, diagnostics_text, has_error};
 use crate::effects::{Effects, add_path, add_said};
 use crate::lines::{push_line, text_lines};
 use crate::lookups::{file_at, path_of};
 use crate::scope::Scope;
 use crate::verbs::add_lines;
-use pb_data::{Bytes, Items, Table, Text, TryCopy};
+use pb_data::{Bytes, Items, Table, Text, TryCopy, with_next};
 use pb_place::{PathText, RelativePath, Reply, View, ViewFault};
 use std::alloc::{AllocError, Global};
 
@@ -124,8 +125,36 @@ fn source_of<V: View>(alloc: Global, line: &CommandLine, view: &V) -> Result<Sou
 fn read_effects(alloc: Global, source: &Option<PathText>) -> Result<Effects, AllocError>
     ensures { IfOk result (λ effects. Does effects no_effects (reads source.now)) }
 {
+    let path = source.copy(alloc)?;
     let mut effects = Effects::new(alloc);
-    add_path(&mut effects, source.copy(alloc)?)?;
+    let added = add_path(&mut effects, path);
+    let (effects, ()) = with_next(effects, added)?;
+    Ok(effects)
+}
+
+/// All that a compile of this source does, each name once.
+fn effects_with<V: View>(
+    alloc: Global,
+    line: &CommandLine,
+    pairs: Table<Text>,
+    view: &V,
+    source: &Source,
+) -> Result<Effects, ViewFault>
+    ensures effects { IsTrue V.tells → IfOk result (λ effects. effects ≡ names_once (joined (reads source.now.path) (source_effects line.now pairs (V.shown view.now) source.now.path source.now.text))) }
+    ensures failed { IfErr result (λ e. e ≡ ViewFault.Failed → V.fails view.now) }
+{
+    let read = read_effects(alloc, &source.path);
+    let (pairs, mut effects) = with_next(pairs, read)?;
+    let added = add_source(
+        alloc,
+        &mut effects,
+        line,
+        pairs,
+        view,
+        &source.path,
+        &source.text,
+    );
+    let (effects, ()) = with_next(effects, added)?;
     Ok(effects)
 }
 
@@ -139,18 +168,9 @@ fn effects_of<V: View>(
     ensures effects { IsTrue V.tells → IfOk result (λ effects. effects ≡ names_once (effects_of line.now pairs (V.shown view.now))) }
     ensures failed { IfErr result (λ e. e ≡ ViewFault.Failed → V.fails view.now) }
 {
-    let source = source_of(alloc, line, view)?;
-    let mut effects = read_effects(alloc, &source.path)?;
-    add_source(
-        alloc,
-        &mut effects,
-        line,
-        pairs,
-        view,
-        &source.path,
-        &source.text,
-    )?;
-    Ok(effects)
+    let source = source_of(alloc, line, view);
+    let (pairs, source) = with_next(pairs, source)?;
+    effects_with(alloc, line, pairs, view, &source)
 }
 
 /// The first line of an image, without its name.
@@ -220,19 +240,36 @@ fn files_of(
     Ok(files)
 }
 
+/// The bytes that say diagnostics.
+fn said_by(alloc: Global, diagnostics: &[Diagnostic]) -> Result<Bytes, AllocError>
+    ensures { IfOk result (λ bytes. bytes ≡ diagnostics_text diagnostics.now) }
+{
+    let text = diagnostics_text(alloc, diagnostics)?;
+    Bytes::from_slice(alloc, text.as_bytes())
+}
+
+/// The files of a compile that does this.
+fn files_by(
+    alloc: Global,
+    line: &CommandLine,
+    is_bad: bool,
+    effects: Effects,
+) -> Result<Items<(RelativePath, Bytes)>, AllocError>
+    ensures { IfOk result (λ files. files ≡ files_of line.now is_bad effects.image effects.names) }
+{
+    let Effects { image, names, .. } = effects;
+    files_of(alloc, line, is_bad, image.as_slice(), names)
+}
+
 /// The reply of a compile that does this.
 fn replied(alloc: Global, line: &CommandLine, effects: Effects) -> Result<Reply, AllocError>
     ensures { IfOk result (λ reply. reply ≡ replied line.now effects) }
 {
-    let Effects {
-        image,
-        diagnostics,
-        names,
-    } = effects;
-    let text = diagnostics_text(alloc, diagnostics.as_slice())?;
-    let stderr = Bytes::from_slice(alloc, text.as_bytes())?;
-    let is_bad = has_error(diagnostics.as_slice());
-    let files = files_of(alloc, line, is_bad, image.as_slice(), names)?;
+    let is_bad = has_error(effects.diagnostics.as_slice());
+    let stderr = said_by(alloc, effects.diagnostics.as_slice());
+    let (effects, stderr) = with_next(effects, stderr)?;
+    let files = files_by(alloc, line, is_bad, effects);
+    let (stderr, files) = with_next(stderr, files)?;
     let status = if is_bad { 1 } else { 0 };
     Ok(Reply {
         status,

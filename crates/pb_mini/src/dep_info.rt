@@ -3,7 +3,7 @@
 ghost use Rattle.std.specs.Prelude.{◌≡◌, ◌++◌, IfOk, OnOk, ℕ, List};
 ghost use Rattle.pb_mini.specs.DepInfo.{rule_text, spelled, paths_text, value_text, variable_text, variables_text, dep_info_text};
 
-use pb_data::{Mentions, Table, Text};
+use pb_data::{Items, Mentions, Table, Text, with_next};
 use pb_place::PathText;
 use std::alloc::{AllocError, Global};
 
@@ -77,6 +77,23 @@ fn rule_text(alloc: Global, output: &PathText, paths: &[Text]) -> Result<Vec<u8>
     Ok(text)
 }
 
+/// The variables among names.
+fn variables_of(alloc: Global, names: Names) -> Result<Items<(Text, Option<Text>)>, AllocError>
+    ensures { IfOk result (λ variables. variables ≡ names.variables) }
+{
+    names.variables.into_items(alloc)
+}
+
+/// A text, and then the lines of the variables among names.
+fn with_variables(alloc: Global, text: Vec<u8>, names: Names) -> Result<Vec<u8>, AllocError>
+    ensures { IfOk result (λ whole. whole.items ≡ text.items ++ variables_text names.variables) }
+{
+    let variables = variables_of(alloc, names);
+    let (mut text, variables) = with_next(text, variables)?;
+    push_variables(&mut text, variables.as_slice())?;
+    Ok(text)
+}
+
 /// The dep-info of a compile, in the form that The Cargo Book, in "Build Cache", says is like a makefile's: the output,
 /// a colon, and the paths, with `\ ` for each space. Then a line `# env-dep:NAME=VALUE` for each variable, without
 /// `=VALUE` where it is not set, as real compilers add them.
@@ -87,8 +104,7 @@ pub(crate) fn dep_info_text(
 ) -> Result<Vec<u8>, AllocError>
     ensures { IfOk result (λ text. text.items ≡ dep_info_text output.now names) }
 {
-    let mut text = rule_text(alloc, output, names.paths.as_slice())?;
-    let variables = names.variables.into_items(alloc)?;
-    push_variables(&mut text, variables.as_slice())?;
+    let text = rule_text(alloc, output, names.paths.as_slice())?;
+    let text = with_variables(alloc, text, names)?;
     Ok(text)
 }

@@ -11,7 +11,7 @@ use crate::diagnostic::Level;
 use crate::effects::{Effects, add_diagnostic, add_file, add_path, add_variable};
 use crate::lookups::{file_at, path_from, value_of};
 use crate::scope::Scope;
-use pb_data::{Bytes, Table, Text};
+use pb_data::{Bytes, Table, Text, with_next};
 use pb_place::{PathText, View, ViewFault};
 use std::alloc::{AllocError, Global};
 
@@ -161,6 +161,35 @@ fn add_included(
     Ok(())
 }
 
+/// The path of the file that a line includes, or none where it has byte 0.
+fn path_included(
+    alloc: Global,
+    folder: &PathText,
+    written: &str,
+    variable: &Option<(Text, Option<Text>)>,
+) -> Result<Option<PathText>, AllocError>
+    ensures { IfOk result (λ path. path ≡ path_from folder.now (expanded written.now variable.now)) }
+{
+    let text = expanded(alloc, written, variable)?;
+    path_from(alloc, folder, text.as_str())
+}
+
+/// The path of the file that a line includes, and the file, if there is one.
+fn file_included<V: View>(
+    alloc: Global,
+    folder: &PathText,
+    view: &V,
+    written: &str,
+    variable: &Option<(Text, Option<Text>)>,
+) -> Result<(Option<PathText>, Option<Bytes>), ViewFault>
+    ensures file { IsTrue V.tells → IfOk result (λ found. found ≡ (path_from folder.now (expanded written.now variable.now), file_at (V.shown view.now) (path_from folder.now (expanded written.now variable.now)))) }
+    ensures failed { IfErr result (λ e. e ≡ ViewFault.Failed → V.fails view.now) }
+{
+    let path = path_included(alloc, folder, written, variable)?;
+    let found = file_at(alloc, view, &path);
+    with_next(path, found)
+}
+
 /// Does the line `include PATH`.
 pub(crate) fn add_include<V: View>(
     alloc: Global,
@@ -174,9 +203,8 @@ pub(crate) fn add_include<V: View>(
     ensures failed { IfErr result (λ e. e ≡ ViewFault.Failed → V.fails view.now) }
 {
     let variable = variable_of(alloc, &scope.pairs, view, written)?;
-    let text = expanded(alloc, written, &variable)?;
-    let path = path_from(alloc, &scope.folder, text.as_str())?;
-    let found = file_at(alloc, view, &path)?;
+    let found = file_included(alloc, &scope.folder, view, written, &variable);
+    let (variable, (path, found)) = with_next(variable, found)?;
     add_included(alloc, effects, number, written, variable, path, &found)?;
     Ok(())
 }

@@ -1,7 +1,7 @@
 //! What a command line and a source ask of the world: files by their paths, and the values of variables.
 
-ghost use Rattle.std.specs.Prelude.{◌≡◌, IfOk, IfErr, IsTrue, ℕ, List};
-ghost use Rattle.pb_data.specs.Table.{with_entries, table_of};
+ghost use Rattle.std.specs.Prelude.{◌≡◌, IfOk, OnOk, IfErr, IsTrue, ℕ, List};
+ghost use Rattle.pb_data.specs.Table.{with_entry, with_entries, table_of};
 ghost use Rattle.pb_mini.specs.Lookups.{path_of, path_from, file_at, value_of};
 ghost use Rattle.pb_place.specs.declared.child.ViewFault.TheVariants as view_fault;
 
@@ -70,13 +70,20 @@ pub(crate) fn value_of<V: View>(
     }
 }
 
+/// Adds a pair to a table.
+fn put_pair(alloc: Global, table: &mut Table<Text>, pair: &(Text, Text)) -> Result<(), AllocError>
+    ensures { OnOk result (table.new ≡ with_entry table.old pair.now.0 pair.now.1) }
+{
+    table.insert(pair.0.copy(alloc)?, pair.1.copy(alloc)?)
+}
+
 /// Pairs as a table, in which of several with one name the last counts.
 pub(crate) fn table_of(alloc: Global, pairs: &[(Text, Text)]) -> Result<Table<Text>, AllocError>
     ensures { IfOk result (λ table. table ≡ table_of pairs.now) }
 {
     let mut table = Table::new(alloc);
     for pair in pairs {
-        table.insert(pair.0.copy(alloc)?, pair.1.copy(alloc)?)?;
+        put_pair(alloc, &mut table, pair)?;
     }
     Ok(table)
 }

@@ -25,36 +25,37 @@ fn said(alloc: Global, status: i32, stdout: &[u8], stderr: &[u8]) -> Result<Repl
 }
 
 /// The reply to `-vV`.
-fn version(alloc: Global) -> Result<Reply, AllocError>
-    ensures { IfOk result (λ reply. reply ≡ version) }
+fn version(alloc: Global) -> Result<Reply, ViewFault>
+    ensures reply { IfOk result (λ reply. reply ≡ version) }
+    ensures err { IfErr result (λ e. e ≡ ViewFault.OutOfMemory) }
 {
-    said(alloc, 0, b"mini 0.1.0\nhost: mini-unknown-none\n", b"")
+    let reply = said(alloc, 0, b"mini 0.1.0\nhost: mini-unknown-none\n", b"")?;
+    Ok(reply)
 }
 
 /// The reply to words that say nothing that the small compiler does.
-fn bad_command_line(alloc: Global) -> Result<Reply, AllocError>
-    ensures { IfOk result (λ reply. reply ≡ bad_command_line) }
+fn bad_command_line(alloc: Global) -> Result<Reply, ViewFault>
+    ensures reply { IfOk result (λ reply. reply ≡ bad_command_line) }
+    ensures err { IfErr result (λ e. e ≡ ViewFault.OutOfMemory) }
 {
-    said(alloc, 2, b"", b"mini: bad command line\n")
+    let reply = said(alloc, 2, b"", b"mini: bad command line\n")?;
+    Ok(reply)
 }
 
 /// The reply to what words ask for.
 fn reply_to<V: View>(
     alloc: Global,
-    request: Request,
+    request: &Request,
     pairs: Table<Text>,
     view: &V,
 ) -> Result<Reply, ViewFault>
-    ensures reply { IsTrue V.tells → IfOk result (λ reply. reply ≡ replied_to request pairs (V.shown view.now)) }
+    ensures reply { IsTrue V.tells → IfOk result (λ reply. reply ≡ replied_to request.now pairs (V.shown view.now)) }
     ensures failed { IfErr result (λ e. e ≡ ViewFault.Failed → V.fails view.now) }
 {
     match request {
-        Request::Version => {
-            let reply = version(alloc)?;
-            Ok(reply)
-        }
+        Request::Version => version(alloc),
         Request::Run(path) => run(alloc, path.as_str(), &pairs, view),
-        Request::Compile(line) => compile(alloc, &line, pairs, view),
+        Request::Compile(line) => compile(alloc, line, pairs, view),
     }
 }
 
@@ -106,11 +107,8 @@ pub fn answer<V: View>(
 {
     let pairs = table_of(alloc, pairs)?;
     match request_of(alloc, words) {
-        Ok(request) => reply_to(alloc, request, pairs, view),
-        Err(CommandLineFault::Bad) => {
-            let reply = bad_command_line(alloc)?;
-            Ok(reply)
-        }
+        Ok(request) => reply_to(alloc, &request, pairs, view),
+        Err(CommandLineFault::Bad) => bad_command_line(alloc),
         Err(CommandLineFault::OutOfMemory) => Err(ViewFault::OutOfMemory),
     }
 }

@@ -2,7 +2,8 @@
 
 ghost use Rattle.std.specs.Prelude.{◌≡◌, ◌==◌, ℕ, List, ◌++◌, ◌∷◌, [], map, IfOk, OnOk, IfErr, IsTrue, string_bytes, unwrap_or, if◌then◌else◌, Some, None};
 ghost use Rattle.std.specs.List.{list_any};
-ghost use Rattle.pb_mini.specs.Lines.{ended};
+ghost use Rattle.pb_mini.specs.Lines.{ended, lines_of};
+ghost use Rattle.pb_mini.specs.Lookups.{path_of, file_at};
 ghost use Rattle.pb_mini.specs.Script.{before, Goes, Wrote, printed, shown_text, shown, first_line, read_text, was_read, below_text, full_path, text_read, is_file_name, was_put, is_digit, is_leading, status_in, three_digits, deed_of, step_by, step_of, lines_run, no_image, ran};
 ghost use Rattle.pb_place.specs.Paths.{is_absolute};
 ghost use Rattle.pb_place.specs.declared.child.ViewFault.TheVariants as view_fault;
@@ -150,6 +151,13 @@ fn below_text(alloc: Global, folder: &Option<Text>, path: &str) -> Result<Text, 
     Ok(Text::new(text))
 }
 
+/// The same, of a folder that nothing else needs.
+fn below_folder(alloc: Global, folder: Option<Text>, path: &str) -> Result<Text, AllocError>
+    ensures { IfOk result (λ text. text ≡ below_text folder path.now) }
+{
+    below_text(alloc, &folder, path)
+}
+
 /// The path of a file that is read, as a text: a relative one begins at `CARGO_MANIFEST_DIR`.
 fn full_path<V: View>(
     alloc: Global,
@@ -165,8 +173,15 @@ fn full_path<V: View>(
         return Ok(text);
     }
     let folder = value_of(alloc, pairs, view, "CARGO_MANIFEST_DIR")?;
-    let text = below_text(alloc, &folder, path)?;
+    let text = below_folder(alloc, folder, path)?;
     Ok(text)
+}
+
+/// The path that a text is, or none where it is no absolute path.
+fn path_in(alloc: Global, text: Text) -> Result<Option<PathText>, AllocError>
+    ensures { IfOk result (λ path. path ≡ path_of text) }
+{
+    path_of(alloc, text.as_str())
 }
 
 /// The text of a file that is read.
@@ -180,9 +195,8 @@ fn text_read<V: View>(
     ensures failed { IfErr result (λ e. e ≡ ViewFault.Failed → V.fails view.now) }
 {
     let text = full_path(alloc, pairs, view, path)?;
-    let path = path_of(alloc, text.as_str())?;
-    let text = text_at(alloc, view, &path)?;
-    Ok(text)
+    let path = path_in(alloc, text)?;
+    text_at(alloc, view, &path)
 }
 
 /// Whether a text has a slash.
@@ -343,6 +357,29 @@ fn no_image(alloc: Global) -> Result<Reply, AllocError>
     })
 }
 
+/// The image at a path, if there is one.
+fn image_at<V: View>(alloc: Global, path: &str, view: &V) -> Result<Option<Bytes>, ViewFault>
+    ensures image { IsTrue V.tells → IfOk result (λ image. image ≡ file_at (V.shown view.now) (path_of path.now)) }
+    ensures failed { IfErr result (λ e. e ≡ ViewFault.Failed → V.fails view.now) }
+{
+    let path = path_of(alloc, path)?;
+    file_at(alloc, view, &path)
+}
+
+/// Runs an image, line by line.
+fn run_image<V: View>(
+    alloc: Global,
+    image: &[u8],
+    pairs: &Table<Text>,
+    view: &V,
+) -> Result<Reply, ViewFault>
+    ensures reply { IsTrue V.tells → IfOk result (λ reply. reply ≡ lines_run pairs.now (V.shown view.now) (lines_of image.now)) }
+    ensures failed { IfErr result (λ e. e ≡ ViewFault.Failed → V.fails view.now) }
+{
+    let lines = byte_lines(alloc, image)?;
+    run_lines(alloc, pairs, view, lines.as_slice())
+}
+
 /// Runs the image at a path, line by line, as a build script; status 2 and `mini: no image` on standard error where
 /// there is no image.
 pub(crate) fn run<V: View>(
@@ -354,11 +391,9 @@ pub(crate) fn run<V: View>(
     ensures reply { IsTrue V.tells → IfOk result (λ reply. reply ≡ ran path.now pairs.now (V.shown view.now)) }
     ensures failed { IfErr result (λ e. e ≡ ViewFault.Failed → V.fails view.now) }
 {
-    let path = path_of(alloc, path)?;
-    let Some(image) = file_at(alloc, view, &path)? else {
+    let Some(image) = image_at(alloc, path, view)? else {
         let reply = no_image(alloc)?;
         return Ok(reply);
     };
-    let lines = byte_lines(alloc, image.as_slice())?;
-    run_lines(alloc, pairs, view, lines.as_slice())
+    run_image(alloc, image.as_slice(), pairs, view)
 }

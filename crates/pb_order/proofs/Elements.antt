@@ -3,8 +3,8 @@ use Rattle.std.proofs.Common.{◌≡◌, ◌⊎◌, inl, inr, ℕ, zero, suc, �
 use Rattle.std.specs.List.{AllZip}
 use Rattle.std.specs.Prelude.{filter, All, AllPairs}
 use Rattle.std.proofs.lemmas.Option.{slice_get-get_or, get_or_from_slice_get, slice_get_within}
-use Rattle.std.proofs.lemmas.List.Elements.{Contains-append_right}
-use Rattle.std.proofs.lemmas.List.{take_more}
+use Rattle.std.proofs.lemmas.List.Elements.{Contains-append_right, All-append}
+use Rattle.std.proofs.lemmas.List.{map-append, take_more}
 use Rattle.pb_order.specs.Graph.{above}
 
 pub contains_head : {X : Type 0} (x : X) (xs : List X) → Contains (x ∷ xs) x
@@ -123,3 +123,16 @@ zip_right R xs [] h k y at = cc
 zip_right R [] (b ∷ ys) h k y at = absurd h
 zip_right R (a ∷ xs) (b ∷ ys) h zero y at = let e : b ≡ y = cc in (a, refl, subst (λ z. R a z) e h.0)
 zip_right R (a ∷ xs) (b ∷ ys) h (suc k) y at = zip_right R xs ys h.1 k y at
+
+-- one node more was read from a list
+pub map_more : {X : Type 0} (f : X → ℕ) (list : List ℕ) (xs new : List X) (i : ℕ) (x : X) → i < length list → map f xs ≡ take i list → new ≡ xs ++ x ∷ [] → f x ≡ get_or list i 0 → map f new ≡ take (i + 1) list
+map_more f list xs new i x lt before pushed is =
+    ap (map f) pushed ∙ map-append f xs (x ∷ []) ∙ ap (λ m. m ++ f x ∷ []) before ∙ ap (λ y. take i list ++ y ∷ []) is ∙ sym (take_more list i 0 lt)
+
+all_one : {X : Type 0} (P : X → Type 0) (x : X) → P x → All P (x ∷ [])
+all_one P x h zero d lt = h
+all_one P x h (suc k) d lt = absurd (omega arith)
+
+-- one element more was put behind the others
+pub all_more : {X : Type 0} (P : X → Type 0) (xs new : List X) (x : X) → All P xs → P x → new ≡ xs ++ x ∷ [] → All P new
+all_more P xs new x all here pushed = subst (All P) (sym pushed) (All-append P xs (x ∷ []) all (all_one P x here))

@@ -6,7 +6,7 @@ use Rattle.std.specs.Cmp.Lexicographic.{nat_list_cmp_total}
 use Rattle.std.specs.FinMap.{get, retain_keys, same_map}
 use Rattle.pb_place.specs.Paths.{is_below}
 use Rattle.pb_place.specs.World.{World, Map, Ends, AgreeBut, ChangesOnlyInSome, put_files, put_reply}
-use Rattle.pb_place.specs.Folders.{files_in, over, first_of}
+use Rattle.pb_place.specs.Folders.{files_in, first_of}
 use Rattle.pb_place.specs.Children.{inside_out, put_back, landing, child_spawned, LandsAs}
 use Rattle.pb_place.specs.declared.child.Reply.{Reply}
 use Rattle.pb_place.specs.Counts.{Counts, up, past_call, past_fault, without, counted_finish, counted_spawn, counted_start}

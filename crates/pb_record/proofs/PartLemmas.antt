@@ -1,8 +1,8 @@
 -- Lemmas on parts of a text in turn, and lists of them.
-use Rattle.std.proofs.Common.{◌≡◌, ◌<◌, ◌≤◌, ◌+◌, ◌^◌, ℕ, List, [], ◌∷◌, ◌++◌, length, refl, sym, ◌∙◌, ap, subst, arith, rules, length-append, Bor, Option, Some, None, Result, Ok, Err}
+use Rattle.std.proofs.Common.{◌≡◌, ◌<◌, ◌≤◌, ◌+◌, ◌^◌, ℕ, List, [], ◌∷◌, ◌++◌, length, take, slice_index_or, refl, sym, ◌∙◌, ap, subst, arith, rules, length-append, Bor, Option, Some, None, Result, Ok, Err}
 use Rattle.std.specs.Prelude.{MatchOption, IfOk}
 use Rattle.std.specs.List.{AllByRecursion, flat_map}
-use Rattle.std.proofs.lemmas.List.{append_assoc}
+use Rattle.std.proofs.lemmas.List.{append_assoc, take_more}
 use Rattle.pb_record.specs.Grammar.{number, listed, both}
 use Rattle.pb_record.specs.Parts.{IsNumber, AreBoth}
 use Rattle.pb_record.specs.Reading.{Stands, StandsNone, IsSpelling, HasCount}
@@ -150,6 +150,13 @@ one_more {P = P} {f = f} {text = text} {mid = mid} {rest = rest} {xs = xs} {x = 
       is = (all_push P xs x so_far.is.0 next.is, omega (arith, length-append xs (x ∷ []), so_far.is.1));
       here = so_far.here ∙ ap (λ t. flat_map f xs ++ t) next.here ∙ sym (append_assoc (flat_map f xs) (f x) rest) ∙ ap (λ t. t ++ rest) (sym (flat_push f xs x));
     })
+
+-- one part more of a list is written
+pub wrote_more : {A : Type 0} (P : A → Type 0) (f : A → List ℕ) (xs : List A) (i : ℕ) (x : A) (before out new : List ℕ) → i < length xs → x ≡ slice_index_or xs i x
+    → out ≡ before ++ flat_map f (take i xs) → AllByRecursion P (take i xs) → new ≡ out ++ f x → P x → (new ≡ before ++ flat_map f (take (i + 1) xs)) × AllByRecursion P (take (i + 1) xs)
+wrote_more P f xs i x before out new lt at so_far are e is =
+    let more : take (i + 1) xs ≡ take i xs ++ x ∷ [] = take_more xs i x lt ∙ ap (λ y. take i xs ++ y ∷ []) (sym at) in
+    (rw (more, e, so_far, flat_push f (take i xs) x) (append_assoc before (flat_map f (take i xs)) (f x)), subst (AllByRecursion P) (sym more) (all_push P (take i xs) x are is))
 
 -- after these items of the list the text goes on with another
 goes_on : {A : Type 0} (P : A → Type 0) (f : A → List ℕ) → IsSpelling f → (xs ys : List A) (rest more : List ℕ) → length xs < length ys → AllByRecursion P ys

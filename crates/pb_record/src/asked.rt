@@ -1,6 +1,10 @@
 //! What was asked of a child.
 
-ghost use Rattle.std.specs.Prelude.{◌≡◌};
+ghost use Rattle.std.specs.Prelude.{◌≡◌, ◌++◌, OnOk};
+ghost use Rattle.std.specs.List.{AllByRecursion};
+ghost use Rattle.std.specs.Str.{IsUtf8};
+ghost use Rattle.pb_record.specs.Grammar.{◌⨾◌, block, both, listed};
+ghost use Rattle.pb_record.specs.Parts.{ArePairs, IsPlace};
 ghost use Rattle.pb_record.specs.Whole.{asked_of};
 
 use crate::pairs::Pairs;
@@ -10,7 +14,7 @@ use pb_place::PathText;
 use std::alloc::{AllocError, Global};
 
 /// What was asked of a unit's child: a command that has an output folder, its variables sorted.
-#[derive(Debug, Drop)]
+#[derive(Drop)]
 pub struct Asked {
     /// The program, as a path or a name that the system looks up.
     pub program: Text,
@@ -59,6 +63,30 @@ fn asked_of(parts: AskedParts) -> Asked
     }
 }
 
+/// Adds the program, its words, the folder and the variables.
+fn write_command(asked: &Asked, out: &mut Vec<u8>) -> Result<(), AllocError>
+    ensures written { OnOk result (out.new.items ≡ out.old.items ++ (block asked.now.program ⨾ listed block asked.now.words ⨾ block asked.now.folder ⨾ listed (both block block) asked.now.pairs)) }
+    ensures are { OnOk result (IsUtf8 asked.now.program × AllByRecursion IsUtf8 asked.now.words × IsPlace asked.now.folder × ArePairs asked.now.pairs) }
+{
+    asked.program.write(out)?;
+    asked.words.write(out)?;
+    asked.folder.write(out)?;
+    asked.pairs.write(out)?;
+    Ok(())
+}
+
+/// Adds where the child writes, what the compiler says of itself, and what the child may read.
+fn write_places(asked: &Asked, out: &mut Vec<u8>) -> Result<(), AllocError>
+    ensures written { OnOk result (out.new.items ≡ out.old.items ++ (block asked.now.out ⨾ block asked.now.target ⨾ block asked.now.toolchain ⨾ listed block asked.now.reads)) }
+    ensures are { OnOk result (IsPlace asked.now.out × IsPlace asked.now.target × AllByRecursion IsPlace asked.now.reads) }
+{
+    asked.out.write(out)?;
+    asked.target.write(out)?;
+    asked.toolchain.write(out)?;
+    asked.reads.write(out)?;
+    Ok(())
+}
+
 impl Part for Asked {
     ghost use Rattle.pb_record.specs.Grammar.{asked_bytes};
     ghost use Rattle.pb_record.specs.Parts.{IsAsked};
@@ -68,22 +96,16 @@ impl Part for Asked {
     ghost spelled = { asked_bytes };
 
     fn read(alloc: Global, text: &[u8]) -> Result<Option<(Asked, &[u8])>, AllocError> {
-        let found: Option<(AskedParts, &[u8])> = Part::read(alloc, text)?;
-        match found {
-            Some((parts, rest)) => Ok(Some((asked_of(parts), rest))),
-            None => Ok(None),
+        match <AskedParts as Part>::read(alloc, text) {
+            Ok(Some((parts, rest))) => Ok(Some((asked_of(parts), rest))),
+            Ok(None) => Ok(None),
+            Err(fault) => Err(fault),
         }
     }
 
     fn write(&self, out: &mut Vec<u8>) -> Result<(), AllocError> {
-        self.program.write(out)?;
-        self.words.write(out)?;
-        self.folder.write(out)?;
-        self.pairs.write(out)?;
-        self.out.write(out)?;
-        self.target.write(out)?;
-        self.toolchain.write(out)?;
-        self.reads.write(out)?;
+        write_command(self, out)?;
+        write_places(self, out)?;
         Ok(())
     }
 

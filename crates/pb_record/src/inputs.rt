@@ -1,6 +1,6 @@
 //! Inputs and variables as parts of a record.
 
-ghost use Rattle.std.specs.Prelude.{◌≡◌, ◌++◌, codes, IfOk, MatchOption};
+ghost use Rattle.std.specs.Prelude.{◌≡◌, ◌++◌, codes, IfOk, OnOk, MatchOption};
 ghost use Rattle.pb_record.specs.Grammar.{line, input_bytes};
 ghost use Rattle.pb_record.specs.Parts.{IsInput};
 ghost use Rattle.pb_record.specs.Reading.{Stands, StandsNone};
@@ -28,9 +28,10 @@ impl Part for Option<Text> {
         let Some(behind) = after(b"1\n", text) else {
             return Ok(None);
         };
-        match Text::read(alloc, behind)? {
-            Some((inside, rest)) => Ok(Some((Some(inside), rest))),
-            None => Ok(None),
+        match Text::read(alloc, behind) {
+            Ok(Some((inside, rest))) => Ok(Some((Some(inside), rest))),
+            Ok(None) => Ok(None),
+            Err(fault) => Err(fault),
         }
     }
 
@@ -42,8 +43,7 @@ impl Part for Option<Text> {
             }
             Some(inside) => {
                 out.extend_from_slice(b"1\n")?;
-                inside.write(out)?;
-                Ok(())
+                inside.write(out)
             }
         }
     }
@@ -83,10 +83,10 @@ impl Part for Pairs {
 fn file_at(alloc: Global, text: &[u8]) -> Result<Option<(Input, &[u8])>, AllocError>
     ensures { IfOk result (λ found. MatchOption found (StandsNone IsInput input_bytes (line (codes "f") ++ text.now)) (λ p. Stands IsInput input_bytes (line (codes "f") ++ text.now) p.0 p.1.now)) }
 {
-    let found: Option<((PathText, Bytes), &[u8])> = Part::read(alloc, text)?;
-    match found {
-        Some(((path, bytes), rest)) => Ok(Some((Input::File(path, bytes), rest))),
-        None => Ok(None),
+    match <(PathText, Bytes) as Part>::read(alloc, text) {
+        Ok(Some((file, rest))) => Ok(Some((Input::File(file.0, file.1), rest))),
+        Ok(None) => Ok(None),
+        Err(fault) => Err(fault),
     }
 }
 
@@ -94,10 +94,10 @@ fn file_at(alloc: Global, text: &[u8]) -> Result<Option<(Input, &[u8])>, AllocEr
 fn tree_at(alloc: Global, text: &[u8]) -> Result<Option<(Input, &[u8])>, AllocError>
     ensures { IfOk result (λ found. MatchOption found (StandsNone IsInput input_bytes (line (codes "t") ++ text.now)) (λ p. Stands IsInput input_bytes (line (codes "t") ++ text.now) p.0 p.1.now)) }
 {
-    let found: Option<((PathText, Items<(RelativePath, Bytes)>), &[u8])> = Part::read(alloc, text)?;
-    match found {
-        Some(((path, files), rest)) => Ok(Some((Input::Tree(path, files), rest))),
-        None => Ok(None),
+    match <(PathText, Items<(RelativePath, Bytes)>) as Part>::read(alloc, text) {
+        Ok(Some((tree, rest))) => Ok(Some((Input::Tree(tree.0, tree.1), rest))),
+        Ok(None) => Ok(None),
+        Err(fault) => Err(fault),
     }
 }
 
@@ -105,11 +105,27 @@ fn tree_at(alloc: Global, text: &[u8]) -> Result<Option<(Input, &[u8])>, AllocEr
 fn value_at(alloc: Global, text: &[u8]) -> Result<Option<(Input, &[u8])>, AllocError>
     ensures { IfOk result (λ found. MatchOption found (StandsNone IsInput input_bytes (line (codes "v") ++ text.now)) (λ p. Stands IsInput input_bytes (line (codes "v") ++ text.now) p.0 p.1.now)) }
 {
-    let found: Option<((Text, Option<Text>), &[u8])> = Part::read(alloc, text)?;
-    match found {
-        Some(((name, value), rest)) => Ok(Some((Input::Value(name, value), rest))),
-        None => Ok(None),
+    match <(Text, Option<Text>) as Part>::read(alloc, text) {
+        Ok(Some((pair, rest))) => Ok(Some((Input::Value(pair.0, pair.1), rest))),
+        Ok(None) => Ok(None),
+        Err(fault) => Err(fault),
     }
+}
+
+/// Adds a line and the two parts behind it.
+fn write_behind<A: Part, B: Part>(
+    line: &[u8],
+    first: &A,
+    second: &B,
+    out: &mut Vec<u8>,
+) -> Result<(), AllocError>
+    ensures written { OnOk result (out.new.items ≡ out.old.items ++ (line.now ++ (A.spelled first.now ++ B.spelled second.now))) }
+    ensures are { OnOk result (A.is_part first.now × B.is_part second.now) }
+{
+    out.extend_from_slice(line)?;
+    first.write(out)?;
+    second.write(out)?;
+    Ok(())
 }
 
 impl Part for Input {
@@ -135,24 +151,9 @@ impl Part for Input {
 
     fn write(&self, out: &mut Vec<u8>) -> Result<(), AllocError> {
         match self {
-            Input::File(path, bytes) => {
-                out.extend_from_slice(b"f\n")?;
-                path.write(out)?;
-                bytes.write(out)?;
-                Ok(())
-            }
-            Input::Tree(path, files) => {
-                out.extend_from_slice(b"t\n")?;
-                path.write(out)?;
-                files.write(out)?;
-                Ok(())
-            }
-            Input::Value(name, value) => {
-                out.extend_from_slice(b"v\n")?;
-                name.write(out)?;
-                value.write(out)?;
-                Ok(())
-            }
+            Input::File(path, bytes) => write_behind(b"f\n", path, bytes, out),
+            Input::Tree(path, files) => write_behind(b"t\n", path, files, out),
+            Input::Value(name, value) => write_behind(b"v\n", name, value, out),
         }
     }
 

@@ -19,12 +19,14 @@ impl<A: Part, B: Part> Part for (A, B) {
 
     fn read(alloc: Global, text: &[u8]) -> Result<Option<((A, B), &[u8])>, AllocError> {
         A::spells();
-        match A::read(alloc, text)? {
-            Some((first, after)) => match B::read(alloc, after)? {
-                Some((second, rest)) => Ok(Some(((first, second), rest))),
-                None => Ok(None),
+        match A::read(alloc, text) {
+            Ok(Some((first, after))) => match B::read(alloc, after) {
+                Ok(Some((second, rest))) => Ok(Some(((first, second), rest))),
+                Ok(None) => Ok(None),
+                Err(fault) => Err(fault),
             },
-            None => Ok(None),
+            Ok(None) => Ok(None),
+            Err(fault) => Err(fault),
         }
     }
 

@@ -7,7 +7,7 @@ use pb_data::{Items, Text};
 use std::marker::Model;
 
 /// Names and values of variables, sorted by name in byte order, each name once. Contracts see the list of them.
-#[derive(Debug, Drop)]
+#[derive(Drop)]
 pub struct Pairs {
     inside: Items<(Text, Text)>,
 }

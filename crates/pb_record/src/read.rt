@@ -40,16 +40,16 @@ fn whole<T: Part>(alloc: Global, text: &[u8]) -> Result<Option<T>, AllocError>
     ensures { IfOk result (λ found. MatchOption found ((x : T) → T.is_part x → text.now ≡ T.spelled x ++ line (codes "end") → ⊥) (λ x. T.is_part x × (text.now ≡ T.spelled x ++ line (codes "end")))) }
 {
     T::spells();
-    let found = T::read(alloc, text)?;
-    match found {
-        Some((part, rest)) => {
+    match T::read(alloc, text) {
+        Ok(Some((part, rest))) => {
             if rest == b"end\n".as_slice() {
                 Ok(Some(part))
             } else {
                 Ok(None)
             }
         }
-        None => Ok(None),
+        Ok(None) => Ok(None),
+        Err(fault) => Err(fault),
     }
 }
 
@@ -87,10 +87,10 @@ fn copied_of(parts: CopiedParts) -> Record
 fn read_numbered(alloc: Global, text: &[u8]) -> Result<Option<Record>, AllocError>
     ensures { IfOk result (λ found. MatchOption found ((r : Record) → Says (line (codes "record 2") ++ text.now) r → ⊥) (λ r. Says (line (codes "record 2") ++ text.now) r)) }
 {
-    let found: Option<NumberedParts> = whole(alloc, text)?;
-    match found {
-        Some(parts) => Ok(Some(numbered_of(parts))),
-        None => Ok(None),
+    match whole::<NumberedParts>(alloc, text) {
+        Ok(Some(parts)) => Ok(Some(numbered_of(parts))),
+        Ok(None) => Ok(None),
+        Err(fault) => Err(fault),
     }
 }
 
@@ -98,10 +98,10 @@ fn read_numbered(alloc: Global, text: &[u8]) -> Result<Option<Record>, AllocErro
 fn read_copied(alloc: Global, text: &[u8]) -> Result<Option<Record>, AllocError>
     ensures { IfOk result (λ found. MatchOption found ((r : Record) → Says (line (codes "record 1") ++ text.now) r → ⊥) (λ r. Says (line (codes "record 1") ++ text.now) r)) }
 {
-    let found: Option<CopiedParts> = whole(alloc, text)?;
-    match found {
-        Some(parts) => Ok(Some(copied_of(parts))),
-        None => Ok(None),
+    match whole::<CopiedParts>(alloc, text) {
+        Ok(Some(parts)) => Ok(Some(copied_of(parts))),
+        Ok(None) => Ok(None),
+        Err(fault) => Err(fault),
     }
 }
 

@@ -15,7 +15,7 @@ pub enum InputName {
 }
 
 /// Something beside its command and the units that it reaches on which a unit's answer rests, with its value.
-#[derive(Debug, Drop)]
+#[derive(Drop)]
 pub enum Input {
     /// A file, and its bytes.
     File(PathText, Bytes),
@@ -26,7 +26,7 @@ pub enum Input {
 }
 
 /// The units that a unit needs, as they were. Which of the two it is says the format of the record.
-#[derive(Debug, Drop)]
+#[derive(Drop)]
 pub enum Needed {
     /// Format 1: the keys of all units that are reached, each with the files of its output folder.
     Copies(Items<(Text, Items<(RelativePath, Bytes)>)>),
@@ -36,7 +36,7 @@ pub enum Needed {
 }
 
 /// What is kept of a unit that was built.
-#[derive(Debug, Drop)]
+#[derive(Drop)]
 pub struct Record {
     /// The unit's key.
     pub key: Text,

@@ -128,7 +128,10 @@ pub fn begin_unit<P: Place>(
     // Looked at before anything is changed.
     let compared = match compare(alloc, place, store, &unit.key, &command) {
         Ok(compared) => compared,
-        Err(fault) => return Err(fault),
+        Err(fault) => {
+            drop(command);
+            return Err(fault);
+        }
     };
     let difference = match compared {
         Compared::Differs(difference) => difference,
@@ -152,7 +155,10 @@ pub fn begin_unit<P: Place>(
             },
             difference: Some(difference),
         }),
-        Err(fault) => Err(fault),
+        Err(fault) => {
+            drop(command);
+            Err(fault)
+        }
     }
 }
 
@@ -220,14 +226,26 @@ pub fn answer_unit<P: Place>(
         Awaited::Child(launched) => match land(
             alloc, place, store, project, index, unit, name, &command, &launched,
         ) {
-            Ok(ran) => Ok(ran),
-            Err(fault) => Err(fault),
+            Ok(ran) => {
+                drop(command);
+                Ok(ran)
+            }
+            Err(fault) => {
+                drop(command);
+                Err(fault)
+            }
         },
         Awaited::Record(again) => match reuse(
             alloc, place, store, project, index, unit, &command, &again,
         ) {
-            Ok(ran) => Ok(ran),
-            Err(fault) => Err(fault),
+            Ok(ran) => {
+                drop(command);
+                Ok(ran)
+            }
+            Err(fault) => {
+                drop(command);
+                Err(fault)
+            }
         },
     }
 }

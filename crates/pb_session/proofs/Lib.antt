@@ -1,4 +1,5 @@
 pub mod Joins
 pub mod Numbers
 pub mod Pairs
+pub mod Parts
 pub mod Utf8

@@ -6,3 +6,4 @@ pub mod Picks
 pub mod Sessions
 pub mod Values
 pub mod Options
+pub mod Private

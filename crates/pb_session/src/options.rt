@@ -1,36 +1,51 @@
 //! What a build of a session is asked for.
 
-ghost use Rattle.std.specs.Prelude.{◌≡◌, ◌∷◌, [], IfOk, codes};
+ghost use Rattle.std.specs.Prelude.{◌≡◌, ◌||◌, ◌∷◌, [], IfOk, codes};
+ghost use Rattle.std.specs.Str.{bytes_eq};
 ghost use Rattle.serde_json.specs.Find.{get};
 ghost use Rattle.serde_json.specs.View.{view, items_view, members_view};
 ghost use Rattle.pb_session.specs.Faults.{Gives};
 ghost use Rattle.pb_session.specs.Options.{are_known, is_known, texts_in, texts_of, truth_of, texts_or_none, truth_or_false, text_or, number_or, manifest_or_default, texts_at, truth_at, options_in, options_of, pick_of, pick_or_first};
+ghost use Rattle.pb_session.specs.Private.{asked_in, featured_in, targeted_in, joined};
 
 use crate::fault::BadSession;
 use crate::pick::{PickBy, pick_named};
 use crate::value::{array_of, number_of, path_in, path_of, text_of};
-use pb_data::{Items, Text};
+use pb_data::{Items, Text, with_next};
 use pb_package::Options;
 use pb_place::PathText;
 use serde_json::{Map, Value};
 use std::alloc::{AllocError, Global};
 
+/// Whether a key says for which packages a build is asked.
+fn is_of_packages(name: &str) -> bool
+    ensures { result ≡ (bytes_eq name.now (codes "manifest") || bytes_eq name.now (codes "packages") || bytes_eq name.now (codes "workspace")) }
+{
+    name == "manifest" || name == "packages" || name == "workspace"
+}
+
+/// Whether a key says with which features and in which profile.
+fn is_of_features(name: &str) -> bool
+    ensures { result ≡ (bytes_eq name.now (codes "features") || bytes_eq name.now (codes "all_features") || bytes_eq name.now (codes "no_default_features") || bytes_eq name.now (codes "profile")) }
+{
+    name == "features"
+        || name == "all_features"
+        || name == "no_default_features"
+        || name == "profile"
+}
+
+/// Whether a key says for which targets, and how they are built.
+fn is_of_targets(name: &str) -> bool
+    ensures { result ≡ (bytes_eq name.now (codes "lib") || bytes_eq name.now (codes "bins") || bytes_eq name.now (codes "bin") || bytes_eq name.now (codes "pick") || bytes_eq name.now (codes "jobs")) }
+{
+    name == "lib" || name == "bins" || name == "bin" || name == "pick" || name == "jobs"
+}
+
 /// Whether a key of the options of a build is one that they may have.
 fn is_known(name: &str) -> bool
     ensures { result ≡ is_known name.now }
 {
-    name == "manifest"
-        || name == "packages"
-        || name == "workspace"
-        || name == "features"
-        || name == "all_features"
-        || name == "no_default_features"
-        || name == "profile"
-        || name == "lib"
-        || name == "bins"
-        || name == "bin"
-        || name == "pick"
-        || name == "jobs"
+    is_of_packages(name) || is_of_features(name) || is_of_targets(name)
 }
 
 /// Whether the options of a build have no key but those that they may have.
@@ -137,39 +152,128 @@ fn runner_words(alloc: Global) -> Result<Items<Text>, AllocError>
     Ok(words)
 }
 
-/// The options of a build, whose keys are known.
-fn options_in(alloc: Global, value: &Value) -> Result<Options, BadSession>
-    ensures { Gives result (options_in (view value.now)) }
+/// The packages that a build is asked for.
+#[derive(Drop)]
+struct Asked {
+    manifest: PathText,
+    packages: Items<Text>,
+    workspace: bool,
+}
+
+/// With which features it is asked for them, and in which profile.
+#[derive(Drop)]
+struct Featured {
+    features: Items<Text>,
+    all_features: bool,
+    no_default_features: bool,
+    profile: Text,
+}
+
+/// For which targets of theirs, and how many units may be in flight.
+#[derive(Drop)]
+struct Targeted {
+    lib: bool,
+    bins: bool,
+    bin: Items<Text>,
+    jobs: u64,
+}
+
+/// Whom a build starts: what runs the build scripts, and the builder itself.
+#[derive(Drop)]
+struct Tools {
+    runner: Items<Text>,
+    tool: Text,
+}
+
+/// The packages that a build is asked for.
+fn asked_in(alloc: Global, value: &Value) -> Result<Asked, BadSession>
+    ensures { Gives result (asked_in (view value.now)) }
 {
     let manifest = manifest_of(alloc, value)?;
     let packages = texts_at(alloc, "packages", value)?;
     let workspace = truth_at("workspace", value)?;
+    Ok(Asked {
+        manifest,
+        packages,
+        workspace,
+    })
+}
+
+/// With which features it is asked for them, and in which profile.
+fn featured_in(alloc: Global, value: &Value) -> Result<Featured, BadSession>
+    ensures { Gives result (featured_in (view value.now)) }
+{
     let features = texts_at(alloc, "features", value)?;
     let all_features = truth_at("all_features", value)?;
     let no_default_features = truth_at("no_default_features", value)?;
     let profile = profile_of(alloc, value)?;
-    let lib = truth_at("lib", value)?;
-    let bins = truth_at("bins", value)?;
-    let bin = texts_at(alloc, "bin", value)?;
-    let jobs = jobs_of(value)?;
-    let runner = runner_words(alloc)?;
-    let tool = Text::from_str(alloc, "cargo")?;
-    Ok(Options {
-        manifest,
-        packages,
-        workspace,
+    Ok(Featured {
         features,
         all_features,
         no_default_features,
         profile,
+    })
+}
+
+/// For which targets of theirs, and how many units may be in flight.
+fn targeted_in(alloc: Global, value: &Value) -> Result<Targeted, BadSession>
+    ensures { Gives result (targeted_in (view value.now)) }
+{
+    let lib = truth_at("lib", value)?;
+    let bins = truth_at("bins", value)?;
+    let bin = texts_at(alloc, "bin", value)?;
+    let jobs = jobs_of(value)?;
+    Ok(Targeted {
         lib,
         bins,
         bin,
-        target_dir: None,
-        runner,
-        tool,
         jobs,
     })
+}
+
+/// Whom a build starts.
+fn default_tools(alloc: Global) -> Result<Tools, AllocError>
+    ensures { IfOk result (λ tools. tools ≡ record { runner = codes "mini" ∷ codes "--run" ∷ []; tool = codes "cargo" }) }
+{
+    let runner = runner_words(alloc)?;
+    let tool = Text::from_str(alloc, "cargo")?;
+    Ok(Tools { runner, tool })
+}
+
+/// Options of their parts.
+fn joined(asked: Asked, featured: Featured, targeted: Targeted, tools: Tools) -> Options
+    ensures { result ≡ joined asked featured targeted tools }
+{
+    Options {
+        manifest: asked.manifest,
+        packages: asked.packages,
+        workspace: asked.workspace,
+        features: featured.features,
+        all_features: featured.all_features,
+        no_default_features: featured.no_default_features,
+        profile: featured.profile,
+        lib: targeted.lib,
+        bins: targeted.bins,
+        bin: targeted.bin,
+        target_dir: None,
+        runner: tools.runner,
+        tool: tools.tool,
+        jobs: targeted.jobs,
+    }
+}
+
+/// The options of a build, whose keys are known.
+fn options_in(alloc: Global, value: &Value) -> Result<Options, BadSession>
+    ensures { Gives result (options_in (view value.now)) }
+{
+    let asked = asked_in(alloc, value)?;
+    let featured = featured_in(alloc, value);
+    let two = with_next(asked, featured)?;
+    let targeted = targeted_in(alloc, value);
+    let three = with_next(two, targeted)?;
+    let tools = default_tools(alloc);
+    let (((asked, featured), targeted), tools) = with_next(three, tools)?;
+    Ok(joined(asked, featured, targeted, tools))
 }
 
 /// The options of a build.

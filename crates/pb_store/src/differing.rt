@@ -124,7 +124,11 @@ fn standing_number<P: Place>(
         return Ok(None);
     }
     match record_at(alloc, place, folder, key) {
-        Ok(found) => Ok(number_if(&found)),
+        Ok(found) => {
+            let number = number_if(&found);
+            drop(found);
+            Ok(number)
+        }
         Err(fault) => Err(fault),
     }
 }
@@ -350,9 +354,15 @@ fn compare<P: Place>(
     };
     // Lent first, and then used up: the streams are carried on, and no second look reads them.
     match first_from(alloc, place, folder, command, &kept) {
-        Ok(Some(difference)) => Ok(Compared::Differs(difference)),
+        Ok(Some(difference)) => {
+            drop(kept);
+            Ok(Compared::Differs(difference))
+        }
         Ok(None) => Ok(Compared::Same(again(kept))),
-        Err(fault) => Err(fault),
+        Err(fault) => {
+            drop(kept);
+            Err(fault)
+        }
     }
 }
 

@@ -22,7 +22,7 @@ ghost use Rattle.pb_record.specs.Sorted.{are_sorted};
 use crate::fault::{StoreFault, stored};
 use crate::inputs::present;
 use crate::store::{Store, place_path, record_at};
-use pb_data::{Items, Text, TryCopy};
+use pb_data::{Bytes, Items, Text, TryCopy, with_next};
 use pb_place::{Command, Ended, PathText, Place};
 use pb_record::{Asked, Input, InputName, Needed, Record, write_record};
 use std::alloc::{AllocError, Global};
@@ -66,7 +66,11 @@ fn number_at<P: Place>(
     ensures looks { Looks result (place_of folder.now key.now ∷ []) (P.counts place.old) (P.counts place.new) }
 {
     match record_at(alloc, place, folder, key) {
-        Ok(found) => Ok(number_or_zero(&found)),
+        Ok(found) => {
+            let number = number_or_zero(&found);
+            drop(found);
+            Ok(number)
+        }
         Err(fault) => Err(fault),
     }
 }
@@ -195,6 +199,25 @@ fn asked_of(
     }
 }
 
+/// Copies of what a record is made of: the unit's key, its command, its child's streams.
+fn copied_of(
+    alloc: Global,
+    folder: &PathText,
+    key: &Text,
+    command: &Command,
+    ended: &Ended,
+) -> Result<(Text, Asked, Bytes, Bytes), AllocError>
+    requires out { command.now.out ≡ Some (out_of folder.now key.now) }
+    requires sorted { are_sorted command.now.pairs ≡ true }
+    ensures { IfOk result (λ parts. parts ≡ (key.now, of_parts command.now (out_of folder.now key.now), ended.now.stdout, ended.now.stderr)) }
+{
+    let copied = key.copy(alloc)?;
+    let stdout = ended.stdout.copy(alloc)?;
+    let stderr = ended.stderr.copy(alloc)?;
+    let asked = asked_of(alloc, folder, key, command)?;
+    Ok((copied, asked, stdout, stderr))
+}
+
 /// The record of a unit, of copies of its key, its command and its child's streams.
 fn kept_of(
     alloc: Global,
@@ -210,10 +233,9 @@ fn kept_of(
     requires sorted { are_sorted command.now.pairs ≡ true }
     ensures { IfOk result (λ kept. kept ≡ kept_of folder.now key.now command.now inputs number numbers ended.now) }
 {
-    let asked = asked_of(alloc, folder, key, command)?;
-    let key = key.copy(alloc)?;
-    let stdout = ended.stdout.copy(alloc)?;
-    let stderr = ended.stderr.copy(alloc)?;
+    let parts = copied_of(alloc, folder, key, command, ended);
+    let ((inputs, numbers), parts) = with_next((inputs, numbers), parts)?;
+    let (key, asked, stdout, stderr) = parts;
     Ok(Record {
         key,
         asked,
@@ -306,8 +328,14 @@ impl Store {
             Err(fault) => return Err(fault),
         };
         match put_record(alloc, place, &self.folder, key, &kept) {
-            Ok(()) => Ok(()),
-            Err(fault) => Err(fault),
+            Ok(()) => {
+                drop(kept);
+                Ok(())
+            }
+            Err(fault) => {
+                drop(kept);
+                Err(fault)
+            }
         }
     }
 }

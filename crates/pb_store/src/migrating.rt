@@ -73,7 +73,10 @@ impl Store {
     {
         let _ = self.folder.as_str();
         let number = match self.next {
-            None => return Err(StoreFault::NumbersSpent),
+            None => {
+                drop(kept);
+                return Err(StoreFault::NumbersSpent);
+            }
             Some(number) => number,
         };
         let numbers = numbered(alloc, place, &self.folder, needs)?;
@@ -81,8 +84,14 @@ impl Store {
         // Before the write: a torn one may have used the number.
         self.next = number_after(number);
         match put_record(alloc, place, &self.folder, key, &kept) {
-            Ok(()) => Ok(()),
-            Err(fault) => Err(fault),
+            Ok(()) => {
+                drop(kept);
+                Ok(())
+            }
+            Err(fault) => {
+                drop(kept);
+                Err(fault)
+            }
         }
     }
 
@@ -127,6 +136,7 @@ impl Store {
             None => return Ok(()),
         };
         if number_of(&kept).is_some() {
+            drop(kept);
             return Ok(());
         }
         match self.renumber(alloc, place, key, needs, kept) {

@@ -79,7 +79,11 @@ fn read_greatest<P: Place>(alloc: Global, place: &mut P, path: PathText) -> Resu
         Err(fault) => return Err(opened(path, fault)),
     };
     match read_text(alloc, &text) {
-        Ok(found) => Ok(greatest_if(&found)),
+        Ok(found) => {
+            let greatest = greatest_if(&found);
+            drop(found);
+            Ok(greatest)
+        }
         Err(_) => Err(OpenFault::OutOfMemory),
     }
 }

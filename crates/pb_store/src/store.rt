@@ -107,6 +107,7 @@ fn if_of_key(found: Option<Record>, key: &Text) -> Option<Record>
             if kept.key.as_bytes() == key.as_bytes() {
                 Some(kept)
             } else {
+                drop(kept);
                 None
             }
         }

@@ -106,15 +106,24 @@ pub fn run_turns<P: Place, O: Out, T: Turn>(
     project.is_in_order();
     let mut flight = match flight_of(alloc, &project) {
         Ok(flight) => flight,
-        Err(_) => return Err(BuildFault::OutOfMemory),
+        Err(_) => {
+            drop((setup, project, store));
+            return Err(BuildFault::OutOfMemory);
+        }
     };
     let done = match nothing_noted(alloc, project.units()) {
         Ok(done) => done,
-        Err(_) => return Err(BuildFault::OutOfMemory),
+        Err(_) => {
+            drop((setup, project, store, flight));
+            return Err(BuildFault::OutOfMemory);
+        }
     };
     let reasons = match nothing_noted(alloc, project.units()) {
         Ok(reasons) => reasons,
-        Err(_) => return Err(BuildFault::OutOfMemory),
+        Err(_) => {
+            drop((setup, project, store, flight, done));
+            return Err(BuildFault::OutOfMemory);
+        }
     };
     let mut crew = UnitCrew {
         setup,
@@ -130,9 +139,18 @@ pub fn run_turns<P: Place, O: Out, T: Turn>(
     drain(alloc, &mut crew, place);
     match driven {
         Ok(()) => match sum_up(alloc, &crew, flight) {
-            Ok(summary) => Ok(summary),
-            Err(_) => Err(BuildFault::OutOfMemory),
+            Ok(summary) => {
+                drop(crew);
+                Ok(summary)
+            }
+            Err(_) => {
+                drop(crew);
+                Err(BuildFault::OutOfMemory)
+            }
         },
-        Err(fault) => Err(fault),
+        Err(fault) => {
+            drop((crew, flight));
+            Err(fault)
+        }
     }
 }

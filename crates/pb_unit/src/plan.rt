@@ -5,11 +5,14 @@ ghost use Rattle.std.specs.List.{AllZip};
 ghost use Rattle.pb_place.specs.Paths.{below, is_relative, is_path};
 ghost use Rattle.pb_order.specs.Order.{IsOrder};
 ghost use Rattle.pb_package.specs.Settled.{IsSettled};
+ghost use Rattle.pb_package.specs.declared.package.Package.{Package};
 ghost use Rattle.pb_profile.specs.Line.{seen, folder_of};
+ghost use Rattle.pb_profile.specs.Settings.{settings_along};
 ghost use Rattle.pb_profile.specs.declared.fault.ProfileFault.{ProfileFault};
 ghost use Rattle.pb_order.specs.declared.graph.Step.{Step};
 ghost use Rattle.pb_unit.specs.declared.fault.PlanFault.TheVariants.{OutOfMemory, Profile};
 ghost use Rattle.pb_unit.specs.Drawing.{IsDrawn, IsMade, IsRefusal};
+ghost use Rattle.pb_unit.specs.Units.{role_of};
 ghost use Rattle.pb_unit.specs.Plan.{profile_line, profile_folder, level_at, needs_in, reaches_in, IsPlan, Refuses, Stops, LieApart};
 
 use crate::drawing::{Drawing, drawn};
@@ -157,6 +160,25 @@ fn ordered(
     Ok(steps)
 }
 
+/// The output folder of a key, in the folder of the profile.
+fn out_of(alloc: Global, frame: &Frame<'_>, key: &Text) -> Result<PathText, AllocError>
+    requires { is_relative key.now ≡ true }
+    ensures { IfOk result (λ out. out ≡ below frame.now.folder key.now) }
+{
+    let name = RelativePath::name(alloc, key.as_str())?;
+    let out = frame.folder.below(alloc, &name)?;
+    Ok(out)
+}
+
+/// The settings of a unit's package in its role.
+fn settings_of(workspace: &Workspace, frame: &Frame<'_>, unit: &Unit) -> Settings
+    requires { unit.now.owner < length workspace.now.packages }
+    ensures { (owner : Package) × (slice_get workspace.now.packages unit.now.owner ≡ Some owner) × (result ≡ settings_along owner (role_of unit.now) (map seen frame.now.line.items)) }
+{
+    let owner = &workspace.packages.as_slice()[unit.owner];
+    settings_along(owner, unit.role(), frame.line.as_slice())
+}
+
 /// A step of the order as a unit of the plan.
 fn made(
     alloc: Global,
@@ -171,10 +193,8 @@ fn made(
     ensures { IfOk result (IsMade workspace.now (map seen frame.now.line.items) frame.now.folder units.now step) }
 {
     let unit = units[step.node].copy(alloc)?;
-    let name = RelativePath::name(alloc, step.key.as_str())?;
-    let out = frame.folder.below(alloc, &name)?;
-    let owner = &workspace.packages.as_slice()[unit.owner];
-    let settings = settings_along(owner, unit.role(), frame.line.as_slice());
+    let out = out_of(alloc, frame, &step.key)?;
+    let settings = settings_of(workspace, frame, &unit);
     Ok(Planned {
         unit,
         key: step.key,

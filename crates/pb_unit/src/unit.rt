@@ -8,7 +8,7 @@ use pb_package::{Side, Workspace};
 use std::alloc::{AllocError, Global};
 
 /// What a unit makes of its package.
-#[derive(Debug, Drop)]
+#[derive(Drop)]
 pub enum What {
     /// The library.
     Lib,
@@ -22,7 +22,7 @@ pub enum What {
 
 /// A unit of a build: one thing that is made of a package on a side (The Cargo Book, cargo build). What
 /// is made for the host is never shared with what is made for the target (our own choice).
-#[derive(Debug, Drop)]
+#[derive(Drop)]
 pub struct Unit {
     /// The place of its package among the workspace's.
     pub owner: usize,

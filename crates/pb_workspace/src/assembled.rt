@@ -80,22 +80,38 @@ fn entries_in_order(
 fn package_at(alloc: Global, places: &ByFolder<usize>, draft: Draft) -> Result<Package, AllocError>
     ensures { IfOk result (λ made. made ≡ package_at places.now draft) }
 {
-    let entries = entries_in_order(alloc, places, draft.wanted)?;
-    Ok(Package {
-        name: draft.name,
-        version: draft.version,
-        edition: draft.edition,
-        folder: draft.folder,
-        manifest: draft.manifest,
-        is_member: draft.is_member,
-        about: draft.about,
-        links: draft.links,
-        library: draft.library,
-        binaries: draft.binaries,
-        script: draft.script,
+    let Draft {
+        folder,
+        manifest,
+        is_member,
+        name,
+        version,
+        edition,
+        about,
+        links,
+        library,
+        binaries,
+        script,
+        wanted,
+        features,
+        development,
+        has_same_binaries: _,
+    } = draft;
+    entries_in_order(alloc, places, wanted).map(|entries| Package {
+        name,
+        version,
+        edition,
+        folder,
+        manifest,
+        is_member,
+        about,
+        links,
+        library,
+        binaries,
+        script,
         entries,
-        features: draft.features,
-        development: draft.development,
+        features,
+        development,
     })
 }
 

@@ -19,7 +19,7 @@ use crate::keys::{Keys, keys_of};
 use crate::listings::{Listings, listings_of};
 use crate::settling::{Given, Targets, has_same_binaries, targets_of, wanted_in};
 use crate::wanted::Standing;
-use pb_data::{Items, Text};
+use pb_data::{Items, Text, with_next};
 use pb_manifest::{Dependency, Edition, Feature, Package, Version};
 use pb_package::{About, BinariesByName, FeaturesByName, Library, LoadFault};
 use pb_place::{PathText, Place};
@@ -183,9 +183,15 @@ fn draft_with(
         build_dependencies.as_slice(),
         features,
         binaries.as_slice(),
-    )?;
-    let targets = targets_of(alloc, listings, &at.folder, &keys, library, binaries)?;
-    Ok(draft_from(at, is_member, keys, lists, dev_dependencies, targets))
+    );
+    drop(dependencies);
+    drop(build_dependencies);
+    let own = (at, keys, library, binaries, dev_dependencies);
+    let ((at, keys, library, binaries, development), lists) = with_next(own, lists)?;
+    let targets = targets_of(alloc, listings, &at.folder, &keys, library, binaries);
+    let own = (at, keys, lists, development);
+    let ((at, keys, lists, development), targets) = with_next(own, targets)?;
+    Ok(draft_from(at, is_member, keys, lists, development, targets))
 }
 
 /// The package of a manifest in whose folder these listings were made.
@@ -207,7 +213,8 @@ fn draft_seen(
     ensures folder { IfOk result (λ draft. draft.folder ≡ at.folder) }
     ensures here { IfErr result (λ e. is_failure e ≡ false) }
 {
-    let keys = keys_of(alloc, listings, &at, &given.package, found)?;
+    let keys = keys_of(alloc, listings, &at, &given.package, found);
+    let ((at, tables), keys) = with_next((at, tables), keys)?;
     draft_with(alloc, listings, at, is_member, given, tables, keys)
 }
 
@@ -237,6 +244,11 @@ pub fn draft_of<P: Place>(
     ensures reads { Reads result (P.counts place.old) (P.counts place.new) }
     ensures looks { Looks result (listings_at target.now at.folder) (P.counts place.old) (P.counts place.new) }
 {
-    let listings = listings_of(alloc, place, target, &at.folder)?;
-    draft_seen(alloc, &listings, at, is_member, given, found, tables)
+    match listings_of(alloc, place, target, &at.folder) {
+        Ok(listings) => draft_seen(alloc, &listings, at, is_member, given, found, tables),
+        Err(fault) => {
+            drop(tables);
+            Err(fault)
+        }
+    }
 }

@@ -12,7 +12,7 @@ use crate::listings::Listings;
 use crate::settling::readme_found;
 use crate::taken::{about_of, edition_of, version_of};
 use crate::wanted::Standing;
-use pb_data::{Text, TryCopy};
+use pb_data::{Text, TryCopy, with_next};
 use pb_manifest::{Build, Edition, Package, Version, WorkspacePackage};
 use pb_package::{About, LoadFault};
 use std::alloc::{AllocError, Global};
@@ -86,10 +86,13 @@ fn keys_from(
     ensures name { IfOk result (λ keys. keys.name ≡ found.now.name) }
     ensures here { IfErr result (λ e. is_failure e ≡ false) }
 {
-    let version = version_of(alloc, &found.version, &given.version)?;
-    let edition = edition_of(&found.edition, given.edition)?;
-    let about = about_of(alloc, &at.root, &at.folder, readme, found, given)?;
     let own = own_keys(alloc, found)?;
+    let version = version_of(alloc, &found.version, &given.version);
+    let (own, version) = with_next(own, version)?;
+    let edition = edition_of(&found.edition, given.edition);
+    let (kept, edition) = with_next((own, version), edition)?;
+    let about = about_of(alloc, &at.root, &at.folder, readme, found, given);
+    let ((own, version), about) = with_next(kept, about)?;
     Ok(Keys {
         name: own.name,
         version,

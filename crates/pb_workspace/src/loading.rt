@@ -27,7 +27,7 @@ use crate::rounds::{
     ENOUGH_ROUNDS, Parts, Reading, all_read, no_manifest, parts_at, rounds, with_draft,
 };
 use crate::wanted::Standing;
-use pb_data::{Items, TryCopy};
+use pb_data::{Items, TryCopy, with_next};
 use pb_manifest::{Package, Profile, WorkspaceTable};
 use pb_package::{LoadFault, SettledWorkspace, Workspace};
 use pb_place::{PathText, Place};
@@ -86,8 +86,7 @@ fn nothing_read(alloc: Global) -> Reading
 fn begun_with(alloc: Global, frame: &Frame, draft: Draft) -> Result<Reading, AllocError>
     ensures { IfOk result (λ begun. begun ≡ with_draft nothing_read frame.now.root draft) }
 {
-    let folder = frame.root.copy(alloc)?;
-    with_draft(alloc, nothing_read(alloc), folder, draft)
+    frame.root.copy(alloc).and_then(|folder| with_draft(alloc, nothing_read(alloc), folder, draft))
 }
 
 /// The root package read.
@@ -110,7 +109,7 @@ fn root_package_read<P: Place>(
     ensures reads { Reads result (P.counts place.old) (P.counts place.new) }
     ensures looks { Looks result (listings_at target.now frame.now.root) (P.counts place.old) (P.counts place.new) }
 {
-    let at = at_root(alloc, frame)?;
+    let (tables, at) = with_next(tables, at_root(alloc, frame))?;
     let draft = draft_of(alloc, place, target, at, true, &frame.given, found, tables)?;
     let begun = begun_with(alloc, frame, draft)?;
     Ok(begun)
@@ -137,8 +136,15 @@ fn root_read<P: Place>(
     ensures looks { Looks result (package_looked target.now frame.now.root found) (P.counts place.old) (P.counts place.new) }
 {
     match found {
-        Some(found) => root_package_read(alloc, place, target, frame, tables, &found),
-        None => Ok(nothing_read(alloc)),
+        Some(found) => {
+            let begun = root_package_read(alloc, place, target, frame, tables, &found);
+            drop(found);
+            begun
+        }
+        None => {
+            drop(tables);
+            Ok(nothing_read(alloc))
+        }
     }
 }
 
@@ -285,7 +291,7 @@ pub fn load<P: Place>(
     let path = manifest.copy(alloc)?;
     let parts = root_parts(alloc, place, target, manifest)?;
     let frame = frame_of(alloc, root, path, parts.workspace);
-    workspace_in(
+    let loaded = workspace_in(
         alloc,
         place,
         target,
@@ -293,5 +299,7 @@ pub fn load<P: Place>(
         parts.profiles,
         parts.tables,
         parts.found,
-    )
+    );
+    drop(frame);
+    loaded
 }

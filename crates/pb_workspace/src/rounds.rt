@@ -135,9 +135,15 @@ pub fn draft_if<P: Place>(
         Some(found) => {
             let none = nothing(alloc);
             let given = given_to(frame, &none, is_member);
-            draft_of(alloc, place, target, at, is_member, given, &found, tables)
+            let draft = draft_of(alloc, place, target, at, is_member, given, &found, tables);
+            drop(none);
+            drop(found);
+            draft
         }
-        None => Err(refused(alloc, &at.manifest, ManifestFault::BadKind(Key::Package))),
+        None => {
+            drop(tables);
+            Err(refused(alloc, &at.manifest, ManifestFault::BadKind(Key::Package)))
+        }
     }
 }
 
@@ -233,6 +239,8 @@ fn draft_in_file<P: Place>(
     ensures looks { IsTrue P.tells → Looks result (file_looked target.now (from_nothing target.now (P.world place.old)) at) (P.counts place.old) (P.counts place.new) }
 {
     let parts = parts_at(alloc, place, target, &at.manifest)?;
+    drop(parts.workspace);
+    drop(parts.profiles);
     draft_if(
         alloc,
         place,
@@ -302,9 +310,9 @@ fn add_draft(
 ) -> Result<(), AllocError>
     ensures { OnOk result (reading.new ≡ with_draft reading.old folder draft) }
 {
-    put_led(alloc, &mut reading.ahead, &draft)?;
+    let led = put_led(alloc, &mut reading.ahead, &draft);
     reading.found.insert(folder, draft)?;
-    Ok(())
+    led
 }
 
 /// With a package that was read.
@@ -343,9 +351,16 @@ fn one_read<P: Place>(
         return Ok(reading);
     }
     if GREATEST_NUMBER <= reading.found.len() {
+        drop(reading);
         return Err(LoadFault::TooMany);
     }
-    let draft = draft_at(alloc, place, target, frame, meant, &folder)?;
+    let draft = match draft_at(alloc, place, target, frame, meant, &folder) {
+        Ok(draft) => draft,
+        Err(fault) => {
+            drop(reading);
+            return Err(fault);
+        }
+    };
     let made = with_draft(alloc, reading, folder, draft)?;
     Ok(made)
 }

@@ -19,7 +19,7 @@ use crate::found_binaries::found_binaries;
 use crate::keys::Keys;
 use crate::listings::Listings;
 use crate::wanted::{Standing, Wanted, each_wanted};
-use pb_data::{Items, Mentions, Text, TryCopy};
+use pb_data::{Items, Mentions, Text, TryCopy, with_next};
 use pb_manifest::{Dependency, Inheritable, Readme, WorkspacePackage};
 use pb_package::{BinariesByName, Binary, DependencyKind, Library, LoadFault};
 use pb_place::PathText;
@@ -131,11 +131,15 @@ pub fn targets_of(
     ensures targets { IfOk result AreTargets }
 {
     let name = &keys.name;
-    let library = library_of(alloc, listings, folder, name.as_str(), library)?;
-    let script = script_of(alloc, listings, folder, &keys.build)?;
-    let found = discovered(alloc, listings, folder, name, keys.autobins)?;
-    let written = written_binaries(alloc, listings, folder, name, binaries)?;
-    let binaries = binaries_of(alloc, found, written)?;
+    let written = written_binaries(alloc, listings, folder, name, binaries);
+    let (library, written) = with_next(library, written)?;
+    let found = discovered(alloc, listings, folder, name, keys.autobins);
+    let ((library, written), found) = with_next((library, written), found)?;
+    let (library, binaries) = with_next(library, binaries_of(alloc, found, written))?;
+    let library = library_of(alloc, listings, folder, name.as_str(), library);
+    let (binaries, library) = with_next(binaries, library)?;
+    let script = script_of(alloc, listings, folder, &keys.build);
+    let ((binaries, library), script) = with_next((binaries, library), script)?;
     Ok(Targets {
         library,
         binaries,

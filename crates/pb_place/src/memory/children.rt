@@ -1,10 +1,10 @@
 //! The children of a place in memory: how each is spawned and ends, as the fuse and the deaths will have it.
 
-ghost use Rattle.std.specs.Prelude.{◌≡◌, ◌≢◌, ◌⊎◌, ◌+◌, ◌-◌, ◌++◌, ◌∷◌, [], length, max, true, false, IfOk, IfErr, OnOk, OnErr, IfSome, IfNone, Some, None, Err};
+ghost use Rattle.std.specs.Prelude.{is_some, Ok, ◌≡◌, ◌≢◌, ◌⊎◌, ◌+◌, ◌-◌, ◌++◌, ◌∷◌, [], length, max, true, false, IfOk, IfErr, OnOk, OnErr, IfSome, IfNone, Some, None, Err};
 ghost use Rattle.std.specs.List.{list_any};
 ghost use Rattle.pb_place.specs.World.{seen_by, ChangesOnlyInSome};
 ghost use Rattle.pb_place.specs.Counts.{without};
-ghost use Rattle.pb_place.specs.Children.{child_spawned, is_flying, child_at, most_after, LandsAs, inside_out};
+ghost use Rattle.pb_place.specs.Children.{child_spawned, is_flying, child_at, most_after, LandsAs, inside_out, landing};
 ghost use Rattle.pb_place.specs.Copies.{put_half};
 ghost use Rattle.pb_place.specs.InFlight.{children_in, other_entries};
 ghost use Rattle.pb_place.specs.Tallies.{flown};
@@ -22,7 +22,7 @@ use crate::path::PathText;
 use crate::place::StartFault;
 use crate::relative::RelativePath;
 use crate::sight::Sight;
-use pb_data::{Bytes, TryCopy};
+use pb_data::{Bytes, TryCopy, with_next};
 use std::alloc::{AllocError, Global};
 
 /// Adds a child in flight, and gives the most that ever were.
@@ -94,6 +94,32 @@ fn ending(fault: StartFault) -> StartFault
     }
 }
 
+/// How a child will end whose end is asked for now: as the fuse has it, or its own fate.
+fn fate_now(burns: bool, kept: Option<StartFault>) -> Option<StartFault>
+    ensures burnt { burns ≡ true → result ≡ Some StartFault.Died }
+    ensures none { burns ≡ false → kept ≡ None → result ≡ None }
+    ensures fated { burns ≡ false → IfSome kept (λ e. e ≢ StartFault.CannotStart → result ≡ Some e) }
+    ensures doomed { burns ≡ false → IfSome result (λ e. is_some kept ≡ true) }
+    ensures end { IfSome result (λ e. (e ≡ StartFault.OutOfMemory) ⊎ ((e ≡ StartFault.Died) ⊎ (e ≡ StartFault.Capture))) }
+{
+    if burns {
+        return Some(StartFault::Died);
+    }
+    match kept {
+        Some(fault) => Some(ending(fault)),
+        None => None,
+    }
+}
+
+/// What a child answers whose files have landed.
+fn ended_by(landed: Result<(), StartFault>, child: ChildInFlight) -> Result<Ended, StartFault>
+    ensures ok { OnOk landed (result ≡ Ok child.ended) }
+    ensures err { IfErr landed (λ e. result ≡ Err e) }
+{
+    let (child, ()) = with_next(child, landed)?;
+    Ok(child.ended)
+}
+
 impl<C: Child> Memory<C> {
     /// The reply of the child to a command, over what it sees now.
     fn reply(&self, alloc: Global, command: &Command) -> Result<Reply, AllocError>
@@ -108,6 +134,19 @@ impl<C: Child> Memory<C> {
             Ok(reply) => Ok(reply),
             Err(_) => Err(AllocError),
         }
+    }
+
+    /// The child of a command that is spawned now.
+    fn spawned(
+        &self,
+        alloc: Global,
+        command: &Command,
+        ticket: u64,
+    ) -> Result<ChildInFlight, AllocError>
+        ensures { IfOk result (λ child. child ≡ child_spawned (C.answers command.now) command.now self.now.world ticket) }
+    {
+        let reply = self.reply(alloc, command)?;
+        child_in_flight(alloc, &self.files, command, ticket, reply)
     }
 
     /// Leaves the first half of a reply's files, in byte order, where the command says.
@@ -148,9 +187,9 @@ impl<C: Child> Memory<C> {
         let Some(ticket) = free_ticket(self.flying.as_slice()) else {
             return Err(StartFault::OutOfMemory);
         };
-        let reply = self.reply(alloc, command)?;
-        let child = child_in_flight(alloc, &self.files, command, ticket, reply)?;
-        self.leave(alloc, &command.out, child.files.as_slice())?;
+        let child = self.spawned(alloc, command, ticket)?;
+        let left = self.leave(alloc, &command.out, child.files.as_slice());
+        let (child, ()) = with_next(child, left)?;
         self.most = add_child(&mut self.flying, self.most, Flying { child, kept: fate })?;
         Ok(ticket)
     }
@@ -190,6 +229,35 @@ impl<C: Child> Memory<C> {
         Ok(ticket)
     }
 
+    /// What the end of a child leaves, as its fate will have it: the files of one that answers.
+    fn land(
+        &mut self,
+        alloc: Global,
+        fate: Option<StartFault>,
+        child: &ChildInFlight,
+    ) -> Result<(), StartFault>
+        ensures ok { OnOk result ((fate ≡ None) × (self.new.world ≡ landing child.now.command.out child.now.files child.now.before self.old.world)) }
+        ensures err { IfErr result (λ e. fate ≡ Some e ⊎ ((fate ≡ None) × (e ≡ StartFault.OutOfMemory))) }
+        ensures stands { IfSome fate (λ e. self.new.world ≡ self.old.world) }
+        ensures only { ChangesOnlyInSome child.now.command.out self.old.world self.new.world }
+        ensures same { record self.new { world = self.old.world } ≡ self.old }
+    {
+        match (fate, &child.command.out) {
+            (Some(fault), _) => Err(fault),
+            (None, Some(out)) => {
+                land(
+                    alloc,
+                    &mut self.files,
+                    out,
+                    &child.before,
+                    child.files.as_slice(),
+                )?;
+                Ok(())
+            }
+            (None, None) => Ok(()),
+        }
+    }
+
     /// Ends a child, as the fuse and its fate will have it.
     pub(super) fn end(&mut self, alloc: Global, ticket: u64) -> Result<Ended, StartFault>
         requires flies { is_flying ticket (children_in self.old.flying) ≡ true }
@@ -211,25 +279,9 @@ impl<C: Child> Memory<C> {
         let Some(flying) = take_child(&mut self.flying, ticket) else {
             unreachable!();
         };
-        let burns = self.fuse == 1;
+        let fate = fate_now(self.fuse == 1, flying.kept);
         self.fuse = self.fuse.saturating_sub(1);
-        if burns {
-            return Err(StartFault::Died);
-        }
-        let Flying { child, kept } = flying;
-        if let Some(fault) = kept {
-            return Err(ending(fault));
-        }
-        let ChildInFlight {
-            ticket: _,
-            command,
-            ended,
-            files,
-            before,
-        } = child;
-        if let Some(out) = &command.out {
-            land(alloc, &mut self.files, out, &before, files.as_slice())?;
-        }
-        Ok(ended)
+        let landed = self.land(alloc, fate, &flying.child);
+        ended_by(landed, flying.child)
     }
 }

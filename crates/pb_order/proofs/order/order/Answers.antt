@@ -1,6 +1,7 @@
-use Rattle.std.proofs.Common.{◌≡◌, ◌≢◌, ◌<◌, List, ℕ, map, vec_len, length, sym, subst, ◌∙◌, arith}
+use Rattle.std.proofs.Common.{◌≡◌, ◌≢◌, ◌<◌, ◌≤◌, List, ℕ, map, vec_len, length, sym, subst, ◌∙◌, arith}
 use Rattle.std.proofs.lemmas.Bool.{false≢true}
 use Rattle.std.proofs.lemmas.Bool.Decides.{Decides-eqb}
+use Rattle.pb_order.specs.declared.graph.Step.{Step}
 use Rattle.pb_order.specs.declared.levels.Extent.{Extent}
 use Rattle.pb_order.specs.Order.{IsOrder}
 use Rattle.pb_order.specs.Working.{AreRising, node_of, IsOrdered, AreByKey}
@@ -42,3 +43,6 @@ returns-clause-order c =
     let none : length c.in_ok-circle.circle.items ≡ 0 = omega (arith, (Decides-eqb _ 0).0 (sym c.is_empty.ensures ∙ c.if-not-is_empty.false)) in
     let ordered = subst (λ (x : List Extent). IsOrdered c.args.nodes.now (map node_of x) c.in-Ok.plan.items) c.deref-2.ensures.value c.in-Ok.ensures.ordered in
     subst (IsOrder c.args.nodes.now c.args.roots.now) (sym c.from_vec.ensures) (plan_is _ _ _ (built_from _ _ _ _ c.in_ok-extents.ensures.survey ordered) (straight_from _ _ _ are none))
+
+pub returns-clause-few : goal.returns-clause-few
+returns-clause-few c = subst (λ (x : List Step). length x ≤ c.args.most) (sym c.from_vec.ensures) c.in-Ok.ensures.few

@@ -2,6 +2,8 @@ use Rattle.std.proofs.Common.{List, ℕ, subst, sym, take, ◌+◌}
 use Rattle.std.specs.List.{AllZip}
 use Rattle.pb_order.proofs.Elements.{zip_more}
 use Rattle.pb_order.specs.declared.graph.Step.{Step}
+use Rattle.pb_order.specs.declared.ranks.Rank.{Rank}
+use Rattle.std.proofs.lemmas.List.{take_all}
 use Rattle.pb_order.specs.Working.{IsPlaced}
 use Rattle.pb_order.proofs.order.steps_of.Goals as goal
 
@@ -15,3 +17,11 @@ loop-rank-preserved c =
       long = c.in_ok-item.ensures.long;
       clear = c.in_ok-item.ensures.clear;
     }
+
+pub returns : goal.returns
+returns c = record {
+  places = c.in_ok-places.places.items;
+  told = c.in_ok-places.ensures;
+  each = subst (λ (x : List Rank). AllZip (IsPlaced c.args.nodes.now c.in_ok-places.places.items) x c.loop-rank.plan.items)
+      (take_all c.loop-rank.rank-index c.args.ranks.now c.loop-rank-test.false) c.loop-rank.invariant.each;
+}

@@ -1,5 +1,5 @@
 use Rattle.pb_record.proofs.InputLemmas.{no_file}
 use Rattle.pb_record.proofs.inputs.file_at.Goals as goal
 
-pub returns-in-None : goal.returns-in-None
-returns-in-None c = no_file (rw c.in-None.is at c.in_ok-found.ensures)
+pub returns-in-Ok-None : goal.returns-in-Ok-None
+returns-in-Ok-None c = no_file (rw c.in-Ok-None.field-0-is at c.in-Ok-None.ensures)

@@ -4,4 +4,4 @@ use Rattle.pb_soundness.specs.Reuse.{number_if}
 use Rattle.pb_store.proofs.differing.standing_number.Goals as goal
 
 pub returns-in-Ok-clause-ok : goal.returns-in-Ok-clause-ok
-returns-in-Ok-clause-ok g c tells = c.number_if.ensures ∙ ap number_if (c.in-Ok.ensures.ok reading reading_reads tells)
+returns-in-Ok-clause-ok g c tells = c.number_if-number.ensures ∙ ap number_if (c.in-Ok.ensures.ok reading reading_reads tells)

@@ -41,8 +41,8 @@ returns-in-Ok-sum_up g c =
     c.drive-driven.new.flight _ flown story c.in-Ok-driven.ensures.finished c.drain.ensures.most c.in-Ok-sum_up.summary c.in-Ok-sum_up.ensures
     (c.in-Ok-nothing_noted-2.ensures ∙ ap (map (λ (u : Planned). None)) c.units-2.ensures)
 
-pub returns-in-Ok-driven : goal.returns-in-Ok-driven
-returns-in-Ok-driven g c =
+pub returns-in-Err-sum_up : goal.returns-in-Err-sum_up
+returns-in-Err-sum_up g c =
     let first : UnitCrew = record { setup = c.args.setup; project = c.args.project; store = c.args.store; done = c.in-Ok-nothing_noted.done; aloft = c.new.result; started = c.new-2.result; reasons = c.in-Ok-nothing_noted-2.reasons } in
     let at : Moment = moment (g.P.Place.world c.args.place.now) (g.P.Place.counts c.args.place.now) (g.P.Place.most c.args.place.now) (g.O.Out.taken c.args.out.now) (g.O.Out.faults c.args.out.now) in
     let mid : Moment = moment (g.P.Place.world c.drive-driven.new.place) (g.P.Place.counts c.drive-driven.new.place) (g.P.Place.most c.drive-driven.new.place) (g.O.Out.taken c.drive-driven.new.out) (g.O.Out.faults c.drive-driven.new.out) in
@@ -55,8 +55,8 @@ returns-in-Ok-driven g c =
     c.drain.ensures.most _ None c.drive-driven.new.turn flown.flies refl (untold g.P.Place.tells g.P.Place.child g.T.Turn.turns first c.drive-driven.new.crew c.drain.new.crew c.args.turn.now c.drive-driven.new.turn at mid new (g.P.Place.still c.drive-driven.new.place) (g.P.Place.still c.drain.new.place) es said
     c.drain.ensures.drained c.drain.ensures.landed refl c.drain.ensures.same c.drain.ensures.changes c.drain.ensures.unrecorded c.drain.ensures.happened c.drain.ensures.began c.drain.ensures.started c.drive-driven.new.flight.given story)
 
-pub returns : goal.returns
-returns g c =
+pub returns-in-Err-driven : goal.returns-in-Err-driven
+returns-in-Err-driven g c =
     let first : UnitCrew = record { setup = c.args.setup; project = c.args.project; store = c.args.store; done = c.in-Ok-nothing_noted.done; aloft = c.new.result; started = c.new-2.result; reasons = c.in-Ok-nothing_noted-2.reasons } in
     let at : Moment = moment (g.P.Place.world c.args.place.now) (g.P.Place.counts c.args.place.now) (g.P.Place.most c.args.place.now) (g.O.Out.taken c.args.out.now) (g.O.Out.faults c.args.out.now) in
     let mid : Moment = moment (g.P.Place.world c.drive-driven.new.place) (g.P.Place.counts c.drive-driven.new.place) (g.P.Place.most c.drive-driven.new.place) (g.O.Out.taken c.drive-driven.new.out) (g.O.Out.faults c.drive-driven.new.out) in

@@ -16,25 +16,25 @@ unfolding workspace_of
 returns-clause-ok g c told =
     told_step (λ w parts. workspace_in (from_nothing c.args.target.now w) c.args.target.now (frame_of (folder_of c.args.manifest.now) c.args.manifest.now parts.workspace) parts.profiles parts.tables parts.found) _ _ _ _ _
     (c.in_ok-parts.ensures.ok told) (c.in_ok-parts.ensures.same told)
-    (subst (λ f. Told c.workspace_in.result (workspace_in (from_nothing c.args.target.now (g.P.Place.world c.root_parts.new.place)) c.args.target.now f c.in_ok-parts.parts.profiles c.in_ok-parts.parts.tables c.in_ok-parts.parts.found))
+    (subst (λ f. Told c.workspace_in-loaded.result (workspace_in (from_nothing c.args.target.now (g.P.Place.world c.root_parts.new.place)) c.args.target.now f c.in_ok-parts.parts.profiles c.in_ok-parts.parts.tables c.in_ok-parts.parts.found))
     (c.frame_of-frame.ensures ∙ ap (λ root. frame_of root c.in_ok-path.path c.in_ok-parts.parts.workspace) c.in_ok-root.ensures ∙ ap (λ path. frame_of (folder_of c.args.manifest.now) path c.in_ok-parts.parts.workspace) c.in_ok-path.ensures)
-    (c.workspace_in.ensures.ok told))
+    (c.workspace_in-loaded.ensures.ok told))
 
 pub returns-clause-reads : goal.returns-clause-reads
-returns-clause-reads g c = reads_step c.workspace_in.result (g.P.Place.counts c.args.place.now) (g.P.Place.counts c.root_parts.new.place) (g.P.Place.counts c.workspace_in.new.place) c.in_ok-parts.ensures.reads.0 c.in_ok-parts.ensures.reads.1 c.workspace_in.ensures.reads
+returns-clause-reads g c = reads_step c.workspace_in-loaded.result (g.P.Place.counts c.args.place.now) (g.P.Place.counts c.root_parts.new.place) (g.P.Place.counts c.workspace_in-loaded.new.place) c.in_ok-parts.ensures.reads.0 c.in_ok-parts.ensures.reads.1 c.workspace_in-loaded.ensures.reads
 
 pub returns-clause-looks : goal.returns-clause-looks
 unfolding looked_at
 returns-clause-looks g c told =
-    looks_step c.workspace_in.result
+    looks_step c.workspace_in-loaded.result
     (λ w parts. packages_looked c.args.target.now (from_nothing c.args.target.now w) (frame_of (folder_of c.args.manifest.now) c.args.manifest.now parts.workspace) parts.tables parts.found)
     (λ w. root_parts (from_nothing c.args.target.now w) c.args.manifest.now) (λ w. root_looked c.args.target.now c.args.manifest.now) c.in_ok-parts.parts
     (g.P.Place.world c.args.place.now) (g.P.Place.world c.args.place.now) (g.P.Place.world c.root_parts.new.place)
-    (g.P.Place.counts c.args.place.now) (g.P.Place.counts c.root_parts.new.place) (g.P.Place.counts c.workspace_in.new.place)
+    (g.P.Place.counts c.args.place.now) (g.P.Place.counts c.root_parts.new.place) (g.P.Place.counts c.workspace_in-loaded.new.place)
     refl (c.in_ok-parts.ensures.same told) (c.in_ok-parts.ensures.ok told) c.in_ok-parts.ensures.looks
-    (subst (λ f. Looks c.workspace_in.result (packages_looked c.args.target.now (from_nothing c.args.target.now (g.P.Place.world c.root_parts.new.place)) f c.in_ok-parts.parts.tables c.in_ok-parts.parts.found) (g.P.Place.counts c.root_parts.new.place) (g.P.Place.counts c.workspace_in.new.place))
+    (subst (λ f. Looks c.workspace_in-loaded.result (packages_looked c.args.target.now (from_nothing c.args.target.now (g.P.Place.world c.root_parts.new.place)) f c.in_ok-parts.parts.tables c.in_ok-parts.parts.found) (g.P.Place.counts c.root_parts.new.place) (g.P.Place.counts c.workspace_in-loaded.new.place))
     (c.frame_of-frame.ensures ∙ ap (λ root. frame_of root c.in_ok-path.path c.in_ok-parts.parts.workspace) c.in_ok-root.ensures ∙ ap (λ path. frame_of (folder_of c.args.manifest.now) path c.in_ok-parts.parts.workspace) c.in_ok-path.ensures)
-    (c.workspace_in.ensures.looks told))
+    (c.workspace_in-loaded.ensures.looks told))
 
 pub returns-in_err-root-clause-looks : goal.returns-in_err-root-clause-looks
 returns-in_err-root-clause-looks g c told =

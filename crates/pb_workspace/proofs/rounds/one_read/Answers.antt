@@ -8,11 +8,11 @@ use Rattle.pb_workspace.proofs.rounds.one_read.Goals as goal
 
 pub returns-clause-kept : goal.returns-clause-kept
 returns-clause-kept g c = (
-  few_kept c.args.reading c.in_ok-made.made c.args.folder c.in_ok-draft.draft (search rules) c.in_ok-made.ensures,
-  each_kept c.args.reading c.in_ok-made.made c.args.folder c.in_ok-draft.draft c.requires.1 c.in_ok-draft.ensures.folder c.in_ok-draft.ensures.draft c.in_ok-made.ensures,
+  few_kept c.args.reading c.in_ok-made.made c.args.folder c.in-Ok.draft (search rules) c.in_ok-made.ensures,
+  each_kept c.args.reading c.in_ok-made.made c.args.folder c.in-Ok.draft c.requires.1 c.in-Ok.ensures.folder c.in-Ok.ensures.draft c.in_ok-made.ensures,
 )
 
 pub returns-in_err-made-clause-looks : goal.returns-in_err-made-clause-looks
 returns-in_err-made-clause-looks g c told =
-    let h = looks_all OutOfMemory (folder_looked c.args.target.now (from_nothing c.args.target.now (g.P.Place.world c.args.place.now)) c.args.frame.now c.args.folder) (g.P.Place.counts c.args.place.now) (g.P.Place.counts c.draft_at.new.place) refl (c.in_ok-draft.ensures.looks told) in
+    let h = looks_all OutOfMemory (folder_looked c.args.target.now (from_nothing c.args.target.now (g.P.Place.world c.args.place.now)) c.args.frame.now c.args.folder) (g.P.Place.counts c.args.place.now) (g.P.Place.counts c.draft_at.new.place) refl (c.in-Ok.ensures.looks told) in
     search (rules, h)

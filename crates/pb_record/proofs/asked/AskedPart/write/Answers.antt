@@ -2,4 +2,4 @@ use Rattle.std.proofs.lemmas.List.{append_assoc}
 use Rattle.pb_record.proofs.asked.AskedPart.write.Goals as goal
 
 pub returns-clause-written : goal.returns-clause-written
-returns-clause-written c = rw (c.in_ok-write-8.ensures.written, c.in_ok-write-7.ensures.written, c.in_ok-write-6.ensures.written, c.in_ok-write-5.ensures.written, c.in_ok-write-4.ensures.written, c.in_ok-write-3.ensures.written, c.in_ok-write-2.ensures.written, c.in_ok-write.ensures.written) (simp append_assoc)
+returns-clause-written c = rw (c.in_ok-write_places.ensures.written, c.in_ok-write_command.ensures.written) (simp append_assoc)

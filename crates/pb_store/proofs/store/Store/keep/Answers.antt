@@ -23,14 +23,14 @@ returns-in-Ok-put_record-clause-ahead g c read is told before has ahead =
     (kept_before _ _ _ _ c.args.command.now _ _ _ c.args.ended.now _ before has (c.in-Ok.ensures.ok read is told))
     (subst (λ (w : World). IsAhead (record_at read c.args.self.now.folder w.files) c.args.self.now.next) (sym (c.in-Ok.ensures.same told)) ahead)
 
-pub returns-clause-sound : goal.returns-clause-sound
-returns-clause-sound g c read judge is told may sound =
+pub returns-in-Err-put_record-clause-sound : goal.returns-in-Err-put_record-clause-sound
+returns-in-Err-put_record-clause-sound g c read judge is told may sound =
     c.in-Err-put_record.ensures.sound read judge c.args.number is told
     (may_keep _ _ _ _ _ _ _ _ _ _ _ _ _ (c.in-Ok.ensures.same told) c.as_str.ensures.normal c.requires.key c.requires.out may (c.in-Ok.ensures.ok read is told))
     (subst (λ (w : World). Sound read judge g.P.Place.child c.args.self.now.folder w.files) (sym (c.in-Ok.ensures.same told)) sound)
 
-pub returns-clause-ahead : goal.returns-clause-ahead
-returns-clause-ahead g c read is told before has ahead =
+pub returns-in-Err-put_record-clause-ahead : goal.returns-in-Err-put_record-clause-ahead
+returns-in-Err-put_record-clause-ahead g c read is told before has ahead =
     c.in-Err-put_record.ensures.ahead read c.args.self.now.next is told
     (kept_before _ _ _ _ c.args.command.now _ _ _ c.args.ended.now _ before has (c.in-Ok.ensures.ok read is told))
     (subst (λ (w : World). IsAhead (record_at read c.args.self.now.folder w.files) c.args.self.now.next) (sym (c.in-Ok.ensures.same told)) ahead)
@@ -38,11 +38,11 @@ returns-clause-ahead g c read is told before has ahead =
 pub returns-in-Err-clause-written : goal.returns-in-Err-clause-written
 returns-in-Err-clause-written g c is = absurd (no_write _ c.in-Err.ensures.takes.1.0 is)
 
-pub returns-clause-before : goal.returns-clause-before
-returns-clause-before g c told look = absurd (no_look _ c.in-Err-put_record.ensures.takes.1.0 look)
+pub returns-in-Err-put_record-clause-before : goal.returns-in-Err-put_record-clause-before
+returns-in-Err-put_record-clause-before g c told look = absurd (no_look _ c.in-Err-put_record.ensures.takes.1.0 look)
 
-pub returns-clause-written : goal.returns-clause-written
-returns-clause-written g c is = named_once _ _ _ _ c.in-Err-put_record.ensures.calls is
+pub returns-in-Err-put_record-clause-written : goal.returns-in-Err-put_record-clause-written
+returns-in-Err-put_record-clause-written g c is = named_once _ _ _ _ c.in-Err-put_record.ensures.calls is
 
 pub returns-in-Err-clause-calls : goal.returns-in-Err-clause-calls
 returns-in-Err-clause-calls g c told = stops_first _ _ _ _ _ (c.in-Err.ensures.looks told)
@@ -51,5 +51,5 @@ pub returns-in-Ok-put_record-clause-calls : goal.returns-in-Ok-put_record-clause
 returns-in-Ok-put_record-clause-calls g c told =
     made_both (needs_looked c.args.self.now.folder c.args.needs.now ++ names_looked c.args.command.now.target (g.P.Place.world c.args.place.now) c.args.names.now) (place_of c.args.self.now.folder c.args.key.now ∷ []) (g.P.Place.counts c.args.place.now) _ _ (c.in-Ok.ensures.looks told) c.in-Ok-put_record.ensures.calls
 
-pub returns-clause-calls : goal.returns-clause-calls
-returns-clause-calls g c told = stops_then _ _ _ _ _ _ (c.in-Ok.ensures.looks told) (ends_stops _ _ _ _ c.in-Err-put_record.ensures.takes.1.0 c.in-Err-put_record.ensures.calls)
+pub returns-in-Err-put_record-clause-calls : goal.returns-in-Err-put_record-clause-calls
+returns-in-Err-put_record-clause-calls g c told = stops_then _ _ _ _ _ _ (c.in-Ok.ensures.looks told) (ends_stops _ _ _ _ c.in-Err-put_record.ensures.takes.1.0 c.in-Err-put_record.ensures.calls)

@@ -1,6 +1,0 @@
-use Rattle.std.proofs.Common.{◌≡◌, drop, None}
-use Rattle.pb_mini.specs.CommandLine.{after, arguments_after}
-use Rattle.pb_mini.proofs.command_line.arguments_of.Given as goal
-
-abbrev pub invariant-loop-word : goal.invariant-loop-word
-invariant-loop-word l = after l.said (arguments_after l.waiting (drop l.word-index l.words)) ≡ arguments_after None l.words
