@@ -6,7 +6,7 @@ use pb_project::UnitFault;
 use pb_store::Difference;
 
 /// What a build that came to its end says.
-#[derive(Debug, Drop)]
+#[derive(Drop)]
 pub struct Summary {
     /// Whether all units are good.
     pub success: bool,
