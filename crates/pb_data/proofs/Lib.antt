@@ -1,2 +1,4 @@
 pub mod MentionLemmas
 pub mod TableLemmas
+pub mod Looking
+pub mod NextLemmas

@@ -1,7 +1,7 @@
 use Rattle.std.proofs.Common.{◌≡◌, ◌-◌, List, ℕ, zero, suc, ap, refl, arith, slice_get}
 use Rattle.pb_flight.specs.declared.flight.State.{State}
 use Rattle.pb_flight.specs.Working.{ends_badly, is_bad_at}
-use Rattle.pb_flight.proofs.Looking.{looked_past, looked_within}
+use Rattle.pb_data.proofs.Looking.{looked_past, looked_within}
 use Rattle.pb_flight.proofs.flight.ends_badly.Goals as goal
 
 by_last : {F : Type 0} (count : ℕ) (states : List (State F)) → (count ≡ 0 → ⊥) → ends_badly count states ≡ is_bad_at (slice_get states (count - 1))

@@ -1,5 +1,5 @@
 use Rattle.std.proofs.Common.{rules}
-use Rattle.pb_flight.proofs.Looking.{looked_past, looked_within}
+use Rattle.pb_data.proofs.Looking.{looked_past, looked_within}
 use Rattle.pb_flight.proofs.flight.is_good_at.Goals as goal
 
 pub get-requires : goal.get-requires

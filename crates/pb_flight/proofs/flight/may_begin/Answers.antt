@@ -1,6 +1,6 @@
 use Rattle.std.proofs.Common.{ap, Some}
 use Rattle.std.proofs.lemmas.Option.{slice_get-map}
-use Rattle.pb_flight.proofs.Looking.{looked_past, looked_within}
+use Rattle.pb_data.proofs.Looking.{looked_past, looked_within}
 use Rattle.pb_flight.proofs.flight.may_begin.Goals as goal
 
 pub returns-in_default : goal.returns-in_default

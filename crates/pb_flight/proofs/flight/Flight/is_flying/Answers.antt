@@ -1,5 +1,5 @@
 use Rattle.std.proofs.Common.{rules}
-use Rattle.pb_flight.proofs.Looking.{looked_past, looked_within}
+use Rattle.pb_data.proofs.Looking.{looked_past, looked_within}
 use Rattle.pb_flight.proofs.flight.Flight.is_flying.Goals as goal
 
 pub returns-in-None : goal.returns-in-None
