@@ -89,10 +89,11 @@ fn compile_answered(
     ensures { Gives unit_fault.OutOfMemory (λ a. a) result (compile_answered command.now (option_map (λ bytes. bytes.now) dep_info.entry)) }
 {
     let info = read_info(alloc, dep_info)?;
-    let inputs = info_inputs(alloc, command, &info)?;
+    let inputs = info_inputs(alloc, command, &info);
+    drop(info);
     Ok(Answered {
         directives: None,
-        inputs,
+        inputs: inputs?,
     })
 }
 

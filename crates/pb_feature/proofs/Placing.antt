@@ -1,8 +1,6 @@
 -- What a loop has placed so far.
-use Rattle.std.proofs.Common.{◌≡◌, ◌∙◌, ◌<◌, ◌≤◌, ◌+◌, ◌∷◌, ◌++◌, ℕ, List, length, drop, slice_get, slice_index_or, nat_lt, true, false, Some, None, refl, sym, ap, append_assoc, append-nil}
-use Rattle.std.proofs.lemmas.Bool.{ltb-true, ltb-false}
+use Rattle.std.proofs.Common.{◌≡◌, ◌∙◌, ◌<◌, ◌≤◌, ◌+◌, ◌∷◌, ◌++◌, ℕ, List, length, drop, slice_index_or, sym, ap, append_assoc, append-nil}
 use Rattle.std.proofs.lemmas.List.{drop_more, drop_all}
-use Rattle.std.proofs.lemmas.Option.{slice_get_past, slice_get_read}
 use Rattle.pb_closure.specs.Placed.{placed}
 
 -- the rest begins with the element
@@ -15,11 +13,3 @@ placed_more f xs i x out new whole rest is so_far = rw (is, append_assoc) (rw re
 
 pub placed_all : {A B : Type 0} (f : ℕ → A → List B) (xs : List A) (i : ℕ) (out whole : List B) → length xs ≤ i → out ++ placed f i (drop i xs) ≡ whole → out ≡ whole
 placed_all f xs i out whole past so_far = rw (drop_all i xs past, append-nil) at so_far
-
--- what a look into a slice says of the element there
-
-pub looked_past : {A : Type 0} (xs : List A) (i : ℕ) → false ≡ nat_lt i (length xs) → slice_get xs i ≡ None
-looked_past xs i e = slice_get_past xs i (ltb-false i (length xs) (sym e))
-
-pub looked_within : {A : Type 0} (xs : List A) (i : ℕ) (x : A) → true ≡ nat_lt i (length xs) → x ≡ slice_index_or xs i x → slice_get xs i ≡ Some x
-looked_within xs i x e is = slice_get_read xs (length xs) i x refl (ltb-true i (length xs) (sym e)) is

@@ -1,4 +1,3 @@
 mod Finding
-mod Nexts
 mod Variables
 mod Silence

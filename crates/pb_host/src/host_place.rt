@@ -107,7 +107,9 @@ impl<'a, R: Files + Env + Processes + AllocGlobal> HostPlace<'a, R> {
 fn kept_of<K: Drop>(flying: Flying<K>) -> K
     ensures { result ≡ flying.kept }
 {
-    flying.kept
+    let Flying { child, kept } = flying;
+    drop(child);
+    kept
 }
 
 /// What is told of a child in flight: its ticket and its command.

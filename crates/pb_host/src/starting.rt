@@ -98,7 +98,9 @@ fn begin<R: Processes>(
     made.stdin(Stdio::null());
     made.stdout(Stdio::piped());
     made.stderr(Stdio::piped());
-    match made.spawn(runtime) {
+    let spawned = made.spawn(runtime);
+    drop(made);
+    match spawned {
         Ok(child) => Ok(child),
         Err(error) => Err(fault_of(error, StartFault::CannotStart)),
     }

@@ -93,9 +93,12 @@ fn add_source<V: View>(
     match (source, text) {
         (Some(source), Some(text)) => {
             let scope = Scope::new(alloc, line, pairs, source)?;
-            add_text(alloc, effects, &scope, view, text.as_str())
+            let added = add_text(alloc, effects, &scope, view, text.as_str());
+            drop(scope);
+            added
         }
         _ => {
+            drop(pairs);
             add_no_source(alloc, effects)?;
             Ok(())
         }

@@ -143,7 +143,6 @@ fn add_lines_of(
 }
 
 /// Names the variable and the file, and adds the file's lines.
-
 fn add_included(
     alloc: Global,
     effects: &mut Effects,

@@ -107,9 +107,19 @@ pub fn answer<V: View>(
 {
     let pairs = table_of(alloc, pairs)?;
     match request_of(alloc, words) {
-        Ok(request) => reply_to(alloc, &request, pairs, view),
-        Err(CommandLineFault::Bad) => bad_command_line(alloc),
-        Err(CommandLineFault::OutOfMemory) => Err(ViewFault::OutOfMemory),
+        Ok(request) => {
+            let reply = reply_to(alloc, &request, pairs, view);
+            drop(request);
+            reply
+        }
+        Err(CommandLineFault::Bad) => {
+            drop(pairs);
+            bad_command_line(alloc)
+        }
+        Err(CommandLineFault::OutOfMemory) => {
+            drop(pairs);
+            Err(ViewFault::OutOfMemory)
+        }
     }
 }
 

@@ -2,11 +2,12 @@
 
 ghost use Rattle.std.specs.Prelude.{◌≡◌, IfOk, OnOk, map};
 ghost use Rattle.pb_data.specs.Mentions.{mentioned_all, once};
+ghost use Rattle.pb_place.specs.Paths.{folder_of};
 ghost use Rattle.pb_mini.specs.Scope.{library_of, with_first, with_firsts, libraries_of, scope_of};
 
 use crate::command_line::CommandLine;
 use crate::lines::name_and_value;
-use pb_data::{Mentions, Table, Text, TryCopy};
+use pb_data::{Mentions, Table, Text, TryCopy, with_next};
 use pb_place::PathText;
 use std::alloc::{AllocError, Global};
 
@@ -59,6 +60,20 @@ fn conditions_of(alloc: Global, given: &[Text]) -> Result<Mentions, AllocError>
     Ok(conditions)
 }
 
+/// The folder of a source, and the libraries and conditions that its lines may name.
+fn parts_of(
+    alloc: Global,
+    line: &CommandLine,
+    source: &PathText,
+) -> Result<(PathText, Table<Text>, Mentions), AllocError>
+    ensures { IfOk result (λ parts. parts ≡ (folder_of source.now, libraries_of line.now.externs, once line.now.conditions)) }
+{
+    let folder = source.folder(alloc)?;
+    let libraries = libraries_of(alloc, line.externs.as_slice())?;
+    let conditions = conditions_of(alloc, line.conditions.as_slice())?;
+    Ok((folder, libraries, conditions))
+}
+
 impl Scope {
     /// The scope of a source at this path.
     pub(crate) fn new(
@@ -69,9 +84,8 @@ impl Scope {
     ) -> Result<Scope, AllocError>
         ensures { IfOk result (λ scope. scope ≡ scope_of line.now pairs source.now) }
     {
-        let folder = source.folder(alloc)?;
-        let libraries = libraries_of(alloc, line.externs.as_slice())?;
-        let conditions = conditions_of(alloc, line.conditions.as_slice())?;
+        let parts = parts_of(alloc, line, source);
+        let (pairs, (folder, libraries, conditions)) = with_next(pairs, parts)?;
         Ok(Scope {
             folder,
             libraries,

@@ -79,7 +79,13 @@ impl Store {
             }
             Some(number) => number,
         };
-        let numbers = numbered(alloc, place, &self.folder, needs)?;
+        let numbers = match numbered(alloc, place, &self.folder, needs) {
+            Ok(numbers) => numbers,
+            Err(fault) => {
+                drop(kept);
+                return Err(fault);
+            }
+        };
         let kept = numbered_record(kept, number, numbers);
         // Before the write: a torn one may have used the number.
         self.next = number_after(number);

@@ -31,7 +31,18 @@ pub(crate) fn again(kept: Record) -> Replayed
     ensures { result ≡ replayed kept }
 {
     let numbered = number_of(&kept).is_some();
-    let Record { stdout, stderr, .. } = kept;
+    let Record {
+        key,
+        asked,
+        inputs,
+        needed,
+        stdout,
+        stderr,
+    } = kept;
+    drop(key);
+    drop(asked);
+    drop(inputs);
+    drop(needed);
     Replayed {
         ended: Ended {
             status: 0,

@@ -256,18 +256,36 @@ impl Plan {
             Ok(frame) => frame,
             Err(fault) => return Err(fault),
         };
-        let drawing = drawn(alloc, selected, features)?;
+        let drawing = match drawn(alloc, selected, features) {
+            Ok(drawing) => drawing,
+            Err(_) => {
+                drop(frame);
+                return Err(PlanFault::OutOfMemory);
+            }
+        };
         let steps = match ordered(alloc, selected, features, &drawing) {
             Ok(steps) => steps,
-            Err(fault) => return Err(fault),
+            Err(fault) => {
+                drop(frame);
+                drop(drawing);
+                return Err(fault);
+            }
         };
         let units = drawing.units.as_slice();
-        let planned = all_made(alloc, workspace, &frame, units, steps.into_vec())?;
-        let without_library = without_library(alloc, workspace, features)?;
-        Ok(Plan {
-            planned: Items::from_vec(planned),
-            without_library,
-        })
+        let planned = all_made(alloc, workspace, &frame, units, steps.into_vec());
+        drop(frame);
+        drop(drawing);
+        let planned = planned?;
+        match without_library(alloc, workspace, features) {
+            Ok(without_library) => Ok(Plan {
+                planned: Items::from_vec(planned),
+                without_library,
+            }),
+            Err(_) => {
+                drop(planned);
+                Err(PlanFault::OutOfMemory)
+            }
+        }
     }
 
     /// The units in plan order. It takes no memory.

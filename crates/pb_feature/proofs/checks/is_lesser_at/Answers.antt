@@ -1,4 +1,4 @@
-use Rattle.pb_feature.proofs.Placing.{looked_past, looked_within}
+use Rattle.pb_data.proofs.Looking.{looked_past, looked_within}
 use Rattle.pb_feature.proofs.checks.is_lesser_at.Goals as goal
 
 pub returns-in-Some-Some : goal.returns-in-Some-Some

@@ -1,5 +1,5 @@
 use Rattle.std.proofs.Common.{rules}
-use Rattle.pb_host.proofs.Nexts.{next_failed}
+use Rattle.pb_data.proofs.NextLemmas.{next_failed}
 use Rattle.pb_host.proofs.host_place.HostPlace.begin.Goals as goal
 
 pub returns-in_err-child-2-clause-fault : goal.returns-in_err-child-2-clause-fault

@@ -25,37 +25,37 @@ returns-in-Err-ordered-clause-refused c = elim c.in-Err-ordered.ensures.stopped 
   | inr stops ↦ inr (by_units c.in-Err-ordered.fault (record { line = map seen c.in-Ok.frame.line.items; is = subst (λ (ws : Workspace). profile_line ws c.args.profile.now ≡ Ok (map seen c.in-Ok.frame.line.items)) c.workspace_of-workspace.ensures.value c.in-Ok.ensures.line }) stops)
 ]
 
-pub all_made-requires-clause-nodes : goal.all_made-requires-clause-nodes
-all_made-requires-clause-nodes c =
-    subst (λ (l : List Step). All (λ (s : Step). s.node < length c.as_slice-units.result.now) l) (sym c.into_vec.ensures) (steps_within c.args.selected.now.workspace c.args.features.now c.args.selected.now.selection c.workspace_of-workspace.ensures.settled c.workspace_of-workspace.ensures.within _ _ _ c.in_ok-drawing.ensures _ c.in-Ok-ordered.ensures.order _ c.as_slice-units.ensures)
+pub all_made-planned-requires-clause-nodes : goal.all_made-planned-requires-clause-nodes
+all_made-planned-requires-clause-nodes c =
+    subst (λ (l : List Step). All (λ (s : Step). s.node < length c.as_slice-units.result.now) l) (sym c.into_vec.ensures) (steps_within c.args.selected.now.workspace c.args.features.now c.args.selected.now.selection c.workspace_of-workspace.ensures.settled c.workspace_of-workspace.ensures.within _ _ _ c.in-Ok-drawn.ensures _ c.in-Ok-ordered.ensures.order _ c.as_slice-units.ensures)
 
-pub all_made-requires-clause-owners : goal.all_made-requires-clause-owners
-all_made-requires-clause-owners c =
+pub all_made-planned-requires-clause-owners : goal.all_made-planned-requires-clause-owners
+all_made-planned-requires-clause-owners c =
     subst (λ (ws : Workspace). All (λ (u : Unit). u.owner < length ws.packages) c.as_slice-units.result.now) (sym c.workspace_of-workspace.ensures.value)
-    (owners_there c.args.selected.now.workspace c.args.features.now c.args.selected.now.selection _ c.workspace_of-workspace.ensures.settled c.workspace_of-workspace.ensures.within c.in_ok-drawing.ensures.candidates _ c.as_slice-units.ensures)
+    (owners_there c.args.selected.now.workspace c.args.features.now c.args.selected.now.selection _ c.workspace_of-workspace.ensures.settled c.workspace_of-workspace.ensures.within c.in-Ok-drawn.ensures.candidates _ c.as_slice-units.ensures)
 
-pub all_made-requires-clause-names : goal.all_made-requires-clause-names
-all_made-requires-clause-names c =
-    subst (λ (l : List Step). All (λ (s : Step). is_relative s.key ≡ true) l) (sym c.into_vec.ensures) (steps_relative c.args.selected.now.workspace c.args.features.now c.args.selected.now.selection c.workspace_of-workspace.ensures.settled c.workspace_of-workspace.ensures.within _ _ _ c.in_ok-drawing.ensures _ c.in-Ok-ordered.ensures.order)
+pub all_made-planned-requires-clause-names : goal.all_made-planned-requires-clause-names
+all_made-planned-requires-clause-names c =
+    subst (λ (l : List Step). All (λ (s : Step). is_relative s.key ≡ true) l) (sym c.into_vec.ensures) (steps_relative c.args.selected.now.workspace c.args.features.now c.args.selected.now.selection c.workspace_of-workspace.ensures.settled c.workspace_of-workspace.ensures.within _ _ _ c.in-Ok-drawn.ensures _ c.in-Ok-ordered.ensures.order)
 
-pub returns-clause-plan : goal.returns-clause-plan
-returns-clause-plan c =
+pub returns-in-Ok-without_library-clause-plan : goal.returns-in-Ok-without_library-clause-plan
+returns-in-Ok-without_library-clause-plan c =
     let line = map seen c.in-Ok.frame.line.items in
-    let made : AllZip (IsMade c.args.selected.now.workspace line c.in-Ok.frame.folder c.in_ok-drawing.drawing.units) c.in-Ok-ordered.steps c.from_vec.result =
-    subst (λ (l : List Planned). AllZip (IsMade c.args.selected.now.workspace line c.in-Ok.frame.folder c.in_ok-drawing.drawing.units) c.in-Ok-ordered.steps l) (sym c.from_vec.ensures)
-    (subst (λ (s : List Step). AllZip (IsMade c.args.selected.now.workspace line c.in-Ok.frame.folder c.in_ok-drawing.drawing.units) s c.in_ok-planned.planned.items) c.into_vec.ensures
+    let made : AllZip (IsMade c.args.selected.now.workspace line c.in-Ok.frame.folder c.in-Ok-drawn.drawing.units) c.in-Ok-ordered.steps c.from_vec.result =
+    subst (λ (l : List Planned). AllZip (IsMade c.args.selected.now.workspace line c.in-Ok.frame.folder c.in-Ok-drawn.drawing.units) c.in-Ok-ordered.steps l) (sym c.from_vec.ensures)
+    (subst (λ (s : List Step). AllZip (IsMade c.args.selected.now.workspace line c.in-Ok.frame.folder c.in-Ok-drawn.drawing.units) s c.in_ok-planned.planned.items) c.into_vec.ensures
     (subst (λ (u : List Unit). AllZip (IsMade c.args.selected.now.workspace line c.in-Ok.frame.folder u) c.into_vec.result.items c.in_ok-planned.planned.items) c.as_slice-units.ensures
     (subst (λ (ws : Workspace). AllZip (IsMade ws line c.in-Ok.frame.folder c.as_slice-units.result.now) c.into_vec.result.items c.in_ok-planned.planned.items) c.workspace_of-workspace.ensures.value c.in_ok-planned.ensures))) in
-    plan_is c.args.selected.now.workspace c.args.features.now c.args.selected.now.selection c.workspace_of-workspace.ensures.settled c.workspace_of-workspace.ensures.within _ _ _ c.in_ok-drawing.ensures c.in-Ok-ordered.steps c.in-Ok-ordered.ensures.order line c.in-Ok.frame.folder c.from_vec.result made c.args.profile.now _
+    plan_is c.args.selected.now.workspace c.args.features.now c.args.selected.now.selection c.workspace_of-workspace.ensures.settled c.workspace_of-workspace.ensures.within _ _ _ c.in-Ok-drawn.ensures c.in-Ok-ordered.steps c.in-Ok-ordered.ensures.order line c.in-Ok.frame.folder c.from_vec.result made c.args.profile.now _
     (subst (λ (ws : Workspace). profile_line ws c.args.profile.now ≡ Ok line) c.workspace_of-workspace.ensures.value c.in-Ok.ensures.line) (c.in-Ok.ensures.folder ∙ ap (λ (ws : Workspace). profile_folder ws c.args.profile.now) c.workspace_of-workspace.ensures.value) c.in-Ok-ordered.ensures.some c.in-Ok-ordered.ensures.few
-    (subst (λ (ws : Workspace). AreWithoutLibrary ws c.args.features.now c.in_ok-without_library.without_library) c.workspace_of-workspace.ensures.value c.in_ok-without_library.ensures)
+    (subst (λ (ws : Workspace). AreWithoutLibrary ws c.args.features.now c.in-Ok-without_library.without_library) c.workspace_of-workspace.ensures.value c.in-Ok-without_library.ensures)
 
-pub returns-clause-apart : goal.returns-clause-apart
-returns-clause-apart c =
+pub returns-in-Ok-without_library-clause-apart : goal.returns-in-Ok-without_library-clause-apart
+returns-in-Ok-without_library-clause-apart c =
     let line = map seen c.in-Ok.frame.line.items in
-    let made : AllZip (IsMade c.args.selected.now.workspace line c.in-Ok.frame.folder c.in_ok-drawing.drawing.units) c.in-Ok-ordered.steps c.from_vec.result =
-    subst (λ (l : List Planned). AllZip (IsMade c.args.selected.now.workspace line c.in-Ok.frame.folder c.in_ok-drawing.drawing.units) c.in-Ok-ordered.steps l) (sym c.from_vec.ensures)
-    (subst (λ (s : List Step). AllZip (IsMade c.args.selected.now.workspace line c.in-Ok.frame.folder c.in_ok-drawing.drawing.units) s c.in_ok-planned.planned.items) c.into_vec.ensures
+    let made : AllZip (IsMade c.args.selected.now.workspace line c.in-Ok.frame.folder c.in-Ok-drawn.drawing.units) c.in-Ok-ordered.steps c.from_vec.result =
+    subst (λ (l : List Planned). AllZip (IsMade c.args.selected.now.workspace line c.in-Ok.frame.folder c.in-Ok-drawn.drawing.units) c.in-Ok-ordered.steps l) (sym c.from_vec.ensures)
+    (subst (λ (s : List Step). AllZip (IsMade c.args.selected.now.workspace line c.in-Ok.frame.folder c.in-Ok-drawn.drawing.units) s c.in_ok-planned.planned.items) c.into_vec.ensures
     (subst (λ (u : List Unit). AllZip (IsMade c.args.selected.now.workspace line c.in-Ok.frame.folder u) c.into_vec.result.items c.in_ok-planned.planned.items) c.as_slice-units.ensures
     (subst (λ (ws : Workspace). AllZip (IsMade ws line c.in-Ok.frame.folder c.as_slice-units.result.now) c.into_vec.result.items c.in_ok-planned.planned.items) c.workspace_of-workspace.ensures.value c.in_ok-planned.ensures))) in
-    apart_is c.args.selected.now.workspace c.args.features.now c.args.selected.now.selection c.workspace_of-workspace.ensures.settled c.workspace_of-workspace.ensures.within _ _ _ c.in_ok-drawing.ensures c.in-Ok-ordered.steps c.in-Ok-ordered.ensures.order line c.in-Ok.frame.folder c.from_vec.result made c.in-Ok.ensures.path
+    apart_is c.args.selected.now.workspace c.args.features.now c.args.selected.now.selection c.workspace_of-workspace.ensures.settled c.workspace_of-workspace.ensures.within _ _ _ c.in-Ok-drawn.ensures c.in-Ok-ordered.steps c.in-Ok-ordered.ensures.order line c.in-Ok.frame.folder c.from_vec.result made c.in-Ok.ensures.path
