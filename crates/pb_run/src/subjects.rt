@@ -4,7 +4,7 @@ ghost use Rattle.std.specs.Prelude.{◌≡◌, IfOk, find};
 ghost use Rattle.std.specs.Str.{bytes_eq};
 ghost use Rattle.pb_run.specs.Telling.{library_of, binary_of, script_of, target_of, subject_with, subject_in, subject_of, lines_by, unit_lines};
 
-use pb_data::{Text, TryCopy};
+use pb_data::{Text, TryCopy, with_next};
 use pb_message::{Message, Subject, Target, lines_of};
 use pb_package::{Library, Package};
 use pb_place::PathText;
@@ -83,6 +83,20 @@ fn target_of(alloc: Global, owner: &Package, what: &What) -> Result<Option<Targe
     }
 }
 
+/// Copies of a package's name, version, folder and manifest.
+fn copied_of(
+    alloc: Global,
+    owner: &Package,
+) -> Result<(Text, Text, PathText, PathText), AllocError>
+    ensures { IfOk result (λ copied. copied ≡ (owner.now.name, owner.now.version, owner.now.folder, owner.now.manifest)) }
+{
+    let name = owner.name.copy(alloc)?;
+    let version = owner.version.text().copy(alloc)?;
+    let folder = owner.folder.copy(alloc)?;
+    let manifest = owner.manifest.copy(alloc)?;
+    Ok((name, version, folder, manifest))
+}
+
 /// The package and this target as lines show them.
 fn subject_with(
     alloc: Global,
@@ -93,13 +107,17 @@ fn subject_with(
 {
     match target {
         None => Ok(None),
-        Some(target) => Ok(Some(Subject {
-            name: owner.name.copy(alloc)?,
-            version: owner.version.text().copy(alloc)?,
-            folder: owner.folder.copy(alloc)?,
-            manifest: owner.manifest.copy(alloc)?,
-            target,
-        })),
+        Some(target) => {
+            let copied = copied_of(alloc, owner);
+            let (target, (name, version, folder, manifest)) = with_next(target, copied)?;
+            Ok(Some(Subject {
+                name,
+                version,
+                folder,
+                manifest,
+                target,
+            }))
+        }
     }
 }
 
