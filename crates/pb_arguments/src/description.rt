@@ -1,42 +1,105 @@
 //! The words that the program takes, as help tells them.
 
-ghost use Rattle.std.specs.Prelude.{◌≡◌, IfOk, false};
-ghost use Rattle.clap.specs.Walk.{rule_of};
-ghost use Rattle.clap.specs.Simple.{app_of};
+ghost use Rattle.std.specs.Prelude.{◌≡◌, IfOk, Some, None, false, List, length, map, option_map, IsOkAnd, true};
+ghost use Rattle.clap.specs.Walk.{Rule, rule_of};
+ghost use Rattle.clap.specs.Simple.{app_of, new_rule, shape_of, with_subcommand};
 ghost use Rattle.clap.specs.declared.builder.value_parser.ValueParser.{ValueParser};
-ghost use Rattle.pb_arguments.specs.Description.{flag, option, options, selection, features, at_one_time, telling, places, with_rules, IsJson, build, session, program};
+ghost use Rattle.clap.specs.declared.builder.value_parser.ValueParser.TheVariants.{Names};
+ghost use Rattle.pb_arguments.specs.Description.{with_rules, IsJson, build, session, program};
+ghost use Rattle.pb_arguments.specs.declared.description.Described.{Described};
 
 use clap::{Arg, ArgAction, Command};
+use pb_data::with_next;
 use std::alloc::{AllocError, Global};
 
-/// An option without a value.
-fn flag<'a>(alloc: Global, name: &'a str, help: &'a str) -> Arg<'a>
-    ensures rule { rule_of result ≡ flag name.now }
-    ensures local { result.global ≡ false }
-{
-    Arg::new(alloc, name)
-        .long(name)
-        .action(ArgAction::SetTrue)
-        .help(help)
+/// An option of a build, as the command line has it and help tells it.
+struct Described {
+    /// What stands behind two hyphens.
+    name: &'static str,
+    /// What stands behind one, where it has a letter.
+    short: Option<char>,
+    /// What a use of it does, where that is more than to keep one value.
+    action: Option<ArgAction>,
+    /// What help calls its value; none where it takes no value.
+    value: &'static [&'static str],
+    /// What its value may be, where that is not any text.
+    among: Option<&'static [&'static str]>,
+    /// What it is for.
+    help: &'static str,
 }
 
-/// An option with a value.
-fn option<'a>(alloc: Global, name: &'a str, value: &'a str, help: &'a str) -> Arg<'a>
-    ensures rule { rule_of result ≡ option name.now }
-    ensures local { result.global ≡ false }
+/// An argument with a letter, if there is one.
+fn with_short<'a>(arg: Arg<'a>, short: Option<char>) -> Arg<'a>
+    ensures rule { (rule_of arg.entry).short ≡ None → rule_of result ≡ record (rule_of arg.entry) { short = short } }
+    ensures local { result.global ≡ arg.entry.global }
 {
-    Arg::new(alloc, name)
-        .long(name)
-        .value_name(value)
-        .help(help)
+    match short {
+        Some(short) => arg.short(short),
+        None => arg,
+    }
 }
 
-/// An option that may be given more than once, each time with a value.
-fn options<'a>(alloc: Global, name: &'a str, value: &'a str, help: &'a str) -> Arg<'a>
-    ensures rule { rule_of result ≡ options name.now }
+/// An argument with what a use of it does, if that is said.
+fn with_action<'a>(arg: Arg<'a>, action: Option<ArgAction>) -> Arg<'a>
+    ensures rule { (rule_of arg.entry).action ≡ None → rule_of result ≡ record (rule_of arg.entry) { action = action } }
+    ensures local { result.global ≡ arg.entry.global }
+{
+    match action {
+        Some(action) => arg.action(action),
+        None => arg,
+    }
+}
+
+/// An argument with what its value may be, if that is said.
+fn with_names<'a>(arg: Arg<'a>, among: Option<&'a [&'a str]>) -> Arg<'a>
+    ensures rule { (rule_of arg.entry).parser ≡ None → rule_of result ≡ record (rule_of arg.entry) { parser = option_map Names among.entry } }
+    ensures local { result.global ≡ arg.entry.global }
+{
+    match among {
+        Some(names) => arg.value_parser(names),
+        None => arg,
+    }
+}
+
+/// The argument that an option of a build is.
+fn arg_of<'a>(alloc: Global, option: &Described) -> Arg<'a>
+    ensures rule { rule_of result ≡ record (new_rule option.now.name.now) {
+      long = Some option.now.name.now;
+      short = option.now.short;
+      action = option.now.action;
+      value_names = length option.now.value.now;
+      parser = option_map Names option.now.among;
+    } }
     ensures local { result.global ≡ false }
 {
-    option(alloc, name, value, help).action(ArgAction::Append)
+    let arg = Arg::new(alloc, option.name)
+        .long(option.name)
+        .value_names(option.value)
+        .help(option.help);
+    let arg = with_short(arg, option.short);
+    let arg = with_action(arg, option.action);
+    with_names(arg, option.among)
+}
+
+/// A command with these options behind those that it has.
+fn with_options<'a>(
+    alloc: Global,
+    command: Command<'a>,
+    options: &[Described],
+) -> Result<Command<'a>, AllocError>
+    ensures { IfOk result (λ new. (rules : List Rule) × (rules ≡ map (λ (option : Described). record (new_rule option.name.now) {
+      long = Some option.name.now;
+      short = option.short;
+      action = option.action;
+      value_names = length option.value.now;
+      parser = option_map Names option.among;
+    }) options.now) × (app_of new ≡ with_rules rules (app_of command.entry))) }
+{
+    let mut command = command;
+    for option in options {
+        command = command.arg(arg_of(alloc, option))?;
+    }
+    Ok(command)
 }
 
 /// `pb_tool session FILE`.
@@ -49,125 +112,145 @@ fn session_command<'a>(alloc: Global) -> Result<Command<'a>, AllocError>
     let command = Command::new(alloc, "session").about(
         "Runs a session in memory and prints its message lines and results",
     );
-    let command = command.arg(file)?;
-    Ok(command)
+    command.arg(file)
 }
 
-/// What of the workspace is built.
-fn with_selection<'a>(alloc: Global, command: Command<'a>) -> Result<Command<'a>, AllocError>
-    ensures { IfOk result (λ new. app_of new ≡ with_rules selection (app_of command.entry)) }
-{
-    let package = options(
-        alloc,
-        "package",
-        "NAME",
-        "Build this member of the workspace",
-    );
-    let workspace = flag(alloc, "workspace", "Build all members of the workspace");
-    let lib = flag(alloc, "lib", "Build the libraries of the selected packages");
-    let bins = flag(alloc, "bins", "Build all their binaries");
-    let bin = options(alloc, "bin", "NAME", "Build their binaries of this name");
-    let command = command.arg(package.short('p'))?;
-    let command = command.arg(workspace)?;
-    let command = command.arg(lib)?;
-    let command = command.arg(bins)?;
-    let command = command.arg(bin)?;
-    Ok(command)
-}
-
-/// Which features are on, and how it is compiled.
-fn with_features<'a>(alloc: Global, command: Command<'a>) -> Result<Command<'a>, AllocError>
-    ensures { IfOk result (λ new. app_of new ≡ with_rules features (app_of command.entry)) }
-{
-    let named = options(
-        alloc,
-        "features",
-        "FEATURES",
-        "Features to turn on, with commas or spaces between them",
-    )
-    .short('F');
-    let all = flag(
-        alloc,
-        "all-features",
-        "Turn on all features of the selected packages",
-    );
-    let none = flag(
-        alloc,
-        "no-default-features",
-        "Leave out their feature `default`",
-    );
-    let profile = option(alloc, "profile", "NAME", "Build under this profile");
-    let release = flag(alloc, "release", "Build under the profile `release`");
-    let command = command.arg(named)?;
-    let command = command.arg(all)?;
-    let command = command.arg(none)?;
-    let command = command.arg(release.short('r'))?;
-    let command = command.arg(profile)?;
-    Ok(command)
-}
-
-/// How much is done at one time.
-fn with_jobs<'a>(alloc: Global, command: Command<'a>) -> Result<Command<'a>, AllocError>
-    ensures { IfOk result (λ new. app_of new ≡ with_rules at_one_time (app_of command.entry)) }
-{
-    let jobs = option(
-        alloc,
-        "jobs",
-        "N",
-        "How many units may be in flight at one time (default 1)",
-    );
-    let command = command.arg(jobs.short('j'))?;
-    Ok(command)
-}
-
-/// What is told beside the messages.
-fn with_telling<'a>(alloc: Global, command: Command<'a>) -> Result<Command<'a>, AllocError>
-    ensures { IfOk result (λ new. app_of new ≡ with_rules telling (app_of command.entry)) }
-{
-    let explain = flag(
-        alloc,
-        "explain",
-        "Say on standard error why each child was started",
-    );
-    let command = command.arg(explain)?;
-    Ok(command)
-}
-
-/// Where it is read from and written to.
-fn with_places<'a>(alloc: Global, command: Command<'a>) -> Result<Command<'a>, AllocError>
-    ensures { IfOk result (λ new. (formats : ValueParser) × IsJson formats × (app_of new ≡ with_rules (places formats) (app_of command.entry))) }
-{
-    let formats: &'a [&'a str] = &["json"];
-    let manifest = option(
-        alloc,
-        "manifest-path",
-        "PATH",
-        "The path of the root `Cargo.toml`",
-    );
-    let target = option(
-        alloc,
-        "target-dir",
-        "FOLDER",
-        "The folder for all that is made",
-    );
-    let format = option(
-        alloc,
-        "message-format",
-        "FORMAT",
-        "How messages are printed: JSON lines",
-    );
-    let runner = option(
-        alloc,
-        "runner",
-        "WORDS",
-        "A program and its words, put before the path of a build script",
-    );
-    let command = command.arg(manifest)?;
-    let command = command.arg(target)?;
-    let command = command.arg(format.value_parser(formats))?;
-    let command = command.arg(runner)?;
-    Ok(command)
-}
+/// The options of a build, in the order of help.
+static OPTIONS: [Described; 16] = [
+    // What of the workspace is built.
+    Described {
+        name: "package",
+        short: Some('p'),
+        action: Some(ArgAction::Append),
+        value: &["NAME"],
+        among: None,
+        help: "Build this member of the workspace",
+    },
+    Described {
+        name: "workspace",
+        short: None,
+        action: Some(ArgAction::SetTrue),
+        value: &[],
+        among: None,
+        help: "Build all members of the workspace",
+    },
+    Described {
+        name: "lib",
+        short: None,
+        action: Some(ArgAction::SetTrue),
+        value: &[],
+        among: None,
+        help: "Build the libraries of the selected packages",
+    },
+    Described {
+        name: "bins",
+        short: None,
+        action: Some(ArgAction::SetTrue),
+        value: &[],
+        among: None,
+        help: "Build all their binaries",
+    },
+    Described {
+        name: "bin",
+        short: None,
+        action: Some(ArgAction::Append),
+        value: &["NAME"],
+        among: None,
+        help: "Build their binaries of this name",
+    },
+    // Which features are on, and how it is compiled.
+    Described {
+        name: "features",
+        short: Some('F'),
+        action: Some(ArgAction::Append),
+        value: &["FEATURES"],
+        among: None,
+        help: "Features to turn on, with commas or spaces between them",
+    },
+    Described {
+        name: "all-features",
+        short: None,
+        action: Some(ArgAction::SetTrue),
+        value: &[],
+        among: None,
+        help: "Turn on all features of the selected packages",
+    },
+    Described {
+        name: "no-default-features",
+        short: None,
+        action: Some(ArgAction::SetTrue),
+        value: &[],
+        among: None,
+        help: "Leave out their feature `default`",
+    },
+    Described {
+        name: "release",
+        short: Some('r'),
+        action: Some(ArgAction::SetTrue),
+        value: &[],
+        among: None,
+        help: "Build under the profile `release`",
+    },
+    Described {
+        name: "profile",
+        short: None,
+        action: None,
+        value: &["NAME"],
+        among: None,
+        help: "Build under this profile",
+    },
+    // How much is done at one time.
+    Described {
+        name: "jobs",
+        short: Some('j'),
+        action: None,
+        value: &["N"],
+        among: None,
+        help: "How many units may be in flight at one time (default 1)",
+    },
+    // What is told beside the messages.
+    Described {
+        name: "explain",
+        short: None,
+        action: Some(ArgAction::SetTrue),
+        value: &[],
+        among: None,
+        help: "Say on standard error why each child was started",
+    },
+    // Where it is read from and written to.
+    Described {
+        name: "manifest-path",
+        short: None,
+        action: None,
+        value: &["PATH"],
+        among: None,
+        help: "The path of the root `Cargo.toml`",
+    },
+    Described {
+        name: "target-dir",
+        short: None,
+        action: None,
+        value: &["FOLDER"],
+        among: None,
+        help: "The folder for all that is made",
+    },
+    Described {
+        name: "message-format",
+        short: None,
+        action: None,
+        value: &["FORMAT"],
+        among: Some(&["json"]),
+        help: "How messages are printed: JSON lines",
+    },
+    Described {
+        name: "runner",
+        short: None,
+        action: None,
+        value: &["WORDS"],
+        among: None,
+        help: "A program and its words, put before the path of a build script",
+    },
+];
 
 /// What stands below the options of a build: the variables that count, the statuses, and an example.
 const BELOW_THE_OPTIONS: &str = "Variables:
@@ -190,23 +273,28 @@ fn build_command<'a>(alloc: Global) -> Result<Command<'a>, AllocError>
     let command = Command::new(alloc, "build")
         .about("Builds a workspace of path packages and prints message lines in JSON")
         .after_help(BELOW_THE_OPTIONS);
-    let command = with_selection(alloc, command)?;
-    let command = with_features(alloc, command)?;
-    let command = with_jobs(alloc, command)?;
-    let command = with_telling(alloc, command)?;
-    with_places(alloc, command)
+    with_options(alloc, command, &OPTIONS)
+}
+
+/// A command with one more below it, if there is memory for that one.
+fn with_subcommand<'a>(
+    command: Command<'a>,
+    below: Result<Command<'a>, AllocError>,
+) -> Result<Command<'a>, AllocError>
+    ensures { IfOk result (λ new. IsOkAnd below.entry (λ below.
+        (shape_of below).is_plain ≡ true → app_of new ≡ with_subcommand (app_of command.entry) (shape_of below))) }
+{
+    let (command, below) = with_next(command, below)?;
+    command.subcommand(below)
 }
 
 /// The whole command line.
 pub(crate) fn program<'a>(alloc: Global) -> Result<Command<'a>, AllocError>
     ensures { IfOk result (λ command. (formats : ValueParser) × IsJson formats × (app_of command ≡ program formats)) }
 {
-    let build = build_command(alloc)?;
-    let session = session_command(alloc)?;
     let command = Command::new(alloc, "pb_tool")
         .about("Builds workspaces of path packages")
         .subcommand_required(true);
-    let command = command.subcommand(build)?;
-    let command = command.subcommand(session)?;
-    Ok(command)
+    let command = with_subcommand(command, build_command(alloc))?;
+    with_subcommand(command, session_command(alloc))
 }

@@ -9,13 +9,13 @@ ghost use Rattle.pb_directive.specs.Directives.{words_of};
 ghost use Rattle.pb_place.specs.Paths.{joined};
 ghost use Rattle.pb_place.specs.declared.path.PathFault.{PathFault};
 ghost use Rattle.pb_arguments.specs.Description.{IsJson, program};
-ghost use Rattle.pb_arguments.specs.Asking.{IsFlag, HasTwoProfiles, IsProfile, IsNumber, IsJobs, HasBadJobs, IsOptions, IsTaken, BuildsWrongly, AsksBy, Asks, AsksWrongly, Unasks, values_of, tool_of, path_told, profiles_told, jobs_told};
+ghost use Rattle.pb_arguments.specs.Asking.{IsFlag, HasTwoProfiles, IsProfile, IsNumber, IsJobs, HasBadJobs, IsOptions, IsTaken, BuildsWrongly, AsksBy, Asks, AsksWrongly, Unasks, manifest_of, values_of, tool_of, path_told, profiles_told, jobs_told};
 ghost use Rattle.pb_arguments.specs.Private.{ToldWrong, RefusedBy};
 
 use crate::asked::{Asked, Unasked, bad_jobs, bad_path, no_command, two_profiles, unasked_of};
 use crate::description::program;
 use clap::ArgMatches;
-use pb_data::{Items, Text};
+use pb_data::{Items, Text, with_next};
 use pb_directive::words::words_of;
 use pb_package::Options;
 use pb_place::PathText;
@@ -140,6 +140,147 @@ fn path_of(alloc: Global, folder: &PathText, text: &str) -> Result<PathText, Una
     }
 }
 
+/// What of a build's options may be wrong.
+#[derive(Drop)]
+struct Judged {
+    manifest: PathText,
+    profile: Text,
+    jobs: u64,
+}
+
+/// What of them is named, each by any number of texts.
+#[derive(Drop)]
+struct Named {
+    packages: Items<Text>,
+    features: Items<Text>,
+    bin: Items<Text>,
+}
+
+/// Where all that is made goes, and whom a build starts: what runs the build scripts, and the builder itself.
+#[derive(Drop)]
+struct Tools {
+    target_dir: Option<Text>,
+    runner: Items<Text>,
+    tool: Text,
+}
+
+/// Which options without a value were given.
+#[derive(Clone, Copy)]
+struct Flags {
+    workspace: bool,
+    all_features: bool,
+    no_default_features: bool,
+    lib: bool,
+    bins: bool,
+}
+
+/// What of a build's options may be wrong. A relative path of the manifest starts at the folder.
+fn judged_of(alloc: Global, folder: &PathText, matches: &ArgMatches<'_>) -> Result<Judged, Unasked>
+    ensures manifest { IfOk result (λ judged. joined folder.now (manifest_of (rows_of (found_of matches.now))) ≡ Ok judged.manifest) }
+    ensures profile { IfOk result (λ judged. IsProfile (rows_of (found_of matches.now)) judged.profile) }
+    ensures jobs { IfOk result (λ judged. IsJobs (first_of (codes "jobs") (rows_of (found_of matches.now))) judged.jobs) }
+    ensures wrong { IfErr result (ToldWrong (BuildsWrongly folder.now (rows_of (found_of matches.now)))) }
+{
+    let manifest = path_of(
+        alloc,
+        folder,
+        first_or(matches, "manifest-path", "Cargo.toml"),
+    )?;
+    let profile = profile_of(alloc, matches)?;
+    let jobs = jobs_of(alloc, matches)?;
+    Ok(Judged {
+        manifest,
+        profile,
+        jobs,
+    })
+}
+
+/// What of a build's options is named.
+fn named_of(alloc: Global, matches: &ArgMatches<'_>) -> Result<Named, AllocError>
+    ensures packages { IfOk result (λ named. named.packages ≡ values_of (codes "package") (rows_of (found_of matches.now))) }
+    ensures features { IfOk result (λ named. named.features ≡ values_of (codes "features") (rows_of (found_of matches.now))) }
+    ensures bin { IfOk result (λ named. named.bin ≡ values_of (codes "bin") (rows_of (found_of matches.now))) }
+{
+    let packages = values_of(alloc, matches, "package")?;
+    let features = values_of(alloc, matches, "features")?;
+    let bin = values_of(alloc, matches, "bin")?;
+    Ok(Named {
+        packages,
+        features,
+        bin,
+    })
+}
+
+/// Where all that is made goes, and whom a build starts.
+fn tools_of(alloc: Global, tool: &str, matches: &ArgMatches<'_>) -> Result<Tools, AllocError>
+    ensures target_dir { IfOk result (λ tools. tools.target_dir ≡ first_of (codes "target-dir") (rows_of (found_of matches.now))) }
+    ensures runner { IfOk result (λ tools. tools.runner ≡ words_of (unwrap_or (first_of (codes "runner") (rows_of (found_of matches.now))) [])) }
+    ensures tool { IfOk result (λ tools. tools.tool ≡ tool.now) }
+{
+    let target_dir = value_of(alloc, matches, "target-dir")?;
+    let runner = parted(alloc, first_or(matches, "runner", ""))?;
+    let tool = Text::from_str(alloc, tool)?;
+    Ok(Tools {
+        target_dir,
+        runner,
+        tool,
+    })
+}
+
+/// Which options without a value were given.
+fn flags_of(matches: &ArgMatches<'_>) -> Flags
+    ensures workspace { IsFlag (codes "workspace") (rows_of (found_of matches.now)) result.workspace }
+    ensures all_features { IsFlag (codes "all-features") (rows_of (found_of matches.now)) result.all_features }
+    ensures no_default_features { IsFlag (codes "no-default-features") (rows_of (found_of matches.now)) result.no_default_features }
+    ensures lib { IsFlag (codes "lib") (rows_of (found_of matches.now)) result.lib }
+    ensures bins { IsFlag (codes "bins") (rows_of (found_of matches.now)) result.bins }
+{
+    Flags {
+        workspace: is_given(matches, "workspace"),
+        all_features: is_given(matches, "all-features"),
+        no_default_features: is_given(matches, "no-default-features"),
+        lib: is_given(matches, "lib"),
+        bins: is_given(matches, "bins"),
+    }
+}
+
+/// Options of their parts.
+fn joined_of(judged: Judged, named: Named, tools: Tools, flags: Flags) -> Options
+    ensures { result ≡ record {
+      manifest = judged.manifest;
+      packages = named.packages;
+      workspace = flags.workspace;
+      features = named.features;
+      all_features = flags.all_features;
+      no_default_features = flags.no_default_features;
+      profile = judged.profile;
+      lib = flags.lib;
+      bins = flags.bins;
+      bin = named.bin;
+      target_dir = tools.target_dir;
+      runner = tools.runner;
+      tool = tools.tool;
+      jobs = judged.jobs;
+    } }
+{
+    Options {
+        manifest: judged.manifest,
+        packages: named.packages,
+        workspace: flags.workspace,
+        features: named.features,
+        all_features: flags.all_features,
+        no_default_features: flags.no_default_features,
+        profile: judged.profile,
+        lib: flags.lib,
+        bins: flags.bins,
+        bin: named.bin,
+        target_dir: tools.target_dir,
+        runner: tools.runner,
+        tool: tools.tool,
+        jobs: judged.jobs,
+    }
+}
+
 /// What `pb_tool build` asks for. A relative path of the manifest starts at the current folder.
 fn options_of(
     alloc: Global,
@@ -150,35 +291,12 @@ fn options_of(
     ensures options { IfOk result (IsOptions tool.now folder.now (rows_of (found_of matches.now))) }
     ensures wrong { IfErr result (ToldWrong (BuildsWrongly folder.now (rows_of (found_of matches.now)))) }
 {
-    let manifest = path_of(
-        alloc,
-        folder,
-        first_or(matches, "manifest-path", "Cargo.toml"),
-    )?;
-    let packages = values_of(alloc, matches, "package")?;
-    let features = values_of(alloc, matches, "features")?;
-    let profile = profile_of(alloc, matches)?;
-    let jobs = jobs_of(alloc, matches)?;
-    let bin = values_of(alloc, matches, "bin")?;
-    let target_dir = value_of(alloc, matches, "target-dir")?;
-    let runner = parted(alloc, first_or(matches, "runner", ""))?;
-    let tool = Text::from_str(alloc, tool)?;
-    Ok(Options {
-        manifest,
-        packages,
-        workspace: is_given(matches, "workspace"),
-        features,
-        all_features: is_given(matches, "all-features"),
-        no_default_features: is_given(matches, "no-default-features"),
-        profile,
-        lib: is_given(matches, "lib"),
-        bins: is_given(matches, "bins"),
-        bin,
-        target_dir,
-        runner,
-        tool,
-        jobs,
-    })
+    let judged = judged_of(alloc, folder, matches)?;
+    let named = named_of(alloc, matches);
+    let (judged, named) = with_next(judged, named)?;
+    let tools = tools_of(alloc, tool, matches);
+    let ((judged, named), tools) = with_next((judged, named), tools)?;
+    Ok(joined_of(judged, named, tools, flags_of(matches)))
 }
 
 /// What the subcommand asks for. A relative path of a session's file starts at the current folder.

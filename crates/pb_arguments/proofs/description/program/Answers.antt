@@ -1,16 +1,19 @@
-use Rattle.std.proofs.Common.{◌≡◌, ◌∙◌, ap, ap₂, codes, true}
-use Rattle.clap.specs.Simple.{App, app_of, app_of_fields, shape_of, new_app, with_subcommand}
-use Rattle.clap.proofs.SimpleLemmas.{plain_fields}
+use Rattle.std.proofs.Common.{◌≡◌, ◌∙◌, ap, ap₂, codes, true, IfOk, IsOkAnd, Result, Ok, Err}
+use Rattle.std.proofs.lemmas.Result.{IfOk-weaker}
+use Rattle.clap.specs.Simple.{App, app_of, app_of_fields, new_app, with_subcommand}
 use Rattle.pb_arguments.proofs.description.program.Goals as goal
+
+-- what holds of the value, and what it has where there is one
+both : {T E : Type 0} (r : Result T E) (P Q : T → Type 0) → IsOkAnd r P → IfOk r Q → (t : T) × P t × Q t
+both (Ok t) P Q holds has = (t, holds, has)
+both (Err e) P Q holds has = absurd holds
 
 pub returns : goal.returns
 returns c =
-    let build_is = c.in_ok-build.ensures in
-    let session_is = c.in_ok-session.ensures in
-    let build_plain : (shape_of c.in_ok-build.build).is_plain ≡ true = ap (λ (a : App). a.top.is_plain) build_is.2 in
-    let session_plain : (shape_of c.in_ok-session.session).is_plain ≡ true = ap (λ (a : App). a.top.is_plain) session_is in
     let about_is : app_of c.about.result ≡ new_app (codes "pb_tool") = ap app_of_fields c.about.ensures ∙ c.new.ensures.app in
     let start_is = ap app_of_fields c.subcommand_required-command.ensures ∙ ap (λ (a : App). record a { top = record a.top { subcommand_required = true } }) about_is in
-    let first = c.in_ok-command.ensures.shape (plain_fields c.in_ok-build.build build_plain).globals ∙ ap₂ with_subcommand start_is (ap (λ (a : App). a.top) build_is.2) in
-    let second = c.in_ok-command-2.ensures.shape (plain_fields c.in_ok-session.session session_plain).globals ∙ ap₂ with_subcommand first (ap (λ (a : App). a.top) session_is) in
-    (build_is.0, build_is.1, second)
+    let (build, adds_build, (formats, json, build_is)) = both c.build_command.result _ _ c.in_ok-command.ensures c.build_command.ensures in
+    let first = adds_build (ap (λ (a : App). a.top.is_plain) build_is) ∙ ap₂ with_subcommand start_is (ap (λ (a : App). a.top) build_is) in
+    IfOk-weaker c.with_subcommand-2.result _ _ (λ new adds.
+    let (session, adds_session, session_is) = both c.session_command.result _ _ adds c.session_command.ensures in
+    (formats, json, adds_session (ap (λ (a : App). a.top.is_plain) session_is) ∙ ap₂ with_subcommand first (ap (λ (a : App). a.top) session_is))) c.with_subcommand-2.ensures

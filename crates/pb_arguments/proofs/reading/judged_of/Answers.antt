@@ -2,7 +2,7 @@ use Rattle.std.proofs.Common.{rules}
 use Rattle.clap.specs.Matches.{found_of}
 use Rattle.clap.specs.Walk.{rows_of}
 use Rattle.pb_arguments.proofs.Refused.{told_by, wrong_jobs, wrong_manifest, wrong_profile}
-use Rattle.pb_arguments.proofs.reading.options_of.Goals as goal
+use Rattle.pb_arguments.proofs.reading.judged_of.Goals as goal
 
 pub returns-in_err-manifest-clause-wrong : goal.returns-in_err-manifest-clause-wrong
 returns-in_err-manifest-clause-wrong c =
