@@ -227,8 +227,25 @@ def noted(crate, count, left):
     write(path, HEAD + "".join(rows[name] for name in sorted(rows)))
 
 
+def since(row):
+    """What changed in a crate since its row of `LAST.md` was written; "" where nothing did."""
+    crate, commit = row
+    ran = subprocess.run(["git", "-C", TOP, "diff", "--shortstat", commit.rstrip("*"), "--", f"crates/{crate}/src", f"crates/{crate}/specs", f"bench/edits/{crate}"], capture_output=True, text=True, check=False)
+    return ran.stdout.strip() if ran.returncode == 0 else f"{commit} is no commit here"
+
+
+def aged():
+    """Prints the crates that changed since their row of `LAST.md`, and returns whether there are some."""
+    rows = re.findall(r"^\| `(\w+)` \| \S+ \| (\S+) \|", read(f"{TOP}/bench/edits/LAST.md"), re.M)
+    told = [f"{row[0]}: {since(row)}" for row in rows if since(row)]
+    print("".join(f"{it}\n" for it in told) + f"{len(rows)} rows, {len(told)} older than what they are about")
+    return bool(told)
+
+
 def main():
     words = sys.argv[1:]
+    if words == ["--aged"]:
+        sys.exit(1 if aged() else 0)
     only_texts = words[:1] == ["--texts"]
     crates = words[1:] if only_texts else words
     crates = crates or sorted(os.listdir(f"{TOP}/crates"))

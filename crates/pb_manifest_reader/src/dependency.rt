@@ -10,7 +10,7 @@ use crate::entry::{
     FirstKeys, LastKeys, at_path, first_keys, refused_where, version_and_workspace,
 };
 use crate::values::{has, path_at, table_at, takes_workspace};
-use pb_data::{Items, Text};
+use pb_data::{Items, Text, with_next};
 use pb_manifest::letters::is_name;
 use pb_manifest::{Dependency, Key, ManifestFault, Requirement, Source, WrittenPath};
 use std::alloc::Global;
@@ -61,8 +61,8 @@ fn dependency_keys(alloc: Global, name: &str, table: &Table) -> Result<Dependenc
     ensures { Gives result (dependency_keys name.now (table_view table.now)) }
 {
     let first = first_keys(alloc, false, table)?;
-    let last = last_keys(alloc, table)?;
-    let key = Text::from_str(alloc, name)?;
+    let (first, last) = with_next(first, last_keys(alloc, table))?;
+    let ((first, last), key) = with_next((first, last), Text::from_str(alloc, name))?;
     let FirstKeys {
         default_features,
         features,
@@ -95,10 +95,7 @@ fn dependency_of(
         return Err(ManifestFault::UnsupportedSource);
     }
     match value.as_table() {
-        Some(table) => {
-            let dependency = dependency_keys(alloc, name, table)?;
-            Ok(dependency)
-        }
+        Some(table) => dependency_keys(alloc, name, table),
         None => Err(ManifestFault::BadKind(key)),
     }
 }
@@ -128,9 +125,6 @@ pub(crate) fn dependencies_at(
 {
     match table_at(table, key)? {
         None => Ok(Items::new(alloc)),
-        Some(entries) => {
-            let dependencies = each_dependency(alloc, key, entries)?;
-            Ok(dependencies)
-        }
+        Some(entries) => each_dependency(alloc, key, entries),
     }
 }

@@ -221,6 +221,5 @@ pub fn read_manifest(alloc: Global, bytes: &[u8]) -> Result<Manifest, ManifestFa
         return Err(ManifestFault::TooLarge);
     }
     let table = document_in(alloc, bytes)?;
-    let manifest = document_of(alloc, &table)?;
-    Ok(manifest)
+    document_of(alloc, &table)
 }

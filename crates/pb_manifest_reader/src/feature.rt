@@ -65,14 +65,8 @@ fn whole_item(alloc: Global, text: &str) -> Result<FeatureItem, ManifestFault>
     ensures { Gives result (whole_item text.now (parted 58 text.now)) }
 {
     match parted_at_colon(text) {
-        None => {
-            let item = own_item(alloc, text)?;
-            Ok(item)
-        }
-        Some((word, name)) => {
-            let item = dependency_item(alloc, word, name)?;
-            Ok(item)
-        }
+        None => own_item(alloc, text),
+        Some((word, name)) => dependency_item(alloc, word, name),
     }
 }
 
@@ -116,14 +110,8 @@ fn parted_item(alloc: Global, name: &str, feature: &str) -> Result<FeatureItem, 
     ensures { Gives result (parted_item name.now (parted 63 name.now) feature.now) }
 {
     match parted_at_question_mark(name) {
-        None => {
-            let item = item_of(alloc, name, feature)?;
-            Ok(item)
-        }
-        Some((name, between)) => {
-            let item = item_of_enabled(alloc, name, between, feature)?;
-            Ok(item)
-        }
+        None => item_of(alloc, name, feature),
+        Some((name, between)) => item_of_enabled(alloc, name, between, feature),
     }
 }
 
@@ -132,14 +120,8 @@ fn item_in(alloc: Global, text: &str) -> Result<FeatureItem, ManifestFault>
     ensures { Gives result (item_in text.now) }
 {
     match parted_at_slash(text) {
-        None => {
-            let item = whole_item(alloc, text)?;
-            Ok(item)
-        }
-        Some((name, feature)) => {
-            let item = parted_item(alloc, name, feature)?;
-            Ok(item)
-        }
+        None => whole_item(alloc, text),
+        Some((name, feature)) => parted_item(alloc, name, feature),
     }
 }
 
@@ -148,10 +130,7 @@ fn feature_item_of(alloc: Global, value: &Value) -> Result<FeatureItem, Manifest
     ensures { Gives result (feature_item_of (view value.now)) }
 {
     match value.as_str() {
-        Some(text) => {
-            let item = item_in(alloc, text)?;
-            Ok(item)
-        }
+        Some(text) => item_in(alloc, text),
         None => Err(ManifestFault::BadKind(Key::Features)),
     }
 }
@@ -197,9 +176,6 @@ pub(crate) fn features_at(alloc: Global, table: &Table) -> Result<Items<Feature>
 {
     match table_at(table, Key::Features)? {
         None => Ok(Items::new(alloc)),
-        Some(entries) => {
-            let features = each_feature(alloc, entries)?;
-            Ok(features)
-        }
+        Some(entries) => each_feature(alloc, entries),
     }
 }

@@ -69,8 +69,7 @@ fn name_in(text: Option<Text>) -> Result<Text, ManifestFault>
 pub(crate) fn name_at(alloc: Global, table: &Table) -> Result<Text, ManifestFault>
     ensures { Gives result (name_at (table_view table.now)) }
 {
-    let name = name_in(text_at(alloc, table, Key::Name)?)?;
-    Ok(name)
+    name_in(text_at(alloc, table, Key::Name)?)
 }
 
 /// The edition of a text.
@@ -91,8 +90,7 @@ fn edition_of(alloc: Global, value: &Value) -> Result<Edition, ManifestFault>
     ensures { Gives result (edition_of (view value.now)) }
 {
     let text = text_of(alloc, value, Key::Edition)?;
-    let edition = edition_in(&text)?;
-    Ok(edition)
+    edition_in(&text)
 }
 
 /// The edition at `edition`, where it is there.
@@ -198,10 +196,7 @@ fn inheritable_readme_at(alloc: Global, table: &Table) -> Result<Inheritable<Rea
 {
     match value_at(table, Key::Readme) {
         None => Ok(Inheritable::Absent),
-        Some(value) => {
-            let readme = readme_or_taken(alloc, value)?;
-            Ok(readme)
-        }
+        Some(value) => readme_or_taken(alloc, value),
     }
 }
 

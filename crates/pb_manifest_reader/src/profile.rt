@@ -98,10 +98,7 @@ fn overrides_at(alloc: Global, table: &Table) -> Result<Items<ProfileOverride>, 
 {
     match value_at(table, Key::Package) {
         None => Ok(Items::new(alloc)),
-        Some(value) => {
-            let overrides = each_override(alloc, profile_table(value)?)?;
-            Ok(overrides)
-        }
+        Some(value) => each_override(alloc, profile_table(value)?),
     }
 }
 
@@ -160,8 +157,7 @@ fn profile_of_table(alloc: Global, name: &str, table: &Table) -> Result<Profile,
 fn profile_of(alloc: Global, name: &str, value: &Value) -> Result<Profile, ManifestFault>
     ensures { Gives result (profile_of name.now (view value.now)) }
 {
-    let profile = profile_of_table(alloc, name, profile_table(value)?)?;
-    Ok(profile)
+    profile_of_table(alloc, name, profile_table(value)?)
 }
 
 /// The profiles of a table, in byte order of their names.
@@ -181,9 +177,6 @@ pub(crate) fn profiles_at(alloc: Global, table: &Table) -> Result<Items<Profile>
 {
     match value_at(table, Key::Profile) {
         None => Ok(Items::new(alloc)),
-        Some(value) => {
-            let profiles = each_profile(alloc, profile_table(value)?)?;
-            Ok(profiles)
-        }
+        Some(value) => each_profile(alloc, profile_table(value)?),
     }
 }

@@ -8,7 +8,7 @@ ghost use Rattle.pb_manifest_reader.specs.Dependencies.{supported_path, shared_k
 
 use crate::entry::{FirstKeys, LastKeys, at_path, first_keys, version_and_workspace};
 use crate::values::{has, path_at, table_at};
-use pb_data::{Items, Text};
+use pb_data::{Items, Text, with_next};
 use pb_manifest::letters::is_name;
 use pb_manifest::{
     Key, ManifestFault, Requirement, WorkspaceDependency, WorkspaceSource, WrittenPath,
@@ -63,8 +63,8 @@ fn shared_dependency_keys(
     ensures { Gives result (shared_dependency_keys name.now (table_view table.now)) }
 {
     let first = first_keys(alloc, true, table)?;
-    let last = shared_keys(alloc, table)?;
-    let key = Text::from_str(alloc, name)?;
+    let (first, last) = with_next(first, shared_keys(alloc, table))?;
+    let ((first, last), key) = with_next((first, last), Text::from_str(alloc, name))?;
     let FirstKeys {
         default_features,
         features,
@@ -109,14 +109,10 @@ fn shared_dependency_of(
         return Err(ManifestFault::BadName);
     }
     if let Some(version) = value.as_str() {
-        let dependency = shared_version(alloc, name, version)?;
-        return Ok(dependency);
+        return shared_version(alloc, name, version);
     }
     match value.as_table() {
-        Some(table) => {
-            let dependency = shared_dependency_keys(alloc, name, table)?;
-            Ok(dependency)
-        }
+        Some(table) => shared_dependency_keys(alloc, name, table),
         None => Err(ManifestFault::BadKind(Key::Dependencies)),
     }
 }
@@ -144,9 +140,6 @@ pub(crate) fn shared_dependencies_at(
 {
     match table_at(table, Key::Dependencies)? {
         None => Ok(Items::new(alloc)),
-        Some(entries) => {
-            let dependencies = each_shared_dependency(alloc, entries)?;
-            Ok(dependencies)
-        }
+        Some(entries) => each_shared_dependency(alloc, entries),
     }
 }

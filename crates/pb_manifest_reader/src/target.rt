@@ -34,8 +34,7 @@ fn crate_type_of(alloc: Global, value: &Value) -> Result<CrateType, ManifestFaul
     ensures { Gives result (crate_type_of (view value.now)) }
 {
     let text = text_of(alloc, value, Key::CrateType)?;
-    let crate_type = crate_type_in(&text)?;
-    Ok(crate_type)
+    crate_type_in(&text)
 }
 
 /// The crate types of a list.
@@ -55,10 +54,7 @@ fn crate_types_at(alloc: Global, table: &Table) -> Result<Items<CrateType>, Mani
 {
     match value_at(table, Key::CrateType) {
         None => Ok(Items::new(alloc)),
-        Some(value) => {
-            let crate_types = each_crate_type(alloc, array_of(value, Key::CrateType)?)?;
-            Ok(crate_types)
-        }
+        Some(value) => each_crate_type(alloc, array_of(value, Key::CrateType)?),
     }
 }
 
@@ -121,8 +117,7 @@ fn binary_keys(alloc: Global, table: &Table) -> Result<Binary, ManifestFault>
 fn binary_of(alloc: Global, value: &Value) -> Result<Binary, ManifestFault>
     ensures { Gives result (binary_of (view value.now)) }
 {
-    let binary = binary_keys(alloc, table_of(value, Key::Bin)?)?;
-    Ok(binary)
+    binary_keys(alloc, table_of(value, Key::Bin)?)
 }
 
 /// The binaries of a list, in its order.
@@ -142,9 +137,6 @@ pub(crate) fn binaries_at(alloc: Global, table: &Table) -> Result<Items<Binary>,
 {
     match value_at(table, Key::Bin) {
         None => Ok(Items::new(alloc)),
-        Some(value) => {
-            let binaries = each_binary(alloc, array_of(value, Key::Bin)?)?;
-            Ok(binaries)
-        }
+        Some(value) => each_binary(alloc, array_of(value, Key::Bin)?),
     }
 }

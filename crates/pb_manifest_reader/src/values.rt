@@ -63,8 +63,7 @@ pub(crate) fn path_in(text: Text, key: Key) -> Result<WrittenPath, ManifestFault
 pub(crate) fn path_of(alloc: Global, value: &Value, key: Key) -> Result<WrittenPath, ManifestFault>
     ensures { Gives result (path_of key (view value.now)) }
 {
-    let path = path_in(text_of(alloc, value, key)?, key)?;
-    Ok(path)
+    path_in(text_of(alloc, value, key)?, key)
 }
 
 /// A truth value.
@@ -125,8 +124,7 @@ fn each_path(alloc: Global, values: &[Value], key: Key) -> Result<Items<WrittenP
 pub(crate) fn texts_of(alloc: Global, value: &Value, key: Key) -> Result<Items<Text>, ManifestFault>
     ensures { Gives result (texts_of key (view value.now)) }
 {
-    let texts = each_text(alloc, array_of(value, key)?, key)?;
-    Ok(texts)
+    each_text(alloc, array_of(value, key)?, key)
 }
 
 /// A list of paths.
@@ -137,8 +135,7 @@ pub(crate) fn paths_of(
 ) -> Result<Items<WrittenPath>, ManifestFault>
     ensures { Gives result (paths_of key (view value.now)) }
 {
-    let paths = each_path(alloc, array_of(value, key)?, key)?;
-    Ok(paths)
+    each_path(alloc, array_of(value, key)?, key)
 }
 
 /// The text at a key, where the key is there.
@@ -311,10 +308,7 @@ pub(crate) fn inheritable_text_at(
 {
     match value_at(table, key) {
         None => Ok(Inheritable::Absent),
-        Some(value) => {
-            let text = text_or_taken(alloc, value, key)?;
-            Ok(text)
-        }
+        Some(value) => text_or_taken(alloc, value, key),
     }
 }
 
@@ -328,10 +322,7 @@ pub(crate) fn inheritable_texts_at(
 {
     match value_at(table, key) {
         None => Ok(Inheritable::Absent),
-        Some(value) => {
-            let texts = texts_or_taken(alloc, value, key)?;
-            Ok(texts)
-        }
+        Some(value) => texts_or_taken(alloc, value, key),
     }
 }
 
@@ -356,9 +347,6 @@ pub(crate) fn keys_at(alloc: Global, table: &Table, key: Key) -> Result<Items<Te
     };
     match value.as_table() {
         None => Ok(Items::new(alloc)),
-        Some(entries) => {
-            let keys = keys_of(alloc, entries)?;
-            Ok(keys)
-        }
+        Some(entries) => keys_of(alloc, entries),
     }
 }

@@ -80,10 +80,7 @@ fn inheritable_version_at(
 {
     match value_at(table, Key::Version) {
         None => Ok(Inheritable::Absent),
-        Some(value) => {
-            let version = version_or_taken(alloc, value)?;
-            Ok(version)
-        }
+        Some(value) => version_or_taken(alloc, value),
     }
 }
 

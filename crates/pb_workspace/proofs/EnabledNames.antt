@@ -11,7 +11,7 @@ use Rattle.pb_manifest.specs.declared.feature.Feature.{Feature}
 use Rattle.pb_manifest.specs.declared.feature.FeatureItem.{FeatureItem}
 use Rattle.pb_manifest.specs.declared.feature.FeatureItem.TheVariants as item
 use Rattle.pb_workspace.specs.Enabling.{named_by, named_in, AreEnabledNames, with_one}
-use Rattle.pb_workspace.specs.Features.{enables, is_enabled_by_name, with_made, with_written}
+use Rattle.pb_workspace.specs.Features.{enables, is_enabled_by_name, with_made}
 use Rattle.pb_workspace.specs.Sorted.{with_entry}
 
 or_nothing : (b : Bool) → (b || false) ≡ b
@@ -54,9 +54,3 @@ made_step written names named ds i d es now_es whole lt is made before =
     ap (λ s. with_made written s rest) made
     ∙ ap (λ b. with_made written (if d.optional && not b then with_entry es d.key (item.Dependency d.key ∷ []) else es) rest) (named d.key)
     ∙ sym (ap (with_made written es) (drop-cons ds i d lt ∙ ap (λ n. get_or ds i d ∷ drop n ds) (sym (add-one i)) ∙ ap (λ y. y ∷ rest) (sym is))) ∙ before
-
--- the steps of the whole, one after another
-pub all_put : (written : List Feature) (ds bs : List Dependency) (none one two three items : List (List ℕ × List FeatureItem)) → none ≡ [] → one ≡ with_made written none ds → two ≡ with_made written one bs
-    → three ≡ with_written two written → items ≡ three → items ≡ with_written (with_made written (with_made written [] ds) bs) written
-all_put written ds bs none one two three items a b c d e =
-    e ∙ d ∙ ap (λ es. with_written es written) (c ∙ ap (λ es. with_made written es bs) (b ∙ ap (λ es. with_made written es ds) a))

@@ -9,6 +9,8 @@ pub mod Promised
 pub mod Steps
 pub mod EachOne
 pub mod Looking
+pub mod Failed
+pub mod Leading
 pub mod LookingOver
 pub mod Puttings
 pub mod Naming

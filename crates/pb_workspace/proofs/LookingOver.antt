@@ -22,10 +22,6 @@ pub looks_step : {A B : Type 0} (result : Result B LoadFault) (next : World → 
 looks_step result next answer look x w first now old mid new one two is before more =
     looks_then result (answer w) x (next w) (look w) old mid new (subst (λ v. answer v ≡ Ok x) one is) (subst (λ v. mid ≡ past_calls (look v) old) one before) (subst (λ v. Looks result (next v x) mid new) two more)
 
-pub ends_step : {A : Type 0} (e : LoadFault) (next : World → A → List (List ℕ)) (answer : World → Result A LoadFault) (look : World → List (List ℕ)) (x : A) (w first now : World) (old mid new : Counts)
-    → first ≡ w → now ≡ w → answer first ≡ Ok x → mid ≡ past_calls (look first) old → Ends e (next now x) mid new → Ends e (look w ++ after (answer w) (next w)) old new
-ends_step {A} e next answer look x w first now old mid new one two is before more = looks_step {A = A} {B = ℕ} (Err e) next answer look x w first now old mid new one two is before more
-
 pub looks_stop : {A : Type 0} (e : LoadFault) (next : World → A → List (List ℕ)) (answer : World → Result A LoadFault) (look : World → List (List ℕ)) (w first : World) (old new : Counts)
     → first ≡ w → (is_outside e ≡ false → answer first ≡ Err e) → Ends e (look first) old new → Ends e (look w ++ after (answer w) (next w)) old new
 looks_stop e next answer look w first old new one told before =

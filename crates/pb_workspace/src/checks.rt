@@ -1,32 +1,64 @@
 //! What is refused once all packages are read.
 
-ghost use Rattle.std.specs.Prelude.{◌≡◌, IfOk, IfSome, false};
-ghost use Rattle.std.specs.List.{list_any};
+ghost use Rattle.std.specs.Prelude.{◌≡◌, IfOk, IfSome, false, map};
+ghost use Rattle.std.specs.List.{filter_map, list_any};
 ghost use Rattle.pb_workspace.specs.Causes.{is_failure};
 ghost use Rattle.pb_workspace.specs.declared.draft.Draft.{Draft};
 ghost use Rattle.pb_workspace.specs.Checks.{has_same_names, has_other_name, matches_if, has_other_version, some_leads, links_twice, links_without_script, fault_of};
 ghost use Rattle.pb_workspace.specs.Places.{places_of, draft_in};
+ghost use Rattle.pb_workspace.specs.Settling.{comes_again};
 ghost use Rattle.pb_workspace.specs.declared.wanted.Wanted.{Wanted};
 
+use crate::again::was_mentioned;
 use crate::by_folder::ByFolder;
 use crate::draft::Draft;
 use crate::places::draft_in;
 use crate::wanted::Wanted;
-use pb_data::{Mentions, TryCopy};
+use pb_data::Mentions;
 use pb_manifest::{Requirement, Version};
 use pb_package::LoadFault;
 use std::alloc::{AllocError, Global};
+
+/// Whether a name of these packages comes again, or was mentioned before.
+fn names_come_again(
+    alloc: Global,
+    seen: &mut Mentions,
+    drafts: &[Draft],
+) -> Result<bool, AllocError>
+    ensures { IfOk result (λ answer. answer ≡ comes_again seen.old (map (λ (d : Draft). d.name) drafts.now)) }
+{
+    for draft in drafts {
+        if was_mentioned(alloc, seen, &draft.name)? {
+            return Ok(true);
+        }
+    }
+    Ok(false)
+}
 
 /// Whether two packages have one name.
 fn has_same_names(alloc: Global, drafts: &[Draft]) -> Result<bool, AllocError>
     ensures { IfOk result (λ answer. answer ≡ has_same_names drafts.now) }
 {
     let mut seen = Mentions::new(alloc);
+    let again = names_come_again(alloc, &mut seen, drafts);
+    drop(seen);
+    again
+}
+
+/// Whether a native library that these packages link comes again, or was mentioned before.
+fn links_come_again(
+    alloc: Global,
+    seen: &mut Mentions,
+    drafts: &[Draft],
+) -> Result<bool, AllocError>
+    ensures { IfOk result (λ answer. answer ≡ comes_again seen.old (filter_map (λ (d : Draft). d.links) drafts.now)) }
+{
     for draft in drafts {
-        if seen.contains(&draft.name) {
-            return Ok(true);
+        if let Some(links) = &draft.links {
+            if was_mentioned(alloc, seen, links)? {
+                return Ok(true);
+            }
         }
-        seen.insert(draft.name.copy(alloc)?)?;
     }
     Ok(false)
 }
@@ -36,15 +68,9 @@ fn links_twice(alloc: Global, drafts: &[Draft]) -> Result<bool, AllocError>
     ensures { IfOk result (λ answer. answer ≡ links_twice drafts.now) }
 {
     let mut seen = Mentions::new(alloc);
-    for draft in drafts {
-        if let Some(links) = &draft.links {
-            if seen.contains(links) {
-                return Ok(true);
-            }
-            seen.insert(links.copy(alloc)?)?;
-        }
-    }
-    Ok(false)
+    let again = links_come_again(alloc, &mut seen, drafts);
+    drop(seen);
+    again
 }
 
 /// Whether a version matches what is asked for, if anything is.

@@ -11,7 +11,7 @@ ghost use Rattle.pb_workspace.specs.Enabling.{named_by, named_in, AreEnabledName
 ghost use Rattle.pb_workspace.specs.Drafted.{AreFeatures, IsKeyed, IsWrittenFeature};
 
 use crate::sorted::Sorted;
-use pb_data::{Items, Mentions, Text, TryCopy};
+use pb_data::{Items, Mentions, Text, TryCopy, with_next};
 use pb_manifest::{Dependency, Feature, FeatureItem};
 use pb_package::FeaturesByName;
 use std::alloc::{AllocError, Global};
@@ -144,6 +144,38 @@ fn listed(
     Ok(features)
 }
 
+/// Puts the features that the entries of the two tables make, where some features list `dep:N` for these names.
+fn add_all_made(
+    alloc: Global,
+    names: &Mentions,
+    made: &mut Sorted<Items<FeatureItem>>,
+    dependencies: &[Dependency],
+    build: &[Dependency],
+) -> Result<(), AllocError>
+    ensures { OnOk result ((written : List Feature) → AreEnabledNames names.now written → made.new ≡ with_made written (with_made written made.old dependencies.now) build.now) }
+{
+    add_made(alloc, names, made, dependencies)?;
+    add_made(alloc, names, made, build)?;
+    Ok(())
+}
+
+/// The features that the entries of the two tables make, where these features are written.
+fn made_of(
+    alloc: Global,
+    written: &[Feature],
+    dependencies: &[Dependency],
+    build: &[Dependency],
+) -> Result<Sorted<Items<FeatureItem>>, AllocError>
+    ensures { IfOk result (λ made. made ≡ with_made written.now (with_made written.now [] dependencies.now) build.now) }
+{
+    let names = enabled_names(alloc, written)?;
+    let mut made = Sorted::new(alloc);
+    let added = add_all_made(alloc, &names, &mut made, dependencies, build);
+    drop(names);
+    let (made, ()) = with_next(made, added)?;
+    Ok(made)
+}
+
 /// The features of a package, in byte order of their names, each once (The Cargo Book, Features). An optional
 /// entry N of one of its two tables gives a feature N with the one item `dep:N`, unless some feature lists
 /// `dep:N`; a written feature takes the place of one that is made under its name. The one fault is want of
@@ -160,10 +192,8 @@ pub fn features_of(
     ensures features { IfOk result (λ features. features ≡ features_of written dependencies.now build.now) }
     ensures kept { IfOk result AreFeatures }
 {
-    let names = enabled_names(alloc, written.as_slice())?;
-    let mut made = Sorted::new(alloc);
-    add_made(alloc, &names, &mut made, dependencies)?;
-    add_made(alloc, &names, &mut made, build)?;
+    let made = made_of(alloc, written.as_slice(), dependencies, build);
+    let (written, mut made) = with_next(written, made)?;
     add_written(&mut made, written)?;
     let items = made.into_items(alloc)?;
     let features = listed(alloc, items)?;

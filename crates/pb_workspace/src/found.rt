@@ -9,7 +9,7 @@ ghost use Rattle.pb_workspace.specs.Drafted.{IsWrittenLibrary, IsLibraryNamed};
 
 use crate::listings::{Listings, has_own_file, own_source};
 use crate::source::{own_path, resolved};
-use pb_data::{Items, Text};
+use pb_data::{Items, Text, with_next};
 use pb_manifest::{Build, CrateType, WrittenPath, library_name};
 use pb_package::Library;
 use pb_place::PathText;
@@ -104,8 +104,11 @@ fn written_library(
 ) -> Result<Library, AllocError>
     ensures { IfOk result (λ library. library ≡ written_library folder.now name written) }
 {
-    let source = library_source(alloc, folder, &written.path)?;
-    let crate_types = served_types(alloc, written.crate_types)?;
+    let source = library_source(alloc, folder, &written.path);
+    let crate_types = served_types(alloc, written.crate_types);
+    drop((written.name, written.path));
+    let (name, source) = with_next(name, source)?;
+    let ((name, source), crate_types) = with_next((name, source), crate_types)?;
     Ok(Library {
         name,
         crate_types,

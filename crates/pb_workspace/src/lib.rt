@@ -3,6 +3,7 @@
 //! Specifying Dependencies).
 #![tactic(auto)]
 
+pub mod again;
 pub mod assembled;
 pub mod between;
 pub mod binaries;

@@ -42,13 +42,26 @@ pub fn listings_of<P: Place>(
     let src = own_path(alloc, folder, "src")?;
     let bin = own_path(alloc, folder, "src/bin")?;
     let own = sources_directly(alloc, place, target, folder)?;
-    let in_src = sources_directly(alloc, place, target, &src)?;
-    let in_bin = listed_sources(alloc, place, target, &bin)?;
-    Ok(Listings {
-        own,
-        in_src,
-        in_bin,
-    })
+    let in_src = match sources_directly(alloc, place, target, &src) {
+        Ok(in_src) => in_src,
+        Err(fault) => {
+            drop((own, src, bin));
+            return Err(fault);
+        }
+    };
+    let in_bin = listed_sources(alloc, place, target, &bin);
+    drop((src, bin));
+    match in_bin {
+        Ok(in_bin) => Ok(Listings {
+            own,
+            in_src,
+            in_bin,
+        }),
+        Err(fault) => {
+            drop((own, in_src));
+            Err(fault)
+        }
+    }
 }
 
 /// Whether a path is among some.

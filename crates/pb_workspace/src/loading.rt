@@ -54,8 +54,7 @@ fn root_parts<P: Place>(
     if !is_manifest(path) {
         return Err(no_manifest(alloc, path));
     }
-    let parts = parts_at(alloc, place, target, path)?;
-    Ok(parts)
+    parts_at(alloc, place, target, path)
 }
 
 /// Where the root package stands.
@@ -168,8 +167,7 @@ fn others_read<P: Place>(
     let meant = member_folders(alloc, place, target, frame)?;
     let folders = meant.folders(alloc)?;
     let read = all_read(alloc, place, target, frame, &meant, begun, folders)?;
-    let read = rounds(alloc, place, target, frame, &meant, read, ENOUGH_ROUNDS)?;
-    Ok(read)
+    rounds(alloc, place, target, frame, &meant, read, ENOUGH_ROUNDS)
 }
 
 /// The packages of a workspace, by their folders.
@@ -193,8 +191,7 @@ fn packages_read<P: Place>(
     ensures looks { IsTrue P.tells → Looks result (packages_looked target.now (from_nothing target.now (P.world place.old)) frame.now tables found) (P.counts place.old) (P.counts place.new) }
 {
     let begun = root_read(alloc, place, target, frame, tables, found)?;
-    let read = others_read(alloc, place, target, frame, begun)?;
-    Ok(read)
+    others_read(alloc, place, target, frame, begun)
 }
 
 /// The workspace of packages that were read, refused where they do not go together.

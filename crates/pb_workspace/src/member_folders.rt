@@ -160,8 +160,7 @@ fn folders_meant<P: Place>(
 {
     if is_glob(text.as_str()) {
         let parts = parts_meant(alloc, &frame.root, text)?;
-        let folders = folders_taken(alloc, place, target, frame, parts.as_slice())?;
-        return Ok(folders);
+        return folders_taken(alloc, place, target, frame, parts.as_slice());
     }
     let folders = folder_written(alloc, &frame.root, text)?;
     Ok(folders)

@@ -277,8 +277,7 @@ fn draft_at<P: Place>(
     }
     let at = standing_in(alloc, frame, folder)?;
     let member = is_member(alloc, frame, meant, folder)?;
-    let draft = draft_in_file(alloc, place, target, frame, member, at)?;
-    Ok(draft)
+    draft_in_file(alloc, place, target, frame, member, at)
 }
 
 /// The folders to which entries lead.
@@ -413,8 +412,7 @@ fn round<P: Place>(
         found,
         ahead: ByFolder::new(alloc),
     };
-    let made = all_read(alloc, place, target, frame, meant, begun, folders)?;
-    Ok(made)
+    all_read(alloc, place, target, frame, meant, begun, folders)
 }
 
 /// So many rounds.

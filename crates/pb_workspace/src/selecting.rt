@@ -151,11 +151,9 @@ fn selected_packages(
         return Ok(places);
     }
     if !options.packages.is_empty() {
-        let places = named_members(alloc, options.packages.as_slice(), packages)?;
-        return Ok(places);
+        return named_members(alloc, options.packages.as_slice(), packages);
     }
-    let places = by_default(alloc, workspace)?;
-    Ok(places)
+    by_default(alloc, workspace)
 }
 
 /// The parts of a text, between its spaces.

@@ -12,6 +12,7 @@ ghost use Rattle.std.specs.List.{AllByRecursion};
 ghost use Rattle.pb_workspace.specs.Drafted.{IsBinaryNamed, IsKeyed, IsWantedKeyed, IsWrittenLibrary, AreTargets};
 ghost use Rattle.pb_package.specs.Settled.{IsAscending};
 
+use crate::again::was_mentioned;
 use crate::binaries::{binaries_of, written_binaries};
 use crate::by_key::{SharedByKey, WantedByKey};
 use crate::found::{found_readme, library_of, script_of};
@@ -19,7 +20,7 @@ use crate::found_binaries::found_binaries;
 use crate::keys::Keys;
 use crate::listings::Listings;
 use crate::wanted::{Standing, Wanted, each_wanted};
-use pb_data::{Items, Mentions, Text, TryCopy, with_next};
+use pb_data::{Items, Mentions, Text, with_next};
 use pb_manifest::{Dependency, Inheritable, Readme, WorkspacePackage};
 use pb_package::{BinariesByName, Binary, DependencyKind, Library, LoadFault};
 use pb_place::PathText;
@@ -147,6 +148,22 @@ pub fn targets_of(
     })
 }
 
+/// Whether a name of these `[[bin]]` comes again, or was mentioned before.
+fn binaries_come_again(
+    alloc: Global,
+    seen: &mut Mentions,
+    binaries: &[pb_manifest::Binary],
+) -> Result<bool, AllocError>
+    ensures { IfOk result (λ answer. answer ≡ comes_again seen.old (map (λ b. b.name) binaries.now)) }
+{
+    for binary in binaries {
+        if was_mentioned(alloc, seen, &binary.name)? {
+            return Ok(true);
+        }
+    }
+    Ok(false)
+}
+
 /// Whether two `[[bin]]` have one name. The one fault is want of memory.
 pub fn has_same_binaries(
     alloc: Global,
@@ -155,11 +172,7 @@ pub fn has_same_binaries(
     ensures { IfOk result (λ answer. answer ≡ has_same_binaries binaries.now) }
 {
     let mut seen = Mentions::new(alloc);
-    for binary in binaries {
-        if seen.contains(&binary.name) {
-            return Ok(true);
-        }
-        seen.insert(binary.name.copy(alloc)?)?;
-    }
-    Ok(false)
+    let again = binaries_come_again(alloc, &mut seen, binaries);
+    drop(seen);
+    again
 }

@@ -192,10 +192,7 @@ fn wanted_of(
         }
         Source::Workspace { default_features } => match given.keyed(&entry.key) {
             None => Err(LoadFault::NoInherited),
-            Some(shared) => {
-                let wanted = taken_from(alloc, at, kind, entry, *default_features, shared)?;
-                Ok(wanted)
-            }
+            Some(shared) => { taken_from(alloc, at, kind, entry, *default_features, shared) }
         },
     }
 }
