@@ -10,7 +10,6 @@ use Rattle.pb_workspace.specs.declared.frame.Frame.{Frame}
 use Rattle.pb_workspace.specs.declared.rounds.Parts.{Parts}
 use Rattle.pb_workspace.specs.declared.rounds.Reading.{Reading}
 use Rattle.pb_workspace.specs.declared.wanted.Wanted.{Wanted}
-use Rattle.pb_workspace.specs.Assembled.{package_at}
 use Rattle.pb_workspace.specs.Frames.{frame_of, is_member}
 use Rattle.pb_workspace.specs.MemberFolders.{folders_meant, member_folders}
 use Rattle.pb_workspace.specs.Rounds.{draft_in_file, rounds, standing_in}

@@ -3,33 +3,33 @@
 //! Specifying Dependencies).
 #![tactic(auto)]
 
-pub mod again;
-pub mod assembled;
-pub mod between;
-pub mod binaries;
-pub mod by_folder;
-pub mod by_key;
-pub mod checks;
+mod again;
+mod assembled;
+mod between;
+mod binaries;
+mod by_folder;
+mod by_key;
+mod checks;
 pub mod draft;
-pub mod features;
-pub mod found;
-pub mod found_binaries;
+mod features;
+mod found;
+mod found_binaries;
 pub mod frame;
-pub mod glob;
+mod glob;
 pub mod keys;
-pub mod laws;
-pub mod listings;
-pub mod loading;
-pub mod member;
-pub mod member_folders;
-pub mod normal_paths;
-pub mod places;
+mod laws;
+mod listings;
+mod loading;
+mod member;
+mod member_folders;
+mod normal_paths;
+mod places;
 pub mod rounds;
-pub mod selecting;
+mod selecting;
 pub mod settling;
-pub mod sorted;
-pub mod source;
-pub mod taken;
+mod sorted;
+mod source;
+mod taken;
 pub mod wanted;
 
 pub use laws::{
