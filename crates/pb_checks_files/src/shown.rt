@@ -27,6 +27,11 @@ impl Shown {
         self.text.is_empty()
     }
 
+    /// What stands there.
+    pub fn as_str(&self) -> &str {
+        self.text.as_str()
+    }
+
     /// Whether this is the whole text.
     pub fn says(&self, wanted: &str) -> bool {
         !self.lacks && self.text.as_str() == wanted

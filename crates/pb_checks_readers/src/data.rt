@@ -1,9 +1,9 @@
 //! Orders, mentions, tables and copies, against worked examples.
 
+use pb_checks_files::holds;
 use pb_data::{Bytes, Items, Mentions, Table, Text, TryCopy};
 use std::alloc::{AllocError, Global};
 use std::cmp::Ordering;
-use std::test::Fail;
 
 /// Whether items are the texts that stand in another one, with spaces between them.
 fn are(items: &Items<Text>, wanted: &str) -> bool {
@@ -55,13 +55,12 @@ fn mention(alloc: Global, mentions: &mut Mentions, word: &str) -> Result<(), All
     Ok(())
 }
 
-/// Mentions of the words of a text, one after another.
-fn mentions_of(alloc: Global, words: &str) -> Result<Mentions, AllocError> {
-    let mut mentions = Mentions::new(alloc);
+/// Mentions the words of a text, one after another.
+fn mention_all(alloc: Global, mentions: &mut Mentions, words: &str) -> Result<(), AllocError> {
     for word in words.split_whitespace() {
-        mention(alloc, &mut mentions, word)?;
+        mention(alloc, mentions, word)?;
     }
-    Ok(mentions)
+    Ok(())
 }
 
 /// Whether a text is mentioned.
@@ -88,9 +87,12 @@ fn become_items(alloc: Global, mentions: Mentions, wanted: &str) -> Result<bool,
 
 /// Whether words that are mentioned stand once.
 fn words_stand_once(alloc: Global) -> Result<bool, AllocError> {
-    let mentions = mentions_of(alloc, "b a b c a")?;
-    let is_one = mentions_one(alloc, &mentions, "a", "d")?;
-    Ok(become_items(alloc, mentions, "b a c")? && is_one)
+    let mut mentions = Mentions::new(alloc);
+    let mentioned = mention_all(alloc, &mut mentions, "b a b c a");
+    let is_one = mentions_one(alloc, &mentions, "a", "d");
+    let is_all = become_items(alloc, mentions, "b a c");
+    mentioned?;
+    Ok(is_one? && is_all?)
 }
 
 /// Names and values that are put into a table one after another.
@@ -103,14 +105,13 @@ fn insert(alloc: Global, table: &mut Table<u8>, name: &str, value: u8) -> Result
     Ok(())
 }
 
-/// The table of them.
-fn filled_table(alloc: Global) -> Result<Table<u8>, AllocError> {
-    let mut table = Table::new(alloc);
+/// Puts all of them into a table.
+fn insert_all(alloc: Global, table: &mut Table<u8>) -> Result<(), AllocError> {
     for entry in INSERTED {
         let (name, value) = *entry;
-        insert(alloc, &mut table, name, value)?;
+        insert(alloc, table, name, value)?;
     }
-    Ok(table)
+    Ok(())
 }
 
 /// Whether a name has this value in a table, and is there unless the value is 0.
@@ -159,9 +160,12 @@ fn has_names(
 
 /// Whether a table keeps the first place and the last value of each name.
 fn table_keeps(alloc: Global) -> Result<bool, AllocError> {
-    let table = filled_table(alloc)?;
-    let is_right = has_values(alloc, &table)?;
-    Ok(has_names(alloc, table, 3, "b a c")? && is_right)
+    let mut table = Table::new(alloc);
+    let inserted = insert_all(alloc, &mut table);
+    let has_values = has_values(alloc, &table);
+    let has_names = has_names(alloc, table, 3, "b a c");
+    inserted?;
+    Ok(has_values? && has_names?)
 }
 
 /// Whether a copy of bytes equals them, and fewer bytes do not.
@@ -191,13 +195,11 @@ fn add_entry(
     items.push((text, bytes))
 }
 
-/// Two entries, of which the first has bytes.
-fn entries(alloc: Global) -> Result<Items<Entry>, AllocError> {
+/// Adds two entries, of which the first has bytes.
+fn add_entries(alloc: Global, items: &mut Items<Entry>) -> Result<(), AllocError> {
     let bytes = Bytes::from_slice(alloc, &[0, 255, 7])?;
-    let mut items = Items::new(alloc);
-    add_entry(alloc, &mut items, "a", Some(bytes))?;
-    add_entry(alloc, &mut items, "b", None)?;
-    Ok(items)
+    add_entry(alloc, items, "a", Some(bytes))?;
+    add_entry(alloc, items, "b", None)
 }
 
 /// Whether two lists have two entries each, with the same texts and with bytes in the same places.
@@ -224,22 +226,24 @@ fn none_are_empty(alloc: Global) -> bool {
 
 /// Whether entries are copied.
 fn items_are_copied(alloc: Global) -> Result<bool, AllocError> {
-    let items = entries(alloc)?;
-    are_copied(alloc, &items)
+    let mut items = Items::new(alloc);
+    let added = add_entries(alloc, &mut items);
+    let is_copied = are_copied(alloc, &items);
+    added?;
+    is_copied
 }
 
 #[test]
-fn orders_and_values(rt: HostRuntime) -> Result<(), Fail> {
+fn orders_and_values(rt: HostRuntime) {
     for case in ORDERS {
         let (first, second, wanted) = *case;
         assert!(rt;
-            is_ordered(rt.alloc(), first, second, wanted)?,
+            holds(is_ordered(rt.alloc(), first, second, wanted)),
             "{first} beside {second}"
         );
     }
-    assert!(rt; words_stand_once(rt.alloc())?);
-    assert!(rt; table_keeps(rt.alloc())?);
-    assert!(rt; bytes_are_copied(rt.alloc())?);
-    assert!(rt; items_are_copied(rt.alloc())? && none_are_empty(rt.alloc()));
-    Ok(())
+    assert!(rt; holds(words_stand_once(rt.alloc())));
+    assert!(rt; holds(table_keeps(rt.alloc())));
+    assert!(rt; holds(bytes_are_copied(rt.alloc())));
+    assert!(rt; holds(items_are_copied(rt.alloc())) && none_are_empty(rt.alloc()));
 }

@@ -1,6 +1,6 @@
 //! What the readers answer, against worked examples.
 
-use pb_checks_files::Shown;
+use pb_checks_files::{Shown, holds};
 use pb_data::{Text, TryCopy};
 use pb_directive::{
     DepInfo, Directive, Directives, LineFault, laws, read_dep_info, read_directives,
@@ -50,14 +50,12 @@ fn put_directives(out: &mut Shown, directives: &Directives) {
     }
 }
 
-/// What a copy of the directives in some bytes is, or why there are none.
-fn directives_in(alloc: Global, bytes: &[u8]) -> Result<String, AllocError> {
-    let mut shown = Shown::new(alloc);
-    match read_directives(alloc, bytes) {
-        Ok(directives) => put_directives(&mut shown, &directives.copy(alloc)?),
-        Err(fault) => put_fault(&mut shown, fault),
+/// Puts a copy of directives.
+fn put_copy(alloc: Global, out: &mut Shown, directives: &Directives) {
+    match directives.copy(alloc) {
+        Ok(copy) => put_directives(out, &copy),
+        Err(_) => put_fault(out, LineFault::OutOfMemory),
     }
-    shown.whole()
 }
 
 fn put_names(out: &mut Shown, info: &DepInfo) {
@@ -66,32 +64,30 @@ fn put_names(out: &mut Shown, info: &DepInfo) {
     out.put_each("", info.variables.as_slice(), ";");
 }
 
-fn names_in(alloc: Global, bytes: &[u8]) -> Result<String, AllocError> {
+/// Whether a copy of the directives in a script's output, or why there are none, is shown as this.
+fn says(alloc: Global, output: &[u8], wanted: &str) -> bool {
     let mut shown = Shown::new(alloc);
-    match read_dep_info(alloc, bytes) {
-        Ok(info) => put_names(&mut shown, &info),
+    match read_directives(alloc, output) {
+        Ok(directives) => put_copy(alloc, &mut shown, &directives),
         Err(fault) => put_fault(&mut shown, fault),
     }
-    shown.whole()
-}
-
-/// Whether a script's output says this.
-fn says(alloc: Global, output: &[u8], wanted: &str) -> Result<bool, AllocError> {
-    let found = directives_in(alloc, output)?;
-    Ok(found.as_str() == wanted)
+    shown.says(wanted)
 }
 
 /// Asserts what each of these outputs says.
-fn assert_outputs(
-    rt: &impl Abort,
-    alloc: Global,
-    cases: &[(&[u8], &str)],
-) -> Result<(), AllocError> {
+fn assert_outputs(rt: &impl Abort, alloc: Global, cases: &[(&[u8], &str)]) {
     for (place, case) in cases.iter().enumerate() {
         let (output, wanted) = *case;
-        assert!(rt; says(alloc, output, wanted)?, "case {place}: {wanted}");
+        assert!(rt; says(alloc, output, wanted), "case {place}: {wanted}");
     }
-    Ok(())
+}
+
+/// Asserts what each of these lines, which are outputs, says.
+fn assert_lines(rt: &impl Abort, alloc: Global, cases: &str) {
+    for line in cases.lines() {
+        let (output, wanted) = line.split_once(" -> ").unwrap_or((line, ""));
+        assert!(rt; says(alloc, output.as_bytes(), wanted), "{line}");
+    }
 }
 
 /// Outputs of scripts, and what they say: lines and prefixes.
@@ -126,86 +122,76 @@ const LINES: &[(&[u8], &str)] = &[
 ];
 
 /// Outputs of scripts, and what they say: keys and values.
-const KEYS: &[(&[u8], &str)] = &[
-    (b"cargo::rerun-if-changed=build.rs", "changed<build.rs><>;"),
-    (b"cargo::rerun-if-changed=", "BadValue 1"),
-    (b"cargo::rerun-if-changed=a\0", "BadValue 1"),
-    (b"cargo:rerun-if-env-changed=CC", "env-changed<CC><>;"),
-    (b"cargo::rerun-if-env-changed=A=B", "BadValue 1"),
-    (b"cargo::rerun-if-env-changed=", "BadValue 1"),
-    (b"cargo::rustc-link-arg=", "arg<><>;"),
-    (b"cargo::rustc-link-arg=\0", "BadValue 1"),
-    (b"cargo::rustc-link-arg-bins=-s", "arg-bins<-s><>;"),
-    (b"cargo::rustc-link-arg-cdylib=-s", "arg-cdylib<-s><>;"),
-    (b"cargo::rustc-link-arg-tests=-s", "arg-tests<-s><>;"),
-    (b"cargo::rustc-link-arg-examples=-s", "arg-examples<-s><>;"),
-    (b"cargo::rustc-link-arg-benches=-s", "arg-benches<-s><>;"),
-    (b"cargo::rustc-link-arg-bin=a=-s=t", "arg-bin<a><-s=t>;"),
-    (b"cargo::rustc-link-arg-bin==x", "arg-bin<><x>;"),
-    (b"cargo::rustc-link-arg-bin=x", "BadValue 1"),
-    (b"cargo::rustc-link-lib=static=a", "lib<static=a><>;"),
-    (b"cargo::rustc-link-search=", "BadValue 1"),
-    (
-        b"cargo::rustc-link-search=native=/l",
-        "search<native=/l><>;",
-    ),
-    (b"cargo::rustc-check-cfg=cfg(a)", "check-cfg<cfg(a)><>;"),
-    (
-        b"cargo::rustc-flags=-l a  -Lb -lc -L d ",
-        "lib<a><>;search<b><>;lib<c><>;search<d><>;",
-    ),
-    (b"cargo::rustc-flags=-l -L", "lib<-L><>;"),
-    (b"cargo::rustc-flags=", ""),
-    (b"cargo::rustc-flags=-l a -l", "BadFlag 1"),
-    (b"cargo::rustc-flags=-la\t-x b", "BadFlag 1"),
-    (b"cargo::rustc-flags=x\0", "BadValue 1"),
-    (b"cargo::rustc-env=A=b=c", "env<A><b=c>;"),
-    (b"cargo::rustc-env==b", "BadValue 1"),
-    (b"cargo::rustc-env=A", "BadValue 1"),
-    (b"cargo::metadata=root=/r", "metadata<root></r>;"),
-    (b"cargo::metadata=root", "BadValue 1"),
-    (b"cargo:a\0=b", "BadValue 1"),
-    (b"cargo:a=b\0", "BadValue 1"),
-    (b"cargo::warning=", "warning<><>;"),
-];
+const KEYS: &str = "cargo::rerun-if-changed=build.rs -> changed<build.rs><>;\n\
+     cargo::rerun-if-changed= -> BadValue 1\n\
+     cargo::rerun-if-changed=a\0 -> BadValue 1\n\
+     cargo:rerun-if-env-changed=CC -> env-changed<CC><>;\n\
+     cargo::rerun-if-env-changed=A=B -> BadValue 1\n\
+     cargo::rerun-if-env-changed= -> BadValue 1\n\
+     cargo::rustc-link-arg= -> arg<><>;\n\
+     cargo::rustc-link-arg=\0 -> BadValue 1\n\
+     cargo::rustc-link-arg-bins=-s -> arg-bins<-s><>;\n\
+     cargo::rustc-link-arg-cdylib=-s -> arg-cdylib<-s><>;\n\
+     cargo::rustc-link-arg-tests=-s -> arg-tests<-s><>;\n\
+     cargo::rustc-link-arg-examples=-s -> arg-examples<-s><>;\n\
+     cargo::rustc-link-arg-benches=-s -> arg-benches<-s><>;\n\
+     cargo::rustc-link-arg-bin=a=-s=t -> arg-bin<a><-s=t>;\n\
+     cargo::rustc-link-arg-bin==x -> arg-bin<><x>;\n\
+     cargo::rustc-link-arg-bin=x -> BadValue 1\n\
+     cargo::rustc-link-lib=static=a -> lib<static=a><>;\n\
+     cargo::rustc-link-search= -> BadValue 1\n\
+     cargo::rustc-link-search=native=/l -> search<native=/l><>;\n\
+     cargo::rustc-check-cfg=cfg(a) -> check-cfg<cfg(a)><>;\n\
+     cargo::rustc-flags=-l a  -Lb -lc -L d  -> lib<a><>;search<b><>;lib<c><>;search<d><>;\n\
+     cargo::rustc-flags=-l -L -> lib<-L><>;\n\
+     cargo::rustc-flags= -> \n\
+     cargo::rustc-flags=-l a -l -> BadFlag 1\n\
+     cargo::rustc-flags=-la\t-x b -> BadFlag 1\n\
+     cargo::rustc-flags=x\0 -> BadValue 1\n\
+     cargo::rustc-env=A=b=c -> env<A><b=c>;\n\
+     cargo::rustc-env==b -> BadValue 1\n\
+     cargo::rustc-env=A -> BadValue 1\n\
+     cargo::metadata=root=/r -> metadata<root></r>;\n\
+     cargo::metadata=root -> BadValue 1\n\
+     cargo:a\0=b -> BadValue 1\n\
+     cargo:a=b\0 -> BadValue 1\n\
+     cargo::warning= -> warning<><>;";
 
 /// Lines with a value that their key may not have, and lines that are near to those.
-const VALUES: &[(&[u8], &str)] = &[
-    (b"cargo:rerun-if-changed=", "BadValue 1"),
-    (b"cargo::rerun-if-env-changed=A\0", "BadValue 1"),
-    (b"cargo::rerun-if-env-changed==", "BadValue 1"),
-    (b"cargo::rustc-link-arg-bins=\0", "BadValue 1"),
-    (b"cargo::rustc-link-arg-cdylib=\0", "BadValue 1"),
-    (b"cargo::rustc-link-arg-tests=\0", "BadValue 1"),
-    (b"cargo::rustc-link-arg-examples=\0", "BadValue 1"),
-    (b"cargo::rustc-link-arg-benches=\0", "BadValue 1"),
-    (b"cargo::rustc-link-arg-bin=a=\0", "BadValue 1"),
-    (b"cargo::rustc-link-arg-bin=\0=a", "BadValue 1"),
-    (b"cargo::rustc-link-lib=", "BadValue 1"),
-    (b"cargo::rustc-link-lib=a\0", "BadValue 1"),
-    (b"cargo::rustc-link-search=a\0", "BadValue 1"),
-    (b"cargo::rustc-cfg=a\0", "BadValue 1"),
-    (b"cargo::rustc-check-cfg=", "BadValue 1"),
-    (b"cargo::rustc-check-cfg=a\0", "BadValue 1"),
-    (b"cargo::rustc-flags=-la\0", "BadValue 1"),
-    (b"cargo::rustc-env=A=\0", "BadValue 1"),
-    (b"cargo::rustc-env=\0=a", "BadValue 1"),
-    (b"cargo::metadata==a", "BadValue 1"),
-    (b"cargo::metadata=a=\0", "BadValue 1"),
-    (b"cargo::metadata=\0=a", "BadValue 1"),
-    (b"cargo::metadata", "BadValue 1"),
-    (b"cargo::unknown", "BadValue 1"),
-    (b"cargo::rustc-flags=-L", "BadFlag 1"),
-    (b"cargo::rustc-flags=-l", "BadFlag 1"),
-    (b"cargo::rustc-flags=-L a -L", "BadFlag 1"),
-    (b"cargo:rustc-flags=a", "BadFlag 1"),
-    (b"cargo::rustc-link-arg-bin=a=", "arg-bin<a><>;"),
-    (b"cargo::rustc-env=A=", "env<A><>;"),
-    (b"cargo::metadata=a=", "metadata<a><>;"),
-    (b"cargo:a=", "metadata<a><>;"),
-    (b"cargo::warning=\0", "warning<\0><>;"),
-    (b"cargo:warning=w", "warning<w><>;"),
-];
+const VALUES: &str = "cargo:rerun-if-changed= -> BadValue 1\n\
+     cargo::rerun-if-env-changed=A\0 -> BadValue 1\n\
+     cargo::rerun-if-env-changed== -> BadValue 1\n\
+     cargo::rustc-link-arg-bins=\0 -> BadValue 1\n\
+     cargo::rustc-link-arg-cdylib=\0 -> BadValue 1\n\
+     cargo::rustc-link-arg-tests=\0 -> BadValue 1\n\
+     cargo::rustc-link-arg-examples=\0 -> BadValue 1\n\
+     cargo::rustc-link-arg-benches=\0 -> BadValue 1\n\
+     cargo::rustc-link-arg-bin=a=\0 -> BadValue 1\n\
+     cargo::rustc-link-arg-bin=\0=a -> BadValue 1\n\
+     cargo::rustc-link-lib= -> BadValue 1\n\
+     cargo::rustc-link-lib=a\0 -> BadValue 1\n\
+     cargo::rustc-link-search=a\0 -> BadValue 1\n\
+     cargo::rustc-cfg=a\0 -> BadValue 1\n\
+     cargo::rustc-check-cfg= -> BadValue 1\n\
+     cargo::rustc-check-cfg=a\0 -> BadValue 1\n\
+     cargo::rustc-flags=-la\0 -> BadValue 1\n\
+     cargo::rustc-env=A=\0 -> BadValue 1\n\
+     cargo::rustc-env=\0=a -> BadValue 1\n\
+     cargo::metadata==a -> BadValue 1\n\
+     cargo::metadata=a=\0 -> BadValue 1\n\
+     cargo::metadata=\0=a -> BadValue 1\n\
+     cargo::metadata -> BadValue 1\n\
+     cargo::unknown -> BadValue 1\n\
+     cargo::rustc-flags=-L -> BadFlag 1\n\
+     cargo::rustc-flags=-l -> BadFlag 1\n\
+     cargo::rustc-flags=-L a -L -> BadFlag 1\n\
+     cargo:rustc-flags=a -> BadFlag 1\n\
+     cargo::rustc-link-arg-bin=a= -> arg-bin<a><>;\n\
+     cargo::rustc-env=A= -> env<A><>;\n\
+     cargo::metadata=a= -> metadata<a><>;\n\
+     cargo:a= -> metadata<a><>;\n\
+     cargo::warning=\0 -> warning<\0><>;\n\
+     cargo:warning=w -> warning<w><>;";
 
 /// What the first so many bytes of the line `cargo::rustc-cfg=ab` say, but for all of them.
 fn said_by_prefix(end: usize) -> &'static str {
@@ -261,29 +247,32 @@ const RULES: &[(&[u8], &str)] = &[
 ];
 
 /// Whether dep-info names this.
-pub fn tells(alloc: Global, dep_info: &[u8], wanted: &str) -> Result<bool, AllocError> {
-    let found = names_in(alloc, dep_info)?;
-    Ok(found.as_str() == wanted)
+pub fn tells(alloc: Global, dep_info: &[u8], wanted: &str) -> bool {
+    let mut shown = Shown::new(alloc);
+    match read_dep_info(alloc, dep_info) {
+        Ok(info) => put_names(&mut shown, &info),
+        Err(fault) => put_fault(&mut shown, fault),
+    }
+    shown.says(wanted)
 }
 
 #[test]
-fn outputs_and_dep_info(rt: HostRuntime) -> Result<(), Fail> {
-    assert_outputs(&rt, rt.alloc(), LINES)?;
-    assert_outputs(&rt, rt.alloc(), KEYS)?;
-    assert_outputs(&rt, rt.alloc(), VALUES)?;
+fn outputs_and_dep_info(rt: HostRuntime) {
+    assert_outputs(&rt, rt.alloc(), LINES);
+    assert_lines(&rt, rt.alloc(), KEYS);
+    assert_lines(&rt, rt.alloc(), VALUES);
     let line = b"cargo::rustc-cfg=ab";
     for end in 0..line.len() {
         let wanted = said_by_prefix(end);
-        assert!(rt; says(rt.alloc(), &line[..end], wanted)?, "{end} bytes");
+        assert!(rt; says(rt.alloc(), &line[..end], wanted), "{end} bytes");
     }
     for (place, case) in RULES.iter().enumerate() {
         let (dep_info, wanted) = *case;
         assert!(rt;
-            tells(rt.alloc(), dep_info, wanted)?,
+            tells(rt.alloc(), dep_info, wanted),
             "case {place}: {wanted}"
         );
     }
-    Ok(())
 }
 
 /// Some bytes, and one byte so many times behind them.
@@ -298,7 +287,7 @@ fn of_bytes(alloc: Global, start: &[u8], byte: u8, count: usize) -> Result<Vec<u
 /// Whether a line of so many bytes that is no directive says nothing as output, and is refused as dep-info.
 fn plain_line_is_read(alloc: Global, length: usize) -> Result<bool, AllocError> {
     let plain = of_bytes(alloc, b"", b'a', length)?;
-    Ok(says(alloc, plain.as_slice(), "")? && tells(alloc, plain.as_slice(), "BadValue 1")?)
+    Ok(says(alloc, plain.as_slice(), "") && tells(alloc, plain.as_slice(), "BadValue 1"))
 }
 
 /// Whether directives are one warning, of this length.
@@ -360,9 +349,10 @@ const FAULTS_IN_WORDS: &[(LineFault, &str)] = &[
 ];
 
 /// Whether a fault is this in words.
-fn reads(alloc: Global, fault: LineFault, wanted: &str) -> Result<bool, AllocError> {
-    let words = format!(in alloc; "{fault}")?;
-    Ok(words.as_str() == wanted)
+fn reads(alloc: Global, fault: LineFault, wanted: &str) -> bool {
+    let mut words = Shown::new(alloc);
+    words.put_words(&fault);
+    words.says(wanted)
 }
 
 /// Each law, called once.
@@ -381,13 +371,13 @@ fn laws_are_named() {
 
 #[test]
 fn long_lines_words_and_laws(rt: HostRuntime) -> Result<(), Fail> {
-    assert!(rt; plain_line_is_read(rt.alloc(), 4_194_304)?);
+    assert!(rt; holds(plain_line_is_read(rt.alloc(), 4_194_304)));
     assert!(rt; warns_at_length(rt.alloc(), 4_194_289)?);
     assert!(rt; names_at_length(rt.alloc(), 4_194_301)?);
     assert!(rt; names_word(rt.alloc(), b"o: b a b", "a", 2)?);
     for case in FAULTS_IN_WORDS {
         let (fault, wanted) = *case;
-        assert!(rt; reads(rt.alloc(), fault, wanted)?, "{wanted}");
+        assert!(rt; reads(rt.alloc(), fault, wanted), "{wanted}");
     }
     laws_are_named();
     Ok(())

@@ -1,8 +1,7 @@
 //! JSON strings, against worked examples.
 
+use pb_checks_files::is_said;
 use pb_json::json_string;
-use std::alloc::{AllocError, Global};
-use std::test::Fail;
 
 /// Texts, and each as a JSON string.
 const STRINGS: &[(&str, &str)] = &[
@@ -17,17 +16,10 @@ const STRINGS: &[(&str, &str)] = &[
     ),
 ];
 
-/// Whether a text is this as a JSON string.
-fn is_written(alloc: Global, text: &str, wanted: &str) -> Result<bool, AllocError> {
-    let json = json_string(alloc, text)?;
-    Ok(json.as_str() == wanted)
-}
-
 #[test]
-fn strings(rt: HostRuntime) -> Result<(), Fail> {
+fn strings(rt: HostRuntime) {
     for case in STRINGS {
         let (text, wanted) = *case;
-        assert!(rt; is_written(rt.alloc(), text, wanted)?, "{wanted}");
+        assert!(rt; is_said(json_string(rt.alloc(), text), wanted), "{wanted}");
     }
-    Ok(())
 }

@@ -5,6 +5,7 @@ mod cases;
 mod show;
 
 use cases::CASES;
+use pb_checks_files::{Shown, holds, is_text};
 use pb_data::{Items, Text, TryCopy};
 use pb_manifest::letters::{has_zero, is_crate_name, is_feature_name, is_name};
 use pb_manifest::{
@@ -12,27 +13,27 @@ use pb_manifest::{
     WrittenPath, crate_name, crate_type_texts, library_name,
 };
 use pb_manifest_reader::read_manifest;
-use show::shown;
+use show::put_answer;
 use std::alloc::{AllocError, Global};
 use std::process::Abort;
-use std::test::Fail;
 
 /// Whether the answer to a manifest, in one line, is this.
-fn says(alloc: Global, manifest: &[u8], wanted: &str) -> Result<bool, AllocError> {
-    let answer = shown(alloc, read_manifest(alloc, manifest))?;
-    Ok(answer.as_str() == wanted)
+fn says(alloc: Global, manifest: &[u8], wanted: &str) -> bool {
+    let mut shown = Shown::new(alloc);
+    put_answer(&mut shown, &read_manifest(alloc, manifest));
+    shown.says(wanted)
 }
 
 /// Asserts the answers to the manifests of a table. How many there are.
-fn assert_answers(rt: &impl Abort, alloc: Global, cases: &str) -> Result<usize, AllocError> {
+fn assert_answers(rt: &impl Abort, alloc: Global, cases: &str) -> usize {
     let mut count = 0usize;
     for case in cases.split("=== ") {
         if let Some((wanted, manifest)) = case.split_once('\n') {
-            assert!(rt; says(alloc, manifest.as_bytes(), wanted)?, "{case}");
+            assert!(rt; says(alloc, manifest.as_bytes(), wanted), "{case}");
             count = count.saturating_add(1);
         }
     }
-    Ok(count)
+    count
 }
 
 /// As many line feeds.
@@ -47,30 +48,32 @@ fn blank(alloc: Global, length: usize) -> Result<Vec<u8>, AllocError> {
 /// Whether the answer to as many line feeds is this.
 fn blank_says(alloc: Global, length: usize, wanted: &str) -> Result<bool, AllocError> {
     let bytes = blank(alloc, length)?;
-    says(alloc, bytes.as_slice(), wanted)
+    Ok(says(alloc, bytes.as_slice(), wanted))
 }
+
+/// Bytes that are no TOML.
+const NO_TOML: &[&[u8]] = &[b"name = \"\xff\"", b"\x00", b"\xef\xbb"];
 
 #[test]
-fn manifests(rt: HostRuntime) -> Result<(), Fail> {
+fn manifests(rt: HostRuntime) {
     for case in CASES {
-        assert!(rt; assert_answers(&rt, rt.alloc(), *case)? >= 25);
+        assert!(rt; assert_answers(&rt, rt.alloc(), *case) >= 25);
     }
-    assert!(rt; blank_says(rt.alloc(), 1_048_576, "BadKind(Package)")?);
-    assert!(rt; blank_says(rt.alloc(), 1_048_577, "TooLarge")?);
-    assert!(rt; says(rt.alloc(), b"name = \"\xff\"", "NotToml")?);
-    assert!(rt; says(rt.alloc(), b"\x00", "NotToml")?);
-    assert!(rt; says(rt.alloc(), b"\xef\xbb", "NotToml")?);
-    Ok(())
+    assert!(rt; holds(blank_says(rt.alloc(), 1_048_576, "BadKind(Package)")));
+    assert!(rt; holds(blank_says(rt.alloc(), 1_048_577, "TooLarge")));
+    for bytes in NO_TOML {
+        assert!(rt; says(rt.alloc(), *bytes, "NotToml"));
+    }
 }
 
-/// Whether a text has the letters of a package's, of a crate's and of a feature's name, and whether it has a byte zero.
-fn letters_of(text: &str) -> (bool, bool, bool, bool) {
-    (
-        is_name(text),
-        is_crate_name(text),
-        is_feature_name(text),
-        has_zero(text),
-    )
+/// Whether it is told of a text as wanted whether it has the letters of a package's, of a crate's and of a feature's name,
+/// and whether it has a byte zero.
+fn has_letters(case: &(&str, bool, bool, bool, bool)) -> bool {
+    let (text, package, library, feature, zero) = *case;
+    is_name(text) == package
+        && is_crate_name(text) == library
+        && is_feature_name(text) == feature
+        && has_zero(text) == zero
 }
 
 /// Texts, whether each has the letters of a package's, a crate's and a feature's name, and whether it has a byte zero.
@@ -170,9 +173,10 @@ const FAULTS_IN_WORDS: &[(ManifestFault, &str)] = &[
 ];
 
 /// Whether a fault is this in words.
-fn reads(alloc: Global, fault: ManifestFault, wanted: &str) -> Result<bool, AllocError> {
-    let words = format!(in alloc; "{fault}")?;
-    Ok(words.as_str() == wanted)
+fn reads(alloc: Global, fault: ManifestFault, wanted: &str) -> bool {
+    let mut words = Shown::new(alloc);
+    words.put_words(&fault);
+    words.says(wanted)
 }
 
 /// Requirements, versions, and whether they match.
@@ -187,34 +191,11 @@ const MATCHES: &[(&str, &str, bool)] = &[
     ("*", "7.0.0", true),
 ];
 
-/// Whether a copy of a requirement matches a copy of a version.
-fn copies_match(
-    alloc: Global,
-    requirement: &Requirement,
-    version: &Version,
-) -> Result<bool, AllocError> {
-    let requirement = requirement.copy(alloc)?;
-    let version = version.copy(alloc)?;
-    Ok(requirement.matches(&version))
-}
-
-/// The same of texts.
+/// Whether a copy of the requirement that a text says matches a copy of the version that another one says.
 fn texts_match(alloc: Global, requirement: &str, version: &str) -> Result<bool, ManifestFault> {
-    let requirement = requirement_of(alloc, requirement)?;
-    let version = version_of(alloc, version)?;
-    Ok(copies_match(alloc, &requirement, &version)?)
-}
-
-/// Whether the crate of a package of this name has this one.
-fn has_crate(alloc: Global, package: &str, wanted: &str) -> Result<bool, AllocError> {
-    let found = crate_name(alloc, package)?;
-    Ok(found.as_str() == wanted)
-}
-
-/// Whether the library of a package of the name `a-b` has this name.
-fn has_library(alloc: Global, library: &Option<Library>, wanted: &str) -> Result<bool, AllocError> {
-    let found = library_name(alloc, "a-b", library)?;
-    Ok(found.as_str() == wanted)
+    let requirement = requirement_of(alloc, requirement)?.copy(alloc)?;
+    let version = version_of(alloc, version)?.copy(alloc)?;
+    Ok(requirement.matches(&version))
 }
 
 /// A library that says its name and nothing more.
@@ -230,7 +211,7 @@ fn library_named(alloc: Global, name: &str) -> Result<Library, AllocError> {
 /// Whether the library of a package of the name `a-b` that says this name has it.
 fn library_has(alloc: Global, name: &str) -> Result<bool, AllocError> {
     let library = Some(library_named(alloc, name)?);
-    has_library(alloc, &library, name)
+    Ok(is_text(library_name(alloc, "a-b", &library), name))
 }
 
 /// Whether crate types have these texts; `lib` where there is none.
@@ -290,39 +271,33 @@ fn readme_is_copied(alloc: Global, path: &str) -> Result<bool, AllocError> {
 }
 
 #[test]
-fn letters_versions_and_words(rt: HostRuntime) -> Result<(), Fail> {
+fn letters_versions_and_words(rt: HostRuntime) {
     for case in LETTERS {
-        let (text, package, library, feature, zero) = *case;
-        assert!(rt;
-            letters_of(text) == (package, library, feature, zero),
-            "{text}"
-        );
+        assert!(rt; has_letters(case), "{}", case.0);
     }
     for case in FAULTS_IN_WORDS {
         let (fault, wanted) = *case;
-        assert!(rt; reads(rt.alloc(), fault, wanted)?, "{wanted}");
+        assert!(rt; reads(rt.alloc(), fault, wanted), "{wanted}");
     }
     for case in MATCHES {
         let (requirement, version, wanted) = *case;
         assert!(rt;
-            texts_match(rt.alloc(), requirement, version)? == wanted,
+            texts_match(rt.alloc(), requirement, version) == Ok(wanted),
             "{requirement} of {version}"
         );
     }
-    assert!(rt; minor_of(rt.alloc(), "1.2.3")? == 2);
-    assert!(rt; count_comparisons(rt.alloc(), ">=1, <2")? == 2);
-    Ok(())
+    assert!(rt; minor_of(rt.alloc(), "1.2.3") == Ok(2));
+    assert!(rt; count_comparisons(rt.alloc(), ">=1, <2") == Ok(2));
 }
 
 #[test]
-fn names_spellings_and_copies(rt: HostRuntime) -> Result<(), Fail> {
-    assert!(rt; has_crate(rt.alloc(), "a-b--c", "a_b__c")?);
-    assert!(rt; has_crate(rt.alloc(), "ab", "ab")?);
-    assert!(rt; has_library(rt.alloc(), &None, "a_b")?);
-    assert!(rt; library_has(rt.alloc(), "own")?);
-    assert!(rt; are_spelled(rt.alloc())?);
-    assert!(rt; !is_path(rt.alloc(), "a\0")?);
-    assert!(rt; source_is_copied(rt.alloc(), "../a b")?);
-    assert!(rt; readme_is_copied(rt.alloc(), "R")?);
-    Ok(())
+fn names_spellings_and_copies(rt: HostRuntime) {
+    assert!(rt; is_text(crate_name(rt.alloc(), "a-b--c"), "a_b__c"));
+    assert!(rt; is_text(crate_name(rt.alloc(), "ab"), "ab"));
+    assert!(rt; is_text(library_name(rt.alloc(), "a-b", &None), "a_b"));
+    assert!(rt; holds(library_has(rt.alloc(), "own")));
+    assert!(rt; holds(are_spelled(rt.alloc())));
+    assert!(rt; is_path(rt.alloc(), "a\0") == Ok(false));
+    assert!(rt; holds(source_is_copied(rt.alloc(), "../a b")));
+    assert!(rt; holds(readme_is_copied(rt.alloc(), "R")));
 }

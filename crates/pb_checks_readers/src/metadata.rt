@@ -6,12 +6,10 @@ use pb_directive::{dep_pairs, read_directives};
 use std::alloc::{AllocError, Global};
 use std::test::Fail;
 
-fn show_pairs(alloc: Global, pairs: &Items<(Text, Text)>) -> Result<String, AllocError> {
-    let mut shown = Shown::new(alloc);
+fn put_pairs(out: &mut Shown, pairs: &Items<(Text, Text)>) {
     for (name, value) in pairs.as_slice() {
-        shown.put(&[name.as_str(), "=", value.as_str(), ";"]);
+        out.put(&[name.as_str(), "=", value.as_str(), ";"]);
     }
-    shown.whole()
 }
 
 /// What a script of `z-libß` passes on.
@@ -46,16 +44,17 @@ fn is_right(alloc: Global, pairs: &Table<Text>) -> Result<bool, AllocError> {
 
 /// Whether these are all pairs of a table, in its order.
 fn are_all(alloc: Global, pairs: Table<Text>, wanted: &str) -> Result<bool, AllocError> {
-    let shown = show_pairs(alloc, &pairs.into_items(alloc)?)?;
-    Ok(shown.as_str() == wanted)
+    let mut shown = Shown::new(alloc);
+    put_pairs(&mut shown, &pairs.into_items(alloc)?);
+    Ok(shown.says(wanted))
 }
 
 /// Whether what a script of `z-libß` passes on is right.
 fn is_passed_on(alloc: Global) -> Result<bool, Fail> {
     let pairs = passed_on(alloc)?;
-    let is_right = is_right(alloc, &pairs)?;
-    let wanted = "DEP_Z_LIBSS_ROOT_DIR=/s;DEP_Z_LIBSS_B=1;";
-    Ok(are_all(alloc, pairs, wanted)? && is_right)
+    let is_right = is_right(alloc, &pairs);
+    let is_all = are_all(alloc, pairs, "DEP_Z_LIBSS_ROOT_DIR=/s;DEP_Z_LIBSS_B=1;");
+    Ok(is_right? && is_all?)
 }
 
 #[test]

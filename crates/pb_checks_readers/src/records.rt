@@ -1,43 +1,37 @@
 //! Records as text: worked examples, texts that are none, and texts made at random.
 
 use crate::dice::Dice;
-use pb_checks_files::Shown;
-use pb_data::Bytes;
+use pb_checks_files::{Shown, holds};
 use pb_record::{Needed, Record, read_record, write_record};
 use std::alloc::{AllocError, Global};
-use std::test::Fail;
 
-/// The text that is written of the record that a text is, or none where it is none.
-fn again(alloc: Global, text: &[u8]) -> Result<Option<Bytes>, AllocError> {
+/// Whether a record is written as this text.
+fn is_written(alloc: Global, kept: &Record, text: &[u8]) -> Result<Option<bool>, AllocError> {
+    let again = write_record(alloc, kept)?;
+    Ok(Some(again.as_slice() == text))
+}
+
+/// Whether the record that a text is, is written so again; none where it is no record.
+fn again(alloc: Global, text: &[u8]) -> Result<Option<bool>, AllocError> {
     match read_record(alloc, text)? {
-        Some(kept) => {
-            let written = write_record(alloc, &kept)?;
-            Ok(Some(written))
-        }
+        Some(kept) => is_written(alloc, &kept, text),
         None => Ok(None),
     }
 }
 
 /// Whether a text is that of a record, which is written so again.
-fn is_record(alloc: Global, text: &[u8]) -> Result<bool, AllocError> {
-    match again(alloc, text)? {
-        Some(written) => Ok(written.as_slice() == text),
-        None => Ok(false),
-    }
+fn is_record(alloc: Global, text: &[u8]) -> bool {
+    matches!(again(alloc, text), Ok(Some(true)))
 }
 
 /// Whether a text is that of no record.
-fn is_none(alloc: Global, text: &[u8]) -> Result<bool, AllocError> {
-    let found = read_record(alloc, text)?;
-    Ok(found.is_none())
+fn is_none(alloc: Global, text: &[u8]) -> bool {
+    matches!(again(alloc, text), Ok(None))
 }
 
 /// Whether a text is that of no record, or of one that is written so again.
-fn is_none_or_record(alloc: Global, text: &[u8]) -> Result<bool, AllocError> {
-    match again(alloc, text)? {
-        Some(written) => Ok(written.as_slice() == text),
-        None => Ok(true),
-    }
+fn is_none_or_record(alloc: Global, text: &[u8]) -> bool {
+    matches!(again(alloc, text), Ok(None) | Ok(Some(true)))
 }
 
 /// A record of format 2 with the largest run number, with nothing in its lists.
@@ -79,20 +73,20 @@ fn says_its_parts(alloc: Global) -> Result<bool, AllocError> {
 }
 
 /// Whether each first part of a text is that of no record.
-fn is_torn_anywhere(alloc: Global, text: &[u8]) -> Result<bool, AllocError> {
+fn is_torn_anywhere(alloc: Global, text: &[u8]) -> bool {
     for end in 0..text.len() {
-        if !is_none(alloc, &text[..end])? {
-            return Ok(false);
+        if !is_none(alloc, &text[..end]) {
+            return false;
         }
     }
-    Ok(true)
+    true
 }
 
 /// Whether a text with one byte more is that of no record.
 fn is_none_longer(alloc: Global, text: &[u8]) -> Result<bool, AllocError> {
     let mut longer = text.to_vec(alloc)?;
     longer.push(b'\n')?;
-    is_none(alloc, longer.as_slice())
+    Ok(is_none(alloc, longer.as_slice()))
 }
 
 /// Whether a text with this byte at a place is that of no record, or of one that is written so again.
@@ -101,7 +95,7 @@ fn stands_with(alloc: Global, text: &[u8], at: usize, byte: u8) -> Result<bool, 
     if at < changed.len() {
         changed[at] = byte;
     }
-    is_none_or_record(alloc, changed.as_slice())
+    Ok(is_none_or_record(alloc, changed.as_slice()))
 }
 
 /// The same of each of some bytes at each place of a text.
@@ -118,21 +112,20 @@ fn stands_changed(alloc: Global, text: &[u8]) -> Result<bool, AllocError> {
 
 /// What is wrong with the text of a record as it is, torn, with a byte more, or with a byte changed; nothing where it
 /// stands.
-fn wrong_with(alloc: Global, text: &[u8]) -> Result<&'static str, AllocError> {
-    if !is_record(alloc, text)? {
-        return Ok("as it is");
+fn wrong_with(alloc: Global, text: &[u8]) -> &'static str {
+    if !is_record(alloc, text) {
+        return "as it is";
     }
-    if !is_torn_anywhere(alloc, text)? {
-        return Ok("torn");
+    if !is_torn_anywhere(alloc, text) {
+        return "torn";
     }
-    if !is_none_longer(alloc, text)? {
-        return Ok("longer");
+    if !holds(is_none_longer(alloc, text)) {
+        return "longer";
     }
-    Ok(if stands_changed(alloc, text)? {
-        ""
-    } else {
-        "changed"
-    })
+    if !holds(stands_changed(alloc, text)) {
+        return "changed";
+    }
+    ""
 }
 
 /// What is put in a record that has nothing in its lists, in place of which of its lines, so that it is none.
@@ -170,7 +163,7 @@ fn replaced(alloc: Global, old: &str, new: &str) -> Result<String, AllocError> {
 /// Whether the largest record with something put in place of something in it is none.
 fn is_none_with(alloc: Global, old: &str, new: &str) -> Result<bool, AllocError> {
     let made = replaced(alloc, old, new)?;
-    is_none(alloc, made.as_bytes())
+    Ok(is_none(alloc, made.as_bytes()))
 }
 
 /// A record whose key is no UTF-8.
@@ -331,7 +324,7 @@ fn random_record(alloc: Global, dice: &mut Dice) -> Result<String, AllocError> {
 /// Whether such a text is that of a record.
 fn random_is_record(alloc: Global, dice: &mut Dice) -> Result<bool, AllocError> {
     let text = random_record(alloc, dice)?;
-    is_record(alloc, text.as_bytes())
+    Ok(is_record(alloc, text.as_bytes()))
 }
 
 /// Whether so many such texts are.
@@ -360,22 +353,21 @@ fn large_record(alloc: Global, size: usize) -> Result<Vec<u8>, AllocError> {
 /// Whether the text of a record with one file of so many bytes is that of a record.
 fn large_is_record(alloc: Global, size: usize) -> Result<bool, AllocError> {
     let text = large_record(alloc, size)?;
-    is_record(alloc, text.as_slice())
+    Ok(is_record(alloc, text.as_slice()))
 }
 
 #[test]
-fn records(rt: HostRuntime) -> Result<(), Fail> {
-    assert!(rt; says_its_parts(rt.alloc())?);
-    for case in RECORDS {
-        let text = *case;
-        assert_eq!(rt; wrong_with(rt.alloc(), text.as_bytes())?, "", "{text}");
+fn records(rt: HostRuntime) {
+    assert!(rt; holds(says_its_parts(rt.alloc())));
+    for text in RECORDS {
+        let wrong = wrong_with(rt.alloc(), text.as_bytes());
+        assert!(rt; wrong.is_empty(), "{wrong}: {text}");
     }
     for case in WRONG {
         let (old, new) = *case;
-        assert!(rt; is_none_with(rt.alloc(), old, new)?, "{new}");
+        assert!(rt; holds(is_none_with(rt.alloc(), old, new)), "{new}");
     }
-    assert!(rt; is_none(rt.alloc(), NO_TEXT)?);
-    assert!(rt; random_are_records(rt.alloc(), 200)?);
-    assert!(rt; large_is_record(rt.alloc(), 4_194_304)?);
-    Ok(())
+    assert!(rt; is_none(rt.alloc(), NO_TEXT));
+    assert!(rt; holds(random_are_records(rt.alloc(), 200)));
+    assert!(rt; holds(large_is_record(rt.alloc(), 4_194_304)));
 }

@@ -5,6 +5,7 @@ ghost use Rattle.pb_answer.specs.Faults.{is_outside};
 
 use crate::faults::{Bad, Ending, build_fault, keys, unit_fault};
 use pb_answer::{BuildFault, Summary, result_line};
+use pb_checks_files::{holds, is_said};
 use pb_data::{Bytes, Items, Text};
 use pb_directive::LineFault;
 use pb_feature::FeatureFault;
@@ -12,17 +13,11 @@ use pb_manifest::{Key, ManifestFault};
 use pb_place::{PathFault, PlaceFault, StartFault};
 use pb_profile::ProfileFault;
 use pb_project::UnitFault;
-use std::alloc::{AllocError, Global};
-use std::test::Fail;
+use std::alloc::Global;
 
 /// Whether the line of a build is this.
-fn says(
-    alloc: Global,
-    answer: &Result<Summary, BuildFault>,
-    wanted: &str,
-) -> Result<bool, AllocError> {
-    let line = result_line(alloc, answer)?;
-    Ok(line.as_str() == wanted)
+fn says(alloc: Global, answer: Result<Summary, BuildFault>, wanted: &str) -> bool {
+    is_said(result_line(alloc, &answer), wanted)
 }
 
 /// The key of the first bad unit, `a.target.lib`, and its fault.
@@ -57,7 +52,7 @@ fn ends_with(
 ) -> Result<bool, PathFault> {
     let started = keys(alloc, started)?;
     let bad = bad_unit(alloc, bad)?;
-    Ok(says(alloc, &Ok(summary(alloc, bad, started)), wanted)?)
+    Ok(says(alloc, Ok(summary(alloc, bad, started)), wanted))
 }
 
 /// The fault of the first bad unit, where there is one, the keys of what was started, and the line.
@@ -158,11 +153,6 @@ fn is_outside(fault: &BuildFault) -> bool
     }
 }
 
-/// Whether the line of a build that ended with this fault is this.
-fn fails_with(alloc: Global, fault: BuildFault, wanted: &str) -> Result<bool, AllocError> {
-    says(alloc, &Err(fault), wanted)
-}
-
 /// Whether the line of a build that ended so is this, and its fault comes from outside the rules or does not.
 fn is_told(
     alloc: Global,
@@ -172,7 +162,7 @@ fn is_told(
 ) -> Result<bool, PathFault> {
     let fault = build_fault(alloc, ending)?;
     let is_right = is_outside(&fault) == is_from_outside;
-    Ok(fails_with(alloc, fault, wanted)? && is_right)
+    Ok(says(alloc, Err(fault), wanted) && is_right)
 }
 
 /// Faults of a build, the line of each, and whether it comes from outside the rules.
@@ -340,17 +330,19 @@ const FAULTS: &[(Ending, &str, bool)] = &[
 ];
 
 #[test]
-fn result_lines(rt: HostRuntime) -> Result<(), Fail> {
+fn result_lines(rt: HostRuntime) {
     for case in ENDS {
         let (bad, started, wanted) = *case;
-        assert!(rt; ends_with(rt.alloc(), bad, started, wanted)?, "{wanted}");
+        assert!(rt;
+            holds(ends_with(rt.alloc(), bad, started, wanted)),
+            "{wanted}"
+        );
     }
     for case in FAULTS {
         let (ending, wanted, is_from_outside) = *case;
         assert!(rt;
-            is_told(rt.alloc(), ending, wanted, is_from_outside)?,
+            holds(is_told(rt.alloc(), ending, wanted, is_from_outside)),
             "{wanted}"
         );
     }
-    Ok(())
 }

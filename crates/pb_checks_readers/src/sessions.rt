@@ -1,12 +1,11 @@
 //! What session files say, against worked examples.
 
-use pb_checks_files::Shown;
+use pb_checks_files::{Shown, holds};
 use pb_data::Text;
 use pb_package::Options;
 use pb_place::StartFault;
 use pb_session::{BadSession, Death, PickBy, SessionStep, read_session};
 use std::alloc::{AllocError, Global};
-use std::test::Fail;
 
 /// Puts the texts of an option in words: its name, and each text with a bar behind it; nothing where there is none.
 fn put_texts(out: &mut Shown, name: &str, texts: &[Text]) {
@@ -77,317 +76,251 @@ fn put_step(out: &mut Shown, step: &SessionStep) {
     }
 }
 
-/// Steps in words, each with `;` behind it.
-fn steps_shown(alloc: Global, steps: &[SessionStep]) -> Result<String, AllocError> {
-    let mut shown = Shown::new(alloc);
+/// Puts steps in words, each with `;` behind it.
+fn put_steps(out: &mut Shown, steps: &[SessionStep]) {
     for step in steps {
-        put_step(&mut shown, step);
-        shown.put(&[";"]);
-    }
-    shown.whole()
-}
-
-/// The steps of a session in words, or `bad`.
-fn shown(alloc: Global, bytes: &[u8]) -> Result<String, AllocError> {
-    match read_session(alloc, bytes) {
-        Ok(steps) => steps_shown(alloc, steps.as_slice()),
-        Err(BadSession::BadForm) => String::from_str(alloc, "bad"),
-        Err(BadSession::OutOfMemory) => String::from_str(alloc, "memory"),
+        put_step(out, step);
+        out.put(&[";"]);
     }
 }
 
-/// Whether a session file says this.
-fn says(alloc: Global, session: &[u8], wanted: &str) -> Result<bool, AllocError> {
-    let found = shown(alloc, session)?;
-    Ok(found.as_str() == wanted)
+/// Whether a session file says this: its steps in words, or `bad`.
+fn says(alloc: Global, session: &[u8], wanted: &str) -> bool {
+    let mut shown = Shown::new(alloc);
+    match read_session(alloc, session) {
+        Ok(steps) => put_steps(&mut shown, steps.as_slice()),
+        Err(BadSession::BadForm) => shown.put(&["bad"]),
+        Err(BadSession::OutOfMemory) => shown.put(&["memory"]),
+    }
+    shown.says(wanted)
 }
 
-/// Session files, and their steps or that they are no session.
-const SESSIONS: &[(&str, &str)] = &[
+/// Session files, one a line, and their steps or that they are no session.
+const SESSIONS: &str = r#"[{"write":["/","x"]}] -> write</><x>;
+[{"write":["/w/../x//./y/",""]}] -> write</x/y><>;
+[{"remove":"/w"}] -> remove</w><>;
+[{"remove":"/w/../x/"}] -> remove</x><>;
+[{"remove":"/.."}] -> remove</><>;
+[{"set":["A=B",""]}] -> set<A=B><>;
+[{"unset":""}] -> unset<><>;
+[{"build":{}}] -> build</w/Cargo.toml><dev>;
+[{"build":{"manifest":"/v/x.toml"}}] -> build</v/x.toml><dev>;
+[{"build":{"manifest":"//v/./x"}}] -> build</v/x><dev>;
+[{"build":{}},{"remove":"/a"},{"set":["b","c"]}] -> build</w/Cargo.toml><dev>;remove</a><>;set<b><c>;
+[{"die":["a.target.lib","CannotStart"]}] -> die<a.target.lib><cannot start>;
+[{"die":["a.target.lib","Died"]}] -> die<a.target.lib><died>;
+[{"die":["","Capture"]}] -> die<><capture>;
+[{"fuse":0}] -> fuse<0><>;
+[{"fuse":1}] -> fuse<1><>;
+[{"fuse":18446744073709551615}] -> fuse<18446744073709551615><>;
+[{"die":["a","Died"]},{"die":["a","Died"]},{"fuse":7},{"build":{"jobs":2}}] -> die<a><died>;die<a><died>;fuse<7><>;build</w/Cargo.toml><dev> jobs=2;
+[{"build":{},"build":{"manifest":"/b"}}] -> build</b><dev>;
+[{"unset":"a","unset":"b"}] -> unset<b><>;
+[{"fuse":1.0,"fuse":2}] -> fuse<2><>;
+[ -> bad
+{} -> bad
+null -> bad
+{"build":{}} -> bad
+[[]] -> bad
+[{}] -> bad
+[1] -> bad
+[{"build":{}}] x -> bad
+[{"build":{},"unset":"a"}] -> bad
+[{"Build":{}}] -> bad
+[{"fly":{}}] -> bad
+[{"build":null}] -> bad
+[{"build":[]}] -> bad
+[{"build":{"manifest":null}}] -> bad
+[{"build":{"manifest":"Cargo.toml"}}] -> bad
+[{"build":{"manifest":"/w/\u0000"}}] -> bad
+[{"write":"/a"}] -> bad
+[{"write":["/a"]}] -> bad
+[{"write":["/a","b","c"]}] -> bad
+[{"write":["a","b"]}] -> bad
+[{"write":["/a",1]}] -> bad
+[{"remove":""}] -> bad
+[{"remove":["/a"]}] -> bad
+[{"set":["a"]}] -> bad
+[{"set":["a",true]}] -> bad
+[{"unset":["a"]}] -> bad
+[{"unset":1}] -> bad
+[{"set":"a"}] -> bad
+[{"set":["a","b","c"]}] -> bad
+[{"set":{"a":"b"}}] -> bad
+[{"remove":1}] -> bad
+[{"remove":"/\u0000"}] -> bad
+[{"write":["/a\u0000","b"]}] -> bad
+[{"write":[1,"b"]}] -> bad
+[{"write":[]}] -> bad
+[{"":{}}] -> bad
+[{"build":"/w/Cargo.toml"}] -> bad
+[{"build":{"Manifest":"/a"}}] -> bad
+[{"build":{"":"/a"}}] -> bad
+[null] -> bad
+[{"die":"a"}] -> bad
+[{"die":[]}] -> bad
+[{"die":["a"]}] -> bad
+[{"die":["a","X"]}] -> bad
+[{"die":["a",""]}] -> bad
+[{"die":["a","died"]}] -> bad
+[{"die":["a","OutOfMemory"]}] -> bad
+[{"die":["a","Died","b"]}] -> bad
+[{"die":["Died","a"]}] -> bad
+[{"die":[1,"Died"]}] -> bad
+[{"die":["a",null]}] -> bad
+[{"die":{"a":"Died"}}] -> bad
+[{"Die":["a","Died"]}] -> bad
+[{"fuse":1.0}] -> bad
+[{"fuse":1e1}] -> bad
+[{"fuse":1E0}] -> bad
+[{"fuse":0.0}] -> bad
+[{"fuse":-0}] -> bad
+[{"fuse":-1}] -> bad
+[{"fuse":01}] -> bad
+[{"fuse":+1}] -> bad
+[{"fuse":18446744073709551616}] -> bad
+[{"fuse":99999999999999999999999}] -> bad
+[{"fuse":"1"}] -> bad
+[{"fuse":[1]}] -> bad
+[{"fuse":null}] -> bad
+[{"fuse":true}] -> bad
+[{"fuse":1,"build":{}}] -> bad
+[{"build":{}},{"write":["a","b"]}] -> bad"#;
+
+/// The same of files that a line cannot say.
+const ODD_SESSIONS: &[(&str, &str)] = &[
     ("[]", ""),
     (" [ ] ", ""),
     (r#"[{"write":["/w/a.rs","x\n"]}]"#, "write</w/a.rs><x\n>;"),
-    (r#"[{"write":["/","x"]}]"#, "write</><x>;"),
-    (r#"[{"write":["/w/../x//./y/",""]}]"#, "write</x/y><>;"),
-    (r#"[{"remove":"/w"}]"#, "remove</w><>;"),
-    (r#"[{"remove":"/w/../x/"}]"#, "remove</x><>;"),
-    (r#"[{"remove":"/.."}]"#, "remove</><>;"),
-    (r#"[{"set":["A=B",""]}]"#, "set<A=B><>;"),
-    (r#"[{"unset":""}]"#, "unset<><>;"),
-    (r#"[{"build":{}}]"#, "build</w/Cargo.toml><dev>;"),
-    (
-        r#"[{"build":{"manifest":"/v/x.toml"}}]"#,
-        "build</v/x.toml><dev>;",
-    ),
-    (r#"[{"build":{"manifest":"//v/./x"}}]"#, "build</v/x><dev>;"),
     (r#"[{"set":["","\u0000"]}]"#, "set<><\0>;"),
-    (
-        r#"[{"build":{}},{"remove":"/a"},{"set":["b","c"]}]"#,
-        "build</w/Cargo.toml><dev>;remove</a><>;set<b><c>;",
-    ),
-    (
-        r#"[{"die":["a.target.lib","CannotStart"]}]"#,
-        "die<a.target.lib><cannot start>;",
-    ),
-    (
-        r#"[{"die":["a.target.lib","Died"]}]"#,
-        "die<a.target.lib><died>;",
-    ),
-    (r#"[{"die":["","Capture"]}]"#, "die<><capture>;"),
     (r#"[{"die":["/\u0000","Died"]}]"#, "die</\0><died>;"),
-    (r#"[{"fuse":0}]"#, "fuse<0><>;"),
-    (r#"[{"fuse":1}]"#, "fuse<1><>;"),
-    (
-        r#"[{"fuse":18446744073709551615}]"#,
-        "fuse<18446744073709551615><>;",
-    ),
-    (
-        r#"[{"die":["a","Died"]},{"die":["a","Died"]},{"fuse":7},{"build":{"jobs":2}}]"#,
-        "die<a><died>;die<a><died>;fuse<7><>;build</w/Cargo.toml><dev> jobs=2;",
-    ),
-    // Of a key that stands twice the last value counts.
-    (
-        r#"[{"build":{},"build":{"manifest":"/b"}}]"#,
-        "build</b><dev>;",
-    ),
-    (r#"[{"unset":"a","unset":"b"}]"#, "unset<b><>;"),
-    (r#"[{"fuse":1.0,"fuse":2}]"#, "fuse<2><>;"),
-    // Files that are no session.
     ("", "bad"),
-    ("[", "bad"),
-    ("{}", "bad"),
-    ("null", "bad"),
-    (r#"{"build":{}}"#, "bad"),
-    ("[[]]", "bad"),
-    ("[{}]", "bad"),
-    ("[1]", "bad"),
-    (r#"[{"build":{}}] x"#, "bad"),
-    (r#"[{"build":{},"unset":"a"}]"#, "bad"),
-    (r#"[{"Build":{}}]"#, "bad"),
-    (r#"[{"fly":{}}]"#, "bad"),
-    (r#"[{"build":null}]"#, "bad"),
-    (r#"[{"build":[]}]"#, "bad"),
-    (r#"[{"build":{"manifest":null}}]"#, "bad"),
-    (r#"[{"build":{"manifest":"Cargo.toml"}}]"#, "bad"),
-    (r#"[{"build":{"manifest":"/w/\u0000"}}]"#, "bad"),
-    (r#"[{"write":"/a"}]"#, "bad"),
-    (r#"[{"write":["/a"]}]"#, "bad"),
-    (r#"[{"write":["/a","b","c"]}]"#, "bad"),
-    (r#"[{"write":["a","b"]}]"#, "bad"),
-    (r#"[{"write":["/a",1]}]"#, "bad"),
-    (r#"[{"remove":""}]"#, "bad"),
-    (r#"[{"remove":["/a"]}]"#, "bad"),
-    (r#"[{"set":["a"]}]"#, "bad"),
-    (r#"[{"set":["a",true]}]"#, "bad"),
-    (r#"[{"unset":["a"]}]"#, "bad"),
-    (r#"[{"unset":1}]"#, "bad"),
-    (r#"[{"set":"a"}]"#, "bad"),
-    (r#"[{"set":["a","b","c"]}]"#, "bad"),
-    (r#"[{"set":{"a":"b"}}]"#, "bad"),
-    (r#"[{"remove":1}]"#, "bad"),
-    (r#"[{"remove":"/\u0000"}]"#, "bad"),
-    (r#"[{"write":["/a\u0000","b"]}]"#, "bad"),
-    (r#"[{"write":[1,"b"]}]"#, "bad"),
-    (r#"[{"write":[]}]"#, "bad"),
-    (r#"[{"":{}}]"#, "bad"),
-    (r#"[{"build":"/w/Cargo.toml"}]"#, "bad"),
-    (r#"[{"build":{"Manifest":"/a"}}]"#, "bad"),
-    (r#"[{"build":{"":"/a"}}]"#, "bad"),
-    (r#"[null]"#, "bad"),
-    (r#"[{"die":"a"}]"#, "bad"),
-    (r#"[{"die":[]}]"#, "bad"),
-    (r#"[{"die":["a"]}]"#, "bad"),
-    (r#"[{"die":["a","X"]}]"#, "bad"),
-    (r#"[{"die":["a",""]}]"#, "bad"),
-    (r#"[{"die":["a","died"]}]"#, "bad"),
-    (r#"[{"die":["a","OutOfMemory"]}]"#, "bad"),
-    (r#"[{"die":["a","Died","b"]}]"#, "bad"),
-    (r#"[{"die":["Died","a"]}]"#, "bad"),
-    (r#"[{"die":[1,"Died"]}]"#, "bad"),
-    (r#"[{"die":["a",null]}]"#, "bad"),
-    (r#"[{"die":{"a":"Died"}}]"#, "bad"),
-    (r#"[{"Die":["a","Died"]}]"#, "bad"),
-    (r#"[{"fuse":1.0}]"#, "bad"),
-    (r#"[{"fuse":1e1}]"#, "bad"),
-    (r#"[{"fuse":1E0}]"#, "bad"),
-    (r#"[{"fuse":0.0}]"#, "bad"),
-    (r#"[{"fuse":-0}]"#, "bad"),
-    (r#"[{"fuse":-1}]"#, "bad"),
-    (r#"[{"fuse":01}]"#, "bad"),
-    (r#"[{"fuse":+1}]"#, "bad"),
-    (r#"[{"fuse":18446744073709551616}]"#, "bad"),
-    (r#"[{"fuse":99999999999999999999999}]"#, "bad"),
-    (r#"[{"fuse":"1"}]"#, "bad"),
-    (r#"[{"fuse":[1]}]"#, "bad"),
-    (r#"[{"fuse":null}]"#, "bad"),
-    (r#"[{"fuse":true}]"#, "bad"),
-    (r#"[{"fuse":1,"build":{}}]"#, "bad"),
-    (r#"[{"build":{}},{"write":["a","b"]}]"#, "bad"),
 ];
 
-/// The options of a build, and what they say.
-const OPTIONS: &[(&str, &str)] = &[
-    ("{}", "build</w/Cargo.toml><dev>;"),
-    (
-        r#"{"manifest":"/v/Cargo.toml"}"#,
-        "build</v/Cargo.toml><dev>;",
-    ),
-    (r#"{"profile":"release"}"#, "build</w/Cargo.toml><release>;"),
-    (r#"{"profile":""}"#, "build</w/Cargo.toml><>;"),
-    (r#"{"packages":[]}"#, "build</w/Cargo.toml><dev>;"),
-    (
-        r#"{"packages":["a"]}"#,
-        "build</w/Cargo.toml><dev> packages=a|;",
-    ),
-    (
-        r#"{"packages":["b","a","b"]}"#,
-        "build</w/Cargo.toml><dev> packages=b|a|b|;",
-    ),
-    (r#"{"features":[]}"#, "build</w/Cargo.toml><dev>;"),
-    (
-        r#"{"features":["a,b c"]}"#,
-        "build</w/Cargo.toml><dev> features=a,b c|;",
-    ),
-    (
-        r#"{"features":["x","p/y"]}"#,
-        "build</w/Cargo.toml><dev> features=x|p/y|;",
-    ),
-    (r#"{"bin":[]}"#, "build</w/Cargo.toml><dev>;"),
-    (
-        r#"{"bin":["b","a"]}"#,
-        "build</w/Cargo.toml><dev> bin=b|a|;",
-    ),
-    (
-        r#"{"workspace":true}"#,
-        "build</w/Cargo.toml><dev> workspace;",
-    ),
-    (r#"{"workspace":false}"#, "build</w/Cargo.toml><dev>;"),
-    (
-        r#"{"all_features":true}"#,
-        "build</w/Cargo.toml><dev> all_features;",
-    ),
-    (r#"{"all_features":false}"#, "build</w/Cargo.toml><dev>;"),
-    (
-        r#"{"no_default_features":true}"#,
-        "build</w/Cargo.toml><dev> no_default_features;",
-    ),
-    (
-        r#"{"no_default_features":false}"#,
-        "build</w/Cargo.toml><dev>;",
-    ),
-    (r#"{"lib":true}"#, "build</w/Cargo.toml><dev> lib;"),
-    (r#"{"lib":false}"#, "build</w/Cargo.toml><dev>;"),
-    (r#"{"bins":true}"#, "build</w/Cargo.toml><dev> bins;"),
-    (r#"{"bins":false}"#, "build</w/Cargo.toml><dev>;"),
-    (r#"{"pick":"first"}"#, "build</w/Cargo.toml><dev>;"),
-    (r#"{"pick":"last"}"#, "build</w/Cargo.toml><dev> last;"),
-    (r#"{"jobs":0}"#, "build</w/Cargo.toml><dev> jobs=0;"),
-    (r#"{"jobs":1}"#, "build</w/Cargo.toml><dev>;"),
-    (
-        r#"{"jobs":18446744073709551615,"pick":"last"}"#,
-        "build</w/Cargo.toml><dev> jobs=18446744073709551615 last;",
-    ),
-    (
-        r#"{"bin":["x"],"lib":true,"features":["f"],"packages":["p"],"workspace":true}"#,
-        "build</w/Cargo.toml><dev> workspace lib packages=p| features=f| bin=x|;",
-    ),
-    // Options that no build may have: a key of a wrong type, and keys that a session does not know.
-    (r#"{"manifest":["/a"]}"#, "bad"),
-    (r#"{"profile":1}"#, "bad"),
-    (r#"{"profile":null}"#, "bad"),
-    (r#"{"profile":["dev"]}"#, "bad"),
-    (r#"{"packages":"a"}"#, "bad"),
-    (r#"{"packages":null}"#, "bad"),
-    (r#"{"packages":["a",1]}"#, "bad"),
-    (r#"{"features":"a"}"#, "bad"),
-    (r#"{"features":{"a":"b"}}"#, "bad"),
-    (r#"{"features":[true]}"#, "bad"),
-    (r#"{"bin":"a"}"#, "bad"),
-    (r#"{"bin":true}"#, "bad"),
-    (r#"{"bin":[["a"]]}"#, "bad"),
-    (r#"{"workspace":1}"#, "bad"),
-    (r#"{"workspace":"true"}"#, "bad"),
-    (r#"{"workspace":null}"#, "bad"),
-    (r#"{"all_features":["a"]}"#, "bad"),
-    (r#"{"no_default_features":0}"#, "bad"),
-    (r#"{"lib":"lib"}"#, "bad"),
-    (r#"{"lib":{}}"#, "bad"),
-    (r#"{"bins":["a"]}"#, "bad"),
-    (r#"{"pick":"middle"}"#, "bad"),
-    (r#"{"pick":""}"#, "bad"),
-    (r#"{"pick":"First"}"#, "bad"),
-    (r#"{"pick":["first"]}"#, "bad"),
-    (r#"{"pick":0}"#, "bad"),
-    (r#"{"pick":null}"#, "bad"),
-    (r#"{"jobs":"2"}"#, "bad"),
-    (r#"{"jobs":1.0}"#, "bad"),
-    (r#"{"jobs":1e1}"#, "bad"),
-    (r#"{"jobs":-0}"#, "bad"),
-    (r#"{"jobs":-1}"#, "bad"),
-    (r#"{"jobs":18446744073709551616}"#, "bad"),
-    (r#"{"jobs":[2]}"#, "bad"),
-    (r#"{"jobs":null}"#, "bad"),
-    (r#"{"jobs":true}"#, "bad"),
-    (r#"{"target_dir":"/t"}"#, "bad"),
-    (r#"{"runner":["mini"]}"#, "bad"),
-    (r#"{"tool":"cargo"}"#, "bad"),
-    (r#"{"all-features":true}"#, "bad"),
-];
+/// The options of a build, and what they say, one a line.
+const OPTIONS: &str = r#"{} -> build</w/Cargo.toml><dev>;
+{"manifest":"/v/Cargo.toml"} -> build</v/Cargo.toml><dev>;
+{"profile":"release"} -> build</w/Cargo.toml><release>;
+{"profile":""} -> build</w/Cargo.toml><>;
+{"packages":[]} -> build</w/Cargo.toml><dev>;
+{"packages":["a"]} -> build</w/Cargo.toml><dev> packages=a|;
+{"packages":["b","a","b"]} -> build</w/Cargo.toml><dev> packages=b|a|b|;
+{"features":[]} -> build</w/Cargo.toml><dev>;
+{"features":["a,b c"]} -> build</w/Cargo.toml><dev> features=a,b c|;
+{"features":["x","p/y"]} -> build</w/Cargo.toml><dev> features=x|p/y|;
+{"bin":[]} -> build</w/Cargo.toml><dev>;
+{"bin":["b","a"]} -> build</w/Cargo.toml><dev> bin=b|a|;
+{"workspace":true} -> build</w/Cargo.toml><dev> workspace;
+{"workspace":false} -> build</w/Cargo.toml><dev>;
+{"all_features":true} -> build</w/Cargo.toml><dev> all_features;
+{"all_features":false} -> build</w/Cargo.toml><dev>;
+{"no_default_features":true} -> build</w/Cargo.toml><dev> no_default_features;
+{"no_default_features":false} -> build</w/Cargo.toml><dev>;
+{"lib":true} -> build</w/Cargo.toml><dev> lib;
+{"lib":false} -> build</w/Cargo.toml><dev>;
+{"bins":true} -> build</w/Cargo.toml><dev> bins;
+{"bins":false} -> build</w/Cargo.toml><dev>;
+{"pick":"first"} -> build</w/Cargo.toml><dev>;
+{"pick":"last"} -> build</w/Cargo.toml><dev> last;
+{"jobs":0} -> build</w/Cargo.toml><dev> jobs=0;
+{"jobs":1} -> build</w/Cargo.toml><dev>;
+{"jobs":18446744073709551615,"pick":"last"} -> build</w/Cargo.toml><dev> jobs=18446744073709551615 last;
+{"bin":["x"],"lib":true,"features":["f"],"packages":["p"],"workspace":true} -> build</w/Cargo.toml><dev> workspace lib packages=p| features=f| bin=x|;
+{"manifest":["/a"]} -> bad
+{"profile":1} -> bad
+{"profile":null} -> bad
+{"profile":["dev"]} -> bad
+{"packages":"a"} -> bad
+{"packages":null} -> bad
+{"packages":["a",1]} -> bad
+{"features":"a"} -> bad
+{"features":{"a":"b"}} -> bad
+{"features":[true]} -> bad
+{"bin":"a"} -> bad
+{"bin":true} -> bad
+{"bin":[["a"]]} -> bad
+{"workspace":1} -> bad
+{"workspace":"true"} -> bad
+{"workspace":null} -> bad
+{"all_features":["a"]} -> bad
+{"no_default_features":0} -> bad
+{"lib":"lib"} -> bad
+{"lib":{}} -> bad
+{"bins":["a"]} -> bad
+{"pick":"middle"} -> bad
+{"pick":""} -> bad
+{"pick":"First"} -> bad
+{"pick":["first"]} -> bad
+{"pick":0} -> bad
+{"pick":null} -> bad
+{"jobs":"2"} -> bad
+{"jobs":1.0} -> bad
+{"jobs":1e1} -> bad
+{"jobs":-0} -> bad
+{"jobs":-1} -> bad
+{"jobs":18446744073709551616} -> bad
+{"jobs":[2]} -> bad
+{"jobs":null} -> bad
+{"jobs":true} -> bad
+{"target_dir":"/t"} -> bad
+{"runner":["mini"]} -> bad
+{"tool":"cargo"} -> bad
+{"all-features":true} -> bad"#;
+
+/// The two parts of a line.
+fn parts_of(line: &str) -> (&str, &str) {
+    line.split_once(" -> ").unwrap_or((line, ""))
+}
 
 /// Whether a session of one build with these options says this.
 fn build_says(alloc: Global, options: &str, wanted: &str) -> Result<bool, AllocError> {
     let session = format!(in alloc; "[{{\"build\":{options}}}]")?;
-    says(alloc, session.as_bytes(), wanted)
+    Ok(says(alloc, session.as_bytes(), wanted))
 }
 
-/// What no key of a session changes: the words before a build script, the builder's name, and that no target folder
+/// Puts what no key of a session changes: the words before a build script, the builder's name, and that no target folder
 /// is asked for.
-fn fixed_shown(alloc: Global, options: &Options) -> Result<String, AllocError> {
-    let mut shown = Shown::new(alloc);
-    shown.put(&[options.tool.as_str()]);
-    put_texts(&mut shown, "runner", options.runner.as_slice());
-    put_switch(&mut shown, "target_dir", options.target_dir.is_some());
-    shown.whole()
+fn put_fixed(out: &mut Shown, options: &Options) {
+    out.put(&[options.tool.as_str()]);
+    put_texts(out, "runner", options.runner.as_slice());
+    put_switch(out, "target_dir", options.target_dir.is_some());
 }
 
 /// A session of one build.
 const FIXED: &[u8] = br#"[{"build":{"profile":"release"}}]"#;
 
-/// Whether steps are one build, of which no key changes this.
-fn have_fixed(alloc: Global, steps: &[SessionStep], wanted: &str) -> Result<bool, AllocError> {
-    match steps {
-        [SessionStep::Build(options, _)] => {
-            let found = fixed_shown(alloc, options)?;
-            Ok(found.as_str() == wanted)
-        }
-        _ => Ok(false),
-    }
-}
-
-/// Whether a session has one step, of which no key changes this.
+/// Whether a session has one step, a build of which no key changes this.
 fn has_fixed(alloc: Global, session: &[u8], wanted: &str) -> Result<bool, BadSession> {
     let steps = read_session(alloc, session)?;
-    Ok(have_fixed(alloc, steps.as_slice(), wanted)?)
+    let mut shown = Shown::new(alloc);
+    if let [SessionStep::Build(options, _)] = steps.as_slice() {
+        put_fixed(&mut shown, options);
+    }
+    Ok(shown.says(wanted))
 }
 
 /// Whether what is no session is this in words.
-fn bad_reads(alloc: Global, wanted: &str) -> Result<bool, AllocError> {
-    let words = format!(in alloc; "{}", BadSession::BadForm)?;
-    Ok(words.as_str() == wanted)
+fn bad_reads(alloc: Global, wanted: &str) -> bool {
+    let mut words = Shown::new(alloc);
+    words.put_words(&BadSession::BadForm);
+    words.says(wanted)
 }
 
 #[test]
-fn sessions_and_options(rt: HostRuntime) -> Result<(), Fail> {
-    for case in SESSIONS {
+fn sessions_and_options(rt: HostRuntime) {
+    for line in SESSIONS.lines() {
+        let (session, wanted) = parts_of(line);
+        assert!(rt; says(rt.alloc(), session.as_bytes(), wanted), "{line}");
+    }
+    for case in ODD_SESSIONS {
         let (session, wanted) = *case;
-        assert!(rt; says(rt.alloc(), session.as_bytes(), wanted)?, "{session}");
+        assert!(rt; says(rt.alloc(), session.as_bytes(), wanted), "{session}");
     }
-    for case in OPTIONS {
-        let (options, wanted) = *case;
-        assert!(rt; build_says(rt.alloc(), options, wanted)?, "{options}");
+    for line in OPTIONS.lines() {
+        let (options, wanted) = parts_of(line);
+        assert!(rt; holds(build_says(rt.alloc(), options, wanted)), "{line}");
     }
-    assert!(rt; has_fixed(rt.alloc(), FIXED, "cargo runner=mini|--run|")?);
-    assert!(rt; says(rt.alloc(), b"[{\"unset\":\"\xff\"}]", "bad")?);
-    assert!(rt; bad_reads(rt.alloc(), "bad session")?);
-    Ok(())
+    assert!(rt; holds(has_fixed(rt.alloc(), FIXED, "cargo runner=mini|--run|")));
+    assert!(rt; says(rt.alloc(), b"[{\"unset\":\"\xff\"}]", "bad"));
+    assert!(rt; bad_reads(rt.alloc(), "bad session"));
 }

@@ -1,24 +1,18 @@
 //! What faults are in words, against worked examples.
 
 use crate::faults::{Bad, Ending, build_fault, unit_fault};
-use pb_answer::BuildFault;
+use pb_checks_files::{Shown, holds};
 use pb_directive::LineFault;
 use pb_manifest::{Key, ManifestFault};
 use pb_place::PathFault;
-use pb_project::UnitFault;
-use std::alloc::{AllocError, Global};
-use std::test::Fail;
-
-/// Whether the fault of a build is this in words.
-fn build_reads(alloc: Global, fault: BuildFault, wanted: &str) -> Result<bool, AllocError> {
-    let words = format!(in alloc; "{fault}")?;
-    Ok(words.as_str() == wanted)
-}
+use std::alloc::Global;
 
 /// Whether the fault of a build that ended so is this in words.
 fn ending_reads(alloc: Global, ending: Ending, wanted: &str) -> Result<bool, PathFault> {
     let fault = build_fault(alloc, ending)?;
-    Ok(build_reads(alloc, fault, wanted)?)
+    let mut words = Shown::new(alloc);
+    words.put_words(&fault);
+    Ok(words.says(wanted))
 }
 
 /// Faults of a build, and what they are in words.
@@ -35,16 +29,12 @@ const BUILD_WORDS: &[(Ending, &str)] = &[
     ),
 ];
 
-/// Whether a fault of a unit is this in words.
-fn unit_reads(alloc: Global, fault: UnitFault, wanted: &str) -> Result<bool, AllocError> {
-    let words = format!(in alloc; "{fault}")?;
-    Ok(words.as_str() == wanted)
-}
-
 /// Whether the fault of a unit is this in words.
 fn bad_reads(alloc: Global, bad: Bad, wanted: &str) -> Result<bool, PathFault> {
     let fault = unit_fault(alloc, bad)?;
-    Ok(unit_reads(alloc, fault, wanted)?)
+    let mut words = Shown::new(alloc);
+    words.put_words(&fault);
+    Ok(words.says(wanted))
 }
 
 /// Faults of a unit, and what they are in words.
@@ -65,14 +55,13 @@ const UNIT_WORDS: &[(Bad, &str)] = &[
 ];
 
 #[test]
-fn words(rt: HostRuntime) -> Result<(), Fail> {
+fn words(rt: HostRuntime) {
     for case in BUILD_WORDS {
         let (ending, wanted) = *case;
-        assert!(rt; ending_reads(rt.alloc(), ending, wanted)?, "{wanted}");
+        assert!(rt; holds(ending_reads(rt.alloc(), ending, wanted)), "{wanted}");
     }
     for case in UNIT_WORDS {
         let (bad, wanted) = *case;
-        assert!(rt; bad_reads(rt.alloc(), bad, wanted)?, "{wanted}");
+        assert!(rt; holds(bad_reads(rt.alloc(), bad, wanted)), "{wanted}");
     }
-    Ok(())
 }

@@ -68,11 +68,11 @@ fn answer(
     is_bad: bool,
     line: &str,
 ) -> Result<bool, AllocError> {
-    let fault = if is_bad { Some(1) } else { None };
-    let lines = Bytes::from_slice(alloc, line.as_bytes())?;
     if !flight.is_flying(unit) {
         return Ok(false);
     }
+    let fault = if is_bad { Some(1) } else { None };
+    let lines = Bytes::from_slice(alloc, line.as_bytes())?;
     flight.answer(unit, Answer { fault, lines });
     Ok(true)
 }

@@ -7,17 +7,14 @@ use pb_manifest::{
     ManifestFault, Package, PathSource, Profile, ProfileKeys, Readme, Source, WorkspaceDependency,
     WorkspacePackage, WorkspaceSource, WorkspaceTable, WrittenPath,
 };
-use std::alloc::{AllocError, Global};
 use std::fmt::Debug;
 
-/// The answer of the reader in one line.
-pub fn shown(alloc: Global, answer: Result<Manifest, ManifestFault>) -> Result<String, AllocError> {
-    let mut out = Shown::new(alloc);
-    match &answer {
-        Ok(manifest) => put_manifest(&mut out, manifest),
+/// Puts the answer of the reader in one line.
+pub fn put_answer(out: &mut Shown, answer: &Result<Manifest, ManifestFault>) {
+    match answer {
+        Ok(manifest) => put_manifest(out, manifest),
         Err(fault) => out.put_value(fault),
     }
-    out.whole()
 }
 
 fn put_manifest(out: &mut Shown, manifest: &Manifest) {

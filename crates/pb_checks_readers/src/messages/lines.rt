@@ -1,12 +1,12 @@
 //! Lines, compared with those that are written out in `wanted`.
 
-use crate::messages::made::{artifact, executed, library, settings, subject, text, texts};
+use crate::messages::made::{artifact, executed, library, settings, text, texts};
 use crate::messages::wanted::WANTED;
 use pb_data::{Items, Text};
 use pb_manifest::{CrateType, DebugInfo, Edition, OptLevel};
 use pb_message::{Level, Message, Subject, Target, finish_line, line_of, lines_of, write_lines};
 use pb_place::{Over, PathText};
-use std::alloc::{AllocError, Global};
+use std::alloc::Global;
 use std::test::Fail;
 
 /// Whether a text is one line, the wanted one of this number.
@@ -23,7 +23,7 @@ fn says(
     fresh: bool,
     message: &Message,
     number: usize,
-) -> Result<bool, AllocError> {
+) -> Result<bool, Fail> {
     let line = line_of(alloc, subject, fresh, message)?;
     Ok(is_line(line.as_str(), number))
 }
@@ -65,15 +65,29 @@ fn target(alloc: Global, about: About) -> Result<Target, Fail> {
     }
 }
 
-/// The package with this target, in its folder.
-fn package(alloc: Global, about: About) -> Result<Subject, Fail> {
-    let target = target(alloc, about)?;
-    let folder = match about {
+/// The folder of its package.
+fn folder_of(about: About) -> &'static str {
+    match about {
         About::Own | About::Script => "/w",
         About::OfTwoTypes => "/w/a",
         About::Binary => "/w/x-a",
-    };
-    subject(alloc, folder, "a", target)
+    }
+}
+
+/// The package of version 0.1.0 with this target, in its folder.
+fn package(alloc: Global, about: About) -> Result<Subject, Fail> {
+    let name = text(alloc, "a")?;
+    let version = text(alloc, "0.1.0")?;
+    let folder = PathText::parse(alloc, folder_of(about))?;
+    let manifest = folder.join(alloc, "Cargo.toml")?;
+    let target = target(alloc, about)?;
+    Ok(Subject {
+        name,
+        version,
+        folder,
+        manifest,
+        target,
+    })
 }
 
 /// What a line tells.
@@ -109,9 +123,9 @@ fn tells(
     told: Told,
     number: usize,
 ) -> Result<bool, Fail> {
-    let subject = package(alloc, about)?;
     let message = message(alloc, told)?;
-    Ok(says(alloc, &subject, fresh, &message, number)?)
+    let subject = package(alloc, about)?;
+    says(alloc, &subject, fresh, &message, number)
 }
 
 /// What each of the wanted lines is about, whether that is fresh, and what is told of it.
@@ -171,9 +185,7 @@ const LINES: &[(About, bool, Told)] = &[
 
 /// Adds a message.
 fn add(alloc: Global, messages: &mut Items<Message>, told: Told) -> Result<(), Fail> {
-    let message = message(alloc, told)?;
-    messages.push(message)?;
-    Ok(())
+    Ok(messages.push(message(alloc, told)?)?)
 }
 
 /// A warning, and what a script gave.
@@ -220,7 +232,6 @@ fn lines(rt: HostRuntime) -> Result<(), Fail> {
             "line {number}"
         );
     }
-    assert!(rt; both_are_written(rt.alloc())?);
-    assert!(rt; ends(true, 9) && ends(false, 10));
+    assert!(rt; both_are_written(rt.alloc())? && ends(true, 9) && ends(false, 10));
     Ok(())
 }

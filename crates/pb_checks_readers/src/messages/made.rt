@@ -2,7 +2,7 @@
 
 use pb_data::{Items, Text};
 use pb_manifest::{CrateType, DebugInfo, Edition, Lto, OptLevel, Panic, Strip};
-use pb_message::{Artifact, Executed, Message, Subject, Target};
+use pb_message::{Artifact, Executed, Message, Target};
 use pb_place::PathText;
 use pb_profile::Settings;
 use std::alloc::Global;
@@ -29,21 +29,6 @@ pub fn library(alloc: Global, types: &[CrateType]) -> Result<Target, Fail> {
     let name = text(alloc, "a")?;
     let source = PathText::parse(alloc, "/w/src/lib.rs")?;
     Ok(Target::library(alloc, types, name, source, Edition::E2021)?)
-}
-
-/// A package of version 0.1.0 with a target.
-pub fn subject(alloc: Global, folder: &str, name: &str, target: Target) -> Result<Subject, Fail> {
-    let name = text(alloc, name)?;
-    let version = text(alloc, "0.1.0")?;
-    let folder = PathText::parse(alloc, folder)?;
-    let manifest = folder.join(alloc, "Cargo.toml")?;
-    Ok(Subject {
-        name,
-        version,
-        folder,
-        manifest,
-        target,
-    })
 }
 
 /// The built-in settings of `dev`, with this level and this much for debuggers.

@@ -1,9 +1,7 @@
 //! Command lines that say a compile or a run, and such as say none.
 
 use super::worlds::{answer_in, answers};
-use pb_place::ViewFault;
 use std::alloc::Global;
-use std::test::Fail;
 
 /// The words, the status, the two streams, and the files.
 type Case = (
@@ -88,228 +86,79 @@ const COMMAND_LINES: &[Case] = &[
         b"{\"level\":\"error\",\"message\":\"no source\",\"line\":0}\n",
         b"a.d=/o/liba.rlib:\n|",
     ),
-    // Words that say no compile.
-    ("", 2, b"", b"mini: bad command line\n", b""),
-    ("-vV|-vV", 2, b"", b"mini: bad command line\n", b""),
-    ("--version", 2, b"", b"mini: bad command line\n", b""),
-    (
-        "-vV|--crate-name|a|--crate-type|lib|--out-dir|/o|/s",
-        2,
-        b"",
-        b"mini: bad command line\n",
-        b"",
-    ),
-    (
-        "--crate-type|lib|--out-dir|/o|/s",
-        2,
-        b"",
-        b"mini: bad command line\n",
-        b"",
-    ),
-    (
-        "--crate-name|a|--out-dir|/o|/s",
-        2,
-        b"",
-        b"mini: bad command line\n",
-        b"",
-    ),
-    (
-        "--crate-name|a|--crate-type|lib|/s",
-        2,
-        b"",
-        b"mini: bad command line\n",
-        b"",
-    ),
-    (
-        "--crate-name|a|--crate-type|lib|--out-dir|/o",
-        2,
-        b"",
-        b"mini: bad command line\n",
-        b"",
-    ),
-    (
-        "--crate-name|a|--crate-name|a|--crate-type|lib|--out-dir|/o|/s",
-        2,
-        b"",
-        b"mini: bad command line\n",
-        b"",
-    ),
-    (
-        "--crate-name|a|--crate-type|lib|--out-dir|/o|--out-dir|/o|/s",
-        2,
-        b"",
-        b"mini: bad command line\n",
-        b"",
-    ),
-    (
-        "--crate-name|a|--crate-type|lib|--out-dir|/o|/s|/s",
-        2,
-        b"",
-        b"mini: bad command line\n",
-        b"",
-    ),
-    (
-        "--crate-name|a|--crate-type|lib|--out-dir|/o|/s|-O",
-        2,
-        b"",
-        b"mini: bad command line\n",
-        b"",
-    ),
-    (
-        "--crate-name|a|--crate-type|lib|--out-dir|/o|/s|--edition|2021",
-        2,
-        b"",
-        b"mini: bad command line\n",
-        b"",
-    ),
-    (
-        "--crate-name|a|--crate-type|lib|--out-dir|/o|/s|--emit",
-        2,
-        b"",
-        b"mini: bad command line\n",
-        b"",
-    ),
-    (
-        "--crate-name|a|--crate-type|lib|--out-dir|/o|/s|--error-format",
-        2,
-        b"",
-        b"mini: bad command line\n",
-        b"",
-    ),
-    (
-        "--crate-name=a|--crate-type|lib|--out-dir|/o|/s",
-        2,
-        b"",
-        b"mini: bad command line\n",
-        b"",
-    ),
-    (
-        "--crate-name|a|--crate-type|lib|--out-dir|/o|/s|",
-        2,
-        b"",
-        b"mini: bad command line\n",
-        b"",
-    ),
-    (
-        "--crate-name|a|--crate-type|lib|--out-dir|/o|/s|--crate-name",
-        2,
-        b"",
-        b"mini: bad command line\n",
-        b"",
-    ),
-    (
-        "--crate-name|a|--crate-type|lib|--out-dir|/o|/s|--crate-type",
-        2,
-        b"",
-        b"mini: bad command line\n",
-        b"",
-    ),
-    (
-        "--crate-name|a|--crate-type|lib|--out-dir|/o|/s|--out-dir",
-        2,
-        b"",
-        b"mini: bad command line\n",
-        b"",
-    ),
-    (
-        "--crate-name|a|--crate-type|lib|--out-dir|/o|/s|-C",
-        2,
-        b"",
-        b"mini: bad command line\n",
-        b"",
-    ),
-    (
-        "--crate-name|a|--crate-type|lib|--out-dir|/o|/s|--cfg",
-        2,
-        b"",
-        b"mini: bad command line\n",
-        b"",
-    ),
-    (
-        "--crate-name|a|--crate-type|lib|--out-dir|/o|/s|--check-cfg",
-        2,
-        b"",
-        b"mini: bad command line\n",
-        b"",
-    ),
-    (
-        "--crate-name|a|--crate-type|lib|--out-dir|/o|/s|--extern",
-        2,
-        b"",
-        b"mini: bad command line\n",
-        b"",
-    ),
-    (
-        "--crate-name|a|--crate-type|lib|--out-dir|/o|/s|-L",
-        2,
-        b"",
-        b"mini: bad command line\n",
-        b"",
-    ),
-    (
-        "--crate-name|a|--crate-type|lib|--out-dir|/o|/s|-l",
-        2,
-        b"",
-        b"mini: bad command line\n",
-        b"",
-    ),
-    (
-        "--crate-name|a|--crate-type|lib|--out-dir|o|/s",
-        2,
-        b"",
-        b"mini: bad command line\n",
-        b"",
-    ),
-    (
-        "--crate-name|a|--crate-type|lib|--out-dir|/o\0|/s",
-        2,
-        b"",
-        b"mini: bad command line\n",
-        b"",
-    ),
-    (
-        "--crate-name||--crate-type|bin|--out-dir|/o|/s",
-        2,
-        b"",
-        b"mini: bad command line\n",
-        b"",
-    ),
-    (
-        "--crate-name|../a|--crate-type|bin|--out-dir|/o|/s",
-        2,
-        b"",
-        b"mini: bad command line\n",
-        b"",
-    ),
-    (
-        "--crate-name|a\0|--crate-type|lib|--out-dir|/o|/s",
-        2,
-        b"",
-        b"mini: bad command line\n",
-        b"",
-    ),
-    // Words that name no image, and words that say no run.
-    ("--run|/none", 2, b"", b"mini: no image\n", b""),
-    ("--run|i", 2, b"", b"mini: no image\n", b""),
-    ("--run|", 2, b"", b"mini: no image\n", b""),
-    ("--run|/i\0", 2, b"", b"mini: no image\n", b""),
-    ("--run", 2, b"", b"mini: bad command line\n", b""),
-    ("--run|/i|x", 2, b"", b"mini: bad command line\n", b""),
-    ("/i|--run", 2, b"", b"mini: bad command line\n", b""),
-    ("--run=/i", 2, b"", b"mini: bad command line\n", b""),
 ];
 
+/// Words that say no compile and no run, one command line a line.
+const BAD_WORDS: &str = "\n\
+     -vV|-vV\n\
+     --version\n\
+     -vV|--crate-name|a|--crate-type|lib|--out-dir|/o|/s\n\
+     --crate-type|lib|--out-dir|/o|/s\n\
+     --crate-name|a|--out-dir|/o|/s\n\
+     --crate-name|a|--crate-type|lib|/s\n\
+     --crate-name|a|--crate-type|lib|--out-dir|/o\n\
+     --crate-name|a|--crate-name|a|--crate-type|lib|--out-dir|/o|/s\n\
+     --crate-name|a|--crate-type|lib|--out-dir|/o|--out-dir|/o|/s\n\
+     --crate-name|a|--crate-type|lib|--out-dir|/o|/s|/s\n\
+     --crate-name|a|--crate-type|lib|--out-dir|/o|/s|-O\n\
+     --crate-name|a|--crate-type|lib|--out-dir|/o|/s|--edition|2021\n\
+     --crate-name|a|--crate-type|lib|--out-dir|/o|/s|--emit\n\
+     --crate-name|a|--crate-type|lib|--out-dir|/o|/s|--error-format\n\
+     --crate-name=a|--crate-type|lib|--out-dir|/o|/s\n\
+     --crate-name|a|--crate-type|lib|--out-dir|/o|/s|\n\
+     --crate-name|a|--crate-type|lib|--out-dir|/o|/s|--crate-name\n\
+     --crate-name|a|--crate-type|lib|--out-dir|/o|/s|--crate-type\n\
+     --crate-name|a|--crate-type|lib|--out-dir|/o|/s|--out-dir\n\
+     --crate-name|a|--crate-type|lib|--out-dir|/o|/s|-C\n\
+     --crate-name|a|--crate-type|lib|--out-dir|/o|/s|--cfg\n\
+     --crate-name|a|--crate-type|lib|--out-dir|/o|/s|--check-cfg\n\
+     --crate-name|a|--crate-type|lib|--out-dir|/o|/s|--extern\n\
+     --crate-name|a|--crate-type|lib|--out-dir|/o|/s|-L\n\
+     --crate-name|a|--crate-type|lib|--out-dir|/o|/s|-l\n\
+     --crate-name|a|--crate-type|lib|--out-dir|o|/s\n\
+     --crate-name|a|--crate-type|lib|--out-dir|/o\0|/s\n\
+     --crate-name||--crate-type|bin|--out-dir|/o|/s\n\
+     --crate-name|../a|--crate-type|bin|--out-dir|/o|/s\n\
+     --crate-name|a\0|--crate-type|lib|--out-dir|/o|/s\n\
+     --run\n\
+     --run|/i|x\n\
+     /i|--run\n\
+     --run=/i";
+
+/// Words that name no image.
+const NO_IMAGES: &str = "--run|/none\n\
+     --run|i\n\
+     --run|\n\
+     --run|/i\0";
+
+/// Whether words are refused with this on standard error.
+fn is_refused(alloc: Global, words: &str, stderr: &[u8]) -> bool {
+    let reply = answer_in(alloc, words, "/s", b"print x");
+    answers(alloc, reply, 2, b"", stderr, b"")
+}
+
 /// Whether words are answered so.
-fn is_right(alloc: Global, case: &Case) -> Result<bool, ViewFault> {
+fn is_right(alloc: Global, case: &Case) -> bool {
     let (words, status, stdout, stderr, files) = *case;
-    let reply = answer_in(alloc, words, "/s", b"print x")?;
-    Ok(answers(alloc, &reply, status, stdout, stderr, files)?)
+    let reply = answer_in(alloc, words, "/s", b"print x");
+    answers(alloc, reply, status, stdout, stderr, files)
 }
 
 #[test]
-fn command_lines(rt: HostRuntime) -> Result<(), Fail> {
+fn command_lines(rt: HostRuntime) {
     for case in COMMAND_LINES {
-        assert!(rt; is_right(rt.alloc(), case)?, "of {}", case.0);
+        assert!(rt; is_right(rt.alloc(), case), "of {}", case.0);
     }
-    Ok(())
+    for words in BAD_WORDS.lines() {
+        assert!(rt;
+            is_refused(rt.alloc(), words, b"mini: bad command line\n"),
+            "of {words}"
+        );
+    }
+    for words in NO_IMAGES.lines() {
+        assert!(rt;
+            is_refused(rt.alloc(), words, b"mini: no image\n"),
+            "of {words}"
+        );
+    }
 }

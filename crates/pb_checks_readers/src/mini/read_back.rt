@@ -2,9 +2,9 @@
 
 use super::worlds::answer_in;
 use crate::directives::tells;
+use pb_checks_files::holds;
 use pb_place::{Reply, ViewFault};
-use std::alloc::{AllocError, Global};
-use std::test::Fail;
+use std::alloc::Global;
 
 /// Words of a compile into a folder whose name needs care.
 const WORDS: &str = "--crate-name|c|--crate-type|lib|--out-dir|/o: p/q #$|--cfg|x|/w/s";
@@ -44,24 +44,23 @@ const SOURCES: &[(&[u8], &str)] = &[
 ];
 
 /// Whether this is read in a reply's last file, which is its dep-info.
-fn has_told(alloc: Global, reply: &Reply, wanted: &str) -> Result<bool, AllocError> {
+fn has_told(alloc: Global, reply: &Reply, wanted: &str) -> bool {
     match reply.files.as_slice().last() {
-        Some(file) => Ok(file.0.as_str() == "c.d" && tells(alloc, file.1.as_slice(), wanted)?),
-        None => Ok(false),
+        Some(file) => file.0.as_str() == "c.d" && tells(alloc, file.1.as_slice(), wanted),
+        None => false,
     }
 }
 
 /// Whether this is read in the dep-info of a source.
 fn is_read(alloc: Global, source: &[u8], wanted: &str) -> Result<bool, ViewFault> {
     let reply = answer_in(alloc, WORDS, "/w/s", source)?;
-    Ok(has_told(alloc, &reply, wanted)?)
+    Ok(has_told(alloc, &reply, wanted))
 }
 
 #[test]
-fn names_are_read_back(rt: HostRuntime) -> Result<(), Fail> {
+fn names_are_read_back(rt: HostRuntime) {
     for case in SOURCES {
         let (source, wanted) = *case;
-        assert!(rt; is_read(rt.alloc(), source, wanted)?, "of {wanted}");
+        assert!(rt; holds(is_read(rt.alloc(), source, wanted)), "of {wanted}");
     }
-    Ok(())
 }

@@ -1,20 +1,30 @@
 //! All sources and images, with what is asked of them.
 
-use super::compiles::{BUILD_WORDS, SOURCES};
-use super::runs::RUNS;
+use super::compiles::{BUILD_WORDS, ODD_SOURCES, SOURCES};
+use super::runs::{ODD_RUNS, RUNS};
 use super::variables::{ENVS, WHENS};
-use super::verbs::{INCLUDES, USES};
-use super::worlds::{Case, WORDS, answer_in, answers};
-use pb_place::ViewFault;
-use std::alloc::Global;
+use super::verbs::{INCLUDES, ODD_INCLUDES, USES};
+use super::worlds::{Case, WORDS, answer_in, answers, case_of, text_of};
+use pb_checks_files::holds;
+use std::alloc::{AllocError, Global};
 use std::process::Abort;
-use std::test::Fail;
 
 /// Whether the compile of a case does this.
-fn compiles_so(alloc: Global, words: &str, path: &str, case: &Case) -> Result<bool, ViewFault> {
+fn compiles_so(alloc: Global, words: &str, path: &str, case: &Case) -> bool {
     let (source, status, stderr, files) = *case;
-    let reply = answer_in(alloc, words, path, source)?;
-    Ok(answers(alloc, &reply, status, b"", stderr, files)?)
+    let reply = answer_in(alloc, words, path, source);
+    answers(alloc, reply, status, b"", stderr, files)
+}
+
+/// The same of the case of a line.
+fn line_compiles_so(
+    alloc: Global,
+    words: &str,
+    path: &str,
+    line: &str,
+) -> Result<bool, AllocError> {
+    let text = text_of(alloc, line)?;
+    Ok(compiles_so(alloc, words, path, &case_of(text.as_str())))
 }
 
 /// Asserts what each compile of a table does, which speaks on standard error.
@@ -23,30 +33,48 @@ fn assert_compiles(
     alloc: Global,
     words: &str,
     path: &str,
+    lines: &str,
     cases: &[Case],
-) -> Result<(), ViewFault> {
-    for (place, case) in cases.iter().enumerate() {
-        assert!(rt; compiles_so(alloc, words, path, case)?, "case {place}");
+) {
+    for line in lines.lines() {
+        assert!(rt; holds(line_compiles_so(alloc, words, path, line)), "{line}");
     }
-    Ok(())
+    for (place, case) in cases.iter().enumerate() {
+        assert!(rt; compiles_so(alloc, words, path, case), "case {place}");
+    }
 }
 
 /// Whether the run of a case does this: it speaks on standard output.
-fn runs_so(alloc: Global, case: &Case) -> Result<bool, ViewFault> {
+fn runs_so(alloc: Global, case: &Case) -> bool {
     let (image, status, stdout, files) = *case;
-    let reply = answer_in(alloc, "--run|/i", "/i", image)?;
-    Ok(answers(alloc, &reply, status, stdout, b"", files)?)
+    let reply = answer_in(alloc, "--run|/i", "/i", image);
+    answers(alloc, reply, status, stdout, b"", files)
+}
+
+/// The same of the case of a line.
+fn line_runs_so(alloc: Global, line: &str) -> Result<bool, AllocError> {
+    let text = text_of(alloc, line)?;
+    Ok(runs_so(alloc, &case_of(text.as_str())))
 }
 
 #[test]
-fn compiles_and_runs(rt: HostRuntime) -> Result<(), Fail> {
-    assert_compiles(&rt, rt.alloc(), WORDS, "/w/s", USES)?;
-    assert_compiles(&rt, rt.alloc(), WORDS, "/w/s", INCLUDES)?;
-    assert_compiles(&rt, rt.alloc(), WORDS, "/w/s", ENVS)?;
-    assert_compiles(&rt, rt.alloc(), WORDS, "/w/s", WHENS)?;
-    assert_compiles(&rt, rt.alloc(), BUILD_WORDS, "/w/src/lib.rs", SOURCES)?;
-    for (place, case) in RUNS.iter().enumerate() {
-        assert!(rt; runs_so(rt.alloc(), case)?, "case {place}");
+fn compiles_and_runs(rt: HostRuntime) {
+    assert_compiles(&rt, rt.alloc(), WORDS, "/w/s", USES, &[]);
+    assert_compiles(&rt, rt.alloc(), WORDS, "/w/s", INCLUDES, ODD_INCLUDES);
+    assert_compiles(&rt, rt.alloc(), WORDS, "/w/s", ENVS, &[]);
+    assert_compiles(&rt, rt.alloc(), WORDS, "/w/s", WHENS, &[]);
+    assert_compiles(
+        &rt,
+        rt.alloc(),
+        BUILD_WORDS,
+        "/w/src/lib.rs",
+        SOURCES,
+        ODD_SOURCES,
+    );
+    for line in RUNS.lines() {
+        assert!(rt; holds(line_runs_so(rt.alloc(), line)), "{line}");
     }
-    Ok(())
+    for (place, case) in ODD_RUNS.iter().enumerate() {
+        assert!(rt; runs_so(rt.alloc(), case), "case {place}");
+    }
 }

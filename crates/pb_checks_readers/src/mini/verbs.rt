@@ -3,214 +3,61 @@
 use super::worlds::Case;
 
 /// Lines with `use`.
-pub const USES: &[Case] = &[
-    (
-        b"use q",
-        0,
-        b"",
-        b"libc.rlib=mini lib c\nuse q\n> mini lib q\n> print q\n|c.d=/o/libc.rlib: /w/s\n|",
-    ),
-    (
-        b"use q\n",
-        0,
-        b"",
-        b"libc.rlib=mini lib c\nuse q\n> mini lib q\n> print q\n|c.d=/o/libc.rlib: /w/s\n|",
-    ),
-    (
-        b"use q\nprint x\nuse eq",
-        0,
-        b"",
-        b"libc.rlib=mini lib c\nuse q\n> mini lib q\n> print q\nprint x\nuse eq\n> e\n|c.d=/o/libc.rlib: /w/s\n|",
-    ),
-    (
-        b"use q\nuse q",
-        0,
-        b"",
-        b"libc.rlib=mini lib c\nuse q\n> mini lib q\n> print q\nuse q\n> mini lib q\n> print q\n|c.d=/o/libc.rlib: /w/s\n|",
-    ),
-    (
-        b"use eq",
-        0,
-        b"",
-        b"libc.rlib=mini lib c\nuse eq\n> e\n|c.d=/o/libc.rlib: /w/s\n|",
-    ),
-    (
-        b"use",
-        0,
-        b"",
-        b"libc.rlib=mini lib c\nuse\n> p\n|c.d=/o/libc.rlib: /w/s\n|",
-    ),
-    (
-        b"use ",
-        0,
-        b"",
-        b"libc.rlib=mini lib c\nuse \n> p\n|c.d=/o/libc.rlib: /w/s\n|",
-    ),
-    (
-        b"use gone",
-        1,
-        b"{\"level\":\"error\",\"message\":\"no library gone\",\"line\":1}\n",
-        b"c.d=/o/libc.rlib: /w/s\n|",
-    ),
-    (
-        b"use bare",
-        1,
-        b"{\"level\":\"error\",\"message\":\"no library bare\",\"line\":1}\n",
-        b"c.d=/o/libc.rlib: /w/s\n|",
-    ),
-    (
-        b"use rel",
-        1,
-        b"{\"level\":\"error\",\"message\":\"no library rel\",\"line\":1}\n",
-        b"c.d=/o/libc.rlib: /w/s\n|",
-    ),
-    (
-        b"use none",
-        1,
-        b"{\"level\":\"error\",\"message\":\"no library none\",\"line\":1}\n",
-        b"c.d=/o/libc.rlib: /w/s\n|",
-    ),
-    (
-        b"use q ",
-        1,
-        b"{\"level\":\"error\",\"message\":\"no library q \",\"line\":1}\n",
-        b"c.d=/o/libc.rlib: /w/s\n|",
-    ),
-    (
-        b"use  q",
-        1,
-        b"{\"level\":\"error\",\"message\":\"no library  q\",\"line\":1}\n",
-        b"c.d=/o/libc.rlib: /w/s\n|",
-    ),
-    (
-        b"use /l/q",
-        1,
-        b"{\"level\":\"error\",\"message\":\"no library /l/q\",\"line\":1}\n",
-        b"c.d=/o/libc.rlib: /w/s\n|",
-    ),
-    (
-        b"\nuse none\nuse q",
-        1,
-        b"{\"level\":\"error\",\"message\":\"no library none\",\"line\":2}\n",
-        b"c.d=/o/libc.rlib: /w/s\n|",
-    ),
-];
+pub const USES: &str =
+    r#"use q@0@@libc.rlib=mini lib c~use q~> mini lib q~> print q~|c.d=/o/libc.rlib: /w/s~|
+use q~@0@@libc.rlib=mini lib c~use q~> mini lib q~> print q~|c.d=/o/libc.rlib: /w/s~|
+use q~print x~use eq@0@@libc.rlib=mini lib c~use q~> mini lib q~> print q~print x~use eq~> e~|c.d=/o/libc.rlib: /w/s~|
+use q~use q@0@@libc.rlib=mini lib c~use q~> mini lib q~> print q~use q~> mini lib q~> print q~|c.d=/o/libc.rlib: /w/s~|
+use eq@0@@libc.rlib=mini lib c~use eq~> e~|c.d=/o/libc.rlib: /w/s~|
+use@0@@libc.rlib=mini lib c~use~> p~|c.d=/o/libc.rlib: /w/s~|
+use @0@@libc.rlib=mini lib c~use ~> p~|c.d=/o/libc.rlib: /w/s~|
+use gone@1@{"level":"error","message":"no library gone","line":1}~@c.d=/o/libc.rlib: /w/s~|
+use bare@1@{"level":"error","message":"no library bare","line":1}~@c.d=/o/libc.rlib: /w/s~|
+use rel@1@{"level":"error","message":"no library rel","line":1}~@c.d=/o/libc.rlib: /w/s~|
+use none@1@{"level":"error","message":"no library none","line":1}~@c.d=/o/libc.rlib: /w/s~|
+use q @1@{"level":"error","message":"no library q ","line":1}~@c.d=/o/libc.rlib: /w/s~|
+use  q@1@{"level":"error","message":"no library  q","line":1}~@c.d=/o/libc.rlib: /w/s~|
+use /l/q@1@{"level":"error","message":"no library /l/q","line":1}~@c.d=/o/libc.rlib: /w/s~|
+~use none~use q@1@{"level":"error","message":"no library none","line":2}~@c.d=/o/libc.rlib: /w/s~|"#;
 
 /// Lines with `include`.
-pub const INCLUDES: &[Case] = &[
-    (
-        b"include one",
-        0,
-        b"",
-        b"libc.rlib=mini lib c\n| a\n| b\n|c.d=/o/libc.rlib: /w/s /w/one\n|",
-    ),
-    (
-        b"include two",
-        0,
-        b"",
-        b"libc.rlib=mini lib c\n| a\n| b\n|c.d=/o/libc.rlib: /w/s /w/two\n|",
-    ),
-    (
-        b"include empty",
-        0,
-        b"",
-        b"libc.rlib=mini lib c\n|c.d=/o/libc.rlib: /w/s /w/empty\n|",
-    ),
-    (
-        b"include feeds",
-        0,
-        b"",
-        b"libc.rlib=mini lib c\n| \n| \n|c.d=/o/libc.rlib: /w/s /w/feeds\n|",
-    ),
-    (
-        b"include sub/x",
-        0,
-        b"",
-        b"libc.rlib=mini lib c\n| sub x\n|c.d=/o/libc.rlib: /w/s /w/sub/x\n|",
-    ),
-    (
-        b"include a b",
-        0,
-        b"",
-        b"libc.rlib=mini lib c\n| spaced\n|c.d=/o/libc.rlib: /w/s /w/a\\ b\n|",
-    ),
+pub const INCLUDES: &str =
+    r#"include one@0@@libc.rlib=mini lib c~| a~| b~|c.d=/o/libc.rlib: /w/s /w/one~|
+include two@0@@libc.rlib=mini lib c~| a~| b~|c.d=/o/libc.rlib: /w/s /w/two~|
+include empty@0@@libc.rlib=mini lib c~|c.d=/o/libc.rlib: /w/s /w/empty~|
+include feeds@0@@libc.rlib=mini lib c~| ~| ~|c.d=/o/libc.rlib: /w/s /w/feeds~|
+include sub/x@0@@libc.rlib=mini lib c~| sub x~|c.d=/o/libc.rlib: /w/s /w/sub/x~|
+include a b@0@@libc.rlib=mini lib c~| spaced~|c.d=/o/libc.rlib: /w/s /w/a\ b~|
+include ../v/x@0@@libc.rlib=mini lib c~| v x~|c.d=/o/libc.rlib: /w/s /v/x~|
+include /v/x@0@@libc.rlib=mini lib c~| v x~|c.d=/o/libc.rlib: /w/s /v/x~|
+include ./sub//../one@0@@libc.rlib=mini lib c~| a~| b~|c.d=/o/libc.rlib: /w/s /w/one~|
+include x$VAR@0@@libc.rlib=mini lib c~| dollar~|c.d=/o/libc.rlib: /w/s /w/x$VAR~|
+include one~include one@0@@libc.rlib=mini lib c~| a~| b~| a~| b~|c.d=/o/libc.rlib: /w/s /w/one~|
+include s@0@@libc.rlib=mini lib c~| include s~|c.d=/o/libc.rlib: /w/s~|
+include none@1@{"level":"error","message":"no file none","line":1}~@c.d=/o/libc.rlib: /w/s /w/none~|
+include none~include none@1@{"level":"error","message":"no file none","line":1}~{"level":"error","message":"no file none","line":2}~@c.d=/o/libc.rlib: /w/s /w/none~|
+include sub@1@{"level":"error","message":"no file sub","line":1}~@c.d=/o/libc.rlib: /w/s /w/sub~|
+include@1@{"level":"error","message":"no file ","line":1}~@c.d=/o/libc.rlib: /w/s /w~|
+include @1@{"level":"error","message":"no file ","line":1}~@c.d=/o/libc.rlib: /w/s /w~|
+include  one@1@{"level":"error","message":"no file  one","line":1}~@c.d=/o/libc.rlib: /w/s /w/\ one~|
+include $VAR/x@0@@libc.rlib=mini lib c~| v x~|c.d=/o/libc.rlib: /w/s /v/x~# env-dep:VAR=/v~|
+include $ROOT/x@0@@libc.rlib=mini lib c~| v x~|c.d=/o/libc.rlib: /w/s /v/x~# env-dep:ROOT=/v~|
+include $SUB/x@0@@libc.rlib=mini lib c~| sub x~|c.d=/o/libc.rlib: /w/s /w/sub/x~# env-dep:SUB=sub~|
+include $NONE/v/x@0@@libc.rlib=mini lib c~| v x~|c.d=/o/libc.rlib: /w/s /v/x~# env-dep:NONE~|
+include $EMPTY/v/x@0@@libc.rlib=mini lib c~| v x~|c.d=/o/libc.rlib: /w/s /v/x~# env-dep:EMPTY=~|
+include $VAR@1@{"level":"error","message":"no file $VAR","line":1}~@c.d=/o/libc.rlib: /w/s /v~# env-dep:VAR=/v~|
+include $VARx/x@1@{"level":"error","message":"no file $VARx/x","line":1}~@c.d=/o/libc.rlib: /w/s /x~# env-dep:VARx~|
+include $/x@1@{"level":"error","message":"no file $/x","line":1}~@c.d=/o/libc.rlib: /w/s /x~# env-dep:~|
+include $VAR/$VAR@1@{"level":"error","message":"no file $VAR/$VAR","line":1}~@c.d=/o/libc.rlib: /w/s /v/$VAR~# env-dep:VAR=/v~|
+include one~include $VAR/x~include two~include one~include $VAR/x@0@@libc.rlib=mini lib c~| a~| b~| v x~| a~| b~| a~| b~| v x~|c.d=/o/libc.rlib: /w/s /w/one /v/x /w/two~# env-dep:VAR=/v~|"#;
+
+/// The same of texts that such a line cannot say.
+pub const ODD_INCLUDES: &[Case] = &[
     (
         b"include cr",
         0,
         b"",
         b"libc.rlib=mini lib c\n| c\r\n|c.d=/o/libc.rlib: /w/s /w/cr\n|",
-    ),
-    (
-        b"include ../v/x",
-        0,
-        b"",
-        b"libc.rlib=mini lib c\n| v x\n|c.d=/o/libc.rlib: /w/s /v/x\n|",
-    ),
-    (
-        b"include /v/x",
-        0,
-        b"",
-        b"libc.rlib=mini lib c\n| v x\n|c.d=/o/libc.rlib: /w/s /v/x\n|",
-    ),
-    (
-        b"include ./sub//../one",
-        0,
-        b"",
-        b"libc.rlib=mini lib c\n| a\n| b\n|c.d=/o/libc.rlib: /w/s /w/one\n|",
-    ),
-    (
-        b"include x$VAR",
-        0,
-        b"",
-        b"libc.rlib=mini lib c\n| dollar\n|c.d=/o/libc.rlib: /w/s /w/x$VAR\n|",
-    ),
-    (
-        b"include one\ninclude one",
-        0,
-        b"",
-        b"libc.rlib=mini lib c\n| a\n| b\n| a\n| b\n|c.d=/o/libc.rlib: /w/s /w/one\n|",
-    ),
-    (
-        b"include s",
-        0,
-        b"",
-        b"libc.rlib=mini lib c\n| include s\n|c.d=/o/libc.rlib: /w/s\n|",
-    ),
-    (
-        b"include none",
-        1,
-        b"{\"level\":\"error\",\"message\":\"no file none\",\"line\":1}\n",
-        b"c.d=/o/libc.rlib: /w/s /w/none\n|",
-    ),
-    (
-        b"include none\ninclude none",
-        1,
-        b"{\"level\":\"error\",\"message\":\"no file none\",\"line\":1}\n{\"level\":\"error\",\"message\":\"no file none\",\"line\":2}\n",
-        b"c.d=/o/libc.rlib: /w/s /w/none\n|",
-    ),
-    (
-        b"include sub",
-        1,
-        b"{\"level\":\"error\",\"message\":\"no file sub\",\"line\":1}\n",
-        b"c.d=/o/libc.rlib: /w/s /w/sub\n|",
-    ),
-    (
-        b"include",
-        1,
-        b"{\"level\":\"error\",\"message\":\"no file \",\"line\":1}\n",
-        b"c.d=/o/libc.rlib: /w/s /w\n|",
-    ),
-    (
-        b"include ",
-        1,
-        b"{\"level\":\"error\",\"message\":\"no file \",\"line\":1}\n",
-        b"c.d=/o/libc.rlib: /w/s /w\n|",
-    ),
-    (
-        b"include  one",
-        1,
-        b"{\"level\":\"error\",\"message\":\"no file  one\",\"line\":1}\n",
-        b"c.d=/o/libc.rlib: /w/s /w/\\ one\n|",
     ),
     (
         b"include a\0b",
@@ -219,72 +66,11 @@ pub const INCLUDES: &[Case] = &[
         b"c.d=/o/libc.rlib: /w/s\n|",
     ),
     (
-        b"include $VAR/x",
-        0,
-        b"",
-        b"libc.rlib=mini lib c\n| v x\n|c.d=/o/libc.rlib: /w/s /v/x\n# env-dep:VAR=/v\n|",
-    ),
-    (
-        b"include $ROOT/x",
-        0,
-        b"",
-        b"libc.rlib=mini lib c\n| v x\n|c.d=/o/libc.rlib: /w/s /v/x\n# env-dep:ROOT=/v\n|",
-    ),
-    (
-        b"include $SUB/x",
-        0,
-        b"",
-        b"libc.rlib=mini lib c\n| sub x\n|c.d=/o/libc.rlib: /w/s /w/sub/x\n# env-dep:SUB=sub\n|",
-    ),
-    (
-        b"include $NONE/v/x",
-        0,
-        b"",
-        b"libc.rlib=mini lib c\n| v x\n|c.d=/o/libc.rlib: /w/s /v/x\n# env-dep:NONE\n|",
-    ),
-    (
-        b"include $EMPTY/v/x",
-        0,
-        b"",
-        b"libc.rlib=mini lib c\n| v x\n|c.d=/o/libc.rlib: /w/s /v/x\n# env-dep:EMPTY=\n|",
-    ),
-    (
-        b"include $VAR",
-        1,
-        b"{\"level\":\"error\",\"message\":\"no file $VAR\",\"line\":1}\n",
-        b"c.d=/o/libc.rlib: /w/s /v\n# env-dep:VAR=/v\n|",
-    ),
-    (
-        b"include $VARx/x",
-        1,
-        b"{\"level\":\"error\",\"message\":\"no file $VARx/x\",\"line\":1}\n",
-        b"c.d=/o/libc.rlib: /w/s /x\n# env-dep:VARx\n|",
-    ),
-    (
-        b"include $/x",
-        1,
-        b"{\"level\":\"error\",\"message\":\"no file $/x\",\"line\":1}\n",
-        b"c.d=/o/libc.rlib: /w/s /x\n# env-dep:\n|",
-    ),
-    (
-        b"include $VAR/$VAR",
-        1,
-        b"{\"level\":\"error\",\"message\":\"no file $VAR/$VAR\",\"line\":1}\n",
-        b"c.d=/o/libc.rlib: /w/s /v/$VAR\n# env-dep:VAR=/v\n|",
-    ),
-    (
         b"include $VAR/a\0",
         1,
         b"{\"level\":\"error\",\"message\":\"no file $VAR/a\\u0000\",\"line\":1}\n",
         b"c.d=/o/libc.rlib: /w/s\n# env-dep:VAR=/v\n|",
     ),
-    (
-        b"include one\ninclude $VAR/x\ninclude two\ninclude one\ninclude $VAR/x",
-        0,
-        b"",
-        b"libc.rlib=mini lib c\n| a\n| b\n| v x\n| a\n| b\n| a\n| b\n| v x\n|c.d=/o/libc.rlib: /w/s /w/one /v/x /w/two\n# env-dep:VAR=/v\n|",
-    ),
-    // A file that is no text stands in the image as it is.
     (
         b"include raw",
         0,

@@ -1,6 +1,7 @@
 //! One world of files, variables and pairs, in which compiles and runs are asked for.
 
 use super::views::Files;
+use pb_checks_files::holds;
 use pb_data::{Bytes, Items, Text};
 use pb_mini::answer;
 use pb_place::{Reply, ViewFault};
@@ -128,27 +129,52 @@ fn files_text(alloc: Global, reply: &Reply) -> Result<Vec<u8>, AllocError> {
     Ok(text)
 }
 
-/// Whether a reply has this; the files as `files_text` writes them.
+/// Whether a reply has these files, as `files_text` writes them.
+fn has_files(alloc: Global, reply: &Reply, files: &[u8]) -> Result<bool, AllocError> {
+    let found = files_text(alloc, reply)?;
+    Ok(found.as_slice() == files)
+}
+
+/// Whether a reply came, and has this; the files as `files_text` writes them.
 pub fn answers(
     alloc: Global,
-    reply: &Reply,
+    reply: Result<Reply, ViewFault>,
     status: i32,
     stdout: &[u8],
     stderr: &[u8],
     files: &[u8],
-) -> Result<bool, AllocError> {
-    let found = files_text(alloc, reply)?;
-    Ok(
-        reply.status == status
-            && reply.stdout.as_slice() == stdout
-            && reply.stderr.as_slice() == stderr
-            && found.as_slice() == files,
-    )
+) -> bool {
+    match &reply {
+        Ok(reply) => {
+            reply.status == status
+                && reply.stdout.as_slice() == stdout
+                && reply.stderr.as_slice() == stderr
+                && holds(has_files(alloc, reply, files))
+        }
+        Err(_) => false,
+    }
 }
 
 /// Words of a compile of `/w/s`, with a bar between them.
 pub const WORDS: &str =
     "--crate-name|c|--crate-type|lib|--out-dir|/o|--cfg|on|--cfg|feature=\"f\"|--cfg||--extern|q=/l/q|--extern|q=/l/p|--extern|gone=/l/gone|--extern|bare|--extern|bare=/l/p|--extern|rel=l/q|--extern|=/l/p|--extern|eq=/l/a=b|/w/s";
 
-/// A source or an image, the status of its compile or run, what that says, and its files.
-pub type Case = (&'static [u8], i32, &'static [u8], &'static [u8]);
+/// A source or an image, the status of its compile or run, what that says, and its files. Most stand as lines, with `@`
+/// between these and `~` for each line feed.
+pub type Case<'a> = (&'a [u8], i32, &'a [u8], &'a [u8]);
+
+/// The text of a line.
+pub fn text_of(alloc: Global, line: &str) -> Result<String, AllocError> {
+    line.replace(alloc, "~", "\n")
+}
+
+/// The case that such a text says.
+pub fn case_of(text: &str) -> Case {
+    let mut parts = text.split('@');
+    (
+        parts.next().unwrap_or("").as_bytes(),
+        parts.next().unwrap_or("").parse::<i32>().unwrap_or(-1),
+        parts.next().unwrap_or("").as_bytes(),
+        parts.next().unwrap_or("").as_bytes(),
+    )
+}

@@ -8,16 +8,18 @@ use pb_store::Store;
 use std::alloc::Global;
 use std::test::Fail;
 
-/// Makes a call with the call of the place of this number failing, and adds its fault and what differs then. Whether
-/// a call failed.
+/// Makes steps and then a call with the call of the place of this number failing, and adds its fault and what differs
+/// then. Whether a call failed.
 fn fail_at(
     alloc: Global,
     place: &mut Memory<Mini>,
     store: &mut Store,
+    steps: &str,
     verb: &str,
     number: u64,
     out: &mut Shown,
 ) -> Result<bool, Fail> {
+    make_steps(alloc, place, store, steps, &mut Shown::new(alloc))?;
     let mut told = Shown::new(alloc);
     place.fuse(number);
     call(alloc, place, store, verb, ("8", "8"), &mut told)?;
@@ -34,7 +36,7 @@ fn fail_at(
     Ok(true)
 }
 
-/// The same at a place that is prepared, after these steps.
+/// The same at a place that is prepared.
 fn try_in(
     alloc: Global,
     place: &mut Memory<Mini>,
@@ -44,8 +46,7 @@ fn try_in(
     out: &mut Shown,
 ) -> Result<bool, Fail> {
     let mut store = begin(alloc, place)?;
-    make_steps(alloc, place, &mut store, steps, &mut Shown::new(alloc))?;
-    fail_at(alloc, place, &mut store, verb, number, out)
+    fail_at(alloc, place, &mut store, steps, verb, number, out)
 }
 
 /// The same in a fresh place.

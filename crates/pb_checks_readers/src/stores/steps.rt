@@ -19,8 +19,7 @@ use std::test::Fail;
 pub fn begin(alloc: Global, place: &mut Memory<Mini>) -> Result<Store, Fail> {
     prepare(alloc, place)?;
     let folder = PathText::parse(alloc, "/t/debug")?;
-    let store = Store::open(alloc, place, folder)?;
-    Ok(store)
+    Ok(Store::open(alloc, place, folder)?)
 }
 
 /// Puts what opening the store told: the next number, where one is left.
@@ -80,13 +79,10 @@ fn tell_difference(
     command: &Command,
     is_replayed: bool,
     out: &mut Shown,
-) -> Result<(), AllocError> {
+) -> Result<(), Fail> {
     let key = own_key(alloc)?;
-    put_compared(
-        out,
-        &store.differs(alloc, place, &key, command),
-        is_replayed,
-    );
+    let answer = store.differs(alloc, place, &key, command);
+    put_compared(out, &answer, is_replayed);
     Ok(())
 }
 
@@ -100,7 +96,7 @@ fn tell_compared(
     out: &mut Shown,
 ) -> Result<(), Fail> {
     let command = command_with(alloc, change.0, change.1)?;
-    Ok(tell_difference(alloc, place, store, &command, is_replayed, out)?)
+    tell_difference(alloc, place, store, &command, is_replayed, out)
 }
 
 /// What differs of the unit for its command with something put in place of something in it.
@@ -139,7 +135,7 @@ fn tell_drop(
     place: &mut Memory<Mini>,
     store: &mut Store,
     out: &mut Shown,
-) -> Result<(), AllocError> {
+) -> Result<(), Fail> {
     let key = own_key(alloc)?;
     put_dropped(out, &store.drop_record(alloc, place, &key));
     Ok(())
@@ -196,14 +192,18 @@ fn tell_migrate(
     place: &mut Memory<Mini>,
     store: &mut Store,
     out: &mut Shown,
-) -> Result<(), AllocError> {
+) -> Result<(), Fail> {
     let key = own_key(alloc)?;
     let needs = needs(alloc)?;
-    put_done(
-        out,
-        &store.migrate(alloc, place, &key, needs.as_slice()),
-        "migrated",
-    );
+    let answer = store.migrate(alloc, place, &key, needs.as_slice());
+    put_done(out, &answer, "migrated");
+    Ok(())
+}
+
+/// Puts the text of a file.
+fn tell_text(alloc: Global, place: &Memory<Mini>, path: &str, out: &mut Shown) -> Result<(), Fail> {
+    let text = text_at(alloc, place, path)?;
+    out.put(&[text.as_str()]);
     Ok(())
 }
 
@@ -256,20 +256,21 @@ pub fn call(
     words: (&str, &str),
     out: &mut Shown,
 ) -> Result<bool, Fail> {
-    match verb {
-        "open" => tell_open(alloc, place, out)?,
-        "differs" => tell_differs(alloc, place, store, words, out)?,
-        "drop" => tell_drop(alloc, place, store, out)?,
-        "keep" => tell_keep(alloc, place, store, words.0, out)?,
-        "replay" => tell_compared(alloc, place, store, ("", ""), true, out)?,
-        "migrate" => tell_migrate(alloc, place, store, out)?,
-        "show" => out.put(&[text_at(alloc, place, words.0)?.as_str()]),
+    let told = match verb {
+        "open" => tell_open(alloc, place, out),
+        "differs" => tell_differs(alloc, place, store, words, out),
+        "drop" => tell_drop(alloc, place, store, out),
+        "keep" => tell_keep(alloc, place, store, words.0, out),
+        "replay" => tell_compared(alloc, place, store, ("", ""), true, out),
+        "migrate" => tell_migrate(alloc, place, store, out),
+        "show" => tell_text(alloc, place, words.0, out),
         "spent" => {
             store.next = None;
             return Ok(false);
         }
         _ => return Ok(false),
-    }
+    };
+    told?;
     Ok(true)
 }
 

@@ -7,7 +7,7 @@ ghost use Rattle.pb_soundness.specs.Records.{is_key, out_of};
 use crate::stores::world::{OWN, replaced};
 use pb_data::{Bytes, Items, Text, TryCopy};
 use pb_place::{Command, Ended, PathFault, PathText, RelativePath};
-use pb_record::{Asked, InputName, Record, read_record};
+use pb_record::{Asked, InputName, read_record};
 use std::alloc::{AllocError, Global};
 use std::test::Fail;
 
@@ -37,13 +37,23 @@ pub fn needs(alloc: Global) -> Result<Items<Text>, AllocError>
     Ok(needs)
 }
 
+/// Its inputs: paths, and variables.
+const INPUTS: &[&str] = &["/w/a", "/w/d", "V", "U"];
+
+/// The name of an input.
+fn input_name(alloc: Global, input: &str) -> Result<InputName, PathFault> {
+    if input.starts_with("/") {
+        return Ok(InputName::Path(PathText::parse(alloc, input)?));
+    }
+    Ok(InputName::Variable(Text::from_str(alloc, input)?))
+}
+
 /// The names of its inputs.
 pub fn input_names(alloc: Global) -> Result<Items<InputName>, PathFault> {
     let mut names = Items::new(alloc);
-    names.push(InputName::Path(PathText::parse(alloc, "/w/a")?))?;
-    names.push(InputName::Path(PathText::parse(alloc, "/w/d")?))?;
-    names.push(InputName::Variable(Text::from_str(alloc, "V")?))?;
-    names.push(InputName::Variable(Text::from_str(alloc, "U")?))?;
+    for input in INPUTS {
+        names.push(input_name(alloc, *input)?)?;
+    }
     Ok(names)
 }
 
@@ -58,17 +68,18 @@ pub fn ended(alloc: Global) -> Result<Ended, AllocError> {
     })
 }
 
-/// The unit's record with something put in place of something in it.
-fn own_record(alloc: Global, old: &str, new: &str) -> Result<Record, Fail> {
+/// What was asked, by the unit's record with something put in place of something in it.
+fn own_asked(alloc: Global, old: &str, new: &str) -> Result<Asked, Fail> {
     let text = replaced(alloc, OWN, old, new)?;
-    let kept = read_record(alloc, text.as_bytes())?.ok_or("no record")?;
-    Ok(kept)
+    match read_record(alloc, text.as_bytes())? {
+        Some(kept) => Ok(kept.asked),
+        None => Err(Fail::from("no record")),
+    }
 }
 
 /// The unit's command with something put in place of something in it.
 pub fn command_with(alloc: Global, old: &str, new: &str) -> Result<Command, Fail> {
-    let kept = own_record(alloc, old, new)?;
-    Ok(kept.asked.into_command())
+    Ok(own_asked(alloc, old, new)?.into_command())
 }
 
 /// What was asked, as a command that writes into this folder.
@@ -103,6 +114,6 @@ pub fn own_command(alloc: Global, folder: &PathText, key: &Text) -> Result<Comma
     ensures sorted { IfOk result (λ c. are_sorted c.pairs ≡ true) }
 {
     let out = out_path(alloc, folder, key)?;
-    let kept = own_record(alloc, "", "")?;
-    Ok(with_out(kept.asked, out))
+    let asked = own_asked(alloc, "", "")?;
+    Ok(with_out(asked, out))
 }
