@@ -84,10 +84,7 @@ fn target_of(alloc: Global, owner: &Package, what: &What) -> Result<Option<Targe
 }
 
 /// Copies of a package's name, version, folder and manifest.
-fn copied_of(
-    alloc: Global,
-    owner: &Package,
-) -> Result<(Text, Text, PathText, PathText), AllocError>
+fn copied_of(alloc: Global, owner: &Package) -> Result<(Text, Text, PathText, PathText), AllocError>
     ensures { IfOk result (λ copied. copied ≡ (owner.now.name, owner.now.version, owner.now.folder, owner.now.manifest)) }
 {
     let name = owner.name.copy(alloc)?;
