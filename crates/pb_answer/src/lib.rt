@@ -3,9 +3,9 @@
 
 pub mod bad_unit;
 pub mod fault;
-pub mod line;
+mod line;
 pub mod summary;
-pub mod telling;
+mod telling;
 
 pub use bad_unit::BadUnit;
 pub use fault::{BuildFault, DeviceFault, Refusal};

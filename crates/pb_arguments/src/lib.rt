@@ -3,8 +3,8 @@
 #![tactic(auto)]
 
 pub mod asked;
-pub mod description;
-pub mod reading;
+mod description;
+mod reading;
 
 pub use asked::{Asked, Unasked};
 pub use reading::read_command_line;

@@ -3,11 +3,11 @@
 #![tactic(auto)]
 
 pub mod builder;
-pub mod environment;
-pub mod laws;
-pub mod planning;
+mod environment;
+mod laws;
+mod planning;
 pub mod sessions;
-pub mod toolchain;
+mod toolchain;
 
 pub use builder::{
     BuildPlan, Prepared, build, build_plan, build_plan_turns, build_turns, build_with,

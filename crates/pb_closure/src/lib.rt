@@ -2,7 +2,7 @@
 //! and nothing else.
 #![tactic(auto)]
 
-pub mod closure;
+mod closure;
 mod index;
 pub mod table;
 

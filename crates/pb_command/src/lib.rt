@@ -2,11 +2,11 @@
 //! Environment Variables, Profiles; the compiler's own command line).
 #![tactic(auto)]
 
-pub mod commands;
+mod commands;
 mod externs;
 mod input_names;
-pub mod judging;
-pub mod laws;
+mod judging;
+mod laws;
 mod pairs;
 mod platform;
 mod run_pairs;

@@ -2,14 +2,14 @@
 //! lists of numbers, items as lists. And the words for an answer that memory may cut short.
 #![tactic(auto)]
 
-pub mod bytes;
-pub mod copying;
-pub mod hashing;
-pub mod items;
-pub mod mentions;
-pub mod next;
+mod bytes;
+mod copying;
+mod hashing;
+mod items;
+mod mentions;
+mod next;
 pub mod table;
-pub mod text;
+mod text;
 
 pub use bytes::Bytes;
 pub use copying::TryCopy;

@@ -1,5 +1,5 @@
 -- What a loop over a slice says of the elements before it and behind.
-use Rattle.std.proofs.Common.{◌≡◌, ◌∙◌, ◌<◌, ◌+◌, ◌∷◌, ◌++◌, [], ℕ, List, map, take, length, slice_index_or, drop, Bool, not, Option, Some, None, is_some, is_none, ap, sym, refl}
+use Rattle.std.proofs.Common.{◌≡◌, ◌∙◌, ◌<◌, ◌+◌, ◌∷◌, ◌++◌, [], ℕ, List, map, take, length, slice_index_or, drop, Bool, not, Option, Some, None, is_some, is_none, ap, sym}
 use Rattle.std.proofs.lemmas.List.{drop_more, take_more, map-append}
 
 -- in a loop, the rest begins with the element

@@ -2,11 +2,11 @@
 //! and no compiler: a unit is a number, and what it answers is a fault, if there is one, and bytes.
 #![tactic(auto)]
 
-pub mod crew;
-pub mod driving;
+mod crew;
+mod driving;
 pub mod flight;
 pub mod laws;
-pub mod needs;
+mod needs;
 pub mod turn;
 
 pub use crew::Crew;

@@ -1,12 +1,12 @@
 //! The machine that the programs run on: real files, variables and children, behind the traits of the outside world.
 #![tactic(auto)]
 
-pub mod host_place;
-pub mod host_view;
-pub mod listing;
-pub mod reading;
-pub mod starting;
-pub mod writing;
+mod host_place;
+mod host_view;
+mod listing;
+mod reading;
+mod starting;
+mod writing;
 
 pub use host_place::HostPlace;
 pub use host_view::HostView;

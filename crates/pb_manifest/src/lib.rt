@@ -4,21 +4,21 @@
 //! requirement and a path are kept by their types.
 #![tactic(auto)]
 
-pub mod crate_names;
+mod crate_names;
 pub mod dependency;
 pub mod fault;
 pub mod feature;
 pub mod inherited;
 pub mod key;
-pub mod laws;
+mod laws;
 pub mod letters;
 pub mod manifest;
 pub mod package;
 pub mod profile;
-pub mod spelling;
+mod spelling;
 pub mod target;
-pub mod version;
-pub mod written_path;
+mod version;
+mod written_path;
 
 pub use crate_names::{crate_name, library_name};
 pub use dependency::{Dependency, PathSource, Source, WorkspaceDependency, WorkspaceSource};

@@ -5,10 +5,10 @@
 #![tactic(auto)]
 
 mod dependency;
-pub mod document;
+mod document;
 mod entry;
 mod feature;
-pub mod laws;
+mod laws;
 mod package;
 mod profile;
 mod profile_values;

@@ -1,12 +1,12 @@
 //! The message lines of a build (The Cargo Book, External Tools): messages as values, and their lines.
 #![tactic(auto)]
 
-pub mod diagnostic;
-pub mod json;
-pub mod line;
+mod diagnostic;
+mod json;
+mod line;
 pub mod message;
 pub mod subject;
-pub mod writing;
+mod writing;
 
 pub use diagnostic::{diagnostics, plain_lines};
 pub use line::{finish_line, line_of, lines_of};

@@ -2,18 +2,18 @@
 //! child like any other, so what it answers says that a child can be honest. Its language is our own.
 #![tactic(auto)]
 
-pub mod buffer;
+mod buffer;
 pub mod command_line;
-pub mod compile;
+mod compile;
 pub mod dep_info;
-pub mod diagnostic;
-pub mod effects;
-pub mod include;
+mod diagnostic;
+mod effects;
+mod include;
 pub mod laws;
-pub mod lines;
-pub mod lookups;
-pub mod mini;
-pub mod output;
+mod lines;
+mod lookups;
+mod mini;
+mod output;
 pub mod request;
 pub mod scope;
 pub mod script;

@@ -2,10 +2,10 @@
 //! its reply there. `compiler` does so over the machine.
 #![tactic(auto)]
 
-pub mod fault;
-pub mod machine;
-pub mod out_folder;
-pub mod program;
+mod fault;
+mod machine;
+mod out_folder;
+mod program;
 
 pub use fault::Fault;
 pub use machine::compiler;

@@ -2,11 +2,11 @@
 //! level and then by key; or the circle that keeps them from having one.
 #![tactic(auto)]
 
-pub mod closure;
+mod closure;
 pub mod graph;
-pub mod levels;
+mod levels;
 pub mod order;
-pub mod ranks;
+mod ranks;
 
 pub use graph::{Node, OrderFault, Step};
 pub use ranks::sort_once;

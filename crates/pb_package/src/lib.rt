@@ -4,12 +4,12 @@
 //! crate.
 #![tactic(auto)]
 
-pub mod by_key;
-pub mod by_name;
+mod by_key;
+mod by_name;
 pub mod fault;
 pub mod options;
 pub mod package;
-pub mod settled;
+mod settled;
 pub mod workspace;
 
 pub use by_key::EntriesByKey;

@@ -3,11 +3,11 @@
 #![tactic(auto)]
 
 pub mod fault;
-pub mod keys;
-pub mod laws;
+mod keys;
+mod laws;
 pub mod line;
 pub mod settings;
-pub mod words;
+mod words;
 
 pub use fault::ProfileFault;
 pub use laws::{lines_follow_inherits, values_are_found};

@@ -5,9 +5,9 @@
 
 pub mod answer;
 pub mod fault;
-pub mod needed;
+mod needed;
 pub mod project;
-pub mod targets;
+mod targets;
 
 pub use answer::Answered;
 pub use fault::UnitFault;

@@ -2,20 +2,20 @@
 #![tactic(auto)]
 
 pub mod asked;
-pub mod block;
-pub mod commands;
-pub mod front;
-pub mod inputs;
-pub mod laws;
-pub mod leaves;
-pub mod lists;
-pub mod number;
-pub mod pairs;
-pub mod part;
-pub mod read;
+mod block;
+mod commands;
+mod front;
+mod inputs;
+mod laws;
+mod leaves;
+mod lists;
+mod number;
+mod pairs;
+mod part;
+mod read;
 pub mod record;
 mod room;
-pub mod write;
+mod write;
 
 pub use asked::Asked;
 pub use laws::{

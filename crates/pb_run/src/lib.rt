@@ -3,16 +3,16 @@
 #![tactic(auto)]
 
 pub mod begun;
-pub mod faults;
-pub mod halves;
+mod faults;
+mod halves;
 mod landing;
 mod launching;
-pub mod laws;
-pub mod messages;
-pub mod ordered;
+mod laws;
+mod messages;
+mod ordered;
 pub mod ran;
-pub mod running;
-pub mod subjects;
+mod running;
+mod subjects;
 
 pub use begun::{Awaited, Beginning, Begun, Launched};
 pub use faults::{childless, deviceless, storeless};

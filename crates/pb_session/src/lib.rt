@@ -1,14 +1,14 @@
 //! What a session file says: edits, failures that are prepared, and builds, and what each build is asked for.
 #![tactic(auto)]
 
-pub mod death;
+mod death;
 pub mod fault;
-pub mod laws;
-pub mod options;
+mod laws;
+mod options;
 pub mod pick;
-pub mod session;
+mod session;
 pub mod step;
-pub mod value;
+mod value;
 
 pub use death::Death;
 pub use fault::BadSession;

@@ -2,6 +2,6 @@
 //! its unit would give, and what keeps a profile folder sound.
 #![tactic(auto)]
 
-pub mod laws;
+mod laws;
 
 pub use laws::{numbers_stay_ahead, others_stay_apart, records_are_reused, soundness_stays};

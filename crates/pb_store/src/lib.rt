@@ -5,17 +5,17 @@
 mod asking;
 mod comparing;
 pub mod difference;
-pub mod differing;
-pub mod dropping;
+mod differing;
+mod dropping;
 pub mod fault;
 mod inputs;
-pub mod keeping;
+mod keeping;
 mod keys;
-pub mod laws;
-pub mod migrating;
-pub mod opening;
+mod laws;
+mod migrating;
+mod opening;
 pub mod replaying;
-pub mod store;
+mod store;
 
 pub use difference::{CommandPart, Difference};
 pub use fault::{OpenFault, StoreFault};

@@ -2,12 +2,12 @@
 //! over the machine.
 #![tactic(auto)]
 
-pub mod building;
+mod building;
 mod folder_lock;
-pub mod guard;
-pub mod machine;
-pub mod running;
-pub mod session;
+mod guard;
+mod machine;
+mod running;
+mod session;
 
 pub use building::build_options;
 pub use guard::Guard;

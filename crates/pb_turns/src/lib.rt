@@ -1,9 +1,9 @@
 //! The units of a build, begun and answered by turns.
 #![tactic(auto)]
 
-pub mod crew;
+mod crew;
 mod dropping;
-pub mod laws;
+mod laws;
 mod summing;
 mod turns;
 

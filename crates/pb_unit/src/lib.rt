@@ -6,7 +6,7 @@ mod candidates;
 mod dependencies;
 mod drawing;
 pub mod fault;
-pub mod laws;
+mod laws;
 mod names;
 mod needed;
 pub mod plan;
