@@ -126,10 +126,16 @@ def own_words(crate, said, place):
 
 
 def afresh(crate, work):
-    """The folder of a crate in the copy, as the crate stands, with no edit."""
-    folder = f"{work}/crates/{crate}"
+    """The folder of a crate in the copy, as the crate stands, with no edit; what was proved there before is kept."""
+    folder, kept = f"{work}/crates/{crate}", f"{work}/kept"
+    if os.path.isdir(f"{folder}/out/incremental"):
+        os.rename(f"{folder}/out/incremental", kept)
     shutil.rmtree(folder, ignore_errors=True)
     copied(f"{TOP}/crates/{crate}", folder)
+    if os.path.isdir(kept):
+        shutil.rmtree(f"{folder}/out/incremental", ignore_errors=True)
+        os.makedirs(f"{folder}/out", exist_ok=True)
+        os.rename(kept, f"{folder}/out/incremental")
     return folder
 
 
