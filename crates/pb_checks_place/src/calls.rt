@@ -1,24 +1,21 @@
 //! Writes and removals in turn, and variables in order.
 
-use crate::told::Step;
 use pb_data::{Items, Text};
 use pb_place::{TextMap, last_word_stands};
 use std::alloc::{AllocError, Global};
 use std::test::Fail;
 
 /// Writes and removals in turn, and what is read at each path after them.
-pub const CHANGES: &[Step] = &[
-    ("write", "/a", "one", "done"),
-    ("write", "/a/b", "two", "done"),
-    ("write", "/ab", "three", "done"),
-    ("write", "/c", "four", "done"),
-    ("remove", "/a", "", "done"),
-    ("write", "/c", "five", "done"),
-    ("read", "/a", "", "none"),
-    ("read", "/a/b", "", "none"),
-    ("read", "/ab", "", "three"),
-    ("read", "/c", "", "five"),
-];
+pub const CHANGES: &str = "write /a one -> done\n\
+     write /a/b two -> done\n\
+     write /ab three -> done\n\
+     write /c four -> done\n\
+     remove /a -> done\n\
+     write /c five -> done\n\
+     read /a -> none\n\
+     read /a/b -> none\n\
+     read /ab -> three\n\
+     read /c -> five";
 
 /// Names and values, a space after each pair.
 fn told(alloc: Global, pairs: &[(Text, Text)]) -> Result<String, AllocError> {

@@ -92,22 +92,13 @@ impl Child for Echo {
     }
 }
 
-/// One path.
-fn one_path(alloc: Global, path: &str) -> Result<Items<PathText>, PathFault> {
-    let path = PathText::parse(alloc, path)?;
-    let mut paths = Items::new(alloc);
-    paths.push(path)?;
-    Ok(paths)
-}
-
-/// A command without words and pairs.
+/// A command without words and pairs, that may read nothing in its target folder.
 fn command_of(
     alloc: Global,
     program: Text,
     folder: PathText,
     out: PathText,
     target: PathText,
-    reads: Items<PathText>,
 ) -> Command {
     Command {
         program,
@@ -117,17 +108,29 @@ fn command_of(
         out: Some(out),
         target,
         toolchain: Bytes::new(Vec::new(alloc)),
-        reads,
+        reads: Items::new(alloc),
     }
+}
+
+/// A command with the variable NAME in the target folder `/w/target`.
+fn in_target(alloc: Global, folder: &str, out: &str) -> Result<Command, PathFault> {
+    let program = Text::from_str(alloc, "NAME")?;
+    let folder = PathText::parse(alloc, folder)?;
+    let out = PathText::parse(alloc, out)?;
+    let target = PathText::parse(alloc, "/w/target")?;
+    Ok(command_of(alloc, program, folder, out, target))
+}
+
+/// Adds a path.
+fn add_path(alloc: Global, paths: &mut Items<PathText>, path: &str) -> Result<(), PathFault> {
+    let path = PathText::parse(alloc, path)?;
+    Ok(paths.push(path)?)
 }
 
 /// A command for the child: it says the file at `folder` and the variable NAME, and writes into `out`. Of the target
 /// folder `/w/target` it sees what lies below `/w/target/dep`.
 pub fn say(alloc: Global, folder: &str, out: &str) -> Result<Command, PathFault> {
-    let folder = PathText::parse(alloc, folder)?;
-    let out = PathText::parse(alloc, out)?;
-    let target = PathText::parse(alloc, "/w/target")?;
-    let reads = one_path(alloc, "/w/target/dep")?;
-    let program = Text::from_str(alloc, "NAME")?;
-    Ok(command_of(alloc, program, folder, out, target, reads))
+    let mut command = in_target(alloc, folder, out)?;
+    add_path(alloc, &mut command.reads, "/w/target/dep")?;
+    Ok(command)
 }

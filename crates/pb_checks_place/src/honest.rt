@@ -139,6 +139,32 @@ fn torn_in_memory<C: Child>(
     memory.write(alloc, path, bytes)
 }
 
+/// Whether files are read and listed that were written, and are not read where they were removed.
+fn files_hold(
+    alloc: Global,
+    memory: &mut Memory<Echo>,
+    path: &PathText,
+    folder: &PathText,
+) -> Result<bool, PlaceFault> {
+    let is_read = written_then_read(alloc, memory, path, b"one")?.is_some();
+    let listed = written_then_listed(alloc, memory, path, folder)?.len();
+    let is_gone = removed_then_read(alloc, memory, folder, path)?.is_none();
+    Ok(is_read && listed == 1 && is_gone)
+}
+
+/// Whether a child says what was just written, and ends.
+fn starts_hold(
+    alloc: Global,
+    memory: &mut Memory<Echo>,
+    path: &PathText,
+    command: &Command,
+) -> Result<bool, Fail> {
+    let ended = written_started_removed(alloc, memory, path, b"two", command)?;
+    let says_two = ended.stdout.as_slice() == b"two".as_slice();
+    let status = start_in_memory(alloc, memory, command)?.status;
+    Ok(says_two && status == 7)
+}
+
 /// Whether each of these holds, one after another, where a child says the file at a path and leaves another.
 fn hold_in_turn(
     alloc: Global,
@@ -147,24 +173,23 @@ fn hold_in_turn(
     folder: &PathText,
     command: &Command,
 ) -> Result<bool, Fail> {
-    let is_read = written_then_read(alloc, memory, path, b"one")?.is_some();
-    let listed = written_then_listed(alloc, memory, path, folder)?.len();
-    let is_gone = removed_then_read(alloc, memory, folder, path)?.is_none();
+    let files_hold = files_hold(alloc, memory, path, folder)?;
     let is_torn = torn_in_memory(alloc, memory, path, b"12345") == Err(PlaceFault::Write);
-    let says_two = written_started_removed(alloc, memory, path, b"two", command)?
-        .stdout
-        .as_slice()
-        == b"two".as_slice();
-    let status = start_in_memory(alloc, memory, command)?.status;
-    Ok(is_read && listed == 1 && is_gone && is_torn && says_two && status == 7)
+    let starts_hold = starts_hold(alloc, memory, path, command)?;
+    Ok(files_hold && is_torn && starts_hold)
+}
+
+/// Whether all hold at a place in memory, for a child that is started by this command.
+fn hold_with(alloc: Global, memory: &mut Memory<Echo>, command: &Command) -> Result<bool, Fail> {
+    let folder = PathText::parse(alloc, "/w")?;
+    let path = PathText::parse(alloc, "/w/a")?;
+    hold_in_turn(alloc, memory, &path, &folder, command)
 }
 
 /// Whether all hold at a place in memory.
 fn hold(alloc: Global, memory: &mut Memory<Echo>) -> Result<bool, Fail> {
-    let folder = PathText::parse(alloc, "/w")?;
-    let path = PathText::parse(alloc, "/w/a")?;
     let command = say(alloc, "/w/a", "/w/target/out")?;
-    hold_in_turn(alloc, memory, &path, &folder, &command)
+    hold_with(alloc, memory, &command)
 }
 
 /// Whether the file is there that the child leaves.
@@ -174,11 +199,21 @@ fn is_left(alloc: Global, memory: &mut Memory<Echo>) -> Result<bool, Fail> {
     Ok(found.is_some())
 }
 
+/// Whether all hold at a place, two children were started there, and the file is there that they leave.
+fn hold_and_leave(alloc: Global, memory: &mut Memory<Echo>) -> Result<bool, Fail> {
+    let hold = hold(alloc, memory)?;
+    let is_left = is_left(alloc, memory)?;
+    Ok(hold && is_left && memory.starts() == 2)
+}
+
+/// The same at a place of its own.
+fn all_hold(alloc: Global) -> Result<bool, Fail> {
+    let mut memory = Memory::new(alloc, Echo);
+    hold_and_leave(alloc, &mut memory)
+}
+
 #[test]
 fn clauses_of_a_place(rt: HostRuntime) -> Result<(), Fail> {
-    let mut memory = Memory::new(rt.alloc(), Echo);
-    let hold = hold(rt.alloc(), &mut memory)?;
-    let is_left = is_left(rt.alloc(), &mut memory)?;
-    assert!(rt; hold && is_left && memory.starts() == 2);
+    assert!(rt; all_hold(rt.alloc())?);
     Ok(())
 }

@@ -7,9 +7,6 @@ use pb_place::{
 use std::alloc::{AllocError, Global};
 use std::test::Fail;
 
-/// Two texts, of which the second may say nothing, and what comes of them.
-type Case = (&'static str, &'static str, &'static str);
-
 /// Whether an answer has this text, or a fault of this name.
 fn says(answer: &Result<PathText, PathFault>, wanted: &str) -> bool {
     match answer {
@@ -20,6 +17,14 @@ fn says(answer: &Result<PathText, PathFault>, wanted: &str) -> bool {
     }
 }
 
+/// Whether a path was made, and is this.
+fn is_made<E: Drop>(made: Result<PathText, E>, wanted: &str) -> bool {
+    match made {
+        Ok(path) => path.as_str() == wanted,
+        Err(_) => false,
+    }
+}
+
 /// Whether a text is parsed to this.
 fn parses_to(alloc: Global, text: &str, wanted: &str) -> Result<bool, PathFault> {
     let answer = PathText::parse(alloc, text);
@@ -27,27 +32,25 @@ fn parses_to(alloc: Global, text: &str, wanted: &str) -> Result<bool, PathFault>
 }
 
 /// Texts, and the path or the fault of each.
-const PARSES: &[Case] = &[
-    ("/", "", "/"),
-    ("/w", "", "/w"),
-    ("/w/./a/../b", "", "/w/b"),
-    ("/w/a/", "", "/w/a"),
-    ("//w///a//", "", "/w/a"),
-    ("/..", "", "/"),
-    ("/../../w", "", "/w"),
-    ("/w/../..", "", "/"),
-    ("/w/...", "", "/w/..."),
-    ("/w/.a/..b", "", "/w/.a/..b"),
-    ("/é/ x", "", "/é/ x"),
-    ("", "", "NotAbsolute"),
-    ("w", "", "NotAbsolute"),
-    ("./w", "", "NotAbsolute"),
-    ("../w", "", "NotAbsolute"),
-    ("\0", "", "NotAbsolute"),
-    ("w/\0", "", "NotAbsolute"),
-    ("/\0", "", "BadByte"),
-    ("/w\0/..", "", "BadByte"),
-];
+const PARSES: &str = "/ -> /\n\
+     /w -> /w\n\
+     /w/./a/../b -> /w/b\n\
+     /w/a/ -> /w/a\n\
+     //w///a// -> /w/a\n\
+     /.. -> /\n\
+     /../../w -> /w\n\
+     /w/../.. -> /\n\
+     /w/... -> /w/...\n\
+     /w/.a/..b -> /w/.a/..b\n\
+     /é/ x -> /é/ x\n\
+     | -> NotAbsolute\n\
+     w -> NotAbsolute\n\
+     ./w -> NotAbsolute\n\
+     ../w -> NotAbsolute\n\
+     \0 -> NotAbsolute\n\
+     w/\0 -> NotAbsolute\n\
+     /\0 -> BadByte\n\
+     /w\0/.. -> BadByte";
 
 /// Whether a text in a folder gives this.
 fn joins_to(alloc: Global, folder: &str, text: &str, wanted: &str) -> Result<bool, PathFault> {
@@ -57,21 +60,19 @@ fn joins_to(alloc: Global, folder: &str, text: &str, wanted: &str) -> Result<boo
 }
 
 /// Folders and texts, and the path of the text in the folder.
-const JOINS: &[Case] = &[
-    ("/w", "a/b", "/w/a/b"),
-    ("/w", "../x", "/x"),
-    ("/w", "../../../x", "/x"),
-    ("/w/a", "..", "/w"),
-    ("/", "..", "/"),
-    ("/", "a", "/a"),
-    ("/w", "", "/w"),
-    ("/w", ".", "/w"),
-    ("/w", "a//./b/", "/w/a/b"),
-    ("/w", "/x/../y", "/y"),
-    ("/w", "/", "/"),
-    ("/w", "a\0", "BadByte"),
-    ("/w", "/\0", "BadByte"),
-];
+const JOINS: &str = "/w|a/b -> /w/a/b\n\
+     /w|../x -> /x\n\
+     /w|../../../x -> /x\n\
+     /w/a|.. -> /w\n\
+     /|.. -> /\n\
+     /|a -> /a\n\
+     /w -> /w\n\
+     /w|. -> /w\n\
+     /w|a//./b/ -> /w/a/b\n\
+     /w|/x/../y -> /y\n\
+     /w|/ -> /\n\
+     /w|a\0 -> BadByte\n\
+     /w|/\0 -> BadByte";
 
 /// Where a path lies: `below` a folder, or the folder `itself`, or `outside`; `wrong` where it is below it but does not
 /// start with it.
@@ -92,30 +93,29 @@ fn lies(alloc: Global, path: &str, folder: &str, wanted: &str) -> Result<bool, P
 }
 
 /// Paths and folders, and where the path lies.
-const BEGINNINGS: &[Case] = &[
-    ("/w/a", "/w/a", "itself"),
-    ("/w/a/b", "/w/a", "below"),
-    ("/w/a/b/c", "/w/a", "below"),
-    ("/w/ab", "/w/a", "outside"),
-    ("/w/a", "/w/ab", "outside"),
-    ("/w", "/w/a", "outside"),
-    ("/w/A", "/w/a", "outside"),
-    ("/", "/", "itself"),
-    ("/w", "/", "below"),
-    ("/w/a", "/", "below"),
-    ("/", "/w", "outside"),
-];
+const BEGINNINGS: &str = "/w/a|/w/a -> itself\n\
+     /w/a/b|/w/a -> below\n\
+     /w/a/b/c|/w/a -> below\n\
+     /w/ab|/w/a -> outside\n\
+     /w/a|/w/ab -> outside\n\
+     /w|/w/a -> outside\n\
+     /w/A|/w/a -> outside\n\
+     /|/ -> itself\n\
+     /w|/ -> below\n\
+     /w/a|/ -> below\n\
+     /|/w -> outside";
 
 /// Whether the folder of a path is this, taken of a copy of it.
 fn is_in(alloc: Global, path: &str, wanted: &str) -> Result<bool, PathFault> {
     let path = PathText::parse(alloc, path)?;
     let again = path.copy(alloc)?;
-    let folder = again.folder(alloc)?;
-    Ok(folder.as_str() == wanted)
+    Ok(is_made(again.folder(alloc), wanted))
 }
 
 /// Paths, and the folder of each.
-const FOLDERS: &[Case] = &[("/w/a/b", "", "/w/a"), ("/w", "", "/"), ("/", "", "/")];
+const FOLDERS: &str = "/w/a/b -> /w/a\n\
+     /w -> /\n\
+     / -> /";
 
 /// Whether a relative path in a folder is this one, of a copy of it.
 fn is_below(
@@ -126,8 +126,7 @@ fn is_below(
 ) -> Result<bool, PathFault> {
     let folder = PathText::parse(alloc, folder)?;
     let again = relative.copy(alloc)?;
-    let path = folder.below(alloc, &again)?;
-    Ok(path.as_str() == wanted)
+    Ok(is_made(folder.below(alloc, &again), wanted))
 }
 
 /// Whether the relative path in a folder is this one; `none` where the text is no relative path.
@@ -139,32 +138,26 @@ fn has_inside(alloc: Global, folder: &str, text: &str, wanted: &str) -> Result<b
 }
 
 /// Folders and texts, and the path of the relative path in the folder.
-const RELATIVE_PATHS: &[Case] = &[
-    ("/w", "a", "/w/a"),
-    ("/w", "a/b.d", "/w/a/b.d"),
-    ("/", "a", "/a"),
-    ("/w", "...", "/w/..."),
-    ("/w", "", "none"),
-    ("/w", ".", "none"),
-    ("/w", "..", "none"),
-    ("/w", "a/../b", "none"),
-    ("/w", "./a", "none"),
-    ("/w", "/a", "none"),
-    ("/w", "a/", "none"),
-    ("/w", "a//b", "none"),
-    ("/w", "a\0", "none"),
-];
+const RELATIVE_PATHS: &str = "/w|a -> /w/a\n\
+     /w|a/b.d -> /w/a/b.d\n\
+     /|a -> /a\n\
+     /w|... -> /w/...\n\
+     /w -> none\n\
+     /w|. -> none\n\
+     /w|.. -> none\n\
+     /w|a/../b -> none\n\
+     /w|./a -> none\n\
+     /w|/a -> none\n\
+     /w|a/ -> none\n\
+     /w|a//b -> none\n\
+     /w|a\0 -> none";
 
 /// Whether what a path is inside a folder is this; `none` where it is not below it.
-fn has_part(
-    alloc: Global,
-    folder: &PathText,
-    path: &PathText,
-    wanted: &str,
-) -> Result<bool, AllocError> {
-    match path.inside(alloc, folder)? {
-        Some(relative) => Ok(relative.as_str() == wanted),
-        None => Ok(wanted == "none"),
+fn has_part(alloc: Global, folder: &PathText, path: &PathText, wanted: &str) -> bool {
+    match path.inside(alloc, folder) {
+        Ok(Some(relative)) => relative.as_str() == wanted,
+        Ok(None) => wanted == "none",
+        Err(_) => false,
     }
 }
 
@@ -177,17 +170,15 @@ fn is_taken_apart(
 ) -> Result<bool, PathFault> {
     let folder = PathText::parse(alloc, folder)?;
     let path = PathText::parse(alloc, path)?;
-    Ok(has_part(alloc, &folder, &path, wanted)?)
+    Ok(has_part(alloc, &folder, &path, wanted))
 }
 
 /// Folders and paths, and what the path is inside the folder.
-const PATHS_TAKEN_APART: &[Case] = &[
-    ("/w", "/w/a/b", "a/b"),
-    ("/", "/w/a", "w/a"),
-    ("/w", "/w", "none"),
-    ("/w", "/wa", "none"),
-    ("/w/a", "/w", "none"),
-];
+const PATHS_TAKEN_APART: &str = "/w|/w/a/b -> a/b\n\
+     /|/w/a -> w/a\n\
+     /w|/w -> none\n\
+     /w|/wa -> none\n\
+     /w/a|/w -> none";
 
 /// Whether the last part of a path is this.
 fn ends_in(alloc: Global, path: &str, wanted: &str) -> Result<bool, PathFault> {
@@ -196,7 +187,9 @@ fn ends_in(alloc: Global, path: &str, wanted: &str) -> Result<bool, PathFault> {
 }
 
 /// Paths, and the last part of each.
-const LAST_PARTS: &[Case] = &[("/", "", ""), ("/w", "", "w"), ("/w/a.b", "", "a.b")];
+const LAST_PARTS: &str = "/ -> \n\
+     /w -> w\n\
+     /w/a.b -> a.b";
 
 /// Whether a text is a `path`, and keeps its bytes as one, or is `none`.
 fn is_path(alloc: Global, text: &str, wanted: &str) -> Result<bool, PathFault> {
@@ -207,16 +200,14 @@ fn is_path(alloc: Global, text: &str, wanted: &str) -> Result<bool, PathFault> {
 }
 
 /// Texts, and whether each is a path.
-const TEXTS_THAT_ARE_PATHS: &[Case] = &[
-    ("/", "", "path"),
-    ("/w/a", "", "path"),
-    ("", "", "none"),
-    ("w", "", "none"),
-    ("/w/", "", "none"),
-    ("//", "", "none"),
-    ("/w/../a", "", "none"),
-    ("/w\0", "", "none"),
-];
+const TEXTS_THAT_ARE_PATHS: &str = "/ -> path\n\
+     /w/a -> path\n\
+     | -> none\n\
+     w -> none\n\
+     /w/ -> none\n\
+     // -> none\n\
+     /w/../a -> none\n\
+     /w\0 -> none";
 
 /// What is asked of two texts.
 #[derive(Clone, Copy)]
@@ -231,21 +222,41 @@ enum Asked {
     IsPath,
 }
 
-/// All tables.
-const TABLES: &[(Asked, &[Case])] = &[
-    (Asked::Parse, PARSES),
-    (Asked::Join, JOINS),
-    (Asked::Place, BEGINNINGS),
-    (Asked::Folder, FOLDERS),
-    (Asked::Below, RELATIVE_PATHS),
-    (Asked::Inside, PATHS_TAKEN_APART),
-    (Asked::LastPart, LAST_PARTS),
-    (Asked::IsPath, TEXTS_THAT_ARE_PATHS),
+/// All that is asked.
+const ALL_ASKED: &[Asked] = &[
+    Asked::Parse,
+    Asked::Join,
+    Asked::Place,
+    Asked::Folder,
+    Asked::Below,
+    Asked::Inside,
+    Asked::LastPart,
+    Asked::IsPath,
 ];
 
+/// The table of a question: in each line two texts with a bar between them, of which the second may be missing, and what
+/// comes of them.
+fn table_of(asked: Asked) -> &'static str {
+    match asked {
+        Asked::Parse => PARSES,
+        Asked::Join => JOINS,
+        Asked::Place => BEGINNINGS,
+        Asked::Folder => FOLDERS,
+        Asked::Below => RELATIVE_PATHS,
+        Asked::Inside => PATHS_TAKEN_APART,
+        Asked::LastPart => LAST_PARTS,
+        Asked::IsPath => TEXTS_THAT_ARE_PATHS,
+    }
+}
+
 /// Whether a question about two texts has this answer.
-fn is_right(alloc: Global, asked: Asked, case: &Case) -> Result<bool, PathFault> {
-    let (first, second, wanted) = *case;
+fn is_right(
+    alloc: Global,
+    asked: Asked,
+    first: &str,
+    second: &str,
+    wanted: &str,
+) -> Result<bool, PathFault> {
     match asked {
         Asked::Parse => parses_to(alloc, first, wanted),
         Asked::Join => joins_to(alloc, first, second, wanted),
@@ -258,14 +269,13 @@ fn is_right(alloc: Global, asked: Asked, case: &Case) -> Result<bool, PathFault>
     }
 }
 
-/// How many cases of a table are right, up to the first that is not.
-fn count_right(alloc: Global, asked: Asked, cases: &[Case]) -> Result<usize, PathFault> {
-    for (count, case) in cases.iter().enumerate() {
-        if !is_right(alloc, asked, case)? {
-            return Ok(count);
-        }
-    }
-    Ok(cases.len())
+/// Whether the line of a table is right; no for a line without an answer, and where memory is refused.
+fn line_is_right(alloc: Global, asked: Asked, line: &str) -> bool {
+    let Some((texts, wanted)) = line.split_once(" -> ") else {
+        return false;
+    };
+    let (first, second) = texts.split_once('|').unwrap_or((texts, ""));
+    matches!(is_right(alloc, asked, first, second, wanted), Ok(true))
 }
 
 /// Whether a relative path that is known to be one has its name's text.
@@ -283,10 +293,10 @@ fn stands_before(alloc: Global, low: &str, high: &str) -> Result<bool, PathFault
 
 #[test]
 fn paths(rt: HostRuntime) -> Result<(), Fail> {
-    for (number, table) in TABLES.iter().enumerate() {
-        let (asked, cases) = *table;
-        let count = count_right(rt.alloc(), asked, cases)?;
-        assert_eq!(rt; count, cases.len(), "table {number}");
+    for asked in ALL_ASKED {
+        for line in table_of(*asked).lines() {
+            assert!(rt; line_is_right(rt.alloc(), *asked, line), "{line}");
+        }
     }
     assert!(rt; is_known(rt.alloc())?);
     assert!(rt; stands_before(rt.alloc(), "/a", "/a.b")?);

@@ -6,7 +6,26 @@ use std::alloc::{AllocError, Global};
 use std::test::Fail;
 
 /// A call, the name of a path or of a variable, a text that is written or names a second path, and the wanted answer.
-pub type Step = (&'static str, &'static str, &'static str, &'static str);
+#[derive(Clone, Copy)]
+pub struct Step<'a> {
+    pub call: &'a str,
+    pub name: &'a str,
+    pub text: &'a str,
+    pub wanted: &'a str,
+}
+
+/// The step of a line `CALL NAME TEXT -> ANSWER`, where the name and the text may be missing.
+pub fn step_of(line: &str) -> Step {
+    let (asked, wanted) = line.split_once(" -> ").unwrap_or((line, "no answer"));
+    let (call, names) = asked.split_once(' ').unwrap_or((asked, ""));
+    let (name, text) = names.split_once(' ').unwrap_or((names, ""));
+    Step {
+        call,
+        name,
+        text,
+        wanted,
+    }
+}
 
 /// The path of a name in a folder.
 pub fn path_in(alloc: Global, folder: &PathText, name: &str) -> Result<PathText, Fail> {
@@ -89,26 +108,39 @@ pub fn answer<P: Place>(
     root: &str,
     step: &Step,
     paths: (&PathText, &PathText),
-) -> Result<String, AllocError> {
+) -> Result<String, Fail> {
     let (path, other) = paths;
-    match step.0 {
+    let said = match step.call {
         "read" => file_text(alloc, place.read(alloc, path)),
         "list" => listed(alloc, root, place.list(alloc, path)),
         "outside" => listed(alloc, root, place.list_outside(alloc, path, other)),
         "directly" => listed(alloc, root, place.list_directly(alloc, path)),
-        "write" => done(alloc, place.write(alloc, path, step.2.as_bytes())),
+        "write" => done(alloc, place.write(alloc, path, step.text.as_bytes())),
         "remove" => done(alloc, place.remove_tree(alloc, path)),
-        "variable" => value_text(alloc, place.variable(alloc, step.1)),
+        "variable" => value_text(alloc, place.variable(alloc, step.name)),
         "counts" => numbers(alloc, place.failures(), place.late()),
         "starts" => numbers(alloc, place.starts(), place.most()),
         _ => String::from_str(alloc, "no such call"),
-    }
+    };
+    Ok(said?)
 }
 
-/// Compares what a step answered with what is wanted.
-pub fn compare(step: &Step, said: &str) -> Result<(), Fail> {
-    if said != step.3 {
-        return Err(Fail::new(format_args!("{} {} {}: {said}", step.0, step.1, step.2)));
+/// Compares what a step answered, where memory was not refused, with what is wanted.
+pub fn compare(step: &Step, said: Result<String, Fail>) -> Result<(), Fail> {
+    let said = said?;
+    let said = said.as_str();
+    if said != step.wanted {
+        return Err(Fail::new(format_args!("{} {} {}: {said}", step.call, step.name, step.text)));
+    }
+    Ok(())
+}
+
+/// Tries that what was said, where memory was not refused, is this.
+pub fn try_said(said: Result<String, Fail>, wanted: &str) -> Result<(), Fail> {
+    let said = said?;
+    let said = said.as_str();
+    if said != wanted {
+        return Err(Fail::new(format_args!("{said} in place of {wanted}")));
     }
     Ok(())
 }
@@ -127,12 +159,8 @@ pub fn end_text(alloc: Global, answer: Result<Ended, StartFault>) -> Result<Stri
 }
 
 /// How the child of a command ended, and the numbers of starts and failures.
-pub fn said<P: Place>(
-    alloc: Global,
-    place: &mut P,
-    command: &Command,
-) -> Result<String, AllocError> {
+pub fn said<P: Place>(alloc: Global, place: &mut P, command: &Command) -> Result<String, Fail> {
     let end = end_text(alloc, place.start(alloc, command))?;
     let (starts, failures) = (place.starts(), place.failures());
-    format!(in alloc; "{} {starts} {failures}", end.as_str())
+    Ok(format!(in alloc; "{} {starts} {failures}", end.as_str())?)
 }

@@ -3,58 +3,35 @@
 use crate::machine::calls::carry_out_here;
 use crate::machine::commands::{Asked, said_here};
 use crate::machine::folders::{finish, fresh};
-use crate::told::Step;
 use pb_data::Text;
 use pb_host::HostPlace;
 use pb_place::{PathText, Place, PlaceFault};
 use std::test::Fail;
 
-/// Children in a test's folder, and how each ends, with the numbers of starts and failures.
-const CHILDREN: &[(Asked<'static>, &str)] = &[
-    (("/bin/sh", "exit 0", "", "", &[]), "0()() 1 0"),
-    (("/bin/sh", "exit 3", "", "", &[]), "3()() 1 0"),
-    (("/bin/sh", "exit 255", "", "", &[]), "255()() 1 0"),
-    (
-        ("/bin/sh", "echo a; echo b >&2; exit 1", "", "", &[]),
-        "1(a\n)(b\n) 1 0",
-    ),
-    (("/bin/sh", "cat", "", "", &[]), "0()() 1 0"),
-    (("/bin/sh", "pwd", "/", "", &[]), "0(/\n)() 1 0"),
-    (("/bin/sh", "kill -9 $$", "", "", &[]), "Died 1 1"),
-    (("/bin/sh", "kill $$", "", "", &[]), "Died 1 1"),
-    // programs that are not there
-    (("/no/such/program", "", "", "", &[]), "CannotStart 1 1"),
-    (("no_such_program", "", "", "", &[]), "CannotStart 1 1"),
-    (("/", "", "", "", &[]), "CannotStart 1 1"),
-    (("", "", "", "", &[]), "CannotStart 1 1"),
-    // pairs go over inherited variables
-    (
-        (
-            "/bin/sh",
-            "echo $A $PATH",
-            "",
-            "",
-            &[("A", "x y"), ("PATH", "/p")],
-        ),
-        "0(x y /p\n)() 1 0",
-    ),
-    // an output folder is made; then a file stands in its way, and then the first folder is none
-    (
-        ("/bin/sh", "echo x > out/made/f", ".", "out/made", &[]),
-        "0()() 1 0",
-    ),
-    (
-        ("/bin/sh", "echo x > out/made/f", ".", "out/made/f/g", &[]),
-        "CannotStart 1 1",
-    ),
-    (
-        ("/bin/sh", "echo x > out/made/f", "none", "out/made", &[]),
-        "CannotStart 1 1",
-    ),
-];
+/// Children in a test's folder: the program, what the shell is told, the folder in which it starts and its output folder,
+/// of which the last may be missing; and how each ends, with the numbers of starts and failures. Since some write line
+/// feeds, `~` stands between two children.
+const CHILDREN: &str = "/bin/sh|exit 0 -> 0()() 1 0~\
+     /bin/sh|exit 3 -> 3()() 1 0~\
+     /bin/sh|exit 255 -> 255()() 1 0~\
+     /bin/sh|echo a; echo b >&2; exit 1 -> 1(a\n)(b\n) 1 0~\
+     /bin/sh|cat -> 0()() 1 0~\
+     /bin/sh|pwd|/ -> 0(/\n)() 1 0~\
+     /bin/sh|kill -9 $$ -> Died 1 1~\
+     /bin/sh|kill $$ -> Died 1 1~\
+     /no/such/program -> CannotStart 1 1~\
+     no_such_program -> CannotStart 1 1~\
+     / -> CannotStart 1 1~\
+     | -> CannotStart 1 1~\
+     /bin/sh|echo x > out/made/f|.|out/made -> 0()() 1 0~\
+     /bin/sh|echo x > out/made/f|.|out/made/f/g -> CannotStart 1 1~\
+     /bin/sh|echo x > out/made/f|none|out/made -> CannotStart 1 1";
+
+/// Pairs that go over inherited variables.
+const PAIRS: &[(&str, &str)] = &[("A", "x y"), ("PATH", "/p")];
 
 /// What all have left.
-const LEFT: &[Step] = &[("list", "", "", "/out/made/f ")];
+const LEFT: &str = "list -> /out/made/f ";
 
 /// Tries how a child ends.
 fn ends(rt: &HostRuntime, root: &PathText, asked: &Asked, wanted: &str) -> Result<(), Fail> {
@@ -65,12 +42,22 @@ fn ends(rt: &HostRuntime, root: &PathText, asked: &Asked, wanted: &str) -> Resul
     Ok(())
 }
 
+/// The child that is asked for by a text.
+fn asked_of(text: &str) -> Asked {
+    let (program, rest) = text.split_once('|').unwrap_or((text, ""));
+    let (told, folders) = rest.split_once('|').unwrap_or((rest, ""));
+    let (folder, out) = folders.split_once('|').unwrap_or((folders, ""));
+    (program, told, folder, out, &[])
+}
+
 /// Tries how all children end.
 fn all_end(rt: &HostRuntime, root: &PathText) -> Result<(), Fail> {
-    for case in CHILDREN {
-        let (asked, wanted) = *case;
-        ends(rt, root, &asked, wanted)?;
+    for case in CHILDREN.split('~') {
+        let (asked, wanted) = case.split_once(" -> ").unwrap_or((case, "no answer"));
+        ends(rt, root, &asked_of(asked), wanted)?;
     }
+    let paired = ("/bin/sh", "echo $A $PATH", "", "", PAIRS);
+    ends(rt, root, &paired, "0(x y /p\n)() 1 0")?;
     carry_out_here(rt, root, LEFT)
 }
 
@@ -92,10 +79,15 @@ fn inherits(rt: &HostRuntime, root: &PathText) -> Result<(), Fail> {
     }
 }
 
+/// Tries all children in a folder, and takes it away.
+fn try_children(rt: &HostRuntime, root: &PathText) -> Result<(), Fail> {
+    all_end(rt, root)?;
+    inherits(rt, root)?;
+    finish(rt, root)
+}
+
 #[test]
 fn children(rt: HostRuntime) -> Result<(), Fail> {
     let root = fresh(&rt, "child")?;
-    all_end(&rt, &root)?;
-    inherits(&rt, &root)?;
-    finish(&rt, &root)
+    try_children(&rt, &root)
 }

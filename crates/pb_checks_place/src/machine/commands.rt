@@ -22,14 +22,13 @@ fn add_word(alloc: Global, words: &mut Items<Text>, word: &str) -> Result<(), Al
     words.push(word)
 }
 
-/// The words of the shell that is told this.
-fn words_of(alloc: Global, told: &str) -> Result<Items<Text>, AllocError> {
-    let mut words = Items::new(alloc);
-    if !told.is_empty() {
-        add_word(alloc, &mut words, "-c")?;
-        add_word(alloc, &mut words, told)?;
+/// Adds the words of the shell that is told this.
+fn add_words(alloc: Global, words: &mut Items<Text>, told: &str) -> Result<(), AllocError> {
+    if told.is_empty() {
+        return Ok(());
     }
-    Ok(words)
+    add_word(alloc, words, "-c")?;
+    add_word(alloc, words, told)
 }
 
 /// Adds a pair.
@@ -44,14 +43,17 @@ fn add_pair(
     pairs.push((name, value))
 }
 
-/// Pairs as texts.
-fn pairs_of(alloc: Global, pairs: &[(&str, &str)]) -> Result<Items<(Text, Text)>, AllocError> {
-    let mut made = Items::new(alloc);
+/// Adds pairs.
+fn add_pairs(
+    alloc: Global,
+    made: &mut Items<(Text, Text)>,
+    pairs: &[(&str, &str)],
+) -> Result<(), AllocError> {
     for pair in pairs {
         let (name, value) = *pair;
-        add_pair(alloc, &mut made, name, value)?;
+        add_pair(alloc, made, name, value)?;
     }
-    Ok(made)
+    Ok(())
 }
 
 /// The output folder of this name, or none.
@@ -63,29 +65,50 @@ fn out_of(alloc: Global, root: &PathText, name: &str) -> Result<Option<PathText>
     Ok(Some(out))
 }
 
-/// The command of a child, whose folders lie in a test's folder. It sees nothing of a target folder.
-pub(crate) fn command(alloc: Global, root: &PathText, asked: &Asked) -> Result<Command, Fail> {
-    let words = words_of(alloc, asked.1)?;
-    let pairs = pairs_of(alloc, asked.4)?;
-    let out = out_of(alloc, root, asked.3)?;
-    let folder = path_in(alloc, root, asked.2)?;
+/// The command of a program without words, pairs and an output folder. It sees nothing of a target folder.
+fn plain_command(
+    alloc: Global,
+    root: &PathText,
+    program: &str,
+    folder: &str,
+) -> Result<Command, Fail> {
+    let program = Text::from_str(alloc, program)?;
+    let folder = path_in(alloc, root, folder)?;
     let target = path_in(alloc, root, "no/target")?;
-    let program = Text::from_str(alloc, asked.0)?;
     Ok(Command {
         program,
-        words,
+        words: Items::new(alloc),
         folder,
-        pairs,
-        out,
+        pairs: Items::new(alloc),
+        out: None,
         target,
         toolchain: Bytes::new(Vec::new(alloc)),
         reads: Items::new(alloc),
     })
 }
 
+/// Gives a command the words, the pairs and the output folder of a child.
+fn fill(alloc: Global, root: &PathText, asked: &Asked, command: &mut Command) -> Result<(), Fail> {
+    command.out = out_of(alloc, root, asked.3)?;
+    add_words(alloc, &mut command.words, asked.1)?;
+    Ok(add_pairs(alloc, &mut command.pairs, asked.4)?)
+}
+
+/// The command of a child, whose folders lie in a test's folder.
+pub(crate) fn command(alloc: Global, root: &PathText, asked: &Asked) -> Result<Command, Fail> {
+    let mut command = plain_command(alloc, root, asked.0, asked.2)?;
+    fill(alloc, root, asked, &mut command)?;
+    Ok(command)
+}
+
+/// How the child of a command ended at a place of its own on the machine.
+fn said_of(rt: &HostRuntime, command: &Command) -> Result<String, Fail> {
+    let mut place = HostPlace::new(rt.alloc(), rt);
+    said(rt.alloc(), &mut place, command)
+}
+
 /// How a child ended at a place of its own on the machine.
 pub(crate) fn said_here(rt: &HostRuntime, root: &PathText, asked: &Asked) -> Result<String, Fail> {
-    let mut place = HostPlace::new(rt.alloc(), rt);
     let command = command(rt.alloc(), root, asked)?;
-    Ok(said(rt.alloc(), &mut place, &command)?)
+    said_of(rt, &command)
 }

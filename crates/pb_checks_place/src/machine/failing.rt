@@ -4,52 +4,41 @@ use crate::machine::broken::Broken;
 use crate::machine::calls::{carry_out, carry_out_here};
 use crate::machine::commands::{command, said_here, shell};
 use crate::machine::folders::{finish, fresh};
-use crate::told::{Step, path_in, said};
+use crate::told::{path_in, said, try_said};
 use pb_host::{HostPlace, HostView};
-use pb_place::{PathText, Place, PlaceFault, View, ViewFault};
+use pb_place::{Command, PathText, Place, PlaceFault, View, ViewFault};
 use std::alloc::Global;
 use std::fs;
 use std::io::ErrorKind;
 use std::test::Fail;
 
 /// Carries steps out on a machine whose every call fails so.
-fn try_broken(
-    rt: &HostRuntime,
-    root: &PathText,
-    kind: ErrorKind,
-    steps: &[Step],
-) -> Result<(), Fail> {
+fn try_broken(rt: &HostRuntime, root: &PathText, kind: ErrorKind, steps: &str) -> Result<(), Fail> {
     let machine = Broken::new(rt.alloc(), kind);
     let mut place = HostPlace::new(rt.alloc(), &machine);
     carry_out(rt, &mut place, root, steps)
 }
 
-const OWN_FAULTS: &[Step] = &[
-    ("read", "b", "", "Read"),
-    ("list", "b", "", "List"),
-    ("write", "b", "", "Write"),
-    ("remove", "b", "", "Remove"),
-    ("counts", "", "", "4 0"),
-];
+const OWN_FAULTS: &str = "read b -> Read\n\
+     list b -> List\n\
+     write b -> Write\n\
+     remove b -> Remove\n\
+     counts -> 4 0";
 
-const WANT_OF_MEMORY: &[Step] = &[
-    ("read", "b", "", "OutOfMemory"),
-    ("list", "b", "", "OutOfMemory"),
-    ("write", "b", "", "OutOfMemory"),
-    ("remove", "b", "", "OutOfMemory"),
-    ("counts", "", "", "0 0"),
-];
+const WANT_OF_MEMORY: &str = "read b -> OutOfMemory\n\
+     list b -> OutOfMemory\n\
+     write b -> OutOfMemory\n\
+     remove b -> OutOfMemory\n\
+     counts -> 0 0";
 
-const ABSENT: &[Step] = &[
-    ("read", "b", "", "none"),
-    ("list", "b", "", ""),
-    ("remove", "b", "", "done"),
-    ("write", "b", "", "Write"),
-    ("counts", "", "", "1 0"),
-];
+const ABSENT: &str = "read b -> none\n\
+     list b -> \n\
+     remove b -> done\n\
+     write b -> Write\n\
+     counts -> 1 0";
 
 /// How each call of a machine fails, and what the place answers.
-const ERRORS: &[(ErrorKind, &[Step])] = &[
+const ERRORS: &[(ErrorKind, &str)] = &[
     (ErrorKind::PermissionDenied, OWN_FAULTS),
     (ErrorKind::ReadOnlyFilesystem, OWN_FAULTS),
     (ErrorKind::InvalidFilename, OWN_FAULTS),
@@ -58,17 +47,23 @@ const ERRORS: &[(ErrorKind, &[Step])] = &[
     (ErrorKind::NotADirectory, ABSENT),
 ];
 
-/// Whether the start of a child gives this on a machine.
-fn start_gives(
-    alloc: Global,
-    machine: &Broken,
-    root: &PathText,
-    wanted: &str,
-) -> Result<bool, Fail> {
-    let command = command(alloc, root, &shell("exit 0"))?;
+/// What the start of a child gives on a machine.
+fn said_on(alloc: Global, machine: &Broken, command: &Command) -> Result<String, Fail> {
     let mut place = HostPlace::new(alloc, machine);
-    let found = said(alloc, &mut place, &command)?;
-    Ok(found.as_str() == wanted)
+    said(alloc, &mut place, command)
+}
+
+/// Tries that the start of a child that ends well gives this on a machine that fails so.
+fn try_start(
+    alloc: Global,
+    root: &PathText,
+    starts: bool,
+    kind: ErrorKind,
+    wanted: &str,
+) -> Result<(), Fail> {
+    let command = command(alloc, root, &shell("exit 0"))?;
+    let machine = Broken::starting(alloc, kind, starts);
+    try_said(said_on(alloc, &machine, &command), wanted)
 }
 
 /// Whether a machine starts children, which then cannot be heard; how it fails; and what a start gives.
@@ -79,22 +74,23 @@ const STARTS: &[(bool, ErrorKind, &str)] = &[
     (true, ErrorKind::OutOfMemory, "OutOfMemory 1 0"),
 ];
 
-#[test]
-fn broken_machines(rt: HostRuntime) -> Result<(), Fail> {
-    let root = PathText::parse(rt.alloc(), "/a")?;
+/// Tries all broken machines.
+fn try_machines(rt: &HostRuntime, root: &PathText) -> Result<(), Fail> {
     for case in ERRORS {
         let (kind, steps) = *case;
-        try_broken(&rt, &root, kind, steps)?;
+        try_broken(rt, root, kind, steps)?;
     }
     for case in STARTS {
         let (starts, kind, wanted) = *case;
-        let machine = Broken::starting(rt.alloc(), kind, starts);
-        assert!(rt;
-            start_gives(rt.alloc(), &machine, &root, wanted)?,
-            "{wanted}"
-        );
+        try_start(rt.alloc(), root, starts, kind, wanted)?;
     }
     Ok(())
+}
+
+#[test]
+fn broken_machines(rt: HostRuntime) -> Result<(), Fail> {
+    let root = PathText::parse(rt.alloc(), "/a")?;
+    try_machines(&rt, &root)
 }
 
 /// Whether a variable that is no text is a fault, and is counted.
@@ -127,9 +123,11 @@ fn variables_and_views(rt: HostRuntime) -> Result<(), Fail> {
     Ok(())
 }
 
-const SHUT: &[Step] = &[("write", "f", "x", "Write"), ("read", "f", "", "none")];
+const SHUT: &str = "write f x -> Write\n\
+     read f -> none";
 
-const NOT_SHUT: &[Step] = &[("write", "f", "x", "done"), ("read", "f", "", "x")];
+const NOT_SHUT: &str = "write f x -> done\n\
+     read f -> x";
 
 /// Whether a folder takes no file: for some users no folder is shut.
 fn is_shut(rt: &HostRuntime, folder: &PathText) -> Result<bool, Fail> {
@@ -137,22 +135,33 @@ fn is_shut(rt: &HostRuntime, folder: &PathText) -> Result<bool, Fail> {
     Ok(fs::write(rt, path.as_str(), "").is_err())
 }
 
-/// Tries a folder that is read only, whoever runs the test.
-fn try_shut(rt: &HostRuntime, root: &PathText) -> Result<(), Fail> {
-    said_here(rt, root, &shell("chmod 555 ."))?;
-    let steps = if is_shut(rt, root)? { SHUT } else { NOT_SHUT };
-    carry_out_here(rt, root, steps)?;
-    said_here(rt, root, &shell("chmod 755 ."))?;
+/// Tells the shell something in a test's folder.
+fn tell(rt: &HostRuntime, root: &PathText, told: &str) -> Result<(), Fail> {
+    said_here(rt, root, &shell(told))?;
     Ok(())
 }
 
-const NO_TEXTS: &[Step] = &[("list", "", "", "List"), ("counts", "", "", "1 0")];
+/// Tries a folder that is read only, whoever runs the test.
+fn try_shut(rt: &HostRuntime, root: &PathText) -> Result<(), Fail> {
+    tell(rt, root, "chmod 555 .")?;
+    let steps = if is_shut(rt, root)? { SHUT } else { NOT_SHUT };
+    carry_out_here(rt, root, steps)?;
+    tell(rt, root, "chmod 755 .")
+}
+
+const NO_TEXTS: &str = "list -> List\n\
+     counts -> 1 0";
+
+/// Tries a folder that is read only, and then a name in it that is no text.
+fn try_odd_folder(rt: &HostRuntime, root: &PathText) -> Result<(), Fail> {
+    try_shut(rt, root)?;
+    tell(rt, root, "touch \"$(printf 'a\\377')\"")?;
+    carry_out_here(rt, root, NO_TEXTS)?;
+    finish(rt, root)
+}
 
 #[test]
 fn a_read_only_folder_and_names_that_are_no_texts(rt: HostRuntime) -> Result<(), Fail> {
     let root = fresh(&rt, "shut")?;
-    try_shut(&rt, &root)?;
-    said_here(&rt, &root, &shell("touch \"$(printf 'a\\377')\""))?;
-    carry_out_here(&rt, &root, NO_TEXTS)?;
-    finish(&rt, &root)
+    try_odd_folder(&rt, &root)
 }

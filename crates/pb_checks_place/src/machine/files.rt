@@ -2,104 +2,85 @@
 
 use crate::machine::calls::try_steps;
 use crate::machine::links::{CIRCLE, DIRECTLY, LEFT_OUT, NOWHERE, SOMEWHERE, THE_LINK_ALONE};
-use crate::told::Step;
 use std::test::Fail;
 
-const WRITTEN: &[Step] = &[
-    ("read", "a/b/c", "", "none"),
-    ("write", "a/b/c", "one", "done"),
-    ("write", "a/b/c", "x", "done"),
-    ("read", "a/b/c", "", "x"),
-    ("read", "a/b", "", "none"),
-    ("read", "a/b/c/d", "", "none"),
-    ("write", "a/e", "", "done"),
-    ("read", "a/e", "", ""),
-    ("counts", "", "", "0 0"),
-];
+const WRITTEN: &str = "read a/b/c -> none\n\
+     write a/b/c one -> done\n\
+     write a/b/c x -> done\n\
+     read a/b/c -> x\n\
+     read a/b -> none\n\
+     read a/b/c/d -> none\n\
+     write a/e -> done\n\
+     read a/e -> \n\
+     counts -> 0 0";
 
-const LISTED: &[Step] = &[
-    ("write", "a/c/d", "", "done"),
-    ("write", "a/b", "", "done"),
-    ("write", "ab", "", "done"),
-    ("write", "a0", "", "done"),
-    ("write", "a.b", "", "done"),
-    ("list", "", "", "/a.b /a/b /a/c/d /a0 /ab "),
-    ("list", "a", "", "/a/b /a/c/d "),
-    ("list", "ab", "", ""),
-    ("list", "no", "", ""),
-    ("counts", "", "", "0 0"),
-];
+const LISTED: &str = "write a/c/d -> done\n\
+     write a/b -> done\n\
+     write ab -> done\n\
+     write a0 -> done\n\
+     write a.b -> done\n\
+     list -> /a.b /a/b /a/c/d /a0 /ab \n\
+     list a -> /a/b /a/c/d \n\
+     list ab -> \n\
+     list no -> \n\
+     counts -> 0 0";
 
-const REMOVED: &[Step] = &[
-    ("write", "a/c/d", "", "done"),
-    ("write", "a/b", "", "done"),
-    ("write", "ab", "", "done"),
-    ("write", "a0", "", "done"),
-    ("remove", "a", "", "done"),
-    ("remove", "a", "", "done"),
-    ("remove", "ab", "", "done"),
-    ("remove", "a0/x", "", "done"),
-    ("list", "", "", "/a0 "),
-    ("counts", "", "", "0 0"),
-];
+const REMOVED: &str = "write a/c/d -> done\n\
+     write a/b -> done\n\
+     write ab -> done\n\
+     write a0 -> done\n\
+     remove a -> done\n\
+     remove a -> done\n\
+     remove ab -> done\n\
+     remove a0/x -> done\n\
+     list -> /a0 \n\
+     counts -> 0 0";
 
-const IN_THE_WAY: &[Step] = &[
-    ("write", "f", "x", "done"),
-    ("write", "", "", "Write"),
-    ("write", "f/g", "", "Write"),
-    ("write", "f/g/h", "", "Write"),
-    ("counts", "", "", "3 0"),
-    ("read", "f", "", "x"),
-    ("counts", "", "", "3 1"),
-];
+const IN_THE_WAY: &str = "write f x -> done\n\
+     write -> Write\n\
+     write f/g -> Write\n\
+     write f/g/h -> Write\n\
+     counts -> 3 0\n\
+     read f -> x\n\
+     counts -> 3 1";
 
-/// A file in 128 folders, one in another, and its path in the test's folder, with a space after it.
-const DEEP: &str = "\
-        d/d/d/d/d/d/d/d/d/d/d/d/d/d/d/d/\
-        d/d/d/d/d/d/d/d/d/d/d/d/d/d/d/d/\
-        d/d/d/d/d/d/d/d/d/d/d/d/d/d/d/d/\
-        d/d/d/d/d/d/d/d/d/d/d/d/d/d/d/d/\
-        d/d/d/d/d/d/d/d/d/d/d/d/d/d/d/d/\
-        d/d/d/d/d/d/d/d/d/d/d/d/d/d/d/d/\
-        d/d/d/d/d/d/d/d/d/d/d/d/d/d/d/d/\
-        d/d/d/d/d/d/d/d/d/d/d/d/d/d/d/d/\
-        f";
-
-const DEEP_PATH: &str = "/\
-        d/d/d/d/d/d/d/d/d/d/d/d/d/d/d/d/\
-        d/d/d/d/d/d/d/d/d/d/d/d/d/d/d/d/\
-        d/d/d/d/d/d/d/d/d/d/d/d/d/d/d/d/\
-        d/d/d/d/d/d/d/d/d/d/d/d/d/d/d/d/\
-        d/d/d/d/d/d/d/d/d/d/d/d/d/d/d/d/\
-        d/d/d/d/d/d/d/d/d/d/d/d/d/d/d/d/\
-        d/d/d/d/d/d/d/d/d/d/d/d/d/d/d/d/\
-        d/d/d/d/d/d/d/d/d/d/d/d/d/d/d/d/\
-        f ";
-
-/// A file in one folder more.
-const TOO_DEEP: &str = "d/\
-        d/d/d/d/d/d/d/d/d/d/d/d/d/d/d/d/\
-        d/d/d/d/d/d/d/d/d/d/d/d/d/d/d/d/\
-        d/d/d/d/d/d/d/d/d/d/d/d/d/d/d/d/\
-        d/d/d/d/d/d/d/d/d/d/d/d/d/d/d/d/\
-        d/d/d/d/d/d/d/d/d/d/d/d/d/d/d/d/\
-        d/d/d/d/d/d/d/d/d/d/d/d/d/d/d/d/\
-        d/d/d/d/d/d/d/d/d/d/d/d/d/d/d/d/\
-        d/d/d/d/d/d/d/d/d/d/d/d/d/d/d/d/\
-        f";
-
-/// Folders that the listing bears, and one too many.
-const NESTED: &[Step] = &[
-    ("write", DEEP, "", "done"),
-    ("list", "", "", DEEP_PATH),
-    ("remove", "d", "", "done"),
-    ("write", TOO_DEEP, "", "done"),
-    ("list", "", "", "List"),
-    ("counts", "", "", "1 0"),
-];
+/// Folders that the listing bears, 128 of them one in another with a file, and one too many.
+const NESTED: &str = "write \
+     d/d/d/d/d/d/d/d/d/d/d/d/d/d/d/d/\
+     d/d/d/d/d/d/d/d/d/d/d/d/d/d/d/d/\
+     d/d/d/d/d/d/d/d/d/d/d/d/d/d/d/d/\
+     d/d/d/d/d/d/d/d/d/d/d/d/d/d/d/d/\
+     d/d/d/d/d/d/d/d/d/d/d/d/d/d/d/d/\
+     d/d/d/d/d/d/d/d/d/d/d/d/d/d/d/d/\
+     d/d/d/d/d/d/d/d/d/d/d/d/d/d/d/d/\
+     d/d/d/d/d/d/d/d/d/d/d/d/d/d/d/d/\
+     f -> done\n\
+     list -> /\
+     d/d/d/d/d/d/d/d/d/d/d/d/d/d/d/d/\
+     d/d/d/d/d/d/d/d/d/d/d/d/d/d/d/d/\
+     d/d/d/d/d/d/d/d/d/d/d/d/d/d/d/d/\
+     d/d/d/d/d/d/d/d/d/d/d/d/d/d/d/d/\
+     d/d/d/d/d/d/d/d/d/d/d/d/d/d/d/d/\
+     d/d/d/d/d/d/d/d/d/d/d/d/d/d/d/d/\
+     d/d/d/d/d/d/d/d/d/d/d/d/d/d/d/d/\
+     d/d/d/d/d/d/d/d/d/d/d/d/d/d/d/d/\
+     f \n\
+     remove d -> done\n\
+     write d/\
+     d/d/d/d/d/d/d/d/d/d/d/d/d/d/d/d/\
+     d/d/d/d/d/d/d/d/d/d/d/d/d/d/d/d/\
+     d/d/d/d/d/d/d/d/d/d/d/d/d/d/d/d/\
+     d/d/d/d/d/d/d/d/d/d/d/d/d/d/d/d/\
+     d/d/d/d/d/d/d/d/d/d/d/d/d/d/d/d/\
+     d/d/d/d/d/d/d/d/d/d/d/d/d/d/d/d/\
+     d/d/d/d/d/d/d/d/d/d/d/d/d/d/d/d/\
+     d/d/d/d/d/d/d/d/d/d/d/d/d/d/d/d/\
+     f -> done\n\
+     list -> List\n\
+     counts -> 1 0";
 
 /// The names of folders, and the steps that are carried out in each.
-const FOLDERS: &[(&str, &[Step])] = &[
+const FOLDERS: &[(&str, &str)] = &[
     ("written", WRITTEN),
     ("listed", LISTED),
     ("removed", REMOVED),

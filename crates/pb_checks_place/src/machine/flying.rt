@@ -1,6 +1,7 @@
 //! Children in flight on the machine: waited for in another order, killed, with much to say.
 
-use crate::machine::commands::{command, shell};
+use crate::machine::commands::{Asked, command, shell};
+use crate::told::try_said;
 use pb_host::HostPlace;
 use pb_place::{Ended, PathText, Place, StartFault};
 use std::alloc::{AllocError, Global};
@@ -19,21 +20,21 @@ fn told(alloc: Global, ended: Result<Ended, StartFault>) -> Result<String, Alloc
     }
 }
 
-/// Spawns a child that the shell carries out: its ticket.
+/// Spawns a child: its ticket.
 fn spawn<P: Place>(
     alloc: Global,
     place: &mut P,
     root: &PathText,
-    words: &str,
+    asked: &Asked,
 ) -> Result<Result<u64, StartFault>, Fail> {
-    let command = command(alloc, root, &shell(words))?;
+    let command = command(alloc, root, asked)?;
     Ok(place.spawn(alloc, &command))
 }
 
 /// Whether a program that is not there does not start.
 fn misses<P: Place>(alloc: Global, place: &mut P, root: &PathText) -> Result<bool, Fail> {
-    let command = command(alloc, root, &("/no/such/program", "", "", "", &[]))?;
-    Ok(place.spawn(alloc, &command) == Err(StartFault::CannotStart))
+    let answer = spawn(alloc, place, root, &("/no/such/program", "", "", "", &[]))?;
+    Ok(matches!(answer, Err(StartFault::CannotStart)))
 }
 
 /// What a child in flight said.
@@ -48,18 +49,15 @@ fn finish(
     told(alloc, place.finish(alloc, ticket))
 }
 
-/// What two children said that were in flight at one time, of which the second is waited for first; how many flew at
-/// most, were started, and failed.
-fn fly(
+/// What two children said, of which the second is waited for first; whether a program was missed; how many flew at most,
+/// were started, and failed.
+fn end(
     alloc: Global,
     place: &mut HostPlace<HostRuntime>,
-    root: &PathText,
-    first: &str,
-    second: &str,
+    one: u64,
+    two: u64,
+    misses: bool,
 ) -> Result<String, Fail> {
-    let one = spawn(alloc, place, root, first)??;
-    let two = spawn(alloc, place, root, second)??;
-    let misses = misses(alloc, place, root)?;
     let later = finish(alloc, place, two)?;
     let earlier = finish(alloc, place, one)?;
     let (most, starts, failures) = (place.most(), place.starts(), place.failures());
@@ -68,6 +66,20 @@ fn fly(
         earlier.as_str(),
         later.as_str()
     )?)
+}
+
+/// The same of two that are in flight at one time.
+fn fly(
+    alloc: Global,
+    place: &mut HostPlace<HostRuntime>,
+    root: &PathText,
+    first: &str,
+    second: &str,
+) -> Result<String, Fail> {
+    let one = spawn(alloc, place, root, &shell(first))??;
+    let two = spawn(alloc, place, root, &shell(second))??;
+    let misses = misses(alloc, place, root)?;
+    end(alloc, place, one, two, misses)
 }
 
 /// What the shell is told of two children, and what they said.
@@ -89,19 +101,23 @@ const FLIGHTS: &[(&str, &str, &str)] = &[
     ),
 ];
 
-/// Whether two children say this at a place of their own.
-fn flies_so(rt: &HostRuntime, first: &str, second: &str, wanted: &str) -> Result<bool, Fail> {
+/// What two children say at a place of their own.
+fn flown(rt: &HostRuntime, root: &PathText, first: &str, second: &str) -> Result<String, Fail> {
     let mut place = HostPlace::new(rt.alloc(), rt);
+    fly(rt.alloc(), &mut place, root, first, second)
+}
+
+/// Tries that two children say this.
+fn try_flight(rt: &HostRuntime, first: &str, second: &str, wanted: &str) -> Result<(), Fail> {
     let root = PathText::parse(rt.alloc(), "/")?;
-    let said = fly(rt.alloc(), &mut place, &root, first, second)?;
-    Ok(said.as_str() == wanted)
+    try_said(flown(rt, &root, first, second), wanted)
 }
 
 #[test]
 fn flights(rt: HostRuntime) -> Result<(), Fail> {
     for case in FLIGHTS {
         let (first, second, wanted) = *case;
-        assert!(rt; flies_so(&rt, first, second, wanted)?, "{wanted}");
+        try_flight(&rt, first, second, wanted)?;
     }
     Ok(())
 }
