@@ -4,7 +4,7 @@ ghost use Rattle.std.specs.Prelude.{◌≡◌, []};
 
 use pb_answer::result_line;
 use pb_build::build;
-use pb_checks_files::no_options;
+use pb_checks_files::{Shown, no_options};
 use pb_data::{Items, Text};
 use pb_package::Options;
 use pb_place::{Over, Place};
@@ -44,17 +44,32 @@ fn result_of<P: Place>(
     result_line(alloc, &build(alloc, place, &mut sink, options))
 }
 
+/// Lines, and a last one.
+fn joined(alloc: Global, lines: &[u8], last: &str) -> Result<String, AllocError> {
+    let mut said = Shown::new(alloc);
+    said.put(&[str::from_utf8(lines).unwrap_or(""), last]);
+    said.whole()
+}
+
+/// What a build writes, and then its result line.
+fn said_by<P: Place>(alloc: Global, place: &mut P, options: &Options) -> Result<String, AllocError>
+    requires none { (P.counts place.old).starts.flying ≡ [] }
+    ensures landed { (P.counts place.new).starts.flying ≡ [] }
+{
+    let mut out = Vec::new(alloc);
+    let line = result_of(alloc, place, &mut out, options)?;
+    joined(alloc, out.as_slice(), line.as_str())
+}
+
 /// What a build with so many jobs writes, and then its result line.
 pub fn built<P: Place>(alloc: Global, place: &mut P, jobs: u64) -> Result<String, Fail>
     requires none { (P.counts place.old).starts.flying ≡ [] }
     ensures landed { (P.counts place.new).starts.flying ≡ [] }
 {
     let options = options(alloc, jobs)?;
-    let mut out = Vec::new(alloc);
-    let line = result_of(alloc, place, &mut out, &options)?;
-    let mut said = String::from_str(alloc, str::from_utf8(out.as_slice()).unwrap_or(""))?;
-    said.push_str(line.as_str())?;
-    Ok(said)
+    let said = said_by(alloc, place, &options);
+    drop(options);
+    Ok(said?)
 }
 
 /// The last line of a text.

@@ -5,7 +5,7 @@ ghost use Rattle.pb_place.specs.Memory.{counts_in};
 
 use crate::building::{afresh, built, last_line, lines_but_last};
 use crate::old::OLD_FOLDER;
-use pb_checks_files::put_files;
+use pb_checks_files::{Shown, put_files};
 use pb_mini::Mini;
 use pb_place::{Memory, Place};
 use std::alloc::{AllocError, Global};
@@ -126,13 +126,12 @@ fn tell(
     whole: &str,
     said: &str,
     jobs: u64,
-    told: &mut String,
+    told: &mut Shown,
 ) -> Result<(), AllocError> {
     if !is_said(alloc, place, whole, said, jobs)? {
-        told.push_str("wrong: ")?;
+        told.put(&["wrong: "]);
     }
-    told.push_str(last_line(said))?;
-    told.push_str(", ")?;
+    told.put(&[last_line(said), ", "]);
     Ok(())
 }
 
@@ -143,7 +142,7 @@ fn fail_at(
     number: u64,
     whole: &str,
     jobs: u64,
-    told: &mut String,
+    told: &mut Shown,
 ) -> Result<bool, Fail>
     requires none { (counts_in place.old).starts.flying ≡ [] }
     ensures landed { (counts_in place.new).starts.flying ≡ [] }
@@ -171,30 +170,30 @@ fn build_again(
     place: &mut Memory<Mini>,
     whole: &str,
     jobs: u64,
-    told: &mut String,
+    told: &mut Shown,
 ) -> Result<(), Fail>
     requires none { (counts_in place.old).starts.flying ≡ [] }
     ensures landed { (counts_in place.new).starts.flying ≡ [] }
 {
     let next = built(alloc, place, jobs)?;
     if !is_whole(alloc, whole, next.as_str())? {
-        told.push_str("wrong afterwards, ")?;
+        told.put(&["wrong afterwards, "]);
     }
     let last = built(alloc, place, jobs)?;
     if !is_whole(alloc, whole, last.as_str())? || last_line(last.as_str()) != "ok started=-" {
-        told.push_str("wrong at last, ")?;
+        told.put(&["wrong at last, "]);
     }
     Ok(())
 }
 
-/// Tries a trial in a fresh place with this call failing, and then once more. Whether a call failed at all.
+/// Tries a trial in a place without files with this call failing, and then once more. Whether a call failed at all.
 fn try_at(
     alloc: Global,
     place: &mut Memory<Mini>,
     trial: &Trial,
     number: u64,
     whole: &str,
-    told: &mut String,
+    told: &mut Shown,
 ) -> Result<bool, Fail>
     requires none { (counts_in place.old).starts.flying ≡ [] }
     ensures landed { (counts_in place.new).starts.flying ≡ [] }
@@ -205,30 +204,51 @@ fn try_at(
     Ok(is_failed)
 }
 
-/// What a build from nothing says of the edited files of a trial, in a fresh place.
-fn whole_of(alloc: Global, place: &mut Memory<Mini>, trial: &Trial) -> Result<String, Fail>
+/// What a build from nothing says of the edited files of a trial, in a place without files.
+fn whole_in(alloc: Global, place: &mut Memory<Mini>, trial: &Trial) -> Result<String, Fail>
     requires none { (counts_in place.old).starts.flying ≡ [] }
-    ensures landed { (counts_in place.new).starts.flying ≡ [] }
 {
     put_files(alloc, place, trial.files)?;
     put_files(alloc, place, trial.edit)?;
     built(alloc, place, 1)
 }
 
+/// The same in a fresh place.
+fn whole_of(alloc: Global, trial: &Trial) -> Result<String, Fail> {
+    whole_in(alloc, &mut Memory::new(alloc, Mini), trial)
+}
+
+/// Tries a trial in a fresh place with this call failing, and then once more. Whether a call failed at all.
+fn try_afresh(
+    alloc: Global,
+    trial: &Trial,
+    number: u64,
+    whole: &str,
+    told: &mut Shown,
+) -> Result<bool, Fail> {
+    try_at(
+        alloc,
+        &mut Memory::new(alloc, Mini),
+        trial,
+        number,
+        whole,
+        told,
+    )
+}
+
 /// Lets each call fail in turn, until none does. The faults, and what was wrong: the build has to say what it has to,
 /// with no call after the one that failed; the same build after it gives what a build from nothing gives, and once
 /// more it starts nothing.
 fn each_fails(alloc: Global, trial: &Trial) -> Result<String, Fail> {
-    let mut told = String::new(alloc);
-    let whole = whole_of(alloc, &mut Memory::new(alloc, Mini), trial)?;
+    let mut told = Shown::new(alloc);
+    let whole = whole_of(alloc, trial)?;
     for number in 1..1000u64 {
-        let mut place = Memory::new(alloc, Mini);
-        if !try_at(alloc, &mut place, trial, number, whole.as_str(), &mut told)? {
-            return Ok(told);
+        if !try_afresh(alloc, trial, number, whole.as_str(), &mut told)? {
+            return Ok(told.whole()?);
         }
     }
-    told.push_str("wrong: it does not end")?;
-    Ok(told)
+    told.put(&["wrong: it does not end"]);
+    Ok(told.whole()?)
 }
 
 /// The faults that all trials begin with.
@@ -254,7 +274,7 @@ const LAST_OF_OLD: &str =
     "fault a.target.lib CannotStart, fault a.target.lib Died, fault a.target.lib Device, fault a.target.lib Device, fault a.target.lib Device, fault b.target.lib Device, fault b.target.lib Device, fault b.target.lib Device, fault b.target.lib Device, fault b.target.lib Device, fault b.target.lib Device, fault b.target.lib Device, fault b.target.lib Device, fault b.target.lib Device, ";
 
 /// The trials.
-const TRIALS: &[Trial] = &[
+static TRIALS: &[Trial] = &[
     Trial {
         files: LIBRARY,
         target: "",

@@ -231,6 +231,79 @@ fn joined(
     Ok(said)
 }
 
+/// Takes the answers of two units that have begun, one after the other; after a fault of the first the other is dropped.
+fn answer_both(
+    alloc: Global,
+    place: &mut Memory<Mini>,
+    project: &OrderedProject,
+    bench: &mut Bench,
+    one: usize,
+    first: &Planned,
+    made: Beginning,
+    other: usize,
+    second: &Planned,
+    more: Beginning,
+) -> Result<String, AllocError>
+    requires first { slice_get project.now.plan.planned one ≡ Some first.now }
+    requires second { slice_get project.now.plan.planned other ≡ Some second.now }
+    requires folder { bench.old.store.folder ≡ records_folder project.now }
+    requires named { (made.begun.unit ≡ first.now.key) × (more.begun.unit ≡ second.now.key) }
+    requires asks { IsCommandOf project.now first.now made.begun.command × IsCommandOf project.now second.now more.begun.command }
+    ensures folder { bench.new.store.folder ≡ records_folder project.now }
+{
+    let failures = place.failures();
+    let said = answer(alloc, place, project, bench, one, first, made);
+    if place.failures() > failures {
+        drop_begun(alloc, place, &more.begun);
+        return said;
+    }
+    joined(
+        said,
+        answer(alloc, place, project, bench, other, second, more),
+    )
+}
+
+/// Begins the second of two units, the first of which has begun, and takes their answers, that of the second first where
+/// they are turned. Where the second cannot begin, the first is dropped.
+fn begin_second(
+    alloc: Global,
+    place: &mut Memory<Mini>,
+    project: &OrderedProject,
+    bench: &mut Bench,
+    one: usize,
+    first: &Planned,
+    made: Beginning,
+    other: usize,
+    second: &Planned,
+    turned: bool,
+) -> Result<String, AllocError>
+    requires first { slice_get project.now.plan.planned one ≡ Some first.now }
+    requires second { slice_get project.now.plan.planned other ≡ Some second.now }
+    requires folder { bench.old.store.folder ≡ records_folder project.now }
+    requires named { made.begun.unit ≡ first.now.key }
+    requires asks { IsCommandOf project.now first.now made.begun.command }
+    ensures folder { bench.new.store.folder ≡ records_folder project.now }
+{
+    match begin(alloc, place, project, bench, other, second) {
+        Err(fault) => {
+            drop_begun(alloc, place, &made.begun);
+            drop(made);
+            tell_fault(alloc, fault)
+        }
+        Ok(more) => {
+            if turned {
+                answer_both(
+                    alloc, place, project, bench, other, second, more, one, first, made,
+                )
+            } else {
+                answer_both(
+                    alloc, place, project, bench, one, first, made, other, second, more,
+                )
+            }
+        }
+    }
+}
+
 /// Begins the units at two places, one after the other, and takes their answers, that of the second first where they are
 /// turned. Where the second cannot begin, the first is dropped, and after a fault of an answer the other one.
 pub fn run_both(
@@ -253,34 +326,10 @@ pub fn run_both(
         Some(unit) => unit,
         None => return String::from_str(alloc, "no unit"),
     };
-    let made = match begin(alloc, place, project, bench, one, first) {
-        Ok(made) => made,
-        Err(fault) => return tell_fault(alloc, fault),
-    };
-    let more = match begin(alloc, place, project, bench, other, second) {
-        Ok(made) => made,
-        Err(fault) => {
-            drop_begun(alloc, place, &made.begun);
-            return tell_fault(alloc, fault);
-        }
-    };
-    let failures = place.failures();
-    if turned {
-        let said = answer(alloc, place, project, bench, other, second, more);
-        if place.failures() > failures {
-            drop_begun(alloc, place, &made.begun);
-            return said;
-        }
-        joined(said, answer(alloc, place, project, bench, one, first, made))
-    } else {
-        let said = answer(alloc, place, project, bench, one, first, made);
-        if place.failures() > failures {
-            drop_begun(alloc, place, &more.begun);
-            return said;
-        }
-        joined(
-            said,
-            answer(alloc, place, project, bench, other, second, more),
-        )
+    match begin(alloc, place, project, bench, one, first) {
+        Ok(made) => begin_second(
+            alloc, place, project, bench, one, first, made, other, second, turned,
+        ),
+        Err(fault) => tell_fault(alloc, fault),
     }
 }

@@ -14,6 +14,19 @@ use pb_run::OrderedProject;
 use std::alloc::Global;
 use std::test::Fail;
 
+/// The steps of a case, and what they tell.
+pub fn parts_of(case: &str) -> Option<(&str, &str)> {
+    let (steps, told) = case.split_once("\n= ")?;
+    Some((steps, told.strip_suffix("\n")?))
+}
+
+/// The words of a step: its verb, the next, and all behind that.
+pub fn words_of(line: &str) -> (&str, &str, &str) {
+    let (verb, words) = line.split_once(' ').unwrap_or((line, ""));
+    let (first, rest) = words.split_once(' ').unwrap_or((words, ""));
+    (verb, first, rest)
+}
+
 /// The kind of a death.
 fn kind_of(word: &str) -> StartFault
     ensures { result ≢ StartFault.OutOfMemory }
@@ -154,8 +167,7 @@ fn step(
     requires folder { bench.old.store.folder ≡ records_folder project.now }
     ensures folder { bench.new.store.folder ≡ records_folder project.now }
 {
-    let (verb, words) = line.split_once(' ').unwrap_or((line, ""));
-    let (first, rest) = words.split_once(' ').unwrap_or((words, ""));
+    let (verb, first, rest) = words_of(line);
     if verb == "open" {
         return reopen(alloc, place, project, bench);
     }
