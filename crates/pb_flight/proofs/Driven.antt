@@ -158,7 +158,7 @@ module _ {F S : Type 0} (Turns : S → List ℕ → List ℕ → Step → S → 
     pub stopped_at : (u : ℕ) → Turns now ready list (step.Answer i) next → slice_get list i ≡ Some u → (Stops : Option ℕ → List (Event F) → Type 0) → Stops (Some u) es ⊎ ((given : Answer F) × Stops None (Gave u given ∷ es))
         → (last : S) × (events : List (Event F)) × (asked : Option ℕ) × Flies Turns needs Anyhow Anything from events last × HandsBack Turns needs events last asked next × Stops asked events
     stopped_at u turned at Stops (inl told) =
-        (now, es, Some u, flown.flies, (i, ap (λ l. slice_get l i) (sym list_is) ∙ at, subst (λ l. Turns now (ready_of needs (states_after needs es)) l (step.Answer i) next) list_is (subst (λ r. Turns now r list (step.Answer i) next) ready_is turned)), told)
+        (now, es, Some u, flown.flies, (i, left_is, ap (λ l. slice_get l i) (sym list_is) ∙ at, subst (λ l. Turns now (ready_of needs (states_after needs es)) l (step.Answer i) next) list_is (subst (λ r. Turns now r list (step.Answer i) next) ready_is turned)), told)
     stopped_at u turned at Stops (inr (given, told)) = (next, Gave u given ∷ es, None, flies_answered u given turned at, refl, told)
 
 -- a flight on which nothing has begun

@@ -76,6 +76,20 @@ module _ {F : Type 0} where
       let (x, y) = due_begun ss u at in
       (ap (λ d. a.lines ++ (if is_none a.fault then d else [])) x, ap (λ n. suc (if is_none a.fault then n else 0)) y)
 
+  -- where units are missing a beginning leaves them missing
+  pub missing_begun : (states : List (State F)) (u : ℕ) → is_finished states ≡ false → is_finished (slice_set states u Begun) ≡ false
+  missing_begun [] u missing = absurd (false≢true (sym missing))
+  missing_begun (Untouched ∷ ss) zero missing = refl
+  missing_begun (Untouched ∷ ss) (suc u) missing = refl
+  missing_begun (Begun ∷ ss) zero missing = refl
+  missing_begun (Begun ∷ ss) (suc u) missing = refl
+  missing_begun (Answered a ∷ ss) zero missing = refl
+  missing_begun (Answered a ∷ ss) (suc u) missing = by (is_none a.fault) missing (λ more. missing_begun ss u more)
+    where
+      by : (b : Bool) → (if b then is_finished ss else true) ≡ false → (is_finished ss ≡ false → is_finished (slice_set ss u Begun) ≡ false) → (if b then is_finished (slice_set ss u Begun) else true) ≡ false
+      by true more rest = rest more
+      by false more rest = absurd (false≢true (sym more))
+
   -- and grows where a unit in flight answers
   pub count_grows : (states : List (State F)) (u : ℕ) (s : State F) → slice_get states u ≡ Some Begun → count_due states ≤ count_due (slice_set states u s)
   count_grows [] u s at = absurd (clash at)

@@ -4,7 +4,7 @@ use Rattle.std.proofs.lemmas.List.Elements.{Contains-append_cases, Contains-appe
 use Rattle.pb_flight.specs.declared.flight.Answer.{Answer}
 use Rattle.pb_flight.specs.declared.turn.Step.{Step}
 use Rattle.pb_flight.specs.declared.turn.Jobs.{Jobs}
-use Rattle.pb_flight.specs.Table.{if_so}
+use Rattle.pb_flight.specs.Table.{if_so, is_finished}
 use Rattle.pb_flight.specs.Events as events
 use Rattle.pb_flight.specs.Events.{Event, Began, Gave, Lawful, begun_by, started_by, flying_after, without}
 use Rattle.pb_flight.specs.Steps.{Flies, nothing, begin, answer, SpawnsAs, TurnsOfJobs}
@@ -12,6 +12,7 @@ use Rattle.pb_flight.specs.Laws as laws
 use Rattle.pb_flight.specs.Laws.{OneByOne}
 use Rattle.pb_flight.proofs.Lists.{injective, clash, contains_none, contains_head, contains_cases, at_contains}
 use Rattle.pb_flight.proofs.Ready.{ready_may}
+use Rattle.pb_flight.proofs.Ending.{missing_begun}
 use Rattle.pb_flight.proofs.Flying.{flying_begun}
 
 module _ {F S : Type 0} (Turns : S → List ℕ → List ℕ → Step → S → Type 0) (needs : List (List ℕ)) where
@@ -53,6 +54,13 @@ module _ {F S : Type 0} (Turns : S → List ℕ → List ℕ → Step → S → 
         by : (b : Bool) → SpawnsAs Differs v b → v ≡ u → Contains (if_so b v) u
         by true c e = subst (Contains (v ∷ [])) e (contains_head v [])
         by false c e = absurd (c (subst Differs (sym e) d))
+
+  -- where the last step is a beginning units are missing behind it too
+  pub begun_missing : (Spawns : ℕ → Bool → Type 0) (Gives : ℕ → Answer F → Type 0) (from : S) (es : List (Event F)) (now : S) → Flies Turns needs Spawns Gives from es now
+      → (u : ℕ) (spawned : Bool) (before : List (Event F)) → es ≡ Began u spawned ∷ before → is_finished (events.states_after needs es) ≡ false
+  begun_missing Spawns Gives from _ _ nothing u spawned before is = cc
+  begun_missing Spawns Gives from _ _ (begin es now next i v child earlier missing turned unit spawns) u spawned before is = missing_begun (events.states_after needs es) v missing
+  begun_missing Spawns Gives from _ _ (answer es now next i v given earlier missing turned unit gives) u spawned before is = cc
 
 fewer : (u : ℕ) (vs : List ℕ) → length (without u vs) ≤ length vs
 fewer u [] = omega arith

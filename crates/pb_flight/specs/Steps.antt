@@ -22,10 +22,10 @@ pub data Flies {F S : Type 0} (Turns : S → List ℕ → List ℕ → Step → 
       (turned : Turns now (ready_of needs (states_after needs es)) (flying_after es) (step.Answer i) next) (unit : slice_get (flying_after es) i ≡ Some u) (gives : Gives u given)
       → Flies Turns needs Spawns Gives from (Gave u given ∷ es) next
 
--- the state that is handed back after these events: that of the last step; or, where the answer of this unit then ended in a fault, that of the step which said so
+-- the state that is handed back after these events: that of the last step; or, where the answer of this unit then ended in a fault, that of the step which said so, as units were missing
 abbrev pub HandsBack : {F S : Type 0} → (S → List ℕ → List ℕ → Step → S → Type 0) → List (List ℕ) → List (Event F) → S → Option ℕ → S → Type 0
 HandsBack Turns needs es last None back = back ≡ last
-HandsBack Turns needs es last (Some u) back = (i : ℕ) × (slice_get (flying_after es) i ≡ Some u) × Turns last (ready_of needs (states_after needs es)) (flying_after es) (step.Answer i) back
+HandsBack Turns needs es last (Some u) back = (i : ℕ) × (is_finished (states_after needs es) ≡ false) × (slice_get (flying_after es) i ≡ Some u) × Turns last (ready_of needs (states_after needs es)) (flying_after es) (step.Answer i) back
 
 -- whether it has a child or not
 abbrev pub Anyhow : ℕ → Bool → Type 0

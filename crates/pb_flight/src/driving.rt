@@ -161,7 +161,7 @@ fn step<P, O, F: Drop, E, C: Crew<P, O, F, E>, T: Turn>(
 
 /// Drives a flight on which nothing has begun: each step that the turn says is made, until all units have answered, or
 /// all up to and with the first bad one. Units later than the first bad one may be in flight at the end, and after a
-/// fault any may be. After a fault the turn is asked no more.
+/// fault any may be. No answer is asked for once all these have answered, and after a fault the turn is asked no more.
 pub fn drive<P, O, F: Drop, E, C: Crew<P, O, F, E>, T: Turn>(
     alloc: Global,
     crew: &mut C,
