@@ -104,7 +104,7 @@ pub record EndsWhole {S : Type 0} (tells : Bool) (child : Answers) (Turns : S �
   pub told : IsTrue tells → Grounding child setup project next old.world (λ b. StandsWhole b next es reasons summary old.world new.world)
   pub calls : IsTrue tells → Grounding child setup project next old.world (λ b. (last : World) × CallsOver b es old.world old.counts last mid)
 
--- a fault ended them: its cause, and what the sink had heard, are those of the moment before the children in flight were dropped; no more children flew at one time than by the events before it, and the turn was asked no more; and no record is kept of a unit whose answer was dropped
+-- a fault ended them: its cause, and what the sink had heard, are those of the moment before the children in flight were dropped; no more children flew at one time than by the events before it, and the turn was asked no more; where an answer ended in it, or a unit could not begin, units were missing (`HandsBack`, `Flies`); and no record is kept of a unit whose answer was dropped
 pub record EndsCut {S : Type 0} (tells : Bool) (child : Answers) (Turns : S → List ℕ → List ℕ → Step → S → Type 0) (setup : Setup) (project : Project) (next : Option ℕ) (from back : S) (fault : BuildFault) (old new : Moment) : Type 0 where
   pub es : List (Event BadUnit)
   pub last : S

@@ -92,7 +92,7 @@ pub record Stops (tells : Bool) (fault : BuildFault) (project : Project) (first 
   pub cause : HasCause fault first.counts now.counts
   pub starts : now.counts.starts.count ≡ upped (length (started_by es)) first.counts.starts.count
 
--- the next run number after these events, by the next one at first: a unit that begins takes a number where a child is started for it, and none where none is; one that answers takes one or none, and none where a child was started for it, or where it is known that its record had one
+-- the next run number after these events, by the next one at first: a unit that begins takes a number where a child is started for it, and none where none is; one that answers takes at most one, and none where a child was started for it, or where it is known that its record had one. That a record which is kept or numbered has the number that was taken is said of the records (`HasRecord`); and where a removal failed as a unit began, the number that was taken for it is not counted here
 abbrev pub NumbersGiven : (ℕ → Type 0) → List (Event BadUnit) → Option ℕ → Option ℕ → Type 0
 NumbersGiven IsNumbered [] first now = now ≡ first
 NumbersGiven IsNumbered (Began unit true ∷ es) first now = (number : ℕ) × NumbersGiven IsNumbered es first (Some number) × (now ≡ after number)
