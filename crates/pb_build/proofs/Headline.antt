@@ -9,12 +9,14 @@ use Rattle.pb_answer.specs.declared.fault.BuildFault.TheVariants.{Plan, Toolchai
 use Rattle.pb_answer.specs.declared.summary.Summary.{Summary}
 use Rattle.pb_command.specs.Judge.{judge}
 use Rattle.pb_directive.specs.declared.directive.Directive.{Directive}
-use Rattle.pb_flight.specs.Events.{Event, started_by}
-use Rattle.pb_flight.specs.Table.{due, due_first, count_due, is_good_at}
+use Rattle.pb_flight.specs.Events.{Event, Anything, started_by}
+use Rattle.pb_flight.specs.Steps.{Flies, Anyhow, HandsBack}
+use Rattle.pb_flight.specs.Table.{due, due_first, count_due, is_finished, is_good_at}
 use Rattle.pb_flight.specs.declared.flight.Answer.{Answer}
 use Rattle.pb_flight.specs.declared.flight.State.{State}
 use Rattle.pb_flight.specs.declared.flight.State.TheVariants.{Untouched, Begun, Answered}
 use Rattle.pb_flight.specs.declared.turn.Step.{Step}
+use Rattle.pb_flight.proofs.Stepping.{begun_missing}
 use Rattle.pb_message.specs.declared.message.Message.{Message}
 use Rattle.pb_package.specs.declared.options.Options.{Options}
 use Rattle.pb_place.specs.Counts.{Counts, Starts, up, up_starts}
@@ -37,15 +39,16 @@ use Rattle.pb_turns.specs.Crew.{needs_of, ticket_of_child}
 use Rattle.pb_turns.specs.Ends.{TurnsEnd, Drained, StandsWhole, StandsCut, Stands, nothing_said, rows_in}
 use Rattle.pb_turns.specs.Moments.{Heard, Moment}
 use Rattle.pb_turns.specs.Rows.{Row, to_first_bad, is_bad, fault_in, said_from}
-use Rattle.pb_turns.specs.Story.{states_in, untouched, upped, Stops, StopsAt, AllBeganFor, LacksNoNumber, NumbersGiven, Spends}
+use Rattle.pb_turns.specs.Story.{states_in, untouched, upped, Stops, StopsAt, AllBeganFor, IsBeginning, LacksNoNumber, NamesUnit, NumbersGiven, Spends}
 use Rattle.pb_turns.proofs.Repeating.{dropped_count}
 use Rattle.pb_unit.specs.declared.plan.Planned.{Planned}
 use Rattle.pb_workspace.proofs.Accepted.{target_kept}
-use Rattle.pb_build.specs.Ending.{Works, Builds, NoneBegan}
+use Rattle.pb_build.specs.Ending.{Works, Builds, StopsEarly}
 use Rattle.pb_build.specs.Environment.{environment_of}
-use Rattle.pb_build.specs.Headline.{records_of, RestsOn, ByTurns, UnitsOf, FailsAt, LinesBefore, GivesUnits, LeavesRecords, Gives, Headline}
+use Rattle.pb_build.specs.Headline.{records_of, RestsOn, ByTurns, UnitsOf, AnswersAs, NamesOpened, FailsAt, LinesBefore, GivesUnits, LeavesRecords, Gives, Headline}
 use Rattle.pb_build.specs.Planning.{IsProject}
 use Rattle.pb_build.specs.Result.{toolchain_of, setup_of}
+use Rattle.pb_build.proofs.Opened.{names_opened}
 
 injective : {A : Type 0} {x y : A} → Some x ≡ Some y → x ≡ y
 injective e = cc
@@ -136,9 +139,18 @@ module _ (footing : Footing) (read : Reading) (reading : IsReading read) (child 
   stay_true OnNothing old new none same = tt
 
   module _ {S : Type 0} (Turns : S → List ℕ → List ℕ → Step → S → Type 0) (from last : S) where
-    none_gives : (result : Result Summary BuildFault) (old new : Moment) → NoneBegan true child options result old new → GivesUnits footing read child (ByTurns Turns from) options result old new
-    none_gives (Ok summary) old new none = absurd (no_fault none.answer)
-    none_gives (Err fault) old new none = inl none
+    none_gives : (result : Result Summary BuildFault) (old new : Moment) → StopsEarly true child options result old new → GivesUnits footing read child (ByTurns Turns from) options result old new
+    none_gives (Ok summary) old new early = absurd (no_fault early.none_began.answer)
+    none_gives (Err fault) old new early =
+        let same : early.none_began.fault ≡ fault = told_of (Err fault) fault early.none_began.fault refl early.none_began.answer in
+        inl (
+          early.none_began,
+          subst (λ (f : BuildFault). NamesOpened (records_of options old.world.variables) old.world f old.counts.starts new.counts.starts) same
+          (names_opened child options old.world (records_of options old.world.variables) (same_folder options old.world) early.none_began.fault old.counts new.counts early.none_began.why (early.calls refl)),
+        )
+      where
+        told_of : (result : Result Summary BuildFault) (f g : BuildFault) → result ≡ Err f → result ≡ Err g → g ≡ f
+        told_of result f g first second = cc
 
     module _ (project : Project) (toolchain : List ℕ) (old mid new : Moment) (is : IsProject options (environment_of options old.world.variables).target old.world project)
         (says : toolchain_of child (environment_of options old.world.variables) project (from_nothing (environment_of options old.world.variables).target old.world) ≡ Some toolchain) (next : Option ℕ)
@@ -194,29 +206,39 @@ module _ (footing : Footing) (read : Reading) (reading : IsReading read) (child 
             good_files : {f g : Map} {d e : Option (List Directive)} {m n : List Message} → Good f d m ≡ Good g e n → f ≡ g
             good_files e = cc
 
+        gave_so : AnswersAs (outcomes_in b) project es
+        gave_so place answer here = let gave = stands.gave place answer here in (gave.outcome, gave.is, gave.fault)
+
         all_lines : count_due (states_in project es) ≡ length (rows_in b) → due (states_in project es) ≡ said_from project es 0 (rows_in b)
         all_lines all = stands.lines ∙ (ap (λ (n : ℕ). said_from project es 0 (take n (rows_in b))) all ∙ ap (said_from project es 0) (take-length (rows_in b)))
 
       -- the lines before a fault
-      module _ (es : List (Event BadUnit)) (stands : Stands b es new.world) (stop : Moment) (after : new.heard ≡ stop.heard) where
+      module _ (es : List (Event BadUnit)) (stands : Stands b es new.world) (stop : Moment) (after : new.heard ≡ stop.heard) (stopped : S) (flies : Flies Turns (needs_of project) Anyhow Anything from es stopped)
+          (asked : Option ℕ) (hands : HandsBack Turns (needs_of project) es stopped asked last) (before : List (Event BadUnit)) where
         first_lines : (bytes told : List ℕ) → bytes ≡ told → Appends mid.heard.taken stop.heard.taken bytes → Appends old.heard.taken new.heard.taken told
         first_lines bytes told same taken = since es bytes told same (subst (λ (h : Heard). Appends mid.heard.taken h.taken bytes) (sym after) taken)
 
-        fails_at : (key : List ℕ) → StopsAt true project mid stop key es → FailsAt project es (rows_in b) key old.heard.taken new.heard.taken
-        fails_at key by = record {
+        -- units were missing as an answer was asked for, or a unit could not begin
+        units_missing : (key : List ℕ) (spawned : Bool) (unit : Option ℕ) → HandsBack Turns (needs_of project) es stopped unit last → (unit ≡ None → IsBeginning project key spawned before es) → is_finished (states_in project es) ≡ false
+        units_missing key spawned None same begins = let (place, named, is) = begins refl in begun_missing Turns (needs_of project) Anyhow Anything from es stopped flies place spawned before is
+        units_missing key spawned (Some unit) (i, missing, at, turned) begins = missing
+
+        fails_at : (key : List ℕ) → is_finished (states_in project es) ≡ false → StopsAt true project mid stop key es → FailsAt project es (rows_in b) key old.heard.taken new.heard.taken
+        fails_at key missing by = record {
           place = by.place;
           named = ap key_in by.there ∙ ap (λ (k : List ℕ). k ∷ []) by.named;
           flies = by.flies;
+          missing = missing;
           lines = first_lines (due (states_in project es)) _ stands.lines by.lines;
         }
 
-        lines_before : (fault : BuildFault) → Stops true fault project mid stop es → LinesBefore fault project es (rows_in b) old.heard.taken new.heard.taken
-        lines_before (Plan why) stops = stops.by
-        lines_before Toolchain stops = stops.by
-        lines_before (Child key fault) stops = fails_at key stops.by
-        lines_before (Device key fault) stops = fails_at key stops.by
-        lines_before Sink stops = let ((n, taken), faults) = stops.by in (n, first_lines (take n (due (states_in project es))) _ (ap (take n) stands.lines) taken)
-        lines_before OutOfMemory stops = let ((n, taken), faults) = stops.by in (n, first_lines (due_first n (states_in project es)) _ (stands.first_lines n) taken)
+        lines_before : (fault : BuildFault) → NamesUnit project fault asked before es → Stops true fault project mid stop es → LinesBefore fault project es (rows_in b) old.heard.taken new.heard.taken
+        lines_before (Plan why) names stops = stops.by
+        lines_before Toolchain names stops = stops.by
+        lines_before (Child key fault) names stops = fails_at key (units_missing key true asked hands (λ none. subst (λ (u : Option ℕ). NamesUnit project (Child key fault) u before es) none names)) stops.by
+        lines_before (Device key fault) names stops = fails_at key (units_missing key false asked hands (λ none. subst (λ (u : Option ℕ). NamesUnit project (Device key fault) u before es) none names)) stops.by
+        lines_before Sink names stops = let ((n, taken), faults) = stops.by in (n, first_lines (take n (due (states_in project es))) _ (ap (take n) stands.lines) taken)
+        lines_before OutOfMemory names stops = let ((n, taken), faults) = stops.by in (n, first_lines (due_first n (states_in project es)) _ (stands.first_lines n) taken)
 
       next_is : next ≡ next_in read (records_of options old.world.variables) old.world
       next_is = is_next ∙ ap (λ (f : List ℕ). next_in read f old.world) (same_folder options old.world project is)
@@ -226,7 +248,7 @@ module _ (footing : Footing) (read : Reading) (reading : IsReading read) (child 
       turns_give (Ok summary) ends =
           let whole : StandsWhole b next ends.es ends.reasons summary mid.world new.world = ends.told refl footing read sources reading (kept_first footing rests) in (
             record {
-              flown = record { units = units; es = ends.es; flies = (last, ends.flies); starts = counted ends.es ends.mid ends.starts ends.drained; reasons = ends.reasons };
+              flown = record { units = units; es = ends.es; flies = (last, ends.flies); gave = gave_so ends.es whole.stands; starts = counted ends.es ends.mid ends.starts ends.drained; reasons = ends.reasons };
               finished = ends.finished;
               numbers = (
                 whole.numbers.0,
@@ -243,9 +265,9 @@ module _ (footing : Footing) (read : Reading) (reading : IsReading read) (child 
       turns_give (Err fault) ends =
           let cut : StandsCut b fault next ends.es ends.before mid.world new.world = ends.told refl footing read sources reading (kept_first footing rests) in (
             inr record {
-              flown = record { units = units; es = ends.es; flies = (ends.last, ends.flies); starts = counted ends.es ends.mid.counts ends.stops.starts ends.drained; reasons = cut.reasons };
+              flown = record { units = units; es = ends.es; flies = (ends.last, ends.flies); gave = gave_so ends.es cut.stands; starts = counted ends.es ends.mid.counts ends.stops.starts ends.drained; reasons = cut.reasons };
               spent = subst (λ (n : Option ℕ). Spends (LacksNoNumber b old.world) fault n ends.es) next_is (subst (λ (w : World). Spends (LacksNoNumber b w) fault next ends.es) stays cut.spent);
-              lines = lines_before ends.es cut.stands ends.mid ends.heard fault ends.stops;
+              lines = lines_before ends.es cut.stands ends.mid ends.heard ends.last ends.flies ends.asked ends.hands ends.before fault ends.names ends.stops;
               before = ends.before;
               came = ends.came;
               began = subst (λ (w : World). AllBeganFor b ends.before cut.reasons w new.world) stays cut.began;
@@ -255,7 +277,7 @@ module _ (footing : Footing) (read : Reading) (reading : IsReading read) (child 
 
     works_give : (result : Result Summary BuildFault) (old new : Moment) → RestsOn footing read child options old.world → Works true child Turns options from last result old new
         → GivesUnits footing read child (ByTurns Turns from) options result old new × LeavesRecords footing read child options old.world new.world
-    works_give result old new rests (inl early) = (none_gives result old new early.none_began, stay_true footing old.world new.world rests (early.none_began.stays refl))
+    works_give result old new rests (inl early) = (none_gives result old new early, stay_true footing old.world new.world rests (early.none_began.stays refl))
     works_give result old new rests (inr units) =
         let project = units.prepared.project in
         let is = units.prepares.is refl in

@@ -1,5 +1,5 @@
 -- The headline: what a build gives that rests on true records and an honest child, or on no record.
-use Rattle.std.specs.Prelude.{◌≡◌, ◌⊎◌, ◌∷◌, [], ℕ, Bool, true, List, length, take, Option, Some, None, IsTrue, Result, Ok, Err, slice_get}
+use Rattle.std.specs.Prelude.{◌≡◌, ◌⊎◌, ◌∷◌, [], ℕ, Bool, true, false, Contains, List, length, take, Option, Some, None, IsTrue, Result, Ok, Err, slice_get}
 use Rattle.std.specs.Io.KnownBytes.{Appends}
 use Rattle.pb_answer.specs.declared.fault.BuildFault.{BuildFault}
 use Rattle.pb_answer.specs.declared.fault.BuildFault.TheVariants.{Child, Device, Sink, OutOfMemory}
@@ -9,14 +9,15 @@ use Rattle.pb_directive.specs.declared.directive.Directive.{Directive}
 use Rattle.pb_flight.specs.Events.{Event, Anything, started_by}
 use Rattle.pb_flight.specs.Steps.{Flies, Anyhow, TurnsOfJobs}
 use Rattle.pb_flight.specs.Table.{count_due, is_finished}
-use Rattle.pb_flight.specs.declared.flight.State.TheVariants.{Untouched, Begun}
+use Rattle.pb_flight.specs.declared.flight.Answer.{Answer}
+use Rattle.pb_flight.specs.declared.flight.State.TheVariants.{Untouched, Begun, Answered}
 use Rattle.pb_flight.specs.declared.turn.First.{First}
 use Rattle.pb_flight.specs.declared.turn.Jobs.{Jobs}
 use Rattle.pb_flight.specs.declared.turn.Last.{Last}
 use Rattle.pb_flight.specs.declared.turn.Step.{Step}
 use Rattle.pb_message.specs.declared.message.Message.{Message}
 use Rattle.pb_package.specs.declared.options.Options.{Options}
-use Rattle.pb_place.specs.Counts.{up}
+use Rattle.pb_place.specs.Counts.{Starts, up}
 use Rattle.pb_place.specs.Folders.{files_in}
 use Rattle.pb_place.specs.Paths.{below}
 use Rattle.pb_place.specs.World.{World, Map, Answers, from_nothing}
@@ -25,13 +26,14 @@ use Rattle.pb_answer.specs.declared.bad_unit.BadUnit.{BadUnit}
 use Rattle.pb_project.specs.declared.project.Project.{Project}
 use Rattle.pb_record.specs.Parts.{IsReading}
 use Rattle.pb_run.specs.Halves.{Footing, OnRecords, OnNothing, Basis, basis, key_at, IsHonestOnUnits}
-use Rattle.pb_run.specs.Outcome.{Good}
+use Rattle.pb_run.specs.Outcome.{Outcome, Good, outcomes}
 use Rattle.pb_soundness.specs.Records.{Reading, record_at}
 use Rattle.pb_soundness.specs.Sound.{Sound}
+use Rattle.pb_store.specs.Looking.{opened_looked}
 use Rattle.pb_store.specs.Opening.{next_in}
 use Rattle.pb_turns.specs.Crew.{needs_of}
 use Rattle.pb_turns.specs.Moments.{Heard, Moment}
-use Rattle.pb_turns.specs.Rows.{Row, Reasons, rows_of, said_from, summary_of}
+use Rattle.pb_turns.specs.Rows.{Row, Reasons, fault_in, rows_of, said_from, summary_of}
 use Rattle.pb_turns.specs.Story.{states_in, upped, AllBeganFor, CameAfter, LacksNoNumber, NumbersGiven, Spends}
 use Rattle.pb_unit.specs.declared.plan.Planned.{Planned}
 use Rattle.pb_build.specs.Ending.{NoneBegan, PicksFirstOf, PicksLastOf, Closes}
@@ -84,19 +86,29 @@ ByLast options = let pick : Last = record {} in ByPick PicksLastOf options pick
 
 -- What it gives.
 
--- what they give from nothing, in plan order, up to and with the first bad one
+-- what each unit gives from nothing, in plan order
+abbrev pub outcomes_for : (child : Answers) (options : Options) (w : World) → UnitsOf child options w → List Outcome
+outcomes_for child options w units = outcomes child (setup_of options (environment_of options w.variables) units.toolchain) units.project (from_nothing (environment_of options w.variables).target w)
+
+-- what they give, up to and with the first bad one
 abbrev pub rows_for : (child : Answers) (options : Options) (w : World) → UnitsOf child options w → List Row
 rows_for child options w units = rows_of child (setup_of options (environment_of options w.variables) units.toolchain) units.project (from_nothing (environment_of options w.variables).target w)
 
--- these began and answered in such events, by the schedule, and one child was started for the query and one for each unit that began with one; and this is noted of them
+-- each unit that has answered is good or bad as it is by these outcomes, with the same fault
+abbrev pub AnswersAs : List Outcome → Project → List (Event BadUnit) → Type 0
+AnswersAs given project es =
+    (place : ℕ) (answer : Answer BadUnit) → slice_get (states_in project es) place ≡ Some (Answered answer) → (outcome : Outcome) × (slice_get given place ≡ Some outcome) × (answer.fault ≡ fault_in outcome)
+
+-- these began and answered in such events, by the schedule, each good or bad as it is from nothing, and one child was started for the query and one for each unit that began with one; and this is noted of them
 pub record UnitsFly (child : Answers) (Schedule : Project → List (Event BadUnit) → Type 0) (options : Options) (old new : Moment) : Type 0 where
   pub units : UnitsOf child options old.world
   pub es : List (Event BadUnit)
   pub flies : Schedule units.project es
+  pub gave : AnswersAs (outcomes_for child options old.world units) units.project es
   pub starts : new.counts.starts.count ≡ upped (length (started_by es)) (up old.counts.starts.count)
   pub reasons : Reasons
 
--- all have begun and answered: the summary and the lines are those of what they give from nothing, and say of each whether a child was started for it; the folder of each good one holds exactly its files; and for each unit that began a child was started exactly where something differed from its record, which the summary names, as it names no other unit; the run numbers are those after the ones of the records
+-- all have answered, or all up to and with the first bad one, beside which later ones may have flown: the summary and the lines are those of what they give from nothing, and say of each whether a child was started for it; the folder of each good one holds exactly its files; and for each unit that began a child was started exactly where something differed from its record, which the summary names, as it names no other unit; from the number after those of the records on there was one for each unit that took one (which of them a record has is said of dropping and keeping it)
 pub record GivesAll (footing : Footing) (read : Reading) (child : Answers) (Schedule : Project → List (Event BadUnit) → Type 0) (options : Options) (summary : Summary) (old new : Moment) : Type 0 where
   pub flown : UnitsFly child Schedule options old new
   pub finished : is_finished (states_in flown.units.project flown.es) ≡ true
@@ -107,11 +119,12 @@ pub record GivesAll (footing : Footing) (read : Reading) (child : Answers) (Sche
   pub files : (place : ℕ) (u : Planned) (made : Map) (directives : Option (List Directive)) (messages : List Message) → slice_get (rows_for child options old.world flown.units) place ≡ Some record { unit = u; outcome = Good made directives messages } → files_in u.out new.world.files ≡ made
   pub began : AllBeganFor (basis_of footing read child options old.world flown.units) flown.es flown.reasons old.world new.world
 
--- a call for the unit of this key failed, or no run number is left for it; it has begun and not answered: the lines are those of the longest row of units that have answered
+-- a call for the unit of this key failed, or no run number is left for it, while units were missing; it has begun and not answered: the lines are those of the longest row of units that have answered
 pub record FailsAt (project : Project) (es : List (Event BadUnit)) (rows : List Row) (key : List ℕ) (old new : Option (List ℕ)) : Type 0 where
   pub place : ℕ
   pub named : key_at project place ≡ key ∷ []
   pub flies : slice_get (states_in project es) place ≡ Some Begun
+  pub missing : is_finished (states_in project es) ≡ false
   pub lines : Appends old new (said_from project es 0 (take (count_due (states_in project es)) rows))
 
 -- the lines that were handed out before a fault came: of the bytes of these units the first so many, where the sink failed; of these units the first so many, where memory was refused
@@ -131,10 +144,16 @@ pub record GivesFirst (footing : Footing) (read : Reading) (child : Answers) (Sc
   pub came : CameAfter flown.units.project fault before flown.es
   pub began : AllBeganFor (basis_of footing read child options old.world flown.units) before flown.reasons old.world new.world
 
+-- what is told of a call that failed before the units: behind the query it names the folder of the records, or a record directly in it, which are opened then; at which turn the call failed is said of the whole build (`StopsEarly`)
+abbrev pub NamesOpened : List ℕ → World → BuildFault → Starts → Starts → Type 0
+NamesOpened folder w (Device name fault) old new = (new ≡ old) ⊎ Contains (opened_looked folder w) name
+NamesOpened folder w fault old new = Unit {0}
+
 -- what was given when the finish line was due
 abbrev pub GivesUnits : Footing → Reading → Answers → (Project → List (Event BadUnit) → Type 0) → Options → Result Summary BuildFault → Moment → Moment → Type 0
 GivesUnits footing read child Schedule options (Ok summary) old new = GivesAll footing read child Schedule options summary old new
-GivesUnits footing read child Schedule options (Err fault) old new = NoneBegan true child options (Err fault) old new ⊎ GivesFirst footing read child Schedule options fault old new
+GivesUnits footing read child Schedule options (Err fault) old new =
+    (NoneBegan true child options (Err fault) old new × NamesOpened (records_of options old.world.variables) old.world fault old.counts.starts new.counts.starts) ⊎ GivesFirst footing read child Schedule options fault old new
 
 -- the records are true again
 abbrev pub LeavesRecords : Footing → Reading → Answers → Options → World → World → Type 0

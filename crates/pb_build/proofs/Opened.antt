@@ -1,0 +1,81 @@
+-- A call that failed behind the query, before the units, is one by which the records are opened.
+use Rattle.std.proofs.Common.{◌≡◌, ◌≢◌, ◌∙◌, ◌⊎◌, ◌==◌, if◌then◌else◌, inl, inr, ℕ, true, List, [], ◌∷◌, Contains, sym, ap, subst, refl, arith}
+use Rattle.std.proofs.lemmas.Bool.{cases_eq, ne_eqb}
+use Rattle.pb_answer.specs.declared.fault.BuildFault.{BuildFault}
+use Rattle.pb_answer.specs.declared.fault.BuildFault.TheVariants.{Plan, Toolchain, Child, Device, Sink, OutOfMemory}
+use Rattle.pb_answer.specs.declared.fault.DeviceFault.TheVariants as device
+use Rattle.pb_flight.proofs.Lists.{contains_head, contains_tail}
+use Rattle.pb_package.specs.declared.options.Options.{Options}
+use Rattle.pb_place.proofs.Failing.{call_tells_fault}
+use Rattle.pb_place.specs.CallsInTurn.{FailsAt, past_calls}
+use Rattle.pb_place.specs.Counts.{Counts, one_start, past_call, past_place_fault, up}
+use Rattle.pb_place.specs.World.{World, Answers}
+use Rattle.pb_place.specs.declared.place.PlaceFault.{PlaceFault}
+use Rattle.pb_place.specs.declared.place.PlaceFault.TheVariants as place
+use Rattle.pb_project.specs.declared.project.Project.{Project}
+use Rattle.pb_run.specs.Standing.{records_folder}
+use Rattle.pb_store.specs.Looking.{opened_looked}
+use Rattle.pb_build.specs.Causes.{StopsBefore, plan_called}
+use Rattle.pb_build.specs.Ending.{FailsBefore}
+use Rattle.pb_build.specs.Environment.{environment_of}
+use Rattle.pb_build.specs.Headline.{NamesOpened}
+use Rattle.pb_build.specs.Planning.{IsProject}
+
+-- no call on files or variables is a start
+fault_starts : (name : List ℕ) (fault : PlaceFault) (c : Counts) → (past_place_fault name fault c).starts ≡ c.starts
+fault_starts name place.Read c = refl
+fault_starts name place.List c = refl
+fault_starts name place.Write c = refl
+fault_starts name place.Remove c = refl
+fault_starts name place.Variable c = refl
+fault_starts name place.OutOfMemory c = refl
+
+fails_starts : (fault : PlaceFault) (names : List (List ℕ)) (old new : Counts) → FailsAt fault names old new → new.starts ≡ old.starts
+fails_starts fault [] old new fails = absurd fails
+fails_starts fault (name ∷ names) old new (inl is) = ap (λ (c : Counts). c.starts) is ∙ fault_starts name fault old
+fails_starts fault (name ∷ names) old new (inr is) = fails_starts fault names (past_call old) new is
+
+past_failures : (names : List (List ℕ)) (c : Counts) → (past_calls names c).failures ≡ c.failures
+past_failures [] c = refl
+past_failures (name ∷ names) c = past_failures names (past_call c)
+
+-- want of memory is no failure
+memory_fails : (names : List (List ℕ)) (count : ℕ) (old new : Counts) → old.failures ≡ count → FailsAt place.OutOfMemory names old new → new.failures ≡ up count → new.late ≡ 0 → ⊥
+memory_fails [] count old new same fails more none = fails
+memory_fails (name ∷ names) count old new same (inr is) more none = memory_fails names count (past_call old) new same is more none
+memory_fails (name ∷ names) count old new same (inl is) more none = elim (cases_eq old.failures 0) [
+  | inl zero ↦ let kept : new.failures ≡ old.failures = ap (λ (c : Counts). c.failures) is in omega (arith, zero, same, kept, more)
+  | inr ne ↦ let later : new.late ≡ up old.late = ap (λ (c : Counts). c.late) is ∙ ap (λ b. if b then 0 else up old.late) (ne_eqb old.failures 0 ne) in omega (arith, none, later)
+]
+
+-- the counters name the call that failed
+named_among : (fault : PlaceFault) (names : List (List ℕ)) (old new : Counts) → fault ≢ place.OutOfMemory → FailsAt fault names old new → Contains names new.named
+named_among fault [] old new real fails = absurd fails
+named_among fault (name ∷ names) old new real (inl is) = subst (Contains (name ∷ names)) (sym (ap (λ (c : Counts). c.named) (is ∙ call_tells_fault name fault old real))) (contains_head name names)
+named_among fault (name ∷ names) old new real (inr is) = contains_tail name names new.named (named_among fault names (past_call old) new real is)
+
+is_real : (fault : PlaceFault) → (fault ≡ place.OutOfMemory) ⊎ (fault ≢ place.OutOfMemory)
+is_real place.Read = inr (λ e. cc)
+is_real place.List = inr (λ e. cc)
+is_real place.Write = inr (λ e. cc)
+is_real place.Remove = inr (λ e. cc)
+is_real place.Variable = inr (λ e. cc)
+is_real place.OutOfMemory = inl refl
+
+module _ (child : Answers) (options : Options) (w : World) (folder : List ℕ) (same : (project : Project) → IsProject options (environment_of options w.variables).target w project → records_folder project ≡ folder) where
+  pub names_opened : (fault : BuildFault) (old new : Counts) → FailsBefore true child options fault w old new → StopsBefore options w fault old new → NamesOpened folder w fault old.starts new.starts
+  names_opened (Plan why) old new fails stops = tt
+  names_opened Toolchain old new fails stops = tt
+  names_opened (Child key fault) old new fails stops = tt
+  names_opened Sink old new fails stops = tt
+  names_opened OutOfMemory old new fails stops = tt
+  names_opened (Device name device.NumbersSpent) old new fails stops = absurd fails
+  names_opened (Device name (device.Place fault)) old new fails (inl stops) = inl (fails_starts fault (plan_called options w) old new stops)
+  names_opened (Device name (device.Place fault)) old new fails (inr (project, is, inl asked)) = absurd asked
+  names_opened (Device name (device.Place fault)) old new (started, (more, none, last), named) (inr (project, is, inr stops)) =
+      let names = opened_looked (records_folder project) w in
+      let mid = past_call (one_start (past_calls (plan_called options w) old)) in
+      elim (is_real fault) [
+        | inl memory ↦ absurd (memory_fails names old.failures mid new (past_failures (plan_called options w) old) (subst (λ (f : PlaceFault). FailsAt f names mid new) memory stops) more none)
+        | inr real ↦ inr (subst (Contains (opened_looked folder w)) named (subst (λ (f : List ℕ). Contains (opened_looked f w) new.named) (same project is) (named_among fault names mid new real stops)))
+      ]
