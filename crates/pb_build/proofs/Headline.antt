@@ -146,7 +146,7 @@ module _ (footing : Footing) (read : Reading) (reading : IsReading read) (child 
         inl (
           early.none_began,
           subst (λ (f : BuildFault). NamesOpened (records_of options old.world.variables) old.world f old.counts.starts new.counts.starts) same
-          (names_opened child options old.world (records_of options old.world.variables) (same_folder options old.world) early.none_began.fault old.counts new.counts early.none_began.why (early.calls refl)),
+              (names_opened child options old.world (records_of options old.world.variables) (same_folder options old.world) early.none_began.fault old.counts new.counts early.none_began.why (early.calls refl)),
         )
       where
         told_of : (result : Result Summary BuildFault) (f g : BuildFault) → result ≡ Err f → result ≡ Err g → g ≡ f
