@@ -2,6 +2,7 @@
 use Rattle.std.proofs.Common.{◌≡◌, ◌↔◌, ◌∙◌, ℕ, Bool, true, false, ◌&&◌, cond, if◌then◌else◌, is_some, List, [], Option, Some, None, refl, ap, subst}
 use Rattle.std.specs.Option.{option_map}
 use Rattle.pb_command.specs.Command.{command_of}
+use Rattle.pb_command.proofs.Rising.{commands_rise}
 use Rattle.pb_directive.specs.declared.directive.Directive.{Directive}
 use Rattle.pb_package.specs.declared.package.Package.{Package}
 use Rattle.pb_project.specs.Targets.{own_run, own_said, said_at, said_there}
@@ -89,6 +90,7 @@ compiles_of_plans setup project u done p settled stands compiles path =
       hears = h.hears_so;
       has = subst (CompileHas setup project u p (command_of setup project u done) h.lines) h.ran_is
           (subst (λ lines. CompileHas setup project u p (command_of setup project u done) lines (if hears u.unit.what then folder_at project (own_run project u) else None)) h.lines_are (compiles_have setup project u done p stands.owner compiles));
+      order = commands_rise setup project u done;
       said = told.0;
       words = told.1;
       says = subst (λ lines. CompileSays project u done p lines (IsWanted project u p) told.0) h.lines_are
@@ -99,4 +101,5 @@ pub runs_of_plans : RunsOfPlans
 runs_of_plans setup project u done p stands runs = record {
   starts = subst (λ file. StartsScript setup project u p file (command_of setup project u done)) (runs_start_scripts project u p stands runs) (runs_start setup project u done p stands.owner runs);
   has = runs_have setup project u done p stands.owner runs;
+  order = commands_rise setup project u done;
 }

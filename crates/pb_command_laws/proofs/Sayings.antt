@@ -5,7 +5,22 @@ use Rattle.std.proofs.lemmas.Grind.{flat_map-append}
 use Rattle.std.specs.List.{flat_map}
 use Rattle.std.specs.Str.{bytes_eq}
 use Rattle.pb_mini.specs.CommandLine.{takes_value}
-use Rattle.pb_command_laws.specs.Reading.{said_by, values}
+use Rattle.pb_command_laws.specs.Reading.{said_by, values, words_of_saying, SayingsKeepWords}
+
+-- what words say gives them again
+pub sayings_keep_words : SayingsKeepWords
+sayings_keep_words [] = refl
+sayings_keep_words (word ∷ []) = refl
+sayings_keep_words (word ∷ value ∷ words) = by word (takes_value word) refl (sayings_keep_words words) (sayings_keep_words (value ∷ words))
+  where
+    again : List (List ℕ × List ℕ) → List (List ℕ)
+    again said = flat_map (λ (saying : List ℕ × List ℕ). words_of_saying saying.0 saying.1) said
+
+    by : (option : List ℕ) (r : Bool) → takes_value option ≡ r → again (said_by words) ≡ words → again (said_by (value ∷ words)) ≡ value ∷ words
+        → again (cond r ((option, value) ∷ said_by words) (([], option) ∷ said_by (value ∷ words))) ≡ option ∷ value ∷ words
+    by option false is behind one = ap (λ more. option ∷ more) one
+    by [] true is behind one = absurd (cc)
+    by (byte ∷ option) true is behind one = ap (λ more. (byte ∷ option) ∷ value ∷ more) behind
 
 -- the values of one option
 abbrev pub under : List ℕ → List (List ℕ) → List (List ℕ × List ℕ)
@@ -30,7 +45,7 @@ reads_option : (option value : List ℕ) → takes_value option ≡ true → Rea
 reads_option option value takes rest = ap (λ r. cond r ((option, value) ∷ said_by rest) (([], option) ∷ said_by (value ∷ rest))) takes
 
 reads_alone : (word : List ℕ) → takes_value word ≡ false → Reads (word ∷ []) (([], word) ∷ [])
-reads_alone word takes [] = ap (λ r. cond r [] (([], word) ∷ [])) takes
+reads_alone word takes [] = refl
 reads_alone word takes (value ∷ rest) = ap (λ r. cond r ((word, value) ∷ said_by rest) (([], word) ∷ said_by (value ∷ rest))) takes
 
 -- words that give an option these values, and say nothing else

@@ -72,7 +72,7 @@ told table = flat_map (λ (row : List ℕ × Option (List ℕ)). assigned row.0 
 
 -- What the lines of scripts say.
 
--- a line of a script as its key and its value
+-- a line of a script as its key and its value: of `rustc-link-arg-bin=BIN=FLAG` the key is `rustc-link-arg-bin=BIN`; of a line whose key is asked for nowhere both are empty
 abbrev pub as_line : Directive → List ℕ × List ℕ
 as_line (LinkSearch folder) = (codes "rustc-link-search", folder)
 as_line (LinkLib name) = (codes "rustc-link-lib", name)

@@ -2,8 +2,9 @@
 use Rattle.std.specs.Prelude.{◌≡◌, ℕ, true, false, ◌&&◌, ◌++◌, codes, is_some, List, [], Option, Some, None}
 use Rattle.pb_command.specs.Command.{command_of}
 use Rattle.pb_project.specs.declared.project.Setup.{Setup}
+use Rattle.pb_data.specs.Table.{names_of}
 use Rattle.pb_directive.specs.declared.directive.Directive.{Directive}
-use Rattle.pb_package.specs.Settled.{IsSettled}
+use Rattle.pb_package.specs.Settled.{IsAscending, IsSettled}
 use Rattle.pb_package.specs.declared.package.Package.{Package}
 use Rattle.pb_place.specs.Paths.{below, is_path}
 use Rattle.pb_place.specs.declared.command.Command.{Command}
@@ -23,20 +24,23 @@ pub data Hears (project : Project) (u : Planned) (p : Package) (done : List (Opt
   nothing : (is : (hears u.unit.what && is_some p.script) ≡ false) → Hears project u p done [] None
   own_run : (is : (hears u.unit.what && is_some p.script) ≡ true) (place : ℕ) (run : Planned) (there : unit_at project place ≡ Some run) (same : run.unit ≡ unit u.unit.owner u.unit.side Run) → Hears project u p done (said_at done place) (Some run.out)
 
+-- a compile: what it starts, what it hears, its variables, whose names rise, so each stands once, and what its words say
 pub record IsCompile (setup : Setup) (project : Project) (u : Planned) (done : List (Option (List Directive))) (p : Package) (command : Command) : Type 0 where
   pub starts : StartsCompiler setup project u command
   pub lines : List Directive
   pub ran : Option (List ℕ)
   pub hears : Hears project u p done lines ran
   pub has : CompileHas setup project u p command lines ran
+  pub order : IsAscending (names_of command.pairs)
   pub said : List (List ℕ × List ℕ)
   pub words : said_by command.words ≡ said ++ said_by setup.flags
   pub says : CompileSays project u done p lines (IsWanted project u p) said
 
--- a run starts the script of its package on its side
+-- a run starts the script of its package on its side; the names of its variables rise too
 pub record IsRun (setup : Setup) (project : Project) (u : Planned) (done : List (Option (List Directive))) (p : Package) (command : Command) : Type 0 where
   pub starts : StartsScript setup project u p (Some (below (folder_of project (unit u.unit.owner u.unit.side Script)) (codes "build_script_build"))) command
   pub has : RunHas setup project u done p command
+  pub order : IsAscending (names_of command.pairs)
 
 -- The laws. The package is one of a workspace that was read, and its source has a normalised absolute path.
 

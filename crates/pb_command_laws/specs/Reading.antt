@@ -1,13 +1,23 @@
 -- Words read back by the compiler's own option grammar.
-use Rattle.std.specs.Prelude.{ℕ, if◌then◌else◌, List, [], ◌∷◌}
+use Rattle.std.specs.Prelude.{◌≡◌, ℕ, if◌then◌else◌, List, [], ◌∷◌}
+use Rattle.std.specs.List.{flat_map}
 use Rattle.std.specs.Str.{bytes_eq}
 use Rattle.pb_mini.specs.CommandLine.{takes_value}
 
--- what words say, in turn: an option and its value, which is the next word; a word that stands alone is a value of no option, whose name is empty
+-- what words say, in turn: an option and its value, which is the next word; a word that stands alone, or an option at the end without its value, is a value of no option, whose name is empty
 abbrev pub said_by : List (List ℕ) → List (List ℕ × List ℕ)
 said_by [] = []
-said_by (word ∷ []) = if takes_value word then [] else ([], word) ∷ []
+said_by (word ∷ []) = ([], word) ∷ []
 said_by (word ∷ value ∷ words) = if takes_value word then (word, value) ∷ said_by words else ([], word) ∷ said_by (value ∷ words)
+
+-- the words that a saying is told in
+abbrev pub words_of_saying : List ℕ → List ℕ → List (List ℕ)
+words_of_saying [] word = word ∷ []
+words_of_saying (byte ∷ option) value = (byte ∷ option) ∷ value ∷ []
+
+-- The law: what words say gives these words again, so none is passed over, be it an option at the end without its value.
+abbrev pub SayingsKeepWords : Type 0
+SayingsKeepWords = (words : List (List ℕ)) → flat_map (λ (saying : List ℕ × List ℕ). words_of_saying saying.0 saying.1) (said_by words) ≡ words
 
 -- the values that an option is given, in turn
 abbrev pub values : List ℕ → List (List ℕ × List ℕ) → List (List ℕ)

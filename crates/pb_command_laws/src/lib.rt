@@ -6,6 +6,7 @@ ghost use Rattle.pb_command_laws.specs.Compiles.{CompilesSay};
 ghost use Rattle.pb_command_laws.specs.Judged.{AnswersSay};
 ghost use Rattle.pb_command_laws.specs.OfPlans.{CompilesOfPlans, RunsOfPlans};
 ghost use Rattle.pb_command_laws.specs.Planned.{LibrariesAreWanted, CompilesHearRuns, RunsStartScripts};
+ghost use Rattle.pb_command_laws.specs.Reading.{SayingsKeepWords};
 ghost use Rattle.pb_command_laws.specs.Starts.{CompilesStart, RunsStart};
 ghost use Rattle.pb_command_laws.specs.Variables.{CompilesHave, RunsHave};
 
@@ -13,6 +14,11 @@ ghost use Rattle.pb_command_laws.specs.Variables.{CompilesHave, RunsHave};
 /// folders and libraries, and then what the user's flags say.
 pub fn compiles_say()
     ensures { CompilesSay }
+{}
+
+/// A law: what words say, read so, gives each of them again: none is passed over.
+pub fn sayings_keep_words()
+    ensures { SayingsKeepWords }
 {}
 
 /// A law: the variables of a compile are these, each with this value unless the run of its own package has set it, and
