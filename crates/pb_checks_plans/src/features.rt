@@ -71,6 +71,6 @@ fn features(rt: HostRuntime) -> Result<(), Fail> {
     for case in RESOLUTIONS.split("=== ") {
         count = count.saturating_add(try_case(&rt, rt.alloc(), case)?);
     }
-    assert_eq!(rt; count, 111);
+    assert_eq!(rt; count, 112);
     Ok(())
 }

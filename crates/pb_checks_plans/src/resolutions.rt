@@ -270,12 +270,14 @@ x = { path = "x", optional = true }
 x = { path = "x" }
 [features]
 f = ["x?/g"]
+h = ["x/g"]
 @ /w/x/Cargo.toml
 package.name = "x"
 [features]
 g = []
 ---
 - = a.target >>x; x.host
+f:h = a.target h x >x >>x; x.target g; x.host g
 f:x = a.target x >x >>x; x.target; x.host
 f:f = a.target f >>x; x.host g
 f:f,x = a.target f x >x >>x; x.target g; x.host g

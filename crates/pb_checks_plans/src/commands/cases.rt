@@ -380,6 +380,7 @@ cargo::rerun-if-env-changed=CC
 cargo::rerun-if-changed=x.c
 cargo::rerun-if-changed=/w/a/x.c
 cargo::rerun-if-changed=/w/target/debug/a.target.script/build_script_build
+cargo::rerun-if-changed=/w/target/debug/a.target.script
 cargo::rerun-if-env-changed=CARGO
 cargo::rerun-if-env-changed=CC
 @ /said/b.target.run
@@ -394,7 +395,7 @@ cargo::rustc-link-lib=
 @ /info/a.target.lib
 no rule
 ---
-a.target.run good = 6 /w/a/x.c $CC $CARGO
+a.target.run good = 7 /w/a/x.c $CC $CARGO
 b.target.run good = 1 $CC
 c.target.run good = ForeignInput(/w/target)
 d.target.run good = Directive(UnknownKey(2))

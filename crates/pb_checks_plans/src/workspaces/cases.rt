@@ -410,6 +410,25 @@ name = "a"
 version.workspace = true
 ---
 /v/a a 2.0.0 2015
+=== a glob with a path of its own
+@ /w/Cargo.toml
+[workspace]
+members = ["/v/*"]
+@ /v/a/Cargo.toml
+package.name = "a"
+---
+/v/a a 0.0.0 2015
+=== a star in `exclude` stands for itself
+@ /w/Cargo.toml
+[workspace]
+members = ["*"]
+exclude = ["m*", "n*"]
+@ /w/m1/Cargo.toml
+package.name = "m1"
+@ /w/n*/Cargo.toml
+package.name = "n"
+---
+/w/m1 m1 0.0.0 2015
 === a part with a star that is left again
 @ /w/Cargo.toml
 [workspace]
@@ -808,6 +827,23 @@ license-file.workspace = true
   readme ../README.md
   repository r
   rust-version 1
+=== a license file that is taken and is the member's folder
+@ /w/Cargo.toml
+[workspace]
+members = ["m", "n"]
+package.license-file = "m"
+@ /w/m/Cargo.toml
+[package]
+name = "m"
+license-file.workspace = true
+@ /w/n/Cargo.toml
+[package]
+name = "n"
+license-file.workspace = true
+---
+/w/m m 0.0.0 2015
+/w/n n 0.0.0 2015
+  license-file ../m
 === the root package takes from its own workspace
 @ /w/Cargo.toml
 [package]

@@ -197,7 +197,7 @@ fn workspaces(rt: HostRuntime) -> Result<(), Fail> {
         let is_case = try_case(&rt, rt.alloc(), case)?;
         count = count.saturating_add(usize::from(is_case));
     }
-    assert!(rt; count >= 60);
+    assert_eq!(rt; count, 95);
     assert!(rt; count_loaded(rt.alloc(), 256)? == (256, 0, 0));
     assert!(rt; count_loaded(rt.alloc(), 257)? == (0, 0, 0));
     assert_eq!(rt; count_own_roots(rt.alloc())?, 5);

@@ -212,8 +212,8 @@ const FOLDERS: &[(&str, &str)] = &[
 
 #[test]
 fn settings_and_folders(rt: HostRuntime) -> Result<(), Fail> {
-    assert!(rt; assert_table(&rt, rt.alloc(), PROFILES)? >= 60);
-    assert!(rt; assert_table(&rt, rt.alloc(), PLACES)? >= 55);
+    assert_eq!(rt; assert_table(&rt, rt.alloc(), PROFILES)?, 71);
+    assert_eq!(rt; assert_table(&rt, rt.alloc(), PLACES)?, 58);
     for case in FOLDERS {
         let (profile, wanted) = *case;
         assert!(rt; folder_of(profile) == wanted, "of {profile}");
