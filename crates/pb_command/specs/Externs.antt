@@ -68,7 +68,7 @@ extern_key name path = name ++ 0 ∷ path
 unfoldable pub extern_text : List ℕ → List ℕ → List ℕ
 extern_text name path = name ++ 61 ∷ path
 
--- a library and its name, where its file is there
+-- a library by its name and its file; none where the unit needs no such library
 abbrev pub extern : List ℕ → Option (List ℕ) → List (List ℕ × List ℕ)
 extern name None = []
 extern name (Some path) = (extern_key name path, extern_text name path) ∷ []

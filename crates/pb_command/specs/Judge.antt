@@ -38,7 +38,7 @@ file_at (Some path) files = finite.get files path
 abbrev pub is_of_run : List ℕ → Bool
 is_of_run out = bytes_eq (last_word out) (codes "run")
 
--- the name of the crate that is compiled: the word after `--crate-name`
+-- the name of the crate that is compiled: the second word, whatever the first is, which is `--crate-name` in each compile of a plan
 abbrev pub crate_in : List (List ℕ) → List ℕ
 crate_in [] = []
 crate_in (option ∷ []) = []

@@ -147,7 +147,7 @@ fn extern_text(alloc: Global, name: &str, path: &str) -> Result<String, AllocErr
     Ok(text)
 }
 
-/// Puts a library, where its file is there.
+/// Puts a library by its name and its file; nothing where the unit needs no such library.
 fn put_extern(
     alloc: Global,
     all: &mut TextMap,

@@ -48,7 +48,7 @@ in_package name s = keys_or_none (option_and_then (override_named name) s.table)
 abbrev pub in_build_override : Place
 in_build_override s = keys_or_none (option_and_then (λ (p : Profile). p.build_override) s.table)
 
--- what holds of all host roles, unless a `build-override` says otherwise
+-- what holds of all host roles, unless a place before says otherwise: `package.NAME`, `package."*"` or `build-override`
 abbrev pub of_hosts : Place
 of_hosts s = record no_keys { opt_level = Some Zero; codegen_units = Some 256; debug = Some debug.Nothing }
 

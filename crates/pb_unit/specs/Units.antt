@@ -109,7 +109,7 @@ tools ws features p s = placed (tool_by ws features p s) 0 (entries_at ws p)
 abbrev pub runs : Workspace → Features → ℕ → Side → List Unit
 runs ws features p s = placed (run_by ws features p s) 0 (entries_at ws p)
 
--- a package's own library and own run, where it has a library and a script
+-- a package's own library, where it has one, and its own run, where it has a script
 abbrev pub own_library : Workspace → ℕ → Side → List Unit
 own_library ws p s = if has_library (slice_get ws.packages p) then unit p s Lib ∷ [] else []
 
