@@ -3,7 +3,7 @@
 # compiles, with one job and with as many as there are processors, and prints tables for docs/SPEED.md.
 #
 # PARTS names what is measured (all where it is absent):
-#   side     both builders over five workspaces: from nothing; again with nothing changed; after an edit of a source of
+#   side     both builders over six workspaces: from nothing; again with nothing changed; after an edit of a source of
 #            the lowest package (the one that the others need, or the first); after one of the topmost; after a variable
 #            has changed that the lowest package's script names. Seconds of the clock; seconds of the processor of the
 #            builder itself and of its children (in hundredths, as the system tells them of a process that has ended);
@@ -18,7 +18,7 @@
 #   wide     one slow package beside 120 quick ones: what waits, since the unit that was begun first is answered first;
 #            the least of ROUNDS builds from nothing, the builders by turns
 #
-# SHAPES=WORDS takes the workspaces alone that these words name: chain, side, scripts, files, example. RESULTS=FILE keeps
+# SHAPES=WORDS takes the workspaces alone that these words name: chain, side, shared, scripts, files, example. RESULTS=FILE keeps
 # the figures of `side` in a file, round by round, and begins with those that it has: so rounds of several runs make one
 # table, and ROUNDS=0 prints it. PROGRAM=FILE and
 # COMPILER=FILE take a `pb_tool` and a `pb_mini` that are made already. The status is 1 where a build fails that must not,
@@ -30,7 +30,7 @@ trap 'rm -rf "$folder"' EXIT
 . "$top/bench/program.sh"
 program="${PROGRAM:-$(make_program "$top" "$folder")}"
 compiler="${COMPILER:-$(make_compiler "$top" "$folder")}"
-python3 - "$program" "$compiler" "$folder" "$top" "${PARTS:-side nothing calls growth dear wide}" "${SHAPES:-chain side scripts files example}" "${ROUNDS:-5}" "${LIMIT:-0}" "${RESULTS:-}" <<'PYTHON'
+python3 - "$program" "$compiler" "$folder" "$top" "${PARTS:-side nothing calls growth dear wide}" "${SHAPES:-chain side shared scripts files example}" "${ROUNDS:-5}" "${LIMIT:-0}" "${RESULTS:-}" <<'PYTHON'
 import collections, json, math, os, re, shutil, subprocess, sys, threading, time
 
 program, compiler, folder, top, parts, wanted, rounds, limit, results = sys.argv[1:]
@@ -93,6 +93,15 @@ def write_side(there):
     put(f"{there}/m000/build.rs", SCRIPT)
 
 
+def write_shared(there):
+    put(f"{there}/Cargo.toml", MEMBERS)
+    for n in range(256):
+        needs = ["m000"] if n else []
+        put(f"{there}/m{n:03}/Cargo.toml", manifest(f"m{n:03}", [(it, f"../{it}") for it in needs]))
+        put(f"{there}/m{n:03}/src/lib.rs", library(needs, 1) if n else library([], 1) + ("// " + "what stands in a large source " * 4 + "\n") * (2**20 // 124))
+    put(f"{there}/m000/build.rs", SCRIPT)
+
+
 def write_scripts(there):
     names = [f"m{n:02}" for n in range(64)]
     needs = [(name, f"../{name}") for name in names]
@@ -125,6 +134,7 @@ def write_example(there):
 SHAPES = [
     Shape("chain", "256 packages in a chain", write_chain, "m000/src/lib.rs", "m255/src/lib.rs"),
     Shape("side", "256 packages side by side", write_side, "m000/src/lib.rs", "m255/src/lib.rs"),
+    Shape("shared", "256 packages, of which all need one with a source of 1 MiB", write_shared, "m000/src/lib.rs", "m255/src/lib.rs"),
     Shape("scripts", "64 packages with scripts, needed on both sides", write_scripts, "m00/src/lib.rs", "top/src/lib.rs"),
     Shape("files", "one package with 500 source files", write_files, "src/part000.rs", "src/lib.rs"),
     Shape("example", "the examples' workspace", write_example, "packages/math-sys/src/lib.rs", "packages/almanac/src/main.rs"),

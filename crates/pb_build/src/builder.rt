@@ -13,7 +13,8 @@ ghost use Rattle.pb_build.specs.Result.{setup_of};
 ghost use Rattle.pb_run.specs.Causes.{MakesInTurn, Takes, NoStart, OneStart};
 ghost use Rattle.pb_run.specs.Standing.{records_folder};
 ghost use Rattle.pb_project.specs.declared.project.Project.{Project};
-ghost use Rattle.pb_soundness.specs.Records.{Reading};
+ghost use Rattle.pb_soundness.specs.Records.{Reading, record_at};
+ghost use Rattle.pb_store.specs.Held.{HoldsNumbers};
 ghost use Rattle.pb_store.specs.Looking.{opened_looked};
 ghost use Rattle.pb_store.specs.Opening.{next_in};
 ghost use Rattle.pb_turns.specs.Moments.{Moment, moment};
@@ -99,6 +100,7 @@ fn opened<P: Place>(
 ) -> Result<Store, BuildFault>
     ensures folder { IfOk result (λ store. store.folder ≡ records_folder project.now) }
     ensures next { (read : Reading) → IsReading read → IsTrue P.tells → IfOk result (λ store. store.next ≡ next_in read (records_folder project.now) (P.world place.old)) }
+    ensures numbers { (read : Reading) → IsReading read → IsTrue P.tells → IfOk result (λ store. HoldsNumbers (record_at read (records_folder project.now) (P.world place.new).files) store.numbers) }
     ensures same { IsTrue P.tells → P.world place.new ≡ P.world place.old }
     ensures most { P.most place.new ≡ P.most place.old }
     ensures takes { Takes NoStart MayPlan result (P.counts place.old) (P.counts place.new) }
@@ -125,6 +127,7 @@ fn ready<P: Place>(
     project: OrderedProject,
 ) -> Result<Prepared, BuildFault>
     ensures folder { IfOk result (λ prepared. prepared.store.folder ≡ records_folder prepared.project) }
+    ensures numbers { (read : Reading) → IsReading read → IsTrue P.tells → IfOk result (λ prepared. HoldsNumbers (record_at read (records_folder prepared.project) (P.world place.new).files) prepared.store.numbers) }
     ensures ready { IsTrue P.tells → IfOk result (IsReadyFor P.child options.now environment project (P.world place.old)) }
     ensures silent { IsTrue P.tells → IfErr result (IsSilentFault P.child environment project (P.world place.old)) }
     ensures same { IsTrue P.tells → P.world place.new ≡ P.world place.old }
@@ -212,6 +215,7 @@ fn prepare<P: Place>(
 ) -> Result<Prepared, BuildFault>
     requires none { (P.counts place.old).starts.flying ≡ [] }
     ensures folder { IfOk result (λ prepared. prepared.store.folder ≡ records_folder prepared.project) }
+    ensures numbers { (read : Reading) → IsReading read → IsTrue P.tells → IfOk result (λ prepared. HoldsNumbers (record_at read (records_folder prepared.project) (P.world place.new).files) prepared.store.numbers) }
     ensures prepares { IfOk result (λ prepared. (from : Moment) → PlansFrom P.tells options.now plan from record { world = P.world place.old; counts = P.counts place.old; most = P.most place.old; heard = from.heard }
         → Prepares P.tells P.child options.now prepared from.world (P.world place.new) from.counts (P.counts place.new) from.most (P.most place.new)) }
     ensures fails { IfErr result (λ e. (from : Moment) → PlansFrom P.tells options.now plan from record { world = P.world place.old; counts = P.counts place.old; most = P.most place.old; heard = from.heard }

@@ -262,16 +262,16 @@ const LAST_OF_LIBRARY: &str =
 
 /// Those of a package on both sides: the dep-info, what it names, and the record.
 const LAST_OF_SIDES: &str =
-    "fault r.target.lib CannotStart, fault r.target.lib Died, fault r.target.lib Device, fault r.target.lib Device, fault r.target.lib Device, fault r.target.lib Device, fault r.target.lib Device, ";
+    "fault r.target.lib CannotStart, fault r.target.lib Died, fault r.target.lib Device, fault r.target.lib Device, fault r.target.lib Device, ";
 
 /// Those of two libraries, the second of which is made: its dep-info, what it names, and the record.
 const LAST_OF_PAIR: &str =
-    "fault b.target.lib CannotStart, fault b.target.lib Died, fault b.target.lib Device, fault b.target.lib Device, fault b.target.lib Device, fault b.target.lib Device, ";
+    "fault b.target.lib CannotStart, fault b.target.lib Died, fault b.target.lib Device, fault b.target.lib Device, fault b.target.lib Device, ";
 
 /// Those of two libraries of an earlier version, the first of which is made. Of the second, what its record holds is
 /// looked at, and the record written anew.
 const LAST_OF_OLD: &str =
-    "fault a.target.lib CannotStart, fault a.target.lib Died, fault a.target.lib Device, fault a.target.lib Device, fault a.target.lib Device, fault b.target.lib Device, fault b.target.lib Device, fault b.target.lib Device, fault b.target.lib Device, fault b.target.lib Device, fault b.target.lib Device, fault b.target.lib Device, fault b.target.lib Device, fault b.target.lib Device, ";
+    "fault a.target.lib CannotStart, fault a.target.lib Died, fault a.target.lib Device, fault a.target.lib Device, fault a.target.lib Device, fault b.target.lib Device, fault b.target.lib Device, fault b.target.lib Device, fault b.target.lib Device, fault b.target.lib Device, fault b.target.lib Device, fault b.target.lib Device, fault b.target.lib Device, ";
 
 /// The trials.
 static TRIALS: &[Trial] = &[

@@ -17,7 +17,6 @@ use Rattle.pb_project.specs.Targets.{dep_info_of}
 use Rattle.pb_project.specs.declared.project.Project.{Project}
 use Rattle.pb_record.specs.declared.record.InputName.{InputName}
 use Rattle.pb_run.specs.Causes.{MakesInTurn, StopsAt, device_fault, store_fault}
-use Rattle.pb_run.specs.Halves.{needed_keys}
 use Rattle.pb_run.specs.Landing.{answered_called, dep_info_looked, judged_called, recorded_called}
 use Rattle.pb_run.specs.Outcome.{judgement_by}
 use Rattle.pb_run.specs.Standing.{records_folder}
@@ -145,18 +144,18 @@ module _ (read : Reading) (project : Project) (u : Planned) (c : Command) (by : 
 
 -- the record is kept; it has a number; it is given one
 pub kept_so : (read : Reading) (project : Project) (u : Planned) (c : Command) (l : Launched) (folder : List ℕ) (v w : World) (names known : List InputName) → folder ≡ records_folder project → v ≡ w → names ≡ known
-    → kept_called folder u.key c.target v (needed_keys project u) names ≡ recorded_called read project u c w known (awaited.Child l)
+    → kept_called folder u.key c.target v names ≡ recorded_called read project u c w known (awaited.Child l)
 kept_so read project u c l folder v w names known is same are =
-    ap (λ (f : List ℕ). kept_called f u.key c.target v (needed_keys project u) names) is
-    ∙ ap (λ (x : World). kept_called (records_folder project) u.key c.target x (needed_keys project u) names) same
-    ∙ ap (λ (ns : List InputName). kept_called (records_folder project) u.key c.target w (needed_keys project u) ns) are
+    ap (λ (f : List ℕ). kept_called f u.key c.target v names) is
+    ∙ ap (λ (x : World). kept_called (records_folder project) u.key c.target x names) same
+    ∙ ap (λ (ns : List InputName). kept_called (records_folder project) u.key c.target w ns) are
 
 pub numbered_so : (read : Reading) (project : Project) (u : Planned) (c : Command) (again : Replayed) (w : World) (known : List InputName) → again.numbered ≡ true → [] ≡ recorded_called read project u c w known (awaited.Record again)
-numbered_so read project u c again w known is = ap (λ b. cond b [] (migrated_called (records_folder project) u.key (needed_keys project u) (record_at read (records_folder project) w.files u.key))) (sym is)
+numbered_so read project u c again w known is = ap (λ b. cond b [] (migrated_called (records_folder project) u.key (record_at read (records_folder project) w.files u.key))) (sym is)
 
 pub renewed_names : (read : Reading) (project : Project) (u : Planned) (c : Command) (again : Replayed) (folder : List ℕ) (v w : World) (known : List InputName) → folder ≡ records_folder project → v ≡ w → again.numbered ≡ false
-    → migrated_called folder u.key (needed_keys project u) (record_at read folder v.files u.key) ≡ recorded_called read project u c w known (awaited.Record again)
+    → migrated_called folder u.key (record_at read folder v.files u.key) ≡ recorded_called read project u c w known (awaited.Record again)
 renewed_names read project u c again folder v w known is same lacks =
-    ap (λ (f : List ℕ). migrated_called f u.key (needed_keys project u) (record_at read f v.files u.key)) is
-    ∙ ap (λ (x : World). migrated_called (records_folder project) u.key (needed_keys project u) (record_at read (records_folder project) x.files u.key)) same
-    ∙ ap (λ b. cond b [] (migrated_called (records_folder project) u.key (needed_keys project u) (record_at read (records_folder project) w.files u.key))) (sym lacks)
+    ap (λ (f : List ℕ). migrated_called f u.key (record_at read f v.files u.key)) is
+    ∙ ap (λ (x : World). migrated_called (records_folder project) u.key (record_at read (records_folder project) x.files u.key)) same
+    ∙ ap (λ b. cond b [] (migrated_called (records_folder project) u.key (record_at read (records_folder project) w.files u.key))) (sym lacks)

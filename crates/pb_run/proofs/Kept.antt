@@ -1,10 +1,9 @@
 -- A unit with a child that answers: the record is kept after the judgement, or not.
-use Rattle.std.proofs.Common.{◌≡◌, ◌∙◌, ◌&&◌, ℕ, Bool, true, false, List, [], ◌∷◌, Option, Some, None, All, map, refl, sym, ap, subst, slice_get, slice_set}
+use Rattle.std.proofs.Common.{◌≡◌, ◌∙◌, ◌&&◌, ℕ, Bool, true, false, List, [], ◌∷◌, Option, Some, None, map, refl, sym, ap, subst, slice_get, slice_set}
 use Rattle.std.proofs.lemmas.Bool.{false≢true}
-use Rattle.std.proofs.lemmas.List.Elements.{All-nil, All-cons, All-append}
 use Rattle.std.specs.Prelude.{IfSome}
 use Rattle.std.specs.Cmp.Lexicographic.{slice_cmp}
-use Rattle.std.specs.List.{AllByRecursion, flat_map}
+use Rattle.std.specs.List.{AllByRecursion}
 use Rattle.std.specs.List.Sorted.{IsStrictlySortedBy}
 use Rattle.std.specs.Option.{is_some}
 use Rattle.std.specs.Ordering.{nat_cmp, is_lt}
@@ -34,7 +33,7 @@ use Rattle.pb_project.specs.declared.project.Project.{Project}
 use Rattle.pb_record.specs.Sorted.{are_sorted, leads}
 use Rattle.pb_unit.specs.declared.plan.Planned.{Planned}
 use Rattle.pb_run.specs.Causes.{MayAnswerUnit, MayFollow}
-use Rattle.pb_run.specs.Halves.{Basis, BeginsApart, CanAnswer, IsBegun, Keeps, begun_with, command_in, key_at, key_in, needed_keys, outcomes_in, view_in}
+use Rattle.pb_run.specs.Halves.{Basis, BeginsApart, CanAnswer, IsBegun, Keeps, begun_with, command_in, needed_keys, outcomes_in, records_in, view_in}
 use Rattle.pb_run.specs.Outcome.{judgement_by, outcome_by}
 use Rattle.pb_run.specs.Standing.{IsCommandOf, IsInOrder, records_folder}
 use Rattle.pb_run.specs.declared.begun.Awaited.TheVariants as awaited
@@ -43,6 +42,7 @@ use Rattle.pb_run.specs.declared.begun.Launched.{Launched}
 use Rattle.pb_run.specs.declared.ran.Judgement.{Judgement}
 use Rattle.pb_run.proofs.Answering.{command_out, files_kept, its_flight, its_landing, kept_only, landed_files, landed_gives, landed_only}
 use Rattle.pb_run.proofs.Halving.{lies_at}
+use Rattle.pb_run.proofs.Held.{held_landed}
 use Rattle.pb_run.proofs.RecordedAnswer.{its_record, only_out}
 use Rattle.pb_run.proofs.RecordedLanding.{left_kept}
 use Rattle.pb_run.proofs.RecordedOthers.{still_over}
@@ -50,7 +50,8 @@ use Rattle.pb_run.proofs.Settling.{Keeping, Stands, keeps_good, keeps_unkept, ot
 use Rattle.pb_run.proofs.Spawning.{place_within, still_widen}
 use Rattle.pb_soundness.specs.Apart.{KeepsStill, KeepsStillOutside, is_of}
 use Rattle.pb_soundness.specs.Inputs.{input_in}
-use Rattle.pb_soundness.specs.Records.{is_key, place_of, record_at}
+use Rattle.pb_soundness.specs.Records.{place_of, record_at}
+use Rattle.pb_store.specs.Held.{HoldsNumbers}
 use Rattle.pb_store.specs.Keeping.{Leaves, kept_of, numbered}
 
 -- What the call that keeps a record asks.
@@ -71,19 +72,6 @@ sorted_so (p ∷ pairs) h = both (leads p.0 pairs) (are_sorted pairs) (leads_so 
 
 pub pairs_sorted : (project : Project) (u : Planned) (c : Command) → IsCommandOf project u c → are_sorted c.pairs ≡ true
 pairs_sorted project u c (setup, done, asks) = ap (λ (d : Command). are_sorted d.pairs) asks ∙ sorted_so _ (commands_rise setup project u done)
-
--- the keys of needed units are keys
-key_there : (project : Project) (place : ℕ) (o : Option Planned) → IsInOrder project → slice_get project.plan.planned place ≡ o → All (λ need. is_key need ≡ true) (key_in o)
-key_there project place None order at = All-nil (λ need. is_key need ≡ true)
-key_there project place (Some u) order at = All-cons (λ need. is_key need ≡ true) u.key [] (order.keys place u at) (All-nil (λ need. is_key need ≡ true))
-
-keys_there : (project : Project) (places : List ℕ) → IsInOrder project → All (λ need. is_key need ≡ true) (flat_map (key_at project) places)
-keys_there project [] order = All-nil (λ need. is_key need ≡ true)
-keys_there project (place ∷ places) order =
-    All-append (λ need. is_key need ≡ true) (key_at project place) (flat_map (key_at project) places) (key_there project place (slice_get project.plan.planned place) order refl) (keys_there project places order)
-
-pub needed_are_keys : (project : Project) (u : Planned) → IsInOrder project → All (λ need. is_key need ≡ true) (needed_keys project u)
-needed_are_keys project u order = keys_there project u.needs order
 
 -- The children in flight.
 
@@ -115,6 +103,10 @@ module _ (b : Basis) (order : IsInOrder b.project) (i : ℕ) (u : Planned) (at :
     (w1 : World) (ends : IfSome (child_at l.ticket flying) (λ s. ChangesOnlyInSome s.command.out w w1)) where
   landed_so : ChangesOnly (is_at_or_below u.out) w w1
   landed_so = landed_only b order i u at u.key c l next flying still w w1 can.begun_so ends
+
+  -- the numbers that are held
+  pub held_ended : (v : World) → v ≡ w1 → (folder : List ℕ) (numbers : List (List ℕ × Option ℕ)) → folder ≡ records_folder b.project → HoldsNumbers (records_in b w) numbers → HoldsNumbers (record_at b.read folder v.files) numbers
+  held_ended v same folder numbers is_folder holds = held_landed b.read b.project order i u at folder w w1 v numbers is_folder same landed_so holds
 
   -- nothing is kept: another unit that has begun
   pub others_ended : (other : ℕ) (its : Begun) (v : World) (flying' : List ChildInFlight) (mid later : ℕ → Type 0) → v ≡ w1 → flying' ≡ without l.ticket flying → StaysStillBut l.ticket flying w w1 still mid → KeepsStill mid later

@@ -4,6 +4,7 @@ pub mod Causing
 pub mod Commands
 pub mod Ending
 pub mod Halving
+pub mod Held
 pub mod InTurn
 pub mod Kept
 pub mod Recorded

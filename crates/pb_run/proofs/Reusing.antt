@@ -1,7 +1,6 @@
 -- A unit that answers by its record: what is kept of a build, and what another unit finds.
-use Rattle.std.proofs.Common.{◌≡◌, ◌∙◌, ℕ, Bool, true, false, List, Option, Some, None, All, IsSome, refl, sym, ap, subst, inl, inr, slice_get, slice_index_or, slice_set}
+use Rattle.std.proofs.Common.{◌≡◌, ◌∙◌, ℕ, Bool, true, false, List, Option, Some, None, IsSome, refl, sym, ap, subst, inl, inr, slice_get, slice_set}
 use Rattle.std.proofs.lemmas.Bool.{false≢true}
-use Rattle.std.proofs.lemmas.List.Elements.{Contains-get_or}
 use Rattle.std.specs.Prelude.{not}
 use Rattle.std.specs.Option.{is_some, option_map}
 use Rattle.pb_answer.specs.declared.fault.BuildFault.{BuildFault}
@@ -24,7 +23,6 @@ use Rattle.pb_place.specs.declared.command.Ended.{Ended}
 use Rattle.pb_place.proofs.Folders.{only_same}
 use Rattle.pb_project.specs.Targets.{dep_info_of, unit_at}
 use Rattle.pb_answer.specs.declared.bad_unit.BadUnit.{BadUnit}
-use Rattle.pb_project.specs.declared.project.Project.{Project}
 use Rattle.pb_record.specs.declared.record.Record.{Record}
 use Rattle.pb_unit.specs.declared.plan.Planned.{Planned}
 use Rattle.pb_run.specs.Causes.{MayAnswerUnit, MayFollow}
@@ -39,7 +37,6 @@ use Rattle.pb_run.specs.declared.ran.Judgement.{Judgement}
 use Rattle.pb_run.specs.declared.ran.Ran.{Ran}
 use Rattle.pb_run.proofs.Answering.{files_kept, judged_gives, reached_stand}
 use Rattle.pb_run.proofs.Halving.{still_after}
-use Rattle.pb_run.proofs.Recorded.{key_needed}
 use Rattle.pb_run.proofs.RecordedAnswer.{begun_bad, its_again, its_command, its_same, keeps_answered, keeps_fault, only_place}
 use Rattle.pb_run.proofs.RecordedOthers.{IfRecords, Left, as_before, if_records, stays_begun}
 use Rattle.pb_run.proofs.RecordedReplay.{left_migrated, migrated_ahead, migrated_record, migrated_sound, numbers_apart, replay_backs}
@@ -48,7 +45,7 @@ use Rattle.pb_run.proofs.Shown.{AllStand, sees_view}
 use Rattle.pb_run.proofs.Spawning.{place_within, still_widen, widen}
 use Rattle.pb_soundness.specs.Apart.{KeepsStill, KeepsStillOutside, is_of}
 use Rattle.pb_soundness.specs.Numbers.{IsAhead}
-use Rattle.pb_soundness.specs.Records.{Reading, is_key, number_of, place_of, record_at}
+use Rattle.pb_soundness.specs.Records.{Reading, number_of, place_of, record_at}
 use Rattle.pb_soundness.specs.Sound.{Backs, Sound}
 use Rattle.pb_soundness.proofs.Becoming.{one}
 use Rattle.pb_store.specs.Keeping.{Leaves, numbered}
@@ -67,12 +64,6 @@ pub record Renewing (b : Basis) (folder : List ℕ) (u : Planned) (c : Command) 
 pub record Renewed (b : Basis) (folder : List ℕ) (u : Planned) (next : Option ℕ) (w w' : World) : Type 0 where
   pub stands : record_at b.read folder w'.files u.key ≡ migrated next (numbered (record_at b.read folder w.files) (needed_keys b.project u)) (record_at b.read folder w.files u.key)
   pub numbered_now : (s : Record) → record_at b.read folder w'.files u.key ≡ Some s → is_some (number_of s) ≡ true
-
--- the keys of what a unit needs are keys
-pub keys_needed : (project : Project) (order : IsInOrder project) (u : Planned) → All (λ need. is_key need ≡ true) (needed_keys project u)
-keys_needed project order u k d lt =
-    let (v, one_at, same) = key_needed project order u (slice_index_or (needed_keys project u) k d) (Contains-get_or (needed_keys project u) k d lt) in
-    subst (λ need. is_key need ≡ true) (sym same) (order.keys one_at.place v one_at.there)
 
 -- what flies after the faults of the calls
 pub flying_follow : (key : List ℕ) (e : BuildFault) (old new : Starts) → MayFollow key e old new → new.flying ≡ old.flying

@@ -13,7 +13,6 @@ use Rattle.pb_project.specs.Targets.{dep_info_of}
 use Rattle.pb_project.specs.declared.project.Project.{Project}
 use Rattle.pb_record.specs.declared.record.InputName.{InputName}
 use Rattle.pb_run.specs.Causes.{MakesInTurn}
-use Rattle.pb_run.specs.Halves.{needed_keys}
 use Rattle.pb_run.specs.Outcome.{judgement_by}
 use Rattle.pb_run.specs.Standing.{records_folder}
 use Rattle.pb_run.specs.declared.begun.Awaited.{Awaited}
@@ -44,9 +43,9 @@ dep_info_looked (Some path) = path ∷ []
 
 -- where its child was started, its record is kept; else a record that has no run number is given one
 abbrev pub recorded_called : Reading → Project → Planned → Command → World → List InputName → Awaited → List (List ℕ)
-recorded_called read project u c w names (awaited.Child launched) = kept_called (records_folder project) u.key c.target w (needed_keys project u) names
+recorded_called read project u c w names (awaited.Child launched) = kept_called (records_folder project) u.key c.target w names
 recorded_called read project u c w names (awaited.Record again) =
-    if again.numbered then [] else migrated_called (records_folder project) u.key (needed_keys project u) (record_at read (records_folder project) w.files u.key)
+    if again.numbered then [] else migrated_called (records_folder project) u.key (record_at read (records_folder project) w.files u.key)
 
 -- but for a unit that is bad
 abbrev pub judged_called : Reading → Project → Planned → Command → World → Awaited → Judgement → List (List ℕ)

@@ -1,6 +1,6 @@
 //! A unit's run, in halves: it begins, with a child or without; it answers, or its answer is dropped. And both in turn.
 
-ghost use Rattle.std.specs.Prelude.{◌≡◌, ◌≢◌, ◌+◌, ◌⊎◌, ℕ, true, false, List, Option, IsTrue, IsSome, IsOk, IfOk, IfErr, IfSome, MatchOption, MatchResult, Some, None, Result, max, length, is_some, slice_get, slice_set};
+ghost use Rattle.std.specs.Prelude.{◌≡◌, ◌≢◌, ◌+◌, ◌⊎◌, ℕ, true, false, List, Option, IsTrue, IsSome, IsOk, IfOk, IfErr, IfSome, MatchOption, MatchResult, OnOk, Some, None, Result, max, length, is_some, slice_get, slice_set};
 ghost use Rattle.std.specs.FinMap as finite;
 ghost use Rattle.pb_command.specs.Command.{command_of};
 ghost use Rattle.pb_directive.specs.declared.directive.Directive.{Directive};
@@ -28,6 +28,7 @@ ghost use Rattle.pb_soundness.specs.Apart.{is_of};
 ghost use Rattle.pb_soundness.specs.Numbers.{after};
 ghost use Rattle.pb_soundness.specs.Records.{Reading, place_of, record_at};
 ghost use Rattle.pb_store.specs.Differences.{FirstDifference};
+ghost use Rattle.pb_store.specs.Held.{HoldsNumbers};
 ghost use Rattle.pb_place.specs.CallsInTurn.{past_calls};
 ghost use Rattle.pb_store.specs.Looking.{looked_at};
 ghost use Rattle.pb_store.specs.declared.difference.Difference.{Difference};
@@ -64,7 +65,8 @@ fn command(
 /// holds what their runs said. Looks for what differs from the unit's record. Where something does, a run number is
 /// taken, the record is removed, the output folder is emptied and the unit's child is spawned, in this order, by one
 /// call each and no other: no text counts as the unit's record then; where nothing does, or the look fails, or no run
-/// number is left, nothing is changed.
+/// number is left, nothing is changed. The records of needed units are not read: what differs is told by the numbers of
+/// records that the store holds, where they are those of its folder. They are so too after a call that goes well.
 ///
 /// Faults: Device, where a file, a folder or a variable cannot be read; where something differs, Child too, where the
 /// child cannot be spawned, and Device, where the record or the folder cannot be removed, or no run number is left;
@@ -85,6 +87,7 @@ pub fn begin_unit<P: Place>(
     ensures unit { IfOk result (λ made. made.begun.unit ≡ unit.now.key) }
     ensures asks { IfOk result (λ made. made.begun.command ≡ command_of setup.now project.now unit.now done.now) }
     ensures begun { (footing : Footing) (read : Reading) (sources : World) (states : List (State BadUnit)) → IsReading read → IsTrue P.tells
+        → HoldsNumbers (record_at read (records_folder project.now) (P.world place.old).files) store.old.numbers
         → CanBegin (basis footing read P.child setup.now project.now sources) states done.now index unit.now store.old.next (P.world place.old)
         → IfOk result (λ made. IsBegun (basis footing read P.child setup.now project.now sources) index made.begun store.new.next (P.world place.new) (P.counts place.new).starts.flying (P.still place.new)) }
     ensures keeps { (footing : Footing) (read : Reading) (sources : World) (states : List (State BadUnit)) → IsReading read → IsTrue P.tells
@@ -94,13 +97,14 @@ pub fn begin_unit<P: Place>(
         → CanBegin (basis footing read P.child setup.now project.now sources) states done.now index unit.now store.old.next (P.world place.old)
         → BeginsApart (basis footing read P.child setup.now project.now sources) states index None other its store.old.next (P.world place.old) (P.counts place.old).starts.flying (P.still place.old)
         → IsBegun (basis footing read P.child setup.now project.now sources) other its store.new.next (P.world place.new) (P.counts place.new).starts.flying (P.still place.new) }
-    ensures differs { (read : Reading) → IsReading read → IsTrue P.tells → IfOk result (λ made. FirstDifference read (records_folder project.now) unit.now.key made.begun.command (P.world place.old) made.difference) }
+    ensures differs { (read : Reading) → IsReading read → IsTrue P.tells → HoldsNumbers (record_at read (records_folder project.now) (P.world place.old).files) store.old.numbers → IfOk result (λ made. FirstDifference read (records_folder project.now) unit.now.key made.begun.command (P.world place.old) made.difference) }
     ensures spawned { IfOk result (λ made. is_some (child_of made.begun) ≡ is_some made.difference) }
     ensures only { IsTrue P.tells → ChangesOnly (is_of (records_folder project.now) unit.now.key) (P.world place.old) (P.world place.new) }
     ensures same { IsTrue P.tells → IfOk result (λ made. child_of made.begun ≡ None → P.world place.new ≡ P.world place.old) }
-    ensures spared { (read : Reading) → IsReading read → IsTrue P.tells → IfErr result (λ e. (P.world place.new ≡ P.world place.old) ⊎ ((difference : Difference) × FirstDifference read (records_folder project.now) unit.now.key (command_of setup.now project.now unit.now done.now) (P.world place.old) (Some difference))) }
-    ensures cause { (read : Reading) → IsReading read → IsTrue P.tells → IfErr result (λ e. is_of_start e ≡ true → (difference : Difference) × FirstDifference read (records_folder project.now) unit.now.key (command_of setup.now project.now unit.now done.now) (P.world place.old) (Some difference)) }
+    ensures spared { (read : Reading) → IsReading read → IsTrue P.tells → HoldsNumbers (record_at read (records_folder project.now) (P.world place.old).files) store.old.numbers → IfErr result (λ e. (P.world place.new ≡ P.world place.old) ⊎ ((difference : Difference) × FirstDifference read (records_folder project.now) unit.now.key (command_of setup.now project.now unit.now done.now) (P.world place.old) (Some difference))) }
+    ensures cause { (read : Reading) → IsReading read → IsTrue P.tells → HoldsNumbers (record_at read (records_folder project.now) (P.world place.old).files) store.old.numbers → IfErr result (λ e. is_of_start e ≡ true → (difference : Difference) × FirstDifference read (records_folder project.now) unit.now.key (command_of setup.now project.now unit.now done.now) (P.world place.old) (Some difference)) }
     ensures dropped { (read : Reading) → IsTrue P.tells → IfOk result (λ made. IsSome (child_of made.begun) → record_at read (records_folder project.now) (P.world place.new).files unit.now.key ≡ None) }
+    ensures numbers { (read : Reading) → IsTrue P.tells → HoldsNumbers (record_at read (records_folder project.now) (P.world place.old).files) store.old.numbers → OnOk result (HoldsNumbers (record_at read (records_folder project.now) (P.world place.new).files) store.new.numbers) }
     ensures writes { IsTrue P.tells → IfOk result (λ made. WritesTo unit.now.out (child_of made.begun) (P.counts place.new).starts.flying) }
     ensures stay { (ticket : ℕ) (its : ChildInFlight) → child_at ticket (P.counts place.old).starts.flying ≡ Some its → child_at ticket (P.counts place.new).starts.flying ≡ Some its }
     ensures folder { store.new.folder ≡ store.old.folder }
@@ -164,7 +168,8 @@ pub fn begin_unit<P: Place>(
 
 /// Answers the unit at a place of a plan that has begun so. Where it has a child, asks for its end, reads what it left,
 /// judges the answer, and keeps the record where it is good; else judges the answer that the record gave again when the
-/// unit began, and gives a record of format 1 a run number: one that has a number is not read once more.
+/// unit began, and gives a record of format 1 a run number: one that has a number is not read once more. A record names
+/// the needed units by the numbers that the store holds.
 ///
 /// Faults: Child, where the child gave no answer; Device, where a file, a folder or a variable cannot be read, the
 /// record, the one file that is written, cannot be, or no run number is left for a record that has none; OutOfMemory. Each has the unit's key,
@@ -192,16 +197,20 @@ pub fn answer_unit<P: Place>(
         → CanAnswer (basis footing read P.child setup project.now sources) states done index unit.now begun store.old.next (P.world place.old) (P.counts place.old).starts.flying (P.still place.old)
         → IfOk result (λ ran. slice_get (outcomes_in (basis footing read P.child setup project.now sources)) index ≡ Some (outcome_by (files_in unit.now.out (P.world place.new).files) ran)) }
     ensures keeps { (footing : Footing) (read : Reading) (setup : Setup) (sources : World) (states : List (State BadUnit)) (done : List (Option (List Directive))) → IsReading read → IsTrue P.tells
+        → HoldsNumbers (record_at read (records_folder project.now) (P.world place.old).files) store.old.numbers
         → CanAnswer (basis footing read P.child setup project.now sources) states done index unit.now begun store.old.next (P.world place.old) (P.counts place.old).starts.flying (P.still place.old)
         → MatchResult result
         (λ ran. (lines : List ℕ) → Keeps (basis footing read P.child setup project.now sources) (slice_set states index (state.Answered record { fault = ran.bad; lines = lines })) (slice_set done index ran.directives) store.new.next (P.world place.new))
         (λ e. Keeps (basis footing read P.child setup project.now sources) states done store.new.next (P.world place.new)) }
     ensures others { (footing : Footing) (read : Reading) (setup : Setup) (sources : World) (states : List (State BadUnit)) (done : List (Option (List Directive))) (other : ℕ) (its : Begun) → IsReading read → IsTrue P.tells
+        → HoldsNumbers (record_at read (records_folder project.now) (P.world place.old).files) store.old.numbers
         → CanAnswer (basis footing read P.child setup project.now sources) states done index unit.now begun store.old.next (P.world place.old) (P.counts place.old).starts.flying (P.still place.old)
         → BeginsApart (basis footing read P.child setup project.now sources) states index (child_of begun) other its store.old.next (P.world place.old) (P.counts place.old).starts.flying (P.still place.old)
         → IsBegun (basis footing read P.child setup project.now sources) other its store.new.next (P.world place.new) (P.counts place.new).starts.flying (P.still place.new) }
     ensures only { IsTrue P.tells → WritesTo unit.now.out (child_of begun) (P.counts place.old).starts.flying → ChangesOnly (is_of (records_folder project.now) unit.now.key) (P.world place.old) (P.world place.new) }
     ensures unkept { IsTrue P.tells → WritesTo unit.now.out (child_of begun) (P.counts place.old).starts.flying → IfOk result (λ ran. IsSome ran.bad → ChangesOnly (is_at_or_below unit.now.out) (P.world place.old) (P.world place.new)) }
+    ensures numbers { (read : Reading) → IsReading read → IsTrue P.tells → WritesTo unit.now.out (child_of begun) (P.counts place.old).starts.flying
+        → HoldsNumbers (record_at read (records_folder project.now) (P.world place.old).files) store.old.numbers → OnOk result (HoldsNumbers (record_at read (records_folder project.now) (P.world place.new).files) store.new.numbers) }
     ensures same { (read : Reading) → IsReading read → IsTrue P.tells → child_of begun ≡ None → lacks_number (record_at read (records_folder project.now) (P.world place.old).files unit.now.key) ≡ false → P.world place.new ≡ P.world place.old }
     ensures stay { (ticket : ℕ) (its : ChildInFlight) → IfSome (child_of begun) (λ launched. ticket ≢ launched.ticket) → child_at ticket (P.counts place.old).starts.flying ≡ Some its → child_at ticket (P.counts place.new).starts.flying ≡ Some its }
     ensures started { IfOk result (λ ran. ran.started ≡ is_some (child_of begun)) }
@@ -301,14 +310,17 @@ pub fn run_unit<P: Place>(
     requires unit { slice_get project.now.plan.planned index ≡ Some unit.now }
     requires folder { store.old.folder ≡ records_folder project.now }
     ensures outcome { (footing : Footing) (read : Reading) (sources : World) (states : List (State BadUnit)) → IsReading read → IsTrue P.tells
+        → HoldsNumbers (record_at read (records_folder project.now) (P.world place.old).files) store.old.numbers
         → CanBegin (basis footing read P.child setup.now project.now sources) states done.now index unit.now store.old.next (P.world place.old)
         → IfOk result (λ run. slice_get (outcomes_in (basis footing read P.child setup.now project.now sources)) index ≡ Some (outcome_by (files_in unit.now.out (P.world place.new).files) run.ran)) }
     ensures keeps { (footing : Footing) (read : Reading) (sources : World) (states : List (State BadUnit)) → IsReading read → IsTrue P.tells
+        → HoldsNumbers (record_at read (records_folder project.now) (P.world place.old).files) store.old.numbers
         → CanBegin (basis footing read P.child setup.now project.now sources) states done.now index unit.now store.old.next (P.world place.old)
         → MatchResult result
         (λ run. (lines : List ℕ) → Keeps (basis footing read P.child setup.now project.now sources) (slice_set states index (state.Answered record { fault = run.ran.bad; lines = lines })) (slice_set done.now index run.ran.directives) store.new.next (P.world place.new))
         (λ e. Keeps (basis footing read P.child setup.now project.now sources) (slice_set states index state.Begun) done.now store.new.next (P.world place.new)) }
-    ensures differs { (read : Reading) → IsReading read → IsTrue P.tells → IfOk result (λ run. FirstDifference read (records_folder project.now) unit.now.key (command_of setup.now project.now unit.now done.now) (P.world place.old) run.difference) }
+    ensures differs { (read : Reading) → IsReading read → IsTrue P.tells → HoldsNumbers (record_at read (records_folder project.now) (P.world place.old).files) store.old.numbers → IfOk result (λ run. FirstDifference read (records_folder project.now) unit.now.key (command_of setup.now project.now unit.now done.now) (P.world place.old) run.difference) }
+    ensures numbers { (read : Reading) → IsReading read → IsTrue P.tells → HoldsNumbers (record_at read (records_folder project.now) (P.world place.old).files) store.old.numbers → OnOk result (HoldsNumbers (record_at read (records_folder project.now) (P.world place.new).files) store.new.numbers) }
     ensures same { (read : Reading) → IsReading read → IsTrue P.tells → IfOk result (λ run. run.difference ≡ None → lacks_number (record_at read (records_folder project.now) (P.world place.old).files unit.now.key) ≡ false → P.world place.new ≡ P.world place.old) }
     ensures unrecorded { (read : Reading) → IsTrue P.tells → IfOk result (λ run. IsSome run.difference → IsSome run.ran.bad → record_at read (records_folder project.now) (P.world place.new).files unit.now.key ≡ None) }
     ensures started { IfOk result (λ run. run.ran.started ≡ is_some run.difference) }

@@ -1,6 +1,6 @@
 //! A unit that answers: its child's end, or its record again; the judgement; the record kept or renewed.
 
-ghost use Rattle.std.specs.Prelude.{◌≡◌, ◌++◌, ℕ, true, false, List, Option, IsTrue, IsSome, IsOk, IfOk, IfErr, IfSome, MatchResult, OnOk, Ok, Err, Some, None, Result, All, is_some, map, slice_get, slice_set};
+ghost use Rattle.std.specs.Prelude.{◌≡◌, ◌++◌, ℕ, true, false, List, Option, IsTrue, IsSome, IsOk, IfOk, IfErr, IfSome, MatchResult, OnOk, Ok, Err, Some, None, Result, is_some, map, slice_get, slice_set};
 ghost use Rattle.std.specs.FinMap as finite;
 ghost use Rattle.pb_command.specs.Answers.{answered_of};
 ghost use Rattle.pb_command.specs.Judge.{file_at};
@@ -32,6 +32,7 @@ ghost use Rattle.pb_soundness.specs.Inputs.{Judge, input_in};
 ghost use Rattle.pb_soundness.specs.Numbers.{IsAhead, IsBefore};
 ghost use Rattle.pb_soundness.specs.Records.{Reading, is_key, number_of, out_of, place_of, record_at};
 ghost use Rattle.pb_soundness.specs.Sound.{Sound};
+ghost use Rattle.pb_store.specs.Held.{HoldsNumbers};
 ghost use Rattle.pb_store.specs.Keeping.{HasNeeds, IsKept, Leaves, kept_of, numbered};
 ghost use Rattle.pb_store.specs.Looking.{kept_called, migrated_called};
 ghost use Rattle.pb_store.specs.Migrating.{IsMigrated, TakesNumber, lacks_number, migrated};
@@ -155,7 +156,7 @@ fn needed_keys(
 fn keep<P: Place>(
     alloc: Global,
     place: &mut P,
-    store: &Store,
+    store: &mut Store,
     project: &OrderedProject,
     unit: &Planned,
     command: &Command,
@@ -164,19 +165,21 @@ fn keep<P: Place>(
     names: &[InputName],
 ) -> Result<(), BuildFault>
     requires key { is_key unit.now.key ≡ true }
-    requires keys { All (λ need. is_key need ≡ true) (needed_keys project.now unit.now) }
-    requires out { command.now.out ≡ Some (out_of store.now.folder unit.now.key) }
+    requires out { command.now.out ≡ Some (out_of store.old.folder unit.now.key) }
     requires sorted { are_sorted command.now.pairs ≡ true }
-    ensures sound { (read : Reading) (judge : Judge) → IsReading read → IsTrue P.tells → IsKept read judge P.child store.now.folder unit.now.key command.now (needed_keys project.now unit.now) names.now ended.now number (P.world place.old) → Sound read judge P.child store.now.folder (P.world place.old).files → Sound read judge P.child store.now.folder (P.world place.new).files }
-    ensures stands { (read : Reading) → IsReading read → IsTrue P.tells → OnOk result (record_at read store.now.folder (P.world place.new).files unit.now.key ≡ Some (kept_of store.now.folder unit.now.key command.now (map (input_in command.now.target (P.world place.old)) names.now) number (numbered (record_at read store.now.folder (P.world place.old).files) (needed_keys project.now unit.now)) ended.now)) }
-    ensures left { (read : Reading) → IsReading read → IsTrue P.tells → Leaves (Some (kept_of store.now.folder unit.now.key command.now (map (input_in command.now.target (P.world place.old)) names.now) number (numbered (record_at read store.now.folder (P.world place.old).files) (needed_keys project.now unit.now)) ended.now)) (record_at read store.now.folder (P.world place.old).files unit.now.key) (record_at read store.now.folder (P.world place.new).files unit.now.key) }
-    ensures ahead { (read : Reading) → IsReading read → IsTrue P.tells → IsBefore store.now.next number → HasNeeds (record_at read store.now.folder (P.world place.old).files) store.now.folder command.now.reads (needed_keys project.now unit.now) number → IsAhead (record_at read store.now.folder (P.world place.old).files) store.now.next → IsAhead (record_at read store.now.folder (P.world place.new).files) store.now.next }
-    ensures only { IsTrue P.tells → ChangesOnly (is_at_or_below (place_of store.now.folder unit.now.key)) (P.world place.old) (P.world place.new) }
+    ensures sound { (read : Reading) (judge : Judge) → IsReading read → IsTrue P.tells → HoldsNumbers (record_at read store.old.folder (P.world place.old).files) store.old.numbers → IsKept read judge P.child store.old.folder unit.now.key command.now (needed_keys project.now unit.now) names.now ended.now number (P.world place.old) → Sound read judge P.child store.old.folder (P.world place.old).files → Sound read judge P.child store.old.folder (P.world place.new).files }
+    ensures stands { (read : Reading) → IsReading read → IsTrue P.tells → HoldsNumbers (record_at read store.old.folder (P.world place.old).files) store.old.numbers → OnOk result (record_at read store.old.folder (P.world place.new).files unit.now.key ≡ Some (kept_of store.old.folder unit.now.key command.now (map (input_in command.now.target (P.world place.old)) names.now) number (numbered (record_at read store.old.folder (P.world place.old).files) (needed_keys project.now unit.now)) ended.now)) }
+    ensures left { (read : Reading) → IsReading read → IsTrue P.tells → HoldsNumbers (record_at read store.old.folder (P.world place.old).files) store.old.numbers → Leaves (Some (kept_of store.old.folder unit.now.key command.now (map (input_in command.now.target (P.world place.old)) names.now) number (numbered (record_at read store.old.folder (P.world place.old).files) (needed_keys project.now unit.now)) ended.now)) (record_at read store.old.folder (P.world place.old).files unit.now.key) (record_at read store.old.folder (P.world place.new).files unit.now.key) }
+    ensures ahead { (read : Reading) → IsReading read → IsTrue P.tells → HoldsNumbers (record_at read store.old.folder (P.world place.old).files) store.old.numbers → IsBefore store.old.next number → HasNeeds (record_at read store.old.folder (P.world place.old).files) store.old.folder command.now.reads (needed_keys project.now unit.now) number → IsAhead (record_at read store.old.folder (P.world place.old).files) store.old.next → IsAhead (record_at read store.old.folder (P.world place.new).files) store.old.next }
+    ensures numbers { (read : Reading) → IsReading read → IsTrue P.tells → HoldsNumbers (record_at read store.old.folder (P.world place.old).files) store.old.numbers → OnOk result (HoldsNumbers (record_at read store.old.folder (P.world place.new).files) store.new.numbers) }
+    ensures folder { store.new.folder ≡ store.old.folder }
+    ensures next { store.new.next ≡ store.old.next }
+    ensures only { IsTrue P.tells → ChangesOnly (is_at_or_below (place_of store.old.folder unit.now.key)) (P.world place.old) (P.world place.new) }
     ensures most { P.most place.new ≡ P.most place.old }
-    ensures still { IsTrue P.tells → KeepsStillOutside (is_at_or_below (place_of store.now.folder unit.now.key)) (P.counts place.old).starts.flying (P.still place.old) (P.still place.new) }
+    ensures still { IsTrue P.tells → KeepsStillOutside (is_at_or_below (place_of store.old.folder unit.now.key)) (P.counts place.old).starts.flying (P.still place.old) (P.still place.new) }
     ensures takes { Takes NoStart (MayFollow unit.now.key) result (P.counts place.old) (P.counts place.new) }
-    ensures written { IfErr result (λ e. is_of_write e ≡ true → (P.counts place.new).named ≡ place_of store.now.folder unit.now.key) }
-    ensures calls { IsTrue P.tells → MakesInTurn result (kept_called store.now.folder unit.now.key command.now.target (P.world place.old) (needed_keys project.now unit.now) names.now) (P.counts place.old) (P.counts place.new) }
+    ensures written { IfErr result (λ e. is_of_write e ≡ true → (P.counts place.new).named ≡ place_of store.old.folder unit.now.key) }
+    ensures calls { IsTrue P.tells → MakesInTurn result (kept_called store.old.folder unit.now.key command.now.target (P.world place.old) names.now) (P.counts place.old) (P.counts place.new) }
 {
     let needs = match needed_keys(alloc, project, unit) {
         Ok(needs) => needs,
@@ -211,21 +214,21 @@ fn migrate<P: Place>(
     unit: &Planned,
 ) -> Result<(), BuildFault>
     requires key { is_key unit.now.key ≡ true }
-    requires keys { All (λ need. is_key need ≡ true) (needed_keys project.now unit.now) }
-    ensures sound { (read : Reading) (judge : Judge) (c : Command) (r : Record) → IsReading read → IsTrue P.tells → ((number : ℕ) → store.old.next ≡ Some number → IsMigrated read judge P.child store.old.folder unit.now.key c (needed_keys project.now unit.now) number (P.world place.old) r) → Sound read judge P.child store.old.folder (P.world place.old).files → Sound read judge P.child store.old.folder (P.world place.new).files }
-    ensures ahead { (read : Reading) (judge : Judge) (c : Command) (r : Record) → IsReading read → IsTrue P.tells → ((number : ℕ) → store.old.next ≡ Some number → IsMigrated read judge P.child store.old.folder unit.now.key c (needed_keys project.now unit.now) number (P.world place.old) r) → IsAhead (record_at read store.old.folder (P.world place.old).files) store.old.next → IsAhead (record_at read store.old.folder (P.world place.new).files) store.new.next }
-    ensures left { (read : Reading) → IsReading read → IsTrue P.tells → Leaves (migrated store.old.next (numbered (record_at read store.old.folder (P.world place.old).files) (needed_keys project.now unit.now)) (record_at read store.old.folder (P.world place.old).files unit.now.key)) (record_at read store.old.folder (P.world place.old).files unit.now.key) (record_at read store.old.folder (P.world place.new).files unit.now.key) }
+    ensures sound { (read : Reading) (judge : Judge) (c : Command) (r : Record) → IsReading read → IsTrue P.tells → HoldsNumbers (record_at read store.old.folder (P.world place.old).files) store.old.numbers → ((number : ℕ) → store.old.next ≡ Some number → IsMigrated read judge P.child store.old.folder unit.now.key c (needed_keys project.now unit.now) number (P.world place.old) r) → Sound read judge P.child store.old.folder (P.world place.old).files → Sound read judge P.child store.old.folder (P.world place.new).files }
+    ensures ahead { (read : Reading) (judge : Judge) (c : Command) (r : Record) → IsReading read → IsTrue P.tells → HoldsNumbers (record_at read store.old.folder (P.world place.old).files) store.old.numbers → ((number : ℕ) → store.old.next ≡ Some number → IsMigrated read judge P.child store.old.folder unit.now.key c (needed_keys project.now unit.now) number (P.world place.old) r) → IsAhead (record_at read store.old.folder (P.world place.old).files) store.old.next → IsAhead (record_at read store.old.folder (P.world place.new).files) store.new.next }
+    ensures left { (read : Reading) → IsReading read → IsTrue P.tells → HoldsNumbers (record_at read store.old.folder (P.world place.old).files) store.old.numbers → Leaves (migrated store.old.next (numbered (record_at read store.old.folder (P.world place.old).files) (needed_keys project.now unit.now)) (record_at read store.old.folder (P.world place.old).files unit.now.key)) (record_at read store.old.folder (P.world place.old).files unit.now.key) (record_at read store.old.folder (P.world place.new).files unit.now.key) }
     ensures numbered { (read : Reading) (r : Record) → IsReading read → IsTrue P.tells → OnOk result (record_at read store.old.folder (P.world place.new).files unit.now.key ≡ Some r → is_some (number_of r) ≡ true) }
+    ensures numbers { (read : Reading) → IsReading read → IsTrue P.tells → HoldsNumbers (record_at read store.old.folder (P.world place.old).files) store.old.numbers → OnOk result (HoldsNumbers (record_at read store.old.folder (P.world place.new).files) store.new.numbers) }
     ensures same { (read : Reading) → IsReading read → IsTrue P.tells → lacks_number (record_at read store.old.folder (P.world place.old).files unit.now.key) ≡ false → P.world place.new ≡ P.world place.old }
     ensures next { TakesNumber store.old.next store.new.next }
     ensures folder { store.new.folder ≡ store.old.folder }
-    ensures stands { (read : Reading) → IsReading read → IsTrue P.tells → OnOk result (record_at read store.old.folder (P.world place.new).files unit.now.key ≡ migrated store.old.next (numbered (record_at read store.old.folder (P.world place.old).files) (needed_keys project.now unit.now)) (record_at read store.old.folder (P.world place.old).files unit.now.key)) }
+    ensures stands { (read : Reading) → IsReading read → IsTrue P.tells → HoldsNumbers (record_at read store.old.folder (P.world place.old).files) store.old.numbers → OnOk result (record_at read store.old.folder (P.world place.new).files unit.now.key ≡ migrated store.old.next (numbered (record_at read store.old.folder (P.world place.old).files) (needed_keys project.now unit.now)) (record_at read store.old.folder (P.world place.old).files unit.now.key)) }
     ensures only { IsTrue P.tells → ChangesOnly (is_at_or_below (place_of store.old.folder unit.now.key)) (P.world place.old) (P.world place.new) }
     ensures most { P.most place.new ≡ P.most place.old }
     ensures still { IsTrue P.tells → KeepsStillOutside (is_at_or_below (place_of store.old.folder unit.now.key)) (P.counts place.old).starts.flying (P.still place.old) (P.still place.new) }
     ensures takes { Takes NoStart (MayAnswerUnit store.old.next unit.now.key None) result (P.counts place.old) (P.counts place.new) }
     ensures written { IfErr result (λ e. is_of_write e ≡ true → (P.counts place.new).named ≡ place_of store.old.folder unit.now.key) }
-    ensures calls { (read : Reading) → IsReading read → IsTrue P.tells → MakesInTurn result (migrated_called store.old.folder unit.now.key (needed_keys project.now unit.now) (record_at read store.old.folder (P.world place.old).files unit.now.key)) (P.counts place.old) (P.counts place.new) }
+    ensures calls { (read : Reading) → IsReading read → IsTrue P.tells → MakesInTurn result (migrated_called store.old.folder unit.now.key (record_at read store.old.folder (P.world place.old).files unit.now.key)) (P.counts place.old) (P.counts place.new) }
 {
     let needs = match needed_keys(alloc, project, unit) {
         Ok(needs) => needs,
@@ -258,7 +261,7 @@ fn unstarted(ran: Ran) -> Ran
 pub(crate) fn land<P: Place>(
     alloc: Global,
     place: &mut P,
-    store: &Store,
+    store: &mut Store,
     project: &OrderedProject,
     index: usize,
     unit: &Planned,
@@ -267,28 +270,34 @@ pub(crate) fn land<P: Place>(
     launched: &Launched,
 ) -> Result<Ran, BuildFault>
     requires unit { slice_get project.now.plan.planned index ≡ Some unit.now }
-    requires folder { store.now.folder ≡ records_folder project.now }
+    requires folder { store.old.folder ≡ records_folder project.now }
     requires named { name ≡ unit.now.key }
     requires asks { IsCommandOf project.now unit.now command.now }
     requires flies { is_flying launched.now.ticket (P.counts place.old).starts.flying ≡ true }
     ensures outcome { (footing : Footing) (read : Reading) (setup : Setup) (sources : World) (states : List (State BadUnit)) (done : List (Option (List Directive))) → IsReading read → IsTrue P.tells
-        → CanAnswer (basis footing read P.child setup project.now sources) states done index unit.now (begun_with unit.now.key command.now (awaited.Child launched.now)) store.now.next (P.world place.old) (P.counts place.old).starts.flying (P.still place.old)
+        → CanAnswer (basis footing read P.child setup project.now sources) states done index unit.now (begun_with unit.now.key command.now (awaited.Child launched.now)) store.old.next (P.world place.old) (P.counts place.old).starts.flying (P.still place.old)
         → IfOk result (λ ran. slice_get (outcomes_in (basis footing read P.child setup project.now sources)) index ≡ Some (outcome_by (files_in unit.now.out (P.world place.new).files) ran)) }
     ensures keeps { (footing : Footing) (read : Reading) (setup : Setup) (sources : World) (states : List (State BadUnit)) (done : List (Option (List Directive))) → IsReading read → IsTrue P.tells
-        → CanAnswer (basis footing read P.child setup project.now sources) states done index unit.now (begun_with unit.now.key command.now (awaited.Child launched.now)) store.now.next (P.world place.old) (P.counts place.old).starts.flying (P.still place.old)
+        → HoldsNumbers (record_at read (records_folder project.now) (P.world place.old).files) store.old.numbers
+        → CanAnswer (basis footing read P.child setup project.now sources) states done index unit.now (begun_with unit.now.key command.now (awaited.Child launched.now)) store.old.next (P.world place.old) (P.counts place.old).starts.flying (P.still place.old)
         → MatchResult result
-        (λ ran. (lines : List ℕ) → Keeps (basis footing read P.child setup project.now sources) (slice_set states index (state.Answered record { fault = ran.bad; lines = lines })) (slice_set done index ran.directives) store.now.next (P.world place.new))
-        (λ e. Keeps (basis footing read P.child setup project.now sources) states done store.now.next (P.world place.new)) }
+        (λ ran. (lines : List ℕ) → Keeps (basis footing read P.child setup project.now sources) (slice_set states index (state.Answered record { fault = ran.bad; lines = lines })) (slice_set done index ran.directives) store.new.next (P.world place.new))
+        (λ e. Keeps (basis footing read P.child setup project.now sources) states done store.new.next (P.world place.new)) }
     ensures others { (footing : Footing) (read : Reading) (setup : Setup) (sources : World) (states : List (State BadUnit)) (done : List (Option (List Directive))) (other : ℕ) (its : Begun) → IsReading read → IsTrue P.tells
-        → CanAnswer (basis footing read P.child setup project.now sources) states done index unit.now (begun_with unit.now.key command.now (awaited.Child launched.now)) store.now.next (P.world place.old) (P.counts place.old).starts.flying (P.still place.old)
-        → BeginsApart (basis footing read P.child setup project.now sources) states index (Some launched.now) other its store.now.next (P.world place.old) (P.counts place.old).starts.flying (P.still place.old)
-        → IsBegun (basis footing read P.child setup project.now sources) other its store.now.next (P.world place.new) (P.counts place.new).starts.flying (P.still place.new) }
+        → HoldsNumbers (record_at read (records_folder project.now) (P.world place.old).files) store.old.numbers
+        → CanAnswer (basis footing read P.child setup project.now sources) states done index unit.now (begun_with unit.now.key command.now (awaited.Child launched.now)) store.old.next (P.world place.old) (P.counts place.old).starts.flying (P.still place.old)
+        → BeginsApart (basis footing read P.child setup project.now sources) states index (Some launched.now) other its store.old.next (P.world place.old) (P.counts place.old).starts.flying (P.still place.old)
+        → IsBegun (basis footing read P.child setup project.now sources) other its store.new.next (P.world place.new) (P.counts place.new).starts.flying (P.still place.new) }
     ensures only { IsTrue P.tells → WritesTo unit.now.out (Some launched.now) (P.counts place.old).starts.flying → ChangesOnly (is_of (records_folder project.now) unit.now.key) (P.world place.old) (P.world place.new) }
     ensures unkept { IsTrue P.tells → WritesTo unit.now.out (Some launched.now) (P.counts place.old).starts.flying → IfOk result (λ ran. IsSome ran.bad → ChangesOnly (is_at_or_below unit.now.out) (P.world place.old) (P.world place.new)) }
+    ensures numbers { (read : Reading) → IsReading read → IsTrue P.tells → WritesTo unit.now.out (Some launched.now) (P.counts place.old).starts.flying
+        → HoldsNumbers (record_at read (records_folder project.now) (P.world place.old).files) store.old.numbers → OnOk result (HoldsNumbers (record_at read (records_folder project.now) (P.world place.new).files) store.new.numbers) }
     ensures started { IfOk result (λ ran. ran.started ≡ true) }
     ensures directives { IfOk result (λ ran. directives_in (outcome_by finite.empty ran) ≡ ran.directives) }
+    ensures folder { store.new.folder ≡ store.old.folder }
+    ensures next { store.new.next ≡ store.old.next }
     ensures most { P.most place.new ≡ P.most place.old }
-    ensures takes { Takes (Lands (Some launched.now)) (MayAnswerUnit store.now.next unit.now.key (Some launched.now)) result (P.counts place.old) (P.counts place.new) }
+    ensures takes { Takes (Lands (Some launched.now)) (MayAnswerUnit store.old.next unit.now.key (Some launched.now)) result (P.counts place.old) (P.counts place.new) }
     ensures lands { IsTrue P.tells → (left : P) × (answer : Result Ended StartFault) × HasEnded launched.now.ticket answer (IsOk result) (P.still place.old launched.now.ticket) (P.world place.old) (P.world left) (P.counts place.old) (P.counts left)
         × ChangesOnly (is_at_or_below (place_of (records_folder project.now) unit.now.key)) (P.world left) (P.world place.new)
         × ((read : Reading) → IsReading read → CallsBehind (answered_called read project.now unit.now command.now (P.world left) (awaited.Child launched.now)) answer result (P.counts left) (P.counts place.new)) }
@@ -342,17 +351,21 @@ pub(crate) fn reuse<P: Place>(
         → CanAnswer (basis footing read P.child setup project.now sources) states done index unit.now (begun_with unit.now.key command.now (awaited.Record again.now)) store.old.next (P.world place.old) (P.counts place.old).starts.flying (P.still place.old)
         → IfOk result (λ ran. slice_get (outcomes_in (basis footing read P.child setup project.now sources)) index ≡ Some (outcome_by (files_in unit.now.out (P.world place.new).files) ran)) }
     ensures keeps { (footing : Footing) (read : Reading) (setup : Setup) (sources : World) (states : List (State BadUnit)) (done : List (Option (List Directive))) → IsReading read → IsTrue P.tells
+        → HoldsNumbers (record_at read (records_folder project.now) (P.world place.old).files) store.old.numbers
         → CanAnswer (basis footing read P.child setup project.now sources) states done index unit.now (begun_with unit.now.key command.now (awaited.Record again.now)) store.old.next (P.world place.old) (P.counts place.old).starts.flying (P.still place.old)
         → MatchResult result
         (λ ran. (lines : List ℕ) → Keeps (basis footing read P.child setup project.now sources) (slice_set states index (state.Answered record { fault = ran.bad; lines = lines })) (slice_set done index ran.directives) store.new.next (P.world place.new))
         (λ e. Keeps (basis footing read P.child setup project.now sources) states done store.new.next (P.world place.new)) }
     ensures others { (footing : Footing) (read : Reading) (setup : Setup) (sources : World) (states : List (State BadUnit)) (done : List (Option (List Directive))) (other : ℕ) (its : Begun) → IsReading read → IsTrue P.tells
+        → HoldsNumbers (record_at read (records_folder project.now) (P.world place.old).files) store.old.numbers
         → CanAnswer (basis footing read P.child setup project.now sources) states done index unit.now (begun_with unit.now.key command.now (awaited.Record again.now)) store.old.next (P.world place.old) (P.counts place.old).starts.flying (P.still place.old)
         → BeginsApart (basis footing read P.child setup project.now sources) states index None other its store.old.next (P.world place.old) (P.counts place.old).starts.flying (P.still place.old)
         → IsBegun (basis footing read P.child setup project.now sources) other its store.new.next (P.world place.new) (P.counts place.new).starts.flying (P.still place.new) }
     ensures only { IsTrue P.tells → ChangesOnly (is_of (records_folder project.now) unit.now.key) (P.world place.old) (P.world place.new) }
     ensures same { (read : Reading) → IsReading read → IsTrue P.tells → lacks_number (record_at read (records_folder project.now) (P.world place.old).files unit.now.key) ≡ false → P.world place.new ≡ P.world place.old }
     ensures unkept { IsTrue P.tells → IfOk result (λ ran. IsSome ran.bad → P.world place.new ≡ P.world place.old) }
+    ensures numbers { (read : Reading) → IsReading read → IsTrue P.tells → HoldsNumbers (record_at read (records_folder project.now) (P.world place.old).files) store.old.numbers
+        → OnOk result (HoldsNumbers (record_at read (records_folder project.now) (P.world place.new).files) store.new.numbers) }
     ensures started { IfOk result (λ ran. ran.started ≡ false) }
     ensures directives { IfOk result (λ ran. directives_in (outcome_by finite.empty ran) ≡ ran.directives) }
     ensures folder { store.new.folder ≡ store.old.folder }

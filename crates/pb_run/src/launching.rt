@@ -15,6 +15,7 @@ ghost use Rattle.pb_soundness.specs.Records.{Reading, is_key, out_of, place_of, 
 ghost use Rattle.pb_soundness.specs.Reuse.{IsSame};
 ghost use Rattle.pb_soundness.specs.Sound.{Sound};
 ghost use Rattle.pb_store.specs.Differences.{FirstDifference};
+ghost use Rattle.pb_store.specs.Held.{HoldsNumbers};
 ghost use Rattle.pb_store.specs.Keeping.{Leaves};
 ghost use Rattle.pb_store.specs.Looking.{looked_at};
 ghost use Rattle.pb_store.specs.Migrating.{TakesNumber};
@@ -40,8 +41,8 @@ pub(crate) fn compare<P: Place>(
     command: &Command,
 ) -> Result<Compared, BuildFault>
     requires { is_key key.now ≡ true }
-    ensures first { (read : Reading) → IsReading read → IsTrue P.tells → IfOk result (λ compared. FirstDifference read store.now.folder key.now command.now (P.world place.old) (difference_in compared)) }
-    ensures none { (read : Reading) → IsReading read → IsTrue P.tells → IfOk result (λ compared. IfNone (difference_in compared) ((r : Record) × IsSame read store.now.folder key.now command.now (P.world place.old) r)) }
+    ensures first { (read : Reading) → IsReading read → IsTrue P.tells → HoldsNumbers (record_at read store.now.folder (P.world place.old).files) store.now.numbers → IfOk result (λ compared. FirstDifference read store.now.folder key.now command.now (P.world place.old) (difference_in compared)) }
+    ensures none { (read : Reading) → IsReading read → IsTrue P.tells → HoldsNumbers (record_at read store.now.folder (P.world place.old).files) store.now.numbers → IfOk result (λ compared. IfNone (difference_in compared) ((r : Record) × IsSame read store.now.folder key.now command.now (P.world place.old) r)) }
     ensures carries { (read : Reading) → IsReading read → IsTrue P.tells → IfOk result (CarriesReplayed (record_at read store.now.folder (P.world place.old).files key.now)) }
     ensures same { IsTrue P.tells → P.world place.new ≡ P.world place.old }
     ensures most { P.most place.new ≡ P.most place.old }
@@ -77,6 +78,7 @@ fn drop_record<P: Place>(
     ensures gone { (read : Reading) → IsTrue P.tells → OnOk result (record_at read store.old.folder (P.world place.new).files key.now ≡ None) }
     ensures left { (read : Reading) → IsTrue P.tells → Leaves None (record_at read store.old.folder (P.world place.old).files key.now) (record_at read store.old.folder (P.world place.new).files key.now) }
     ensures ahead { (read : Reading) → IsTrue P.tells → IsAhead (record_at read store.old.folder (P.world place.old).files) store.old.next → IsAhead (record_at read store.old.folder (P.world place.new).files) store.new.next }
+    ensures numbers { (read : Reading) → IsTrue P.tells → HoldsNumbers (record_at read store.old.folder (P.world place.old).files) store.old.numbers → OnOk result (HoldsNumbers (record_at read store.old.folder (P.world place.new).files) store.new.numbers) }
     ensures only { IsTrue P.tells → ChangesOnly (is_at_or_below (place_of store.old.folder key.now)) (P.world place.old) (P.world place.new) }
     ensures most { P.most place.new ≡ P.most place.old }
     ensures still { IsTrue P.tells → KeepsStillOutside (is_at_or_below (place_of store.old.folder key.now)) (P.counts place.old).starts.flying (P.still place.old) (P.still place.new) }
@@ -164,6 +166,7 @@ pub(crate) fn launch<P: Place>(
     ensures sound { (read : Reading) (judge : Judge) → IsTrue P.tells → Sound read judge P.child store.old.folder (P.world place.old).files → Sound read judge P.child store.old.folder (P.world place.new).files }
     ensures gone { (read : Reading) → IsTrue P.tells → OnOk result (record_at read store.old.folder (P.world place.new).files unit.now.key ≡ None) }
     ensures ahead { (read : Reading) → IsTrue P.tells → IsAhead (record_at read store.old.folder (P.world place.old).files) store.old.next → IsAhead (record_at read store.old.folder (P.world place.new).files) store.new.next }
+    ensures numbers { (read : Reading) → IsTrue P.tells → HoldsNumbers (record_at read store.old.folder (P.world place.old).files) store.old.numbers → OnOk result (HoldsNumbers (record_at read store.old.folder (P.world place.new).files) store.new.numbers) }
     ensures left { (read : Reading) → IsTrue P.tells → Leaves None (record_at read store.old.folder (P.world place.old).files unit.now.key) (record_at read store.old.folder (P.world place.new).files unit.now.key) }
     ensures spawned { IsTrue P.tells → IfOk result (λ launched. IsSpawned (is_of store.old.folder unit.now.key) P.child command.now (P.world place.old) launched.ticket (P.counts place.new).starts.flying (P.still place.new)) }
     ensures only { IsTrue P.tells → ChangesOnly (is_of store.old.folder unit.now.key) (P.world place.old) (P.world place.new) }

@@ -66,6 +66,16 @@ before_le n g less = elim (cases_Bool (g == 0xffff_ffff_ffff_ffff)) [
   | inr more ↦ let lt : n < g + 1 = omega (arith, less) in subst (λ b. IsBefore (cond b None (Some (g + 1))) n) (sym more) lt
 ]
 
+-- the place of a record ends as the name of one
+pub place_ends : (folder key : List ℕ) → ends_as_record (place_of folder key) ≡ true
+place_ends folder key =
+    let same : place_of folder key ≡ (stem folder ++ 47 ∷ key) ++ codes ".record" = joined (stem folder) in
+    ap ends_as_record same ∙ ends_so (stem folder ++ 47 ∷ key)
+  where
+    joined : (s : List ℕ) → s ++ 47 ∷ (key ++ codes ".record") ≡ (s ++ 47 ∷ key) ++ codes ".record"
+    joined [] = refl
+    joined (c ∷ s) = ap (λ x. c ∷ x) (joined s)
+
 module _ (read : Reading) (folder : List ℕ) (w : World) where
   -- a record that counts is a text in its key's place
   text_there : (m : Map) (key : List ℕ) (r : Record) (o : Option (List ℕ)) → is_key key ≡ true → get m (place_of folder key) ≡ o → if_of_key key (read_text read o) ≡ Some r
@@ -89,23 +99,14 @@ module _ (read : Reading) (folder : List ℕ) (w : World) where
       joined [] t = refl
       joined (c ∷ s) t = ap (λ x. c ∷ x) (joined s t)
 
-  -- its place is directly in the folder, and ends as the name of a record
+  -- its place is directly in the folder
   place_directly_in : (key : List ℕ) → is_key key ≡ true → is_directly_in folder (place_of folder key) ≡ true
   place_directly_in key is =
       ap (λ b. b && not (list_any (λ c. c == 47) (drop (length (stem folder) + 1) (place_of folder key)))) (place_in folder key is)
       ∙ ap (λ name. not (list_any (λ c. c == 47) name)) (name_of_place key) ∙ ap not (record_plain key (key_facts key is).plain)
 
-  place_ends : (key : List ℕ) → ends_as_record (place_of folder key) ≡ true
-  place_ends key =
-      let same : place_of folder key ≡ (stem folder ++ 47 ∷ key) ++ codes ".record" = joined (stem folder) in
-      ap ends_as_record same ∙ ends_so (stem folder ++ 47 ∷ key)
-    where
-      joined : (s : List ℕ) → s ++ 47 ∷ (key ++ codes ".record") ≡ (s ++ 47 ∷ key) ++ codes ".record"
-      joined [] = refl
-      joined (c ∷ s) = ap (λ x. c ∷ x) (joined s)
-
   -- so it is among the files that are listed
-  place_listed : (key text : List ℕ) → is_key key ≡ true → get w.files (place_of folder key) ≡ Some text → Contains (listed_directly folder w) (place_of folder key)
+  pub place_listed : (key text : List ℕ) → is_key key ≡ true → get w.files (place_of folder key) ≡ Some text → Contains (listed_directly folder w) (place_of folder key)
   place_listed key text is at =
       let found : get (retain_keys w.files (is_directly_in folder)) (place_of folder key) ≡ Some text =
       get-kept w.files (is_directly_in folder) (place_of folder key) ∙ ap (λ b. cond b (get w.files (place_of folder key)) None) (place_directly_in key is) ∙ at in
@@ -117,7 +118,7 @@ module _ (read : Reading) (folder : List ℕ) (w : World) where
       let is = its_key read folder w.files key r there in
       let (text, at, reads) = text_there w.files key r (get w.files (place_of folder key)) is refl (sym (text_at read folder w.files key (get w.files (place_of folder key)) is refl) ∙ there) in
       let here : greatest_at read w.files (place_of folder key) ≡ greatest_named r.needed =
-      ap (λ b. cond b (greatest_if (read_text read (get w.files (place_of folder key)))) 0) (place_ends key) ∙ ap greatest_if reads in
+      ap (λ b. cond b (greatest_if (read_text read (get w.files (place_of folder key)))) 0) (place_ends folder key) ∙ ap greatest_if reads in
       subst (λ n. n ≤ greatest_of read w.files (listed_directly folder w)) here
       (fold_each (greatest_at read w.files) 0 (listed_directly folder w) (place_of folder key) (place_listed key text is at))
 

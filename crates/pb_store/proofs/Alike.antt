@@ -14,12 +14,10 @@ use Rattle.pb_record.specs.Commands.{command_of}
 use Rattle.pb_record.specs.declared.asked.Asked.{Asked}
 use Rattle.pb_record.specs.declared.record.Input.{Input}
 use Rattle.pb_record.specs.declared.record.Input.TheVariants.{File, Tree, Value}
-use Rattle.pb_soundness.specs.Grounded.{Standing}
 use Rattle.pb_soundness.specs.Inputs.{contents, input_in, name_of}
 use Rattle.pb_soundness.specs.Records.{out_of}
-use Rattle.pb_soundness.specs.Reuse.{number_if}
-use Rattle.pb_store.specs.Differences.{HasFiles, HasNumber, IsPresent, same_files}
-use Rattle.pb_store.specs.Looking.{TestsDecide, has_files, has_number, is_asked, is_number, is_present, looked_up_to, same_input, same_text, same_texts}
+use Rattle.pb_store.specs.Differences.{HasFiles, IsPresent, same_files}
+use Rattle.pb_store.specs.Looking.{TestsDecide, has_files, is_asked, is_present, looked_up_to, same_input, same_text, same_texts}
 use Rattle.pb_store.proofs.Firsts.{files_same}
 use Rattle.pb_store.proofs.Looking.{Reached, row_ends, row_on}
 use Rattle.pb_store.proofs.Once.{asks_of, sets_of}
@@ -50,14 +48,6 @@ input_decides (Value n t) (Value m u) = Decides-like _ (λ e. cc (e.0, e.1)) (λ
 pub present_decides : (target : List ℕ) (w : World) (i : Input) → Decides (is_present target w i) (IsPresent target w i)
 unfolding is_present
 present_decides target w i = input_decides (input_in target w (name_of i)) i
-
-number_decides : (o : Option ℕ) (n : ℕ) → Decides (is_number o n) (o ≡ Some n)
-number_decides None n = ((λ e. cc), (λ e. cc))
-number_decides (Some m) n = Decides-like _ (λ e. ap Some e) (λ e. cc) (Decides-eqb m n)
-
-pub has_number_decides : (at : Standing) (need : List ℕ × ℕ) → Decides (has_number at need) (HasNumber at need)
-unfolding has_number
-has_number_decides at need = number_decides (number_if (at need.0)) need.1
 
 true_decides : (b : Bool) → Decides b (b ≡ true)
 true_decides b = ((λ e. e), (λ e. e))
@@ -103,4 +93,4 @@ module _ {A : Type 0} (Holds : World → A → Type 0) (is_same : World → A �
   same_here reached made test passes = row_on is_same look w now row i here within is same whole old mid new reached made (test_same Holds is_same w now here decides same b test ∙ passes)
 
 pub tests_decide_so : TestsDecide
-tests_decide_so = record { input = present_decides; number = has_number_decides; copies = has_files_decides; command = asked_decides }
+tests_decide_so = record { input = present_decides; copies = has_files_decides; command = asked_decides }

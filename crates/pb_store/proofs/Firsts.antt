@@ -74,17 +74,10 @@ first_for read folder key c w found is told = subst (λ r. FirstDifference r fol
 pub same_for : (read : Reading) (folder key : List ℕ) (c : Command) (w : World) (found : Option Difference) → IsReading read → FirstDifference reading folder key c w found → IfNone found ((r : Record) × IsSame read folder key c w r)
 same_for read folder key c w found is told = none_is_same read folder key c w found (first_for read folder key c w found is told)
 
--- a text that is no key has no number
-pub no_number : (folder : List ℕ) (files : Map) (key : List ℕ) → is_key key ≡ false → number_if (record_at reading folder files key) ≡ None
-no_number folder files key wrong = ap number_if (no_key reading folder files key wrong)
-
-pub read_number : (found : Option Record) (folder : List ℕ) (files : Map) (key : List ℕ) → ((read : Reading) → IsReading read → found ≡ record_at read folder files key) → number_if found ≡ number_if (record_at reading folder files key)
-read_number found folder files key is = ap number_if (is reading reading_reads)
-
 pub is_the_reading : IsReading reading
 is_the_reading = reading_reads
 
-pub ruleset number_laws = (no_number, read_number, is_the_reading)
+pub ruleset number_laws = (is_the_reading)
 
 -- what is told of the record there
 pub none_there : (folder key : List ℕ) (c : Command) (w : World) (found : Option Record) → found ≡ record_at reading folder w.files key → found ≡ None → FirstDifference reading folder key c w (Some NoRecord)
@@ -97,7 +90,7 @@ some_there folder key c w mid found kept d is some same told =
 
 -- the first of a row, one by one
 
-module _ {A B : Type 0} (Holds : World → A → Type 0) (told : A → B) (old mid : World) (row : List A) (i : ℕ) (here : A) (within : i < length row) (is : here ≡ get_or row i here) (same : mid ≡ old) where
+module _ {V A B : Type 0} (Holds : V → A → Type 0) (told : A → B) (old mid : V) (row : List A) (i : ℕ) (here : A) (within : i < length row) (is : here ≡ get_or row i here) (same : mid ≡ old) where
   all_push : (xs : List A) → AllByRecursion (Holds old) xs → Holds old here → AllByRecursion (Holds old) (xs ++ here ∷ [])
   all_push [] all holds = (holds, tt)
   all_push (x ∷ xs) (first, all) holds = (first, all_push xs all holds)

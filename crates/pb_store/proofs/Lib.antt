@@ -13,3 +13,4 @@ pub mod LookingAt
 pub mod Alike
 pub mod LookingOver
 pub mod LookingBy
+pub mod Held

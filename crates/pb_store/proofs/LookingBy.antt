@@ -1,22 +1,21 @@
 -- How often opening and keeping look and write.
-use Rattle.std.proofs.Common.{◌≡◌, ◌∙◌, ◌++◌, ℕ, Bool, true, false, cond, List, [], ◌∷◌, Result, refl, sym, ap, subst, inl, inr}
+use Rattle.std.proofs.Common.{◌≡◌, ◌∙◌, ◌++◌, ℕ, Bool, true, false, cond, List, [], ◌∷◌, refl, sym, ap, subst, inl, inr}
 use Rattle.std.specs.List.{filter}
 use Rattle.pb_place.specs.CallsInTurn.{MakesSome, past_calls}
 use Rattle.pb_place.specs.Counts.{Counts, past_call, past_place_fault}
 use Rattle.pb_place.specs.World.{World, listed_directly}
 use Rattle.pb_place.specs.declared.place.PlaceFault.{PlaceFault}
 use Rattle.pb_place.specs.declared.place.PlaceFault.TheVariants as place
-use Rattle.pb_place.proofs.CallsInTurn.{fails_left, fails_right, made_both, some_all, some_left, some_right}
+use Rattle.pb_place.proofs.CallsInTurn.{fails_left, fails_right, some_all, some_left, some_right}
 use Rattle.pb_soundness.specs.Records.{ends_as_record}
 use Rattle.pb_store.specs.Calls.{EndsOnce}
 use Rattle.pb_store.specs.Causes.{MayWrite, opened}
-use Rattle.pb_store.specs.Looking.{Looks, OpeningStopsAt, StopsAt, opened_looked, names_looked, needs_looked}
+use Rattle.pb_store.specs.Looking.{OpeningStopsAt, StopsAt, opened_looked}
 use Rattle.pb_store.specs.declared.fault.OpenFault.{OpenFault}
 use Rattle.pb_store.specs.declared.fault.OpenFault.TheVariants as open_fault
 use Rattle.pb_store.specs.declared.fault.StoreFault.{StoreFault}
 use Rattle.pb_store.specs.declared.fault.StoreFault.TheVariants.{Place, NumbersSpent, OutOfMemory}
-use Rattle.pb_record.specs.declared.record.InputName.{InputName}
-use Rattle.pb_store.proofs.Looking.{Reached, looks_both, reached_on}
+use Rattle.pb_store.proofs.Looking.{Reached, reached_on}
 
 -- opening: a first step stops it, or a second, after a first
 opening_stops_first : (e : OpenFault) (a b : List (List ℕ)) (old new : Counts) → OpeningStopsAt e a old new → OpeningStopsAt e (a ++ b) old new
@@ -89,14 +88,3 @@ ends_stops path OutOfMemory old new may ends = ends
 -- memory was refused after all of the calls
 pub refused_after : (names : List (List ℕ)) (old new : Counts) → new ≡ past_calls names old → StopsAt OutOfMemory names old new
 refused_after names old new made = subst (λ c. MakesSome names old c) (sym made) (some_all names old)
-
--- keeping: the needed units, the inputs, and the write
-pub then_names : {T : Type 0} (result : Result T StoreFault) (folder target : List ℕ) (w now : World) (needs : List (List ℕ)) (names : List InputName) (old mid new : Counts) → now ≡ w → mid ≡ past_calls (needs_looked folder needs) old → Looks result (names_looked target now names) mid new
-    → Looks result (needs_looked folder needs ++ names_looked target w names) old new
-then_names result folder target w now needs names old mid new same first second =
-    looks_both result (needs_looked folder needs) (names_looked target w names) old mid new first (subst (λ (v : World). Looks result (names_looked target v names) mid new) same second)
-
-pub names_made : (folder target : List ℕ) (w now : World) (needs : List (List ℕ)) (names : List InputName) (old mid new : Counts) → now ≡ w → mid ≡ past_calls (needs_looked folder needs) old → new ≡ past_calls (names_looked target now names) mid
-    → new ≡ past_calls (needs_looked folder needs ++ names_looked target w names) old
-names_made folder target w now needs names old mid new same first second =
-    made_both (needs_looked folder needs) (names_looked target w names) old mid new first (second ∙ ap (λ (v : World). past_calls (names_looked target v names) mid) same)

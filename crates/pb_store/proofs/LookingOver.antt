@@ -13,7 +13,6 @@ use Rattle.pb_record.specs.Parts.{IsReading}
 use Rattle.pb_record.specs.declared.record.Input.{Input}
 use Rattle.pb_record.specs.declared.record.InputName.{InputName}
 use Rattle.pb_record.specs.declared.record.Record.{Record}
-use Rattle.pb_soundness.specs.Grounded.{Standing}
 use Rattle.pb_soundness.specs.Inputs.{Agrees, name_of}
 use Rattle.pb_soundness.specs.Records.{Reading, place_of, record_at}
 use Rattle.pb_store.specs.Asking.{IsFirstName, SamePart, parts}
@@ -32,55 +31,55 @@ refuted false test wrong = refl
 
 -- its inputs, and then the units that it names
 module _ (folder target : List ℕ) (w : World) (r : Record) (inputs : List Input) (are : inputs ≡ r.inputs) (old : Counts) where
-  around_inputs : list_all (is_present target w) r.inputs ≡ false → (at : Standing) → around_looked folder at target w r ≡ inputs_looked target w inputs
+  around_inputs : list_all (is_present target w) r.inputs ≡ false → around_looked folder target w r ≡ inputs_looked target w inputs
   unfolding around_looked
-  around_inputs differs at = ap (λ b. inputs_looked target w r.inputs ++ cond b (needed_looked folder at w r.needed) []) differs ∙ append_none (inputs_looked target w r.inputs) ∙ ap (inputs_looked target w) (sym are)
+  around_inputs differs = ap (λ b. inputs_looked target w r.inputs ++ cond b (needed_looked folder w r.needed) []) differs ∙ append_none (inputs_looked target w r.inputs) ∙ ap (inputs_looked target w) (sym are)
 
-  around_names : (at : Standing) → Agrees target inputs w → around_looked folder at target w r ≡ inputs_looked target w inputs ++ needed_looked folder at w r.needed
+  around_names : Agrees target inputs w → around_looked folder target w r ≡ inputs_looked target w inputs ++ needed_looked folder w r.needed
   unfolding around_looked
-  around_names at agrees =
-      ap (λ b. inputs_looked target w r.inputs ++ cond b (needed_looked folder at w r.needed) []) ((all_decided (IsPresent target w) (is_present target w) (present_decides target w) r.inputs).1 (subst (λ xs. Agrees target xs w) are agrees))
-      ∙ ap (λ xs. inputs_looked target w xs ++ needed_looked folder at w r.needed) (sym are)
+  around_names agrees =
+      ap (λ b. inputs_looked target w r.inputs ++ cond b (needed_looked folder w r.needed) []) ((all_decided (IsPresent target w) (is_present target w) (present_decides target w) r.inputs).1 (subst (λ xs. Agrees target xs w) are agrees))
+      ∙ ap (λ xs. inputs_looked target w xs ++ needed_looked folder w r.needed) (sym are)
 
-  pub around_unread : (at : Standing) (e : StoreFault) (new : Counts) → StopsAt e (inputs_looked target w inputs) old new → StopsAt e (around_looked folder at target w r) old new
+  pub around_unread : (e : StoreFault) (new : Counts) → StopsAt e (inputs_looked target w inputs) old new → StopsAt e (around_looked folder target w r) old new
   unfolding around_looked
-  around_unread at e new stops = stops_first e (inputs_looked target w r.inputs) _ old new (subst (λ xs. StopsAt e (inputs_looked target w xs) old new) are stops)
+  around_unread e new stops = stops_first e (inputs_looked target w r.inputs) _ old new (subst (λ xs. StopsAt e (inputs_looked target w xs) old new) are stops)
 
-  pub around_ends : (at : Standing) (found : Option InputName) (name : InputName) (new : Counts) → found ≡ Some name → MatchOption found (Agrees target inputs w) (IsFirst (IsPresent target w) name_of inputs) → new ≡ past_calls (inputs_looked target w inputs) old
-      → new ≡ past_calls (around_looked folder at target w r) old
-  around_ends at found name new some told made =
+  pub around_ends : (found : Option InputName) (name : InputName) (new : Counts) → found ≡ Some name → MatchOption found (Agrees target inputs w) (IsFirst (IsPresent target w) name_of inputs) → new ≡ past_calls (inputs_looked target w inputs) old
+      → new ≡ past_calls (around_looked folder target w r) old
+  around_ends found name new some told made =
       let first : IsFirst (IsPresent target w) name_of inputs name = subst (λ o. MatchOption o (Agrees target inputs w) (IsFirst (IsPresent target w) name_of inputs)) some told in
       let differs : list_all (is_present target w) r.inputs ≡ false = refuted _ (all_decided (IsPresent target w) (is_present target w) (present_decides target w) r.inputs) (λ all. none_fails (IsPresent target w) name_of inputs name (subst (λ xs. Agrees target xs w) (sym are) all) first) in
-      made ∙ ap (λ names. past_calls names old) (sym (around_inputs differs at))
+      made ∙ ap (λ names. past_calls names old) (sym (around_inputs differs))
 
   pub around_then : {T : Type 0} (result : Result T StoreFault) (found : Option InputName) (now : World) (mid new : Counts) → now ≡ w → found ≡ None → MatchOption found (Agrees target inputs w) (IsFirst (IsPresent target w) name_of inputs)
-      → mid ≡ past_calls (inputs_looked target w inputs) old → Looks result (needed_looked folder (record_at reading folder now.files) now r.needed) mid new → Looks result (around_looked folder (record_at reading folder w.files) target w r) old new
+      → mid ≡ past_calls (inputs_looked target w inputs) old → Looks result (needed_looked folder now r.needed) mid new → Looks result (around_looked folder target w r) old new
   around_then result found now mid new same none told first second =
       let agrees : Agrees target inputs w = subst (λ o. MatchOption o (Agrees target inputs w) (IsFirst (IsPresent target w) name_of inputs)) none told in
-      subst (λ names. Looks result names old new) (sym (around_names (record_at reading folder w.files) agrees))
-      (looks_both result (inputs_looked target w inputs) (needed_looked folder (record_at reading folder w.files) w r.needed) old mid new first
-      (subst (λ (v : World). Looks result (needed_looked folder (record_at reading folder v.files) v r.needed) mid new) same second))
+      subst (λ names. Looks result names old new) (sym (around_names agrees))
+      (looks_both result (inputs_looked target w inputs) (needed_looked folder w r.needed) old mid new first
+      (subst (λ (v : World). Looks result (needed_looked folder v r.needed) mid new) same second))
 
 -- a record, where its command is another, and where it is the same
-module _ (folder : List ℕ) (at : Standing) (c : commands.Command) (w : World) (r : Record) where
-  from_none : (command_of r.asked ≡ c → ⊥) → from_looked folder at c w r ≡ []
+module _ (folder : List ℕ) (c : commands.Command) (w : World) (r : Record) where
+  from_none : (command_of r.asked ≡ c → ⊥) → from_looked folder c w r ≡ []
   unfolding from_looked
-  from_none wrong = ap (λ b. cond b (around_looked folder at c.target w r) []) (refuted _ (asked_decides r.asked c) wrong)
+  from_none wrong = ap (λ b. cond b (around_looked folder c.target w r) []) (refuted _ (asked_decides r.asked c) wrong)
 
-  from_around : command_of r.asked ≡ c → from_looked folder at c w r ≡ around_looked folder at c.target w r
+  from_around : command_of r.asked ≡ c → from_looked folder c w r ≡ around_looked folder c.target w r
   unfolding from_looked
-  from_around same = ap (λ b. cond b (around_looked folder at c.target w r) []) ((asked_decides r.asked c).1 same)
+  from_around same = ap (λ b. cond b (around_looked folder c.target w r) []) ((asked_decides r.asked c).1 same)
 
-  pub part_unlooked : (part : CommandPart) (now : Counts) → IsFirst (SamePart r.asked c) (λ p. p) parts part → now ≡ past_calls (from_looked folder at c w r) now
+  pub part_unlooked : (part : CommandPart) (now : Counts) → IsFirst (SamePart r.asked c) (λ p. p) parts part → now ≡ past_calls (from_looked folder c w r) now
   part_unlooked part now first = ap (λ names. past_calls names now) (sym (from_none (λ same. part_apart r.asked c part (asks_of r.asked c same) first)))
 
-  pub name_unlooked : (pairs others : List (List ℕ × List ℕ)) (found : Option (List ℕ)) (name : List ℕ) (now : Counts) → pairs ≡ r.asked.pairs → others ≡ c.pairs → found ≡ Some name → MatchOption found (pairs ≡ others) (IsFirstName pairs others) → now ≡ past_calls (from_looked folder at c w r) now
+  pub name_unlooked : (pairs others : List (List ℕ × List ℕ)) (found : Option (List ℕ)) (name : List ℕ) (now : Counts) → pairs ≡ r.asked.pairs → others ≡ c.pairs → found ≡ Some name → MatchOption found (pairs ≡ others) (IsFirstName pairs others) → now ≡ past_calls (from_looked folder c w r) now
   name_unlooked pairs others found name now is are some told =
       let here : IsFirstName pairs others name = subst (λ o. MatchOption o (pairs ≡ others) (IsFirstName pairs others)) some told in
       let first : IsFirstName r.asked.pairs c.pairs name = subst (λ xs. IsFirstName xs c.pairs name) is (subst (λ ys. IsFirstName pairs ys name) are here) in
       ap (λ names. past_calls names now) (sym (from_none (λ same. name_apart r.asked c name same first)))
 
-  pub from_then : {T : Type 0} (result : Result T StoreFault) (old new : Counts) → command_of r.asked ≡ c → Looks result (around_looked folder at c.target w r) old new → Looks result (from_looked folder at c w r) old new
+  pub from_then : {T : Type 0} (result : Result T StoreFault) (old new : Counts) → command_of r.asked ≡ c → Looks result (around_looked folder c.target w r) old new → Looks result (from_looked folder c w r) old new
   from_then result old new same looks = subst (λ names. Looks result names old new) (sym (from_around same)) looks
 
 -- the place of a record, and the record that counts there
@@ -91,18 +90,18 @@ module _ (read : Reading) (folder key : List ℕ) (c : commands.Command) (w : Wo
 
   pub at_none : (found : Option Record) (new : Counts) → found ≡ record_at read folder w.files key → found ≡ None → new ≡ past_calls (place_of folder key ∷ []) old → new ≡ past_calls (looked_at read folder key c w) old
   unfolding looked_at
-  at_none found new is none made = made ∙ ap (λ o. past_calls (place_of folder key ∷ kept_looked folder (record_at read folder w.files) c w o) old) (sym none ∙ is)
+  at_none found new is none made = made ∙ ap (λ o. past_calls (place_of folder key ∷ kept_looked folder c w o) old) (sym none ∙ is)
 
-  at_names : (found : Option Record) (r : Record) → found ≡ record_at read folder w.files key → found ≡ Some r → looked_at read folder key c w ≡ (place_of folder key ∷ []) ++ from_looked folder (record_at read folder w.files) c w r
+  at_names : (found : Option Record) (r : Record) → found ≡ record_at read folder w.files key → found ≡ Some r → looked_at read folder key c w ≡ (place_of folder key ∷ []) ++ from_looked folder c w r
   unfolding looked_at
-  at_names found r is some = ap (λ o. place_of folder key ∷ kept_looked folder (record_at read folder w.files) c w o) (sym is ∙ some)
+  at_names found r is some = ap (λ o. place_of folder key ∷ kept_looked folder c w o) (sym is ∙ some)
 
   pub at_then : {T : Type 0} (result : Result T StoreFault) (found : Option Record) (r : Record) (now : World) (mid new : Counts) → found ≡ record_at read folder w.files key → found ≡ Some r → now ≡ w → mid ≡ past_calls (place_of folder key ∷ []) old
-      → Looks result (from_looked folder (record_at read folder now.files) c now r) mid new → Looks result (looked_at read folder key c w) old new
+      → Looks result (from_looked folder c now r) mid new → Looks result (looked_at read folder key c w) old new
   at_then result found r now mid new is some same first second =
       subst (λ names. Looks result names old new) (sym (at_names found r is some))
-      (looks_both result (place_of folder key ∷ []) (from_looked folder (record_at read folder w.files) c w r) old mid new first
-      (subst (λ (v : World). Looks result (from_looked folder (record_at read folder v.files) c v r) mid new) same second))
+      (looks_both result (place_of folder key ∷ []) (from_looked folder c w r) old mid new first
+      (subst (λ (v : World). Looks result (from_looked folder c v r) mid new) same second))
 
 -- whatever reading it is
 pub looks_for : {T : Type 0} (result : Result T StoreFault) (read : Reading) (folder key : List ℕ) (c : commands.Command) (w : World) (old new : Counts) → IsReading read → Looks result (looked_at reading folder key c w) old new → Looks result (looked_at read folder key c w) old new

@@ -1,5 +1,5 @@
 -- A unit has one first difference, and none where nothing differs.
-use Rattle.std.proofs.Common.{◌≡◌, ◌∙◌, ◌++◌, ℕ, true, List, [], ◌∷◌, Contains, Option, Some, None, refl, sym, ap, subst}
+use Rattle.std.proofs.Common.{◌≡◌, ◌∙◌, ◌++◌, ℕ, true, List, [], ◌∷◌, Contains, Option, Some, None, Result, Ok, Err, IfOk, refl, sym, ap, subst}
 use Rattle.std.specs.List.{AllByRecursion}
 use Rattle.pb_place.specs.Paths.{is_relative}
 use Rattle.pb_place.specs.World.{World, Map}
@@ -155,5 +155,10 @@ none_first read folder key c w r same named =
 pub none_for : (read : Reading) (folder key : List ℕ) (c : commands.Command) (w : World) (r : Record) (found : Option Difference) → FirstDifference reading folder key c w found → IsReading read → IsSame read folder key c w r → NamesPaths r.needed → found ≡ None
 none_for read folder key c w r found told is same named =
     one_difference read folder key c w found None (first_for read folder key c w found is told) (none_first read folder key c w r same named)
+
+-- what holds of an answer that is there
+pub if_ok : {T E : Type 0} {P Q : T → Type 0} (result : Result T E) → ((x : T) → P x → Q x) → IfOk result P → IfOk result Q
+if_ok (Ok x) on is = on x is
+if_ok (Err e) on is = tt
 
 pub ruleset difference_laws = (first_for, same_for, none_for)

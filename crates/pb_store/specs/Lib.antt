@@ -8,3 +8,4 @@ pub mod Presence
 pub mod Replaying
 pub mod Calls
 pub mod Looking
+pub mod Held

@@ -18,11 +18,9 @@ use Rattle.pb_record.specs.declared.record.InputName.TheVariants.{Path, Variable
 use Rattle.pb_record.specs.declared.record.Needed.{Needed}
 use Rattle.pb_record.specs.declared.record.Needed.TheVariants.{Copies, Numbers}
 use Rattle.pb_record.specs.declared.record.Record.{Record}
-use Rattle.pb_soundness.specs.Grounded.{Standing}
 use Rattle.pb_soundness.specs.Inputs.{contents, input_in, name_of}
-use Rattle.pb_soundness.specs.Records.{Reading, ends_as_record, is_key, out_of, place_of, record_at}
-use Rattle.pb_soundness.specs.Reuse.{number_if}
-use Rattle.pb_store.specs.Differences.{HasFiles, HasNumber, IsPresent, same_files}
+use Rattle.pb_soundness.specs.Records.{Reading, ends_as_record, out_of, place_of, record_at}
+use Rattle.pb_store.specs.Differences.{HasFiles, IsPresent, same_files}
 use Rattle.pb_store.specs.Migrating.{lacks_number}
 use Rattle.pb_store.specs.declared.fault.OpenFault.{OpenFault}
 use Rattle.pb_store.specs.declared.fault.OpenFault.TheVariants as open_fault
@@ -93,40 +91,26 @@ is_present target w i = same_input (input_in target w (name_of i)) i
 abbrev pub inputs_looked : List ℕ → World → List Input → List (List ℕ)
 inputs_looked target w inputs = looked_up_to (is_present target w) (λ i. name_looked target w (name_of i)) inputs
 
--- the place of a unit's record is read; a text that is no key names none
-abbrev pub record_looked : List ℕ → List ℕ → List (List ℕ)
-record_looked folder key = if is_key key then place_of folder key ∷ [] else []
-
 -- the folder of a unit is listed, and then each file there is read; a text that is no path in a folder names none
 abbrev pub out_looked : List ℕ → World → List ℕ → List (List ℕ)
 out_looked folder w key = if is_relative key then out_of folder key ∷ listed (out_of folder key) w else []
 
--- this is the number
-abbrev pub is_number : Option ℕ → ℕ → Bool
-is_number None number = false
-is_number (Some own) number = own == number
-
--- a needed unit has the number, or the files, with which a record names it
-unfoldable pub has_number : Standing → List ℕ × ℕ → Bool
-has_number at need = is_number (number_if (at need.0)) need.1
-
+-- a needed unit has the files with which a record names it
 unfoldable pub has_files : List ℕ → Map → List ℕ × List (List ℕ × List ℕ) → Bool
 has_files folder files need = is_relative need.0 && same_files (contents (out_of folder need.0) files) need.1
 
--- the units that a record names by number, or by copies, up to and with the first that is not as it names it
-abbrev pub numbers_looked : List ℕ → Standing → List (List ℕ × ℕ) → List (List ℕ)
-numbers_looked folder at needs = looked_up_to (has_number at) (λ need. record_looked folder need.0) needs
-
+-- the units that a record names by copies, up to and with the first that is not as it names it
 abbrev pub copies_looked : List ℕ → World → List (List ℕ × List (List ℕ × List ℕ)) → List (List ℕ)
 copies_looked folder w copies = looked_up_to (has_files folder w.files) (λ need. out_looked folder w need.0) copies
 
-abbrev pub needed_looked : List ℕ → Standing → World → Needed → List (List ℕ)
-needed_looked folder at w (Copies copies) = copies_looked folder w copies
-needed_looked folder at w (Numbers number needs) = numbers_looked folder at needs
+-- for the units that it names by number it looks nowhere: the store holds the numbers of their records
+abbrev pub needed_looked : List ℕ → World → Needed → List (List ℕ)
+needed_looked folder w (Copies copies) = copies_looked folder w copies
+needed_looked folder w (Numbers number needs) = []
 
 -- its inputs, and then, where each has its present value, the units that it names
-unfoldable pub around_looked : List ℕ → Standing → List ℕ → World → Record → List (List ℕ)
-around_looked folder at target w r = inputs_looked target w r.inputs ++ (if list_all (is_present target w) r.inputs then needed_looked folder at w r.needed else [])
+unfoldable pub around_looked : List ℕ → List ℕ → World → Record → List (List ℕ)
+around_looked folder target w r = inputs_looked target w r.inputs ++ (if list_all (is_present target w) r.inputs then needed_looked folder w r.needed else [])
 
 abbrev pub same_texts : List (List ℕ) → List (List ℕ) → Bool
 same_texts texts others = pointwise (pointwise ◌==◌) texts others
@@ -136,43 +120,35 @@ unfoldable pub is_asked : Asked → commands.Command → Bool
 is_asked a c = bytes_eq a.program c.program && (same_texts a.words c.words && (bytes_eq a.folder c.folder && (same_text (Some a.out) c.out && (bytes_eq a.target c.target && (bytes_eq a.toolchain c.toolchain && (same_texts a.reads c.reads && same_files a.pairs c.pairs))))))
 
 -- for a record: nothing where its command is another
-unfoldable pub from_looked : List ℕ → Standing → commands.Command → World → Record → List (List ℕ)
-from_looked folder at c w r = if is_asked r.asked c then around_looked folder at c.target w r else []
+unfoldable pub from_looked : List ℕ → commands.Command → World → Record → List (List ℕ)
+from_looked folder c w r = if is_asked r.asked c then around_looked folder c.target w r else []
 
-abbrev pub kept_looked : List ℕ → Standing → commands.Command → World → Option Record → List (List ℕ)
-kept_looked folder at c w None = []
-kept_looked folder at c w (Some r) = from_looked folder at c w r
+abbrev pub kept_looked : List ℕ → commands.Command → World → Option Record → List (List ℕ)
+kept_looked folder c w None = []
+kept_looked folder c w (Some r) = from_looked folder c w r
 
 -- for a unit: the place of its record is read, and then it is looked where the record that counts there leads
 unfoldable pub looked_at : Reading → List ℕ → List ℕ → commands.Command → World → List (List ℕ)
-looked_at read folder key c w = place_of folder key ∷ kept_looked folder (record_at read folder w.files) c w (record_at read folder w.files key)
+looked_at read folder key c w = place_of folder key ∷ kept_looked folder c w (record_at read folder w.files key)
 
 -- to open a folder it is listed, and then each record directly in it is read, in the order of the listing
 abbrev pub opened_looked : List ℕ → World → List (List ℕ)
 opened_looked folder w = folder ∷ filter ends_as_record (listed_directly folder w)
 
--- for needed units the place of each record is read, and for inputs it is looked at each, in their order
-abbrev pub needs_looked : List ℕ → List (List ℕ) → List (List ℕ)
-needs_looked folder needs = looked_up_to (λ need. true) (λ need. place_of folder need ∷ []) needs
-
+-- it is looked at each of some inputs, in their order
 abbrev pub names_looked : List ℕ → World → List InputName → List (List ℕ)
 names_looked target w names = looked_up_to (λ name. true) (name_looked target w) names
 
--- to keep a record the needed units and the inputs are looked at, and then it is written in its place
-abbrev pub kept_called : List ℕ → List ℕ → List ℕ → World → List (List ℕ) → List InputName → List (List ℕ)
-kept_called folder key target w needs names = (needs_looked folder needs ++ names_looked target w names) ++ (place_of folder key ∷ [])
+-- to keep a record the inputs are looked at, and then it is written in its place
+abbrev pub kept_called : List ℕ → List ℕ → List ℕ → World → List InputName → List (List ℕ)
+kept_called folder key target w names = names_looked target w names ++ (place_of folder key ∷ [])
 
--- to number a record the needed units are looked at, and then it is written in its place
-abbrev pub renumbered_called : List ℕ → List ℕ → List (List ℕ) → List (List ℕ)
-renumbered_called folder key needs = needs_looked folder needs ++ (place_of folder key ∷ [])
-
--- to migrate a record its place is read, and where one without a number counts there, it is numbered
-abbrev pub migrated_called : List ℕ → List ℕ → List (List ℕ) → Option Record → List (List ℕ)
-migrated_called folder key needs found = place_of folder key ∷ (if lacks_number found then renumbered_called folder key needs else [])
+-- to migrate a record its place is read, and where one without a number counts there, it is written again
+abbrev pub migrated_called : List ℕ → List ℕ → Option Record → List (List ℕ)
+migrated_called folder key found = place_of folder key ∷ (if lacks_number found then place_of folder key ∷ [] else [])
 
 -- The tests by which it is said how far it looks decide just that by which a difference is told.
 pub record TestsDecide : Type 0 where
   pub input : (target : List ℕ) (w : World) (i : Input) → Decides (is_present target w i) (IsPresent target w i)
-  pub number : (at : Standing) (need : List ℕ × ℕ) → Decides (has_number at need) (HasNumber at need)
   pub copies : (folder : List ℕ) (files : Map) (need : List ℕ × List (List ℕ × List ℕ)) → Decides (has_files folder files need) (HasFiles folder files need)
   pub command : (a : Asked) (c : commands.Command) → Decides (is_asked a c) (command_of a ≡ c)

@@ -1,8 +1,15 @@
--- What serves private functions alone: the files below a folder, read one by one.
-use Rattle.std.specs.Prelude.{ℕ, true, List, [], ◌∷◌, Option, Some, None}
+-- What serves private functions alone: the files below a folder, read one by one; and how the numbers of records are gathered and looked up.
+use Rattle.std.specs.Prelude.{◌≡◌, ◌&&◌, ℕ, if◌then◌else◌, true, map, List, [], ◌∷◌, Option, Some, None}
 use Rattle.std.specs.FinMap as finite
+use Rattle.std.specs.List.{fold}
+use Rattle.std.specs.Str.{bytes_eq}
+use Rattle.pb_data.specs.Table.{with_entry}
 use Rattle.pb_place.specs.Paths.{inside}
 use Rattle.pb_place.specs.World.{Map}
+use Rattle.pb_record.specs.declared.record.Record.{Record}
+use Rattle.pb_soundness.specs.Records.{Reading, ends_as_record, is_key, number_of, place_of, read_text}
+use Rattle.pb_store.specs.Held.{number_held}
+use Rattle.pb_store.specs.Keeping.{or_zero}
 use Rattle.pb_store.specs.Looking.{looked_up_to}
 
 -- two things that are both there
@@ -23,3 +30,24 @@ file_looked path (Some relative) = path ∷ []
 -- the files at these paths, in their order
 abbrev pub files_looked : List ℕ → List (List ℕ) → List (List ℕ)
 files_looked folder paths = looked_up_to (λ path. true) (λ path. file_looked path (inside folder path)) paths
+
+-- a needed unit has, by the numbers that are held, the one with which it is named
+abbrev pub IsHeld : List (List ℕ × Option ℕ) → (List ℕ × ℕ) → Type 0
+IsHeld numbers need = number_held numbers need.0 ≡ Some need.1
+
+-- the needed units with the numbers that are held of them
+abbrev pub numbered_by : List (List ℕ × Option ℕ) → List (List ℕ) → List (List ℕ × ℕ)
+numbered_by numbers needs = map (λ (need : List ℕ). (need, or_zero (number_held numbers need))) needs
+
+-- with the number of a record that was read at a path, where that is the place of its key
+abbrev pub noted : List ℕ → List ℕ → Option Record → List (List ℕ × Option ℕ) → List (List ℕ × Option ℕ)
+noted folder path None numbers = numbers
+noted folder path (Some r) numbers = if is_key r.key && bytes_eq (place_of folder r.key) path then with_entry numbers r.key (number_of r) else numbers
+
+-- and where the path has the name of a record's
+abbrev pub noted_at : Reading → List ℕ → Map → List (List ℕ × Option ℕ) → List ℕ → List (List ℕ × Option ℕ)
+noted_at read folder m numbers path = if ends_as_record path then noted folder path (read_text read (finite.get m path)) numbers else numbers
+
+-- those of the records at some paths
+abbrev pub held_of : Reading → List ℕ → Map → List (List ℕ) → List (List ℕ × Option ℕ)
+held_of read folder m paths = fold (noted_at read folder m) [] paths

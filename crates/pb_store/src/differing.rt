@@ -1,6 +1,6 @@
 //! What differs of a unit since its record was kept.
 
-ghost use Rattle.std.specs.Prelude.{◌≡◌, true, false, IsTrue, IfOk, IfNone, MatchOption, Decides, List, ℕ, None};
+ghost use Rattle.std.specs.Prelude.{◌≡◌, true, false, IsTrue, IfOk, IfNone, MatchOption, Decides, None};
 ghost use Rattle.pb_record.proofs.ReadingLemmas.{reading};
 ghost use Rattle.pb_record.specs.Commands.{command_of};
 ghost use Rattle.pb_record.specs.Parts.{IsReading};
@@ -9,21 +9,22 @@ ghost use Rattle.pb_place.specs.Paths.{is_relative};
 ghost use Rattle.pb_soundness.specs.Apart.{KeepsStill};
 ghost use Rattle.pb_soundness.specs.Inputs.{Agrees, name_of};
 ghost use Rattle.pb_soundness.specs.Records.{Reading, is_key, out_of, record_at};
-ghost use Rattle.pb_soundness.specs.Reuse.{IsSame, number_if};
-ghost use Rattle.pb_store.specs.Causes.{Takes, MayRead, MayLook};
-ghost use Rattle.pb_store.specs.Differences.{IsFirst, FirstOrAll, IsPresent, HasNumber, HasFiles, AreNeeded, FirstNeed, FirstFrom, FirstDifference, NamesPaths};
-ghost use Rattle.pb_store.specs.Looking.{Looks, name_looked, inputs_looked, record_looked, numbers_looked, out_looked, copies_looked, needed_looked, around_looked, from_looked, looked_at};
+ghost use Rattle.pb_soundness.specs.Reuse.{IsSame};
+ghost use Rattle.pb_store.specs.Causes.{Takes, MayLook};
+ghost use Rattle.pb_store.specs.Differences.{IsFirst, FirstOrAll, IsPresent, HasFiles, AreNeeded, FirstNeed, FirstFrom, FirstDifference, NamesPaths};
+ghost use Rattle.pb_store.specs.Held.{HoldsNumbers};
+ghost use Rattle.pb_store.specs.Looking.{Looks, name_looked, inputs_looked, out_looked, copies_looked, needed_looked, around_looked, from_looked, looked_at};
 ghost use Rattle.pb_store.specs.Replaying.{CarriesReplayed, difference_in};
 
 use crate::asking::{first_part, first_variable};
 use crate::comparing::{are_same_files, is_same_input};
 use crate::difference::Difference;
 use crate::fault::StoreFault;
+use crate::numbers::first_number;
 use crate::inputs::{files_in, input_now};
-use crate::keys::is_key;
 use crate::replaying::{Compared, again};
 use crate::store::{Store, record_at};
-use pb_data::{Bytes, Items, Text, TryCopy};
+use pb_data::{Bytes, Items, Table, Text, TryCopy};
 use pb_place::{Command, PathText, Place, RelativePath};
 use pb_record::{Input, InputName, Needed, Record};
 use std::alloc::{AllocError, Global};
@@ -83,106 +84,6 @@ fn first_input<P: Place>(
             Ok(false) => {
                 return match name_of(alloc, input) {
                     Ok(name) => Ok(Some(name)),
-                    Err(_) => Err(StoreFault::OutOfMemory),
-                };
-            }
-            Err(fault) => return Err(fault),
-        }
-    }
-    Ok(None)
-}
-
-/// The number of a record that stands.
-fn number_if(found: &Option<Record>) -> Option<u64>
-    ensures { result ≡ number_if found.now }
-{
-    match found {
-        None => None,
-        Some(kept) => match &kept.needed {
-            Needed::Copies(_) => None,
-            Needed::Numbers(own, _) => Some(*own),
-        },
-    }
-}
-
-/// The number of the record that counts in the place of a unit. A text that is no key names no unit.
-#[tactic(auto, using(crate::proofs::Firsts::number_laws))]
-fn standing_number<P: Place>(
-    alloc: Global,
-    place: &mut P,
-    folder: &PathText,
-    key: &Text,
-) -> Result<Option<u64>, StoreFault>
-    ensures ok { IsTrue P.tells → IfOk result (λ found. found ≡ number_if (record_at reading folder.now (P.world place.old).files key.now)) }
-    ensures same { IsTrue P.tells → P.world place.new ≡ P.world place.old }
-    ensures most { P.most place.new ≡ P.most place.old }
-    ensures still { IsTrue P.tells → KeepsStill (P.still place.old) (P.still place.new) }
-    ensures takes { Takes MayRead result (P.counts place.old) (P.counts place.new) }
-    ensures looks { Looks result (record_looked folder.now key.now) (P.counts place.old) (P.counts place.new) }
-{
-    if !is_key(key) {
-        return Ok(None);
-    }
-    match record_at(alloc, place, folder, key) {
-        Ok(found) => {
-            let number = number_if(&found);
-            drop(found);
-            Ok(number)
-        }
-        Err(fault) => Err(fault),
-    }
-}
-
-/// Whether this is the number.
-fn is_number(found: Option<u64>, number: u64) -> bool
-    ensures { Decides result (found ≡ Some number) }
-{
-    match found {
-        None => false,
-        Some(own) => own == number,
-    }
-}
-
-/// Whether the record of a needed unit has the number with which it is named.
-fn has_number<P: Place>(
-    alloc: Global,
-    place: &mut P,
-    folder: &PathText,
-    need: &(Text, u64),
-) -> Result<bool, StoreFault>
-    ensures ok { IsTrue P.tells → IfOk result (λ same. Decides same (HasNumber (record_at reading folder.now (P.world place.old).files) need.now)) }
-    ensures same { IsTrue P.tells → P.world place.new ≡ P.world place.old }
-    ensures most { P.most place.new ≡ P.most place.old }
-    ensures still { IsTrue P.tells → KeepsStill (P.still place.old) (P.still place.new) }
-    ensures takes { Takes MayRead result (P.counts place.old) (P.counts place.new) }
-    ensures looks { Looks result (record_looked folder.now need.now.0) (P.counts place.old) (P.counts place.new) }
-{
-    match standing_number(alloc, place, folder, &need.0) {
-        Ok(found) => Ok(is_number(found, need.1)),
-        Err(fault) => Err(fault),
-    }
-}
-
-/// The key of the first needed unit whose record has not the number with which it is named.
-fn first_number<P: Place>(
-    alloc: Global,
-    place: &mut P,
-    folder: &PathText,
-    needs: &[(Text, u64)],
-) -> Result<Option<Text>, StoreFault>
-    ensures ok { IsTrue P.tells → IfOk result (λ found. FirstOrAll (HasNumber (record_at reading folder.now (P.world place.old).files)) needs.now found) }
-    ensures same { IsTrue P.tells → P.world place.new ≡ P.world place.old }
-    ensures most { P.most place.new ≡ P.most place.old }
-    ensures still { IsTrue P.tells → KeepsStill (P.still place.old) (P.still place.new) }
-    ensures takes { Takes MayLook result (P.counts place.old) (P.counts place.new) }
-    ensures looks { IsTrue P.tells → Looks result (numbers_looked folder.now (record_at reading folder.now (P.world place.old).files) needs.now) (P.counts place.old) (P.counts place.new) }
-{
-    for need in needs {
-        match has_number(alloc, place, folder, need) {
-            Ok(true) => {}
-            Ok(false) => {
-                return match need.0.copy(alloc) {
-                    Ok(key) => Ok(Some(key)),
                     Err(_) => Err(StoreFault::OutOfMemory),
                 };
             }
@@ -256,23 +157,29 @@ fn first_copy<P: Place>(
     Ok(None)
 }
 
-/// The key of the first needed unit that is not as the record names it, by the record's own format.
+/// The key of the first needed unit that is not as the record names it, by the record's own format. The numbers that are
+/// held stand for the records of the units that it names by number.
+#[tactic(auto, using(crate::proofs::Held::first_by_number))]
 fn first_need<P: Place>(
     alloc: Global,
     place: &mut P,
     folder: &PathText,
+    numbers: &Table<Option<u64>>,
     needed: &Needed,
 ) -> Result<Option<Text>, StoreFault>
-    ensures ok { IsTrue P.tells → IfOk result (λ found. MatchOption found (AreNeeded folder.now (record_at reading folder.now (P.world place.old).files) (P.world place.old).files needed.now) (FirstNeed folder.now (record_at reading folder.now (P.world place.old).files) (P.world place.old).files needed.now)) }
+    ensures ok { IsTrue P.tells → HoldsNumbers (record_at reading folder.now (P.world place.old).files) numbers.now → IfOk result (λ found. MatchOption found (AreNeeded folder.now (record_at reading folder.now (P.world place.old).files) (P.world place.old).files needed.now) (FirstNeed folder.now (record_at reading folder.now (P.world place.old).files) (P.world place.old).files needed.now)) }
     ensures same { IsTrue P.tells → P.world place.new ≡ P.world place.old }
     ensures most { P.most place.new ≡ P.most place.old }
     ensures still { IsTrue P.tells → KeepsStill (P.still place.old) (P.still place.new) }
     ensures takes { Takes MayLook result (P.counts place.old) (P.counts place.new) }
-    ensures looks { IsTrue P.tells → Looks result (needed_looked folder.now (record_at reading folder.now (P.world place.old).files) (P.world place.old) needed.now) (P.counts place.old) (P.counts place.new) }
+    ensures looks { IsTrue P.tells → Looks result (needed_looked folder.now (P.world place.old) needed.now) (P.counts place.old) (P.counts place.new) }
 {
     match needed {
         Needed::Copies(copies) => first_copy(alloc, place, folder, copies.as_slice()),
-        Needed::Numbers(_, needs) => first_number(alloc, place, folder, needs.as_slice()),
+        Needed::Numbers(_, needs) => match first_number(alloc, numbers, needs.as_slice()) {
+            Ok(found) => Ok(found),
+            Err(_) => Err(StoreFault::OutOfMemory),
+        },
     }
 }
 
@@ -281,22 +188,23 @@ fn first_around<P: Place>(
     alloc: Global,
     place: &mut P,
     folder: &PathText,
+    numbers: &Table<Option<u64>>,
     command: &Command,
     kept: &Record,
 ) -> Result<Option<Difference>, StoreFault>
-    ensures ok { IsTrue P.tells → command_of kept.now.asked ≡ command.now → IfOk result (FirstFrom folder.now (record_at reading folder.now (P.world place.old).files) command.now (P.world place.old) kept.now) }
+    ensures ok { IsTrue P.tells → HoldsNumbers (record_at reading folder.now (P.world place.old).files) numbers.now → command_of kept.now.asked ≡ command.now → IfOk result (FirstFrom folder.now (record_at reading folder.now (P.world place.old).files) command.now (P.world place.old) kept.now) }
     ensures same { IsTrue P.tells → P.world place.new ≡ P.world place.old }
     ensures most { P.most place.new ≡ P.most place.old }
     ensures still { IsTrue P.tells → KeepsStill (P.still place.old) (P.still place.new) }
     ensures takes { Takes MayLook result (P.counts place.old) (P.counts place.new) }
-    ensures looks { IsTrue P.tells → Looks result (around_looked folder.now (record_at reading folder.now (P.world place.old).files) command.now.target (P.world place.old) kept.now) (P.counts place.old) (P.counts place.new) }
+    ensures looks { IsTrue P.tells → Looks result (around_looked folder.now command.now.target (P.world place.old) kept.now) (P.counts place.old) (P.counts place.new) }
 {
     match first_input(alloc, place, &command.target, kept.inputs.as_slice()) {
         Ok(Some(name)) => return Ok(Some(Difference::Input(name))),
         Ok(None) => {}
         Err(fault) => return Err(fault),
     }
-    match first_need(alloc, place, folder, &kept.needed) {
+    match first_need(alloc, place, folder, numbers, &kept.needed) {
         Ok(Some(key)) => Ok(Some(Difference::Dependency(key))),
         Ok(None) => Ok(None),
         Err(fault) => Err(fault),
@@ -308,15 +216,16 @@ fn first_from<P: Place>(
     alloc: Global,
     place: &mut P,
     folder: &PathText,
+    numbers: &Table<Option<u64>>,
     command: &Command,
     kept: &Record,
 ) -> Result<Option<Difference>, StoreFault>
-    ensures ok { IsTrue P.tells → IfOk result (FirstFrom folder.now (record_at reading folder.now (P.world place.old).files) command.now (P.world place.old) kept.now) }
+    ensures ok { IsTrue P.tells → HoldsNumbers (record_at reading folder.now (P.world place.old).files) numbers.now → IfOk result (FirstFrom folder.now (record_at reading folder.now (P.world place.old).files) command.now (P.world place.old) kept.now) }
     ensures same { IsTrue P.tells → P.world place.new ≡ P.world place.old }
     ensures most { P.most place.new ≡ P.most place.old }
     ensures still { IsTrue P.tells → KeepsStill (P.still place.old) (P.still place.new) }
     ensures takes { Takes MayLook result (P.counts place.old) (P.counts place.new) }
-    ensures looks { IsTrue P.tells → Looks result (from_looked folder.now (record_at reading folder.now (P.world place.old).files) command.now (P.world place.old) kept.now) (P.counts place.old) (P.counts place.new) }
+    ensures looks { IsTrue P.tells → Looks result (from_looked folder.now command.now (P.world place.old) kept.now) (P.counts place.old) (P.counts place.new) }
 {
     if let Some(part) = first_part(&kept.asked, command) {
         return Ok(Some(Difference::Command(part)));
@@ -326,7 +235,7 @@ fn first_from<P: Place>(
         Ok(None) => {}
         Err(_) => return Err(StoreFault::OutOfMemory),
     }
-    first_around(alloc, place, folder, command, kept)
+    first_around(alloc, place, folder, numbers, command, kept)
 }
 
 /// What comes of the comparison of a unit with its record.
@@ -335,11 +244,12 @@ fn compare<P: Place>(
     alloc: Global,
     place: &mut P,
     folder: &PathText,
+    numbers: &Table<Option<u64>>,
     key: &Text,
     command: &Command,
 ) -> Result<Compared, StoreFault>
     requires { is_key key.now ≡ true }
-    ensures first { IsTrue P.tells → IfOk result (λ compared. FirstDifference reading folder.now key.now command.now (P.world place.old) (difference_in compared)) }
+    ensures first { IsTrue P.tells → HoldsNumbers (record_at reading folder.now (P.world place.old).files) numbers.now → IfOk result (λ compared. FirstDifference reading folder.now key.now command.now (P.world place.old) (difference_in compared)) }
     ensures carries { (read : Reading) → IsReading read → IsTrue P.tells → IfOk result (CarriesReplayed (record_at read folder.now (P.world place.old).files key.now)) }
     ensures same { IsTrue P.tells → P.world place.new ≡ P.world place.old }
     ensures most { P.most place.new ≡ P.most place.old }
@@ -353,7 +263,7 @@ fn compare<P: Place>(
         Err(fault) => return Err(fault),
     };
     // Lent first, and then used up: the streams are carried on, and no second look reads them.
-    match first_from(alloc, place, folder, command, &kept) {
+    match first_from(alloc, place, folder, numbers, command, &kept) {
         Ok(Some(difference)) => {
             drop(kept);
             Ok(Compared::Differs(difference))
@@ -369,7 +279,8 @@ fn compare<P: Place>(
 impl Store {
     /// Compares a unit with its record, for a command that would build it again: what differs first; or, where the
     /// record says what a child would answer, what it gives again in the child's place. Each input is read and compared
-    /// in turn, and let go; after the first that differs none is looked at. Our own rule of when a unit is built again.
+    /// in turn, and let go; after the first that differs none is looked at. The records of needed units are not read: their
+    /// numbers are held. Our own rule of when a unit is built again.
     ///
     /// Faults: Place, where a file cannot be read, a folder not be listed or a variable not be read; OutOfMemory.
     #[tactic(auto, using(crate::proofs::Once::difference_laws))]
@@ -381,16 +292,16 @@ impl Store {
         command: &Command,
     ) -> Result<Compared, StoreFault>
         requires { is_key key.now ≡ true }
-        ensures first { (read : Reading) → IsReading read → IsTrue P.tells → IfOk result (λ compared. FirstDifference read self.now.folder key.now command.now (P.world place.old) (difference_in compared)) }
-        ensures none { (read : Reading) → IsReading read → IsTrue P.tells → IfOk result (λ compared. IfNone (difference_in compared) ((r : Record) × IsSame read self.now.folder key.now command.now (P.world place.old) r)) }
+        ensures first { (read : Reading) → IsReading read → IsTrue P.tells → HoldsNumbers (record_at read self.now.folder (P.world place.old).files) self.now.numbers → IfOk result (λ compared. FirstDifference read self.now.folder key.now command.now (P.world place.old) (difference_in compared)) }
+        ensures none { (read : Reading) → IsReading read → IsTrue P.tells → HoldsNumbers (record_at read self.now.folder (P.world place.old).files) self.now.numbers → IfOk result (λ compared. IfNone (difference_in compared) ((r : Record) × IsSame read self.now.folder key.now command.now (P.world place.old) r)) }
         ensures carries { (read : Reading) → IsReading read → IsTrue P.tells → IfOk result (CarriesReplayed (record_at read self.now.folder (P.world place.old).files key.now)) }
-        ensures unchanged { (read : Reading) (r : Record) → IsReading read → IsTrue P.tells → IsSame read self.now.folder key.now command.now (P.world place.old) r → NamesPaths r.needed → IfOk result (λ compared. difference_in compared ≡ None) }
+        ensures unchanged { (read : Reading) (r : Record) → IsReading read → IsTrue P.tells → HoldsNumbers (record_at read self.now.folder (P.world place.old).files) self.now.numbers → IsSame read self.now.folder key.now command.now (P.world place.old) r → NamesPaths r.needed → IfOk result (λ compared. difference_in compared ≡ None) }
         ensures same { IsTrue P.tells → P.world place.new ≡ P.world place.old }
         ensures most { P.most place.new ≡ P.most place.old }
         ensures still { IsTrue P.tells → KeepsStill (P.still place.old) (P.still place.new) }
         ensures takes { Takes MayLook result (P.counts place.old) (P.counts place.new) }
         ensures looks { (read : Reading) → IsReading read → IsTrue P.tells → Looks result (looked_at read self.now.folder key.now command.now (P.world place.old)) (P.counts place.old) (P.counts place.new) }
     {
-        compare(alloc, place, &self.folder, key, command)
+        compare(alloc, place, &self.folder, &self.numbers, key, command)
     }
 }

@@ -10,9 +10,11 @@ ghost use Rattle.pb_soundness.specs.Records.{Reading, is_key, place_of, record_a
 ghost use Rattle.pb_soundness.specs.Sound.{Sound};
 ghost use Rattle.pb_store.specs.Calls.{CallsOnce};
 ghost use Rattle.pb_store.specs.Causes.{Takes, MayRemove, MayDrop};
+ghost use Rattle.pb_store.specs.Held.{HoldsNumbers};
 ghost use Rattle.pb_store.specs.Keeping.{Leaves};
 
 use crate::fault::{StoreFault, stored};
+use crate::numbers::note;
 use crate::store::{Store, place_path};
 use pb_data::Text;
 use pb_place::{PathText, Place};
@@ -94,6 +96,7 @@ impl Store {
         ensures gone { (read : Reading) → IsTrue P.tells → OnOk result (record_at read self.old.folder (P.world place.new).files key.now ≡ None) }
         ensures left { (read : Reading) → IsTrue P.tells → Leaves None (record_at read self.old.folder (P.world place.old).files key.now) (record_at read self.old.folder (P.world place.new).files key.now) }
         ensures ahead { (read : Reading) → IsTrue P.tells → IsAhead (record_at read self.old.folder (P.world place.old).files) self.old.next → IsAhead (record_at read self.old.folder (P.world place.new).files) self.new.next }
+        ensures numbers { (read : Reading) → IsTrue P.tells → HoldsNumbers (record_at read self.old.folder (P.world place.old).files) self.old.numbers → OnOk result (HoldsNumbers (record_at read self.old.folder (P.world place.new).files) self.new.numbers) }
         ensures only { IsTrue P.tells → ChangesOnly (is_at_or_below (place_of self.old.folder key.now)) (P.world place.old) (P.world place.new) }
         ensures most { P.most place.new ≡ P.most place.old }
         ensures still { IsTrue P.tells → KeepsStillOutside (is_at_or_below (place_of self.old.folder key.now)) (P.counts place.old).starts.flying (P.still place.old) (P.still place.new) }
@@ -105,6 +108,7 @@ impl Store {
             None => return Err(StoreFault::NumbersSpent),
             Some(number) => number,
         };
+        note(alloc, &mut self.numbers, key, None)?;
         remove_record(alloc, place, &self.folder, key)?;
         // Counted only once the record is gone.
         self.next = number_after(number);

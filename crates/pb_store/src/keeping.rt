@@ -1,6 +1,6 @@
 //! The record of a unit that was built, kept with the run number that was given for it.
 
-ghost use Rattle.std.specs.Prelude.{◌≡◌, ◌++◌, ◌∷◌, [], ℕ, Option, true, IsTrue, IfErr, IfOk, OnOk, OnErr, Some, All, map};
+ghost use Rattle.std.specs.Prelude.{◌≡◌, ℕ, Option, true, IsTrue, IfErr, IfOk, OnOk, OnErr, Some, map};
 ghost use Rattle.pb_place.specs.declared.place.PlaceFault.TheVariants as place_fault;
 ghost use Rattle.pb_place.specs.Paths.{is_at_or_below};
 ghost use Rattle.pb_place.specs.World.{ChangesOnly, Torn, written};
@@ -8,21 +8,22 @@ ghost use Rattle.pb_soundness.specs.Apart.{KeepsStill, KeepsStillOutside};
 ghost use Rattle.pb_soundness.specs.Inputs.{Judge, input_in};
 ghost use Rattle.pb_soundness.specs.Numbers.{IsAhead, IsBefore, NamesBefore};
 ghost use Rattle.pb_soundness.specs.Records.{Reading, is_key, out_of, place_of, record_at, number_of};
-ghost use Rattle.pb_soundness.specs.Reuse.{number_if};
 ghost use Rattle.pb_soundness.specs.Sound.{Sound};
 ghost use Rattle.pb_store.specs.Calls.{CallsOnce, looked};
 ghost use Rattle.pb_store.specs.declared.fault.StoreFault.TheVariants as store_fault;
-ghost use Rattle.pb_store.specs.Causes.{Takes, MayRead, MayLook, MayWrite, MayKeep};
-ghost use Rattle.pb_store.specs.Keeping.{Leaves, IsKept, HasNeeds, MayPut, kept_of, numbered, or_zero};
-ghost use Rattle.pb_store.specs.Looking.{Looks, kept_called, names_looked, needs_looked};
+ghost use Rattle.pb_store.specs.Causes.{Takes, MayLook, MayWrite, MayKeep};
+ghost use Rattle.pb_store.specs.Held.{HoldsNumbers};
+ghost use Rattle.pb_store.specs.Keeping.{Leaves, IsKept, HasNeeds, MayPut, kept_of, numbered};
+ghost use Rattle.pb_store.specs.Looking.{Looks, kept_called, names_looked};
 ghost use Rattle.pb_record.specs.Commands.{of_parts};
 ghost use Rattle.pb_record.specs.Parts.{IsReading};
 ghost use Rattle.pb_record.specs.Sorted.{are_sorted};
 
 use crate::fault::{StoreFault, stored};
+use crate::numbers::{note, numbered};
 use crate::inputs::present;
-use crate::store::{Store, place_path, record_at};
-use pb_data::{Bytes, Items, Text, TryCopy, with_next};
+use crate::store::{Store, place_path};
+use pb_data::{Bytes, Items, Table, Text, TryCopy, with_next};
 use pb_place::{Command, Ended, PathText, Place};
 use pb_record::{Asked, Input, InputName, Needed, Record, write_record};
 use std::alloc::{AllocError, Global};
@@ -35,95 +36,6 @@ pub(crate) fn number_of(kept: &Record) -> Option<u64>
         Needed::Copies(_) => None,
         Needed::Numbers(number, _) => Some(*number),
     }
-}
-
-/// The number of a record; 0 where there is none.
-fn number_or_zero(found: &Option<Record>) -> u64
-    ensures { result ≡ or_zero (number_if found.now) }
-{
-    match found {
-        None => 0,
-        Some(kept) => match number_of(kept) {
-            None => 0,
-            Some(number) => number,
-        },
-    }
-}
-
-/// The number of the record that stands for a unit; 0 where there is none.
-fn number_at<P: Place>(
-    alloc: Global,
-    place: &mut P,
-    folder: &PathText,
-    key: &Text,
-) -> Result<u64, StoreFault>
-    requires { is_key key.now ≡ true }
-    ensures ok { (read : Reading) → IsReading read → IsTrue P.tells → IfOk result (λ n. n ≡ or_zero (number_if (record_at read folder.now (P.world place.old).files key.now))) }
-    ensures same { IsTrue P.tells → P.world place.new ≡ P.world place.old }
-    ensures most { P.most place.new ≡ P.most place.old }
-    ensures still { IsTrue P.tells → KeepsStill (P.still place.old) (P.still place.new) }
-    ensures takes { Takes MayRead result (P.counts place.old) (P.counts place.new) }
-    ensures looks { Looks result (place_of folder.now key.now ∷ []) (P.counts place.old) (P.counts place.new) }
-{
-    match record_at(alloc, place, folder, key) {
-        Ok(found) => {
-            let number = number_or_zero(&found);
-            drop(found);
-            Ok(number)
-        }
-        Err(fault) => Err(fault),
-    }
-}
-
-/// A needed unit with the number of its record.
-fn numbered_one<P: Place>(
-    alloc: Global,
-    place: &mut P,
-    folder: &PathText,
-    key: &Text,
-) -> Result<(Text, u64), StoreFault>
-    requires { is_key key.now ≡ true }
-    ensures ok { (read : Reading) → IsReading read → IsTrue P.tells → IfOk result (λ pair. pair ≡ (key.now, or_zero (number_if (record_at read folder.now (P.world place.old).files key.now)))) }
-    ensures same { IsTrue P.tells → P.world place.new ≡ P.world place.old }
-    ensures most { P.most place.new ≡ P.most place.old }
-    ensures still { IsTrue P.tells → KeepsStill (P.still place.old) (P.still place.new) }
-    ensures takes { Takes MayRead result (P.counts place.old) (P.counts place.new) }
-    ensures looks { Looks result (place_of folder.now key.now ∷ []) (P.counts place.old) (P.counts place.new) }
-{
-    let name = match key.copy(alloc) {
-        Ok(name) => name,
-        Err(_) => return Err(StoreFault::OutOfMemory),
-    };
-    match number_at(alloc, place, folder, key) {
-        Ok(number) => Ok((name, number)),
-        Err(fault) => Err(fault),
-    }
-}
-
-/// The needed units with the numbers of their records.
-pub(crate) fn numbered<P: Place>(
-    alloc: Global,
-    place: &mut P,
-    folder: &PathText,
-    needs: &[Text],
-) -> Result<Items<(Text, u64)>, StoreFault>
-    requires { All (λ key. is_key key ≡ true) needs.now }
-    ensures ok { (read : Reading) → IsReading read → IsTrue P.tells → IfOk result (λ pairs. pairs ≡ numbered (record_at read folder.now (P.world place.old).files) needs.now) }
-    ensures same { IsTrue P.tells → P.world place.new ≡ P.world place.old }
-    ensures most { P.most place.new ≡ P.most place.old }
-    ensures still { IsTrue P.tells → KeepsStill (P.still place.old) (P.still place.new) }
-    ensures takes { Takes MayRead result (P.counts place.old) (P.counts place.new) }
-    ensures looks { Looks result (needs_looked folder.now needs.now) (P.counts place.old) (P.counts place.new) }
-{
-    let mut pairs = Items::new(alloc);
-    for need in needs {
-        let pair = numbered_one(alloc, place, folder, need)?;
-        match pairs.push(pair) {
-            Ok(()) => {}
-            Err(_) => return Err(StoreFault::OutOfMemory),
-        }
-    }
-    Ok(pairs)
 }
 
 /// Writes a file.
@@ -247,10 +159,12 @@ fn kept_of(
 }
 
 /// The record of a unit: the inputs with their present values, and the needed units with the numbers of their records.
+#[tactic(auto, using(crate::proofs::Held::numbered_held))]
 fn kept_now<P: Place>(
     alloc: Global,
     place: &mut P,
     folder: &PathText,
+    numbers: &Table<Option<u64>>,
     key: &Text,
     number: u64,
     command: &Command,
@@ -258,19 +172,21 @@ fn kept_now<P: Place>(
     names: &[InputName],
     ended: &Ended,
 ) -> Result<Record, StoreFault>
-    requires keys { All (λ need. is_key need ≡ true) needs.now }
     requires out { command.now.out ≡ Some (out_of folder.now key.now) }
     requires sorted { are_sorted command.now.pairs ≡ true }
-    ensures ok { (read : Reading) → IsReading read → IsTrue P.tells → IfOk result (λ kept. kept ≡ kept_of folder.now key.now command.now (map (input_in command.now.target (P.world place.old)) names.now) number (numbered (record_at read folder.now (P.world place.old).files) needs.now) ended.now) }
+    ensures ok { (read : Reading) → IsTrue P.tells → HoldsNumbers (record_at read folder.now (P.world place.old).files) numbers.now → IfOk result (λ kept. kept ≡ kept_of folder.now key.now command.now (map (input_in command.now.target (P.world place.old)) names.now) number (numbered (record_at read folder.now (P.world place.old).files) needs.now) ended.now) }
     ensures same { IsTrue P.tells → P.world place.new ≡ P.world place.old }
     ensures most { P.most place.new ≡ P.most place.old }
     ensures still { IsTrue P.tells → KeepsStill (P.still place.old) (P.still place.new) }
     ensures takes { Takes MayLook result (P.counts place.old) (P.counts place.new) }
-    ensures looks { IsTrue P.tells → Looks result (needs_looked folder.now needs.now ++ names_looked command.now.target (P.world place.old) names.now) (P.counts place.old) (P.counts place.new) }
+    ensures looks { IsTrue P.tells → Looks result (names_looked command.now.target (P.world place.old) names.now) (P.counts place.old) (P.counts place.new) }
 {
     // Read before the write, so that the record says what stands now.
-    let numbers = numbered(alloc, place, folder, needs)?;
     let inputs = present(alloc, place, &command.target, names)?;
+    let numbers = match numbered(alloc, numbers, needs) {
+        Ok(numbers) => numbers,
+        Err(_) => return Err(StoreFault::OutOfMemory),
+    };
     match kept_of(alloc, folder, key, command, inputs, number, numbers, ended) {
         Ok(kept) => Ok(kept),
         Err(_) => Err(StoreFault::OutOfMemory),
@@ -280,13 +196,12 @@ fn kept_now<P: Place>(
 impl Store {
     /// Keeps the record of a unit whose answer is good, with the number that `drop_record` gave. The command writes
     /// into the unit's folder, its variables sorted by name, each once. `needs` are the keys of the units that the unit
-    /// needs, in plan order; `names` are the inputs found in its answer, whose present values are read and kept. After
-    /// a fault no record stands, the one that stood, or the new one.
+    /// needs, in plan order, whose numbers are held; `names` are the inputs found in its answer, whose present values are
+    /// read and kept. After a fault no record stands, the one that stood, or the new one.
     ///
-    /// Faults: Place, where the record of a needed unit or an input cannot be read, or the record cannot be written;
-    /// OutOfMemory.
+    /// Faults: Place, where an input cannot be read, or the record cannot be written; OutOfMemory.
     pub fn keep<P: Place>(
-        &self,
+        &mut self,
         alloc: Global,
         place: &mut P,
         key: &Text,
@@ -297,26 +212,29 @@ impl Store {
         ended: &Ended,
     ) -> Result<(), StoreFault>
         requires key { is_key key.now ≡ true }
-        requires keys { All (λ need. is_key need ≡ true) needs.now }
-        requires out { command.now.out ≡ Some (out_of self.now.folder key.now) }
+        requires out { command.now.out ≡ Some (out_of self.old.folder key.now) }
         requires sorted { are_sorted command.now.pairs ≡ true }
-        ensures sound { (read : Reading) (judge : Judge) → IsReading read → IsTrue P.tells → IsKept read judge P.child self.now.folder key.now command.now needs.now names.now ended.now number (P.world place.old) → Sound read judge P.child self.now.folder (P.world place.old).files → Sound read judge P.child self.now.folder (P.world place.new).files }
-        ensures stands { (read : Reading) → IsReading read → IsTrue P.tells → OnOk result (record_at read self.now.folder (P.world place.new).files key.now ≡ Some (kept_of self.now.folder key.now command.now (map (input_in command.now.target (P.world place.old)) names.now) number (numbered (record_at read self.now.folder (P.world place.old).files) needs.now) ended.now)) }
-        ensures left { (read : Reading) → IsReading read → IsTrue P.tells → Leaves (Some (kept_of self.now.folder key.now command.now (map (input_in command.now.target (P.world place.old)) names.now) number (numbered (record_at read self.now.folder (P.world place.old).files) needs.now) ended.now)) (record_at read self.now.folder (P.world place.old).files key.now) (record_at read self.now.folder (P.world place.new).files key.now) }
-        ensures ahead { (read : Reading) → IsReading read → IsTrue P.tells → IsBefore self.now.next number → HasNeeds (record_at read self.now.folder (P.world place.old).files) self.now.folder command.now.reads needs.now number → IsAhead (record_at read self.now.folder (P.world place.old).files) self.now.next → IsAhead (record_at read self.now.folder (P.world place.new).files) self.now.next }
-        ensures only { IsTrue P.tells → ChangesOnly (is_at_or_below (place_of self.now.folder key.now)) (P.world place.old) (P.world place.new) }
+        ensures sound { (read : Reading) (judge : Judge) → IsReading read → IsTrue P.tells → HoldsNumbers (record_at read self.old.folder (P.world place.old).files) self.old.numbers → IsKept read judge P.child self.old.folder key.now command.now needs.now names.now ended.now number (P.world place.old) → Sound read judge P.child self.old.folder (P.world place.old).files → Sound read judge P.child self.old.folder (P.world place.new).files }
+        ensures stands { (read : Reading) → IsReading read → IsTrue P.tells → HoldsNumbers (record_at read self.old.folder (P.world place.old).files) self.old.numbers → OnOk result (record_at read self.old.folder (P.world place.new).files key.now ≡ Some (kept_of self.old.folder key.now command.now (map (input_in command.now.target (P.world place.old)) names.now) number (numbered (record_at read self.old.folder (P.world place.old).files) needs.now) ended.now)) }
+        ensures left { (read : Reading) → IsReading read → IsTrue P.tells → HoldsNumbers (record_at read self.old.folder (P.world place.old).files) self.old.numbers → Leaves (Some (kept_of self.old.folder key.now command.now (map (input_in command.now.target (P.world place.old)) names.now) number (numbered (record_at read self.old.folder (P.world place.old).files) needs.now) ended.now)) (record_at read self.old.folder (P.world place.old).files key.now) (record_at read self.old.folder (P.world place.new).files key.now) }
+        ensures ahead { (read : Reading) → IsReading read → IsTrue P.tells → HoldsNumbers (record_at read self.old.folder (P.world place.old).files) self.old.numbers → IsBefore self.old.next number → HasNeeds (record_at read self.old.folder (P.world place.old).files) self.old.folder command.now.reads needs.now number → IsAhead (record_at read self.old.folder (P.world place.old).files) self.old.next → IsAhead (record_at read self.old.folder (P.world place.new).files) self.old.next }
+        ensures numbers { (read : Reading) → IsReading read → IsTrue P.tells → HoldsNumbers (record_at read self.old.folder (P.world place.old).files) self.old.numbers → OnOk result (HoldsNumbers (record_at read self.old.folder (P.world place.new).files) self.new.numbers) }
+        ensures folder { self.new.folder ≡ self.old.folder }
+        ensures next { self.new.next ≡ self.old.next }
+        ensures only { IsTrue P.tells → ChangesOnly (is_at_or_below (place_of self.old.folder key.now)) (P.world place.old) (P.world place.new) }
         ensures most { P.most place.new ≡ P.most place.old }
-        ensures still { IsTrue P.tells → KeepsStillOutside (is_at_or_below (place_of self.now.folder key.now)) (P.counts place.old).starts.flying (P.still place.old) (P.still place.new) }
+        ensures still { IsTrue P.tells → KeepsStillOutside (is_at_or_below (place_of self.old.folder key.now)) (P.counts place.old).starts.flying (P.still place.old) (P.still place.new) }
         ensures takes { Takes MayKeep result (P.counts place.old) (P.counts place.new) }
         ensures before { IsTrue P.tells → IfErr result (λ e. looked e ≡ true → P.world place.new ≡ P.world place.old) }
-        ensures written { IfErr result (λ e. e ≡ store_fault.Place place_fault.Write → (P.counts place.new).named ≡ place_of self.now.folder key.now) }
-        ensures calls { IsTrue P.tells → Looks result (kept_called self.now.folder key.now command.now.target (P.world place.old) needs.now names.now) (P.counts place.old) (P.counts place.new) }
+        ensures written { IfErr result (λ e. e ≡ store_fault.Place place_fault.Write → (P.counts place.new).named ≡ place_of self.old.folder key.now) }
+        ensures calls { IsTrue P.tells → Looks result (kept_called self.old.folder key.now command.now.target (P.world place.old) names.now) (P.counts place.old) (P.counts place.new) }
     {
         let _ = self.folder.as_str();
         let kept = match kept_now(
             alloc,
             place,
             &self.folder,
+            &self.numbers,
             key,
             number,
             command,
@@ -327,6 +245,14 @@ impl Store {
             Ok(kept) => kept,
             Err(fault) => return Err(fault),
         };
+        // Noted before the write: after it nothing else is called.
+        match note(alloc, &mut self.numbers, key, Some(number)) {
+            Ok(()) => {}
+            Err(fault) => {
+                drop(kept);
+                return Err(fault);
+            }
+        }
         match put_record(alloc, place, &self.folder, key, &kept) {
             Ok(()) => {
                 drop(kept);

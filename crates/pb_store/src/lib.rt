@@ -13,6 +13,7 @@ mod keeping;
 mod keys;
 mod laws;
 mod migrating;
+mod numbers;
 mod opening;
 pub mod replaying;
 mod store;

@@ -1,6 +1,6 @@
 //! A record of format 1 that becomes one of format 2.
 
-ghost use Rattle.std.specs.Prelude.{is_some, false, ◌≡◌, ◌⊎◌, ◌∷◌, [], ℕ, true, IsTrue, IfErr, OnOk, Some, None, Err, All};
+ghost use Rattle.std.specs.Prelude.{is_some, false, ◌≡◌, ◌⊎◌, ◌∷◌, [], ℕ, true, IsTrue, IfErr, OnOk, Some, None, Err};
 ghost use Rattle.pb_place.specs.CallsInTurn.{past_calls};
 ghost use Rattle.pb_place.specs.declared.place.PlaceFault.TheVariants as place_fault;
 ghost use Rattle.pb_place.specs.Paths.{is_at_or_below};
@@ -15,14 +15,17 @@ ghost use Rattle.pb_soundness.specs.Records.{Reading, is_key, place_of, record_a
 ghost use Rattle.pb_soundness.specs.Sound.{Sound};
 ghost use Rattle.pb_store.specs.Calls.{looked};
 ghost use Rattle.pb_store.specs.Causes.{Takes, MayMigrate};
+ghost use Rattle.pb_store.specs.Held.{HoldsNumbers};
 ghost use Rattle.pb_store.specs.Keeping.{Leaves, numbered};
-ghost use Rattle.pb_store.specs.Looking.{Looks, migrated_called, renumbered_called};
+ghost use Rattle.pb_store.specs.Looking.{Looks, migrated_called};
+ghost use Rattle.pb_store.specs.Presence.{numbered_by};
 ghost use Rattle.pb_store.specs.declared.fault.StoreFault.TheVariants as store_fault;
 ghost use Rattle.pb_store.specs.Migrating.{IsMigrated, TakesNumber, lacks_number, migrated, numbered_record};
 
 use crate::dropping::number_after;
 use crate::fault::StoreFault;
-use crate::keeping::{number_of, numbered, put_record};
+use crate::numbers::{note, numbered};
+use crate::keeping::{number_of, put_record};
 use crate::store::{Store, record_at};
 use pb_data::{Items, Text};
 use pb_place::Place;
@@ -54,22 +57,22 @@ impl Store {
         kept: Record,
     ) -> Result<(), StoreFault>
         requires key { is_key key.now ≡ true }
-        requires keys { All (λ need. is_key need ≡ true) needs.now }
-        ensures sound { (read : Reading) (judge : Judge) (c : Command) → IsReading read → IsTrue P.tells → ((number : ℕ) → self.old.next ≡ Some number → IsMigrated read judge P.child self.old.folder key.now c needs.now number (P.world place.old) kept) → Sound read judge P.child self.old.folder (P.world place.old).files → Sound read judge P.child self.old.folder (P.world place.new).files }
-        ensures ahead { (read : Reading) (judge : Judge) (c : Command) → IsReading read → IsTrue P.tells → ((number : ℕ) → self.old.next ≡ Some number → IsMigrated read judge P.child self.old.folder key.now c needs.now number (P.world place.old) kept) → IsAhead (record_at read self.old.folder (P.world place.old).files) self.old.next → IsAhead (record_at read self.old.folder (P.world place.new).files) self.new.next }
+        ensures sound { (read : Reading) (judge : Judge) (c : Command) → IsReading read → IsTrue P.tells → HoldsNumbers (record_at read self.old.folder (P.world place.old).files) self.old.numbers → ((number : ℕ) → self.old.next ≡ Some number → IsMigrated read judge P.child self.old.folder key.now c needs.now number (P.world place.old) kept) → Sound read judge P.child self.old.folder (P.world place.old).files → Sound read judge P.child self.old.folder (P.world place.new).files }
+        ensures ahead { (read : Reading) (judge : Judge) (c : Command) → IsReading read → IsTrue P.tells → HoldsNumbers (record_at read self.old.folder (P.world place.old).files) self.old.numbers → ((number : ℕ) → self.old.next ≡ Some number → IsMigrated read judge P.child self.old.folder key.now c needs.now number (P.world place.old) kept) → IsAhead (record_at read self.old.folder (P.world place.old).files) self.old.next → IsAhead (record_at read self.old.folder (P.world place.new).files) self.new.next }
         ensures next { TakesNumber self.old.next self.new.next }
         ensures folder { self.new.folder ≡ self.old.folder }
         ensures spent { self.old.next ≡ None → (result ≡ Err store_fault.NumbersSpent) × (IsTrue P.tells → P.world place.new ≡ P.world place.old) }
-        ensures stands { (read : Reading) → IsReading read → IsTrue P.tells → kept.key ≡ key.now → OnOk result ((number : ℕ) × (self.old.next ≡ Some number) × (record_at read self.old.folder (P.world place.new).files key.now ≡ Some (numbered_record kept number (numbered (record_at read self.old.folder (P.world place.old).files) needs.now)))) }
+        ensures stands { (read : Reading) → IsReading read → IsTrue P.tells → kept.key ≡ key.now → OnOk result ((number : ℕ) × (self.old.next ≡ Some number) × (record_at read self.old.folder (P.world place.new).files key.now ≡ Some (numbered_record kept number (numbered_by self.old.numbers needs.now)))) }
         ensures left { (read : Reading) → IsReading read → IsTrue P.tells → kept.key ≡ key.now → (record_at read self.old.folder (P.world place.new).files key.now ≡ None) ⊎ ((record_at read self.old.folder (P.world place.new).files key.now ≡ record_at read self.old.folder (P.world place.old).files key.now)
-            ⊎ ((number : ℕ) × (self.old.next ≡ Some number) × (record_at read self.old.folder (P.world place.new).files key.now ≡ Some (numbered_record kept number (numbered (record_at read self.old.folder (P.world place.old).files) needs.now))))) }
+            ⊎ ((number : ℕ) × (self.old.next ≡ Some number) × (record_at read self.old.folder (P.world place.new).files key.now ≡ Some (numbered_record kept number (numbered_by self.old.numbers needs.now))))) }
+        ensures numbers { (read : Reading) → IsReading read → IsTrue P.tells → HoldsNumbers (record_at read self.old.folder (P.world place.old).files) self.old.numbers → kept.key ≡ key.now → OnOk result (HoldsNumbers (record_at read self.old.folder (P.world place.new).files) self.new.numbers) }
         ensures only { IsTrue P.tells → ChangesOnly (is_at_or_below (place_of self.old.folder key.now)) (P.world place.old) (P.world place.new) }
         ensures most { P.most place.new ≡ P.most place.old }
         ensures still { IsTrue P.tells → KeepsStillOutside (is_at_or_below (place_of self.old.folder key.now)) (P.counts place.old).starts.flying (P.still place.old) (P.still place.new) }
         ensures takes { Takes (MayMigrate self.old.next) result (P.counts place.old) (P.counts place.new) }
         ensures before { IfErr result (λ e. looked e ≡ true → (self.new.next ≡ self.old.next) × (IsTrue P.tells → P.world place.new ≡ P.world place.old)) }
         ensures written { IfErr result (λ e. e ≡ store_fault.Place place_fault.Write → (P.counts place.new).named ≡ place_of self.old.folder key.now) }
-        ensures calls { ((result ≡ Err store_fault.NumbersSpent) × (P.counts place.new ≡ P.counts place.old)) ⊎ Looks result (renumbered_called self.old.folder key.now needs.now) (P.counts place.old) (P.counts place.new) }
+        ensures calls { ((result ≡ Err store_fault.NumbersSpent) × (P.counts place.new ≡ P.counts place.old)) ⊎ Looks result (place_of self.old.folder key.now ∷ []) (P.counts place.old) (P.counts place.new) }
     {
         let _ = self.folder.as_str();
         let number = match self.next {
@@ -79,14 +82,21 @@ impl Store {
             }
             Some(number) => number,
         };
-        let numbers = match numbered(alloc, place, &self.folder, needs) {
+        let numbers = match numbered(alloc, &self.numbers, needs) {
             Ok(numbers) => numbers,
+            Err(_) => {
+                drop(kept);
+                return Err(StoreFault::OutOfMemory);
+            }
+        };
+        let kept = numbered_record(kept, number, numbers);
+        match note(alloc, &mut self.numbers, key, Some(number)) {
+            Ok(()) => {}
             Err(fault) => {
                 drop(kept);
                 return Err(fault);
             }
-        };
-        let kept = numbered_record(kept, number, numbers);
+        }
         // Before the write: a torn one may have used the number.
         self.next = number_after(number);
         match put_record(alloc, place, &self.folder, key, &kept) {
@@ -101,12 +111,12 @@ impl Store {
         }
     }
 
-    /// Gives a unit's record of format 1 a run number, names the needed units with their numbers, and writes it in its
-    /// place as format 2. Where the record is of format 2, or none counts, nothing is changed. `needs` are the keys of
+    /// Gives a unit's record of format 1 a run number, names the needed units with their numbers, which are held, and
+    /// writes it in its place as format 2. Where the record is of format 2, or none counts, nothing is changed. `needs` are the keys of
     /// the units that the unit needs, in plan order. After a fault the old record stands, none, or the new one.
     ///
     /// Faults: NumbersSpent, only where the record is of format 1 and no number is left: nothing was changed then;
-    /// Place, where a record cannot be read or written; OutOfMemory.
+    /// Place, where the record cannot be read or written; OutOfMemory.
     pub fn migrate<P: Place>(
         &mut self,
         alloc: Global,
@@ -115,18 +125,18 @@ impl Store {
         needs: &[Text],
     ) -> Result<(), StoreFault>
         requires key { is_key key.now ≡ true }
-        requires keys { All (λ need. is_key need ≡ true) needs.now }
-        ensures sound { (read : Reading) (judge : Judge) (c : Command) (r : Record) → IsReading read → IsTrue P.tells → ((number : ℕ) → self.old.next ≡ Some number → IsMigrated read judge P.child self.old.folder key.now c needs.now number (P.world place.old) r) → Sound read judge P.child self.old.folder (P.world place.old).files → Sound read judge P.child self.old.folder (P.world place.new).files }
-        ensures ahead { (read : Reading) (judge : Judge) (c : Command) (r : Record) → IsReading read → IsTrue P.tells → ((number : ℕ) → self.old.next ≡ Some number → IsMigrated read judge P.child self.old.folder key.now c needs.now number (P.world place.old) r) → IsAhead (record_at read self.old.folder (P.world place.old).files) self.old.next → IsAhead (record_at read self.old.folder (P.world place.new).files) self.new.next }
+        ensures sound { (read : Reading) (judge : Judge) (c : Command) (r : Record) → IsReading read → IsTrue P.tells → HoldsNumbers (record_at read self.old.folder (P.world place.old).files) self.old.numbers → ((number : ℕ) → self.old.next ≡ Some number → IsMigrated read judge P.child self.old.folder key.now c needs.now number (P.world place.old) r) → Sound read judge P.child self.old.folder (P.world place.old).files → Sound read judge P.child self.old.folder (P.world place.new).files }
+        ensures ahead { (read : Reading) (judge : Judge) (c : Command) (r : Record) → IsReading read → IsTrue P.tells → HoldsNumbers (record_at read self.old.folder (P.world place.old).files) self.old.numbers → ((number : ℕ) → self.old.next ≡ Some number → IsMigrated read judge P.child self.old.folder key.now c needs.now number (P.world place.old) r) → IsAhead (record_at read self.old.folder (P.world place.old).files) self.old.next → IsAhead (record_at read self.old.folder (P.world place.new).files) self.new.next }
         ensures next { TakesNumber self.old.next self.new.next }
         ensures folder { self.new.folder ≡ self.old.folder }
         ensures spent { self.old.next ≡ None → IsTrue P.tells → P.world place.new ≡ P.world place.old }
         ensures cause { (read : Reading) → IsReading read → IsTrue P.tells → result ≡ Err store_fault.NumbersSpent → lacks_number (record_at read self.old.folder (P.world place.old).files key.now) ≡ true }
         ensures same { (read : Reading) → IsReading read → IsTrue P.tells → lacks_number (record_at read self.old.folder (P.world place.old).files key.now) ≡ false → P.world place.new ≡ P.world place.old }
         ensures unused { (read : Reading) → IsReading read → IsTrue P.tells → lacks_number (record_at read self.old.folder (P.world place.old).files key.now) ≡ false → self.new.next ≡ self.old.next }
-        ensures stands { (read : Reading) → IsReading read → IsTrue P.tells → OnOk result (record_at read self.old.folder (P.world place.new).files key.now ≡ migrated self.old.next (numbered (record_at read self.old.folder (P.world place.old).files) needs.now) (record_at read self.old.folder (P.world place.old).files key.now)) }
-        ensures left { (read : Reading) → IsReading read → IsTrue P.tells → Leaves (migrated self.old.next (numbered (record_at read self.old.folder (P.world place.old).files) needs.now) (record_at read self.old.folder (P.world place.old).files key.now)) (record_at read self.old.folder (P.world place.old).files key.now) (record_at read self.old.folder (P.world place.new).files key.now) }
+        ensures stands { (read : Reading) → IsReading read → IsTrue P.tells → HoldsNumbers (record_at read self.old.folder (P.world place.old).files) self.old.numbers → OnOk result (record_at read self.old.folder (P.world place.new).files key.now ≡ migrated self.old.next (numbered (record_at read self.old.folder (P.world place.old).files) needs.now) (record_at read self.old.folder (P.world place.old).files key.now)) }
+        ensures left { (read : Reading) → IsReading read → IsTrue P.tells → HoldsNumbers (record_at read self.old.folder (P.world place.old).files) self.old.numbers → Leaves (migrated self.old.next (numbered (record_at read self.old.folder (P.world place.old).files) needs.now) (record_at read self.old.folder (P.world place.old).files key.now)) (record_at read self.old.folder (P.world place.old).files key.now) (record_at read self.old.folder (P.world place.new).files key.now) }
         ensures numbered { (read : Reading) (r : Record) → IsReading read → IsTrue P.tells → OnOk result (record_at read self.old.folder (P.world place.new).files key.now ≡ Some r → is_some (number_of r) ≡ true) }
+        ensures numbers { (read : Reading) → IsReading read → IsTrue P.tells → HoldsNumbers (record_at read self.old.folder (P.world place.old).files) self.old.numbers → OnOk result (HoldsNumbers (record_at read self.old.folder (P.world place.new).files) self.new.numbers) }
         ensures only { IsTrue P.tells → ChangesOnly (is_at_or_below (place_of self.old.folder key.now)) (P.world place.old) (P.world place.new) }
         ensures most { P.most place.new ≡ P.most place.old }
         ensures still { IsTrue P.tells → KeepsStillOutside (is_at_or_below (place_of self.old.folder key.now)) (P.counts place.old).starts.flying (P.still place.old) (P.still place.new) }
@@ -134,7 +144,7 @@ impl Store {
         ensures before { IfErr result (λ e. looked e ≡ true → (self.new.next ≡ self.old.next) × (IsTrue P.tells → P.world place.new ≡ P.world place.old)) }
         ensures written { IfErr result (λ e. e ≡ store_fault.Place place_fault.Write → (P.counts place.new).named ≡ place_of self.old.folder key.now) }
         ensures calls { (read : Reading) → IsReading read → IsTrue P.tells → ((result ≡ Err store_fault.NumbersSpent) × (P.counts place.new ≡ past_calls (place_of self.old.folder key.now ∷ []) (P.counts place.old)))
-            ⊎ Looks result (migrated_called self.old.folder key.now needs.now (record_at read self.old.folder (P.world place.old).files key.now)) (P.counts place.old) (P.counts place.new) }
+            ⊎ Looks result (migrated_called self.old.folder key.now (record_at read self.old.folder (P.world place.old).files key.now)) (P.counts place.old) (P.counts place.new) }
     {
         let found = record_at(alloc, place, &self.folder, key)?;
         let kept = match found {

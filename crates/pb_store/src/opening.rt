@@ -1,6 +1,6 @@
 //! A store is opened: what the records of a folder name says which run number is the next.
 
-ghost use Rattle.std.specs.Prelude.{◌≡◌, ◌∷◌, [], if◌then◌else◌, max, IsTrue, IfErr, IfOk};
+ghost use Rattle.std.specs.Prelude.{◌≡◌, ◌∷◌, [], if◌then◌else◌, max, IsTrue, IfErr, IfOk, OnOk};
 ghost use Rattle.std.specs.List.{filter, fold};
 ghost use Rattle.std.specs.FinMap as map;
 ghost use Rattle.pb_soundness.specs.Apart.{KeepsStill};
@@ -8,15 +8,18 @@ ghost use Rattle.pb_soundness.specs.Numbers.{IsAhead};
 ghost use Rattle.pb_soundness.specs.Records.{Reading, ends_as_record, read_text, record_at};
 ghost use Rattle.pb_store.specs.Calls.{OpensBy, ReadsAt, ReadsOneOf, ReadsRecord};
 ghost use Rattle.pb_store.specs.Causes.{TakesOpen};
+ghost use Rattle.pb_store.specs.Held.{HoldsNumbers};
 ghost use Rattle.pb_store.specs.Looking.{OpensLooking, opened_looked};
 ghost use Rattle.pb_store.specs.Opening.{greatest_named, greatest_if, greatest_at, greatest_of, next_in};
+ghost use Rattle.pb_store.specs.Presence.{noted, noted_at};
 ghost use Rattle.pb_record.specs.Parts.{IsReading};
 
 use crate::dropping::number_after;
 use crate::fault::{OpenFault, opened};
+use crate::numbers::note_read;
 use crate::keys::ends_as_record;
 use crate::store::{Store, read_text};
-use pb_data::{Items, Text};
+use pb_data::{Items, Table, Text};
 use pb_place::{PathText, Place};
 use pb_record::{Needed, Record};
 use std::alloc::Global;
@@ -63,9 +66,16 @@ fn greatest_if(found: &Option<Record>) -> u64
     }
 }
 
-/// The greatest number that the record at a path has or names.
+/// The greatest number that the record at a path has or names. Where it counts there, its number is noted.
 #[tactic(auto, using(crate::proofs::Still::stands_same))]
-fn read_greatest<P: Place>(alloc: Global, place: &mut P, path: PathText) -> Result<u64, OpenFault>
+fn read_greatest<P: Place>(
+    alloc: Global,
+    place: &mut P,
+    folder: &PathText,
+    numbers: &mut Table<Option<u64>>,
+    path: PathText,
+) -> Result<u64, OpenFault>
+    ensures held { (read : Reading) → IsReading read → IsTrue P.tells → OnOk result (numbers.new ≡ noted folder.now path (read_text read (map.get (P.world place.old).files path)) numbers.old) }
     ensures ok { (read : Reading) → IsReading read → IsTrue P.tells → IfOk result (λ n. n ≡ greatest_if (read_text read (map.get (P.world place.old).files path))) }
     ensures same { IsTrue P.tells → P.world place.new ≡ P.world place.old }
     ensures most { P.most place.new ≡ P.most place.old }
@@ -78,18 +88,33 @@ fn read_greatest<P: Place>(alloc: Global, place: &mut P, path: PathText) -> Resu
         Ok(text) => text,
         Err(fault) => return Err(opened(path, fault)),
     };
-    match read_text(alloc, &text) {
-        Ok(found) => {
-            let greatest = greatest_if(&found);
+    let found = match read_text(alloc, &text) {
+        Ok(found) => found,
+        Err(_) => return Err(OpenFault::OutOfMemory),
+    };
+    let greatest = greatest_if(&found);
+    match note_read(alloc, numbers, folder, &path, &found) {
+        Ok(()) => {
             drop(found);
             Ok(greatest)
         }
-        Err(_) => Err(OpenFault::OutOfMemory),
+        Err(_) => {
+            drop(found);
+            Err(OpenFault::OutOfMemory)
+        }
     }
 }
 
-/// The greatest number that a file gives: where it has a record's name, the greatest that the record has or names.
-fn greatest_at<P: Place>(alloc: Global, place: &mut P, path: PathText) -> Result<u64, OpenFault>
+/// The greatest number that a file gives: where it has a record's name, the greatest that the record has or names. Where
+/// the record counts there, its number is noted.
+fn greatest_at<P: Place>(
+    alloc: Global,
+    place: &mut P,
+    folder: &PathText,
+    numbers: &mut Table<Option<u64>>,
+    path: PathText,
+) -> Result<u64, OpenFault>
+    ensures held { (read : Reading) → IsReading read → IsTrue P.tells → OnOk result (numbers.new ≡ noted_at read folder.now (P.world place.old).files numbers.old path) }
     ensures ok { (read : Reading) → IsReading read → IsTrue P.tells → IfOk result (λ n. n ≡ greatest_at read (P.world place.old).files path) }
     ensures same { IsTrue P.tells → P.world place.new ≡ P.world place.old }
     ensures most { P.most place.new ≡ P.most place.old }
@@ -101,15 +126,18 @@ fn greatest_at<P: Place>(alloc: Global, place: &mut P, path: PathText) -> Result
     if !ends_as_record(path.as_str().as_bytes()) {
         return Ok(0);
     }
-    read_greatest(alloc, place, path)
+    read_greatest(alloc, place, folder, numbers, path)
 }
 
-/// The greatest number that the records among these files have or name.
+/// The greatest number that the records among these files have or name. The numbers of those that count are noted.
 fn greatest_of<P: Place>(
     alloc: Global,
     place: &mut P,
+    folder: &PathText,
+    numbers: &mut Table<Option<u64>>,
     paths: Items<PathText>,
 ) -> Result<u64, OpenFault>
+    ensures held { (read : Reading) → IsReading read → IsTrue P.tells → OnOk result (numbers.new ≡ fold (noted_at read folder.now (P.world place.old).files) numbers.old paths) }
     ensures ok { (read : Reading) → IsReading read → IsTrue P.tells → IfOk result (λ n. n ≡ greatest_of read (P.world place.old).files paths) }
     ensures same { IsTrue P.tells → P.world place.new ≡ P.world place.old }
     ensures most { P.most place.new ≡ P.most place.old }
@@ -121,7 +149,7 @@ fn greatest_of<P: Place>(
     let mut greatest = 0;
     for path in paths.into_vec() {
         // Every record, also one in another key's place, may name the greatest number.
-        let number = greatest_at(alloc, place, path)?;
+        let number = greatest_at(alloc, place, folder, numbers, path)?;
         greatest = greater(greatest, number);
     }
     Ok(greatest)
@@ -143,6 +171,7 @@ impl Store {
         ensures folder { IfOk result (λ store. store.folder ≡ folder) }
         ensures next { (read : Reading) → IsReading read → IsTrue P.tells → IfOk result (λ store. store.next ≡ next_in read folder (P.world place.old)) }
         ensures ahead { (read : Reading) → IsReading read → IsTrue P.tells → IfOk result (λ store. IsAhead (record_at read folder (P.world place.old).files) store.next) }
+        ensures numbers { (read : Reading) → IsReading read → IsTrue P.tells → IfOk result (λ store. HoldsNumbers (record_at read folder (P.world place.old).files) store.numbers) }
         ensures same { IsTrue P.tells → P.world place.new ≡ P.world place.old }
         ensures most { P.most place.new ≡ P.most place.old }
         ensures still { IsTrue P.tells → KeepsStill (P.still place.old) (P.still place.new) }
@@ -154,12 +183,17 @@ impl Store {
             Ok(paths) => paths,
             Err(fault) => return Err(opened(folder, fault)),
         };
-        match greatest_of(alloc, place, paths) {
+        let mut numbers = Table::new(alloc);
+        match greatest_of(alloc, place, &folder, &mut numbers, paths) {
             Ok(greatest) => Ok(Store {
                 folder,
                 next: number_after(greatest),
+                numbers,
             }),
-            Err(fault) => Err(fault),
+            Err(fault) => {
+                drop((folder, numbers));
+                Err(fault)
+            }
         }
     }
 }

@@ -10,12 +10,12 @@ ghost use Rattle.pb_store.specs.Looking.{Looks};
 ghost use Rattle.pb_record.specs.Parts.{IsReading};
 
 use crate::fault::{StoreFault, stored};
-use pb_data::{Bytes, Text};
+use pb_data::{Bytes, Table, Text};
 use pb_place::{PathText, Place, RelativePath};
 use pb_record::{Record, read_record};
 use std::alloc::{AllocError, Global};
 
-/// The records of a profile folder, and the run numbers that are left. It holds no record.
+/// The records of a profile folder: their run numbers, and those that are left. It holds no record.
 #[derive(Debug, Drop)]
 pub struct Store {
     /// The profile folder.
@@ -23,6 +23,9 @@ pub struct Store {
     /// The next run number: above each that a record of the folder names and each that was given since the store was
     /// opened. None where no number is left.
     pub next: Option<u64>,
+    /// The run numbers of the records that count in the folder, by the units' keys; none of a unit whose record has none,
+    /// or was dropped. What a call that failed leaves here is said by nothing.
+    pub numbers: Table<Option<u64>>,
 }
 
 /// The path of a unit's record.

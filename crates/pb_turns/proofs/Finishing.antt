@@ -28,10 +28,11 @@ use Rattle.pb_project.specs.declared.project.Project.{Project}
 use Rattle.pb_project.specs.declared.project.Setup.{Setup}
 use Rattle.pb_record.specs.Parts.{IsReading}
 use Rattle.pb_run.specs.Halves.{Footing, Basis, basis, Keeps, outcomes_in}
-use Rattle.pb_run.specs.Standing.{IsInOrder}
+use Rattle.pb_run.specs.Standing.{IsInOrder, records_folder}
 use Rattle.pb_run.specs.Telling.{unit_lines}
 use Rattle.pb_run.proofs.Shown.{each_of}
-use Rattle.pb_soundness.specs.Records.{Reading}
+use Rattle.pb_soundness.specs.Records.{Reading, record_at}
+use Rattle.pb_store.specs.Held.{HoldsNumbers}
 use Rattle.pb_turns.specs.Calling.{CallsCut, CallsOver}
 use Rattle.pb_turns.specs.Crew.{needs_of, launched_of, ticket_of_child}
 use Rattle.pb_turns.specs.Ends.{rows_in, nothing_said, Stands, StandsWhole, StandsCut, EndsWhole, EndsCut, Grounding, Dropped, Drained}
@@ -84,8 +85,9 @@ no_answer answer e = cc
 none_begun : (project : Project) (place : ℕ) → HasBegun (untouched project) place → ⊥
 none_begun project place (s, at, begun) = false≢true (sym begun ∙ ap is_untouched (untouched_at (needs_of project) place s at))
 
-pub story_first : (tells : Bool) (child : Answers) (c : UnitCrew) (at : Moment) (still : ℕ → Type 0) → c.aloft.items ≡ [] → c.started.items ≡ [] → Story tells child c at c at still [] 0
-story_first tells child c at still aloft started = record {
+pub story_first : (tells : Bool) (child : Answers) (c : UnitCrew) (at : Moment) (still : ℕ → Type 0) → c.aloft.items ≡ [] → c.started.items ≡ []
+    → (IsTrue tells → (read : Reading) → IsReading read → HoldsNumbers (record_at read (records_folder c.project) at.world.files) c.store.numbers) → Story tells child c at c at still [] 0
+story_first tells child c at still aloft started holds = record {
   setup = refl;
   project = refl;
   goes = record {
@@ -109,6 +111,7 @@ story_first tells child c at still aloft started = record {
     λ place has. absurd (none_begun c.project place has),
   );
   unrecorded = λ t. none_in_flight c.project at.world;
+  held = holds;
   quiet = λ t f r s reading keeps none numbered. refl;
   calls = λ t f r s reading keeps. (refl, refl);
   unnoted = λ place at. refl;

@@ -31,6 +31,7 @@ use Rattle.pb_soundness.specs.Apart.{is_of}
 use Rattle.pb_soundness.specs.Numbers.{after}
 use Rattle.pb_soundness.specs.Records.{Reading, place_of, record_at}
 use Rattle.pb_store.specs.Differences.{FirstDifference}
+use Rattle.pb_store.specs.Held.{HoldsNumbers}
 use Rattle.pb_store.specs.Migrating.{TakesNumber, lacks_number}
 use Rattle.pb_store.specs.declared.difference.Difference.{Difference}
 use Rattle.pb_turns.specs.Calling.{CallsCut, CallsOver}
@@ -221,7 +222,7 @@ FromFirst child first at c Since = (footing : Footing) (read : Reading) (sources
     → Keeps (basis footing read child c.setup c.project sources) (untouched c.project) first.done.items first.store.next at.world
     → Since (basis footing read child c.setup c.project sources)
 
--- the story of a crew between two moments
+-- the story of a crew between two moments, by which its store holds the run numbers of the records of its folder
 pub record Story (tells : Bool) (child : Answers) (first : UnitCrew) (at : Moment) (c : UnitCrew) (now : Moment) (still : ℕ → Type 0) (es : List (Event BadUnit)) (given : ℕ) : Type 0 where
   pub setup : c.setup ≡ first.setup
   pub project : c.project ≡ first.project
@@ -229,6 +230,7 @@ pub record Story (tells : Bool) (child : Answers) (first : UnitCrew) (at : Momen
   pub numbers : NumbersGiven IsUntold es first.store.next c.store.next
   pub changes : IsTrue tells → Changes c.project at.world c.aloft.items es now.world now.counts.starts.flying
   pub unrecorded : IsTrue tells → KeepsNoneInFlight c.project es None now.world
+  pub held : IsTrue tells → (read : Reading) → IsReading read → HoldsNumbers (record_at read (records_folder c.project) now.world.files) c.store.numbers
   pub happened : IsTrue tells
       → FromFirst child first at c (λ b. Happened b c.done.items c.aloft.items c.store.next es now.world now.counts.starts.flying still × AllBeganFor b es c.reasons.items at.world now.world)
   pub taken : IsTrue tells → FromFirst child first at c (λ b. NumbersGiven (LacksNoNumber b at.world) es first.store.next c.store.next)

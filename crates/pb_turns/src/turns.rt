@@ -1,8 +1,11 @@
 //! The units of a project, by turns.
 
-ghost use Rattle.std.specs.Prelude.{◌≡◌, [], ℕ, List, IfOk, length, map, None};
+ghost use Rattle.std.specs.Prelude.{◌≡◌, [], ℕ, List, IfOk, IsTrue, length, map, None};
 ghost use Rattle.pb_flight.specs.Table.{fresh, first_bad};
+ghost use Rattle.pb_record.specs.Parts.{IsReading};
 ghost use Rattle.pb_run.specs.Standing.{records_folder};
+ghost use Rattle.pb_soundness.specs.Records.{Reading, record_at};
+ghost use Rattle.pb_store.specs.Held.{HoldsNumbers};
 ghost use Rattle.pb_turns.specs.Crew.{needs_of};
 ghost use Rattle.pb_turns.specs.Ends.{TurnsEnd, nothing_said};
 ghost use Rattle.pb_turns.specs.Moments.{moment};
@@ -99,6 +102,7 @@ pub fn run_turns<P: Place, O: Out, T: Turn>(
     turn: &mut T,
 ) -> Result<Summary, BuildFault>
     requires folder { store.folder ≡ records_folder project }
+    requires numbers { (read : Reading) → IsReading read → IsTrue P.tells → HoldsNumbers (record_at read (records_folder project) (P.world place.old).files) store.numbers }
     requires none { (P.counts place.old).starts.flying ≡ [] }
     ensures { TurnsEnd P.tells P.child T.turns setup project store.next turn.old turn.new result
         (moment (P.world place.old) (P.counts place.old) (P.most place.old) (O.taken out.old) (O.faults out.old)) (moment (P.world place.new) (P.counts place.new) (P.most place.new) (O.taken out.new) (O.faults out.new)) }

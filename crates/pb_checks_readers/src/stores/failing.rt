@@ -81,7 +81,7 @@ const TRIALS: &[(&str, &str, &str)] = &[
     (
         "",
         "differs",
-        "a file could not be read: same, a file could not be read: same, a file could not be read: same, a folder could not be listed: same, a file could not be read: same, a variable could not be read: same, a variable could not be read: same, a file could not be read: same, ",
+        "a file could not be read: same, a file could not be read: same, a file could not be read: same, a folder could not be listed: same, a file could not be read: same, a variable could not be read: same, a variable could not be read: same, ",
     ),
     (
         "first",
@@ -97,12 +97,12 @@ const TRIALS: &[(&str, &str, &str)] = &[
     (
         "",
         "keep",
-        "a file could not be read: same, a file could not be read: same, a file could not be read: same, a folder could not be listed: same, a file could not be read: same, a variable could not be read: same, a variable could not be read: same, a file could not be written: nothing is kept of it, ",
+        "a file could not be read: same, a file could not be read: same, a folder could not be listed: same, a file could not be read: same, a variable could not be read: same, a variable could not be read: same, a file could not be written: nothing is kept of it, ",
     ),
     (
         "first",
         "migrate",
-        "a file could not be read: same, a file could not be read: same, a file could not be written: nothing is kept of it, ",
+        "a file could not be read: same, a file could not be written: nothing is kept of it, ",
     ),
 ];
 

@@ -145,14 +145,14 @@ fn tell_drop(
 fn tell_kept(
     alloc: Global,
     place: &mut Memory<Mini>,
-    store: &Store,
+    store: &mut Store,
     number: u64,
     key: &Text,
     command: &Command,
     out: &mut Shown,
 ) -> Result<(), Fail>
     requires key { is_key key.now ≡ true }
-    requires out { command.now.out ≡ Some (out_of store.now.folder key.now) }
+    requires out { command.now.out ≡ Some (out_of store.old.folder key.now) }
     requires sorted { are_sorted command.now.pairs ≡ true }
 {
     let needs = needs(alloc)?;
@@ -176,7 +176,7 @@ fn tell_kept(
 fn tell_keep(
     alloc: Global,
     place: &mut Memory<Mini>,
-    store: &Store,
+    store: &mut Store,
     number: &str,
     out: &mut Shown,
 ) -> Result<(), Fail> {
@@ -226,7 +226,7 @@ fn copy_file(alloc: Global, place: &mut Memory<Mini>, path: &str, other: &str) -
     put_file(alloc, place, other, text.as_str())
 }
 
-/// Changes the world in words; an unknown word changes nothing.
+/// Changes the world in words; an unknown word changes nothing. Whether the word is one of a change.
 fn change(
     alloc: Global,
     place: &mut Memory<Mini>,
@@ -234,17 +234,26 @@ fn change(
     first: &str,
     second: &str,
     third: &str,
-) -> Result<(), Fail> {
+) -> Result<bool, Fail> {
     match verb {
-        "file" => put_file(alloc, place, first, second),
-        "copy" => copy_file(alloc, place, first, second),
-        "edit" => edit(alloc, place, first, second, third),
-        "gone" => take_away(alloc, place, first),
-        "first" => put_first(alloc, place),
-        "set" => Ok(place.set(alloc, first, second)?),
-        "unset" => Ok(place.unset(alloc, first)?),
-        _ => Ok(()),
+        "file" => put_file(alloc, place, first, second)?,
+        "copy" => copy_file(alloc, place, first, second)?,
+        "edit" => edit(alloc, place, first, second, third)?,
+        "gone" => take_away(alloc, place, first)?,
+        "first" => put_first(alloc, place)?,
+        "set" => place.set(alloc, first, second)?,
+        "unset" => place.unset(alloc, first)?,
+        _ => return Ok(false),
     }
+    Ok(true)
+}
+
+/// Opens the store again once the world was changed, since it holds the numbers of the records; its next number stays.
+fn open_again(alloc: Global, place: &mut Memory<Mini>, store: &mut Store) -> Result<(), Fail> {
+    let folder = PathText::parse(alloc, "/t/debug")?;
+    let opened = Store::open(alloc, place, folder)?;
+    store.numbers = opened.numbers;
+    Ok(())
 }
 
 /// Puts what a call of the store tells, in words. Whether the word is one of a call. `spent` leaves the store no number.
@@ -287,7 +296,9 @@ fn step(
     let first = words.next().unwrap_or("");
     let second = words.next().unwrap_or("");
     let third = words.next().unwrap_or("");
-    change(alloc, place, verb, first, second, third)?;
+    if change(alloc, place, verb, first, second, third)? {
+        open_again(alloc, place, store)?;
+    }
     if call(alloc, place, store, verb, (first, second), out)? {
         out.put(&[", "]);
     }

@@ -17,28 +17,28 @@ use Rattle.pb_run.proofs.Writes.{stays_apart}
 use Rattle.pb_run.proofs.halves.answer_unit.Goals as goal
 
 pub returns-in-Ok-clause-keeps : goal.returns-in-Ok-clause-keeps
-returns-in-Ok-clause-keeps g c footing read setup sources states done is told can =
-    c.in-Ok.ensures.keeps footing read setup sources states done is told (can_by_parts (basis footing read g.P.Place.child setup c.args.project.now sources) c.args.index c.args.begun c.args.store.now.next (g.P.Place.world c.args.place.now) (g.P.Place.counts c.args.place.now).starts.flying (g.P.Place.still c.args.place.now) c.args.unit.now.key (awaited.Child c.in-Child.launched) c.requires.named c.in-Child.is states done c.args.unit.now can)
+returns-in-Ok-clause-keeps g c footing read setup sources states done is told holds can =
+    c.in-Ok.ensures.keeps footing read setup sources states done is told holds (can_by_parts (basis footing read g.P.Place.child setup c.args.project.now sources) c.args.index c.args.begun c.args.store.now.next (g.P.Place.world c.args.place.now) (g.P.Place.counts c.args.place.now).starts.flying (g.P.Place.still c.args.place.now) c.args.unit.now.key (awaited.Child c.in-Child.launched) c.requires.named c.in-Child.is states done c.args.unit.now can)
 
 pub returns-in-Ok-clause-only : goal.returns-in-Ok-clause-only
 returns-in-Ok-clause-only g c told writes =
     c.in-Ok.ensures.only told (subst (λ (o : Awaited). WritesTo c.args.unit.now.out (child_in o) (g.P.Place.counts c.args.place.now).starts.flying) c.in-Child.is writes)
 
 pub returns-in-Child-clause-keeps : goal.returns-in-Child-clause-keeps
-returns-in-Child-clause-keeps g c footing read setup sources states done is told can =
-    c.in-Err.ensures.keeps footing read setup sources states done is told (can_by_parts (basis footing read g.P.Place.child setup c.args.project.now sources) c.args.index c.args.begun c.args.store.now.next (g.P.Place.world c.args.place.now) (g.P.Place.counts c.args.place.now).starts.flying (g.P.Place.still c.args.place.now) c.args.unit.now.key (awaited.Child c.in-Child.launched) c.requires.named c.in-Child.is states done c.args.unit.now can)
+returns-in-Child-clause-keeps g c footing read setup sources states done is told holds can =
+    c.in-Err.ensures.keeps footing read setup sources states done is told holds (can_by_parts (basis footing read g.P.Place.child setup c.args.project.now sources) c.args.index c.args.begun c.args.store.now.next (g.P.Place.world c.args.place.now) (g.P.Place.counts c.args.place.now).starts.flying (g.P.Place.still c.args.place.now) c.args.unit.now.key (awaited.Child c.in-Child.launched) c.requires.named c.in-Child.is states done c.args.unit.now can)
 
 pub returns-in-Child-clause-only : goal.returns-in-Child-clause-only
 returns-in-Child-clause-only g c told writes =
     c.in-Err.ensures.only told (subst (λ (o : Awaited). WritesTo c.args.unit.now.out (child_in o) (g.P.Place.counts c.args.place.now).starts.flying) c.in-Child.is writes)
 
 pub returns-in-Ok-reuse-clause-keeps : goal.returns-in-Ok-reuse-clause-keeps
-returns-in-Ok-reuse-clause-keeps g c footing read setup sources states done is told can =
-    c.in-Ok-reuse.ensures.keeps footing read setup sources states done is told (can_by_parts (basis footing read g.P.Place.child setup c.args.project.now sources) c.args.index c.args.begun c.args.store.now.next (g.P.Place.world c.args.place.now) (g.P.Place.counts c.args.place.now).starts.flying (g.P.Place.still c.args.place.now) c.args.unit.now.key (awaited.Record c.in-Record.again) c.requires.named c.in-Record.is states done c.args.unit.now can)
+returns-in-Ok-reuse-clause-keeps g c footing read setup sources states done is told holds can =
+    c.in-Ok-reuse.ensures.keeps footing read setup sources states done is told holds (can_by_parts (basis footing read g.P.Place.child setup c.args.project.now sources) c.args.index c.args.begun c.args.store.now.next (g.P.Place.world c.args.place.now) (g.P.Place.counts c.args.place.now).starts.flying (g.P.Place.still c.args.place.now) c.args.unit.now.key (awaited.Record c.in-Record.again) c.requires.named c.in-Record.is states done c.args.unit.now can)
 
 pub returns-clause-keeps : goal.returns-clause-keeps
-returns-clause-keeps g c footing read setup sources states done is told can =
-    c.in-Err-reuse.ensures.keeps footing read setup sources states done is told (can_by_parts (basis footing read g.P.Place.child setup c.args.project.now sources) c.args.index c.args.begun c.args.store.now.next (g.P.Place.world c.args.place.now) (g.P.Place.counts c.args.place.now).starts.flying (g.P.Place.still c.args.place.now) c.args.unit.now.key (awaited.Record c.in-Record.again) c.requires.named c.in-Record.is states done c.args.unit.now can)
+returns-clause-keeps g c footing read setup sources states done is told holds can =
+    c.in-Err-reuse.ensures.keeps footing read setup sources states done is told holds (can_by_parts (basis footing read g.P.Place.child setup c.args.project.now sources) c.args.index c.args.begun c.args.store.now.next (g.P.Place.world c.args.place.now) (g.P.Place.counts c.args.place.now).starts.flying (g.P.Place.still c.args.place.now) c.args.unit.now.key (awaited.Record c.in-Record.again) c.requires.named c.in-Record.is states done c.args.unit.now can)
 
 pub returns-in-Ok-clause-stay : goal.returns-in-Ok-clause-stay
 returns-in-Ok-clause-stay g c ticket its apart there =
@@ -134,3 +134,10 @@ returns-clause-lands g c told = (
       (λ (o : Awaited). CallsBehind (answered_called read c.args.project.now c.args.unit.now c.args.begun.command (g.P.Place.world c.args.place.now) o) (Ok c.in-Record.again.ended) (ended_badly c.in-Err-reuse.fault) (g.P.Place.counts c.args.place.now) (g.P.Place.counts c.reuse.new.place))
       (sym c.in-Record.is) (c.in-Err-reuse.ensures.calls read reading told),
 )
+
+pub returns-in-Ok-clause-numbers : goal.returns-in-Ok-clause-numbers
+returns-in-Ok-clause-numbers g c read is told writes holds =
+    c.in-Ok.ensures.numbers read is told (subst (λ (o : Awaited). WritesTo c.args.unit.now.out (child_in o) (g.P.Place.counts c.args.place.now).starts.flying) c.in-Child.is writes) holds
+
+pub returns-in-Ok-reuse-clause-numbers : goal.returns-in-Ok-reuse-clause-numbers
+returns-in-Ok-reuse-clause-numbers g c read is told writes holds = c.in-Ok-reuse.ensures.numbers read is told holds

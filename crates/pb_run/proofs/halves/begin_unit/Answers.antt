@@ -11,6 +11,7 @@ use Rattle.pb_run.specs.Launching.{LaunchEnds}
 use Rattle.pb_run.specs.Standing.{records_folder}
 use Rattle.pb_run.proofs.Calling.{memory_first}
 use Rattle.pb_run.proofs.Halving.{begun_none, begun_some, flies_lifted, flying_begun, keeps_launched, keeps_same, others_begun, others_same, out_asked, still_after}
+use Rattle.pb_run.proofs.Held.{held_same, held_there}
 use Rattle.pb_run.proofs.Writes.{spawned_writes}
 use Rattle.pb_run.proofs.halves.begin_unit.Goals as goal
 use Rattle.pb_soundness.specs.Apart.{is_of}
@@ -44,9 +45,9 @@ returns-in-Same-clause-others g c footing read sources states other its is told 
     others_same (basis footing read g.P.Place.child c.args.setup.now c.args.project.now sources) c.is_in_order.ensures c.args.index c.args.unit.now c.requires.unit states c.args.done.now c.args.store.now.next (g.P.Place.world c.args.place.now) can other its (g.P.Place.counts c.args.place.now).starts.flying (g.P.Place.still c.args.place.now) apart (g.P.Place.world c.compare.new.place) (g.P.Place.counts c.compare.new.place).starts.flying (g.P.Place.still c.compare.new.place) (c.in-Ok-compare.ensures.same told) (ap (λ (s : Starts). s.flying) c.in-Ok-compare.ensures.takes.1) (c.in-Ok-compare.ensures.still told)
 
 pub returns-in-Same-clause-begun : goal.returns-in-Same-clause-begun
-returns-in-Same-clause-begun g c footing read sources states is told can =
+returns-in-Same-clause-begun g c footing read sources states is told holds can =
     begun_none (basis footing read g.P.Place.child c.args.setup.now c.args.project.now sources) c.is_in_order.ensures c.args.index c.args.unit.now c.requires.unit states c.args.done.now c.args.store.now.next (g.P.Place.world c.args.place.now) can _ c.in-Ok-command.command c.in-Same.again (g.P.Place.world c.compare.new.place) c.args.store.now.folder (g.P.Place.counts c.compare.new.place).starts.flying (g.P.Place.still c.compare.new.place) (c.in-Ok-compare.ensures.same told) c.requires.folder c.in-Ok-command.ensures
-    (rw c.in-Same.is at (c.in-Ok-compare.ensures.none read is told)) (rw c.in-Same.is at (c.in-Ok-compare.ensures.carries read is told))
+    (rw c.in-Same.is at (c.in-Ok-compare.ensures.none read is told (held_same read c.args.store.now.folder (records_folder c.args.project.now) (g.P.Place.world c.args.place.now) (g.P.Place.world c.args.place.now) c.args.store.now.numbers c.requires.folder refl holds))) (rw c.in-Same.is at (c.in-Ok-compare.ensures.carries read is told))
 
 pub returns-in-Ok-launch-clause-keeps : goal.returns-in-Ok-launch-clause-keeps
 returns-in-Ok-launch-clause-keeps g c footing read sources states is told can =
@@ -54,7 +55,7 @@ returns-in-Ok-launch-clause-keeps g c footing read sources states is told can =
     (g.P.Place.world c.launch.new.place) c.launch.new.store.next (c.in-Ok-launch.ensures.only told) (c.in-Ok-launch.ensures.sound read judge told) (c.in-Ok-launch.ensures.ahead read told)
 
 pub returns-in-Ok-launch-clause-begun : goal.returns-in-Ok-launch-clause-begun
-returns-in-Ok-launch-clause-begun g c footing read sources states is told can =
+returns-in-Ok-launch-clause-begun g c footing read sources states is told holds can =
     begun_some (basis footing read g.P.Place.child c.args.setup.now c.args.project.now sources) c.is_in_order.ensures c.args.index c.args.unit.now c.requires.unit states c.args.done.now c.args.store.now.next (g.P.Place.world c.compare.new.place) (subst (CanBegin (basis footing read g.P.Place.child c.args.setup.now c.args.project.now sources) states c.args.done.now c.args.index c.args.unit.now c.args.store.now.next) (sym (c.in-Ok-compare.ensures.same told)) can) c.args.store.now.folder c.requires.folder
     (g.P.Place.world c.launch.new.place) c.launch.new.store.next (c.in-Ok-launch.ensures.only told) _ c.in-Ok-command.command c.in-Ok-launch.launched (g.P.Place.counts c.launch.new.place).starts.flying (g.P.Place.still c.launch.new.place) c.in-Ok-command.ensures (c.in-Ok-launch.ensures.spawned told) (c.in-Ok-launch.ensures.gone read told) c.in-Ok-launch.ensures.number.0 c.in-Ok-launch.ensures.number.1
 
@@ -143,3 +144,13 @@ returns-in-Err-launch-clause-stops g c told = inr (
 
 pub returns-in-Same-clause-looks : goal.returns-in-Same-clause-looks
 returns-in-Same-clause-looks g c read reading told none = c.in-Ok-compare.ensures.looked read reading told ∙ ap (λ (folder : List ℕ). past_calls (looked_at read folder c.args.unit.now.key c.in-Ok-command.command (g.P.Place.world c.args.place.now)) (g.P.Place.counts c.args.place.now)) c.requires.folder
+
+pub returns-in-Same-clause-numbers : goal.returns-in-Same-clause-numbers
+returns-in-Same-clause-numbers g c read told holds =
+    held_same read (records_folder c.args.project.now) (records_folder c.args.project.now) (g.P.Place.world c.args.place.now) (g.P.Place.world c.compare.new.place) c.args.store.now.numbers refl (c.in-Ok-compare.ensures.same told) holds
+
+pub returns-in-Ok-launch-clause-numbers : goal.returns-in-Ok-launch-clause-numbers
+returns-in-Ok-launch-clause-numbers g c read told holds =
+    held_there read c.args.store.now.folder (records_folder c.args.project.now) (g.P.Place.world c.launch.new.place) c.launch.new.store.numbers c.requires.folder
+    (c.in-Ok-launch.ensures.numbers read told
+    (held_same read c.args.store.now.folder (records_folder c.args.project.now) (g.P.Place.world c.args.place.now) (g.P.Place.world c.compare.new.place) c.args.store.now.numbers c.requires.folder (c.in-Ok-compare.ensures.same told) holds))

@@ -15,26 +15,26 @@ pub answer_unit-requires-clause-flies : goal.answer_unit-requires-clause-flies
 answer_unit-requires-clause-flies g c = lifted_flies (child_of c.in-Ok.made.begun) (g.P.Place.counts c.args.place.now).starts (g.P.Place.counts c.begin_unit.new.place).starts c.in-Ok.ensures.takes.1
 
 pub returns-in-Ok-answer_unit-clause-outcome : goal.returns-in-Ok-answer_unit-clause-outcome
-returns-in-Ok-answer_unit-clause-outcome g c footing read sources states is told can =
+returns-in-Ok-answer_unit-clause-outcome g c footing read sources states is told holds can =
     let b = basis footing read g.P.Place.child c.args.setup.now c.args.project.now sources in
     c.in-Ok-answer_unit.ensures.outcome footing read c.args.setup.now sources (slice_set states c.args.index state.Begun) c.args.done.now is told
     (can_answer b states c.args.done.now c.args.index c.args.unit.now c.in-Ok.made.begun c.args.store.now.next c.begin_unit.new.store.next (g.P.Place.world c.args.place.now) (g.P.Place.world c.begin_unit.new.place)
-    (g.P.Place.counts c.begin_unit.new.place).starts.flying (g.P.Place.still c.begin_unit.new.place) can (c.in-Ok.ensures.keeps footing read sources states is told can) (c.in-Ok.ensures.begun footing read sources states is told can))
+    (g.P.Place.counts c.begin_unit.new.place).starts.flying (g.P.Place.still c.begin_unit.new.place) can (c.in-Ok.ensures.keeps footing read sources states is told can) (c.in-Ok.ensures.begun footing read sources states is told holds can))
 
 pub returns-in-Ok-answer_unit-clause-keeps : goal.returns-in-Ok-answer_unit-clause-keeps
-returns-in-Ok-answer_unit-clause-keeps g c footing read sources states is told can lines =
+returns-in-Ok-answer_unit-clause-keeps g c footing read sources states is told holds can lines =
     let b = basis footing read g.P.Place.child c.args.setup.now c.args.project.now sources in
     keeps_once b states _ c.args.index state.Begun _ c.answer_unit.new.store.next (g.P.Place.world c.answer_unit.new.place)
-    (c.in-Ok-answer_unit.ensures.keeps footing read c.args.setup.now sources (slice_set states c.args.index state.Begun) c.args.done.now is told
+    (c.in-Ok-answer_unit.ensures.keeps footing read c.args.setup.now sources (slice_set states c.args.index state.Begun) c.args.done.now is told (c.in-Ok.ensures.numbers read told holds)
     (can_answer b states c.args.done.now c.args.index c.args.unit.now c.in-Ok.made.begun c.args.store.now.next c.begin_unit.new.store.next (g.P.Place.world c.args.place.now) (g.P.Place.world c.begin_unit.new.place)
-    (g.P.Place.counts c.begin_unit.new.place).starts.flying (g.P.Place.still c.begin_unit.new.place) can (c.in-Ok.ensures.keeps footing read sources states is told can) (c.in-Ok.ensures.begun footing read sources states is told can)) lines)
+    (g.P.Place.counts c.begin_unit.new.place).starts.flying (g.P.Place.still c.begin_unit.new.place) can (c.in-Ok.ensures.keeps footing read sources states is told can) (c.in-Ok.ensures.begun footing read sources states is told holds can)) lines)
 
 pub returns-in-Err-answer_unit-clause-keeps : goal.returns-in-Err-answer_unit-clause-keeps
-returns-in-Err-answer_unit-clause-keeps g c footing read sources states is told can =
+returns-in-Err-answer_unit-clause-keeps g c footing read sources states is told holds can =
     let b = basis footing read g.P.Place.child c.args.setup.now c.args.project.now sources in
-    c.in-Err-answer_unit.ensures.keeps footing read c.args.setup.now sources (slice_set states c.args.index state.Begun) c.args.done.now is told
+    c.in-Err-answer_unit.ensures.keeps footing read c.args.setup.now sources (slice_set states c.args.index state.Begun) c.args.done.now is told (c.in-Ok.ensures.numbers read told holds)
     (can_answer b states c.args.done.now c.args.index c.args.unit.now c.in-Ok.made.begun c.args.store.now.next c.begin_unit.new.store.next (g.P.Place.world c.args.place.now) (g.P.Place.world c.begin_unit.new.place)
-    (g.P.Place.counts c.begin_unit.new.place).starts.flying (g.P.Place.still c.begin_unit.new.place) can (c.in-Ok.ensures.keeps footing read sources states is told can) (c.in-Ok.ensures.begun footing read sources states is told can))
+    (g.P.Place.counts c.begin_unit.new.place).starts.flying (g.P.Place.still c.begin_unit.new.place) can (c.in-Ok.ensures.keeps footing read sources states is told can) (c.in-Ok.ensures.begun footing read sources states is told holds can))
 
 pub returns-in-Ok-answer_unit-clause-takes : goal.returns-in-Ok-answer_unit-clause-takes
 returns-in-Ok-answer_unit-clause-takes g c = (
@@ -67,3 +67,7 @@ returns-in-Ok-answer_unit-clause-same g c read is told none has =
     let alone = no_difference (child_of c.in-Ok.made.begun) c.in-Ok.made.difference c.in-Ok.ensures.spawned none in
     let still = c.in-Ok.ensures.same told alone in
     c.answer_unit.ensures.same read is told alone (subst (λ (w : World). lacks_number (record_at read (records_folder c.args.project.now) w.files c.args.unit.now.key) ≡ false) (sym still) has) ∙ still
+
+pub returns-in-Ok-answer_unit-clause-numbers : goal.returns-in-Ok-answer_unit-clause-numbers
+returns-in-Ok-answer_unit-clause-numbers g c read is told holds =
+    c.in-Ok-answer_unit.ensures.numbers read is told (c.in-Ok.ensures.writes told) (c.in-Ok.ensures.numbers read told holds)

@@ -2,7 +2,8 @@ use Rattle.std.proofs.Common.{◌≡◌, ◌∙◌, Err, Ok, Some, ap, refl, sli
 use Rattle.pb_command.specs.Judge.{judge}
 use Rattle.pb_place.specs.Counts.{Starts}
 use Rattle.pb_run.proofs.Halving.{out_lies}
-use Rattle.pb_run.proofs.Kept.{flying_answer, flying_follow, keeps_kept, keeps_over, needed_are_keys, others_ended, others_kept, outcome_kept, pairs_sorted}
+use Rattle.pb_run.proofs.Held.{begun_next, held_landed, held_there, keeps_next}
+use Rattle.pb_run.proofs.Kept.{flying_answer, flying_follow, held_ended, keeps_kept, keeps_over, others_ended, others_kept, outcome_kept, pairs_sorted}
 use Rattle.pb_place.specs.Folders.{files_in}
 use Rattle.pb_place.specs.World.{World, ChangesOnly}
 use Rattle.pb_place.specs.Paths.{is_at_or_below}
@@ -21,11 +22,11 @@ use Rattle.pb_run.proofs.landing.land.Goals as goal
 use Rattle.pb_run.specs.Standing.{records_folder}
 
 pub returns-in-Err-clause-keeps : goal.returns-in-Err-clause-keeps
-returns-in-Err-clause-keeps g c footing read setup sources states done is told can =
+returns-in-Err-clause-keeps g c footing read setup sources states done is told holds can =
     keeps_landed (basis footing read g.P.Place.child setup c.args.project.now sources) c.is_in_order.ensures c.args.index c.args.unit.now c.requires.unit c.args.unit.now.key c.args.command.now c.args.launched.now c.args.store.now.next (g.P.Place.world c.args.place.now) (g.P.Place.counts c.args.place.now).starts.flying (g.P.Place.still c.args.place.now) states done can (g.P.Place.world c.finish.new.place) (landed_only (basis footing read g.P.Place.child setup c.args.project.now sources) c.is_in_order.ensures c.args.index c.args.unit.now c.requires.unit c.args.unit.now.key c.args.command.now c.args.launched.now c.args.store.now.next (g.P.Place.counts c.args.place.now).starts.flying (g.P.Place.still c.args.place.now) (g.P.Place.world c.args.place.now) (g.P.Place.world c.finish.new.place) can.begun_so (c.in-Err.ensures.only told)) (g.P.Place.world c.finish.new.place) refl
 
 pub returns-in-Err-judged_now-clause-keeps : goal.returns-in-Err-judged_now-clause-keeps
-returns-in-Err-judged_now-clause-keeps g c footing read setup sources states done is told can =
+returns-in-Err-judged_now-clause-keeps g c footing read setup sources states done is told holds can =
     keeps_landed (basis footing read g.P.Place.child setup c.args.project.now sources) c.is_in_order.ensures c.args.index c.args.unit.now c.requires.unit c.args.unit.now.key c.args.command.now c.args.launched.now c.args.store.now.next (g.P.Place.world c.args.place.now) (g.P.Place.counts c.args.place.now).starts.flying (g.P.Place.still c.args.place.now) states done can (g.P.Place.world c.finish.new.place) (landed_only (basis footing read g.P.Place.child setup c.args.project.now sources) c.is_in_order.ensures c.args.index c.args.unit.now c.requires.unit c.args.unit.now.key c.args.command.now c.args.launched.now c.args.store.now.next (g.P.Place.counts c.args.place.now).starts.flying (g.P.Place.still c.args.place.now) (g.P.Place.world c.args.place.now) (g.P.Place.world c.finish.new.place) can.begun_so (c.in-Ok.ensures.only told)) (g.P.Place.world c.judged_now.new.place) (c.in-Err-judged_now.ensures.same told)
 
 pub returns-then-is_some-clause-outcome : goal.returns-then-is_some-clause-outcome
@@ -33,7 +34,7 @@ returns-then-is_some-clause-outcome g c footing read setup sources states done i
     (subst (λ (v : World). slice_get (outcomes_in (basis footing read g.P.Place.child setup c.args.project.now sources)) c.args.index ≡ Some (outcome_by (files_in c.args.unit.now.out v.files) c.in-Ok-judged_now.judgement.ran)) (sym (c.in-Ok-judged_now.ensures.same told)) (landed_gives (basis footing read g.P.Place.child setup c.args.project.now sources) c.is_in_order.ensures c.args.index c.args.unit.now c.requires.unit c.args.unit.now.key c.args.command.now c.args.launched.now c.args.store.now.next (g.P.Place.counts c.args.place.now).starts.flying (g.P.Place.still c.args.place.now) states done (g.P.Place.world c.args.place.now) (g.P.Place.world c.finish.new.place) c.in-Ok.ended c.in-Ok-judged_now.judgement can (λ stood. c.in-Ok.ensures.ok told stood) (c.in-Ok-judged_now.ensures.judged told)))
 
 pub returns-then-is_some-clause-keeps : goal.returns-then-is_some-clause-keeps
-returns-then-is_some-clause-keeps g c footing read setup sources states done is told can lines =
+returns-then-is_some-clause-keeps g c footing read setup sources states done is told holds can lines =
     keeps_bad (basis footing read g.P.Place.child setup c.args.project.now sources) c.is_in_order.ensures c.args.index c.args.unit.now c.requires.unit c.args.unit.now.key c.args.command.now c.args.launched.now c.args.store.now.next (g.P.Place.world c.args.place.now) (g.P.Place.counts c.args.place.now).starts.flying (g.P.Place.still c.args.place.now) states done can (g.P.Place.world c.finish.new.place) (landed_only (basis footing read g.P.Place.child setup c.args.project.now sources) c.is_in_order.ensures c.args.index c.args.unit.now c.requires.unit c.args.unit.now.key c.args.command.now c.args.launched.now c.args.store.now.next (g.P.Place.counts c.args.place.now).starts.flying (g.P.Place.still c.args.place.now) (g.P.Place.world c.args.place.now) (g.P.Place.world c.finish.new.place) can.begun_so (c.in-Ok.ensures.only told)) (g.P.Place.world c.judged_now.new.place) c.in-Ok-judged_now.judgement.ran lines (c.in-Ok-judged_now.ensures.same told) (sym c.is_some.ensures ∙ c.if-is_some.true)
     (subst (λ (v : World). slice_get (outcomes_in (basis footing read g.P.Place.child setup c.args.project.now sources)) c.args.index ≡ Some (outcome_by (files_in c.args.unit.now.out v.files) c.in-Ok-judged_now.judgement.ran)) (sym (c.in-Ok-judged_now.ensures.same told)) (landed_gives (basis footing read g.P.Place.child setup c.args.project.now sources) c.is_in_order.ensures c.args.index c.args.unit.now c.requires.unit c.args.unit.now.key c.args.command.now c.args.launched.now c.args.store.now.next (g.P.Place.counts c.args.place.now).starts.flying (g.P.Place.still c.args.place.now) states done (g.P.Place.world c.args.place.now) (g.P.Place.world c.finish.new.place) c.in-Ok.ended c.in-Ok-judged_now.judgement can (λ stood. c.in-Ok.ensures.ok told stood) (c.in-Ok-judged_now.ensures.judged told)))
 
@@ -54,7 +55,7 @@ returns-in-Err-judged_now-clause-takes g c =
     landed_told c.args.store.now.next c.args.unit.now.key c.args.launched.now _ (g.P.Place.counts c.args.place.now) (g.P.Place.counts c.finish.new.place) (g.P.Place.counts c.judged_now.new.place) (c.in-Ok.ensures.takes c.args.store.now.next) c.in-Err-judged_now.ensures.takes
 
 pub returns-in-Err-clause-others : goal.returns-in-Err-clause-others
-returns-in-Err-clause-others g c footing read setup sources states done other its is told can apart =
+returns-in-Err-clause-others g c footing read setup sources states done other its is told holds can apart =
     others_ended (basis footing read g.P.Place.child setup c.args.project.now sources) c.is_in_order.ensures c.args.index c.args.unit.now c.requires.unit c.args.command.now c.args.launched.now c.args.store.now.next (g.P.Place.world c.args.place.now) (g.P.Place.counts c.args.place.now).starts.flying (g.P.Place.still c.args.place.now) states done can (g.P.Place.world c.finish.new.place) (c.in-Err.ensures.only told) other its (g.P.Place.world c.finish.new.place) (g.P.Place.counts c.finish.new.place).starts.flying (g.P.Place.still c.finish.new.place) (g.P.Place.still c.finish.new.place) refl (flying_answer c.args.store.now.next _ c.args.launched.now _ (g.P.Place.counts c.args.place.now).starts (g.P.Place.counts c.finish.new.place).starts (c.in-Err.ensures.takes c.args.store.now.next).0) c.in-Err.ensures.still (λ t stood. stood) apart
 
 pub returns-in-Err-clause-takes : goal.returns-in-Err-clause-takes
@@ -62,20 +63,16 @@ returns-in-Err-clause-takes g c =
     subst (λ k. TellsAnswer c.args.store.now.next k (Some c.args.launched.now) (g.P.Place.counts c.args.place.now) (g.P.Place.counts c.finish.new.place) c.in-Err.fault) c.requires.named (c.in-Err.ensures.takes c.args.store.now.next)
 
 pub returns-in-Err-judged_now-clause-others : goal.returns-in-Err-judged_now-clause-others
-returns-in-Err-judged_now-clause-others g c footing read setup sources states done other its is told can apart =
+returns-in-Err-judged_now-clause-others g c footing read setup sources states done other its is told holds can apart =
     others_ended (basis footing read g.P.Place.child setup c.args.project.now sources) c.is_in_order.ensures c.args.index c.args.unit.now c.requires.unit c.args.command.now c.args.launched.now c.args.store.now.next (g.P.Place.world c.args.place.now) (g.P.Place.counts c.args.place.now).starts.flying (g.P.Place.still c.args.place.now) states done can (g.P.Place.world c.finish.new.place) (c.in-Ok.ensures.only told) other its (g.P.Place.world c.judged_now.new.place) (g.P.Place.counts c.judged_now.new.place).starts.flying (g.P.Place.still c.finish.new.place) (g.P.Place.still c.judged_now.new.place) (c.in-Err-judged_now.ensures.same told) (flying_follow c.args.unit.now.key _ (g.P.Place.counts c.finish.new.place).starts (g.P.Place.counts c.judged_now.new.place).starts c.in-Err-judged_now.ensures.takes.0 ∙ (ap (λ (s : Starts). s.flying) (c.in-Ok.ensures.takes c.args.store.now.next).1)) c.in-Ok.ensures.still (c.in-Err-judged_now.ensures.still told) apart
 
 pub returns-then-is_some-clause-others : goal.returns-then-is_some-clause-others
-returns-then-is_some-clause-others g c footing read setup sources states done other its is told can apart =
+returns-then-is_some-clause-others g c footing read setup sources states done other its is told holds can apart =
     others_ended (basis footing read g.P.Place.child setup c.args.project.now sources) c.is_in_order.ensures c.args.index c.args.unit.now c.requires.unit c.args.command.now c.args.launched.now c.args.store.now.next (g.P.Place.world c.args.place.now) (g.P.Place.counts c.args.place.now).starts.flying (g.P.Place.still c.args.place.now) states done can (g.P.Place.world c.finish.new.place) (c.in-Ok.ensures.only told) other its (g.P.Place.world c.judged_now.new.place) (g.P.Place.counts c.judged_now.new.place).starts.flying (g.P.Place.still c.finish.new.place) (g.P.Place.still c.judged_now.new.place) (c.in-Ok-judged_now.ensures.same told) (ap (λ (s : Starts). s.flying) (c.in-Ok-judged_now.ensures.takes.1 ∙ (c.in-Ok.ensures.takes c.args.store.now.next).1)) c.in-Ok.ensures.still (c.in-Ok-judged_now.ensures.still told) apart
 
 pub returns-then-is_some-clause-takes : goal.returns-then-is_some-clause-takes
 returns-then-is_some-clause-takes g c =
     (c.in-Ok-judged_now.ensures.takes.0 ∙ (c.in-Ok.ensures.takes c.args.store.now.next).0, c.in-Ok-judged_now.ensures.takes.1 ∙ (c.in-Ok.ensures.takes c.args.store.now.next).1)
-
-pub keep-requires-clause-keys : goal.keep-requires-clause-keys
-keep-requires-clause-keys g c =
-    needed_are_keys c.args.project.now c.args.unit.now c.is_in_order.ensures
 
 pub keep-requires-clause-out : goal.keep-requires-clause-out
 keep-requires-clause-out g c =
@@ -90,20 +87,28 @@ returns-in-Ok-keep-clause-outcome g c footing read setup sources states done is 
     outcome_kept (basis footing read g.P.Place.child setup c.args.project.now sources) c.is_in_order.ensures c.args.index c.args.unit.now c.requires.unit c.args.command.now c.args.launched.now c.args.store.now.next (g.P.Place.world c.args.place.now) (g.P.Place.counts c.args.place.now).starts.flying (g.P.Place.still c.args.place.now) states done can (g.P.Place.world c.finish.new.place) (c.in-Ok.ensures.only told) (g.P.Place.world c.judged_now.new.place) (c.in-Ok-judged_now.ensures.same told) c.in-Ok.ended c.in-Ok-judged_now.judgement (λ stood. c.in-Ok.ensures.ok told stood) (c.in-Ok-judged_now.ensures.judged told) c.args.store.now.folder c.requires.folder (g.P.Place.world c.keep.new.place) (c.in-Ok-keep.ensures.only told)
 
 pub returns-in-Ok-keep-clause-keeps : goal.returns-in-Ok-keep-clause-keeps
-returns-in-Ok-keep-clause-keeps g c footing read setup sources states done is told can lines =
-    keeps_kept (basis footing read g.P.Place.child setup c.args.project.now sources) c.is_in_order.ensures c.args.index c.args.unit.now c.requires.unit c.args.command.now c.args.launched.now c.args.store.now.next (g.P.Place.world c.args.place.now) (g.P.Place.counts c.args.place.now).starts.flying (g.P.Place.still c.args.place.now) states done can (g.P.Place.world c.finish.new.place) (c.in-Ok.ensures.only told) (g.P.Place.world c.judged_now.new.place) (c.in-Ok-judged_now.ensures.same told) c.in-Ok.ended c.in-Ok-judged_now.judgement (λ stood. c.in-Ok.ensures.ok told stood) (c.in-Ok-judged_now.ensures.judged told) c.args.store.now.folder c.requires.folder (g.P.Place.world c.keep.new.place) (sym c.is_some.ensures ∙ c.if-is_some.false) c.as_slice.result.now c.as_slice.ensures (record { sound = c.in-Ok-keep.ensures.sound read judge is told; ahead = c.in-Ok-keep.ensures.ahead read is told; only = c.in-Ok-keep.ensures.only told }) lines (c.in-Ok-keep.ensures.stands read is told)
+returns-in-Ok-keep-clause-keeps g c footing read setup sources states done is told holds can lines =
+    let held = held_ended (basis footing read g.P.Place.child setup c.args.project.now sources) c.is_in_order.ensures c.args.index c.args.unit.now c.requires.unit c.args.command.now c.args.launched.now c.args.store.now.next (g.P.Place.world c.args.place.now) (g.P.Place.counts c.args.place.now).starts.flying (g.P.Place.still c.args.place.now) states done can (g.P.Place.world c.finish.new.place) (c.in-Ok.ensures.only told) (g.P.Place.world c.judged_now.new.place) (c.in-Ok-judged_now.ensures.same told) c.args.store.now.folder c.args.store.now.numbers c.requires.folder holds in
+    keeps_next _ _ _ _ _ _ c.in-Ok-keep.ensures.next
+    (keeps_kept (basis footing read g.P.Place.child setup c.args.project.now sources) c.is_in_order.ensures c.args.index c.args.unit.now c.requires.unit c.args.command.now c.args.launched.now c.args.store.now.next (g.P.Place.world c.args.place.now) (g.P.Place.counts c.args.place.now).starts.flying (g.P.Place.still c.args.place.now) states done can (g.P.Place.world c.finish.new.place) (c.in-Ok.ensures.only told) (g.P.Place.world c.judged_now.new.place) (c.in-Ok-judged_now.ensures.same told) c.in-Ok.ended c.in-Ok-judged_now.judgement (λ stood. c.in-Ok.ensures.ok told stood) (c.in-Ok-judged_now.ensures.judged told) c.args.store.now.folder c.requires.folder (g.P.Place.world c.keep.new.place) (sym c.is_some.ensures ∙ c.if-is_some.false) c.as_slice.result.now c.as_slice.ensures (record { sound = c.in-Ok-keep.ensures.sound read judge is told held; ahead = c.in-Ok-keep.ensures.ahead read is told held; only = c.in-Ok-keep.ensures.only told }) lines (c.in-Ok-keep.ensures.stands read is told held))
 
 pub returns-clause-keeps : goal.returns-clause-keeps
-returns-clause-keeps g c footing read setup sources states done is told can =
-    keeps_over (basis footing read g.P.Place.child setup c.args.project.now sources) c.is_in_order.ensures c.args.index c.args.unit.now c.requires.unit c.args.command.now c.args.launched.now c.args.store.now.next (g.P.Place.world c.args.place.now) (g.P.Place.counts c.args.place.now).starts.flying (g.P.Place.still c.args.place.now) states done can (g.P.Place.world c.finish.new.place) (c.in-Ok.ensures.only told) (g.P.Place.world c.judged_now.new.place) (c.in-Ok-judged_now.ensures.same told) c.in-Ok.ended c.in-Ok-judged_now.judgement (λ stood. c.in-Ok.ensures.ok told stood) (c.in-Ok-judged_now.ensures.judged told) c.args.store.now.folder c.requires.folder (g.P.Place.world c.keep.new.place) (sym c.is_some.ensures ∙ c.if-is_some.false) c.as_slice.result.now c.as_slice.ensures (record { sound = c.in-Err-keep.ensures.sound read judge is told; ahead = c.in-Err-keep.ensures.ahead read is told; only = c.in-Err-keep.ensures.only told })
+returns-clause-keeps g c footing read setup sources states done is told holds can =
+    let held = held_ended (basis footing read g.P.Place.child setup c.args.project.now sources) c.is_in_order.ensures c.args.index c.args.unit.now c.requires.unit c.args.command.now c.args.launched.now c.args.store.now.next (g.P.Place.world c.args.place.now) (g.P.Place.counts c.args.place.now).starts.flying (g.P.Place.still c.args.place.now) states done can (g.P.Place.world c.finish.new.place) (c.in-Ok.ensures.only told) (g.P.Place.world c.judged_now.new.place) (c.in-Ok-judged_now.ensures.same told) c.args.store.now.folder c.args.store.now.numbers c.requires.folder holds in
+    keeps_next _ _ _ _ _ _ c.in-Err-keep.ensures.next
+    (keeps_over (basis footing read g.P.Place.child setup c.args.project.now sources) c.is_in_order.ensures c.args.index c.args.unit.now c.requires.unit c.args.command.now c.args.launched.now c.args.store.now.next (g.P.Place.world c.args.place.now) (g.P.Place.counts c.args.place.now).starts.flying (g.P.Place.still c.args.place.now) states done can (g.P.Place.world c.finish.new.place) (c.in-Ok.ensures.only told) (g.P.Place.world c.judged_now.new.place) (c.in-Ok-judged_now.ensures.same told) c.in-Ok.ended c.in-Ok-judged_now.judgement (λ stood. c.in-Ok.ensures.ok told stood) (c.in-Ok-judged_now.ensures.judged told) c.args.store.now.folder c.requires.folder (g.P.Place.world c.keep.new.place) (sym c.is_some.ensures ∙ c.if-is_some.false) c.as_slice.result.now c.as_slice.ensures (record { sound = c.in-Err-keep.ensures.sound read judge is told held; ahead = c.in-Err-keep.ensures.ahead read is told held; only = c.in-Err-keep.ensures.only told }))
 
 pub returns-in-Ok-keep-clause-others : goal.returns-in-Ok-keep-clause-others
-returns-in-Ok-keep-clause-others g c footing read setup sources states done other its is told can apart =
-    others_kept (basis footing read g.P.Place.child setup c.args.project.now sources) c.is_in_order.ensures c.args.index c.args.unit.now c.requires.unit c.args.command.now c.args.launched.now c.args.store.now.next (g.P.Place.world c.args.place.now) (g.P.Place.counts c.args.place.now).starts.flying (g.P.Place.still c.args.place.now) states done can (g.P.Place.world c.finish.new.place) (c.in-Ok.ensures.only told) (g.P.Place.world c.judged_now.new.place) (c.in-Ok-judged_now.ensures.same told) c.in-Ok.ended c.in-Ok-judged_now.judgement c.args.store.now.folder c.as_slice.result.now (g.P.Place.world c.keep.new.place) other its (g.P.Place.counts c.judged_now.new.place).starts.flying (g.P.Place.counts c.keep.new.place).starts.flying (g.P.Place.still c.finish.new.place) (g.P.Place.still c.judged_now.new.place) (g.P.Place.still c.keep.new.place) c.requires.folder (c.in-Ok-keep.ensures.only told) (c.in-Ok-keep.ensures.left read is told) (ap (λ (s : Starts). s.flying) (c.in-Ok-judged_now.ensures.takes.1 ∙ (c.in-Ok.ensures.takes c.args.store.now.next).1)) (ap (λ (s : Starts). s.flying) c.in-Ok-keep.ensures.takes.1) c.in-Ok.ensures.still (c.in-Ok-judged_now.ensures.still told) (c.in-Ok-keep.ensures.still told) apart
+returns-in-Ok-keep-clause-others g c footing read setup sources states done other its is told holds can apart =
+    let held = held_ended (basis footing read g.P.Place.child setup c.args.project.now sources) c.is_in_order.ensures c.args.index c.args.unit.now c.requires.unit c.args.command.now c.args.launched.now c.args.store.now.next (g.P.Place.world c.args.place.now) (g.P.Place.counts c.args.place.now).starts.flying (g.P.Place.still c.args.place.now) states done can (g.P.Place.world c.finish.new.place) (c.in-Ok.ensures.only told) (g.P.Place.world c.judged_now.new.place) (c.in-Ok-judged_now.ensures.same told) c.args.store.now.folder c.args.store.now.numbers c.requires.folder holds in
+    begun_next _ _ _ _ _ _ _ _ c.in-Ok-keep.ensures.next
+    (others_kept (basis footing read g.P.Place.child setup c.args.project.now sources) c.is_in_order.ensures c.args.index c.args.unit.now c.requires.unit c.args.command.now c.args.launched.now c.args.store.now.next (g.P.Place.world c.args.place.now) (g.P.Place.counts c.args.place.now).starts.flying (g.P.Place.still c.args.place.now) states done can (g.P.Place.world c.finish.new.place) (c.in-Ok.ensures.only told) (g.P.Place.world c.judged_now.new.place) (c.in-Ok-judged_now.ensures.same told) c.in-Ok.ended c.in-Ok-judged_now.judgement c.args.store.now.folder c.as_slice.result.now (g.P.Place.world c.keep.new.place) other its (g.P.Place.counts c.judged_now.new.place).starts.flying (g.P.Place.counts c.keep.new.place).starts.flying (g.P.Place.still c.finish.new.place) (g.P.Place.still c.judged_now.new.place) (g.P.Place.still c.keep.new.place) c.requires.folder (c.in-Ok-keep.ensures.only told) (c.in-Ok-keep.ensures.left read is told held) (ap (λ (s : Starts). s.flying) (c.in-Ok-judged_now.ensures.takes.1 ∙ (c.in-Ok.ensures.takes c.args.store.now.next).1)) (ap (λ (s : Starts). s.flying) c.in-Ok-keep.ensures.takes.1) c.in-Ok.ensures.still (c.in-Ok-judged_now.ensures.still told) (c.in-Ok-keep.ensures.still told) apart)
 
 pub returns-clause-others : goal.returns-clause-others
-returns-clause-others g c footing read setup sources states done other its is told can apart =
-    others_kept (basis footing read g.P.Place.child setup c.args.project.now sources) c.is_in_order.ensures c.args.index c.args.unit.now c.requires.unit c.args.command.now c.args.launched.now c.args.store.now.next (g.P.Place.world c.args.place.now) (g.P.Place.counts c.args.place.now).starts.flying (g.P.Place.still c.args.place.now) states done can (g.P.Place.world c.finish.new.place) (c.in-Ok.ensures.only told) (g.P.Place.world c.judged_now.new.place) (c.in-Ok-judged_now.ensures.same told) c.in-Ok.ended c.in-Ok-judged_now.judgement c.args.store.now.folder c.as_slice.result.now (g.P.Place.world c.keep.new.place) other its (g.P.Place.counts c.judged_now.new.place).starts.flying (g.P.Place.counts c.keep.new.place).starts.flying (g.P.Place.still c.finish.new.place) (g.P.Place.still c.judged_now.new.place) (g.P.Place.still c.keep.new.place) c.requires.folder (c.in-Err-keep.ensures.only told) (c.in-Err-keep.ensures.left read is told) (ap (λ (s : Starts). s.flying) (c.in-Ok-judged_now.ensures.takes.1 ∙ (c.in-Ok.ensures.takes c.args.store.now.next).1)) (flying_follow c.args.unit.now.key _ (g.P.Place.counts c.judged_now.new.place).starts (g.P.Place.counts c.keep.new.place).starts c.in-Err-keep.ensures.takes.0) c.in-Ok.ensures.still (c.in-Ok-judged_now.ensures.still told) (c.in-Err-keep.ensures.still told) apart
+returns-clause-others g c footing read setup sources states done other its is told holds can apart =
+    let held = held_ended (basis footing read g.P.Place.child setup c.args.project.now sources) c.is_in_order.ensures c.args.index c.args.unit.now c.requires.unit c.args.command.now c.args.launched.now c.args.store.now.next (g.P.Place.world c.args.place.now) (g.P.Place.counts c.args.place.now).starts.flying (g.P.Place.still c.args.place.now) states done can (g.P.Place.world c.finish.new.place) (c.in-Ok.ensures.only told) (g.P.Place.world c.judged_now.new.place) (c.in-Ok-judged_now.ensures.same told) c.args.store.now.folder c.args.store.now.numbers c.requires.folder holds in
+    begun_next _ _ _ _ _ _ _ _ c.in-Err-keep.ensures.next
+    (others_kept (basis footing read g.P.Place.child setup c.args.project.now sources) c.is_in_order.ensures c.args.index c.args.unit.now c.requires.unit c.args.command.now c.args.launched.now c.args.store.now.next (g.P.Place.world c.args.place.now) (g.P.Place.counts c.args.place.now).starts.flying (g.P.Place.still c.args.place.now) states done can (g.P.Place.world c.finish.new.place) (c.in-Ok.ensures.only told) (g.P.Place.world c.judged_now.new.place) (c.in-Ok-judged_now.ensures.same told) c.in-Ok.ended c.in-Ok-judged_now.judgement c.args.store.now.folder c.as_slice.result.now (g.P.Place.world c.keep.new.place) other its (g.P.Place.counts c.judged_now.new.place).starts.flying (g.P.Place.counts c.keep.new.place).starts.flying (g.P.Place.still c.finish.new.place) (g.P.Place.still c.judged_now.new.place) (g.P.Place.still c.keep.new.place) c.requires.folder (c.in-Err-keep.ensures.only told) (c.in-Err-keep.ensures.left read is told held) (ap (λ (s : Starts). s.flying) (c.in-Ok-judged_now.ensures.takes.1 ∙ (c.in-Ok.ensures.takes c.args.store.now.next).1)) (flying_follow c.args.unit.now.key _ (g.P.Place.counts c.judged_now.new.place).starts (g.P.Place.counts c.keep.new.place).starts c.in-Err-keep.ensures.takes.0) c.in-Ok.ensures.still (c.in-Ok-judged_now.ensures.still told) (c.in-Err-keep.ensures.still told) apart)
 
 pub returns-in-Ok-keep-clause-only : goal.returns-in-Ok-keep-clause-only
 returns-in-Ok-keep-clause-only g c told writes =
@@ -177,3 +182,15 @@ returns-clause-lands g c told = (
       (kept_so read c.args.project.now c.args.unit.now c.args.command.now c.args.launched.now c.args.store.now.folder (g.P.Place.world c.judged_now.new.place) (g.P.Place.world c.finish.new.place) c.as_slice.result.now c.in-Ok-judged_now.judgement.names c.requires.folder (c.in-Ok-judged_now.ensures.same told) c.as_slice.ensures)
       (c.in-Err-keep.ensures.calls told),
 )
+
+pub returns-then-is_some-clause-numbers : goal.returns-then-is_some-clause-numbers
+returns-then-is_some-clause-numbers g c read is told writes holds =
+    held_landed read c.args.project.now c.is_in_order.ensures c.args.index c.args.unit.now c.requires.unit (records_folder c.args.project.now) (g.P.Place.world c.args.place.now) (g.P.Place.world c.finish.new.place) (g.P.Place.world c.judged_now.new.place) c.args.store.now.numbers refl (c.in-Ok-judged_now.ensures.same told)
+    (ended_only c.args.unit.now.out c.args.launched.now (g.P.Place.counts c.args.place.now).starts.flying (g.P.Place.world c.args.place.now) (g.P.Place.world c.finish.new.place) c.requires.flies writes (c.in-Ok.ensures.only told)) holds
+
+pub returns-in-Ok-keep-clause-numbers : goal.returns-in-Ok-keep-clause-numbers
+returns-in-Ok-keep-clause-numbers g c read is told writes holds =
+    held_there read c.args.store.now.folder (records_folder c.args.project.now) (g.P.Place.world c.keep.new.place) c.keep.new.store.numbers c.requires.folder
+    (c.in-Ok-keep.ensures.numbers read is told
+    (held_landed read c.args.project.now c.is_in_order.ensures c.args.index c.args.unit.now c.requires.unit c.args.store.now.folder (g.P.Place.world c.args.place.now) (g.P.Place.world c.finish.new.place) (g.P.Place.world c.judged_now.new.place) c.args.store.now.numbers c.requires.folder (c.in-Ok-judged_now.ensures.same told)
+    (ended_only c.args.unit.now.out c.args.launched.now (g.P.Place.counts c.args.place.now).starts.flying (g.P.Place.world c.args.place.now) (g.P.Place.world c.finish.new.place) c.requires.flies writes (c.in-Ok.ensures.only told)) holds))

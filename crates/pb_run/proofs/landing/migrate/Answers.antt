@@ -3,21 +3,21 @@ use Rattle.pb_run.proofs.landing.migrate.Goals as goal
 use Rattle.pb_store.specs.Migrating.{IsMigrated}
 
 pub returns-in-Ok-migrate-clause-sound : goal.returns-in-Ok-migrate-clause-sound
-returns-in-Ok-migrate-clause-sound g c read judge cm r is told may sound =
-    c.in-Ok-migrate.ensures.sound read judge cm r is told
+returns-in-Ok-migrate-clause-sound g c read judge cm r is told holds may sound =
+    c.in-Ok-migrate.ensures.sound read judge cm r is told holds
     (λ number given. subst (λ (ks : List (List ℕ)). IsMigrated read judge g.P.Place.child c.args.store.now.folder c.args.unit.now.key cm ks number (g.P.Place.world c.args.place.now) r) (sym (c.as_slice.ensures ∙ c.in-Ok.ensures)) (may number given)) sound
 
 pub returns-in-Ok-migrate-clause-ahead : goal.returns-in-Ok-migrate-clause-ahead
-returns-in-Ok-migrate-clause-ahead g c read judge cm r is told may ahead =
-    c.in-Ok-migrate.ensures.ahead read judge cm r is told
+returns-in-Ok-migrate-clause-ahead g c read judge cm r is told holds may ahead =
+    c.in-Ok-migrate.ensures.ahead read judge cm r is told holds
     (λ number given. subst (λ (ks : List (List ℕ)). IsMigrated read judge g.P.Place.child c.args.store.now.folder c.args.unit.now.key cm ks number (g.P.Place.world c.args.place.now) r) (sym (c.as_slice.ensures ∙ c.in-Ok.ensures)) (may number given)) ahead
 
 pub returns-clause-sound : goal.returns-clause-sound
-returns-clause-sound g c read judge cm r is told may sound =
-    c.in-Err-migrate.ensures.sound read judge cm r is told
+returns-clause-sound g c read judge cm r is told holds may sound =
+    c.in-Err-migrate.ensures.sound read judge cm r is told holds
     (λ number given. subst (λ (ks : List (List ℕ)). IsMigrated read judge g.P.Place.child c.args.store.now.folder c.args.unit.now.key cm ks number (g.P.Place.world c.args.place.now) r) (sym (c.as_slice.ensures ∙ c.in-Ok.ensures)) (may number given)) sound
 
 pub returns-clause-ahead : goal.returns-clause-ahead
-returns-clause-ahead g c read judge cm r is told may ahead =
-    c.in-Err-migrate.ensures.ahead read judge cm r is told
+returns-clause-ahead g c read judge cm r is told holds may ahead =
+    c.in-Err-migrate.ensures.ahead read judge cm r is told holds
     (λ number given. subst (λ (ks : List (List ℕ)). IsMigrated read judge g.P.Place.child c.args.store.now.folder c.args.unit.now.key cm ks number (g.P.Place.world c.args.place.now) r) (sym (c.as_slice.ensures ∙ c.in-Ok.ensures)) (may number given)) ahead

@@ -10,12 +10,13 @@ use Rattle.pb_run.specs.declared.begun.Awaited.TheVariants as awaited
 use Rattle.pb_run.specs.declared.ran.Ran.{Ran}
 use Rattle.pb_run.proofs.Calling.{bad_made, ended_badly, ended_well, good_made, numbered_so, renewed_names, stops_first}
 use Rattle.pb_run.proofs.Causing.{follow_spares}
-use Rattle.pb_run.proofs.Reusing.{flying_alone, flying_follow, keeps_bad_again, keeps_numbered, keeps_renewed, keeps_unrenewed, keys_needed, others_renewed, others_unchanged, renewed_outcome, renewed_so, renewing_so, replay_outcome, reused_only, reused_same, reused_still}
+use Rattle.pb_run.proofs.Held.{held_same, held_there}
+use Rattle.pb_run.proofs.Reusing.{flying_alone, flying_follow, keeps_bad_again, keeps_numbered, keeps_renewed, keeps_unrenewed, others_renewed, others_unchanged, renewed_outcome, renewed_so, renewing_so, replay_outcome, reused_only, reused_same, reused_still}
 use Rattle.pb_run.proofs.Writes.{none_changed, record_alone}
 use Rattle.pb_run.proofs.landing.reuse.Goals as goal
 
 pub returns-in-Err-clause-others : goal.returns-in-Err-clause-others
-returns-in-Err-clause-others g c footing read setup sources states done other its is told can apart =
+returns-in-Err-clause-others g c footing read setup sources states done other its is told holds can apart =
     others_unchanged (basis footing read g.P.Place.child setup c.args.project.now sources) c.is_in_order.ensures c.args.index c.args.unit.now c.requires.unit c.args.unit.now.key c.args.command.now c.args.again.now c.args.store.now.next (g.P.Place.world c.args.place.now) (g.P.Place.counts c.args.place.now).starts.flying (g.P.Place.still c.args.place.now) states done can other its (g.P.Place.world c.judged_now.new.place) (g.P.Place.counts c.judged_now.new.place).starts.flying (g.P.Place.still c.judged_now.new.place) apart (c.in-Err.ensures.same told)
     (flying_follow c.args.unit.now.key _ (g.P.Place.counts c.args.place.now).starts (g.P.Place.counts c.judged_now.new.place).starts c.in-Err.ensures.takes.0) (c.in-Err.ensures.still told)
 
@@ -24,12 +25,12 @@ returns-then-is_some-clause-outcome g c footing read setup sources states done i
     replay_outcome (basis footing read g.P.Place.child setup c.args.project.now sources) c.is_in_order.ensures c.args.index c.args.unit.now c.requires.unit c.args.unit.now.key c.args.command.now c.args.again.now c.args.store.now.next (g.P.Place.world c.args.place.now) (g.P.Place.counts c.args.place.now).starts.flying (g.P.Place.still c.args.place.now) states done can c.in-Ok.judgement (g.P.Place.world c.judged_now.new.place) c.unstarted-ran.result (c.in-Ok.ensures.same told) (c.in-Ok.ensures.judged told) c.unstarted-ran.ensures
 
 pub returns-then-is_some-clause-keeps : goal.returns-then-is_some-clause-keeps
-returns-then-is_some-clause-keeps g c footing read setup sources states done is told can lines =
+returns-then-is_some-clause-keeps g c footing read setup sources states done is told holds can lines =
     keeps_bad_again (basis footing read g.P.Place.child setup c.args.project.now sources) c.is_in_order.ensures c.args.index c.args.unit.now c.requires.unit c.args.unit.now.key c.args.command.now c.args.again.now c.args.store.now.next (g.P.Place.world c.args.place.now) (g.P.Place.counts c.args.place.now).starts.flying (g.P.Place.still c.args.place.now) states done can (g.P.Place.world c.judged_now.new.place) c.unstarted-ran.result lines (c.in-Ok.ensures.same told) (sym c.is_some.ensures ∙ c.if-is_some.true)
     (replay_outcome (basis footing read g.P.Place.child setup c.args.project.now sources) c.is_in_order.ensures c.args.index c.args.unit.now c.requires.unit c.args.unit.now.key c.args.command.now c.args.again.now c.args.store.now.next (g.P.Place.world c.args.place.now) (g.P.Place.counts c.args.place.now).starts.flying (g.P.Place.still c.args.place.now) states done can c.in-Ok.judgement (g.P.Place.world c.judged_now.new.place) c.unstarted-ran.result (c.in-Ok.ensures.same told) (c.in-Ok.ensures.judged told) c.unstarted-ran.ensures)
 
 pub returns-then-is_some-clause-others : goal.returns-then-is_some-clause-others
-returns-then-is_some-clause-others g c footing read setup sources states done other its is told can apart =
+returns-then-is_some-clause-others g c footing read setup sources states done other its is told holds can apart =
     others_unchanged (basis footing read g.P.Place.child setup c.args.project.now sources) c.is_in_order.ensures c.args.index c.args.unit.now c.requires.unit c.args.unit.now.key c.args.command.now c.args.again.now c.args.store.now.next (g.P.Place.world c.args.place.now) (g.P.Place.counts c.args.place.now).starts.flying (g.P.Place.still c.args.place.now) states done can other its (g.P.Place.world c.judged_now.new.place) (g.P.Place.counts c.judged_now.new.place).starts.flying (g.P.Place.still c.judged_now.new.place) apart (c.in-Ok.ensures.same told)
     (ap (λ (s : Starts). s.flying) c.in-Ok.ensures.takes.1) (c.in-Ok.ensures.still told)
 
@@ -38,46 +39,44 @@ returns-then-again-clause-outcome g c footing read setup sources states done is 
     replay_outcome (basis footing read g.P.Place.child setup c.args.project.now sources) c.is_in_order.ensures c.args.index c.args.unit.now c.requires.unit c.args.unit.now.key c.args.command.now c.args.again.now c.args.store.now.next (g.P.Place.world c.args.place.now) (g.P.Place.counts c.args.place.now).starts.flying (g.P.Place.still c.args.place.now) states done can c.in-Ok.judgement (g.P.Place.world c.judged_now.new.place) c.unstarted-ran.result (c.in-Ok.ensures.same told) (c.in-Ok.ensures.judged told) c.unstarted-ran.ensures
 
 pub returns-then-again-clause-keeps : goal.returns-then-again-clause-keeps
-returns-then-again-clause-keeps g c footing read setup sources states done is told can lines =
+returns-then-again-clause-keeps g c footing read setup sources states done is told holds can lines =
     keeps_numbered (basis footing read g.P.Place.child setup c.args.project.now sources) c.is_in_order.ensures c.args.index c.args.unit.now c.requires.unit c.args.unit.now.key c.args.command.now c.args.again.now c.args.store.now.next (g.P.Place.world c.args.place.now) (g.P.Place.counts c.args.place.now).starts.flying (g.P.Place.still c.args.place.now) states done can (g.P.Place.world c.judged_now.new.place) c.unstarted-ran.result lines (c.in-Ok.ensures.same told) c.if-again.true
     (replay_outcome (basis footing read g.P.Place.child setup c.args.project.now sources) c.is_in_order.ensures c.args.index c.args.unit.now c.requires.unit c.args.unit.now.key c.args.command.now c.args.again.now c.args.store.now.next (g.P.Place.world c.args.place.now) (g.P.Place.counts c.args.place.now).starts.flying (g.P.Place.still c.args.place.now) states done can c.in-Ok.judgement (g.P.Place.world c.judged_now.new.place) c.unstarted-ran.result (c.in-Ok.ensures.same told) (c.in-Ok.ensures.judged told) c.unstarted-ran.ensures)
 
 pub returns-then-again-clause-others : goal.returns-then-again-clause-others
-returns-then-again-clause-others g c footing read setup sources states done other its is told can apart =
+returns-then-again-clause-others g c footing read setup sources states done other its is told holds can apart =
     others_unchanged (basis footing read g.P.Place.child setup c.args.project.now sources) c.is_in_order.ensures c.args.index c.args.unit.now c.requires.unit c.args.unit.now.key c.args.command.now c.args.again.now c.args.store.now.next (g.P.Place.world c.args.place.now) (g.P.Place.counts c.args.place.now).starts.flying (g.P.Place.still c.args.place.now) states done can other its (g.P.Place.world c.judged_now.new.place) (g.P.Place.counts c.judged_now.new.place).starts.flying (g.P.Place.still c.judged_now.new.place) apart (c.in-Ok.ensures.same told)
     (ap (λ (s : Starts). s.flying) c.in-Ok.ensures.takes.1) (c.in-Ok.ensures.still told)
-
-pub migrate-requires-clause-keys : goal.migrate-requires-clause-keys
-migrate-requires-clause-keys g c =
-    keys_needed c.args.project.now c.is_in_order.ensures c.args.unit.now
 
 pub returns-in-Ok-migrate-clause-outcome : goal.returns-in-Ok-migrate-clause-outcome
 returns-in-Ok-migrate-clause-outcome g c footing read setup sources states done is told can =
     renewed_outcome (basis footing read g.P.Place.child setup c.args.project.now sources) c.is_in_order.ensures c.args.index c.args.unit.now c.requires.unit c.args.unit.now.key c.args.command.now c.args.again.now c.args.store.now.next (g.P.Place.world c.args.place.now) (g.P.Place.counts c.args.place.now).starts.flying (g.P.Place.still c.args.place.now) states done can c.args.store.now.folder c.in-Ok.judgement (g.P.Place.world c.judged_now.new.place) (g.P.Place.world c.migrate.new.place) c.unstarted-ran.result c.requires.folder (c.in-Ok.ensures.same told) (c.in-Ok.ensures.judged told) c.unstarted-ran.ensures (c.in-Ok-migrate.ensures.only told)
 
 pub returns-in-Ok-migrate-clause-keeps : goal.returns-in-Ok-migrate-clause-keeps
-returns-in-Ok-migrate-clause-keeps g c footing read setup sources states done is told can lines =
+returns-in-Ok-migrate-clause-keeps g c footing read setup sources states done is told holds can lines =
+    let held = held_same read c.args.store.now.folder (records_folder c.args.project.now) (g.P.Place.world c.args.place.now) (g.P.Place.world c.judged_now.new.place) c.args.store.now.numbers c.requires.folder (c.in-Ok.ensures.same told) holds in
     keeps_renewed (basis footing read g.P.Place.child setup c.args.project.now sources) c.is_in_order.ensures c.args.index c.args.unit.now c.requires.unit c.args.unit.now.key c.args.command.now c.args.again.now c.args.store.now.next (g.P.Place.world c.args.place.now) (g.P.Place.counts c.args.place.now).starts.flying (g.P.Place.still c.args.place.now) states done can (g.P.Place.world c.migrate.new.place) c.migrate.new.store.next
     (renewing_so (basis footing read g.P.Place.child setup c.args.project.now sources) c.is_in_order.ensures c.args.index c.args.unit.now c.requires.unit c.args.unit.now.key c.args.command.now c.args.again.now c.args.store.now.next (g.P.Place.world c.args.place.now) (g.P.Place.counts c.args.place.now).starts.flying (g.P.Place.still c.args.place.now) states done can c.args.store.now.folder (g.P.Place.world c.judged_now.new.place) (g.P.Place.world c.migrate.new.place) c.migrate.new.store.next c.requires.folder (c.in-Ok.ensures.same told)
     record {
-      sound = λ r. c.in-Ok-migrate.ensures.sound read judge c.args.command.now r is told;
-      ahead = λ r. c.in-Ok-migrate.ensures.ahead read judge c.args.command.now r is told;
+      sound = λ r. c.in-Ok-migrate.ensures.sound read judge c.args.command.now r is told held;
+      ahead = λ r. c.in-Ok-migrate.ensures.ahead read judge c.args.command.now r is told held;
       only = c.in-Ok-migrate.ensures.only told;
-      left = c.in-Ok-migrate.ensures.left read is told;
+      left = c.in-Ok-migrate.ensures.left read is told held;
     }) c.unstarted-ran.result lines
     (renewed_so (basis footing read g.P.Place.child setup c.args.project.now sources) c.is_in_order.ensures c.args.index c.args.unit.now c.requires.unit c.args.unit.now.key c.args.command.now c.args.again.now c.args.store.now.next (g.P.Place.world c.args.place.now) (g.P.Place.counts c.args.place.now).starts.flying (g.P.Place.still c.args.place.now) states done can c.args.store.now.folder (g.P.Place.world c.judged_now.new.place) (g.P.Place.world c.migrate.new.place) c.requires.folder (c.in-Ok.ensures.same told)
-    record { stands = c.in-Ok-migrate.ensures.stands read is told; numbered_now = λ s. c.in-Ok-migrate.ensures.numbered read s is told })
+    record { stands = c.in-Ok-migrate.ensures.stands read is told held; numbered_now = λ s. c.in-Ok-migrate.ensures.numbered read s is told })
     (renewed_outcome (basis footing read g.P.Place.child setup c.args.project.now sources) c.is_in_order.ensures c.args.index c.args.unit.now c.requires.unit c.args.unit.now.key c.args.command.now c.args.again.now c.args.store.now.next (g.P.Place.world c.args.place.now) (g.P.Place.counts c.args.place.now).starts.flying (g.P.Place.still c.args.place.now) states done can c.args.store.now.folder c.in-Ok.judgement (g.P.Place.world c.judged_now.new.place) (g.P.Place.world c.migrate.new.place) c.unstarted-ran.result c.requires.folder (c.in-Ok.ensures.same told) (c.in-Ok.ensures.judged told) c.unstarted-ran.ensures (c.in-Ok-migrate.ensures.only told))
 
 pub returns-in-Ok-migrate-clause-others : goal.returns-in-Ok-migrate-clause-others
-returns-in-Ok-migrate-clause-others g c footing read setup sources states done other its is told can apart =
+returns-in-Ok-migrate-clause-others g c footing read setup sources states done other its is told holds can apart =
+    let held = held_same read c.args.store.now.folder (records_folder c.args.project.now) (g.P.Place.world c.args.place.now) (g.P.Place.world c.judged_now.new.place) c.args.store.now.numbers c.requires.folder (c.in-Ok.ensures.same told) holds in
     others_renewed (basis footing read g.P.Place.child setup c.args.project.now sources) c.is_in_order.ensures c.args.index c.args.unit.now c.requires.unit c.args.unit.now.key c.args.command.now c.args.again.now c.args.store.now.next (g.P.Place.world c.args.place.now) (g.P.Place.counts c.args.place.now).starts.flying (g.P.Place.still c.args.place.now) states done can (g.P.Place.world c.migrate.new.place) c.migrate.new.store.next
     (renewing_so (basis footing read g.P.Place.child setup c.args.project.now sources) c.is_in_order.ensures c.args.index c.args.unit.now c.requires.unit c.args.unit.now.key c.args.command.now c.args.again.now c.args.store.now.next (g.P.Place.world c.args.place.now) (g.P.Place.counts c.args.place.now).starts.flying (g.P.Place.still c.args.place.now) states done can c.args.store.now.folder (g.P.Place.world c.judged_now.new.place) (g.P.Place.world c.migrate.new.place) c.migrate.new.store.next c.requires.folder (c.in-Ok.ensures.same told)
     record {
-      sound = λ r. c.in-Ok-migrate.ensures.sound read judge c.args.command.now r is told;
-      ahead = λ r. c.in-Ok-migrate.ensures.ahead read judge c.args.command.now r is told;
+      sound = λ r. c.in-Ok-migrate.ensures.sound read judge c.args.command.now r is told held;
+      ahead = λ r. c.in-Ok-migrate.ensures.ahead read judge c.args.command.now r is told held;
       only = c.in-Ok-migrate.ensures.only told;
-      left = c.in-Ok-migrate.ensures.left read is told;
+      left = c.in-Ok-migrate.ensures.left read is told held;
     }) other its (g.P.Place.counts c.migrate.new.place).starts.flying (g.P.Place.still c.migrate.new.place) apart c.in-Ok-migrate.ensures.next
     (ap (λ (s : Starts). s.flying) c.in-Ok-migrate.ensures.takes.1 ∙ ap (λ (s : Starts). s.flying) c.in-Ok.ensures.takes.1)
     (reused_still c.args.store.now.folder (records_folder c.args.project.now) c.args.unit.now.key (g.P.Place.counts c.args.place.now).starts.flying (g.P.Place.counts c.judged_now.new.place).starts.flying (g.P.Place.still c.args.place.now) (g.P.Place.still c.judged_now.new.place) (g.P.Place.still c.migrate.new.place) c.requires.folder (ap (λ (s : Starts). s.flying) c.in-Ok.ensures.takes.1) (c.in-Ok.ensures.still told) (c.in-Ok-migrate.ensures.still told))
@@ -87,25 +86,27 @@ returns-in-Ok-migrate-clause-only g c told =
     reused_only c.args.store.now.folder (records_folder c.args.project.now) c.args.unit.now.key (g.P.Place.world c.args.place.now) (g.P.Place.world c.judged_now.new.place) (g.P.Place.world c.migrate.new.place) c.requires.folder (c.in-Ok.ensures.same told) (c.in-Ok-migrate.ensures.only told)
 
 pub returns-clause-keeps : goal.returns-clause-keeps
-returns-clause-keeps g c footing read setup sources states done is told can =
+returns-clause-keeps g c footing read setup sources states done is told holds can =
+    let held = held_same read c.args.store.now.folder (records_folder c.args.project.now) (g.P.Place.world c.args.place.now) (g.P.Place.world c.judged_now.new.place) c.args.store.now.numbers c.requires.folder (c.in-Ok.ensures.same told) holds in
     keeps_unrenewed (basis footing read g.P.Place.child setup c.args.project.now sources) c.is_in_order.ensures c.args.index c.args.unit.now c.requires.unit c.args.unit.now.key c.args.command.now c.args.again.now c.args.store.now.next (g.P.Place.world c.args.place.now) (g.P.Place.counts c.args.place.now).starts.flying (g.P.Place.still c.args.place.now) states done can (g.P.Place.world c.migrate.new.place) c.migrate.new.store.next
     (renewing_so (basis footing read g.P.Place.child setup c.args.project.now sources) c.is_in_order.ensures c.args.index c.args.unit.now c.requires.unit c.args.unit.now.key c.args.command.now c.args.again.now c.args.store.now.next (g.P.Place.world c.args.place.now) (g.P.Place.counts c.args.place.now).starts.flying (g.P.Place.still c.args.place.now) states done can c.args.store.now.folder (g.P.Place.world c.judged_now.new.place) (g.P.Place.world c.migrate.new.place) c.migrate.new.store.next c.requires.folder (c.in-Ok.ensures.same told)
     record {
-      sound = λ r. c.in-Err-migrate.ensures.sound read judge c.args.command.now r is told;
-      ahead = λ r. c.in-Err-migrate.ensures.ahead read judge c.args.command.now r is told;
+      sound = λ r. c.in-Err-migrate.ensures.sound read judge c.args.command.now r is told held;
+      ahead = λ r. c.in-Err-migrate.ensures.ahead read judge c.args.command.now r is told held;
       only = c.in-Err-migrate.ensures.only told;
-      left = c.in-Err-migrate.ensures.left read is told;
+      left = c.in-Err-migrate.ensures.left read is told held;
     })
 
 pub returns-clause-others : goal.returns-clause-others
-returns-clause-others g c footing read setup sources states done other its is told can apart =
+returns-clause-others g c footing read setup sources states done other its is told holds can apart =
+    let held = held_same read c.args.store.now.folder (records_folder c.args.project.now) (g.P.Place.world c.args.place.now) (g.P.Place.world c.judged_now.new.place) c.args.store.now.numbers c.requires.folder (c.in-Ok.ensures.same told) holds in
     others_renewed (basis footing read g.P.Place.child setup c.args.project.now sources) c.is_in_order.ensures c.args.index c.args.unit.now c.requires.unit c.args.unit.now.key c.args.command.now c.args.again.now c.args.store.now.next (g.P.Place.world c.args.place.now) (g.P.Place.counts c.args.place.now).starts.flying (g.P.Place.still c.args.place.now) states done can (g.P.Place.world c.migrate.new.place) c.migrate.new.store.next
     (renewing_so (basis footing read g.P.Place.child setup c.args.project.now sources) c.is_in_order.ensures c.args.index c.args.unit.now c.requires.unit c.args.unit.now.key c.args.command.now c.args.again.now c.args.store.now.next (g.P.Place.world c.args.place.now) (g.P.Place.counts c.args.place.now).starts.flying (g.P.Place.still c.args.place.now) states done can c.args.store.now.folder (g.P.Place.world c.judged_now.new.place) (g.P.Place.world c.migrate.new.place) c.migrate.new.store.next c.requires.folder (c.in-Ok.ensures.same told)
     record {
-      sound = λ r. c.in-Err-migrate.ensures.sound read judge c.args.command.now r is told;
-      ahead = λ r. c.in-Err-migrate.ensures.ahead read judge c.args.command.now r is told;
+      sound = λ r. c.in-Err-migrate.ensures.sound read judge c.args.command.now r is told held;
+      ahead = λ r. c.in-Err-migrate.ensures.ahead read judge c.args.command.now r is told held;
       only = c.in-Err-migrate.ensures.only told;
-      left = c.in-Err-migrate.ensures.left read is told;
+      left = c.in-Err-migrate.ensures.left read is told held;
     }) other its (g.P.Place.counts c.migrate.new.place).starts.flying (g.P.Place.still c.migrate.new.place) apart c.in-Err-migrate.ensures.next
     (flying_alone c.args.store.now.next c.args.unit.now.key _ (g.P.Place.counts c.judged_now.new.place).starts (g.P.Place.counts c.migrate.new.place).starts c.in-Err-migrate.ensures.takes.0 ∙ ap (λ (s : Starts). s.flying) c.in-Ok.ensures.takes.1)
     (reused_still c.args.store.now.folder (records_folder c.args.project.now) c.args.unit.now.key (g.P.Place.counts c.args.place.now).starts.flying (g.P.Place.counts c.judged_now.new.place).starts.flying (g.P.Place.still c.args.place.now) (g.P.Place.still c.judged_now.new.place) (g.P.Place.still c.migrate.new.place) c.requires.folder (ap (λ (s : Starts). s.flying) c.in-Ok.ensures.takes.1) (c.in-Ok.ensures.still told) (c.in-Err-migrate.ensures.still told))
@@ -199,3 +200,17 @@ returns-clause-calls g c read reading told =
     (g.P.Place.counts c.args.place.now) (g.P.Place.counts c.judged_now.new.place) c.in-Ok.ensures.calls (ended_badly c.in-Err-migrate.fault) _ (g.P.Place.counts c.migrate.new.place) (ap (λ (r : Ran). is_some r.bad) (sym c.unstarted-ran.ensures) ∙ sym c.is_some.ensures ∙ c.if-is_some.false)
     (renewed_names read c.args.project.now c.args.unit.now c.args.command.now c.args.again.now c.args.store.now.folder (g.P.Place.world c.judged_now.new.place) (g.P.Place.world c.args.place.now) c.in-Ok.judgement.names c.requires.folder (c.in-Ok.ensures.same told) c.if-again.false)
     (c.in-Err-migrate.ensures.calls read reading told)
+
+pub returns-then-is_some-clause-numbers : goal.returns-then-is_some-clause-numbers
+returns-then-is_some-clause-numbers g c read is told holds =
+    held_same read (records_folder c.args.project.now) (records_folder c.args.project.now) (g.P.Place.world c.args.place.now) (g.P.Place.world c.judged_now.new.place) c.args.store.now.numbers refl (c.in-Ok.ensures.same told) holds
+
+pub returns-then-again-clause-numbers : goal.returns-then-again-clause-numbers
+returns-then-again-clause-numbers g c read is told holds =
+    held_same read (records_folder c.args.project.now) (records_folder c.args.project.now) (g.P.Place.world c.args.place.now) (g.P.Place.world c.judged_now.new.place) c.args.store.now.numbers refl (c.in-Ok.ensures.same told) holds
+
+pub returns-in-Ok-migrate-clause-numbers : goal.returns-in-Ok-migrate-clause-numbers
+returns-in-Ok-migrate-clause-numbers g c read is told holds =
+    held_there read c.args.store.now.folder (records_folder c.args.project.now) (g.P.Place.world c.migrate.new.place) c.migrate.new.store.numbers c.requires.folder
+    (c.in-Ok-migrate.ensures.numbers read is told
+    (held_same read c.args.store.now.folder (records_folder c.args.project.now) (g.P.Place.world c.args.place.now) (g.P.Place.world c.judged_now.new.place) c.args.store.now.numbers c.requires.folder (c.in-Ok.ensures.same told) holds))

@@ -1,7 +1,7 @@
 use Rattle.std.proofs.Common.{◌≡◌, ◌∙◌, ℕ, None, Some, ap, inl, sym}
 use Rattle.pb_place.specs.Counts.{Starts}
 use Rattle.pb_run.proofs.Ending.{lifted_after, begun_after}
-use Rattle.pb_run.proofs.Spawning.{launched_ahead, launched_gone, launched_sound, launched_spawned, launched_still}
+use Rattle.pb_run.proofs.Spawning.{launched_ahead, launched_gone, launched_held, launched_sound, launched_spawned, launched_still}
 use Rattle.pb_run.proofs.launching.launch.Goals as goal
 
 pub returns-in-Ok-clause-sound : goal.returns-in-Ok-clause-sound
@@ -60,3 +60,8 @@ returns-in-Err-clause-spent g c none told = absurd (some_number c.in_ok-number.n
   where
     some_number : (n : ℕ) → Some n ≡ None → ⊥
     some_number n e = cc
+
+pub returns-in-Ok-clause-numbers : goal.returns-in-Ok-clause-numbers
+returns-in-Ok-clause-numbers g c read told holds =
+    launched_held read c.args.store.now.folder c.args.unit.now.key c.args.unit.now.out (g.P.Place.world c.drop_record.new.place) (g.P.Place.world c.spawn_anew.new.place) c.requires.key c.requires.lies
+    (c.in-Ok.ensures.only told) _ (c.in_ok-number.ensures.numbers read told holds)

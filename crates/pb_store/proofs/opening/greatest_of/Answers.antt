@@ -20,6 +20,7 @@ loop-path-preserved g c = record {
   most = first_of (search rules, grind (arith, common_steps));
   still = first_of (search rules, grind (arith, common_steps));
   found = first_of (search rules, grind (arith, common_steps));
+  held = first_of (search rules, grind (arith, common_steps));
   within = within_tail _ _ _ _ c.loop-path.invariant.within c.in-Some.ensures.steps.0;
   looks = row_read _ _ _ _ _ _ c.loop-path.invariant.looks c.in-Some.ensures.steps.0 c.in_ok-number.ensures.looks;
   reached = row_reached _ _ _ _ _ _ _ c.loop-path.invariant.reached c.in-Some.ensures.steps.0 c.in_ok-number.ensures.looks;

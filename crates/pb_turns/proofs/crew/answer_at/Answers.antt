@@ -9,7 +9,7 @@ use Rattle.pb_turns.specs.declared.crew.UnitCrew.{UnitCrew}
 use Rattle.pb_flight.specs.Events.{Gave}
 use Rattle.pb_flight.proofs.Lists.{injective, length_set}
 use Rattle.pb_place.specs.World.{ChangesOnly}
-use Rattle.pb_run.specs.Halves.{basis, child_of}
+use Rattle.pb_run.specs.Halves.{WritesTo, basis, child_of}
 use Rattle.pb_run.specs.Standing.{IsCommandOf, records_folder}
 use Rattle.pb_run.specs.Telling.{unit_lines}
 use Rattle.pb_run.proofs.Reusing.{child_numbered}
@@ -127,8 +127,8 @@ returns-in-Err-clause-story g c = λ first at taken faults es given unit s flyin
       unrecorded = λ t. subst (λ n. KeepsNoneInFlight c.args.crew.now.project es (Some n) new.world) (sym its)
           (flight_asked c.args.crew.now.project c.requires.manned.order es now.world new.world c.remove-unit.result.unit c.index-units-unit.result there (only t) (s.unrecorded t));
       happened = failed_happened g.P.Place.tells g.P.Place.child first c.args.crew.now at now new (g.P.Place.still c.args.place.now) (g.P.Place.still c.answer_unit.new.place) es given c.args.index c.remove-unit.result c.index-units-unit.result there s at_index
-          c.requires.manned.units_apart c.requires.manned.tickets_apart c.requires.manned.numbers_apart c.answer_unit.new.store.next c.answer_unit.ensures.others c.requires.manned.order only c.answer_unit.ensures.same
-          c.remove-unit.new.self.items c.remove-unit.ensures.items c.in-Err.ensures.keeps;
+          c.requires.manned.units_apart c.requires.manned.tickets_apart c.requires.manned.numbers_apart c.answer_unit.new.store.next (λ footing read setup sources states done other its reading t. c.answer_unit.ensures.others footing read setup sources states done other its reading t (s.held t read reading)) c.requires.manned.order only c.answer_unit.ensures.same
+          c.remove-unit.new.self.items c.remove-unit.ensures.items (λ footing read setup sources states done reading t. c.in-Err.ensures.keeps footing read setup sources states done reading t (s.held t read reading));
       caused = λ t f r sources reading k.
           let b = basis f r g.P.Place.child c.args.crew.now.setup c.args.crew.now.project sources in (
             spends_answered (LacksNoNumber b at.world) es first.store.next c.args.crew.now.store.next c.index-units-unit.result.key (child_of c.remove-unit.result.begun) c.in-Err.fault now.counts.starts new.counts.starts c.in-Err.ensures.takes.0 (s.taken t f r sources reading k),
@@ -165,8 +165,8 @@ returns-in-Err-lines_of_unit-clause-story g c = λ first at taken faults es give
       unrecorded = λ t. subst (λ n. KeepsNoneInFlight c.args.crew.now.project es (Some n) new.world) (sym its)
           (flight_asked c.args.crew.now.project c.requires.manned.order es now.world new.world c.remove-unit.result.unit c.index-units-unit.result there (only t) (s.unrecorded t));
       happened = untold_happened g.P.Place.tells g.P.Place.child first c.args.crew.now at now new (g.P.Place.still c.args.place.now) (g.P.Place.still c.answer_unit.new.place) es given c.args.index c.remove-unit.result c.index-units-unit.result there s at_index
-          c.requires.manned.units_apart c.requires.manned.tickets_apart c.requires.manned.numbers_apart c.answer_unit.new.store.next c.answer_unit.ensures.others c.requires.manned.order only c.answer_unit.ensures.same
-          c.in-Ok.ran c.in-Ok.ensures.outcome c.in-Ok.ensures.keeps c.in-Ok.ensures.directives c.remove-unit.new.self.items c.remove-unit.ensures.items;
+          c.requires.manned.units_apart c.requires.manned.tickets_apart c.requires.manned.numbers_apart c.answer_unit.new.store.next (λ footing read setup sources states done other its reading t. c.answer_unit.ensures.others footing read setup sources states done other its reading t (s.held t read reading)) c.requires.manned.order only c.answer_unit.ensures.same
+          c.in-Ok.ran c.in-Ok.ensures.outcome (λ footing read setup sources states done reading t. c.in-Ok.ensures.keeps footing read setup sources states done reading t (s.held t read reading)) c.in-Ok.ensures.directives c.remove-unit.new.self.items c.remove-unit.ensures.items;
       caused = λ t f r sources reading k. (tt, none_began (basis f r g.P.Place.child c.args.crew.now.setup c.args.crew.now.project sources) OutOfMemory es at.world new.world);
       calls = calls_untold g.P.Place.world g.P.Place.counts g.P.Place.tells g.P.Place.child first c.args.crew.now at now new (g.P.Place.still c.args.place.now) es given s c.args.index c.remove-unit.result at_index c.index-units-unit.result there c.in-Ok.ran unit its c.in-Ok.ensures.lands;
     }
@@ -181,9 +181,10 @@ returns-clause-story g c = λ first at taken faults es given unit s flying lawfu
     let new = moment (g.P.Place.world c.answer_unit.new.place) (g.P.Place.counts c.answer_unit.new.place) (g.P.Place.most c.answer_unit.new.place) taken faults in
     let its = injective (sym is_unit ∙ get_map place_of_unit c.args.crew.now.aloft.items c.args.index c.remove-unit.result at_index) in
     let begun = subst (λ n. slice_get (states_in c.args.crew.now.project es) n ≡ Some Begun) its flies in
-    let only : IsTrue g.P.Place.tells → ChangesOnly (is_of (records_folder c.args.crew.now.project) c.index-units-unit.result.key) now.world new.world =
-    λ t. c.answer_unit.ensures.only t (its_writes c.args.crew.now.project c.requires.manned.order at.world c.args.crew.now.aloft.items es now.world new.world now.counts.starts.flying new.counts.starts.flying (s.changes t) (λ j y at_j. flying_of c.args.crew.now now.counts j y c.requires.manned at_j)
-    c.args.index c.remove-unit.result at_index c.index-units-unit.result there) in
+    let writes : IsTrue g.P.Place.tells → WritesTo c.index-units-unit.result.out (child_of c.remove-unit.result.begun) now.counts.starts.flying =
+    λ t. its_writes c.args.crew.now.project c.requires.manned.order at.world c.args.crew.now.aloft.items es now.world new.world now.counts.starts.flying new.counts.starts.flying (s.changes t) (λ j y at_j. flying_of c.args.crew.now now.counts j y c.requires.manned at_j)
+    c.args.index c.remove-unit.result at_index c.index-units-unit.result there in
+    let only : IsTrue g.P.Place.tells → ChangesOnly (is_of (records_folder c.args.crew.now.project) c.index-units-unit.result.key) now.world new.world = λ t. c.answer_unit.ensures.only t (writes t) in
     let crew : UnitCrew = record { setup = c.args.crew.now.setup; project = c.args.crew.now.project; store = c.answer_unit.new.store; done = c.note_answer.new.done; aloft = c.remove-unit.new.self; started = c.args.crew.now.started; reasons = c.args.crew.now.reasons } in
     let answer : Answer BadUnit = record { fault = c.in-Ok.ran.bad; lines = c.in-Ok-lines_of_unit.lines } in
     let childless : is_started es c.remove-unit.result.unit ≡ true → c.answer_unit.new.store.next ≡ c.args.crew.now.store.next =
@@ -206,9 +207,10 @@ returns-clause-story g c = λ first at taken faults es given unit s flying lawfu
           (c.in-Ok.ensures.unkept t (its_writes c.args.crew.now.project c.requires.manned.order at.world c.args.crew.now.aloft.items es now.world new.world now.counts.starts.flying new.counts.starts.flying (s.changes t) (λ j y at_j. flying_of c.args.crew.now now.counts j y c.requires.manned at_j)
           c.args.index c.remove-unit.result at_index c.index-units-unit.result there) bad) (none read));
       unrecorded = λ t. flight_given c.args.crew.now.project c.requires.manned.order es now.world new.world c.remove-unit.result.unit c.index-units-unit.result there (only t) (s.unrecorded t) answer begun;
+      held = λ t read reading. c.in-Ok.ensures.numbers read reading t (writes t) (s.held t read reading);
       happened = answered_happened g.P.Place.tells g.P.Place.child first c.args.crew.now at now new (g.P.Place.still c.args.place.now) (g.P.Place.still c.answer_unit.new.place) es given c.args.index c.remove-unit.result c.index-units-unit.result there s at_index
-          c.requires.manned.units_apart c.requires.manned.tickets_apart c.requires.manned.numbers_apart c.answer_unit.new.store.next c.answer_unit.ensures.others c.requires.manned.order only c.answer_unit.ensures.same
-          c.in-Ok.ran c.in-Ok.ensures.outcome c.in-Ok.ensures.keeps c.in-Ok.ensures.directives c.in-Ok-lines_of_unit.lines c.remove-unit.new.self.items c.note_answer.new.done.items c.remove-unit.ensures.items c.note_answer.ensures.done
+          c.requires.manned.units_apart c.requires.manned.tickets_apart c.requires.manned.numbers_apart c.answer_unit.new.store.next (λ footing read setup sources states done other its reading t. c.answer_unit.ensures.others footing read setup sources states done other its reading t (s.held t read reading)) c.requires.manned.order only c.answer_unit.ensures.same
+          c.in-Ok.ran c.in-Ok.ensures.outcome (λ footing read setup sources states done reading t. c.in-Ok.ensures.keeps footing read setup sources states done reading t (s.held t read reading)) c.in-Ok.ensures.directives c.in-Ok-lines_of_unit.lines c.remove-unit.new.self.items c.note_answer.new.done.items c.remove-unit.ensures.items c.note_answer.ensures.done
           c.in-Ok.ensures.started (c.in-Ok-lines_of_unit.ensures ∙ ap (λ p. unit_lines p c.index-units-unit.result c.in-Ok.ran.started c.as_slice.result.now) c.get.ensures ∙ ap (λ ms. unit_lines c.args.crew.now.project c.index-units-unit.result c.in-Ok.ran.started ms) c.as_slice.ensures);
       quiet = answered_quiet g.P.Place.tells g.P.Place.child first c.args.crew.now at now new (g.P.Place.still c.args.place.now) es given s c.args.index c.remove-unit.result c.index-units-unit.result there at_index answer c.answer_unit.ensures.same;
       calls = calls_answered g.P.Place.world g.P.Place.counts g.P.Place.tells g.P.Place.child first c.args.crew.now at now new (g.P.Place.still c.args.place.now) es given s c.args.index c.remove-unit.result at_index c.index-units-unit.result there answer c.in-Ok.ran c.in-Ok.ensures.lands;

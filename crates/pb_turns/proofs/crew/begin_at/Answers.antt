@@ -100,7 +100,7 @@ returns-in-Err-begin_unit-clause-story g c = λ first at taken faults es given s
         caused = failed_caused g.P.Place.tells g.P.Place.child first c.args.crew.now at (moment (g.P.Place.world c.args.place.now) (g.P.Place.counts c.args.place.now) (g.P.Place.most c.args.place.now) taken faults)
             (moment (g.P.Place.world c.begin_unit.new.place) (g.P.Place.counts c.begin_unit.new.place) (g.P.Place.most c.begin_unit.new.place) taken faults) (g.P.Place.still c.args.place.now) (g.P.Place.still c.begin_unit.new.place)
             es given c.args.unit c.index-units-unit.result c.requires.manned.order there s may c.begin_unit.new.store.next c.as_slice.result.now c.as_slice.ensures.value
-            c.begin_unit.ensures.keeps c.begin_unit.ensures.others c.begin_unit.ensures.only spawned c.in-Err-begin_unit.fault spends (within_reasons c.args.crew.now c.args.unit c.requires.manned.reasoned c.requires.unit) c.in-Err-begin_unit.ensures.cause;
+            c.begin_unit.ensures.keeps c.begin_unit.ensures.others c.begin_unit.ensures.only spawned c.in-Err-begin_unit.fault spends (within_reasons c.args.crew.now c.args.unit c.requires.manned.reasoned c.requires.unit) (λ read reading t. c.in-Err-begin_unit.ensures.cause read reading t (s.held t read reading));
         calls = calls_unbegun g.P.Place.tells g.P.Place.child first c.args.crew.now at (moment (g.P.Place.world c.args.place.now) (g.P.Place.counts c.args.place.now) (g.P.Place.most c.args.place.now) taken faults)
             (moment (g.P.Place.world c.begin_unit.new.place) (g.P.Place.counts c.begin_unit.new.place) (g.P.Place.most c.begin_unit.new.place) taken faults) (g.P.Place.still c.args.place.now)
             es given c.args.unit c.index-units-unit.result c.requires.manned.order there s may c.as_slice.result.now c.as_slice.ensures.value spawned c.in-Err-begin_unit.fault
@@ -133,9 +133,11 @@ returns-clause-story g c = λ first at taken faults es given s flying lawful is_
           record { unit = c.args.unit; begun = c.in-Ok-begin_unit.made.begun } c.note_begun.new.aloft.items refl more (c.in-Ok-begin_unit.ensures.writes t) refl (λ launched read. c.in-Ok-begin_unit.ensures.dropped read t launched);
       unrecorded = λ t. flight_begun c.args.crew.now.project c.requires.manned.order es now.world new.world c.args.unit c.index-units-unit.result there (c.begin_unit.ensures.only t) (s.unrecorded t) (is_some (child_of c.in-Ok-begin_unit.made.begun)) may.untouched
           (λ launched read. c.in-Ok-begin_unit.ensures.dropped read t launched);
+      held = λ t read reading. c.in-Ok-begin_unit.ensures.numbers read t (s.held t read reading);
       happened = begun_happened g.P.Place.tells g.P.Place.child first c.args.crew.now at now new (g.P.Place.still c.args.place.now) (g.P.Place.still c.begin_unit.new.place)
           es given c.args.unit c.index-units-unit.result c.requires.manned.order there s may c.begin_unit.new.store.next c.as_slice.result.now c.as_slice.ensures.value
-          c.begin_unit.ensures.keeps c.begin_unit.ensures.others c.begin_unit.ensures.only c.in-Ok-begin_unit.made.begun c.note_begun.new.aloft.items c.in-Ok-begin_unit.made.difference c.note_begun.new.reasons.items more c.in-Ok-begin_unit.ensures.begun c.in-Ok-begin_unit.ensures.differs
+          c.begin_unit.ensures.keeps c.begin_unit.ensures.others c.begin_unit.ensures.only c.in-Ok-begin_unit.made.begun c.note_begun.new.aloft.items c.in-Ok-begin_unit.made.difference c.note_begun.new.reasons.items more
+          (λ footing read sources states reading t. c.in-Ok-begin_unit.ensures.begun footing read sources states reading t (s.held t read reading)) (λ read reading t. c.in-Ok-begin_unit.ensures.differs read reading t (s.held t read reading))
           c.in-Ok-begin_unit.ensures.spawned (within_reasons c.args.crew.now c.args.unit c.requires.manned.reasoned c.requires.unit) c.in-Ok-begin_unit.ensures.same c.note_begun.ensures.reasons;
       quiet = begun_quiet g.P.Place.tells g.P.Place.child first c.args.crew.now at now new (g.P.Place.still c.args.place.now) es given c.args.unit s c.in-Ok-begin_unit.made.begun c.in-Ok-begin_unit.ensures.same;
       calls = calls_begun g.P.Place.tells g.P.Place.child first c.args.crew.now at now new (g.P.Place.still c.args.place.now) es given c.args.unit c.index-units-unit.result c.requires.manned.order there s may c.as_slice.result.now c.as_slice.ensures.value

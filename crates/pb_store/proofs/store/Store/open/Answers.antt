@@ -1,5 +1,6 @@
 use Rattle.pb_store.proofs.Ahead.{opened_ahead, opened_next}
 use Rattle.pb_store.proofs.Called.{opens_by_listing, opens_by_reading}
+use Rattle.pb_store.proofs.Held.{opened_held}
 use Rattle.pb_store.proofs.LookingBy.{folder_opened, folder_unlisted, folder_unread}
 use Rattle.pb_store.proofs.store.Store.open.Goals as goal
 
@@ -22,3 +23,7 @@ returns-in-Err-clause-looks g c told = folder_unlisted c.args.folder (g.P.Place.
 
 pub returns-in-Err-greatest_of-clause-looks : goal.returns-in-Err-greatest_of-clause-looks
 returns-in-Err-greatest_of-clause-looks g c told = folder_unread c.args.folder (g.P.Place.world c.args.place.now) _ _ _ _ _ (c.in-Ok.ensures.ok told) c.in-Ok.ensures.counts c.in-Err-greatest_of.ensures.looks
+
+pub returns-in-Ok-greatest_of-clause-numbers : goal.returns-in-Ok-greatest_of-clause-numbers
+returns-in-Ok-greatest_of-clause-numbers g c read is told =
+    opened_held read c.args.folder (g.P.Place.world c.args.place.now) (g.P.Place.world c.list_directly.new.self) _ _ _ (c.in-Ok.ensures.same told) (c.in-Ok.ensures.ok told) c.new-numbers.ensures (c.in-Ok-greatest_of.ensures.held read is told)

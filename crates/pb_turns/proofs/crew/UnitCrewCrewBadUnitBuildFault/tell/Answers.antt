@@ -13,6 +13,7 @@ returns-then-write_all-clause-story g c = λ first first_place first_out es give
   taken = s.taken;
   changes = s.changes;
   unrecorded = s.unrecorded;
+  held = s.held;
   happened = s.happened;
   quiet = s.quiet;
   calls = s.calls;

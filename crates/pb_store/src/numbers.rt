@@ -1,0 +1,162 @@
+//! The run numbers that a store holds, so that no record is read once more for its number.
+
+ghost use Rattle.std.specs.Prelude.{◌≡◌, ◌&&◌, Decides, IfErr, IfOk, OnOk, Some};
+ghost use Rattle.std.specs.Str.{bytes_eq};
+ghost use Rattle.pb_data.specs.Table.{with_entry};
+ghost use Rattle.pb_store.specs.Differences.{FirstOrAll};
+ghost use Rattle.pb_store.specs.Held.{number_held};
+ghost use Rattle.pb_store.specs.Keeping.{or_zero};
+ghost use Rattle.pb_soundness.specs.Records.{is_key, place_of};
+ghost use Rattle.pb_store.specs.Presence.{IsHeld, noted, numbered_by};
+ghost use Rattle.pb_store.specs.declared.fault.StoreFault.TheVariants as store_fault;
+
+use crate::fault::StoreFault;
+use crate::keeping::number_of;
+use crate::keys::is_key;
+use crate::store::place_path;
+use pb_data::{Items, Table, Text, TryCopy};
+use pb_place::PathText;
+use pb_record::Record;
+use std::alloc::{AllocError, Global};
+
+/// The run number that is held of a unit, where there is one.
+fn number_held(numbers: &Table<Option<u64>>, key: &Text) -> Option<u64>
+    ensures { result ≡ number_held numbers.now key.now }
+{
+    match numbers.get(key) {
+        None => None,
+        Some(number) => *number,
+    }
+}
+
+/// Whether this is the number.
+fn is_number(found: Option<u64>, number: u64) -> bool
+    ensures { Decides result (found ≡ Some number) }
+{
+    match found {
+        None => false,
+        Some(own) => own == number,
+    }
+}
+
+/// Whether a needed unit has the number with which it is named.
+fn is_held(numbers: &Table<Option<u64>>, need: &(Text, u64)) -> bool
+    ensures { Decides result (IsHeld numbers.now need.now) }
+{
+    is_number(number_held(numbers, &need.0), need.1)
+}
+
+/// The key of the first needed unit that has not the number with which it is named.
+pub(crate) fn first_number(
+    alloc: Global,
+    numbers: &Table<Option<u64>>,
+    needs: &[(Text, u64)],
+) -> Result<Option<Text>, AllocError>
+    ensures { IfOk result (λ found. FirstOrAll (IsHeld numbers.now) needs.now found) }
+{
+    for need in needs {
+        if !is_held(numbers, need) {
+            return match need.0.copy(alloc) {
+                Ok(key) => Ok(Some(key)),
+                Err(fault) => Err(fault),
+            };
+        }
+    }
+    Ok(None)
+}
+
+/// A number; 0 where there is none.
+fn or_zero(found: Option<u64>) -> u64
+    ensures { result ≡ or_zero found }
+{
+    match found {
+        None => 0,
+        Some(number) => number,
+    }
+}
+
+/// A needed unit with the number that is held of it.
+fn numbered_one(
+    alloc: Global,
+    numbers: &Table<Option<u64>>,
+    key: &Text,
+) -> Result<(Text, u64), AllocError>
+    ensures { IfOk result (λ pair. pair ≡ (key.now, or_zero (number_held numbers.now key.now))) }
+{
+    let name = key.copy(alloc)?;
+    Ok((name, or_zero(number_held(numbers, key))))
+}
+
+/// The needed units with the numbers that are held of them.
+pub(crate) fn numbered(
+    alloc: Global,
+    numbers: &Table<Option<u64>>,
+    needs: &[Text],
+) -> Result<Items<(Text, u64)>, AllocError>
+    ensures { IfOk result (λ pairs. pairs ≡ numbered_by numbers.now needs.now) }
+{
+    let mut pairs = Items::new(alloc);
+    for need in needs {
+        pairs.push(numbered_one(alloc, numbers, need)?)?;
+    }
+    Ok(pairs)
+}
+
+/// Notes the number of a unit's record, or that it has none. Its one fault is OutOfMemory.
+pub(crate) fn note(
+    alloc: Global,
+    numbers: &mut Table<Option<u64>>,
+    key: &Text,
+    number: Option<u64>,
+) -> Result<(), StoreFault>
+    ensures ok { OnOk result (numbers.new ≡ with_entry numbers.old key.now number) }
+    ensures fault { IfErr result (λ e. e ≡ store_fault.OutOfMemory) }
+{
+    let name = match key.copy(alloc) {
+        Ok(name) => name,
+        Err(_) => return Err(StoreFault::OutOfMemory),
+    };
+    match numbers.insert(name, number) {
+        Ok(()) => Ok(()),
+        Err(_) => Err(StoreFault::OutOfMemory),
+    }
+}
+
+/// Whether a path is the place of a unit's record.
+fn is_place(
+    alloc: Global,
+    folder: &PathText,
+    key: &Text,
+    path: &PathText,
+) -> Result<bool, AllocError>
+    ensures { IfOk result (λ is. is ≡ is_key key.now && bytes_eq (place_of folder.now key.now) path.now) }
+{
+    if !is_key(key) {
+        return Ok(false);
+    }
+    let place = place_path(alloc, folder, key)?;
+    Ok(place.as_str().as_bytes() == path.as_str().as_bytes())
+}
+
+/// Notes the number of a record that was read at a path, where that is the place of its key. Its one fault is
+/// OutOfMemory.
+pub(crate) fn note_read(
+    alloc: Global,
+    numbers: &mut Table<Option<u64>>,
+    folder: &PathText,
+    path: &PathText,
+    found: &Option<Record>,
+) -> Result<(), StoreFault>
+    ensures ok { OnOk result (numbers.new ≡ noted folder.now path.now found.now numbers.old) }
+    ensures fault { IfErr result (λ e. e ≡ store_fault.OutOfMemory) }
+{
+    let kept = match found {
+        None => return Ok(()),
+        Some(kept) => kept,
+    };
+    match is_place(alloc, folder, &kept.key, path) {
+        Ok(true) => note(alloc, numbers, &kept.key, number_of(kept)),
+        Ok(false) => Ok(()),
+        Err(_) => Err(StoreFault::OutOfMemory),
+    }
+}
