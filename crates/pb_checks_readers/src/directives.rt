@@ -364,6 +364,8 @@ fn laws_are_named() {
     laws::variables_stand_once();
     laws::last_metadata_counts();
     laws::passed_names_stand_once();
+    laws::lines_say();
+    laws::infos_say();
     pb_data::table::table_names::<Text>();
     pb_data::table::table_values::<Text>();
     pb_data::table::table_joins::<Text>();

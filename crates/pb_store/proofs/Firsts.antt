@@ -7,18 +7,17 @@ use Rattle.std.specs.List.{AllByRecursion}
 use Rattle.std.specs.Str.{bytes_eq}
 use Rattle.std.proofs.lemmas.Bool.{and_parts, and_from}
 use Rattle.std.proofs.lemmas.Slice.Eq.{bytes_eq-Decides}
-use Rattle.pb_place.specs.World.{World, Map}
+use Rattle.pb_place.specs.World.{World}
 use Rattle.pb_record.proofs.LawLemmas.{one_reading}
 use Rattle.pb_record.proofs.ReadingLemmas.{reading, reading_reads}
-use Rattle.pb_soundness.proofs.Places.{no_key}
 use Rattle.pb_record.specs.Parts.{IsReading}
 use Rattle.pb_place.specs.declared.command.Command.{Command}
 use Rattle.pb_record.specs.declared.record.Needed.{Needed}
 use Rattle.pb_record.specs.declared.record.Needed.TheVariants.{Copies, Numbers}
 use Rattle.pb_record.specs.declared.record.Record.{Record}
 use Rattle.pb_soundness.specs.Grounded.{Standing}
-use Rattle.pb_soundness.specs.Records.{Reading, is_key, record_at}
-use Rattle.pb_soundness.specs.Reuse.{IsSame, NeededNow, number_if}
+use Rattle.pb_soundness.specs.Records.{Reading, record_at}
+use Rattle.pb_soundness.specs.Reuse.{IsSame, NeededNow}
 use Rattle.pb_store.specs.Differences.{IsFirst, AreNeeded, HasFiles, HasNumber, FirstFrom, FirstOf, FirstDifference, same_files}
 use Rattle.pb_store.specs.declared.difference.Difference.{Difference}
 use Rattle.pb_store.specs.declared.difference.Difference.TheVariants.{NoRecord}

@@ -1,5 +1,5 @@
 -- The numbers that a store holds stand for those of the records: once it is opened, and as records come and go.
-use Rattle.std.proofs.Common.{◌≡◌, ◌≢◌, ◌⊎◌, ◌∙◌, ◌&&◌, ℕ, true, false, if◌then◌else◌, codes, List, [], ◌∷◌, ◌++◌, map, Option, Some, None, Contains, refl, sym, ap, subst, inl, inr}
+use Rattle.std.proofs.Common.{◌≡◌, ◌≢◌, ◌⊎◌, ◌∙◌, ◌&&◌, ℕ, true, false, if◌then◌else◌, codes, List, [], ◌∷◌, ◌++◌, Option, Some, None, Contains, refl, sym, ap, subst, inl, inr}
 use Rattle.std.proofs.lemmas.Bool.{cases_Bool, false≢true, and_from}
 use Rattle.std.proofs.lemmas.List.{append_cancel_right}
 use Rattle.std.proofs.lemmas.Slice.Eq.{bytes_eq-Decides}
@@ -82,8 +82,8 @@ value_elsewhere : (numbers : List (List ℕ × Option ℕ)) (key : List ℕ) (n 
 value_elsewhere [] key n other apart = ap (λ b. if b then Some n else None) (unlike other key apart)
 value_elsewhere (e ∷ es) key n other apart = elim (cases_Bool (bytes_eq key e.0)) [
   | inl same ↦
-    let away : bytes_eq other e.0 ≡ false = unlike other e.0 (λ is. apart (is ∙ sym ((bytes_eq-Decides key e.0).0 same))) in
-    ap (λ b. value_at other (if b then (e.0, n) ∷ es else e ∷ with_entry es key n)) same ∙ ap (λ b. if b then Some n else value_at other es) away ∙ sym (ap (λ b. if b then Some e.1 else value_at other es) away)
+      let away : bytes_eq other e.0 ≡ false = unlike other e.0 (λ is. apart (is ∙ sym ((bytes_eq-Decides key e.0).0 same))) in
+      ap (λ b. value_at other (if b then (e.0, n) ∷ es else e ∷ with_entry es key n)) same ∙ ap (λ b. if b then Some n else value_at other es) away ∙ sym (ap (λ b. if b then Some e.1 else value_at other es) away)
   | inr more ↦ ap (λ b. value_at other (if b then (e.0, n) ∷ es else e ∷ with_entry es key n)) more ∙ ap (λ v. if bytes_eq other e.0 then Some e.1 else v) (value_elsewhere es key n other apart)
 ]
 
@@ -134,7 +134,7 @@ module _ (read : Reading) (folder : List ℕ) (m : Map) where
   noted_apart path key None numbers apart = refl
   noted_apart path key (Some r) numbers apart = elim (cases_Bool (is_key r.key && bytes_eq (place_of folder r.key) path)) [
     | inl here ↦ ap (λ b. number_held (if b then with_entry numbers r.key (number_of r) else numbers) key) here
-      ∙ ap held_if (value_elsewhere numbers r.key (number_of r) key (apart r.key (and_left _ _ here) ((bytes_eq-Decides (place_of folder r.key) path).0 (and_right _ _ here))))
+        ∙ ap held_if (value_elsewhere numbers r.key (number_of r) key (apart r.key (and_left _ _ here) ((bytes_eq-Decides (place_of folder r.key) path).0 (and_right _ _ here))))
     | inr other ↦ ap (λ b. number_held (if b then with_entry numbers r.key (number_of r) else numbers) key) other
   ]
 
@@ -151,18 +151,18 @@ module _ (read : Reading) (folder : List ℕ) (m : Map) where
   noted_here key None numbers is (inr same) = same
   noted_here key (Some r) numbers is before = elim (cases_Bool (is_key r.key && bytes_eq (place_of folder r.key) (place_of folder key))) [
     | inl here ↦
-      let own : r.key ≡ key = place_is folder r.key key ((bytes_eq-Decides (place_of folder r.key) (place_of folder key)).0 (and_right _ _ here)) in
-      ap (λ b. number_held (if b then with_entry numbers r.key (number_of r) else numbers) key) here
-      ∙ subst (λ k. number_held (with_entry numbers r.key (number_of r)) k ≡ number_of r) own (ap held_if (value_there numbers r.key (number_of r)))
-      ∙ sym (ap (λ b. number_if (if b then Some r else None)) ((bytes_eq-Decides r.key key).1 own))
+        let own : r.key ≡ key = place_is folder r.key key ((bytes_eq-Decides (place_of folder r.key) (place_of folder key)).0 (and_right _ _ here)) in
+        ap (λ b. number_held (if b then with_entry numbers r.key (number_of r) else numbers) key) here
+        ∙ subst (λ k. number_held (with_entry numbers r.key (number_of r)) k ≡ number_of r) own (ap held_if (value_there numbers r.key (number_of r)))
+        ∙ sym (ap (λ b. number_if (if b then Some r else None)) ((bytes_eq-Decides r.key key).1 own))
     | inr other ↦
-      let apart : bytes_eq r.key key ≡ false = unlike r.key key (λ own. false≢true (sym other ∙ and_from _ _ (ap is_key own ∙ is) ((bytes_eq-Decides (place_of folder r.key) (place_of folder key)).1 (ap (place_of folder) own)))) in
-      let none : number_if (if_of_key key (Some r)) ≡ None = ap (λ b. number_if (if b then Some r else None)) apart in
-      ap (λ b. number_held (if b then with_entry numbers r.key (number_of r) else numbers) key) other
-      ∙ elim before [
-        | inl unheld ↦ unheld ∙ sym none
-        | inr same ↦ same
-      ]
+        let apart : bytes_eq r.key key ≡ false = unlike r.key key (λ own. false≢true (sym other ∙ and_from _ _ (ap is_key own ∙ is) ((bytes_eq-Decides (place_of folder r.key) (place_of folder key)).1 (ap (place_of folder) own)))) in
+        let none : number_if (if_of_key key (Some r)) ≡ None = ap (λ b. number_if (if b then Some r else None)) apart in
+        ap (λ b. number_held (if b then with_entry numbers r.key (number_of r) else numbers) key) other
+        ∙ elim before [
+          | inl unheld ↦ unheld ∙ sym none
+          | inr same ↦ same
+        ]
   ]
 
   module _ (key : List ℕ) (is : is_key key ≡ true) where

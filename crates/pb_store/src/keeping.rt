@@ -20,8 +20,8 @@ ghost use Rattle.pb_record.specs.Parts.{IsReading};
 ghost use Rattle.pb_record.specs.Sorted.{are_sorted};
 
 use crate::fault::{StoreFault, stored};
-use crate::numbers::{note, numbered};
 use crate::inputs::present;
+use crate::numbers::{note, numbered};
 use crate::store::{Store, place_path};
 use pb_data::{Bytes, Items, Table, Text, TryCopy, with_next};
 use pb_place::{Command, Ended, PathText, Place};

@@ -24,8 +24,8 @@ ghost use Rattle.pb_store.specs.Migrating.{IsMigrated, TakesNumber, lacks_number
 
 use crate::dropping::number_after;
 use crate::fault::StoreFault;
-use crate::numbers::{note, numbered};
 use crate::keeping::{number_of, put_record};
+use crate::numbers::{note, numbered};
 use crate::store::{Store, record_at};
 use pb_data::{Items, Text};
 use pb_place::Place;

@@ -16,8 +16,8 @@ ghost use Rattle.pb_record.specs.Parts.{IsReading};
 
 use crate::dropping::number_after;
 use crate::fault::{OpenFault, opened};
-use crate::numbers::note_read;
 use crate::keys::ends_as_record;
+use crate::numbers::note_read;
 use crate::store::{Store, read_text};
 use pb_data::{Items, Table, Text};
 use pb_place::{PathText, Place};
