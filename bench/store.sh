@@ -2,7 +2,7 @@
 # Measures calls of a `Store` over files in memory.
 #
 #   open         `Store::open` on a folder with so many records
-#   needs        `differs` of an unchanged unit that needs so many units: it reads the record of each
+#   needs        `differs` of an unchanged unit that needs so many units, whose numbers the store holds
 #   file         `differs` of an unchanged unit with one declared file of so many MiB
 #   files        `differs` of an unchanged unit with so many declared files of 16 KiB
 #   folder       `differs` of an unchanged unit with a declared folder of so many files of 16 KiB
@@ -312,12 +312,11 @@ fn ended(alloc: Global) -> Result<Ended, AllocError> {
     })
 }
 
-/// The store of the profile folder.
-fn store_of(alloc: Global) -> Result<Store, PathFault> {
-    Ok(Store {
-        folder: PathText::parse(alloc, "/t/debug")?,
-        next: Some(8),
-    })
+/// The store of the profile folder, opened.
+fn store_of(alloc: Global, place: &mut Memory<Silent>) -> Result<Store> {
+    let folder = PathText::parse(alloc, "/t/debug")?;
+    let store = Store::open(alloc, place, folder)?;
+    Ok(store)
 }
 
 /// Opens the store; so many where it is the expected one.
@@ -341,7 +340,7 @@ fn call_differs(
     count: usize,
 ) -> Result<(u128, usize)> {
     let key = own_key(rt.alloc())?;
-    let store = store_of(rt.alloc())?;
+    let store = store_of(rt.alloc(), place)?;
     let start = rt.thread_cpu_time()?;
     let found = store.differs(rt.alloc(), place, &key, command)?;
     let spent = since(rt, start)?;
@@ -356,7 +355,7 @@ fn keep_names(
     names: &[InputName],
 ) -> Result<u128> {
     let key = own_key(rt.alloc())?;
-    let store = store_of(rt.alloc())?;
+    let mut store = store_of(rt.alloc(), place)?;
     let command = own_command(rt.alloc(), asked, &store.folder, &key)?;
     let ended = ended(rt.alloc())?;
     let start = rt.thread_cpu_time()?;
@@ -423,6 +422,9 @@ fn calls(rt: &HostRuntime, shape: &str, count: usize, number: usize) -> Result<(
 fn prepare_alone(rt: &HostRuntime, shape: &str, count: usize) -> Result<()> {
     let mut place = Memory::new(rt.alloc(), Silent);
     asked_in(rt.alloc(), &mut place, shape, count)?;
+    if shape != "open" {
+        drop(store_of(rt.alloc(), &mut place)?);
+    }
     Ok(())
 }
 
