@@ -25,9 +25,10 @@ ghost use Rattle.pb_run.specs.Standing.{IsCommandOf, IsInOrder, records_folder};
 ghost use Rattle.pb_run.specs.declared.begun.Begun.{Begun};
 ghost use Rattle.pb_unit.specs.declared.plan.Planned.{Planned};
 ghost use Rattle.pb_soundness.specs.Apart.{is_of};
+ghost use Rattle.pb_soundness.specs.Grounded.{Standing};
 ghost use Rattle.pb_soundness.specs.Numbers.{after};
 ghost use Rattle.pb_soundness.specs.Records.{Reading, place_of, record_at};
-ghost use Rattle.pb_store.specs.Differences.{FirstDifference};
+ghost use Rattle.pb_store.specs.Differences.{FirstDifference, FirstOf};
 ghost use Rattle.pb_store.specs.Held.{HoldsNumbers};
 ghost use Rattle.pb_place.specs.CallsInTurn.{past_calls};
 ghost use Rattle.pb_store.specs.Looking.{looked_at};
@@ -97,6 +98,7 @@ pub fn begin_unit<P: Place>(
         → CanBegin (basis footing read P.child setup.now project.now sources) states done.now index unit.now store.old.next (P.world place.old)
         → BeginsApart (basis footing read P.child setup.now project.now sources) states index None other its store.old.next (P.world place.old) (P.counts place.old).starts.flying (P.still place.old)
         → IsBegun (basis footing read P.child setup.now project.now sources) other its store.new.next (P.world place.new) (P.counts place.new).starts.flying (P.still place.new) }
+    ensures held { (read : Reading) (at : Standing) → IsReading read → IsTrue P.tells → HoldsNumbers at store.old.numbers → IfOk result (λ made. FirstOf (records_folder project.now) at made.begun.command (P.world place.old) (record_at read (records_folder project.now) (P.world place.old).files unit.now.key) made.difference) }
     ensures differs { (read : Reading) → IsReading read → IsTrue P.tells → HoldsNumbers (record_at read (records_folder project.now) (P.world place.old).files) store.old.numbers → IfOk result (λ made. FirstDifference read (records_folder project.now) unit.now.key made.begun.command (P.world place.old) made.difference) }
     ensures spawned { IfOk result (λ made. is_some (child_of made.begun) ≡ is_some made.difference) }
     ensures only { IsTrue P.tells → ChangesOnly (is_of (records_folder project.now) unit.now.key) (P.world place.old) (P.world place.new) }

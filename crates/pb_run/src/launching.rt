@@ -9,12 +9,13 @@ ghost use Rattle.pb_record.specs.declared.record.Record.{Record};
 ghost use Rattle.pb_run.specs.Causes.{Takes, NoStart, IsLifted, MayBeginUnit, MakesInTurn, is_of_start};
 ghost use Rattle.pb_run.specs.Launching.{IsSpawned, Calls, OneCall, DropEnds, Spawns, SpawnEnds, SpawnsAnew, AnewEnds, Launches, LaunchEnds};
 ghost use Rattle.pb_soundness.specs.Apart.{is_of, KeepsStill, KeepsStillOutside};
+ghost use Rattle.pb_soundness.specs.Grounded.{Standing};
 ghost use Rattle.pb_soundness.specs.Inputs.{Judge};
 ghost use Rattle.pb_soundness.specs.Numbers.{after, IsAhead};
 ghost use Rattle.pb_soundness.specs.Records.{Reading, is_key, out_of, place_of, record_at};
 ghost use Rattle.pb_soundness.specs.Reuse.{IsSame};
 ghost use Rattle.pb_soundness.specs.Sound.{Sound};
-ghost use Rattle.pb_store.specs.Differences.{FirstDifference};
+ghost use Rattle.pb_store.specs.Differences.{FirstDifference, FirstOf};
 ghost use Rattle.pb_store.specs.Held.{HoldsNumbers};
 ghost use Rattle.pb_store.specs.Keeping.{Leaves};
 ghost use Rattle.pb_store.specs.Looking.{looked_at};
@@ -41,6 +42,7 @@ pub(crate) fn compare<P: Place>(
     command: &Command,
 ) -> Result<Compared, BuildFault>
     requires { is_key key.now ≡ true }
+    ensures held { (read : Reading) (at : Standing) → IsReading read → IsTrue P.tells → HoldsNumbers at store.now.numbers → IfOk result (λ compared. FirstOf store.now.folder at command.now (P.world place.old) (record_at read store.now.folder (P.world place.old).files key.now) (difference_in compared)) }
     ensures first { (read : Reading) → IsReading read → IsTrue P.tells → HoldsNumbers (record_at read store.now.folder (P.world place.old).files) store.now.numbers → IfOk result (λ compared. FirstDifference read store.now.folder key.now command.now (P.world place.old) (difference_in compared)) }
     ensures none { (read : Reading) → IsReading read → IsTrue P.tells → HoldsNumbers (record_at read store.now.folder (P.world place.old).files) store.now.numbers → IfOk result (λ compared. IfNone (difference_in compared) ((r : Record) × IsSame read store.now.folder key.now command.now (P.world place.old) r)) }
     ensures carries { (read : Reading) → IsReading read → IsTrue P.tells → IfOk result (CarriesReplayed (record_at read store.now.folder (P.world place.old).files key.now)) }

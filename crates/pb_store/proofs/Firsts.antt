@@ -78,14 +78,13 @@ is_the_reading = reading_reads
 
 pub ruleset number_laws = (is_the_reading)
 
--- what is told of the record there
-pub none_there : (folder key : List ℕ) (c : Command) (w : World) (found : Option Record) → found ≡ record_at reading folder w.files key → found ≡ None → FirstDifference reading folder key c w (Some NoRecord)
-none_there folder key c w found is none = subst (λ o. FirstOf folder (record_at reading folder w.files) c w o (Some NoRecord)) (sym none ∙ is) refl
+-- what is told of the record there, by the records of needed units
+module _ (folder key : List ℕ) (at : Standing) (c : Command) (w : World) (found : Option Record) (is : found ≡ record_at reading folder w.files key) where
+  pub none_there : found ≡ None → FirstOf folder at c w (record_at reading folder w.files key) (Some NoRecord)
+  none_there none = subst (λ o. FirstOf folder at c w o (Some NoRecord)) (sym none ∙ is) refl
 
-pub some_there : (folder key : List ℕ) (c : Command) (w mid : World) (found : Option Record) (kept : Record) (d : Option Difference) → found ≡ record_at reading folder w.files key → found ≡ Some kept → mid ≡ w
-    → FirstFrom folder (record_at reading folder mid.files) c mid kept d → FirstDifference reading folder key c w d
-some_there folder key c w mid found kept d is some same told =
-    subst (λ o. FirstOf folder (record_at reading folder w.files) c w o d) (sym some ∙ is) (subst (λ x. FirstFrom folder (record_at reading folder x.files) c x kept d) same told)
+  pub some_there : (mid : World) (kept : Record) (d : Option Difference) → found ≡ Some kept → mid ≡ w → FirstFrom folder at c mid kept d → FirstOf folder at c w (record_at reading folder w.files key) d
+  some_there mid kept d some same told = subst (λ o. FirstOf folder at c w o d) (sym some ∙ is) (subst (λ x. FirstFrom folder at c x kept d) same told)
 
 -- the first of a row, one by one
 

@@ -87,6 +87,10 @@ value_elsewhere (e ∷ es) key n other apart = elim (cases_Bool (bytes_eq key e.
   | inr more ↦ ap (λ b. value_at other (if b then (e.0, n) ∷ es else e ∷ with_entry es key n)) more ∙ ap (λ v. if bytes_eq other e.0 then Some e.1 else v) (value_elsewhere es key n other apart)
 ]
 
+-- what is held of another key stays
+pub held_elsewhere : (numbers later : List (List ℕ × Option ℕ)) (key : List ℕ) (n : Option ℕ) (l : List ℕ) → later ≡ with_entry numbers key n → l ≢ key → number_held later l ≡ number_held numbers l
+held_elsewhere numbers later key n l is apart = ap (λ ns. number_held ns l) is ∙ ap held_if (value_elsewhere numbers key n l apart)
+
 -- Where only the place of a record changes, and what stands there has this number.
 module _ (read : Reading) (folder key : List ℕ) (is : is_key key ≡ true) where
   stays : (old new : Map) (l : List ℕ) → AgreeBut (is_at_or_below (place_of folder key)) old new → key ≢ l → record_at read folder new l ≡ record_at read folder old l

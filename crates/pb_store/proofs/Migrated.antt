@@ -93,11 +93,10 @@ none_there None is = refl
 none_there (Some n) is = cc
 
 -- what stands where a record of format 1 was
-pub renumbered : (read : Reading) (folder key : List ℕ) (needs : List (List ℕ)) (next : Option ℕ) (old mid new : World) (found : Option Record) (kept : Record) (pairs : List (List ℕ × ℕ)) → pairs ≡ numbered (record_at read folder old.files) needs → mid ≡ old → found ≡ record_at read folder old.files key → found ≡ Some kept → is_some (number_of kept) ≡ false
+pub renumbered : (read : Reading) (folder key : List ℕ) (next : Option ℕ) (old mid new : World) (found : Option Record) (kept : Record) (pairs all : List (List ℕ × ℕ)) → pairs ≡ all → mid ≡ old → found ≡ record_at read folder old.files key → found ≡ Some kept → is_some (number_of kept) ≡ false
     → (kept.key ≡ key → (number : ℕ) × (next ≡ Some number) × (record_at read folder new.files key ≡ Some (numbered_record kept number pairs)))
-    → record_at read folder new.files key ≡ migrated next (numbered (record_at read folder old.files) needs) (record_at read folder old.files key)
-renumbered read folder key needs next old mid new found kept pairs pairs_are same found_is is lacks given =
-    let all = numbered (record_at read folder old.files) needs in
+    → record_at read folder new.files key ≡ migrated next all (record_at read folder old.files key)
+renumbered read folder key next old mid new found kept pairs all pairs_are same found_is is lacks given =
     let there : record_at read folder old.files key ≡ Some kept = sym found_is ∙ is in
     let (number, next_is, put) = given (stands_by_key read folder key old.files kept there) in
     put
@@ -105,14 +104,14 @@ renumbered read folder key needs next old mid new found kept pairs pairs_are sam
     ∙ sym (ap (migrated next all) there ∙ ap (λ o. migrated_by o next all kept) (none_there (number_of kept) lacks) ∙ ap (λ o. migrated_by None o all kept) next_is)
 
 -- and whatever became of it
-pub renumbered_left : (read : Reading) (folder key : List ℕ) (needs : List (List ℕ)) (next : Option ℕ) (old mid new : World) (found : Option Record) (kept : Record) (pairs : List (List ℕ × ℕ)) → pairs ≡ numbered (record_at read folder old.files) needs → mid ≡ old → found ≡ record_at read folder old.files key → found ≡ Some kept → is_some (number_of kept) ≡ false
+pub renumbered_left : (read : Reading) (folder key : List ℕ) (next : Option ℕ) (old mid new : World) (found : Option Record) (kept : Record) (pairs all : List (List ℕ × ℕ)) → pairs ≡ all → mid ≡ old → found ≡ record_at read folder old.files key → found ≡ Some kept → is_some (number_of kept) ≡ false
     → (kept.key ≡ key → (record_at read folder new.files key ≡ None) ⊎ ((record_at read folder new.files key ≡ record_at read folder mid.files key) ⊎ ((number : ℕ) × (next ≡ Some number) × (record_at read folder new.files key ≡ Some (numbered_record kept number pairs)))))
-    → Leaves (migrated next (numbered (record_at read folder old.files) needs) (record_at read folder old.files key)) (record_at read folder old.files key) (record_at read folder new.files key)
-renumbered_left read folder key needs next old mid new found kept pairs pairs_are same found_is is lacks given = elim (given (stands_by_key read folder key old.files kept (sym found_is ∙ is))) [
+    → Leaves (migrated next all (record_at read folder old.files key)) (record_at read folder old.files key) (record_at read folder new.files key)
+renumbered_left read folder key next old mid new found kept pairs all pairs_are same found_is is lacks given = elim (given (stands_by_key read folder key old.files kept (sym found_is ∙ is))) [
   | inl none ↦ inl none
   | inr other ↦ elim other [
     | inl stays ↦ inr (inl (stays ∙ ap (λ (w : World). record_at read folder w.files key) same))
-    | inr put ↦ inr (inr (renumbered read folder key needs next old mid new found kept pairs pairs_are same found_is is lacks (λ its. put)))
+    | inr put ↦ inr (inr (renumbered read folder key next old mid new found kept pairs all pairs_are same found_is is lacks (λ its. put)))
   ]
 ]
 

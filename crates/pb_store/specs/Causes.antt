@@ -73,7 +73,7 @@ MayWrite (Place fault) = fault ≡ place.Write
 MayWrite NumbersSpent = ⊥
 MayWrite OutOfMemory = Unit {0}
 
--- of one that reads the records of needed units and looks at inputs first
+-- of one that looks at inputs, and then writes a record
 abbrev pub MayKeep : StoreFault → Type 0
 MayKeep (Place fault) = (fault ≡ place.Write) ⊎ MayLook (Place fault)
 MayKeep NumbersSpent = ⊥

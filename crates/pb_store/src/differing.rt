@@ -7,11 +7,12 @@ ghost use Rattle.pb_record.specs.Parts.{IsReading};
 ghost use Rattle.pb_record.specs.declared.record.Record.{Record};
 ghost use Rattle.pb_place.specs.Paths.{is_relative};
 ghost use Rattle.pb_soundness.specs.Apart.{KeepsStill};
+ghost use Rattle.pb_soundness.specs.Grounded.{Standing};
 ghost use Rattle.pb_soundness.specs.Inputs.{Agrees, name_of};
 ghost use Rattle.pb_soundness.specs.Records.{Reading, is_key, out_of, record_at};
 ghost use Rattle.pb_soundness.specs.Reuse.{IsSame};
 ghost use Rattle.pb_store.specs.Causes.{Takes, MayLook};
-ghost use Rattle.pb_store.specs.Differences.{IsFirst, FirstOrAll, IsPresent, HasFiles, AreNeeded, FirstNeed, FirstFrom, FirstDifference, NamesPaths};
+ghost use Rattle.pb_store.specs.Differences.{IsFirst, FirstOrAll, IsPresent, HasFiles, AreNeeded, FirstNeed, FirstFrom, FirstOf, FirstDifference, NamesPaths};
 ghost use Rattle.pb_store.specs.Held.{HoldsNumbers};
 ghost use Rattle.pb_store.specs.Looking.{Looks, name_looked, inputs_looked, out_looked, copies_looked, needed_looked, around_looked, from_looked, looked_at};
 ghost use Rattle.pb_store.specs.Replaying.{CarriesReplayed, difference_in};
@@ -167,7 +168,7 @@ fn first_need<P: Place>(
     numbers: &Table<Option<u64>>,
     needed: &Needed,
 ) -> Result<Option<Text>, StoreFault>
-    ensures ok { IsTrue P.tells → HoldsNumbers (record_at reading folder.now (P.world place.old).files) numbers.now → IfOk result (λ found. MatchOption found (AreNeeded folder.now (record_at reading folder.now (P.world place.old).files) (P.world place.old).files needed.now) (FirstNeed folder.now (record_at reading folder.now (P.world place.old).files) (P.world place.old).files needed.now)) }
+    ensures ok { (at : Standing) → IsTrue P.tells → HoldsNumbers at numbers.now → IfOk result (λ found. MatchOption found (AreNeeded folder.now at (P.world place.old).files needed.now) (FirstNeed folder.now at (P.world place.old).files needed.now)) }
     ensures same { IsTrue P.tells → P.world place.new ≡ P.world place.old }
     ensures most { P.most place.new ≡ P.most place.old }
     ensures still { IsTrue P.tells → KeepsStill (P.still place.old) (P.still place.new) }
@@ -192,7 +193,7 @@ fn first_around<P: Place>(
     command: &Command,
     kept: &Record,
 ) -> Result<Option<Difference>, StoreFault>
-    ensures ok { IsTrue P.tells → HoldsNumbers (record_at reading folder.now (P.world place.old).files) numbers.now → command_of kept.now.asked ≡ command.now → IfOk result (FirstFrom folder.now (record_at reading folder.now (P.world place.old).files) command.now (P.world place.old) kept.now) }
+    ensures ok { (at : Standing) → IsTrue P.tells → HoldsNumbers at numbers.now → command_of kept.now.asked ≡ command.now → IfOk result (FirstFrom folder.now at command.now (P.world place.old) kept.now) }
     ensures same { IsTrue P.tells → P.world place.new ≡ P.world place.old }
     ensures most { P.most place.new ≡ P.most place.old }
     ensures still { IsTrue P.tells → KeepsStill (P.still place.old) (P.still place.new) }
@@ -220,7 +221,7 @@ fn first_from<P: Place>(
     command: &Command,
     kept: &Record,
 ) -> Result<Option<Difference>, StoreFault>
-    ensures ok { IsTrue P.tells → HoldsNumbers (record_at reading folder.now (P.world place.old).files) numbers.now → IfOk result (FirstFrom folder.now (record_at reading folder.now (P.world place.old).files) command.now (P.world place.old) kept.now) }
+    ensures ok { (at : Standing) → IsTrue P.tells → HoldsNumbers at numbers.now → IfOk result (FirstFrom folder.now at command.now (P.world place.old) kept.now) }
     ensures same { IsTrue P.tells → P.world place.new ≡ P.world place.old }
     ensures most { P.most place.new ≡ P.most place.old }
     ensures still { IsTrue P.tells → KeepsStill (P.still place.old) (P.still place.new) }
@@ -249,7 +250,7 @@ fn compare<P: Place>(
     command: &Command,
 ) -> Result<Compared, StoreFault>
     requires { is_key key.now ≡ true }
-    ensures first { IsTrue P.tells → HoldsNumbers (record_at reading folder.now (P.world place.old).files) numbers.now → IfOk result (λ compared. FirstDifference reading folder.now key.now command.now (P.world place.old) (difference_in compared)) }
+    ensures first { (at : Standing) → IsTrue P.tells → HoldsNumbers at numbers.now → IfOk result (λ compared. FirstOf folder.now at command.now (P.world place.old) (record_at reading folder.now (P.world place.old).files key.now) (difference_in compared)) }
     ensures carries { (read : Reading) → IsReading read → IsTrue P.tells → IfOk result (CarriesReplayed (record_at read folder.now (P.world place.old).files key.now)) }
     ensures same { IsTrue P.tells → P.world place.new ≡ P.world place.old }
     ensures most { P.most place.new ≡ P.most place.old }
@@ -279,8 +280,8 @@ fn compare<P: Place>(
 impl Store {
     /// Compares a unit with its record, for a command that would build it again: what differs first; or, where the
     /// record says what a child would answer, what it gives again in the child's place. Each input is read and compared
-    /// in turn, and let go; after the first that differs none is looked at. The records of needed units are not read: their
-    /// numbers are held. Our own rule of when a unit is built again.
+    /// in turn, and let go; after the first that differs none is looked at. The records of needed units are not read: the
+    /// numbers that are held count for theirs. Our own rule of when a unit is built again.
     ///
     /// Faults: Place, where a file cannot be read, a folder not be listed or a variable not be read; OutOfMemory.
     #[tactic(auto, using(crate::proofs::Once::difference_laws))]
@@ -292,6 +293,7 @@ impl Store {
         command: &Command,
     ) -> Result<Compared, StoreFault>
         requires { is_key key.now ≡ true }
+        ensures held { (read : Reading) (at : Standing) → IsReading read → IsTrue P.tells → HoldsNumbers at self.now.numbers → IfOk result (λ compared. FirstOf self.now.folder at command.now (P.world place.old) (record_at read self.now.folder (P.world place.old).files key.now) (difference_in compared)) }
         ensures first { (read : Reading) → IsReading read → IsTrue P.tells → HoldsNumbers (record_at read self.now.folder (P.world place.old).files) self.now.numbers → IfOk result (λ compared. FirstDifference read self.now.folder key.now command.now (P.world place.old) (difference_in compared)) }
         ensures none { (read : Reading) → IsReading read → IsTrue P.tells → HoldsNumbers (record_at read self.now.folder (P.world place.old).files) self.now.numbers → IfOk result (λ compared. IfNone (difference_in compared) ((r : Record) × IsSame read self.now.folder key.now command.now (P.world place.old) r)) }
         ensures carries { (read : Reading) → IsReading read → IsTrue P.tells → IfOk result (CarriesReplayed (record_at read self.now.folder (P.world place.old).files key.now)) }

@@ -1,6 +1,6 @@
 //! A record that is dropped, and the run number that is given for the next one.
 
-ghost use Rattle.std.specs.Prelude.{◌≡◌, true, IsTrue, ℕ, Option, IfOk, OnOk, OnErr, Some, None};
+ghost use Rattle.std.specs.Prelude.{◌≡◌, ◌≢◌, true, IsTrue, ℕ, List, Option, IfOk, OnOk, OnErr, Some, None};
 ghost use Rattle.pb_place.specs.Paths.{is_at_or_below};
 ghost use Rattle.pb_place.specs.World.{ChangesOnly, PartlyRemoved, removed};
 ghost use Rattle.pb_soundness.specs.Apart.{KeepsStillOutside};
@@ -10,7 +10,7 @@ ghost use Rattle.pb_soundness.specs.Records.{Reading, is_key, place_of, record_a
 ghost use Rattle.pb_soundness.specs.Sound.{Sound};
 ghost use Rattle.pb_store.specs.Calls.{CallsOnce};
 ghost use Rattle.pb_store.specs.Causes.{Takes, MayRemove, MayDrop};
-ghost use Rattle.pb_store.specs.Held.{HoldsNumbers};
+ghost use Rattle.pb_store.specs.Held.{HoldsNumbers, number_held};
 ghost use Rattle.pb_store.specs.Keeping.{Leaves};
 
 use crate::fault::{StoreFault, stored};
@@ -81,6 +81,7 @@ impl Store {
     /// removed: where none is left, nothing is. After a fault no number was given, and the record stands or not.
     ///
     /// Faults: NumbersSpent, exactly where no number is left; Place, where the record cannot be removed; OutOfMemory.
+    #[tactic(auto, using(crate::proofs::Held::held_elsewhere))]
     pub fn drop_record<P: Place>(
         &mut self,
         alloc: Global,
@@ -97,6 +98,7 @@ impl Store {
         ensures left { (read : Reading) → IsTrue P.tells → Leaves None (record_at read self.old.folder (P.world place.old).files key.now) (record_at read self.old.folder (P.world place.new).files key.now) }
         ensures ahead { (read : Reading) → IsTrue P.tells → IsAhead (record_at read self.old.folder (P.world place.old).files) self.old.next → IsAhead (record_at read self.old.folder (P.world place.new).files) self.new.next }
         ensures numbers { (read : Reading) → IsTrue P.tells → HoldsNumbers (record_at read self.old.folder (P.world place.old).files) self.old.numbers → OnOk result (HoldsNumbers (record_at read self.old.folder (P.world place.new).files) self.new.numbers) }
+        ensures others { (l : List ℕ) → l ≢ key.now → number_held self.new.numbers l ≡ number_held self.old.numbers l }
         ensures only { IsTrue P.tells → ChangesOnly (is_at_or_below (place_of self.old.folder key.now)) (P.world place.old) (P.world place.new) }
         ensures most { P.most place.new ≡ P.most place.old }
         ensures still { IsTrue P.tells → KeepsStillOutside (is_at_or_below (place_of self.old.folder key.now)) (P.counts place.old).starts.flying (P.still place.old) (P.still place.new) }

@@ -1,10 +1,11 @@
 //! The record of a unit that was built, kept with the run number that was given for it.
 
-ghost use Rattle.std.specs.Prelude.{◌≡◌, ℕ, Option, true, IsTrue, IfErr, IfOk, OnOk, OnErr, Some, map};
+ghost use Rattle.std.specs.Prelude.{◌≡◌, ◌≢◌, ℕ, List, Option, true, IsTrue, IfErr, IfOk, OnOk, OnErr, Some, map};
 ghost use Rattle.pb_place.specs.declared.place.PlaceFault.TheVariants as place_fault;
 ghost use Rattle.pb_place.specs.Paths.{is_at_or_below};
 ghost use Rattle.pb_place.specs.World.{ChangesOnly, Torn, written};
 ghost use Rattle.pb_soundness.specs.Apart.{KeepsStill, KeepsStillOutside};
+ghost use Rattle.pb_soundness.specs.Grounded.{Standing};
 ghost use Rattle.pb_soundness.specs.Inputs.{Judge, input_in};
 ghost use Rattle.pb_soundness.specs.Numbers.{IsAhead, IsBefore, NamesBefore};
 ghost use Rattle.pb_soundness.specs.Records.{Reading, is_key, out_of, place_of, record_at, number_of};
@@ -12,7 +13,7 @@ ghost use Rattle.pb_soundness.specs.Sound.{Sound};
 ghost use Rattle.pb_store.specs.Calls.{CallsOnce, looked};
 ghost use Rattle.pb_store.specs.declared.fault.StoreFault.TheVariants as store_fault;
 ghost use Rattle.pb_store.specs.Causes.{Takes, MayLook, MayWrite, MayKeep};
-ghost use Rattle.pb_store.specs.Held.{HoldsNumbers};
+ghost use Rattle.pb_store.specs.Held.{HoldsNumbers, number_held};
 ghost use Rattle.pb_store.specs.Keeping.{Leaves, IsKept, HasNeeds, MayPut, kept_of, numbered};
 ghost use Rattle.pb_store.specs.Looking.{Looks, kept_called, names_looked};
 ghost use Rattle.pb_record.specs.Commands.{of_parts};
@@ -174,7 +175,7 @@ fn kept_now<P: Place>(
 ) -> Result<Record, StoreFault>
     requires out { command.now.out ≡ Some (out_of folder.now key.now) }
     requires sorted { are_sorted command.now.pairs ≡ true }
-    ensures ok { (read : Reading) → IsTrue P.tells → HoldsNumbers (record_at read folder.now (P.world place.old).files) numbers.now → IfOk result (λ kept. kept ≡ kept_of folder.now key.now command.now (map (input_in command.now.target (P.world place.old)) names.now) number (numbered (record_at read folder.now (P.world place.old).files) needs.now) ended.now) }
+    ensures ok { (at : Standing) → IsTrue P.tells → HoldsNumbers at numbers.now → IfOk result (λ kept. kept ≡ kept_of folder.now key.now command.now (map (input_in command.now.target (P.world place.old)) names.now) number (numbered at needs.now) ended.now) }
     ensures same { IsTrue P.tells → P.world place.new ≡ P.world place.old }
     ensures most { P.most place.new ≡ P.most place.old }
     ensures still { IsTrue P.tells → KeepsStill (P.still place.old) (P.still place.new) }
@@ -200,6 +201,7 @@ impl Store {
     /// read and kept. After a fault no record stands, the one that stood, or the new one.
     ///
     /// Faults: Place, where an input cannot be read, or the record cannot be written; OutOfMemory.
+    #[tactic(auto, using(crate::proofs::Held::held_elsewhere))]
     pub fn keep<P: Place>(
         &mut self,
         alloc: Global,
@@ -216,9 +218,11 @@ impl Store {
         requires sorted { are_sorted command.now.pairs ≡ true }
         ensures sound { (read : Reading) (judge : Judge) → IsReading read → IsTrue P.tells → HoldsNumbers (record_at read self.old.folder (P.world place.old).files) self.old.numbers → IsKept read judge P.child self.old.folder key.now command.now needs.now names.now ended.now number (P.world place.old) → Sound read judge P.child self.old.folder (P.world place.old).files → Sound read judge P.child self.old.folder (P.world place.new).files }
         ensures stands { (read : Reading) → IsReading read → IsTrue P.tells → HoldsNumbers (record_at read self.old.folder (P.world place.old).files) self.old.numbers → OnOk result (record_at read self.old.folder (P.world place.new).files key.now ≡ Some (kept_of self.old.folder key.now command.now (map (input_in command.now.target (P.world place.old)) names.now) number (numbered (record_at read self.old.folder (P.world place.old).files) needs.now) ended.now)) }
+        ensures held { (read : Reading) (at : Standing) → IsReading read → IsTrue P.tells → HoldsNumbers at self.old.numbers → OnOk result (record_at read self.old.folder (P.world place.new).files key.now ≡ Some (kept_of self.old.folder key.now command.now (map (input_in command.now.target (P.world place.old)) names.now) number (numbered at needs.now) ended.now)) }
         ensures left { (read : Reading) → IsReading read → IsTrue P.tells → HoldsNumbers (record_at read self.old.folder (P.world place.old).files) self.old.numbers → Leaves (Some (kept_of self.old.folder key.now command.now (map (input_in command.now.target (P.world place.old)) names.now) number (numbered (record_at read self.old.folder (P.world place.old).files) needs.now) ended.now)) (record_at read self.old.folder (P.world place.old).files key.now) (record_at read self.old.folder (P.world place.new).files key.now) }
         ensures ahead { (read : Reading) → IsReading read → IsTrue P.tells → HoldsNumbers (record_at read self.old.folder (P.world place.old).files) self.old.numbers → IsBefore self.old.next number → HasNeeds (record_at read self.old.folder (P.world place.old).files) self.old.folder command.now.reads needs.now number → IsAhead (record_at read self.old.folder (P.world place.old).files) self.old.next → IsAhead (record_at read self.old.folder (P.world place.new).files) self.old.next }
         ensures numbers { (read : Reading) → IsReading read → IsTrue P.tells → HoldsNumbers (record_at read self.old.folder (P.world place.old).files) self.old.numbers → OnOk result (HoldsNumbers (record_at read self.old.folder (P.world place.new).files) self.new.numbers) }
+        ensures others { (l : List ℕ) → l ≢ key.now → number_held self.new.numbers l ≡ number_held self.old.numbers l }
         ensures folder { self.new.folder ≡ self.old.folder }
         ensures next { self.new.next ≡ self.old.next }
         ensures only { IsTrue P.tells → ChangesOnly (is_at_or_below (place_of self.old.folder key.now)) (P.world place.old) (P.world place.new) }

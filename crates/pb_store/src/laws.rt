@@ -4,8 +4,8 @@ ghost use Rattle.pb_store.specs.Asking.{FirstNameIsFirst};
 ghost use Rattle.pb_store.specs.Differences.{DifferencesAreOne};
 ghost use Rattle.pb_store.specs.Looking.{TestsDecide};
 
-/// What differs first of a unit is determined by the world: two calls of `differs` in one world that answer well give
-/// the same answer.
+/// What differs first of a unit is determined by the world: two calls of `differs` in one world, of stores that hold the
+/// numbers of its records, give the same answer where they answer well.
 pub fn differences_are_one()
     ensures { DifferencesAreOne }
 {}
@@ -18,7 +18,7 @@ pub fn first_name_is_first()
 {}
 
 /// The tests by which it is said how far `differs` looks decide just that by which it tells a difference: of an input
-/// its present value, of a needed unit its number or its files, and of a command each part and each variable.
+/// its present value, of a needed unit that is named by its files these, and of a command each part and each variable.
 pub fn tests_decide()
     ensures { TestsDecide }
 {}

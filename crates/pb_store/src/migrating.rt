@@ -1,6 +1,6 @@
 //! A record of format 1 that becomes one of format 2.
 
-ghost use Rattle.std.specs.Prelude.{is_some, false, ◌≡◌, ◌⊎◌, ◌∷◌, [], ℕ, true, IsTrue, IfErr, OnOk, Some, None, Err};
+ghost use Rattle.std.specs.Prelude.{is_some, false, ◌≡◌, ◌≢◌, ◌⊎◌, ◌∷◌, [], ℕ, List, true, IsTrue, IfErr, OnOk, Some, None, Err};
 ghost use Rattle.pb_place.specs.CallsInTurn.{past_calls};
 ghost use Rattle.pb_place.specs.declared.place.PlaceFault.TheVariants as place_fault;
 ghost use Rattle.pb_place.specs.Paths.{is_at_or_below};
@@ -9,13 +9,14 @@ ghost use Rattle.pb_place.specs.declared.command.Command.{Command};
 ghost use Rattle.pb_record.specs.Parts.{IsReading};
 ghost use Rattle.pb_record.specs.declared.record.Record.{Record};
 ghost use Rattle.pb_soundness.specs.Apart.{KeepsStillOutside};
+ghost use Rattle.pb_soundness.specs.Grounded.{Standing};
 ghost use Rattle.pb_soundness.specs.Inputs.{Judge};
 ghost use Rattle.pb_soundness.specs.Numbers.{IsAhead};
 ghost use Rattle.pb_soundness.specs.Records.{Reading, is_key, place_of, record_at, number_of};
 ghost use Rattle.pb_soundness.specs.Sound.{Sound};
 ghost use Rattle.pb_store.specs.Calls.{looked};
 ghost use Rattle.pb_store.specs.Causes.{Takes, MayMigrate};
-ghost use Rattle.pb_store.specs.Held.{HoldsNumbers};
+ghost use Rattle.pb_store.specs.Held.{HoldsNumbers, number_held};
 ghost use Rattle.pb_store.specs.Keeping.{Leaves, numbered};
 ghost use Rattle.pb_store.specs.Looking.{Looks, migrated_called};
 ghost use Rattle.pb_store.specs.Presence.{numbered_by};
@@ -48,6 +49,7 @@ fn numbered_record(kept: Record, number: u64, numbers: Items<(Text, u64)>) -> Re
 
 impl Store {
     /// Writes a record with the next number in its unit's place.
+    #[tactic(auto, using(crate::proofs::Held::held_elsewhere))]
     fn renumber<P: Place>(
         &mut self,
         alloc: Global,
@@ -66,6 +68,7 @@ impl Store {
         ensures left { (read : Reading) → IsReading read → IsTrue P.tells → kept.key ≡ key.now → (record_at read self.old.folder (P.world place.new).files key.now ≡ None) ⊎ ((record_at read self.old.folder (P.world place.new).files key.now ≡ record_at read self.old.folder (P.world place.old).files key.now)
             ⊎ ((number : ℕ) × (self.old.next ≡ Some number) × (record_at read self.old.folder (P.world place.new).files key.now ≡ Some (numbered_record kept number (numbered_by self.old.numbers needs.now))))) }
         ensures numbers { (read : Reading) → IsReading read → IsTrue P.tells → HoldsNumbers (record_at read self.old.folder (P.world place.old).files) self.old.numbers → kept.key ≡ key.now → OnOk result (HoldsNumbers (record_at read self.old.folder (P.world place.new).files) self.new.numbers) }
+        ensures others { (l : List ℕ) → l ≢ key.now → number_held self.new.numbers l ≡ number_held self.old.numbers l }
         ensures only { IsTrue P.tells → ChangesOnly (is_at_or_below (place_of self.old.folder key.now)) (P.world place.old) (P.world place.new) }
         ensures most { P.most place.new ≡ P.most place.old }
         ensures still { IsTrue P.tells → KeepsStillOutside (is_at_or_below (place_of self.old.folder key.now)) (P.counts place.old).starts.flying (P.still place.old) (P.still place.new) }
@@ -134,9 +137,11 @@ impl Store {
         ensures same { (read : Reading) → IsReading read → IsTrue P.tells → lacks_number (record_at read self.old.folder (P.world place.old).files key.now) ≡ false → P.world place.new ≡ P.world place.old }
         ensures unused { (read : Reading) → IsReading read → IsTrue P.tells → lacks_number (record_at read self.old.folder (P.world place.old).files key.now) ≡ false → self.new.next ≡ self.old.next }
         ensures stands { (read : Reading) → IsReading read → IsTrue P.tells → HoldsNumbers (record_at read self.old.folder (P.world place.old).files) self.old.numbers → OnOk result (record_at read self.old.folder (P.world place.new).files key.now ≡ migrated self.old.next (numbered (record_at read self.old.folder (P.world place.old).files) needs.now) (record_at read self.old.folder (P.world place.old).files key.now)) }
+        ensures held { (read : Reading) (at : Standing) → IsReading read → IsTrue P.tells → HoldsNumbers at self.old.numbers → OnOk result (record_at read self.old.folder (P.world place.new).files key.now ≡ migrated self.old.next (numbered at needs.now) (record_at read self.old.folder (P.world place.old).files key.now)) }
         ensures left { (read : Reading) → IsReading read → IsTrue P.tells → HoldsNumbers (record_at read self.old.folder (P.world place.old).files) self.old.numbers → Leaves (migrated self.old.next (numbered (record_at read self.old.folder (P.world place.old).files) needs.now) (record_at read self.old.folder (P.world place.old).files key.now)) (record_at read self.old.folder (P.world place.old).files key.now) (record_at read self.old.folder (P.world place.new).files key.now) }
         ensures numbered { (read : Reading) (r : Record) → IsReading read → IsTrue P.tells → OnOk result (record_at read self.old.folder (P.world place.new).files key.now ≡ Some r → is_some (number_of r) ≡ true) }
         ensures numbers { (read : Reading) → IsReading read → IsTrue P.tells → HoldsNumbers (record_at read self.old.folder (P.world place.old).files) self.old.numbers → OnOk result (HoldsNumbers (record_at read self.old.folder (P.world place.new).files) self.new.numbers) }
+        ensures others { (l : List ℕ) → l ≢ key.now → number_held self.new.numbers l ≡ number_held self.old.numbers l }
         ensures only { IsTrue P.tells → ChangesOnly (is_at_or_below (place_of self.old.folder key.now)) (P.world place.old) (P.world place.new) }
         ensures most { P.most place.new ≡ P.most place.old }
         ensures still { IsTrue P.tells → KeepsStillOutside (is_at_or_below (place_of self.old.folder key.now)) (P.counts place.old).starts.flying (P.still place.old) (P.still place.new) }

@@ -1,6 +1,6 @@
 //! The run numbers that a store holds, so that no record is read once more for its number.
 
-ghost use Rattle.std.specs.Prelude.{◌≡◌, ◌&&◌, Decides, IfErr, IfOk, OnOk, Some};
+ghost use Rattle.std.specs.Prelude.{◌≡◌, ◌&&◌, Decides, IfErr, IfOk, OnErr, OnOk, Some};
 ghost use Rattle.std.specs.Str.{bytes_eq};
 ghost use Rattle.pb_data.specs.Table.{with_entry};
 ghost use Rattle.pb_store.specs.Differences.{FirstOrAll};
@@ -110,6 +110,7 @@ pub(crate) fn note(
     number: Option<u64>,
 ) -> Result<(), StoreFault>
     ensures ok { OnOk result (numbers.new ≡ with_entry numbers.old key.now number) }
+    ensures err { OnErr result (numbers.new ≡ numbers.old) }
     ensures fault { IfErr result (λ e. e ≡ store_fault.OutOfMemory) }
 {
     let name = match key.copy(alloc) {

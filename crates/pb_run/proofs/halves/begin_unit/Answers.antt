@@ -1,4 +1,4 @@
-use Rattle.std.proofs.Common.{◌≡◌, ◌∙◌, ℕ, List, None, ap, inl, inr, refl, subst, sym}
+use Rattle.std.proofs.Common.{◌≡◌, ◌∙◌, ℕ, List, None, Some, ap, inl, inr, refl, subst, sym}
 use Rattle.pb_command.specs.Judge.{judge}
 use Rattle.pb_place.specs.CallsInTurn.{past_calls}
 use Rattle.pb_place.specs.Children.{child_at}
@@ -16,8 +16,11 @@ use Rattle.pb_run.proofs.Writes.{spawned_writes}
 use Rattle.pb_run.proofs.halves.begin_unit.Goals as goal
 use Rattle.pb_soundness.specs.Apart.{is_of}
 use Rattle.pb_soundness.specs.Records.{place_of, record_at}
+use Rattle.pb_store.specs.Differences.{FirstOf}
 use Rattle.pb_store.specs.Keeping.{Leaves}
 use Rattle.pb_store.specs.Looking.{looked_at}
+use Rattle.pb_store.specs.Replaying.{difference_in}
+use Rattle.pb_store.specs.declared.replaying.Compared.{Compared}
 
 pub returns-in-Err-clause-keeps : goal.returns-in-Err-clause-keeps
 returns-in-Err-clause-keeps g c footing read sources states is told can =
@@ -154,3 +157,9 @@ returns-in-Ok-launch-clause-numbers g c read told holds =
     held_there read c.args.store.now.folder (records_folder c.args.project.now) (g.P.Place.world c.launch.new.place) c.launch.new.store.numbers c.requires.folder
     (c.in-Ok-launch.ensures.numbers read told
     (held_same read c.args.store.now.folder (records_folder c.args.project.now) (g.P.Place.world c.args.place.now) (g.P.Place.world c.compare.new.place) c.args.store.now.numbers c.requires.folder (c.in-Ok-compare.ensures.same told) holds))
+
+pub returns-in-Ok-launch-clause-held : goal.returns-in-Ok-launch-clause-held
+returns-in-Ok-launch-clause-held g c read records is told holds =
+    subst (λ (f : List ℕ). FirstOf f records c.in-Ok-command.command (g.P.Place.world c.args.place.now) (record_at read f (g.P.Place.world c.args.place.now).files c.args.unit.now.key) (Some c.in-Differs.difference)) c.requires.folder
+    (subst (λ (compared : Compared). FirstOf c.args.store.now.folder records c.in-Ok-command.command (g.P.Place.world c.args.place.now) (record_at read c.args.store.now.folder (g.P.Place.world c.args.place.now).files c.args.unit.now.key) (difference_in compared)) c.in-Differs.is
+    (c.in-Ok-compare.ensures.held read records is told holds))

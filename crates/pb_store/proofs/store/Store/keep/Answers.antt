@@ -17,25 +17,25 @@ use Rattle.pb_store.proofs.store.Store.keep.Goals as goal
 pub returns-in-Ok-put_record-clause-sound : goal.returns-in-Ok-put_record-clause-sound
 returns-in-Ok-put_record-clause-sound g c read judge is told holds may sound =
     c.in-Ok-put_record.ensures.sound read judge c.args.number is told
-    (may_keep _ _ _ _ _ _ _ _ _ _ _ _ _ (c.in-Ok.ensures.same told) c.as_str.ensures.normal c.requires.key c.requires.out may (c.in-Ok.ensures.ok read told holds))
+    (may_keep _ _ _ _ _ _ _ _ _ _ _ _ _ (c.in-Ok.ensures.same told) c.as_str.ensures.normal c.requires.key c.requires.out may (c.in-Ok.ensures.ok (record_at read c.args.self.now.folder (g.P.Place.world c.args.place.now).files) told holds))
     (subst (λ (w : World). Sound read judge g.P.Place.child c.args.self.now.folder w.files) (sym (c.in-Ok.ensures.same told)) sound)
 
 pub returns-in-Ok-put_record-clause-ahead : goal.returns-in-Ok-put_record-clause-ahead
 returns-in-Ok-put_record-clause-ahead g c read is told holds before has ahead =
     c.in-Ok-put_record.ensures.ahead read c.args.self.now.next is told
-    (kept_before _ _ _ _ c.args.command.now _ _ _ c.args.ended.now _ before has (c.in-Ok.ensures.ok read told holds))
+    (kept_before _ _ _ _ c.args.command.now _ _ _ c.args.ended.now _ before has (c.in-Ok.ensures.ok (record_at read c.args.self.now.folder (g.P.Place.world c.args.place.now).files) told holds))
     (subst (λ (w : World). IsAhead (record_at read c.args.self.now.folder w.files) c.args.self.now.next) (sym (c.in-Ok.ensures.same told)) ahead)
 
 pub returns-in-Err-put_record-clause-sound : goal.returns-in-Err-put_record-clause-sound
 returns-in-Err-put_record-clause-sound g c read judge is told holds may sound =
     c.in-Err-put_record.ensures.sound read judge c.args.number is told
-    (may_keep _ _ _ _ _ _ _ _ _ _ _ _ _ (c.in-Ok.ensures.same told) c.as_str.ensures.normal c.requires.key c.requires.out may (c.in-Ok.ensures.ok read told holds))
+    (may_keep _ _ _ _ _ _ _ _ _ _ _ _ _ (c.in-Ok.ensures.same told) c.as_str.ensures.normal c.requires.key c.requires.out may (c.in-Ok.ensures.ok (record_at read c.args.self.now.folder (g.P.Place.world c.args.place.now).files) told holds))
     (subst (λ (w : World). Sound read judge g.P.Place.child c.args.self.now.folder w.files) (sym (c.in-Ok.ensures.same told)) sound)
 
 pub returns-in-Err-put_record-clause-ahead : goal.returns-in-Err-put_record-clause-ahead
 returns-in-Err-put_record-clause-ahead g c read is told holds before has ahead =
     c.in-Err-put_record.ensures.ahead read c.args.self.now.next is told
-    (kept_before _ _ _ _ c.args.command.now _ _ _ c.args.ended.now _ before has (c.in-Ok.ensures.ok read told holds))
+    (kept_before _ _ _ _ c.args.command.now _ _ _ c.args.ended.now _ before has (c.in-Ok.ensures.ok (record_at read c.args.self.now.folder (g.P.Place.world c.args.place.now).files) told holds))
     (subst (λ (w : World). IsAhead (record_at read c.args.self.now.folder w.files) c.args.self.now.next) (sym (c.in-Ok.ensures.same told)) ahead)
 
 pub returns-in-Err-clause-written : goal.returns-in-Err-clause-written
@@ -63,6 +63,6 @@ returns-in-Err-note-clause-calls g c told = subst (λ e. StopsAt e (kept_called 
 
 pub returns-in-Ok-put_record-clause-numbers : goal.returns-in-Ok-put_record-clause-numbers
 returns-in-Ok-put_record-clause-numbers g c read is told holds =
-    let kept_is = c.in-Ok.ensures.ok read told holds in
+    let kept_is = c.in-Ok.ensures.ok (record_at read c.args.self.now.folder (g.P.Place.world c.args.place.now).files) told holds in
     held_put read c.args.self.now.folder c.args.key.now c.requires.key (g.P.Place.world c.args.place.now) (g.P.Place.world c.kept_now.new.place) (g.P.Place.world c.put_record.new.place) c.args.self.now.numbers c.note.new.numbers c.in-Ok.kept c.args.number
     (c.in-Ok.ensures.same told) (c.in-Ok-put_record.ensures.only told) (c.in-Ok-put_record.ensures.stands read is told (ap (λ (r : Record). r.key) kept_is)) (ap number_of kept_is) c.in-Ok-note.ensures.ok holds

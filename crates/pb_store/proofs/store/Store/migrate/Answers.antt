@@ -35,19 +35,25 @@ returns-in-Err-clause-ahead g c read judge d r is told holds may ahead =
 
 pub returns-in-Ok-clause-stands : goal.returns-in-Ok-clause-stands
 returns-in-Ok-clause-stands g c read is told holds =
-    renumbered read _ _ _ _ (g.P.Place.world c.args.place.now) (g.P.Place.world c.record_at.new.place) (g.P.Place.world c.renumber.new.place) _ c.in-Some.kept _ (numbered_held (record_at read c.args.self.now.folder (g.P.Place.world c.args.place.now).files) c.args.self.now.numbers holds c.args.needs.now) (c.in_ok-found.ensures.same told) (c.in_ok-found.ensures.ok read is told) c.in-Some.is
+    renumbered read _ _ _ (g.P.Place.world c.args.place.now) (g.P.Place.world c.record_at.new.place) (g.P.Place.world c.renumber.new.place) _ c.in-Some.kept _ _ (numbered_held (record_at read c.args.self.now.folder (g.P.Place.world c.args.place.now).files) c.args.self.now.numbers holds c.args.needs.now) (c.in_ok-found.ensures.same told) (c.in_ok-found.ensures.ok read is told) c.in-Some.is
+    (ap is_some (sym c.number_of.ensures) ∙ sym c.is_some.ensures ∙ c.if-is_some.false)
+    (λ key. c.in-Ok.ensures.stands read is told key)
+
+pub returns-in-Ok-clause-held : goal.returns-in-Ok-clause-held
+returns-in-Ok-clause-held g c read at is told holds =
+    renumbered read _ _ _ (g.P.Place.world c.args.place.now) (g.P.Place.world c.record_at.new.place) (g.P.Place.world c.renumber.new.place) _ c.in-Some.kept _ _ (numbered_held at c.args.self.now.numbers holds c.args.needs.now) (c.in_ok-found.ensures.same told) (c.in_ok-found.ensures.ok read is told) c.in-Some.is
     (ap is_some (sym c.number_of.ensures) ∙ sym c.is_some.ensures ∙ c.if-is_some.false)
     (λ key. c.in-Ok.ensures.stands read is told key)
 
 pub returns-in-Ok-clause-left : goal.returns-in-Ok-clause-left
 returns-in-Ok-clause-left g c read is told holds =
-    renumbered_left read _ _ _ _ (g.P.Place.world c.args.place.now) (g.P.Place.world c.record_at.new.place) (g.P.Place.world c.renumber.new.place) _ c.in-Some.kept _ (numbered_held (record_at read c.args.self.now.folder (g.P.Place.world c.args.place.now).files) c.args.self.now.numbers holds c.args.needs.now) (c.in_ok-found.ensures.same told) (c.in_ok-found.ensures.ok read is told) c.in-Some.is
+    renumbered_left read _ _ _ (g.P.Place.world c.args.place.now) (g.P.Place.world c.record_at.new.place) (g.P.Place.world c.renumber.new.place) _ c.in-Some.kept _ _ (numbered_held (record_at read c.args.self.now.folder (g.P.Place.world c.args.place.now).files) c.args.self.now.numbers holds c.args.needs.now) (c.in_ok-found.ensures.same told) (c.in_ok-found.ensures.ok read is told) c.in-Some.is
     (ap is_some (sym c.number_of.ensures) ∙ sym c.is_some.ensures ∙ c.if-is_some.false)
     (λ key. c.in-Ok.ensures.left read is told key)
 
 pub returns-in-Err-clause-left : goal.returns-in-Err-clause-left
 returns-in-Err-clause-left g c read is told holds =
-    renumbered_left read _ _ _ _ (g.P.Place.world c.args.place.now) (g.P.Place.world c.record_at.new.place) (g.P.Place.world c.renumber.new.place) _ c.in-Some.kept _ (numbered_held (record_at read c.args.self.now.folder (g.P.Place.world c.args.place.now).files) c.args.self.now.numbers holds c.args.needs.now) (c.in_ok-found.ensures.same told) (c.in_ok-found.ensures.ok read is told) c.in-Some.is
+    renumbered_left read _ _ _ (g.P.Place.world c.args.place.now) (g.P.Place.world c.record_at.new.place) (g.P.Place.world c.renumber.new.place) _ c.in-Some.kept _ _ (numbered_held (record_at read c.args.self.now.folder (g.P.Place.world c.args.place.now).files) c.args.self.now.numbers holds c.args.needs.now) (c.in_ok-found.ensures.same told) (c.in_ok-found.ensures.ok read is told) c.in-Some.is
     (ap is_some (sym c.number_of.ensures) ∙ sym c.is_some.ensures ∙ c.if-is_some.false)
     (λ key. c.in-Err.ensures.left read is told key)
 
