@@ -3,7 +3,7 @@
 `specs/` on which one stands, with all that they stand on in turn, and their lines without comments, imports and empty
 lines, by crate. Where none is named it is `Headline` of pb_build with `ByFirst`, the schedule of `build`.
 `--but=NAME=NAME,..` counts, in place of what one definition stands on, the statements of the laws that say it in other
-words; a reader who believes the laws reads these. Names are CRATE.File.name, or a last part that is there once. What std,
+words; a reader who believes the laws reads these, and of the definition its type. Names are CRATE.File.name, or a last part that is there once. What std,
 the toolchain's crates and the types of the code say is left out. `--laws` takes all laws of LAWS: of records and true
 records these say only what a build needs of them.
 """
@@ -64,7 +64,7 @@ def read(path):
             continue
         if not line.strip():
             last = None
-        elif line.startswith(("--", "use ", "pub mod", "mod ")):
+        elif line.lstrip().startswith("--") or line.startswith(("use ", "pub mod", "mod ")):
             continue
         elif line[0] != " ":
             head = HEAD.match(line)
@@ -117,11 +117,17 @@ def below(starts, instead):
     return seen
 
 
-def count(seen, title):
+def length(it, stood_for):
+    """The lines of a definition; of a function that laws stand for, those of its type, which is all that is read of it."""
+    body = [n for n, line in enumerate(lines[it]) if line.startswith(it.split(".")[-1] + " ")]
+    return body[0] if it in stood_for and body and body[0] else len(lines[it])
+
+
+def count(seen, title, stood_for=()):
     by = {}
     for it in seen:
         n, k = by.get(it.split(".")[0], (0, 0))
-        by[it.split(".")[0]] = (n + 1, k + len(lines[it]))
+        by[it.split(".")[0]] = (n + 1, k + length(it, stood_for))
     print(f"{title}: {len(seen)} definitions, {sum(k for _, k in by.values())} lines")
     print("  " + ", ".join(f"{crate} {k}" for crate, (_, k) in sorted(by.items(), key=lambda it: -it[1][1])))
 
@@ -140,14 +146,14 @@ stops = {old: set() for old in instead}
 def told(title, seen, stops):
     """Counts definitions; with `--beyond` those on which a build from nothing does not stand, each with its lines."""
     if "--beyond" not in sys.argv:
-        return count(seen, title)
+        return count(seen, title, stops)
     nothing = [named(it) for it in FROM_NOTHING]
     said = set().union(*[instead[it] for it in below(nothing, {}) & set(stops)])
     left = seen - below([*nothing, *said], stops)
-    count(left, f"{title}, beyond a build from nothing")
+    count(left, f"{title}, beyond a build from nothing", stops)
     for crate in sorted({it.split(".")[0] for it in left}):
         own = sorted(it for it in left if it.startswith(crate + "."))
-        print(f"  {crate}: " + ", ".join(f"{it.split('.', 1)[1]} {len(lines[it])}" for it in own))
+        print(f"  {crate}: " + ", ".join(f"{it.split('.', 1)[1]} {length(it, stops)}" for it in own))
 
 
 told("with all definitions", below(starts, {}), {})
