@@ -13,12 +13,12 @@ root=$(cd "$(dirname "$0")/.." && pwd)
 work=$(mktemp -d)
 trap 'rm -rf "$work"' EXIT
 mkdir "$work/crates"
-for name in pb_checks_files pb_closure pb_command pb_data pb_directive pb_feature pb_manifest pb_manifest_reader pb_order pb_package pb_place pb_profile pb_project pb_record pb_unit pb_workspace; do
+for name in pb_checks_files pb_closure pb_command pb_data pb_directive pb_feature pb_manifest pb_manifest_reader pb_memory pb_order pb_package pb_place pb_profile pb_project pb_record pb_unit pb_workspace; do
   cp -a "$root/crates/$name" "$work/crates/$name"
   rm -rf "$work/crates/$name/must-fail"
   grep "^$name:" "$root/crates.txt" >> "$work/crates.txt"
 done
-echo 'measure: pb_checks_files pb_command pb_data pb_directive pb_feature pb_package pb_place pb_project pb_unit pb_workspace' >> "$work/crates.txt"
+echo 'measure: pb_checks_files pb_command pb_data pb_directive pb_feature pb_memory pb_package pb_place pb_project pb_unit pb_workspace' >> "$work/crates.txt"
 mkdir -p "$work/crates/measure/src"
 cp "$root/crates/pb_checks_plans/src/commands/making.rt" "$work/crates/measure/src/making.rt"
 cat > "$work/crates/measure/src/main.rt" <<'RATTLE'
@@ -32,7 +32,8 @@ use pb_checks_files::Silent;
 use pb_command::{Project, Setup, answered, command};
 use pb_data::{Bytes, Items, Text};
 use pb_directive::Directives;
-use pb_place::{Command, Ended, Memory, PathText};
+use pb_memory::Memory;
+use pb_place::{Command, Ended, PathText};
 use pb_unit::Planned;
 use std::alloc::Global;
 use std::test::Fail;

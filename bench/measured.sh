@@ -53,7 +53,8 @@ files() {
 
 use crate::child::Silent;
 use anyhow::Result;
-use pb_place::{Memory, PathText};
+use pb_memory::Memory;
+use pb_place::PathText;
 
 /// Puts a file.
 pub fn put(rt: &HostRuntime, memory: &mut Memory<Silent>, path: &str, text: &str) -> Result<()> {
@@ -74,7 +75,8 @@ ghost use Rattle.pb_package.specs.Settled.{IsSettled};
 use crate::child::Silent;
 use anyhow::Result;
 use pb_data::{Items, Text};
-use pb_place::{Memory, PathText};
+use pb_memory::Memory;
+use pb_place::PathText;
 use pb_workspace::{Options, Workspace, load};
 use std::alloc::Global;
 

@@ -8,8 +8,8 @@
 # Prints a line a size with how many places the plan keeps, of what each unit needs and reaches: time and memory are to
 # grow no faster than these. What is measured and how is said in `measured.sh`.
 set -euo pipefail
-crates="pb_closure pb_data pb_feature pb_manifest pb_manifest_reader pb_order pb_package pb_place pb_profile pb_unit pb_workspace"
-uses="pb_data pb_feature pb_package pb_place pb_unit pb_workspace"
+crates="pb_closure pb_data pb_feature pb_manifest pb_manifest_reader pb_order pb_package pb_memory pb_place pb_profile pb_unit pb_workspace"
+uses="pb_data pb_feature pb_package pb_memory pb_place pb_unit pb_workspace"
 . "$(dirname "$0")/measured.sh"
 program <<'PROGRAM'
 //! Measures plans.
@@ -27,7 +27,7 @@ use child::Silent;
 use files::put;
 use measuring::{number_in, since, word_in};
 use pb_feature::resolve;
-use pb_place::Memory;
+use pb_memory::Memory;
 use pb_unit::Plan;
 use pb_workspace::{Options, Workspace, selected};
 use std::env;

@@ -17,8 +17,8 @@
 # of them to keep, and 133 MB of memory since its text is written into room that is made once; the same unit 84 million to
 # compare.
 set -euo pipefail
-crates="pb_data pb_closure pb_order pb_place pb_directive pb_manifest pb_package pb_profile pb_feature pb_unit pb_project pb_record pb_soundness pb_store"
-uses="pb_data pb_place pb_project pb_record pb_soundness pb_store"
+crates="pb_data pb_closure pb_order pb_memory pb_place pb_directive pb_manifest pb_package pb_profile pb_feature pb_unit pb_project pb_record pb_soundness pb_store"
+uses="pb_data pb_memory pb_place pb_project pb_record pb_soundness pb_store"
 . "$(dirname "$0")/measured.sh"
 program <<'PROGRAM'
 //! Measures stores.
@@ -35,7 +35,8 @@ use anyhow::Result;
 use child::Silent;
 use measuring::{number_in, since, word_in};
 use pb_data::{Bytes, Items, Text, TryCopy};
-use pb_place::{Command, Ended, Memory, PathFault, PathText, RelativePath};
+use pb_memory::Memory;
+use pb_place::{Command, Ended, PathFault, PathText, RelativePath};
 use pb_record::InputName;
 use pb_record::{Asked, Record, read_record};
 use pb_store::{Compared, Store};

@@ -9,8 +9,8 @@
 #
 # Prints a line a size, and the exponents. What is measured and how is said in `measured.sh`.
 set -euo pipefail
-crates="pb_closure pb_data pb_manifest pb_manifest_reader pb_package pb_place pb_workspace"
-uses="pb_data pb_manifest_reader pb_place pb_workspace"
+crates="pb_closure pb_data pb_manifest pb_manifest_reader pb_package pb_memory pb_place pb_workspace"
+uses="pb_data pb_manifest_reader pb_memory pb_place pb_workspace"
 . "$(dirname "$0")/measured.sh"
 program <<'PROGRAM'
 //! Measures the loader.
@@ -25,7 +25,8 @@ use child::Silent;
 use files::put;
 use measuring::{number_in, since, word_in};
 use pb_manifest_reader::read_manifest;
-use pb_place::{Memory, PathText};
+use pb_memory::Memory;
+use pb_place::PathText;
 use pb_workspace::load;
 use std::env;
 use std::time::CpuClock;

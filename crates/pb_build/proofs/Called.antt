@@ -10,7 +10,7 @@ use Rattle.pb_package.specs.declared.fault.LoadFault.{LoadFault}
 use Rattle.pb_package.specs.declared.fault.LoadFault.TheVariants as load
 use Rattle.pb_package.specs.declared.options.Options.{Options}
 use Rattle.pb_package.specs.declared.workspace.Workspace.{Workspace}
-use Rattle.pb_place.specs.CallsInTurn.{MakesSome, past_calls}
+use Rattle.pb_place.specs.CallsInTurn.{Call, MakesSome, past_calls, variable_call}
 use Rattle.pb_place.specs.Counts.{Counts, past_call}
 use Rattle.pb_place.specs.World.{World}
 use Rattle.pb_project.specs.declared.project.Project.{Project}
@@ -23,14 +23,14 @@ use Rattle.pb_workspace.specs.Causes.{is_failure, is_outside}
 use Rattle.pb_workspace.specs.LookedAt.{FailsOn}
 
 -- a fault at a variable, and behind all of them
-abbrev RUSTC : List ℕ
-RUSTC = codes "RUSTC"
+abbrev RUSTC : Call
+RUSTC = variable_call (codes "RUSTC")
 
-abbrev RUSTFLAGS : List ℕ
-RUSTFLAGS = codes "RUSTFLAGS"
+abbrev RUSTFLAGS : Call
+RUSTFLAGS = variable_call (codes "RUSTFLAGS")
 
-abbrev TARGET : List ℕ
-TARGET = codes "CARGO_TARGET_DIR"
+abbrev TARGET : Call
+TARGET = variable_call (codes "CARGO_TARGET_DIR")
 
 pub first_stops : (e : BuildFault) (old new : Counts) → StopsAt e (RUSTC ∷ []) old new → StopsAt e variables_asked old new
 first_stops e old new is = stops_first e (RUSTC ∷ []) (RUSTFLAGS ∷ TARGET ∷ []) old new is
@@ -45,10 +45,10 @@ pub all_asked : (old mid last new : Counts) → mid ≡ past_call old → last �
 all_asked old mid last new first second third = third ∙ ap past_call (second ∙ ap past_call first)
 
 -- a workspace that is not read
-abbrev Ends : LoadFault → List (List ℕ) → Counts → Counts → Type 0
+abbrev Ends : LoadFault → List Call → Counts → Counts → Type 0
 Ends e names old new = (is_outside e ≡ false → new ≡ past_calls names old) × (is_failure e ≡ false → MakesSome names old new) × (is_failure e ≡ true → FailsOn e names old new)
 
-load_stops : (e : LoadFault) (names : List (List ℕ)) (old new : Counts) → Ends e names old new → PlanStopsAt (unread e) names old new
+load_stops : (e : LoadFault) (names : List Call) (old new : Counts) → Ends e names old new → PlanStopsAt (unread e) names old new
 load_stops (load.NoManifest path) names old new ends = ends.0 refl
 load_stops (load.Manifest path fault) names old new ends = ends.0 refl
 load_stops load.SameName names old new ends = ends.0 refl
@@ -63,11 +63,11 @@ load_stops (load.Place path fault) names old new ends = ends.2 refl
 load_stops load.NoSuchPackage names old new ends = ends.0 refl
 load_stops load.OutOfMemory names old new ends = ends.1 refl
 
-pub unread_stops : (e : LoadFault) (told : BuildFault) (names : List (List ℕ)) (old new : Counts) → told ≡ unread e → Ends e names old new → PlanStopsAt told names old new
+pub unread_stops : (e : LoadFault) (told : BuildFault) (names : List Call) (old new : Counts) → told ≡ unread e → Ends e names old new → PlanStopsAt told names old new
 unread_stops e told names old new is ends = subst (λ f. PlanStopsAt f names old new) (sym is) (load_stops e names old new ends)
 
 -- one that was read, and of which no plan is made
-pub refused_stops : (options : Options) (ws : Workspace) (e : BuildFault) (names : List (List ℕ)) (old new : Counts) → IsRefusedOf options ws e → new ≡ past_calls names old → PlanStopsAt e names old new
+pub refused_stops : (options : Options) (ws : Workspace) (e : BuildFault) (names : List Call) (old new : Counts) → IsRefusedOf options ws e → new ≡ past_calls names old → PlanStopsAt e names old new
 refused_stops options ws (Plan why) names old new may made = made
 refused_stops options ws Toolchain names old new may made = absurd may
 refused_stops options ws (Child unit fault) names old new may made = absurd may
@@ -76,7 +76,7 @@ refused_stops options ws Sink names old new may made = absurd may
 refused_stops options ws OutOfMemory names old new may made = memory_last names old new made
 
 -- the variables, and then the workspace
-pub plan_first : (e : BuildFault) (a b : List (List ℕ)) (old new : Counts) → StopsAt e a old new → PlanStopsAt e (a ++ b) old new
+pub plan_first : (e : BuildFault) (a b : List Call) (old new : Counts) → StopsAt e a old new → PlanStopsAt e (a ++ b) old new
 plan_first (Plan why) a b old new is = absurd is
 plan_first Toolchain a b old new is = absurd is
 plan_first (Child unit fault) a b old new is = absurd is

@@ -2,7 +2,7 @@
 use Rattle.std.proofs.Common.{◌≡◌, ◌∙◌, ℕ, Bool, true, false, not, cond, List, [], ◌∷◌, Option, Some, None, refl, sym, ap, subst}
 use Rattle.std.specs.FinMap.{get, insert, remove, get-insert}
 use Rattle.std.specs.Cmp.Lexicographic.{nat_list_cmp_total}
-use Rattle.pb_place.specs.Memory.{set, unset}
+use Rattle.pb_memory.specs.Memory.{set, unset}
 use Rattle.pb_place.specs.Paths.{is_at_or_below}
 use Rattle.pb_place.specs.World.{World, Map, Answers, written, removed, from_nothing, is_same_path}
 use Rattle.pb_place.proofs.Folders.{sources_alike}

@@ -6,8 +6,9 @@ use Rattle.pb_answer.specs.declared.fault.BuildFault.TheVariants.{Plan, Toolchai
 use Rattle.pb_answer.specs.declared.fault.DeviceFault.TheVariants as device
 use Rattle.pb_flight.proofs.Lists.{contains_head, contains_tail}
 use Rattle.pb_package.specs.declared.options.Options.{Options}
+use Rattle.pb_place.proofs.CallsInTurn.{call_is_told, told_call}
 use Rattle.pb_place.proofs.Failing.{call_tells_fault}
-use Rattle.pb_place.specs.CallsInTurn.{FailsAt, past_calls}
+use Rattle.pb_place.specs.CallsInTurn.{Call, FailsAt, past_calls}
 use Rattle.pb_place.specs.Counts.{Counts, one_start, past_call, past_place_fault, up}
 use Rattle.pb_place.specs.World.{World, Answers}
 use Rattle.pb_place.specs.declared.place.PlaceFault.{PlaceFault}
@@ -30,29 +31,30 @@ fault_starts name place.Remove c = refl
 fault_starts name place.Variable c = refl
 fault_starts name place.OutOfMemory c = refl
 
-fails_starts : (fault : PlaceFault) (names : List (List ℕ)) (old new : Counts) → FailsAt fault names old new → new.starts ≡ old.starts
+fails_starts : (fault : PlaceFault) (names : List Call) (old new : Counts) → FailsAt fault names old new → new.starts ≡ old.starts
 fails_starts fault [] old new fails = absurd fails
-fails_starts fault (name ∷ names) old new (inl is) = ap (λ (c : Counts). c.starts) is ∙ fault_starts name fault old
+fails_starts fault (call ∷ names) old new (inl is) = ap (λ (c : Counts). c.starts) is.1 ∙ fault_starts call.name fault old
 fails_starts fault (name ∷ names) old new (inr is) = fails_starts fault names (past_call old) new is
 
-past_failures : (names : List (List ℕ)) (c : Counts) → (past_calls names c).failures ≡ c.failures
+past_failures : (names : List Call) (c : Counts) → (past_calls names c).failures ≡ c.failures
 past_failures [] c = refl
 past_failures (name ∷ names) c = past_failures names (past_call c)
 
 -- want of memory is no failure
-memory_fails : (names : List (List ℕ)) (count : ℕ) (old new : Counts) → old.failures ≡ count → FailsAt place.OutOfMemory names old new → new.failures ≡ up count → new.late ≡ 0 → ⊥
+memory_fails : (names : List Call) (count : ℕ) (old new : Counts) → old.failures ≡ count → FailsAt place.OutOfMemory names old new → new.failures ≡ up count → new.late ≡ 0 → ⊥
 memory_fails [] count old new same fails more none = fails
 memory_fails (name ∷ names) count old new same (inr is) more none = memory_fails names count (past_call old) new same is more none
 memory_fails (name ∷ names) count old new same (inl is) more none = elim (cases_eq old.failures 0) [
-  | inl zero ↦ let kept : new.failures ≡ old.failures = ap (λ (c : Counts). c.failures) is in omega (arith, zero, same, kept, more)
-  | inr ne ↦ let later : new.late ≡ up old.late = ap (λ (c : Counts). c.late) is ∙ ap (λ b. if b then 0 else up old.late) (ne_eqb old.failures 0 ne) in omega (arith, none, later)
+  | inl zero ↦ let kept : new.failures ≡ old.failures = ap (λ (c : Counts). c.failures) is.1 in omega (arith, zero, same, kept, more)
+  | inr ne ↦ let later : new.late ≡ up old.late = ap (λ (c : Counts). c.late) is.1 ∙ ap (λ b. if b then 0 else up old.late) (ne_eqb old.failures 0 ne) in omega (arith, none, later)
 ]
 
--- the counters name the call that failed
-named_among : (fault : PlaceFault) (names : List (List ℕ)) (old new : Counts) → fault ≢ place.OutOfMemory → FailsAt fault names old new → Contains names new.named
+-- the fault and the counters tell the call that failed
+named_among : (fault : PlaceFault) (calls : List Call) (old new : Counts) → fault ≢ place.OutOfMemory → FailsAt fault calls old new → Contains calls (told_call fault new.named)
 named_among fault [] old new real fails = absurd fails
-named_among fault (name ∷ names) old new real (inl is) = subst (Contains (name ∷ names)) (sym (ap (λ (c : Counts). c.named) (is ∙ call_tells_fault name fault old real))) (contains_head name names)
-named_among fault (name ∷ names) old new real (inr is) = contains_tail name names new.named (named_among fault names (past_call old) new real is)
+named_among fault (call ∷ calls) old new real (inl is) =
+    subst (Contains (call ∷ calls)) (call_is_told call fault new.named is.0 (ap (λ (c : Counts). c.named) (is.1 ∙ call_tells_fault call.name fault old real))) (contains_head call calls)
+named_among fault (call ∷ calls) old new real (inr is) = contains_tail call calls (told_call fault new.named) (named_among fault calls (past_call old) new real is)
 
 is_real : (fault : PlaceFault) → (fault ≡ place.OutOfMemory) ⊎ (fault ≢ place.OutOfMemory)
 is_real place.Read = inr (λ e. cc)
@@ -77,5 +79,5 @@ module _ (child : Answers) (options : Options) (w : World) (folder : List ℕ) (
       let mid = past_call (one_start (past_calls (plan_called options w) old)) in
       elim (is_real fault) [
         | inl memory ↦ absurd (memory_fails names old.failures mid new (past_failures (plan_called options w) old) (subst (λ (f : PlaceFault). FailsAt f names mid new) memory stops) more none)
-        | inr real ↦ inr (subst (Contains (opened_looked folder w)) named (subst (λ (f : List ℕ). Contains (opened_looked f w) new.named) (same project is) (named_among fault names mid new real stops)))
+        | inr real ↦ inr (subst (λ n. Contains (opened_looked folder w) (told_call fault n)) named (subst (λ (f : List ℕ). Contains (opened_looked f w) (told_call fault new.named)) (same project is) (named_among fault names mid new real stops)))
       ]

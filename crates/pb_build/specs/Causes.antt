@@ -1,6 +1,6 @@
 -- How many children a build has started before its units, which calls it has made, where a fault ends it, and what such a fault names.
 use Rattle.std.specs.Prelude.{◌≡◌, ◌⊎◌, ◌++◌, ◌∷◌, ℕ, codes, List, [], Result, MatchResult}
-use Rattle.pb_place.specs.CallsInTurn.{past_calls}
+use Rattle.pb_place.specs.CallsInTurn.{Call, past_calls, variable_call}
 use Rattle.pb_place.specs.Counts.{Counts, Starts, one_start, past_call, up_starts}
 use Rattle.pb_place.specs.World.{World}
 use Rattle.pb_package.specs.declared.options.Options.{Options}
@@ -60,20 +60,20 @@ NamesCall result new = MatchResult result (λ _. Unit {0}) (λ e. Names e new)
 -- Which calls are made before the units.
 
 -- the variables that are asked for
-abbrev pub variables_asked : List (List ℕ)
-variables_asked = codes "RUSTC" ∷ codes "RUSTFLAGS" ∷ codes "CARGO_TARGET_DIR" ∷ []
+abbrev pub variables_asked : List Call
+variables_asked = variable_call (codes "RUSTC") ∷ variable_call (codes "RUSTFLAGS") ∷ variable_call (codes "CARGO_TARGET_DIR") ∷ []
 
 -- to plan a build they are asked for, and then the workspace is read
-abbrev pub plan_called : Options → World → List (List ℕ)
+abbrev pub plan_called : Options → World → List Call
 plan_called options w = variables_asked ++ looked_at options.manifest (environment_of options w.variables).target w
 
 -- where the plan is refused, all of these calls were made; else it stopped at one of them
-abbrev pub PlanStopsAt : BuildFault → List (List ℕ) → Counts → Counts → Type 0
+abbrev pub PlanStopsAt : BuildFault → List Call → Counts → Counts → Type 0
 PlanStopsAt (Plan why) names old new = new ≡ past_calls names old
 PlanStopsAt e names old new = StopsAt e names old new
 
 -- where there is a plan, just these calls were made, in this order
-abbrev pub PlansInTurn : {T : Type 0} → Result T BuildFault → List (List ℕ) → Counts → Counts → Type 0
+abbrev pub PlansInTurn : {T : Type 0} → Result T BuildFault → List Call → Counts → Counts → Type 0
 PlansInTurn result names old new = MatchResult result (λ x. new ≡ past_calls names old) (λ e. PlanStopsAt e names old new)
 
 -- to ask the compiler a child is started, by one call, also where it says no host
@@ -82,15 +82,15 @@ AskEnds Toolchain old new = new ≡ past_call (one_start old)
 AskEnds e old new = SpawnEnds e old new
 
 -- the query is one call, and then the records are opened
-abbrev pub ready_called : List (List ℕ) → Counts → Counts
+abbrev pub ready_called : List Call → Counts → Counts
 ready_called names old = past_calls names (past_call (one_start old))
 
 -- it stopped at the query, or at a call by which the records are opened behind it
-abbrev pub ReadyStopsAt : BuildFault → List (List ℕ) → Counts → Counts → Type 0
+abbrev pub ReadyStopsAt : BuildFault → List Call → Counts → Counts → Type 0
 ReadyStopsAt e names old new = AskEnds e old new ⊎ StopsAt e names (past_call (one_start old)) new
 
 -- where all is ready, just these calls were made, in this order
-abbrev pub ReadiesInTurn : {T : Type 0} → Result T BuildFault → List (List ℕ) → Counts → Counts → Type 0
+abbrev pub ReadiesInTurn : {T : Type 0} → Result T BuildFault → List Call → Counts → Counts → Type 0
 ReadiesInTurn result names old new = MatchResult result (λ x. new ≡ ready_called names old) (λ e. ReadyStopsAt e names old new)
 
 -- a build of this world stopped before its units: at its plan; or, behind all calls of the plan, as a project of this world was made ready

@@ -3,6 +3,7 @@ use Rattle.std.specs.Prelude.{◌≡◌, ◌⊎◌, ◌∷◌, [], ℕ, Bool, tr
 use Rattle.std.specs.Io.KnownBytes.{Appends}
 use Rattle.pb_answer.specs.declared.fault.BuildFault.{BuildFault}
 use Rattle.pb_answer.specs.declared.fault.BuildFault.TheVariants.{Child, Device, Sink, OutOfMemory}
+use Rattle.pb_answer.specs.declared.fault.DeviceFault.TheVariants as device
 use Rattle.pb_answer.specs.declared.summary.Summary.{Summary}
 use Rattle.pb_command.specs.Judge.{judge}
 use Rattle.pb_directive.specs.declared.directive.Directive.{Directive}
@@ -144,10 +145,10 @@ pub record GivesFirst (footing : Footing) (read : Reading) (child : Answers) (Sc
   pub came : CameAfter flown.units.project fault before flown.es
   pub began : AllBeganFor (basis_of footing read child options old.world flown.units) before flown.reasons old.world new.world
 
--- what is told of a call that failed before the units: behind the query it names the folder of the records, or a record directly in it, which are opened then; at which turn the call failed is said of the whole build (`StopsEarly`)
+-- what is told of a call that failed before the units: behind the query it is the listing of the folder of the records, or the reading of a record directly in it, by which they are opened; at which turn the call failed is said of the whole build (`StopsEarly`)
 abbrev pub NamesOpened : List ℕ → World → BuildFault → Starts → Starts → Type 0
-NamesOpened folder w (Device name fault) old new = (new ≡ old) ⊎ Contains (opened_looked folder w) name
-NamesOpened folder w fault old new = Unit {0}
+NamesOpened folder w (Device name (device.Place fault)) old new = (new ≡ old) ⊎ Contains (opened_looked folder w) (record { kind = fault; name = name })
+NamesOpened folder w e old new = Unit {0}
 
 -- what was given when the finish line was due
 abbrev pub GivesUnits : Footing → Reading → Answers → (Project → List (Event BadUnit) → Type 0) → Options → Result Summary BuildFault → Moment → Moment → Type 0

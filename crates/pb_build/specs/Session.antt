@@ -1,8 +1,8 @@
 -- A session: edits and builds, one after another. Each build's end and its cause are handed on.
 use Rattle.std.specs.Prelude.{◌≡◌, ◌↔◌, ⊤, ℕ, true, List, [], ◌∷◌, ◌++◌, Option, Result}
 use Rattle.pb_place.specs.World.{World, Answers, written, removed}
-use Rattle.pb_place.specs.Memory.{Held, counts_in, set, unset}
-use Rattle.pb_place.specs.declared.in_flight.Death.{Death}
+use Rattle.pb_memory.specs.Memory.{Held, counts_in, set, unset}
+use Rattle.pb_memory.specs.declared.in_flight.Death.{Death}
 use Rattle.pb_answer.specs.declared.bad_unit.BadUnit.{BadUnit}
 use Rattle.pb_answer.specs.declared.fault.BuildFault.{BuildFault}
 use Rattle.pb_answer.specs.declared.summary.Summary.{Summary}

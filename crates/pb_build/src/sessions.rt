@@ -6,7 +6,7 @@ ghost use Rattle.pb_build.specs.Environment.{environment_of};
 ghost use Rattle.pb_build.specs.Headline.{Headline};
 ghost use Rattle.pb_build.specs.Kept.{SourcesStay};
 ghost use Rattle.pb_build.specs.Session.{Picked, ByPicked, Carries, Course, Loses, Breaks, point};
-ghost use Rattle.pb_place.specs.Memory.{counts_in};
+ghost use Rattle.pb_memory.specs.Memory.{counts_in};
 ghost use Rattle.pb_turns.specs.Moments.{moment};
 
 use crate::builder::{build, build_with};
@@ -14,7 +14,8 @@ use pb_answer::{BuildFault, Summary};
 use pb_data::Items;
 use pb_flight::Last;
 use pb_package::Options;
-use pb_place::{Child, Memory, Out};
+use pb_memory::Memory;
+use pb_place::{Child, Out};
 use pb_session::{PickBy, SessionStep};
 use std::alloc::{AllocError, Global};
 

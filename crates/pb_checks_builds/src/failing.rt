@@ -1,13 +1,14 @@
 //! Builds of which one call of the place fails, each call in turn, and the builds after them.
 
 ghost use Rattle.std.specs.Prelude.{◌≡◌, []};
-ghost use Rattle.pb_place.specs.Memory.{counts_in};
+ghost use Rattle.pb_memory.specs.Memory.{counts_in};
 
 use crate::building::{afresh, built, last_line, lines_but_last};
 use crate::old::OLD_FOLDER;
 use pb_checks_files::{Shown, put_files};
 use pb_mini::Mini;
-use pb_place::{Memory, Place};
+use pb_memory::Memory;
+use pb_place::Place;
 use std::alloc::{AllocError, Global};
 use std::test::Fail;
 

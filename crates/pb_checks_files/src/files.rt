@@ -3,7 +3,8 @@
 ghost use Rattle.std.specs.Prelude.{◌≡◌};
 
 use pb_package::{LoadFault, SettledWorkspace};
-use pb_place::{Child, Memory, PathFault, PathText};
+use pb_memory::Memory;
+use pb_place::{Child, PathFault, PathText};
 use pb_workspace::load;
 use std::alloc::Global;
 

@@ -6,11 +6,12 @@ ghost use Rattle.std.specs.FinMap as map;
 ghost use Rattle.pb_place.specs.Paths.{is_below, is_at_or_below};
 ghost use Rattle.pb_place.specs.World.{is_same_path, seen_by, written, removed, put_reply};
 ghost use Rattle.pb_place.specs.Counts.{up_starts};
-ghost use Rattle.pb_place.specs.Memory.{may_fail};
+ghost use Rattle.pb_memory.specs.Memory.{may_fail};
 
 use super::echo::{Echo, say};
 use pb_data::{Bytes, Items};
-use pb_place::{Child, Command, Ended, Memory, PathText, Place, PlaceFault, StartFault};
+use pb_memory::Memory;
+use pb_place::{Child, Command, Ended, PathText, Place, PlaceFault, StartFault};
 use std::alloc::Global;
 use std::test::Fail;
 

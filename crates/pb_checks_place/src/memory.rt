@@ -9,7 +9,8 @@ use crate::flights::{DEATHS, FLIGHTS, FUSES, HALVES, ORDERS, STARTS_OF_TWO_CALLS
 use crate::told::{
     self, Step, compare, done, end_text, file_text, numbers, path_in, said, step_of,
 };
-use pb_place::{Memory, PathText, Place, Seen, StartFault};
+use pb_memory::{Memory, Seen};
+use pb_place::{PathText, Place, StartFault};
 use std::alloc::{AllocError, Global};
 use std::test::Fail;
 

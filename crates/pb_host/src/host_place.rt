@@ -4,8 +4,8 @@ ghost use Rattle.std.specs.Prelude.{◌≡◌, ◌≢◌, ◌⊎◌, ℕ, ◌+�
 ghost use Rattle.std.specs.FinMap as map;
 ghost use Rattle.pb_place.specs.Counts.{no_calls, without};
 ghost use Rattle.pb_place.specs.Children.{is_flying, most_after};
-ghost use Rattle.pb_place.specs.InFlight.{children_in};
-ghost use Rattle.pb_place.specs.Tallies.{flown};
+ghost use Rattle.pb_memory.specs.InFlight.{children_in};
+ghost use Rattle.pb_memory.specs.Tallies.{flown};
 ghost use Rattle.std.specs.Vec.{vec_len, vec_capacity};
 ghost use Rattle.pb_host.specs.Flying.{silent_child};
 ghost use Rattle.pb_place.specs.declared.child.ViewFault.TheVariants as view_fault;
@@ -16,11 +16,9 @@ use crate::reading::{file_at, variable_of};
 use crate::starting::{finish, spawn};
 use crate::writing::{remove_tree, write_file};
 use pb_data::{Bytes, Items, Text, TryCopy, with_next};
-use pb_place::in_flight::{Flying, flies, free_ticket, take_out};
-use pb_place::{
-    ChildInFlight, Command, Ended, FileMap, PathText, Place, PlaceFault, StartFault, Tally,
-    ViewFault,
-};
+use pb_memory::in_flight::{Flying, flies, free_ticket, take_out};
+use pb_memory::Tally;
+use pb_place::{ChildInFlight, Command, Ended, FileMap, PathText, Place, PlaceFault, StartFault, ViewFault};
 use std::alloc::{AllocError, Global};
 use std::process::{Child, Processes};
 use std::rt::{Env, Files};
@@ -160,8 +158,8 @@ fn fault_of(fault: ViewFault, own: PlaceFault) -> PlaceFault
 #[tactic(auto, using(pb_place::proofs::InFlight::tally_laws))]
 impl<'a, R: Files + Env + Processes + AllocGlobal> Place for HostPlace<'a, R> {
     ghost use Rattle.std.specs.Prelude.{false};
-    ghost use Rattle.pb_place.specs.InFlight.{children_in};
-    ghost use Rattle.pb_place.specs.Tallies.{with_children};
+    ghost use Rattle.pb_memory.specs.InFlight.{children_in};
+    ghost use Rattle.pb_memory.specs.Tallies.{with_children};
     ghost use Rattle.pb_host.specs.Flying.{no_world, silent};
 
     ghost tells = { false };

@@ -3,14 +3,14 @@ use Rattle.std.proofs.Common.{◌≡◌, ◌∙◌, ◌<◌, ◌+◌, ◌==◌, 
 use Rattle.std.proofs.lemmas.List.{drop_more, take_more, take-append-drop}
 use Rattle.std.proofs.lemmas.Bool.Decides.{Decides-eqb}
 use Rattle.std.specs.FinMap as map
-use Rattle.pb_place.specs.CallsInTurn.{past_calls}
+use Rattle.pb_place.specs.CallsInTurn.{past_calls, write_call}
 use Rattle.pb_place.specs.Counts.{Counts, past_call, past_place_fault}
 use Rattle.pb_place.specs.Paths.{below}
 use Rattle.pb_place.specs.World.{World, Map, Torn, put_files, put_reply, written}
 use Rattle.pb_place.specs.declared.place.PlaceFault.{PlaceFault}
 use Rattle.pb_place.specs.declared.place.PlaceFault.TheVariants as place
 use Rattle.pb_place.proofs.CallsInTurn.{made_both}
-use Rattle.pb_mini_program.specs.Writing.{FailsToPut, Kept, PutsIn, StopsPutting, paths_in}
+use Rattle.pb_mini_program.specs.Writing.{FailsToPut, Kept, PutsIn, StopsPutting, writes_in}
 
 -- one file more
 put_last : (folder : List ℕ) (done : List (List ℕ × List ℕ)) (file : List ℕ × List ℕ) (m : Map)
@@ -31,21 +31,21 @@ parts : (files : List (List ℕ × List ℕ)) (i : ℕ) (file : List ℕ × List
 parts files i file on is = sym (take-append-drop i files) ∙ ap (λ r. take i files ++ r) (drop_more files i file on ∙ ap (λ f. f ∷ drop (i + 1) files) (sym is))
 
 -- one call more, for the file behind these
-paths_last : (folder : List ℕ) (done : List (List ℕ × List ℕ)) (file : List ℕ × List ℕ) → paths_in folder (done ++ file ∷ []) ≡ paths_in folder done ++ below folder file.0 ∷ []
-paths_last folder [] file = refl
-paths_last folder (f ∷ done) file = ap (λ paths. below folder f.0 ∷ paths) (paths_last folder done file)
+writes_last : (folder : List ℕ) (done : List (List ℕ × List ℕ)) (file : List ℕ × List ℕ) → writes_in folder (done ++ file ∷ []) ≡ writes_in folder done ++ write_call (below folder file.0) ∷ []
+writes_last folder [] file = refl
+writes_last folder (f ∷ done) file = ap (λ calls. write_call (below folder f.0) ∷ calls) (writes_last folder done file)
 
 past_last : (folder : List ℕ) (done : List (List ℕ × List ℕ)) (file : List ℕ × List ℕ) (old mid new : Counts)
-    → mid ≡ past_calls (paths_in folder done) old → new ≡ past_call mid → new ≡ past_calls (paths_in folder (done ++ file ∷ [])) old
+    → mid ≡ past_calls (writes_in folder done) old → new ≡ past_call mid → new ≡ past_calls (writes_in folder (done ++ file ∷ [])) old
 past_last folder done file old mid new so is =
-    made_both (paths_in folder done) (below folder file.0 ∷ []) old mid new so is ∙ ap (λ paths. past_calls paths old) (sym (paths_last folder done file))
+    made_both (writes_in folder done) (write_call (below folder file.0) ∷ []) old mid new so is ∙ ap (λ calls. past_calls calls old) (sym (writes_last folder done file))
 
 pub past_more : (folder : List ℕ) (files : List (List ℕ × List ℕ)) (i : ℕ) (file : List ℕ × List ℕ) (old mid new : Counts)
     → i < length files → file ≡ get_or files i file
-    → mid ≡ past_calls (paths_in folder (take i files)) old → new ≡ past_call mid → new ≡ past_calls (paths_in folder (take (i + 1) files)) old
+    → mid ≡ past_calls (writes_in folder (take i files)) old → new ≡ past_call mid → new ≡ past_calls (writes_in folder (take (i + 1) files)) old
 past_more folder files i file old mid new on here so is =
     past_last folder (take i files) file old mid new so is
-    ∙ sym (ap (λ fs. past_calls (paths_in folder fs) old) (take_more files i file on ∙ ap (λ f. take i files ++ f ∷ []) (sym here)))
+    ∙ sym (ap (λ fs. past_calls (writes_in folder fs) old) (take_more files i file on ∙ ap (λ f. take i files ++ f ∷ []) (sym here)))
 
 torn : (path bytes path' bytes' : List ℕ) (mid mid' new : World) → path ≡ path' → bytes ≡ bytes' → mid ≡ mid' → Torn path bytes mid new → Torn path' bytes' mid' new
 torn path bytes path' bytes' mid mid' new p b m t =
@@ -54,7 +54,7 @@ torn path bytes path' bytes' mid mid' new p b m t =
 -- the write of this file failed
 pub fails_at : (tells : Bool) (folder : List ℕ) (files : List (List ℕ × List ℕ)) (i : ℕ) (file : List ℕ × List ℕ) (path bytes : List ℕ) (e : PlaceFault) (old mid new : Kept)
     → i < length files → file ≡ get_or files i file → path ≡ below folder file.0 → bytes ≡ file.1
-    → mid.counts ≡ past_calls (paths_in folder (take i files)) old.counts → (IsTrue tells → mid.world ≡ put_reply (Some folder) (take i files) old.world)
+    → mid.counts ≡ past_calls (writes_in folder (take i files)) old.counts → (IsTrue tells → mid.world ≡ put_reply (Some folder) (take i files) old.world)
     → e ≡ place.Write → new.counts ≡ past_place_fault path e mid.counts → (IsTrue tells → Torn path bytes mid.world new.world) → FailsToPut tells folder files old new
 fails_at tells folder files i file path bytes e old mid new on is is_path is_bytes so put is_write counts tears = (
   take i files,
@@ -68,7 +68,7 @@ fails_at tells folder files i file path bytes e old mid new on is is_path is_byt
 -- memory was refused at its write
 pub stops_at : (tells : Bool) (folder : List ℕ) (files : List (List ℕ × List ℕ)) (i : ℕ) (file : List ℕ × List ℕ) (path bytes : List ℕ) (e : PlaceFault) (old mid new : Kept)
     → i < length files → file ≡ get_or files i file → path ≡ below folder file.0 → bytes ≡ file.1
-    → mid.counts ≡ past_calls (paths_in folder (take i files)) old.counts → (IsTrue tells → mid.world ≡ put_reply (Some folder) (take i files) old.world)
+    → mid.counts ≡ past_calls (writes_in folder (take i files)) old.counts → (IsTrue tells → mid.world ≡ put_reply (Some folder) (take i files) old.world)
     → e ≡ place.OutOfMemory → new.counts ≡ past_place_fault path e mid.counts → (IsTrue tells → Torn path bytes mid.world new.world) → StopsPutting tells folder files old new
 stops_at tells folder files i file path bytes e old mid new on is is_path is_bytes so put is_memory counts tears = (
   take i files,
@@ -84,7 +84,7 @@ stops_at tells folder files i file path bytes e old mid new on is is_path is_byt
 -- or before it
 pub stops_before : (tells : Bool) (folder : List ℕ) (files : List (List ℕ × List ℕ)) (i : ℕ) (file : List ℕ × List ℕ) (old new : Kept)
     → i < length files → file ≡ get_or files i file
-    → new.counts ≡ past_calls (paths_in folder (take i files)) old.counts → (IsTrue tells → new.world ≡ put_reply (Some folder) (take i files) old.world) → StopsPutting tells folder files old new
+    → new.counts ≡ past_calls (writes_in folder (take i files)) old.counts → (IsTrue tells → new.world ≡ put_reply (Some folder) (take i files) old.world) → StopsPutting tells folder files old new
 stops_before tells folder files i file old new on is so put = (
   take i files,
   file,

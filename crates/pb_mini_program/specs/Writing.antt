@@ -1,7 +1,7 @@
 -- What the program writes of a reply, and at what it stops: first the files, then the output, then standard error. Nothing is written behind a write that failed.
 use Rattle.std.specs.Prelude.{◌≡◌, ◌⊎◌, ℕ, Bool, List, [], ◌∷◌, ◌++◌, take, Option, Some, None, IsTrue}
 use Rattle.std.specs.Io.KnownBytes.{Appends}
-use Rattle.pb_place.specs.CallsInTurn.{past_calls}
+use Rattle.pb_place.specs.CallsInTurn.{Call, past_calls, write_call}
 use Rattle.pb_place.specs.Counts.{Counts, up, past_place_fault}
 use Rattle.pb_place.specs.Paths.{below}
 use Rattle.pb_place.specs.World.{World, Torn, put_reply}
@@ -31,15 +31,15 @@ pub record Kept : Type 0 where
 abbrev pub kept : World → Counts → Kept
 kept world counts = record { world = world; counts = counts }
 
--- the paths of files in a folder, in turn
-abbrev pub paths_in : List ℕ → List (List ℕ × List ℕ) → List (List ℕ)
-paths_in folder [] = []
-paths_in folder (file ∷ files) = below folder file.0 ∷ paths_in folder files
+-- each of some files is written in a folder, in turn
+abbrev pub writes_in : List ℕ → List (List ℕ × List ℕ) → List Call
+writes_in folder [] = []
+writes_in folder (file ∷ files) = write_call (below folder file.0) ∷ writes_in folder files
 
 -- after files were put in a folder: one call for each, in turn, and none where there is no folder
 abbrev pub past_puts : Option (List ℕ) → List (List ℕ × List ℕ) → Counts → Counts
 past_puts None files c = c
-past_puts (Some folder) files c = past_calls (paths_in folder files) c
+past_puts (Some folder) files c = past_calls (writes_in folder files) c
 
 -- files were put in a folder, by one call for each, in turn, and none failed; where there is no folder, no call was made
 abbrev pub PutsIn : Bool → Option (List ℕ) → List (List ℕ × List ℕ) → Kept → Kept → Type 0
@@ -53,14 +53,14 @@ PutsUpTo folder done file old new = Torn (below folder file.0) file.1 (put_reply
 abbrev pub FailsToPut : Bool → List ℕ → List (List ℕ × List ℕ) → Kept → Kept → Type 0
 FailsToPut tells folder files old new =
     (done : List (List ℕ × List ℕ)) × (file : List ℕ × List ℕ) × (left : List (List ℕ × List ℕ)) × (files ≡ done ++ file ∷ left)
-    × (new.counts ≡ past_place_fault (below folder file.0) place.Write (past_calls (paths_in folder done) old.counts)) × (IsTrue tells → PutsUpTo folder done file old.world new.world)
+    × (new.counts ≡ past_place_fault (below folder file.0) place.Write (past_calls (writes_in folder done) old.counts)) × (IsTrue tells → PutsUpTo folder done file old.world new.world)
 
 -- memory was refused at one of some files, before its write or in it, which is a call that did not fail; those before it were put in the folder
 abbrev pub StopsPutting : Bool → List ℕ → List (List ℕ × List ℕ) → Kept → Kept → Type 0
 StopsPutting tells folder files old new =
     (done : List (List ℕ × List ℕ)) × (file : List ℕ × List ℕ) × (left : List (List ℕ × List ℕ)) × (files ≡ done ++ file ∷ left)
     × (PutsIn tells (Some folder) done old new
-    ⊎ ((new.counts ≡ past_calls (paths_in folder (done ++ file ∷ [])) old.counts) × (IsTrue tells → PutsUpTo folder done file old.world new.world)))
+    ⊎ ((new.counts ≡ past_calls (writes_in folder (done ++ file ∷ [])) old.counts) × (IsTrue tells → PutsUpTo folder done file old.world new.world)))
 
 -- What is told of a reply, over a view: where the view tells what it shows, it is the small compiler's to these words.
 

@@ -7,7 +7,7 @@ ghost use Rattle.pb_place.specs.World.{put_reply};
 ghost use Rattle.pb_place.specs.declared.child.Reply.{Reply};
 ghost use Rattle.pb_mini.specs.Answer.{answered};
 ghost use Rattle.pb_mini_program.specs.OutFolder.{out_folder};
-ghost use Rattle.pb_mini_program.specs.Writing.{FailsToPut, IsFolder, IsReply, MemoryEnds, PutsIn, StopsPutting, WriteFails, WritesAll, kept, outside, paths_in};
+ghost use Rattle.pb_mini_program.specs.Writing.{FailsToPut, IsFolder, IsReply, MemoryEnds, PutsIn, StopsPutting, WriteFails, WritesAll, kept, outside, writes_in};
 
 use crate::fault::Fault;
 use crate::out_folder::out_folder;
@@ -24,7 +24,7 @@ fn write_files<P: Place>(
     files: &[(RelativePath, Bytes)],
 ) -> Result<(), PlaceFault>
     ensures written { IsTrue P.tells → OnOk result (P.world place.new ≡ put_reply (Some folder.now) files.now (P.world place.old)) }
-    ensures whole { OnOk result (P.counts place.new ≡ past_calls (paths_in folder.now files.now) (P.counts place.old)) }
+    ensures whole { OnOk result (P.counts place.new ≡ past_calls (writes_in folder.now files.now) (P.counts place.old)) }
     ensures fault { IfErr result (λ e. e ≢ PlaceFault.OutOfMemory → FailsToPut P.tells folder.now files.now (kept (P.world place.old) (P.counts place.old)) (kept (P.world place.new) (P.counts place.new))) }
     ensures memory { IfErr result (λ e. e ≡ PlaceFault.OutOfMemory → StopsPutting P.tells folder.now files.now (kept (P.world place.old) (P.counts place.old)) (kept (P.world place.new) (P.counts place.new))) }
 {

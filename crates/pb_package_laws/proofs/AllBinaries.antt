@@ -10,7 +10,7 @@ use Rattle.pb_manifest.specs.declared.package.Package.{Package as Written}
 use Rattle.pb_manifest.specs.declared.target.Binary.{Binary as WrittenBinary}
 use Rattle.pb_package.specs.declared.package.Binary.{Binary}
 use Rattle.pb_place.specs.Paths.{below}
-use Rattle.pb_place.specs.World.{World}
+use Rattle.pb_place.specs.World.{World, FilesHavePaths}
 use Rattle.pb_workspace.specs.Binaries.{main_source, first_some, looked_for, binary_source, written_binary, with_binaries, binary_of, binaries_of}
 use Rattle.pb_workspace.specs.FoundBinaries.{found_binaries}
 use Rattle.pb_workspace.specs.Settling.{discovered, has_same_binaries}
@@ -18,7 +18,7 @@ use Rattle.pb_workspace.proofs.Keeping.{none_again}
 use Rattle.pb_workspace.proofs.Puttings.{map_twice}
 use Rattle.pb_workspace.proofs.WholeWorkspace.{map_only, map_each}
 use Rattle.pb_package_laws.specs.Binaries.{in_bin, places, source_of, IsBinary, written, found}
-use Rattle.pb_package_laws.specs.Files.{FilesHavePaths, is_file, first_file}
+use Rattle.pb_package_laws.specs.Files.{is_file, first_file}
 use Rattle.pb_package_laws.proofs.BinPlaces.{place_in}
 use Rattle.pb_package_laws.proofs.Binaries.{Bins, rises_on, put_or_old, stays, stands, nothing_rises, IsFirst, found_so, found_first, first_found}
 use Rattle.pb_package_laws.proofs.Sorting.{Name, Rises, names}

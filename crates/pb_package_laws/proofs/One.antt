@@ -29,14 +29,14 @@ use Rattle.pb_package.specs.declared.package.Library.{Library}
 use Rattle.pb_package.specs.declared.package.Package.{Package}
 use Rattle.pb_package.specs.declared.workspace.Workspace.{Workspace}
 use Rattle.pb_place.specs.Paths.{below}
-use Rattle.pb_place.specs.World.{World}
+use Rattle.pb_place.specs.World.{World, FilesHavePaths}
 use Rattle.pb_workspace.specs.Assembled.{default_members_of}
 use Rattle.pb_workspace.specs.Frames.{given_to}
 use Rattle.pb_workspace.specs.Taken.{from_member, readme_text, given_readme}
 use Rattle.pb_workspace.specs.declared.frame.Frame.{Frame}
 use Rattle.pb_workspace.specs.declared.settling.Given.{Given}
 use Rattle.pb_package_laws.specs.Binaries.{IsBinary, HasBinaries}
-use Rattle.pb_package_laws.specs.Files.{first_file, FilesHavePaths, IsManifestAt}
+use Rattle.pb_package_laws.specs.Files.{first_file, IsManifestAt}
 use Rattle.pb_package_laws.specs.Laws.{frame_in, IsWorkspaceOf, WorkspacesAreOne}
 use Rattle.pb_package_laws.specs.Members.{IsMember}
 use Rattle.pb_package_laws.specs.Packages.{IsOwnOrTaken, IsText, IsPlainText, with_colons, script, IsLibrary, IsOfTable, IsEntry, AreOneForOne, IsPackageOf}

@@ -20,7 +20,7 @@ use Rattle.pb_package.specs.declared.package.DependencyKind.TheVariants.{Normal,
 use Rattle.pb_package.specs.declared.package.Package.{Package}
 use Rattle.pb_package.specs.declared.workspace.Workspace.{Workspace}
 use Rattle.pb_place.specs.Paths.{below, folder_of, is_path}
-use Rattle.pb_place.specs.World.{World, from_nothing}
+use Rattle.pb_place.specs.World.{World, from_nothing, FilesHavePaths}
 use Rattle.pb_workspace.specs.Assembled.{assembled, default_members_of, entry_at, package_at, packages_of}
 use Rattle.pb_workspace.specs.ByFolder.{folders_of, value_of, values_of}
 use Rattle.pb_workspace.specs.Checks.{fault_of, has_other_name, has_other_version, matches_if}
@@ -53,7 +53,7 @@ use Rattle.pb_workspace.proofs.Fuel.{all_grow, ends_or_grows}
 use Rattle.pb_workspace.proofs.Keeping.{assembled_settled}
 use Rattle.pb_workspace.proofs.Puttings.{map_twice}
 use Rattle.pb_workspace.proofs.WholeWorkspace.{map_only, map_each, manifest_there, all_found, begun, own_folders}
-use Rattle.pb_package_laws.specs.Files.{FilesHavePaths, IsManifestAt}
+use Rattle.pb_package_laws.specs.Files.{IsManifestAt}
 use Rattle.pb_package_laws.specs.Folders as Folders
 use Rattle.pb_package_laws.specs.Laws.{IsOfItsFolder, IsRootPackage, IsWorkspaceOf, WorkspacesAreRead, AllAreSettled}
 use Rattle.pb_package_laws.specs.Members.{IsMember}

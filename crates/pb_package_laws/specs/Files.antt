@@ -1,11 +1,11 @@
 -- Files of the sources: the world without what lies at or below the target folder.
-use Rattle.std.specs.Prelude.{◌≡◌, ℕ, Bool, true, is_some, List, Option, Some, Ok}
+use Rattle.std.specs.Prelude.{◌≡◌, ℕ, Bool, is_some, List, Option, Some, Ok}
 use Rattle.std.specs.FinMap as finite
 use Rattle.std.specs.List.{find}
 use Rattle.std.specs.Option.{option_map}
 use Rattle.pb_manifest_reader.specs.Document.{manifest_of}
 use Rattle.pb_manifest.specs.declared.manifest.Manifest.{Manifest}
-use Rattle.pb_place.specs.Paths.{below, is_path}
+use Rattle.pb_place.specs.Paths.{below}
 use Rattle.pb_place.specs.World.{World}
 
 -- a name of a file, from this folder
@@ -19,10 +19,6 @@ first_file sources folder names = find (is_file sources folder) names
 -- its path
 abbrev pub first_path : World → List ℕ → List (List ℕ) → Option (List ℕ)
 first_path sources folder names = option_map (below folder) (first_file sources folder names)
-
--- each file has a normalised absolute path
-abbrev pub FilesHavePaths : World → Type 0
-FilesHavePaths w = (path bytes : List ℕ) → finite.get w.files path ≡ Some bytes → is_path path ≡ true
 
 -- the manifest in the file at this path
 pub record IsManifestAt (sources : World) (path : List ℕ) (m : Manifest) : Type 0 where

@@ -6,13 +6,13 @@ use Rattle.pb_package.specs.Settled.{IsAscending, IsSettled}
 use Rattle.pb_package.specs.declared.package.Package.{Package}
 use Rattle.pb_package.specs.declared.workspace.Workspace.{Workspace}
 use Rattle.pb_place.specs.Paths.{below, folder_of, is_path}
-use Rattle.pb_place.specs.World.{World, from_nothing}
+use Rattle.pb_place.specs.World.{World, from_nothing, FilesHavePaths}
 use Rattle.pb_workspace.specs.Assembled.{default_members_of}
 use Rattle.pb_workspace.specs.Frames.{frame_of, given_to}
 use Rattle.pb_workspace.specs.Loaded.{workspace_of}
 use Rattle.pb_workspace.specs.declared.frame.Frame.{Frame}
 use Rattle.pb_package_laws.specs.Binaries.{HasBinaries}
-use Rattle.pb_package_laws.specs.Files.{FilesHavePaths, IsManifestAt}
+use Rattle.pb_package_laws.specs.Files.{IsManifestAt}
 use Rattle.pb_package_laws.specs.Folders.{IsPackageFolder}
 use Rattle.pb_package_laws.specs.Members.{IsMember}
 use Rattle.pb_package_laws.specs.Packages.{IsPackageOf}

@@ -5,18 +5,12 @@ pub mod child;
 pub mod child_in_flight;
 pub mod command;
 mod files;
-pub mod in_flight;
-mod landing;
 mod laws;
-mod memory;
 pub mod path;
 pub mod place;
 mod relative;
-mod seen;
-mod sight;
 mod sink;
 mod taken_apart;
-mod tally;
 mod whole;
 
 pub use child::{Child, Reply, View, ViewFault};
@@ -28,11 +22,8 @@ pub use laws::{
     failing_calls_spare, folders_nest, last_word_stands, maps_look_up, parsing_keeps_paths,
     paths_join_again,
 };
-pub use memory::Memory;
 pub use path::{PathFault, PathText};
 pub use place::{Failure, Place, PlaceFault, StartFault};
 pub use relative::RelativePath;
-pub use seen::Seen;
 pub use sink::{Out, Over};
-pub use tally::Tally;
 pub use whole::write_all;

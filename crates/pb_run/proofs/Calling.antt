@@ -1,9 +1,9 @@
 -- Calls of a unit in turn, with the faults that a build tells of them.
-use Rattle.std.proofs.Common.{◌≡◌, ◌∙◌, ◌++◌, ◌⊎◌, inl, inr, ℕ, true, false, cond, is_some, List, [], ◌∷◌, Result, Ok, Err, sym, ap, subst}
+use Rattle.std.proofs.Common.{◌≡◌, ◌≢◌, ◌∙◌, ◌++◌, ◌⊎◌, inl, inr, ℕ, true, false, cond, is_some, List, [], ◌∷◌, Result, Ok, Err, sym, ap, subst}
 use Rattle.pb_answer.specs.declared.fault.BuildFault.{BuildFault}
 use Rattle.pb_answer.specs.declared.fault.BuildFault.TheVariants.{Plan, Toolchain, Child, Device, Sink, OutOfMemory}
 use Rattle.pb_answer.specs.declared.fault.DeviceFault.TheVariants.{Place, NumbersSpent}
-use Rattle.pb_place.specs.CallsInTurn.{FailsAt, MakesSome, past_calls}
+use Rattle.pb_place.specs.CallsInTurn.{Call, FailsAt, MakesSome, past_calls}
 use Rattle.pb_place.specs.Counts.{Counts, past_call, past_place_fault}
 use Rattle.pb_place.specs.declared.place.PlaceFault.{PlaceFault}
 use Rattle.pb_place.specs.declared.place.PlaceFault.TheVariants as place
@@ -34,7 +34,7 @@ use Rattle.pb_store.specs.declared.fault.StoreFault.{StoreFault}
 use Rattle.pb_store.specs.declared.fault.StoreFault.TheVariants as store
 
 -- a first step stops it, and no second comes
-pub stops_first : (e : BuildFault) (a b : List (List ℕ)) (old new : Counts) → StopsAt e a old new → StopsAt e (a ++ b) old new
+pub stops_first : (e : BuildFault) (a b : List Call) (old new : Counts) → StopsAt e a old new → StopsAt e (a ++ b) old new
 stops_first (Plan refusal) a b old new is = is
 stops_first Toolchain a b old new is = is
 stops_first (Child unit fault) a b old new is = is
@@ -44,7 +44,7 @@ stops_first Sink a b old new is = is
 stops_first OutOfMemory a b old new is = some_left a b old new is
 
 -- a second step stops it, after a first
-pub stops_then : (e : BuildFault) (a b : List (List ℕ)) (old mid new : Counts) → mid ≡ past_calls a old → StopsAt e b mid new → StopsAt e (a ++ b) old new
+pub stops_then : (e : BuildFault) (a b : List Call) (old mid new : Counts) → mid ≡ past_calls a old → StopsAt e b mid new → StopsAt e (a ++ b) old new
 stops_then (Plan refusal) a b old mid new first is = is
 stops_then Toolchain a b old mid new first is = is
 stops_then (Child unit fault) a b old mid new first is = is
@@ -54,31 +54,31 @@ stops_then Sink a b old mid new first is = is
 stops_then OutOfMemory a b old mid new first is = some_right a b old mid new first is
 
 -- memory is refused before the first call, or behind the last
-pub memory_first : (names : List (List ℕ)) (c : Counts) → StopsAt OutOfMemory names c c
+pub memory_first : (names : List Call) (c : Counts) → StopsAt OutOfMemory names c c
 memory_first names c = some_none names c
 
-pub memory_last : (names : List (List ℕ)) (old new : Counts) → new ≡ past_calls names old → StopsAt OutOfMemory names old new
+pub memory_last : (names : List Call) (old new : Counts) → new ≡ past_calls names old → StopsAt OutOfMemory names old new
 memory_last names old new is = subst (λ c. MakesSome names old c) (sym is) (some_all names old)
 
 -- the one call
-one_stops : (name unit : List ℕ) (fault : PlaceFault) (old new : Counts) → new ≡ past_place_fault name fault old → StopsAt (device_fault unit fault) (name ∷ []) old new
-one_stops name unit place.Read old new is = inl is
-one_stops name unit place.List old new is = inl is
-one_stops name unit place.Write old new is = inl is
-one_stops name unit place.Remove old new is = inl is
-one_stops name unit place.Variable old new is = inl is
-one_stops name unit place.OutOfMemory old new is = inr is
+one_stops : (call : Call) (unit : List ℕ) (fault : PlaceFault) (old new : Counts) → (fault ≢ place.OutOfMemory → fault ≡ call.kind) → new ≡ past_place_fault call.name fault old → StopsAt (device_fault unit fault) (call ∷ []) old new
+one_stops call unit place.Read old new kind is = inl (kind (λ e. cc), is)
+one_stops call unit place.List old new kind is = inl (kind (λ e. cc), is)
+one_stops call unit place.Write old new kind is = inl (kind (λ e. cc), is)
+one_stops call unit place.Remove old new kind is = inl (kind (λ e. cc), is)
+one_stops call unit place.Variable old new kind is = inl (kind (λ e. cc), is)
+one_stops call unit place.OutOfMemory old new kind is = inr is
 
-pub call_stops : (name unit : List ℕ) (fault : PlaceFault) (told : BuildFault) (old new : Counts) → told ≡ device_fault unit fault → new ≡ past_place_fault name fault old → StopsAt told (name ∷ []) old new
-call_stops name unit fault told old new is counts = subst (λ e. StopsAt e (name ∷ []) old new) (sym is) (one_stops name unit fault old new counts)
+pub call_stops : (call : Call) (unit : List ℕ) (fault : PlaceFault) (told : BuildFault) (old new : Counts) → told ≡ device_fault unit fault → (fault ≢ place.OutOfMemory → fault ≡ call.kind) → new ≡ past_place_fault call.name fault old → StopsAt told (call ∷ []) old new
+call_stops call unit fault told old new is kind counts = subst (λ e. StopsAt e (call ∷ []) old new) (sym is) (one_stops call unit fault old new kind counts)
 
 -- a call of the store
-memory_some : (names : List (List ℕ)) (old new : Counts) → FailsAt place.OutOfMemory names old new → MakesSome names old new
+memory_some : (names : List Call) (old new : Counts) → FailsAt place.OutOfMemory names old new → MakesSome names old new
 memory_some [] old new is = absurd is
-memory_some (name ∷ names) old new (inl is) = inr (subst (λ c. MakesSome names (past_call old) c) (sym is) (some_none names (past_call old)))
+memory_some (name ∷ names) old new (inl is) = inr (subst (λ c. MakesSome names (past_call old) c) (sym is.1) (some_none names (past_call old)))
 memory_some (name ∷ names) old new (inr is) = inr (memory_some names (past_call old) new is)
 
-stored_stops : (unit : List ℕ) (e : StoreFault) (names : List (List ℕ)) (old new : Counts) → looking.StopsAt e names old new → StopsAt (store_fault unit e) names old new
+stored_stops : (unit : List ℕ) (e : StoreFault) (names : List Call) (old new : Counts) → looking.StopsAt e names old new → StopsAt (store_fault unit e) names old new
 stored_stops unit (store.Place place.Read) names old new is = is
 stored_stops unit (store.Place place.List) names old new is = is
 stored_stops unit (store.Place place.Write) names old new is = is
@@ -88,17 +88,17 @@ stored_stops unit (store.Place place.OutOfMemory) names old new is = memory_some
 stored_stops unit store.NumbersSpent names old new is = absurd is
 stored_stops unit store.OutOfMemory names old new is = is
 
-pub store_stops : (unit : List ℕ) (e : StoreFault) (told : BuildFault) (names : List (List ℕ)) (old new : Counts) → told ≡ store_fault unit e → looking.StopsAt e names old new → StopsAt told names old new
+pub store_stops : (unit : List ℕ) (e : StoreFault) (told : BuildFault) (names : List Call) (old new : Counts) → told ≡ store_fault unit e → looking.StopsAt e names old new → StopsAt told names old new
 store_stops unit e told names old new is stops = subst (λ f. StopsAt f names old new) (sym is) (stored_stops unit e names old new stops)
 
 -- one that gives a record a number may find none left, behind the reading of the record
-spent_some : (name : List ℕ) (more : List (List ℕ)) (old new : Counts) → new ≡ past_calls (name ∷ []) old → MakesSome (name ∷ more) old new
+spent_some : (name : Call) (more : List Call) (old new : Counts) → new ≡ past_calls (name ∷ []) old → MakesSome (name ∷ more) old new
 spent_some name more old new is = inr (subst (λ c. MakesSome more (past_call old) c) (sym is) (some_none more (past_call old)))
 
 no_spent : {T : Type 0} (r : Result T StoreFault) (e : StoreFault) → r ≡ Err e → r ≡ Err store.NumbersSpent → e ≡ store.NumbersSpent
 no_spent r e is spent = cc
 
-pub migrate_stops : {T : Type 0} (r : Result T StoreFault) (unit : List ℕ) (e : StoreFault) (told : BuildFault) (name : List ℕ) (more : List (List ℕ)) (old new : Counts) → r ≡ Err e → told ≡ store_fault unit e
+pub migrate_stops : {T : Type 0} (r : Result T StoreFault) (unit : List ℕ) (e : StoreFault) (told : BuildFault) (name : Call) (more : List Call) (old new : Counts) → r ≡ Err e → told ≡ store_fault unit e
     → ((r ≡ Err store.NumbersSpent) × (new ≡ past_calls (name ∷ []) old)) ⊎ looking.StopsAt e (name ∷ more) old new → StopsAt told (name ∷ more) old new
 migrate_stops r unit e told name more old new so is (inl spent) =
     subst (λ f. StopsAt f (name ∷ more) old new) (sym (is ∙ ap (store_fault unit) (no_spent r e so spent.0))) (spent_some name more old new spent.1)
@@ -118,7 +118,7 @@ abbrev pub ended_badly : BuildFault → Result Ran BuildFault
 ended_badly fault = Err fault
 
 -- Two steps in turn.
-pub made_then : {T : Type 0} (result : Result T BuildFault) (a b : List (List ℕ)) (old mid new : Counts) → mid ≡ past_calls a old → MakesInTurn result b mid new → MakesInTurn result (a ++ b) old new
+pub made_then : {T : Type 0} (result : Result T BuildFault) (a b : List Call) (old mid new : Counts) → mid ≡ past_calls a old → MakesInTurn result b mid new → MakesInTurn result (a ++ b) old new
 made_then (Ok x) a b old mid new first second = made_both a b old mid new first second
 made_then (Err e) a b old mid new first second = stops_then e a b old mid new first second
 
@@ -137,10 +137,10 @@ module _ (read : Reading) (project : Project) (u : Planned) (c : Command) (by : 
       (made_both (dep_info_looked (dep_info_of project u)) (judged_called read project u c w by j) old mid mid first (ap (λ b. past_calls (cond b [] (recorded_called read project u c w j.names by)) mid) (sym bad)))
 
   -- it is good, and just these calls were made then
-  pub good_made : {T : Type 0} (result : Result T BuildFault) (names : List (List ℕ)) (new : Counts) → is_some j.ran.bad ≡ false → names ≡ recorded_called read project u c w j.names by → MakesInTurn result names mid new
+  pub good_made : {T : Type 0} (result : Result T BuildFault) (names : List Call) (new : Counts) → is_some j.ran.bad ≡ false → names ≡ recorded_called read project u c w j.names by → MakesInTurn result names mid new
       → MakesInTurn result (answered_called read project u c w by ended) old new
   good_made result names new good are makes =
-      told_of result new (subst (λ b. MakesInTurn result (cond b [] (recorded_called read project u c w j.names by)) mid new) (sym good) (subst (λ (ns : List (List ℕ)). MakesInTurn result ns mid new) are makes))
+      told_of result new (subst (λ b. MakesInTurn result (cond b [] (recorded_called read project u c w j.names by)) mid new) (sym good) (subst (λ (ns : List Call). MakesInTurn result ns mid new) are makes))
 
 -- the record is kept; it has a number; it is given one
 pub kept_so : (read : Reading) (project : Project) (u : Planned) (c : Command) (l : Launched) (folder : List ℕ) (v w : World) (names known : List InputName) → folder ≡ records_folder project → v ≡ w → names ≡ known

@@ -1,6 +1,6 @@
 -- Why a step of a build ends with a fault: which call failed, with which fault, after how many starts.
 use Rattle.std.specs.Prelude.{◌≡◌, ◌≢◌, ◌⊎◌, ◌++◌, ◌∷◌, [], ℕ, Bool, true, false, IsSome, List, Option, Some, None, IfErr, Result, MatchResult}
-use Rattle.pb_place.specs.CallsInTurn.{FailsAt, MakesSome, past_calls}
+use Rattle.pb_place.specs.CallsInTurn.{Call, FailsAt, MakesSome, past_calls}
 use Rattle.pb_place.specs.Children.{is_flying}
 use Rattle.pb_place.specs.Counts.{Counts, Starts, up, up_starts, without, counted_finish}
 use Rattle.pb_place.specs.declared.child_in_flight.ChildInFlight.{ChildInFlight}
@@ -193,15 +193,15 @@ MayRunUnit next key (Device unit NumbersSpent) old new = (unit ≡ key) × (next
 MayRunUnit next key Sink old new = ⊥
 MayRunUnit next key OutOfMemory old new = (new ≡ old) ⊎ (new ≡ up_starts old)
 
--- Calls on files and variables in turn, each by what it is given.
+-- Calls on files and variables in turn.
 
 -- one of these calls failed, with the fault that is told: those before it went well, and it was the last; where memory was refused, or no run number is left, the first few of them were made; no other fault is told
-abbrev pub StopsAt : BuildFault → List (List ℕ) → Counts → Counts → Type 0
+abbrev pub StopsAt : BuildFault → List Call → Counts → Counts → Type 0
 StopsAt (Device unit (Place fault)) names old new = FailsAt fault names old new
 StopsAt (Device unit NumbersSpent) names old new = MakesSome names old new
 StopsAt OutOfMemory names old new = MakesSome names old new
 StopsAt e names old new = ⊥
 
 -- where a step ended well, just these calls were made, in this order; else it stopped at one of them
-abbrev pub MakesInTurn : {T : Type 0} → Result T BuildFault → List (List ℕ) → Counts → Counts → Type 0
+abbrev pub MakesInTurn : {T : Type 0} → Result T BuildFault → List Call → Counts → Counts → Type 0
 MakesInTurn result names old new = MatchResult result (λ x. new ≡ past_calls names old) (λ e. StopsAt e names old new)

@@ -3,6 +3,7 @@ use Rattle.std.specs.Prelude.{◌≡◌, ◌++◌, ◌∷◌, ℕ, if◌then◌e
 use Rattle.pb_answer.specs.declared.fault.BuildFault.{BuildFault}
 use Rattle.pb_command.specs.Answers.{answered_of}
 use Rattle.pb_command.specs.Judge.{file_at}
+use Rattle.pb_place.specs.CallsInTurn.{Call, read_call}
 use Rattle.pb_place.specs.Children.{LandsAs, child_at}
 use Rattle.pb_place.specs.Counts.{Counts, counted_finish}
 use Rattle.pb_place.specs.World.{World, ChangesOnlyInSome}
@@ -37,26 +38,26 @@ EndsBy (awaited.Record again) answer well still before after old new = (after �
 -- What is called once the answer is there.
 
 -- the dep-info of a unit is read, where it has one
-abbrev pub dep_info_looked : Option (List ℕ) → List (List ℕ)
+abbrev pub dep_info_looked : Option (List ℕ) → List Call
 dep_info_looked None = []
-dep_info_looked (Some path) = path ∷ []
+dep_info_looked (Some path) = read_call path ∷ []
 
 -- where its child was started, its record is kept; else a record that has no run number is given one
-abbrev pub recorded_called : Reading → Project → Planned → Command → World → List InputName → Awaited → List (List ℕ)
+abbrev pub recorded_called : Reading → Project → Planned → Command → World → List InputName → Awaited → List Call
 recorded_called read project u c w names (awaited.Child launched) = kept_called (records_folder project) u.key c.target w names
 recorded_called read project u c w names (awaited.Record again) =
     if again.numbered then [] else migrated_called (records_folder project) u.key (record_at read (records_folder project) w.files u.key)
 
 -- but for a unit that is bad
-abbrev pub judged_called : Reading → Project → Planned → Command → World → Awaited → Judgement → List (List ℕ)
+abbrev pub judged_called : Reading → Project → Planned → Command → World → Awaited → Judgement → List Call
 judged_called read project u c w by j = if is_some j.ran.bad then [] else recorded_called read project u c w j.names by
 
 -- first the dep-info; and what is called next is by the judgement of the answer
-abbrev pub answered_called : Reading → Project → Planned → Command → World → Awaited → Ended → List (List ℕ)
+abbrev pub answered_called : Reading → Project → Planned → Command → World → Awaited → Ended → List Call
 answered_called read project u c w by ended =
     dep_info_looked (dep_info_of project u) ++ judged_called read project u c w by (judgement_by project u ended (answered_of project u c ended (file_at (dep_info_of project u) w.files)))
 
 -- behind the answer of a child just these calls were made, in this order; where it gave none, no call
-abbrev pub CallsBehind : {T : Type 0} → (Ended → List (List ℕ)) → Result Ended StartFault → Result T BuildFault → Counts → Counts → Type 0
+abbrev pub CallsBehind : {T : Type 0} → (Ended → List Call) → Result Ended StartFault → Result T BuildFault → Counts → Counts → Type 0
 CallsBehind names (Ok ended) result old new = MakesInTurn result (names ended) old new
 CallsBehind names (Err fault) result old new = new ≡ old

@@ -4,9 +4,9 @@ use Rattle.std.specs.FinMap as finite
 use Rattle.pb_answer.specs.declared.fault.BuildFault.{BuildFault}
 use Rattle.pb_answer.specs.declared.fault.BuildFault.TheVariants.{Child, Device, OutOfMemory}
 use Rattle.pb_answer.specs.declared.fault.DeviceFault.TheVariants.{Place, NumbersSpent}
-use Rattle.pb_place.specs.CallsInTurn.{past_calls}
+use Rattle.pb_place.specs.CallsInTurn.{Call, Fails, past_calls, remove_call}
 use Rattle.pb_place.specs.Children.{child_at, child_spawned, inside_out}
-use Rattle.pb_place.specs.Counts.{Counts, counted_spawn, one_start, past_call, past_place_fault, past_start_fault}
+use Rattle.pb_place.specs.Counts.{Counts, counted_spawn, one_start, past_call, past_start_fault}
 use Rattle.pb_place.specs.World.{World, Answers, ChangesOnly}
 use Rattle.pb_place.specs.declared.child_in_flight.ChildInFlight.{ChildInFlight}
 use Rattle.pb_place.specs.declared.command.Command.{Command}
@@ -33,7 +33,7 @@ OneCall x old new = new ≡ past_call old
 
 -- the one call, which removes what stands at this path, failed; where memory was refused, it or none was made
 abbrev pub RemovalEnds : List ℕ → BuildFault → Counts → Counts → Type 0
-RemovalEnds path (Device unit (Place fault)) old new = new ≡ past_place_fault path fault old
+RemovalEnds path (Device unit (Place fault)) old new = Fails fault (remove_call path) old new
 RemovalEnds path OutOfMemory old new = (new ≡ old) ⊎ (new ≡ past_call old)
 RemovalEnds path e old new = ⊥
 
@@ -76,7 +76,7 @@ abbrev pub LaunchEnds : List ℕ → List ℕ → BuildFault → Counts → Coun
 LaunchEnds path folder e old new = DropEnds path e old new ⊎ AnewEnds folder e (past_call old) new
 
 -- what a comparison leaves as it was: the world, where it is told, how many calls failed, and the starts; and, where it is told, just these calls were made, in this order
-pub record HasLooked (tells : Bool) (names : Reading → List (List ℕ)) (before after : World) (old new : Counts) : Type 0 where
+pub record HasLooked (tells : Bool) (names : Reading → List Call) (before after : World) (old new : Counts) : Type 0 where
   pub same : IsTrue tells → after ≡ before
   pub failures : new.failures ≡ old.failures
   pub starts : new.starts ≡ old.starts

@@ -22,7 +22,7 @@ use Rattle.pb_package.specs.declared.fault.LoadFault.TheVariants as load_fault
 use Rattle.pb_package.specs.declared.package.Binary.{Binary}
 use Rattle.pb_package.specs.declared.package.DependencyKind.TheVariants.{Normal, Build}
 use Rattle.pb_place.specs.Paths.{below, is_path}
-use Rattle.pb_place.specs.World.{World}
+use Rattle.pb_place.specs.World.{World, FilesHavePaths}
 use Rattle.pb_workspace.proofs.FoldersPut.{opened}
 use Rattle.pb_workspace.proofs.Keeping.{binaries_kept, features_kept}
 use Rattle.pb_workspace.proofs.Naming.{found_named, library_named}
@@ -52,7 +52,6 @@ use Rattle.pb_workspace.specs.declared.wanted.Wanted.{Wanted}
 use Rattle.pb_manifest.specs.Library.{library_name}
 use Rattle.pb_manifest.specs.declared.target.Library.{Library as WrittenLibrary}
 use Rattle.pb_package.specs.declared.package.Library.{Library}
-use Rattle.pb_small_builds.specs.Small.{FilesHavePaths}
 use Rattle.pb_small_builds.proofs.Rising.{with_entry_rises}
 use Rattle.pb_small_builds.proofs.SourcesFound.{At, IsSourced, binaries_at, library_at, script_at}
 use Rattle.pb_small_builds.proofs.Wanting.{IsLed, all_led}

@@ -14,7 +14,7 @@ use Rattle.pb_package.specs.declared.package.Library.{Library}
 use Rattle.pb_package.specs.declared.package.Package.{Package}
 use Rattle.pb_package.specs.declared.workspace.Workspace.{Workspace}
 use Rattle.pb_place.specs.Paths.{below, folder_of, is_path}
-use Rattle.pb_place.specs.World.{World, from_nothing, listed}
+use Rattle.pb_place.specs.World.{World, from_nothing, listed, FilesHavePaths}
 use Rattle.pb_place.proofs.PathLemmas.{folder_is_path}
 use Rattle.pb_workspace.specs.ByFolder.{folders_of, values_of}
 use Rattle.pb_workspace.specs.Drafted.{IsPut}
@@ -36,7 +36,6 @@ use Rattle.pb_workspace.proofs.FoldersPut.{opened}
 use Rattle.pb_workspace.proofs.Fuel.{all_grow, ends_or_grows}
 use Rattle.pb_workspace.proofs.Keeping.{workspace_settled}
 use Rattle.pb_workspace.proofs.WholeWorkspace.{all_found, begun, least, manifest_there, theirs}
-use Rattle.pb_small_builds.specs.Small.{FilesHavePaths}
 use Rattle.pb_small_builds.proofs.Drafting.{IsWhole, promised_at, whole_in_file}
 use Rattle.pb_small_builds.proofs.PathsSaid.{resolved_is}
 use Rattle.pb_small_builds.proofs.Rising.{all_rise, rounds_rise}

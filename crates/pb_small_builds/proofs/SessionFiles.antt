@@ -13,7 +13,7 @@ use Rattle.pb_honesty.proofs.Named.{parsed_path_is}
 use Rattle.pb_honesty.specs.Honest.{RunsAlone, small_compiler}
 use Rattle.pb_package.specs.declared.options.Options.{Options}
 use Rattle.pb_place.specs.Paths.{below, is_at_or_below, parsed}
-use Rattle.pb_place.specs.World.{World, from_nothing, is_same_path, removed, written}
+use Rattle.pb_place.specs.World.{World, from_nothing, is_same_path, removed, written, FilesHavePaths}
 use Rattle.pb_place.specs.declared.path.PathFault.{PathFault}
 use Rattle.pb_place.proofs.Within.{at_or_below_on, outside_within}
 use Rattle.pb_place.proofs.MapLemmas.{get-kept, same_bytes, symm}
@@ -37,7 +37,7 @@ use Rattle.pb_build.specs.Headline.{IsHonestBuild, records_of}
 use Rattle.pb_build.specs.Lasting.{NothingIsSound, RecordsStayTrue, ShareNoPath, Spares}
 use Rattle.pb_build.specs.Session.{Course, Point, Carries, ByPicked}
 use Rattle.pb_small_builds.specs.Laws.{SessionFilesGive}
-use Rattle.pb_small_builds.specs.Small.{AllGive, AllTold, FilesHavePaths, IsSmallBuild, IsToldBuild, IsToldStep, StepGives}
+use Rattle.pb_small_builds.specs.Small.{AllGive, AllTold, IsSmallBuild, IsToldBuild, IsToldStep, StepGives}
 use Rattle.pb_small_builds.proofs.Folders.{Named, lie_apart, lies_within, profile_named}
 use Rattle.pb_small_builds.proofs.Honest.{small_builds_are_honest, small_gives}
 use Rattle.pb_small_builds.proofs.Placing.{target_at}

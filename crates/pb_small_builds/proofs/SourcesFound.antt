@@ -15,7 +15,7 @@ use Rattle.pb_manifest.specs.declared.target.Library.{Library as WrittenLibrary}
 use Rattle.pb_package.specs.declared.package.Binary.{Binary}
 use Rattle.pb_package.specs.declared.package.Library.{Library}
 use Rattle.pb_place.specs.Paths.{below, inside, is_below, is_path, is_relative}
-use Rattle.pb_place.specs.World.{World, is_same_path, listed}
+use Rattle.pb_place.specs.World.{World, is_same_path, listed, FilesHavePaths}
 use Rattle.pb_place.proofs.MapLemmas.{among_keys, get-kept, same_bytes}
 use Rattle.pb_place.proofs.Within.{or_second}
 use Rattle.pb_workspace.specs.Binaries.{binaries_of, binary_of, binary_source, first_some, flat_source, looked_for, looked_in_bin, main_source, nested_source, with_binaries, written_binary}
@@ -26,7 +26,6 @@ use Rattle.pb_workspace.specs.Sources.{has_own_file, library_of, library_source,
 use Rattle.pb_workspace.proofs.BinPaths.{flat_is_relative, nested_is_relative}
 use Rattle.pb_workspace.proofs.Naming.{both_all}
 use Rattle.pb_workspace.proofs.Puttings.{all_map, with_entry_all}
-use Rattle.pb_small_builds.specs.Small.{FilesHavePaths}
 use Rattle.pb_small_builds.proofs.PathsSaid.{below_is, resolved_is}
 
 abbrev pub At : List ℕ → Type 0

@@ -1,12 +1,11 @@
 -- Builds whose child is the small compiler: what has to hold of their words, and nothing of the child.
 use Rattle.std.specs.Prelude.{◌≡◌, ◌⊎◌, ◌∷◌, ◌++◌, [], ⊤, ℕ, true, false, codes, List, take, Some}
-use Rattle.std.specs.FinMap as finite
 use Rattle.pb_data.specs.Mentions.{is_mentioned}
 use Rattle.pb_honesty.specs.Honest.{small_compiler, CanTell, IsSmall}
 use Rattle.pb_manifest.specs.Letters.{is_name}
 use Rattle.pb_package.specs.declared.options.Options.{Options}
 use Rattle.pb_place.specs.Paths.{is_at_or_below, is_path}
-use Rattle.pb_place.specs.World.{World, from_nothing}
+use Rattle.pb_place.specs.World.{World, from_nothing, FilesHavePaths}
 use Rattle.pb_project.specs.Targets.{unit_at}
 use Rattle.pb_project.specs.declared.project.Project.{Project}
 use Rattle.pb_project.specs.declared.project.Setup.{Setup}
@@ -25,10 +24,6 @@ use Rattle.pb_build.specs.Session.{Point, Carries, Course, ByPicked}
 use Rattle.pb_build.specs.declared.sessions.Answer.{Answer}
 
 -- One build.
-
--- each file has a normalised absolute path
-abbrev pub FilesHavePaths : World → Type 0
-FilesHavePaths w = (path text : List ℕ) → finite.get w.files path ≡ Some text → is_path path ≡ true
 
 -- of each unit of a project the small compiler can tell what it reads: on the unit's command, in the unit's view
 abbrev pub CanTellUnits : Setup → Project → World → Type 0

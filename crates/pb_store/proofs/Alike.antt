@@ -4,7 +4,7 @@ use Rattle.std.specs.Prelude.{Decides}
 use Rattle.std.specs.List.{AllByRecursion, list_all}
 use Rattle.std.proofs.lemmas.Bool.Decides.{Decides-and, Decides-like, same_from_decides}
 use Rattle.std.proofs.lemmas.Slice.Eq.{bytes_eq-Decides}
-use Rattle.pb_place.specs.CallsInTurn.{past_calls}
+use Rattle.pb_place.specs.CallsInTurn.{Call, past_calls}
 use Rattle.pb_place.specs.Counts.{Counts}
 use Rattle.pb_place.specs.Paths.{is_relative}
 use Rattle.pb_place.specs.World.{World, Map}
@@ -85,7 +85,7 @@ all_decided Holds is_same decides [] = ((λ e. tt), (λ e. refl))
 all_decided Holds is_same decides (x ∷ xs) = Decides-and _ _ (decides x) (all_decided Holds is_same decides xs)
 
 -- what is found of the next item of a row
-module _ {A : Type 0} (Holds : World → A → Type 0) (is_same : World → A → Bool) (look : World → A → List (List ℕ)) (decides : (v : World) (x : A) → Decides (is_same v x) (Holds v x)) (w now : World) (row : List A) (i : ℕ) (here : A) (within : i < length row) (is : here ≡ get_or row i here) (same : now ≡ w) (whole : List (List ℕ)) (old mid new : Counts) (b : Bool) where
+module _ {A : Type 0} (Holds : World → A → Type 0) (is_same : World → A → Bool) (look : World → A → List Call) (decides : (v : World) (x : A) → Decides (is_same v x) (Holds v x)) (w now : World) (row : List A) (i : ℕ) (here : A) (within : i < length row) (is : here ≡ get_or row i here) (same : now ≡ w) (whole : List Call) (old mid new : Counts) (b : Bool) where
   pub differs_here : Reached whole (looked_up_to (is_same w) (look w) (drop i row)) old mid → new ≡ past_calls (look now here) mid → Decides b (Holds now here) → b ≡ false → new ≡ past_calls whole old
   differs_here reached made test wrong = row_ends is_same look w now row i here within is same whole old mid new reached made (test_same Holds is_same w now here decides same b test ∙ wrong)
 

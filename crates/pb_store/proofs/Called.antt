@@ -2,6 +2,7 @@
 use Rattle.std.proofs.Common.{◌≡◌, ◌≢◌, ◌∙◌, ℕ, Bool, true, IsTrue, List, ◌∷◌, Contains, Result, Ok, Err, refl, sym, ap, subst, inl, inr}
 use Rattle.std.specs.Prelude.{IfErr}
 use Rattle.std.proofs.lemmas.Bool.{false≢true}
+use Rattle.pb_place.specs.CallsInTurn.{Call}
 use Rattle.pb_place.specs.Counts.{Counts, past_place_fault}
 use Rattle.pb_place.specs.World.{World, listed_directly}
 use Rattle.pb_place.specs.declared.place.PlaceFault.{PlaceFault}
@@ -16,23 +17,23 @@ use Rattle.pb_store.specs.declared.fault.StoreFault.{StoreFault}
 use Rattle.pb_store.specs.declared.fault.StoreFault.TheVariants.{Place, NumbersSpent, OutOfMemory}
 
 -- the one call failed
-once : (path : List ℕ) (fault : PlaceFault) (old new : Counts) → new ≡ past_place_fault path fault old → EndsOnce path (stored fault) old new
-once path place.Read old new is = is
-once path place.List old new is = is
-once path place.Write old new is = is
-once path place.Remove old new is = is
-once path place.Variable old new is = is
-once path place.OutOfMemory old new is = inr is
+once : (call : Call) (fault : PlaceFault) (old new : Counts) → (fault ≢ place.OutOfMemory → fault ≡ call.kind) → new ≡ past_place_fault call.name fault old → EndsOnce call (stored fault) old new
+once call place.Read old new kind is = (kind (λ e. cc), is)
+once call place.List old new kind is = (kind (λ e. cc), is)
+once call place.Write old new kind is = (kind (λ e. cc), is)
+once call place.Remove old new kind is = (kind (λ e. cc), is)
+once call place.Variable old new kind is = (kind (λ e. cc), is)
+once call place.OutOfMemory old new kind is = inr is
 
-pub ends_once : (path : List ℕ) (fault : PlaceFault) (e : StoreFault) (old new : Counts) → e ≡ stored fault → new ≡ past_place_fault path fault old → EndsOnce path e old new
-ends_once path fault e old new told is = subst (λ f. EndsOnce path f old new) (sym told) (once path fault old new is)
+pub ends_once : (call : Call) (fault : PlaceFault) (e : StoreFault) (old new : Counts) → e ≡ stored fault → (fault ≢ place.OutOfMemory → fault ≡ call.kind) → new ≡ past_place_fault call.name fault old → EndsOnce call e old new
+ends_once call fault e old new told kind is = subst (λ f. EndsOnce call f old new) (sym told) (once call fault old new kind is)
 
-pub ends_there : (path other : List ℕ) (e : StoreFault) (old new : Counts) → path ≡ other → EndsOnce path e old new → EndsOnce other e old new
-ends_there path other e old new same = subst (λ p. EndsOnce p e old new) same
+pub ends_there : (at : List ℕ → Call) (path other : List ℕ) (e : StoreFault) (old new : Counts) → path ≡ other → EndsOnce (at path) e old new → EndsOnce (at other) e old new
+ends_there at path other e old new same = subst (λ p. EndsOnce (at p) e old new) same
 
 -- it was on this path
-pub named_once : (path : List ℕ) (e : StoreFault) (old new : Counts) → EndsOnce path e old new → e ≡ Place place.Write → new.named ≡ path
-named_once path e old new ends is = ap (λ (c : Counts). c.named) (subst (λ f. EndsOnce path f old new) is ends)
+pub named_once : (call : Call) (e : StoreFault) (old new : Counts) → EndsOnce call e old new → e ≡ Place place.Write → new.named ≡ call.name
+named_once call e old new ends is = ap (λ (c : Counts). c.named) (subst (λ f. EndsOnce call f old new) is ends).1
 
 -- a call that writes is none that looks
 pub no_look : (e : StoreFault) → MayWrite e → looked e ≡ true → ⊥

@@ -1,6 +1,7 @@
 -- Which call of the place failed: on which path, and what was done before it.
 use Rattle.std.specs.Prelude.{◌≡◌, ◌⊎◌, ℕ, Bool, true, false, IsTrue, List, Contains, Result, MatchResult}
-use Rattle.pb_place.specs.Counts.{Counts, past_call, past_place_fault}
+use Rattle.pb_place.specs.CallsInTurn.{Call, Fails}
+use Rattle.pb_place.specs.Counts.{Counts, past_call}
 use Rattle.pb_place.specs.World.{World, listed_directly}
 use Rattle.pb_place.specs.declared.place.PlaceFault.{PlaceFault}
 use Rattle.pb_place.specs.declared.place.PlaceFault.TheVariants as place
@@ -10,15 +11,15 @@ use Rattle.pb_store.specs.declared.fault.OpenFault.TheVariants as open_fault
 use Rattle.pb_store.specs.declared.fault.StoreFault.{StoreFault}
 use Rattle.pb_store.specs.declared.fault.StoreFault.TheVariants.{Place, NumbersSpent, OutOfMemory}
 
--- the one call, on this path, failed with this fault; none was made where the fault is the store's own, and one at most where memory was refused
-abbrev pub EndsOnce : List ℕ → StoreFault → Counts → Counts → Type 0
-EndsOnce path (Place fault) old new = new ≡ past_place_fault path fault old
-EndsOnce path NumbersSpent old new = new ≡ old
-EndsOnce path OutOfMemory old new = (new ≡ old) ⊎ (new ≡ past_call old)
+-- this one call failed, with this fault; none was made where the fault is the store's own, and one at most where memory was refused
+abbrev pub EndsOnce : Call → StoreFault → Counts → Counts → Type 0
+EndsOnce call (Place fault) old new = Fails fault call old new
+EndsOnce call NumbersSpent old new = new ≡ old
+EndsOnce call OutOfMemory old new = (new ≡ old) ⊎ (new ≡ past_call old)
 
--- one call of the place was made, on this path, and how it ended is told
-abbrev pub CallsOnce : {T : Type 0} → List ℕ → Result T StoreFault → Counts → Counts → Type 0
-CallsOnce path result old new = MatchResult result (λ x. new ≡ past_call old) (λ e. EndsOnce path e old new)
+-- this one call of the place was made, and how it ended is told
+abbrev pub CallsOnce : {T : Type 0} → Call → Result T StoreFault → Counts → Counts → Type 0
+CallsOnce call result old new = MatchResult result (λ x. new ≡ past_call old) (λ e. EndsOnce call e old new)
 
 -- a call that looks: it reads a file, lists a folder or reads a variable
 abbrev pub is_look : PlaceFault → Bool

@@ -1,10 +1,10 @@
--- Where a call of the store looks and writes, how often and in which order: the name that each call of the place is given (a path, or a variable's name), in turn.
-use Rattle.std.specs.Prelude.{◌≡◌, ◌++◌, ◌∷◌, ◌==◌, ◌&&◌, if◌then◌else◌, ℕ, Bool, true, false, List, [], Option, Some, None, Result, MatchResult, Decides}
+-- Where a call of the store looks and writes, how often and in which order: the calls of the place, in turn, each with what it is given.
+use Rattle.std.specs.Prelude.{◌≡◌, ◌++◌, ◌∷◌, ◌==◌, ◌&&◌, if◌then◌else◌, ℕ, Bool, true, false, map, List, [], Option, Some, None, Result, MatchResult, Decides}
 use Rattle.std.specs.Cmp.Lexicographic.{pointwise}
 use Rattle.std.specs.FinMap as finite
 use Rattle.std.specs.List.{filter, list_all}
 use Rattle.std.specs.Str.{bytes_eq}
-use Rattle.pb_place.specs.CallsInTurn.{FailsAt, MakesSome, past_calls}
+use Rattle.pb_place.specs.CallsInTurn.{Call, FailsAt, MakesSome, list_call, past_calls, read_call, variable_call, write_call}
 use Rattle.pb_place.specs.Counts.{Counts}
 use Rattle.pb_place.specs.Paths.{is_at_or_below, is_relative}
 use Rattle.pb_place.specs.World.{World, Map, from_nothing, listed, listed_directly, removed}
@@ -28,41 +28,41 @@ use Rattle.pb_store.specs.declared.fault.StoreFault.{StoreFault}
 use Rattle.pb_store.specs.declared.fault.StoreFault.TheVariants.{Place, NumbersSpent, OutOfMemory}
 
 -- where a call failed, it was one of these; where memory was refused, the first few of them were made; no other fault is told
-abbrev pub StopsAt : StoreFault → List (List ℕ) → Counts → Counts → Type 0
+abbrev pub StopsAt : StoreFault → List Call → Counts → Counts → Type 0
 StopsAt (Place fault) names old new = FailsAt fault names old new
 StopsAt NumbersSpent names old new = ⊥
 StopsAt OutOfMemory names old new = MakesSome names old new
 
--- where it ended well, these calls were made, and no more; else it stopped at one of them. Every call is counted, and one that failed tells its turn and its name, so the list is told in its order
-abbrev pub Looks : {T : Type 0} → Result T StoreFault → List (List ℕ) → Counts → Counts → Type 0
+-- where it ended well, these calls were made, and no more; else it stopped at one of them. Every call is counted, and one that failed tells its turn, its kind and its name, so the list is told in its order
+abbrev pub Looks : {T : Type 0} → Result T StoreFault → List Call → Counts → Counts → Type 0
 Looks result names old new = MatchResult result (λ x. new ≡ past_calls names old) (λ e. StopsAt e names old new)
 
 -- of opening likewise
-abbrev pub OpeningStopsAt : OpenFault → List (List ℕ) → Counts → Counts → Type 0
+abbrev pub OpeningStopsAt : OpenFault → List Call → Counts → Counts → Type 0
 OpeningStopsAt (open_fault.Place path fault) names old new = FailsAt fault names old new
 OpeningStopsAt open_fault.OutOfMemory names old new = MakesSome names old new
 
-abbrev pub OpensLooking : {T : Type 0} → Result T OpenFault → List (List ℕ) → Counts → Counts → Type 0
+abbrev pub OpensLooking : {T : Type 0} → Result T OpenFault → List Call → Counts → Counts → Type 0
 OpensLooking result names old new = MatchResult result (λ x. new ≡ past_calls names old) (λ e. OpeningStopsAt e names old new)
 
 -- of a row, what is looked at for each item in turn, up to and with the first that differs
-abbrev pub looked_up_to : {A : Type 0} → (A → Bool) → (A → List (List ℕ)) → List A → List (List ℕ)
+abbrev pub looked_up_to : {A : Type 0} → (A → Bool) → (A → List Call) → List A → List Call
 looked_up_to is_same look [] = []
 looked_up_to is_same look (x ∷ xs) = look x ++ (if is_same x then looked_up_to is_same look xs else [])
 
 -- a file of the sources is read; at or below the target folder none is
-abbrev pub source_looked : List ℕ → List ℕ → List (List ℕ)
-source_looked target path = if is_at_or_below target path then [] else path ∷ []
+abbrev pub source_looked : List ℕ → List ℕ → List Call
+source_looked target path = if is_at_or_below target path then [] else read_call path ∷ []
 
 -- where no file is there, the folder is listed, but for what is at or below the target folder, and then each file listed is read
-abbrev pub folder_looked : List ℕ → World → List ℕ → Option (List ℕ) → List (List ℕ)
+abbrev pub folder_looked : List ℕ → World → List ℕ → Option (List ℕ) → List Call
 folder_looked target w path (Some bytes) = []
-folder_looked target w path None = path ∷ listed path (removed target w)
+folder_looked target w path None = list_call path ∷ map read_call (listed path (removed target w))
 
--- for an input: of a path the file, or the folder; of a variable its name
-abbrev pub name_looked : List ℕ → World → InputName → List (List ℕ)
+-- for an input: of a path the file, or the folder; of a variable its value
+abbrev pub name_looked : List ℕ → World → InputName → List Call
 name_looked target w (Path path) = source_looked target path ++ folder_looked target w path (finite.get (from_nothing target w).files path)
-name_looked target w (Variable name) = name ∷ []
+name_looked target w (Variable name) = variable_call name ∷ []
 
 -- two texts, or none, are the same
 abbrev pub same_text : Option (List ℕ) → Option (List ℕ) → Bool
@@ -88,28 +88,28 @@ unfoldable pub is_present : List ℕ → World → Input → Bool
 is_present target w i = same_input (input_in target w (name_of i)) i
 
 -- the inputs of a record, up to and with the first whose value is not the present one
-abbrev pub inputs_looked : List ℕ → World → List Input → List (List ℕ)
+abbrev pub inputs_looked : List ℕ → World → List Input → List Call
 inputs_looked target w inputs = looked_up_to (is_present target w) (λ i. name_looked target w (name_of i)) inputs
 
 -- the folder of a unit is listed, and then each file there is read; a text that is no path in a folder names none
-abbrev pub out_looked : List ℕ → World → List ℕ → List (List ℕ)
-out_looked folder w key = if is_relative key then out_of folder key ∷ listed (out_of folder key) w else []
+abbrev pub out_looked : List ℕ → World → List ℕ → List Call
+out_looked folder w key = if is_relative key then list_call (out_of folder key) ∷ map read_call (listed (out_of folder key) w) else []
 
 -- a needed unit has the files with which a record names it
 unfoldable pub has_files : List ℕ → Map → List ℕ × List (List ℕ × List ℕ) → Bool
 has_files folder files need = is_relative need.0 && same_files (contents (out_of folder need.0) files) need.1
 
 -- the units that a record names by copies, up to and with the first that is not as it names it
-abbrev pub copies_looked : List ℕ → World → List (List ℕ × List (List ℕ × List ℕ)) → List (List ℕ)
+abbrev pub copies_looked : List ℕ → World → List (List ℕ × List (List ℕ × List ℕ)) → List Call
 copies_looked folder w copies = looked_up_to (has_files folder w.files) (λ need. out_looked folder w need.0) copies
 
 -- for the units that it names by number it looks nowhere: the store holds the numbers of their records
-abbrev pub needed_looked : List ℕ → World → Needed → List (List ℕ)
+abbrev pub needed_looked : List ℕ → World → Needed → List Call
 needed_looked folder w (Copies copies) = copies_looked folder w copies
 needed_looked folder w (Numbers number needs) = []
 
 -- its inputs, and then, where each has its present value, the units that it names
-unfoldable pub around_looked : List ℕ → List ℕ → World → Record → List (List ℕ)
+unfoldable pub around_looked : List ℕ → List ℕ → World → Record → List Call
 around_looked folder target w r = inputs_looked target w r.inputs ++ (if list_all (is_present target w) r.inputs then needed_looked folder w r.needed else [])
 
 abbrev pub same_texts : List (List ℕ) → List (List ℕ) → Bool
@@ -120,32 +120,36 @@ unfoldable pub is_asked : Asked → commands.Command → Bool
 is_asked a c = bytes_eq a.program c.program && (same_texts a.words c.words && (bytes_eq a.folder c.folder && (same_text (Some a.out) c.out && (bytes_eq a.target c.target && (bytes_eq a.toolchain c.toolchain && (same_texts a.reads c.reads && same_files a.pairs c.pairs))))))
 
 -- for a record: nothing where its command is another
-unfoldable pub from_looked : List ℕ → commands.Command → World → Record → List (List ℕ)
+unfoldable pub from_looked : List ℕ → commands.Command → World → Record → List Call
 from_looked folder c w r = if is_asked r.asked c then around_looked folder c.target w r else []
 
-abbrev pub kept_looked : List ℕ → commands.Command → World → Option Record → List (List ℕ)
+abbrev pub kept_looked : List ℕ → commands.Command → World → Option Record → List Call
 kept_looked folder c w None = []
 kept_looked folder c w (Some r) = from_looked folder c w r
 
 -- for a unit: the place of its record is read, and then it is looked where the record that counts there leads
-unfoldable pub looked_at : Reading → List ℕ → List ℕ → commands.Command → World → List (List ℕ)
-looked_at read folder key c w = place_of folder key ∷ kept_looked folder c w (record_at read folder w.files key)
+unfoldable pub looked_at : Reading → List ℕ → List ℕ → commands.Command → World → List Call
+looked_at read folder key c w = read_call (place_of folder key) ∷ kept_looked folder c w (record_at read folder w.files key)
+
+-- those of some files that have the name of a record are read, in their order
+abbrev pub records_looked : List (List ℕ) → List Call
+records_looked paths = map read_call (filter ends_as_record paths)
 
 -- to open a folder it is listed, and then each record directly in it is read, in the order of the listing
-abbrev pub opened_looked : List ℕ → World → List (List ℕ)
-opened_looked folder w = folder ∷ filter ends_as_record (listed_directly folder w)
+abbrev pub opened_looked : List ℕ → World → List Call
+opened_looked folder w = list_call folder ∷ records_looked (listed_directly folder w)
 
 -- it is looked at each of some inputs, in their order
-abbrev pub names_looked : List ℕ → World → List InputName → List (List ℕ)
+abbrev pub names_looked : List ℕ → World → List InputName → List Call
 names_looked target w names = looked_up_to (λ name. true) (name_looked target w) names
 
 -- to keep a record the inputs are looked at, and then it is written in its place
-abbrev pub kept_called : List ℕ → List ℕ → List ℕ → World → List InputName → List (List ℕ)
-kept_called folder key target w names = names_looked target w names ++ (place_of folder key ∷ [])
+abbrev pub kept_called : List ℕ → List ℕ → List ℕ → World → List InputName → List Call
+kept_called folder key target w names = names_looked target w names ++ (write_call (place_of folder key) ∷ [])
 
 -- to migrate a record its place is read, and where one without a number counts there, it is written again
-abbrev pub migrated_called : List ℕ → List ℕ → Option Record → List (List ℕ)
-migrated_called folder key found = place_of folder key ∷ (if lacks_number found then place_of folder key ∷ [] else [])
+abbrev pub migrated_called : List ℕ → List ℕ → Option Record → List Call
+migrated_called folder key found = read_call (place_of folder key) ∷ (if lacks_number found then write_call (place_of folder key) ∷ [] else [])
 
 -- The tests by which it is said how far it looks decide just that by which a difference is told.
 pub record TestsDecide : Type 0 where

@@ -4,6 +4,7 @@ use Rattle.std.specs.FinMap as finite
 use Rattle.std.specs.List.{fold}
 use Rattle.std.specs.Str.{bytes_eq}
 use Rattle.pb_data.specs.Table.{with_entry}
+use Rattle.pb_place.specs.CallsInTurn.{Call, read_call}
 use Rattle.pb_place.specs.Paths.{inside}
 use Rattle.pb_place.specs.World.{Map}
 use Rattle.pb_record.specs.declared.record.Record.{Record}
@@ -23,12 +24,12 @@ abbrev pub file_in : List ℕ → Map → List ℕ → Option (List ℕ × List 
 file_in folder files path = both_of (inside folder path) (finite.get files path)
 
 -- it is read where it is below the folder
-abbrev pub file_looked : List ℕ → Option (List ℕ) → List (List ℕ)
+abbrev pub file_looked : List ℕ → Option (List ℕ) → List Call
 file_looked path None = []
-file_looked path (Some relative) = path ∷ []
+file_looked path (Some relative) = read_call path ∷ []
 
 -- the files at these paths, in their order
-abbrev pub files_looked : List ℕ → List (List ℕ) → List (List ℕ)
+abbrev pub files_looked : List ℕ → List (List ℕ) → List Call
 files_looked folder paths = looked_up_to (λ path. true) (λ path. file_looked path (inside folder path)) paths
 
 -- a needed unit has, by the numbers that are held, the one with which it is named

@@ -2,6 +2,7 @@
 
 ghost use Rattle.std.specs.Prelude.{◌≡◌, ◌≢◌, ℕ, List, Option, true, IsTrue, IfErr, IfOk, OnOk, OnErr, Some, map};
 ghost use Rattle.pb_place.specs.declared.place.PlaceFault.TheVariants as place_fault;
+ghost use Rattle.pb_place.specs.CallsInTurn.{write_call};
 ghost use Rattle.pb_place.specs.Paths.{is_at_or_below};
 ghost use Rattle.pb_place.specs.World.{ChangesOnly, Torn, written};
 ghost use Rattle.pb_soundness.specs.Apart.{KeepsStill, KeepsStillOutside};
@@ -52,7 +53,7 @@ fn write<P: Place>(
     ensures most { P.most place.new ≡ P.most place.old }
     ensures still { IsTrue P.tells → KeepsStillOutside (is_at_or_below path.now) (P.counts place.old).starts.flying (P.still place.old) (P.still place.new) }
     ensures takes { Takes MayWrite result (P.counts place.old) (P.counts place.new) }
-    ensures calls { CallsOnce path.now result (P.counts place.old) (P.counts place.new) }
+    ensures calls { CallsOnce (write_call path.now) result (P.counts place.old) (P.counts place.new) }
 {
     match place.write(alloc, path, bytes) {
         Ok(()) => Ok(()),
@@ -77,7 +78,7 @@ pub(crate) fn put_record<P: Place>(
     ensures most { P.most place.new ≡ P.most place.old }
     ensures still { IsTrue P.tells → KeepsStillOutside (is_at_or_below (place_of folder.now key.now)) (P.counts place.old).starts.flying (P.still place.old) (P.still place.new) }
     ensures takes { Takes MayWrite result (P.counts place.old) (P.counts place.new) }
-    ensures calls { CallsOnce (place_of folder.now key.now) result (P.counts place.old) (P.counts place.new) }
+    ensures calls { CallsOnce (write_call (place_of folder.now key.now)) result (P.counts place.old) (P.counts place.new) }
 {
     let _ = folder.as_str();
     let path = match place_path(alloc, folder, key) {

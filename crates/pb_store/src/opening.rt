@@ -1,15 +1,16 @@
 //! A store is opened: what the records of a folder name says which run number is the next.
 
 ghost use Rattle.std.specs.Prelude.{◌≡◌, ◌∷◌, [], if◌then◌else◌, max, IsTrue, IfErr, IfOk, OnOk};
-ghost use Rattle.std.specs.List.{filter, fold};
+ghost use Rattle.std.specs.List.{fold};
 ghost use Rattle.std.specs.FinMap as map;
+ghost use Rattle.pb_place.specs.CallsInTurn.{read_call};
 ghost use Rattle.pb_soundness.specs.Apart.{KeepsStill};
 ghost use Rattle.pb_soundness.specs.Numbers.{IsAhead};
 ghost use Rattle.pb_soundness.specs.Records.{Reading, ends_as_record, read_text, record_at};
 ghost use Rattle.pb_store.specs.Calls.{OpensBy, ReadsAt, ReadsOneOf, ReadsRecord};
 ghost use Rattle.pb_store.specs.Causes.{TakesOpen};
 ghost use Rattle.pb_store.specs.Held.{HoldsNumbers};
-ghost use Rattle.pb_store.specs.Looking.{OpensLooking, opened_looked};
+ghost use Rattle.pb_store.specs.Looking.{OpensLooking, opened_looked, records_looked};
 ghost use Rattle.pb_store.specs.Opening.{greatest_named, greatest_if, greatest_at, greatest_of, next_in};
 ghost use Rattle.pb_store.specs.Presence.{noted, noted_at};
 ghost use Rattle.pb_record.specs.Parts.{IsReading};
@@ -82,7 +83,7 @@ fn read_greatest<P: Place>(
     ensures still { IsTrue P.tells → KeepsStill (P.still place.old) (P.still place.new) }
     ensures takes { TakesOpen result (P.counts place.old) (P.counts place.new) }
     ensures told { IfErr result (ReadsAt path) }
-    ensures looks { OpensLooking result (path ∷ []) (P.counts place.old) (P.counts place.new) }
+    ensures looks { OpensLooking result (read_call path ∷ []) (P.counts place.old) (P.counts place.new) }
 {
     let text = match place.read(alloc, &path) {
         Ok(text) => text,
@@ -121,7 +122,7 @@ fn greatest_at<P: Place>(
     ensures still { IsTrue P.tells → KeepsStill (P.still place.old) (P.still place.new) }
     ensures takes { TakesOpen result (P.counts place.old) (P.counts place.new) }
     ensures told { IfErr result (ReadsRecord path) }
-    ensures looks { OpensLooking result (if ends_as_record path then path ∷ [] else []) (P.counts place.old) (P.counts place.new) }
+    ensures looks { OpensLooking result (if ends_as_record path then read_call path ∷ [] else []) (P.counts place.old) (P.counts place.new) }
 {
     if !ends_as_record(path.as_str().as_bytes()) {
         return Ok(0);
@@ -144,7 +145,7 @@ fn greatest_of<P: Place>(
     ensures still { IsTrue P.tells → KeepsStill (P.still place.old) (P.still place.new) }
     ensures takes { TakesOpen result (P.counts place.old) (P.counts place.new) }
     ensures told { IfErr result (ReadsOneOf paths) }
-    ensures looks { OpensLooking result (filter ends_as_record paths) (P.counts place.old) (P.counts place.new) }
+    ensures looks { OpensLooking result (records_looked paths) (P.counts place.old) (P.counts place.new) }
 {
     let mut greatest = 0;
     for path in paths.into_vec() {

@@ -4,7 +4,7 @@ use Rattle.std.proofs.lemmas.Bool.{false≢true}
 use Rattle.std.specs.Io.KnownBytes.{Appends}
 use Rattle.pb_answer.specs.Explanation.{ended, said_by_bad}
 use Rattle.pb_place.specs.Counts.{up}
-use Rattle.pb_place.specs.Memory.{Held, no_held}
+use Rattle.pb_memory.specs.Memory.{Held, no_held}
 use Rattle.pb_project.specs.declared.fault.UnitFault.{UnitFault}
 use Rattle.pb_session.specs.Sessions.{session_of}
 use Rattle.pb_session.specs.declared.step.SessionStep.{SessionStep}

@@ -9,7 +9,7 @@ use Rattle.pb_directive.specs.declared.directive.Directive.{Directive}
 use Rattle.pb_flight.specs.declared.flight.Answer.{Answer}
 use Rattle.pb_flight.specs.Events.{Event, Began, Gave, MayBegin}
 use Rattle.pb_flight.proofs.Lists.{injective}
-use Rattle.pb_place.specs.CallsInTurn.{MakesSome, past_calls}
+use Rattle.pb_place.specs.CallsInTurn.{Call, MakesSome, past_calls}
 use Rattle.pb_place.specs.Counts.{Counts}
 use Rattle.pb_place.specs.Paths.{is_at_or_below}
 use Rattle.pb_place.specs.World.{World, Answers, ChangesOnly}
@@ -47,7 +47,7 @@ use Rattle.pb_turns.proofs.Reaching.{can_begin}
 use Rattle.pb_unit.specs.declared.plan.Planned.{Planned}
 
 -- a child was launched behind its look
-pub launched_behind : {P : Type 0} (world : P → World) (counts : P → Counts) (tells : Bool) (child : Answers) (c : Command) (names : Reading → List (List ℕ)) (before : World) (old new : Counts) (o : Option Launched)
+pub launched_behind : {P : Type 0} (world : P → World) (counts : P → Counts) (tells : Bool) (child : Answers) (c : Command) (names : Reading → List Call) (before : World) (old new : Counts) (o : Option Launched)
     → IfSome o (λ launched. (looked : P) × HasLooked tells names before (world looked) old (counts looked) × Launches child c launched.ticket (counts looked) new)
     → (launched : Launched) → o ≡ Some launched → (read : Reading) → IsReading read → IsTrue tells → Launches child c launched.ticket (past_calls (names read) old) new
 launched_behind {P} world counts tells child c names before old new o launches launched is read reading t =
@@ -120,16 +120,16 @@ module _ (tells : Bool) (child : Answers) (first old : UnitCrew) (at now new : M
 -- A unit answers.
 
 -- what is called behind the answer of a child is the same, whatever is told of it
-pub behind_well : (names : Ended → List (List ℕ)) (answer : Result Ended StartFault) (ran : Ran) (old new : Counts) → CallsBehind names answer (ended_well ran) old new → CallsBehind {T = Unit {0}} names answer (Ok tt) old new
+pub behind_well : (names : Ended → List Call) (answer : Result Ended StartFault) (ran : Ran) (old new : Counts) → CallsBehind names answer (ended_well ran) old new → CallsBehind {T = Unit {0}} names answer (Ok tt) old new
 behind_well names (Ok ended) ran old new is = is
 behind_well names (Err fault) ran old new is = is
 
-pub behind_badly : (names : Ended → List (List ℕ)) (answer : Result Ended StartFault) (fault : BuildFault) (old new : Counts) → CallsBehind names answer (ended_badly fault) old new → CallsBehind {T = Unit {0}} names answer (Err fault) old new
+pub behind_badly : (names : Ended → List Call) (answer : Result Ended StartFault) (fault : BuildFault) (old new : Counts) → CallsBehind names answer (ended_badly fault) old new → CallsBehind {T = Unit {0}} names answer (Err fault) old new
 behind_badly names (Ok ended) fault old new is = is
 behind_badly names (Err e) fault old new is = is
 
 -- memory is refused for the lines
-pub behind_untold : (names : Ended → List (List ℕ)) (answer : Result Ended StartFault) (ran : Ran) (old new : Counts) → CallsBehind names answer (ended_well ran) old new → CallsBehind {T = Unit {0}} names answer (Err OutOfMemory) old new
+pub behind_untold : (names : Ended → List Call) (answer : Result Ended StartFault) (ran : Ran) (old new : Counts) → CallsBehind names answer (ended_well ran) old new → CallsBehind {T = Unit {0}} names answer (Err OutOfMemory) old new
 behind_untold names (Ok ended) ran old new is = subst (MakesSome (names ended) old) (sym is) (some_all (names ended) old)
 behind_untold names (Err e) ran old new is = is
 
@@ -153,7 +153,7 @@ module _ {P : Type 0} (world : P → World) (counts : P → Counts) (tells : Boo
       × ((read : Reading) → IsReading read → CallsBehind (answered_called read old.project u a.begun.command (world left) a.begun.awaited) answer told (counts left) new.counts)
 
   answers : (result : Result (Unit {0}) BuildFault) (told : Result Ran BuildFault) → (IsOk result → IsOk told)
-      → ((names : Ended → List (List ℕ)) (answer : Result Ended StartFault) (k k' : Counts) → CallsBehind names answer told k k' → CallsBehind names answer result k k')
+      → ((names : Ended → List Call) (answer : Result Ended StartFault) (k k' : Counts) → CallsBehind names answer told k k' → CallsBehind names answer result k k')
       → Lands told → IsTrue tells → FromFirst child first at old (λ b. AnswersCalling b a.unit (is_started es a.unit) result now.world now.counts new.world new.counts)
   answers result told so same_calls lands t f r s reading k =
       let (h, began) = story.happened t f r s reading k in

@@ -1,6 +1,7 @@
 -- A call on a path that failed, as it is told: the same of each call that reads or lists.
 use Rattle.std.proofs.Common.{◌≡◌, ◌≢◌, ℕ, true, false, List, [], ◌∷◌, Err, inl, inr, if◌then◌else◌, refl, sym, subst}
 use Rattle.std.proofs.lemmas.Bool.{false≢true}
+use Rattle.pb_place.specs.CallsInTurn.{Call}
 use Rattle.pb_place.specs.Counts.{Counts, past_place_fault}
 use Rattle.pb_place.specs.Paths.{is_at_or_below}
 use Rattle.pb_place.specs.declared.place.PlaceFault.{PlaceFault}
@@ -46,14 +47,15 @@ module _ (path : List ℕ) (old new : Counts) where
   call_reads place.OutOfMemory reads at =
       subst (λ c. Reads {T = ℕ} (Err OutOfMemory) old c) (sym at) (refl, (λ n. refl), (λ y. absurd (false≢true y)), (λ y. absurd (false≢true y)), (λ y. absurd (false≢true y)), (λ y. absurd (false≢true y)), refl)
 
-  one_call : (fault : PlaceFault) → new ≡ past_place_fault path fault old → Ends (fault_at path fault) (path ∷ []) old new
-  one_call place.Read at = ((λ i. absurd (false≢true (sym i))), (λ n. absurd (false≢true (sym n))), (λ y. inl at))
-  one_call place.List at = ((λ i. absurd (false≢true (sym i))), (λ n. absurd (false≢true (sym n))), (λ y. inl at))
-  one_call place.Write at = ((λ i. absurd (false≢true (sym i))), (λ n. absurd (false≢true (sym n))), (λ y. inl at))
-  one_call place.Remove at = ((λ i. absurd (false≢true (sym i))), (λ n. absurd (false≢true (sym n))), (λ y. inl at))
-  one_call place.Variable at = ((λ i. absurd (false≢true (sym i))), (λ n. absurd (false≢true (sym n))), (λ y. inl at))
-  one_call place.OutOfMemory at = ((λ i. absurd (false≢true (sym i))), (λ n. inr at), (λ y. absurd (false≢true y)))
+-- what was looked at
+module _ (call : Call) (old new : Counts) where
+  one_call : (fault : PlaceFault) → (fault ≢ place.OutOfMemory → fault ≡ call.kind) → new ≡ past_place_fault call.name fault old → Ends (fault_at call.name fault) (call ∷ []) old new
+  one_call place.Read kind at = ((λ i. absurd (false≢true (sym i))), (λ n. absurd (false≢true (sym n))), (λ y. inl (kind (λ e. cc), at)))
+  one_call place.List kind at = ((λ i. absurd (false≢true (sym i))), (λ n. absurd (false≢true (sym n))), (λ y. inl (kind (λ e. cc), at)))
+  one_call place.Write kind at = ((λ i. absurd (false≢true (sym i))), (λ n. absurd (false≢true (sym n))), (λ y. inl (kind (λ e. cc), at)))
+  one_call place.Remove kind at = ((λ i. absurd (false≢true (sym i))), (λ n. absurd (false≢true (sym n))), (λ y. inl (kind (λ e. cc), at)))
+  one_call place.Variable kind at = ((λ i. absurd (false≢true (sym i))), (λ n. absurd (false≢true (sym n))), (λ y. inl (kind (λ e. cc), at)))
+  one_call place.OutOfMemory kind at = ((λ i. absurd (false≢true (sym i))), (λ n. inr at), (λ y. absurd (false≢true y)))
 
-  -- what was looked at
-  pub call_looks : (target : List ℕ) (fault : PlaceFault) → is_at_or_below target path ≡ false → new ≡ past_place_fault path fault old → Ends (fault_at path fault) (looked target path) old new
-  call_looks target fault out at = subst (λ b. Ends (fault_at path fault) (if b then [] else path ∷ []) old new) (sym out) (one_call fault at)
+  pub call_looks : (target : List ℕ) (fault : PlaceFault) → is_at_or_below target call.name ≡ false → (fault ≢ place.OutOfMemory → fault ≡ call.kind) → new ≡ past_place_fault call.name fault old → Ends (fault_at call.name fault) (looked target call) old new
+  call_looks target fault out kind at = subst (λ b. Ends (fault_at call.name fault) (if b then [] else call ∷ []) old new) (sym out) (one_call fault kind at)

@@ -14,7 +14,7 @@ use Rattle.pb_manifest.proofs.Parting.{parted_none, parted_some}
 use Rattle.pb_package.proofs.NamesInPaths.{no_dot, unlike}
 use Rattle.pb_package.specs.declared.package.Binary.{Binary}
 use Rattle.pb_place.specs.Paths.{below, inside, is_below, is_name, is_path, is_relative, parts_of, slashed}
-use Rattle.pb_place.specs.World.{World, is_same_path, listed}
+use Rattle.pb_place.specs.World.{World, is_same_path, listed, FilesHavePaths}
 use Rattle.pb_place.proofs.MapLemmas.{among_keys, get-kept, same_bytes}
 use Rattle.pb_place.proofs.PathLemmas.{and_left, and_right, below_is_path, slashed_parts}
 use Rattle.pb_place.proofs.TakenApart.{found_inside, inside_is_relative, joins_again}
@@ -22,7 +22,7 @@ use Rattle.pb_place.proofs.Within.{goes_below, one_byte}
 use Rattle.pb_workspace.specs.Between.{names_in}
 use Rattle.pb_workspace.specs.Binaries.{binary_source, first_some, flat_source, looked_for, looked_in_bin, main_source, nested_source}
 use Rattle.pb_workspace.specs.FoundBinaries.{bin_folder, binary_at, flat_name, found_at, found_binaries, main_binary, name_inside, nested_name, stem_in}
-use Rattle.pb_workspace.specs.Laws.{FoundAsLookedFor, HasFilesAtPaths}
+use Rattle.pb_workspace.specs.Laws.{FoundAsLookedFor}
 use Rattle.pb_workspace.specs.Selected.{is_word}
 use Rattle.pb_workspace.specs.Sources.{has_own_file, own_source}
 use Rattle.pb_workspace.proofs.BinPaths.{cut_after}
@@ -191,7 +191,7 @@ flat_again (b ∷ name) is =
     ∙ ap (λ t. if t && true then Some (b ∷ name) else None) is
 
 -- what a path in `src/bin` gives
-module _ (folder : List ℕ) (sources : World) (owner : List ℕ) (at : is_path folder ≡ true) (files : HasFilesAtPaths sources) where
+module _ (folder : List ℕ) (sources : World) (owner : List ℕ) (at : is_path folder ≡ true) (files : FilesHavePaths sources) where
   abbrev bin : List ℕ
   bin = bin_folder folder
 

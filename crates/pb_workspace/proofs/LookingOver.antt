@@ -3,7 +3,7 @@ use Rattle.std.proofs.Common.{◌≡◌, ◌∙◌, ◌++◌, ◌<◌, ◌≤◌
 use Rattle.std.proofs.Math.Seq.{drop-cons}
 use Rattle.std.specs.List.{flat_map}
 use Rattle.pb_data.specs.Gives.{◌>>=◌}
-use Rattle.pb_place.specs.CallsInTurn.{past_calls}
+use Rattle.pb_place.specs.CallsInTurn.{Call, past_calls}
 use Rattle.pb_place.specs.Counts.{Counts}
 use Rattle.pb_place.specs.World.{World, from_nothing}
 use Rattle.pb_package.specs.declared.fault.LoadFault.{LoadFault}
@@ -17,12 +17,12 @@ use Rattle.pb_workspace.specs.Rounds.{all_read, draft_at, one_read, round}
 use Rattle.pb_workspace.proofs.Looking.{Ends, ends_both, looks_both, looks_first, looks_no_further, looks_none, looks_then}
 
 -- a step that looks at the world, and one after it that looks at the same
-pub looks_step : {A B : Type 0} (result : Result B LoadFault) (next : World → A → List (List ℕ)) (answer : World → Result A LoadFault) (look : World → List (List ℕ)) (x : A) (w first now : World) (old mid new : Counts)
+pub looks_step : {A B : Type 0} (result : Result B LoadFault) (next : World → A → List Call) (answer : World → Result A LoadFault) (look : World → List Call) (x : A) (w first now : World) (old mid new : Counts)
     → first ≡ w → now ≡ w → answer first ≡ Ok x → mid ≡ past_calls (look first) old → Looks result (next now x) mid new → Looks result (look w ++ after (answer w) (next w)) old new
 looks_step result next answer look x w first now old mid new one two is before more =
     looks_then result (answer w) x (next w) (look w) old mid new (subst (λ v. answer v ≡ Ok x) one is) (subst (λ v. mid ≡ past_calls (look v) old) one before) (subst (λ v. Looks result (next v x) mid new) two more)
 
-pub looks_stop : {A : Type 0} (e : LoadFault) (next : World → A → List (List ℕ)) (answer : World → Result A LoadFault) (look : World → List (List ℕ)) (w first : World) (old new : Counts)
+pub looks_stop : {A : Type 0} (e : LoadFault) (next : World → A → List Call) (answer : World → Result A LoadFault) (look : World → List Call) (w first : World) (old new : Counts)
     → first ≡ w → (is_outside e ≡ false → answer first ≡ Err e) → Ends e (look first) old new → Ends e (look w ++ after (answer w) (next w)) old new
 looks_stop e next answer look w first old new one told before =
     looks_no_further e (answer w) (next w) (look w) old new (λ inside. subst (λ v. answer v ≡ Err e) one (told inside)) (subst (λ v. Ends e (look v) old new) one before)
@@ -86,10 +86,10 @@ module _ (target : List ℕ) (f : Frame) (begun : Reading) (w : World) where
   abbrev all_of : World → Members → Result Reading LoadFault
   all_of v meant = all_read (draft_at (from_nothing target v) f meant) begun (folders_of meant)
 
-  abbrev all_at : World → Members → List (List ℕ)
+  abbrev all_at : World → Members → List Call
   all_at v meant = all_looked (draft_at (from_nothing target v) f meant) (folder_looked target (from_nothing target v) f) begun (folders_of meant)
 
-  abbrev rounds_at : World → Members → Reading → List (List ℕ)
+  abbrev rounds_at : World → Members → Reading → List Call
   rounds_at v meant read = rounds_looked 257 (draft_at (from_nothing target v) f meant) (folder_looked target (from_nothing target v) f) read
 
   pub others_looks : (meant : Members) (folders : List (List ℕ)) (one two : World) (read : Reading) (result : Result Reading LoadFault) (old first mid new : Counts)
@@ -128,30 +128,33 @@ module _ (target : List ℕ) (f : Frame) (begun : Reading) (w : World) where
   others_first e old new outside before = looks_first e (members_looked target f) _ old new outside before
 
 -- no text is left
-pub texts_end : (f : List ℕ → List (List ℕ)) (texts : List (List ℕ)) (i : ℕ) (c : Counts) → length texts ≤ i → c ≡ past_calls (flat_map f (drop i texts)) c
+pub texts_end : (f : List ℕ → List Call) (texts : List (List ℕ)) (i : ℕ) (c : Counts) → length texts ≤ i → c ≡ past_calls (flat_map f (drop i texts)) c
 texts_end f [] zero c at = refl
 texts_end f [] (suc i) c at = refl
 texts_end f (x ∷ texts) zero c at = absurd (omega arith)
 texts_end f (x ∷ texts) (suc i) c at = texts_end f texts i c (omega arith)
 
 -- texts in turn
-module _ (f : List ℕ → List (List ℕ)) (texts : List (List ℕ)) (i : ℕ) (text : List ℕ) (lt : i < length texts) (is : text ≡ get_or texts i text) where
+module _ (texts : List (List ℕ)) (i : ℕ) (text : List ℕ) (lt : i < length texts) (is : text ≡ get_or texts i text) where
   cut_at : drop i texts ≡ text ∷ drop (suc i) texts
   cut_at = drop-cons texts i text lt ∙ ap (λ x. x ∷ drop (suc i) texts) (sym is)
 
-  pub texts_looks : {T : Type 0} (result : Result T LoadFault) (old mid new : Counts) → mid ≡ past_calls (f text) old → Looks result (flat_map f (drop (i + 1) texts)) mid new → Looks result (flat_map f (drop i texts)) old new
-  texts_looks result old mid new before more =
-      let next : i + 1 ≡ suc i = omega arith in
-      subst (λ xs. Looks result (flat_map f xs) old new) (sym cut_at) (looks_both result (f text) (flat_map f (drop (suc i) texts)) old mid new before (subst (λ n. Looks result (flat_map f (drop n texts)) mid new) next more))
+  -- the calls for them
+  module _ (f : List ℕ → List Call) where
+    pub texts_looks : {T : Type 0} (result : Result T LoadFault) (old mid new : Counts) → mid ≡ past_calls (f text) old → Looks result (flat_map f (drop (i + 1) texts)) mid new → Looks result (flat_map f (drop i texts)) old new
+    texts_looks result old mid new before more =
+        let next : i + 1 ≡ suc i = omega arith in
+        subst (λ xs. Looks result (flat_map f xs) old new) (sym cut_at) (looks_both result (f text) (flat_map f (drop (suc i) texts)) old mid new before (subst (λ n. Looks result (flat_map f (drop n texts)) mid new) next more))
 
-  pub texts_stop : (e : LoadFault) (old new : Counts) → is_outside e ≡ true → Ends e (f text) old new → Ends e (flat_map f (drop i texts)) old new
-  texts_stop e old new outside before = subst (λ xs. Ends e (flat_map f xs) old new) (sym cut_at) (looks_first e (f text) (flat_map f (drop (suc i) texts)) old new outside before)
+    pub texts_stop : (e : LoadFault) (old new : Counts) → is_outside e ≡ true → Ends e (f text) old new → Ends e (flat_map f (drop i texts)) old new
+    texts_stop e old new outside before = subst (λ xs. Ends e (flat_map f xs) old new) (sym cut_at) (looks_first e (f text) (flat_map f (drop (suc i) texts)) old new outside before)
 
-  pub texts_none : (e : LoadFault) (old mid : Counts) → is_outside e ≡ true → is_failure e ≡ false → mid ≡ past_calls (f text) old → Ends e (flat_map f (drop i texts)) old mid
-  texts_none e old mid outside here before = texts_looks {T = ℕ} (Err e) old mid mid before (looks_none e _ mid mid outside here refl)
+    pub texts_none : (e : LoadFault) (old mid : Counts) → is_outside e ≡ true → is_failure e ≡ false → mid ≡ past_calls (f text) old → Ends e (flat_map f (drop i texts)) old mid
+    texts_none e old mid outside here before = texts_looks {T = ℕ} (Err e) old mid mid before (looks_none e _ mid mid outside here refl)
 
-  pub texts_made : (whole made now_made folders : List (List ℕ)) → now_made ≡ made ++ folders → folders ≡ f text → made ++ flat_map f (drop i texts) ≡ whole → now_made ++ flat_map f (drop (i + 1) texts) ≡ whole
-  texts_made whole made now_made folders pushed are before =
+  -- the folders of them
+  pub texts_made : (f : List ℕ → List (List ℕ)) (whole made now_made folders : List (List ℕ)) → now_made ≡ made ++ folders → folders ≡ f text → made ++ flat_map f (drop i texts) ≡ whole → now_made ++ flat_map f (drop (i + 1) texts) ≡ whole
+  texts_made f whole made now_made folders pushed are before =
       let next : i + 1 ≡ suc i = omega arith in
       ap (λ m. m ++ flat_map f (drop (i + 1) texts)) (pushed ∙ ap (λ fs. made ++ fs) are) ∙ append_assoc made (f text) (flat_map f (drop (i + 1) texts))
       ∙ ap (λ n. made ++ (f text ++ flat_map f (drop n texts))) next ∙ ap (λ xs. made ++ flat_map f xs) (sym cut_at) ∙ before

@@ -1,10 +1,9 @@
 -- What is so of every workspace that is accepted, and of the binaries that are found.
-use Rattle.std.specs.Prelude.{◌≡◌, ◌≢◌, ℕ, true, List, ◌∷◌, ◌++◌, Contains, map, Some, None, Ok}
-use Rattle.std.specs.FinMap as finite
+use Rattle.std.specs.Prelude.{◌≡◌, ◌≢◌, ℕ, true, List, ◌∷◌, ◌++◌, Contains, map, None, Ok}
 use Rattle.std.specs.List.{IsDistinct}
 use Rattle.std.specs.Str.{bytes_eq}
 use Rattle.pb_place.specs.Paths.{folder_of, is_path}
-use Rattle.pb_place.specs.World.{World, from_nothing}
+use Rattle.pb_place.specs.World.{World, from_nothing, FilesHavePaths}
 use Rattle.pb_package.specs.declared.package.Binary.{Binary}
 use Rattle.pb_package.specs.declared.package.Package.{Package}
 use Rattle.pb_package.specs.declared.workspace.Workspace.{Workspace}
@@ -27,11 +26,7 @@ HasRoot = (manifest target : List ℕ) (w : World) (ws : Workspace) → workspac
 abbrev pub LooksAtSources : Type 0
 LooksAtSources = (manifest target : List ℕ) (v w : World) → from_nothing target v ≡ from_nothing target w → workspace_of manifest target v ≡ workspace_of manifest target w
 
--- Each file has a normalised absolute path.
-abbrev pub HasFilesAtPaths : World → Type 0
-HasFilesAtPaths w = (path text : List ℕ) → finite.get w.files path ≡ Some text → is_path path ≡ true
-
 -- Of the binaries that are found in the folder of a package, the last of a name, which counts, has the source that a `[[bin]]` of this name would have that writes no path.
 abbrev pub FoundAsLookedFor : Type 0
-FoundAsLookedFor = (folder : List ℕ) (sources : World) (owner : List ℕ) (before later : List Binary) (b : Binary) → is_path folder ≡ true → HasFilesAtPaths sources
+FoundAsLookedFor = (folder : List ℕ) (sources : World) (owner : List ℕ) (before later : List Binary) (b : Binary) → is_path folder ≡ true → FilesHavePaths sources
     → found_binaries folder sources owner ≡ before ++ b ∷ later → ((other : Binary) → Contains later other → other.name ≢ b.name) → b.source ≡ binary_source folder sources owner b.name None

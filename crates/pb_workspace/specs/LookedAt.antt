@@ -1,8 +1,8 @@
--- What a reading of a workspace looks at (our own choice where The Cargo Book is silent): the path that each call of the place is given, in order, up to the first refusal. `sources` is the world without what lies at or below the target folder.
+-- What a reading of a workspace looks at (our own choice where The Cargo Book is silent): the calls of the place, in order, each with the path that it is given, up to the first refusal. `sources` is the world without what lies at or below the target folder.
 use Rattle.std.specs.Prelude.{◌≡◌, ℕ, zero, suc, false, true, nat_le, if◌then◌else◌, List, [], ◌∷◌, ◌++◌, length, Option, Some, None, Result, Ok, Err, MatchResult}
 use Rattle.std.specs.List.{flat_map}
 use Rattle.std.specs.Str.{bytes_eq}
-use Rattle.pb_place.specs.CallsInTurn.{FailsAt, MakesSome, past_calls}
+use Rattle.pb_place.specs.CallsInTurn.{Call, FailsAt, MakesSome, list_call, past_calls, read_call}
 use Rattle.pb_place.specs.Counts.{Counts}
 use Rattle.pb_place.specs.Paths.{folder_of, is_at_or_below}
 use Rattle.pb_place.specs.World.{World, from_nothing}
@@ -26,79 +26,79 @@ use Rattle.pb_workspace.specs.Members.{parts_meant}
 use Rattle.pb_workspace.specs.Rounds.{all_read, draft_at, one_read, parts_at, round, standing_in}
 
 -- the call that failed was one of these: those before it went well, and it was the last
-abbrev pub FailsOn : LoadFault → List (List ℕ) → Counts → Counts → Type 0
-FailsOn (Place path fault) paths old new = FailsAt fault paths old new
-FailsOn e paths old new = ⊥
+abbrev pub FailsOn : LoadFault → List Call → Counts → Counts → Type 0
+FailsOn (Place path fault) calls old new = FailsAt fault calls old new
+FailsOn e calls old new = ⊥
 
--- where a value or a refusal is told, just these calls were made; where memory was refused, the first few of them; where a call failed, it was one of these, and the last. Each call is counted, and one that failed tells its turn and its name, so the paths are told in their order
-abbrev pub Looks : {T : Type 0} → Result T LoadFault → List (List ℕ) → Counts → Counts → Type 0
-Looks result paths old new = MatchResult result (λ _. new ≡ past_calls paths old)
-    (λ e. (is_outside e ≡ false → new ≡ past_calls paths old) × (is_failure e ≡ false → MakesSome paths old new) × (is_failure e ≡ true → FailsOn e paths old new))
+-- where a value or a refusal is told, just these calls were made; where memory was refused, the first few of them; where a call failed, it was one of these, and the last. Each call is counted, and one that failed tells its turn, its kind and its name, so the calls are told in their order
+abbrev pub Looks : {T : Type 0} → Result T LoadFault → List Call → Counts → Counts → Type 0
+Looks result calls old new = MatchResult result (λ _. new ≡ past_calls calls old)
+    (λ e. (is_outside e ≡ false → new ≡ past_calls calls old) × (is_failure e ≡ false → MakesSome calls old new) × (is_failure e ≡ true → FailsOn e calls old new))
 
--- a call on a path, unless it lies at or below the target folder
-abbrev pub looked : List ℕ → List ℕ → List (List ℕ)
-looked target path = if is_at_or_below target path then [] else path ∷ []
+-- a call on a path, unless that lies at or below the target folder
+abbrev pub looked : List ℕ → Call → List Call
+looked target call = if is_at_or_below target call.name then [] else call ∷ []
 
 -- what is looked at next, unless there was a fault
-abbrev pub after : {A : Type 0} → Result A LoadFault → (A → List (List ℕ)) → List (List ℕ)
+abbrev pub after : {A : Type 0} → Result A LoadFault → (A → List Call) → List Call
 after (Ok x) next = next x
 after (Err e) next = []
 
 -- the folder of a package is listed, its `src`, and what lies below its `src/bin`
-abbrev pub listings_at : List ℕ → List ℕ → List (List ℕ)
-listings_at target folder = looked target folder ++ (looked target (source_folder folder) ++ looked target (bin_folder folder))
+abbrev pub listings_at : List ℕ → List ℕ → List Call
+listings_at target folder = looked target (list_call folder) ++ (looked target (list_call (source_folder folder)) ++ looked target (list_call (bin_folder folder)))
 
 -- where the manifest has a package
-abbrev pub package_looked : List ℕ → List ℕ → Option Package → List (List ℕ)
+abbrev pub package_looked : List ℕ → List ℕ → Option Package → List Call
 package_looked target folder None = []
 package_looked target folder (Some p) = listings_at target folder
 
 -- a manifest is read, and then its folder is looked at
-unfoldable pub file_looked : List ℕ → World → Standing → List (List ℕ)
-file_looked target sources at = looked target at.manifest ++ after (parts_at sources at.manifest) (λ parts. package_looked target at.folder parts.found)
+unfoldable pub file_looked : List ℕ → World → Standing → List Call
+file_looked target sources at = looked target (read_call at.manifest) ++ after (parts_at sources at.manifest) (λ parts. package_looked target at.folder parts.found)
 
 -- but for the root's manifest, which was read
-unfoldable pub folder_looked : List ℕ → World → Frame → List ℕ → List (List ℕ)
+unfoldable pub folder_looked : List ℕ → World → Frame → List ℕ → List Call
 folder_looked target sources f folder = if bytes_eq folder f.root then [] else file_looked target sources (standing_in f folder)
 
 -- no folder twice, and no more than 256
-abbrev pub one_looked : (List ℕ → List (List ℕ)) → Reading → List ℕ → List (List ℕ)
+abbrev pub one_looked : (List ℕ → List Call) → Reading → List ℕ → List Call
 one_looked look r folder = if has folder r.found then [] else (if nat_le 256 (length r.found) then [] else look folder)
 
-abbrev pub all_looked : (List ℕ → Result Draft LoadFault) → (List ℕ → List (List ℕ)) → Reading → List (List ℕ) → List (List ℕ)
+abbrev pub all_looked : (List ℕ → Result Draft LoadFault) → (List ℕ → List Call) → Reading → List (List ℕ) → List Call
 all_looked read look r [] = []
 all_looked read look r (folder ∷ folders) = one_looked look r folder ++ after (one_read read r folder) (λ now. all_looked read look now folders)
 
-abbrev pub round_looked : (List ℕ → Result Draft LoadFault) → (List ℕ → List (List ℕ)) → Reading → List (List ℕ)
+abbrev pub round_looked : (List ℕ → Result Draft LoadFault) → (List ℕ → List Call) → Reading → List Call
 round_looked read look r = all_looked read look (record { found = r.found; ahead = [] }) (folders_of r.ahead)
 
-unfoldable pub rounds_looked : ℕ → (List ℕ → Result Draft LoadFault) → (List ℕ → List (List ℕ)) → Reading → List (List ℕ)
+unfoldable pub rounds_looked : ℕ → (List ℕ → Result Draft LoadFault) → (List ℕ → List Call) → Reading → List Call
 rounds_looked zero read look r = []
 rounds_looked (suc n) read look r = round_looked read look r ++ after (round read r) (λ now. rounds_looked n read look now)
 
 -- of each glob its base
-abbrev pub text_looked : List ℕ → Frame → List ℕ → List (List ℕ)
-text_looked target f text = if is_glob text then looked target (base_of (parts_meant f.root text)) else []
+abbrev pub text_looked : List ℕ → Frame → List ℕ → List Call
+text_looked target f text = if is_glob text then looked target (list_call (base_of (parts_meant f.root text))) else []
 
-abbrev pub members_looked : List ℕ → Frame → List (List ℕ)
+abbrev pub members_looked : List ℕ → Frame → List Call
 members_looked target f = flat_map (text_looked target f) f.members
 
 -- the members, and then what path dependencies lead to
-unfoldable pub others_looked : List ℕ → World → Frame → Reading → List (List ℕ)
+unfoldable pub others_looked : List ℕ → World → Frame → Reading → List Call
 others_looked target sources f begun =
     members_looked target f
     ++ (all_looked (draft_at sources f (member_folders sources f)) (folder_looked target sources f) begun (folders_of (member_folders sources f))
     ++ after (all_read (draft_at sources f (member_folders sources f)) begun (folders_of (member_folders sources f))) (λ read. rounds_looked 257 (draft_at sources f (member_folders sources f)) (folder_looked target sources f) read))
 
 -- before them the root package, where there is one
-unfoldable pub packages_looked : List ℕ → World → Frame → Tables → Option Package → List (List ℕ)
+unfoldable pub packages_looked : List ℕ → World → Frame → Tables → Option Package → List Call
 packages_looked target sources f tables p = package_looked target f.root p ++ after (root_read sources f tables p) (λ begun. others_looked target sources f begun)
 
-abbrev pub root_looked : List ℕ → List ℕ → List (List ℕ)
-root_looked target manifest = if is_manifest manifest then looked target manifest else []
+abbrev pub root_looked : List ℕ → List ℕ → List Call
+root_looked target manifest = if is_manifest manifest then looked target (read_call manifest) else []
 
 -- all that is looked at for the workspace of a manifest
-unfoldable pub looked_at : List ℕ → List ℕ → World → List (List ℕ)
+unfoldable pub looked_at : List ℕ → List ℕ → World → List Call
 looked_at manifest target w =
     root_looked target manifest ++ after (root_parts (from_nothing target w) manifest) (λ parts.
     packages_looked target (from_nothing target w) (frame_of (folder_of manifest) manifest parts.workspace) parts.tables parts.found)

@@ -2,14 +2,15 @@
 
 ghost use Rattle.std.specs.Prelude.{◌≡◌, IfOk, IfSome, Some, true, slice_get};
 ghost use Rattle.pb_place.specs.Children.{is_flying};
-ghost use Rattle.pb_place.specs.Memory.{counts_in};
+ghost use Rattle.pb_memory.specs.Memory.{counts_in};
 ghost use Rattle.pb_run.specs.Halves.{child_of};
 ghost use Rattle.pb_run.specs.Standing.{IsCommandOf, records_folder};
 
 use crate::units::ready::{Bench, Told};
 use pb_answer::{BuildFault, Summary, result_line};
 use pb_mini::Mini;
-use pb_place::{Memory, Place};
+use pb_memory::Memory;
+use pb_place::Place;
 use pb_project::unit_at;
 use pb_run::{
     Awaited, Beginning, Begun, OrderedProject, Ran, Run, answer_unit, begin_unit, drop_unit,

@@ -4,7 +4,7 @@ use crate::units::ready::{bench_of, project_in};
 use crate::units::steps::{make_steps, parts_of};
 use pb_checks_files::{Shown, put_files};
 use pb_mini::Mini;
-use pb_place::Memory;
+use pb_memory::Memory;
 use pb_run::OrderedProject;
 use std::alloc::Global;
 use std::test::Fail;

@@ -4,7 +4,7 @@ use crate::commands::asking::{Case, put_asked, setup_of};
 use crate::commands::cases::CASES;
 use crate::commands::making::{done_of, options_of, project_of};
 use pb_checks_files::{Shown, Silent, put_files};
-use pb_place::Memory;
+use pb_memory::Memory;
 use pb_project::Project;
 use pb_unit::Planned;
 use std::alloc::Global;

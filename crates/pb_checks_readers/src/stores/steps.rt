@@ -9,7 +9,8 @@ use crate::stores::world::{prepare, put_file, put_first, replaced, take_away, te
 use pb_checks_files::Shown;
 use pb_data::{Items, Text};
 use pb_mini::Mini;
-use pb_place::{Command, Memory, PathText};
+use pb_memory::Memory;
+use pb_place::{Command, PathText};
 use pb_record::InputName;
 use pb_store::{Compared, OpenFault, Replayed, Store, StoreFault};
 use std::alloc::{AllocError, Global};

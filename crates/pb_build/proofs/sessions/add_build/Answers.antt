@@ -1,5 +1,5 @@
 use Rattle.std.proofs.Common.{[], ◌∷◌, ◌++◌, true, refl, sym, ap, subst}
-use Rattle.pb_place.specs.Memory.{Held, counts_in}
+use Rattle.pb_memory.specs.Memory.{Held, counts_in}
 use Rattle.pb_turns.specs.Moments.{moment}
 use Rattle.pb_build.specs.Environment.{environment_of}
 use Rattle.pb_build.specs.Headline.{Headline}

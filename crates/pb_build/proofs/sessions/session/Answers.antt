@@ -1,5 +1,5 @@
 use Rattle.std.proofs.Common.{[], ap}
-use Rattle.pb_place.specs.Memory.{counts_in}
+use Rattle.pb_memory.specs.Memory.{counts_in}
 use Rattle.pb_turns.specs.Moments.{moment}
 use Rattle.pb_build.specs.Session.{point}
 use Rattle.pb_build.proofs.StepsTaken.{none_taken, none_passed, on_err, step_taken, step_passed, step_lost, steps_taken}

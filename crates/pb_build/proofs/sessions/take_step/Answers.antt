@@ -1,5 +1,5 @@
 use Rattle.std.proofs.Common.{OnErr, sym, subst}
-use Rattle.pb_place.specs.Memory.{counts_in}
+use Rattle.pb_memory.specs.Memory.{counts_in}
 use Rattle.pb_session.specs.declared.step.SessionStep.{SessionStep}
 use Rattle.pb_turns.specs.Moments.{moment}
 use Rattle.pb_build.specs.Session.{Loses, point}

@@ -1,11 +1,11 @@
 use Rattle.std.proofs.Common.{◌≡◌, Some, IsTrue, take}
 use Rattle.pb_place.specs.CallsInTurn.{past_calls}
 use Rattle.pb_place.specs.World.{put_reply}
-use Rattle.pb_mini_program.specs.Writing.{paths_in}
+use Rattle.pb_mini_program.specs.Writing.{writes_in}
 use Rattle.pb_mini_program.proofs.program.write_files.Given as goal
 
 abbrev pub invariant-loop-name : goal.invariant-loop-name
 invariant-loop-name g l = record {
   written : IsTrue g.P.Place.tells → g.P.Place.world l.place ≡ put_reply (Some l.folder) (take l.name-index l.files) (g.P.Place.world l.fn.place);
-  called : g.P.Place.counts l.place ≡ past_calls (paths_in l.folder (take l.name-index l.files)) (g.P.Place.counts l.fn.place);
+  called : g.P.Place.counts l.place ≡ past_calls (writes_in l.folder (take l.name-index l.files)) (g.P.Place.counts l.fn.place);
 }

@@ -9,4 +9,4 @@ pub returns-in-Err-clause-still : goal.returns-in-Err-clause-still
 returns-in-Err-clause-still g c told ticket apart before = c.in-Err.ensures.still ticket (apart _ _ (only_tore _ _ _ _ (c.in-Err.ensures.err told))) before
 
 pub returns-in-Err-clause-calls : goal.returns-in-Err-clause-calls
-returns-in-Err-clause-calls g c = ends_once _ c.in-Err.fault _ _ _ c.stored.ensures c.in-Err.ensures.counts
+returns-in-Err-clause-calls g c = ends_once _ c.in-Err.fault _ _ _ c.stored.ensures c.in-Err.ensures.fault c.in-Err.ensures.counts

@@ -1,9 +1,10 @@
 use Rattle.std.proofs.Common.{◌≡◌, ℕ, max, IsTrue, Contains, List}
-use Rattle.std.specs.List.{filter, fold}
+use Rattle.std.specs.List.{fold}
 use Rattle.std.specs.Vec.Iter.{into_iter_items}
 use Rattle.pb_place.specs.CallsInTurn.{past_calls}
 use Rattle.pb_soundness.specs.Apart.{KeepsStill}
-use Rattle.pb_soundness.specs.Records.{Reading, ends_as_record}
+use Rattle.pb_soundness.specs.Records.{Reading}
+use Rattle.pb_store.specs.Looking.{records_looked}
 use Rattle.pb_store.specs.Opening.{greatest_at, greatest_of}
 use Rattle.pb_store.specs.Presence.{noted_at}
 use Rattle.pb_record.specs.Parts.{IsReading}
@@ -18,8 +19,8 @@ invariant-loop-path g l = record {
   found : (read : Reading) → IsReading read → IsTrue g.P.Place.tells → fold (λ m path. max m (greatest_at read (g.P.Place.world l.fn.place).files path)) l.greatest (into_iter_items l.path-iterator) ≡ greatest_of read (g.P.Place.world l.fn.place).files l.fn.paths;
   held : (read : Reading) → IsReading read → IsTrue g.P.Place.tells → fold (noted_at read l.folder (g.P.Place.world l.fn.place).files) l.numbers (into_iter_items l.path-iterator) ≡ fold (noted_at read l.folder (g.P.Place.world l.fn.place).files) l.fn.numbers l.fn.paths;
   within : (p : List ℕ) → Contains (into_iter_items l.path-iterator) p → Contains l.fn.paths p;
-  looks : past_calls (filter ends_as_record (into_iter_items l.path-iterator)) (g.P.Place.counts l.place) ≡ past_calls (filter ends_as_record l.fn.paths) (g.P.Place.counts l.fn.place);
-  reached : Reached (filter ends_as_record l.fn.paths) (filter ends_as_record (into_iter_items l.path-iterator)) (g.P.Place.counts l.fn.place) (g.P.Place.counts l.place);
+  looks : past_calls (records_looked (into_iter_items l.path-iterator)) (g.P.Place.counts l.place) ≡ past_calls (records_looked l.fn.paths) (g.P.Place.counts l.fn.place);
+  reached : Reached (records_looked l.fn.paths) (records_looked (into_iter_items l.path-iterator)) (g.P.Place.counts l.fn.place) (g.P.Place.counts l.place);
   starts : (g.P.Place.counts l.place).starts ≡ (g.P.Place.counts l.fn.place).starts;
   failures : (g.P.Place.counts l.place).failures ≡ (g.P.Place.counts l.fn.place).failures;
 }

@@ -19,7 +19,7 @@ pub returns-in-Ok-greatest_of-clause-looks : goal.returns-in-Ok-greatest_of-clau
 returns-in-Ok-greatest_of-clause-looks g c told = folder_opened c.args.folder (g.P.Place.world c.args.place.now) _ _ _ _ (c.in-Ok.ensures.ok told) c.in-Ok.ensures.counts c.in-Ok-greatest_of.ensures.looks
 
 pub returns-in-Err-clause-looks : goal.returns-in-Err-clause-looks
-returns-in-Err-clause-looks g c told = folder_unlisted c.args.folder (g.P.Place.world c.args.place.now) c.in-Err.fault _ _ _ c.opened.ensures c.in-Err.ensures.counts
+returns-in-Err-clause-looks g c told = folder_unlisted c.args.folder (g.P.Place.world c.args.place.now) c.in-Err.fault _ _ _ c.opened.ensures c.in-Err.ensures.fault c.in-Err.ensures.counts
 
 pub returns-in-Err-greatest_of-clause-looks : goal.returns-in-Err-greatest_of-clause-looks
 returns-in-Err-greatest_of-clause-looks g c told = folder_unread c.args.folder (g.P.Place.world c.args.place.now) _ _ _ _ _ (c.in-Ok.ensures.ok told) c.in-Ok.ensures.counts c.in-Err-greatest_of.ensures.looks

@@ -1,0 +1,46 @@
+-- What a failing call leaves of a place in memory, and what it uses up of what was set to fail. Want of memory is no failure, and uses up neither a fuse nor a death.
+use Rattle.std.specs.Prelude.{ℕ, ◌-◌, ◌/◌, ◌==◌, List, length, take, Option, Result, Ok, Err, if◌then◌else◌}
+use Rattle.pb_place.specs.World.{World, written, removed}
+use Rattle.pb_place.specs.Copies.{half_removed}
+use Rattle.pb_memory.specs.Memory.{other_deaths}
+use Rattle.pb_memory.specs.declared.in_flight.Death.{Death}
+use Rattle.pb_place.specs.declared.place.PlaceFault.{PlaceFault}
+use Rattle.pb_place.specs.declared.place.PlaceFault.TheVariants.{OutOfMemory}
+use Rattle.pb_place.specs.declared.place.StartFault.{StartFault}
+use Rattle.pb_place.specs.declared.place.StartFault.TheVariants as start
+
+-- the fuse after a call: one less; where the call that was to fail was refused memory, the next one is to fail
+abbrev pub fuse_past : PlaceFault → ℕ → ℕ
+fuse_past OutOfMemory fuse = if fuse == 1 then 1 else fuse - 1
+fuse_past e fuse = fuse - 1
+
+abbrev pub fuse_after : {T : Type 0} → Result T PlaceFault → ℕ → ℕ
+fuse_after (Ok x) fuse = fuse - 1
+fuse_after (Err e) fuse = fuse_past e fuse
+
+-- after a write that answered this fault: the first half of the bytes, rounded down; where memory was refused, all as it was
+abbrev pub torn_by : PlaceFault → List ℕ → List ℕ → World → World
+torn_by OutOfMemory path bytes w = w
+torn_by e path bytes w = written path (take (length bytes / 2) bytes) w
+
+abbrev pub after_write : {T : Type 0} → Result T PlaceFault → List ℕ → List ℕ → World → World
+after_write (Ok x) path bytes w = written path bytes w
+after_write (Err e) path bytes w = torn_by e path bytes w
+
+-- after a removal that answered this fault: without the first half of the files, rounded down and in byte order; where memory was refused, all as it was
+abbrev pub halved_by : PlaceFault → List ℕ → World → World
+halved_by OutOfMemory path w = w
+halved_by e path w = record w { files = half_removed path w.files }
+
+abbrev pub after_removal : {T : Type 0} → Result T PlaceFault → List ℕ → World → World
+after_removal (Ok x) path w = removed path w
+after_removal (Err e) path w = halved_by e path w
+
+-- the deaths after a spawn for this folder: one less for a child that flies, or that its death kept from flying; where the fuse let the call fail, they stay for the next
+abbrev pub deaths_past : StartFault → Option (List ℕ) → ℕ → List Death → List Death
+deaths_past start.OutOfMemory out fuse ds = ds
+deaths_past e out fuse ds = if fuse == 1 then ds else other_deaths out ds
+
+abbrev pub deaths_after : {T : Type 0} → Option (List ℕ) → ℕ → Result T StartFault → List Death → List Death
+deaths_after out fuse (Ok x) ds = other_deaths out ds
+deaths_after out fuse (Err e) ds = deaths_past e out fuse ds

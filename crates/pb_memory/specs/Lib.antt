@@ -1,0 +1,8 @@
+pub use Rattle.pb_data.specs.Gives
+pub mod Codes
+pub mod Fuses
+pub mod InFlight
+pub mod Memory
+pub mod Private
+pub mod Seen
+pub mod Tallies

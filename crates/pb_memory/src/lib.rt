@@ -1,0 +1,13 @@
+//! Places in memory, and what places are made of: counters, and tables of children in flight.
+#![tactic(auto)]
+
+pub mod in_flight;
+mod landing;
+mod memory;
+mod seen;
+mod sight;
+mod tally;
+
+pub use memory::Memory;
+pub use seen::Seen;
+pub use tally::Tally;

@@ -1,0 +1,135 @@
+//! A place of maps, for tests and sessions in memory: what it holds, and its own calls.
+
+ghost use Rattle.std.specs.Prelude.{◌≡◌, ◌≢◌, ◌++◌, ◌∷◌, [], IfOk, OnOk, OnErr};
+ghost use Rattle.std.specs.FinMap as map;
+ghost use Rattle.pb_place.specs.World.{written, removed};
+ghost use Rattle.pb_place.specs.Children.{is_flying};
+ghost use Rattle.pb_memory.specs.InFlight.{children_in};
+ghost use Rattle.pb_memory.specs.Memory.{set, unset, no_held};
+
+mod calls;
+mod children;
+
+use crate::in_flight::{Death, Flying, flies};
+use crate::sight::file_in;
+use crate::tally::Tally;
+use pb_data::{Bytes, Text};
+use pb_place::{FileMap, PathText, StartFault, TextMap};
+use std::alloc::{AllocError, Global};
+use std::marker::Model;
+
+/// A place of maps over a child. Contracts see what it holds: its world and its counters.
+///
+/// A call fails here for want of memory, or as it was told by `fuse` and `die`, which serve tests: each call of the place
+/// says in its contract when it does, and what it leaves then. Its own calls, those below, are no calls of a place and
+/// are not counted. A read or a write takes time logarithmic in the number of files.
+#[derive(Drop)]
+pub struct Memory<C> {
+    files: FileMap,
+    variables: TextMap,
+    child: C,
+    tally: Tally,
+    flying: Vec<Flying<Option<StartFault>>>,
+    most: u64,
+    fuse: u64,
+    deaths: Vec<Death>,
+}
+
+impl<C> Model for Memory<C> {
+    ghost use Rattle.pb_memory.specs.Memory.{Held, held_code};
+
+    ghost Value = { Held };
+
+    ghost coded = { held_code };
+
+    ghost view = { λ m. record { world = record { files = m.files; variables = m.variables }; tally = m.tally; flying = m.flying.items; most = m.most; fuse = m.fuse; deaths = m.deaths.items } };
+}
+
+impl<C> Memory<C> {
+    /// A place with no file and no variable, whose child is the one given. It takes no memory.
+    pub fn new(alloc: Global, child: C) -> Memory<C>
+        ensures { result ≡ no_held }
+    {
+        Memory {
+            files: FileMap::new(alloc),
+            variables: TextMap::new(alloc),
+            child,
+            tally: Tally::new(alloc),
+            flying: Vec::new(alloc),
+            most: 0,
+            fuse: 0,
+            deaths: Vec::new(alloc),
+        }
+    }
+
+    /// Puts a file. Where memory is refused, nothing changes.
+    pub fn put(&mut self, alloc: Global, path: &PathText, bytes: &[u8]) -> Result<(), AllocError>
+        ensures ok { OnOk result (self.new ≡ record self.old { world = written path.now bytes.now self.old.world }) }
+        ensures err { OnErr result (self.new ≡ self.old) }
+    {
+        self.files.insert(alloc, path, bytes)
+    }
+
+    /// Removes the file at a path and all files below it. Where memory is refused, nothing changes.
+    pub fn remove(&mut self, alloc: Global, path: &PathText) -> Result<(), AllocError>
+        ensures ok { OnOk result (self.new ≡ record self.old { world = removed path.now self.old.world }) }
+        ensures err { OnErr result (self.new ≡ self.old) }
+    {
+        self.files.remove(alloc, path)
+    }
+
+    /// Sets a variable. Any name and value is taken. Where memory is refused, nothing changes.
+    pub fn set(&mut self, alloc: Global, name: &str, value: &str) -> Result<(), AllocError>
+        ensures ok { OnOk result (self.new ≡ record self.old { world = set name.now value.now self.old.world }) }
+        ensures err { OnErr result (self.new ≡ self.old) }
+    {
+        self.variables.insert(alloc, name, value)
+    }
+
+    /// Takes a variable away. Where memory is refused, nothing changes.
+    pub fn unset(&mut self, alloc: Global, name: &str) -> Result<(), AllocError>
+        ensures ok { OnOk result (self.new ≡ record self.old { world = unset name.now self.old.world }) }
+        ensures err { OnErr result (self.new ≡ self.old) }
+    {
+        self.variables.remove(alloc, name)
+    }
+
+    /// The bytes of a file, or none where no file is there.
+    pub fn file(&self, alloc: Global, path: &PathText) -> Result<Option<Bytes>, AllocError>
+        ensures { IfOk result (λ found. found ≡ map.get self.now.world.files path.now) }
+    {
+        file_in(alloc, &self.files, path)
+    }
+
+    /// Whether a child of this ticket is in flight. It is no call of the place and takes no memory.
+    pub fn flies(&self, ticket: u64) -> bool
+        ensures { result ≡ is_flying ticket (children_in self.now.flying) }
+    {
+        flies(self.flying.as_slice(), ticket)
+    }
+
+    /// Lets the call of this number, from 1 on, fail; 0 lets none. It takes the place of what was set before, and stays
+    /// until so many calls came. `spawn` and `finish` are calls; `failures`, `starts`, `late` and `most` are none.
+    /// The call that fails gives its own fault: a write leaves the first half of the bytes, a removal takes away the
+    /// first half of the files in byte order, both rounded down; a spawn is CannotStart and leaves nothing, a finish
+    /// is Died and leaves what stands. Where memory is refused to it, the next call is to fail. Our own choice.
+    pub fn fuse(&mut self, number: u64)
+        ensures { self.new ≡ record self.old { fuse = number } }
+    {
+        self.fuse = number;
+    }
+
+    /// Lets the next start whose folder has this name fail so: CannotStart at its spawn, which leaves nothing, and any
+    /// other at its end, which leaves the first half of the reply's files in byte order, rounded down. Of two for one
+    /// name the earlier comes first. A start that the fuse lets fail, or that is refused memory, leaves it for the next.
+    /// Where memory is refused, nothing changes. Want of memory is no failure of the outside, so no such death.
+    pub fn die(&mut self, alloc: Global, key: &str, kind: StartFault) -> Result<(), AllocError>
+        requires real { kind ≢ StartFault.OutOfMemory }
+        ensures ok { OnOk result (self.new ≡ record self.old { deaths = self.old.deaths ++ record { key = key.now; kind = kind } ∷ [] }) }
+        ensures err { OnErr result (self.new ≡ self.old) }
+    {
+        let key = Text::from_str(alloc, key)?;
+        self.deaths.push(Death { key, kind })?;
+        Ok(())
+    }
+}

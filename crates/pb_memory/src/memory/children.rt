@@ -1,0 +1,283 @@
+//! The children of a place in memory: how each is spawned and ends, as the fuse and the deaths will have it.
+
+ghost use Rattle.std.specs.Prelude.{is_some, Ok, ◌≡◌, ◌≢◌, ◌⊎◌, ◌+◌, ◌-◌, ◌++◌, ◌∷◌, [], length, max, true, false, IfOk, IfErr, OnOk, OnErr, IfSome, IfNone, Some, None, Err};
+ghost use Rattle.std.specs.List.{list_any};
+ghost use Rattle.pb_place.specs.World.{seen_by, ChangesOnlyInSome};
+ghost use Rattle.pb_place.specs.Counts.{without};
+ghost use Rattle.pb_place.specs.Children.{child_spawned, is_flying, child_at, most_after, LandsAs, inside_out, landing};
+ghost use Rattle.pb_place.specs.Copies.{put_half};
+ghost use Rattle.pb_memory.specs.InFlight.{children_in, other_entries};
+ghost use Rattle.pb_memory.specs.Tallies.{flown};
+ghost use Rattle.pb_memory.specs.Memory.{is_doomed, may_fail, fate_at, fate_of};
+ghost use Rattle.pb_memory.specs.Fuses.{deaths_after};
+
+use crate::in_flight::{Flying, drop_death, fate, free_ticket, take_out};
+use crate::landing::{inside_out, land, leave_half};
+use crate::memory::Memory;
+use crate::sight::Sight;
+use pb_data::{Bytes, TryCopy, with_next};
+use pb_place::{
+    Child, ChildInFlight, Command, Ended, FileMap, PathText, RelativePath, Reply, StartFault,
+};
+use std::alloc::{AllocError, Global};
+
+/// Adds a child in flight, and gives the most that ever were.
+#[tactic(auto, using(crate::proofs::InFlight::fly_laws))]
+fn add_child(
+    flying: &mut Vec<Flying<Option<StartFault>>>,
+    most: u64,
+    one: Flying<Option<StartFault>>,
+) -> Result<u64, AllocError>
+    ensures items { OnOk result (flying.new.items ≡ flying.old.items ++ one ∷ []) }
+    ensures children { OnOk result (children_in flying.new.items ≡ children_in flying.old.items ++ one.child ∷ []) }
+    ensures most { IfOk result (λ m. m ≡ max most (length (children_in flying.old.items) + 1)) }
+    ensures err { OnErr result (flying.new.items ≡ flying.old.items) }
+{
+    flying.push(one)?;
+    Ok(most.max(flying.len() as u64))
+}
+
+/// Takes a child out of those in flight.
+#[tactic(auto, using(crate::proofs::InFlight::end_laws))]
+fn take_child(
+    flying: &mut Vec<Flying<Option<StartFault>>>,
+    ticket: u64,
+) -> Option<Flying<Option<StartFault>>>
+    ensures entry { IfSome result (λ _. flying.new.items ≡ other_entries ticket flying.old.items) }
+    ensures some { IfSome result (λ f. (child_at ticket (children_in flying.old.items) ≡ Some f.child) × (children_in flying.new.items ≡ without ticket (children_in flying.old.items))) }
+    ensures fate { IfSome result (λ f. fate_at ticket flying.old.items ≡ f.kept) }
+    ensures doomed { IfSome result (λ f. is_doomed f ≡ true → list_any is_doomed flying.old.items ≡ true) }
+    ensures none { IfNone result (is_flying ticket (children_in flying.old.items) ≡ false) }
+{
+    take_out(flying, ticket)
+}
+
+/// The child of a command as it will end.
+fn child_in_flight(
+    alloc: Global,
+    files: &FileMap,
+    command: &Command,
+    ticket: u64,
+    reply: Reply,
+) -> Result<ChildInFlight, AllocError>
+    ensures { IfOk result (λ child. child ≡ record { ticket = ticket; command = command.now; ended = record { status = reply.status; stdout = reply.stdout; stderr = reply.stderr }; files = reply.files; before = inside_out command.now.out files.now }) }
+{
+    let before = inside_out(alloc, files, &command.out)?;
+    let command = command.copy(alloc)?;
+    Ok(ChildInFlight {
+        ticket,
+        command,
+        ended: Ended {
+            status: reply.status,
+            stdout: reply.stdout,
+            stderr: reply.stderr,
+        },
+        files: reply.files,
+        before,
+    })
+}
+
+/// How a child that flies ends so: that it cannot be started is no end, and no child in flight has that fate.
+fn ending(fault: StartFault) -> StartFault
+    ensures kept { fault ≢ StartFault.CannotStart → result ≡ fault }
+    ensures end { (result ≡ StartFault.OutOfMemory) ⊎ ((result ≡ StartFault.Died) ⊎ (result ≡ StartFault.Capture)) }
+{
+    match fault {
+        StartFault::CannotStart => StartFault::Died,
+        StartFault::Died => StartFault::Died,
+        StartFault::Capture => StartFault::Capture,
+        StartFault::OutOfMemory => StartFault::OutOfMemory,
+    }
+}
+
+/// How a child will end whose end is asked for now: as the fuse has it, or its own fate.
+fn fate_now(burns: bool, kept: Option<StartFault>) -> Option<StartFault>
+    ensures burnt { burns ≡ true → result ≡ Some StartFault.Died }
+    ensures none { burns ≡ false → kept ≡ None → result ≡ None }
+    ensures fated { burns ≡ false → IfSome kept (λ e. e ≢ StartFault.CannotStart → result ≡ Some e) }
+    ensures doomed { burns ≡ false → IfSome result (λ e. is_some kept ≡ true) }
+    ensures end { IfSome result (λ e. (e ≡ StartFault.OutOfMemory) ⊎ ((e ≡ StartFault.Died) ⊎ (e ≡ StartFault.Capture))) }
+{
+    if burns {
+        return Some(StartFault::Died);
+    }
+    match kept {
+        Some(fault) => Some(ending(fault)),
+        None => None,
+    }
+}
+
+/// What a child answers whose files have landed.
+fn ended_by(landed: Result<(), StartFault>, child: ChildInFlight) -> Result<Ended, StartFault>
+    ensures ok { OnOk landed (result ≡ Ok child.ended) }
+    ensures err { IfErr landed (λ e. result ≡ Err e) }
+{
+    let (child, ()) = with_next(child, landed)?;
+    Ok(child.ended)
+}
+
+impl<C: Child> Memory<C> {
+    /// The reply of the child to a command, over what it sees now.
+    fn reply(&self, alloc: Global, command: &Command) -> Result<Reply, AllocError>
+        ensures { IfOk result (λ reply. reply ≡ C.answers command.now (seen_by command.now self.now.world)) }
+    {
+        let sight = Sight {
+            files: &self.files,
+            variables: &self.variables,
+            command,
+        };
+        match self.child.reply(alloc, command, &sight) {
+            Ok(reply) => Ok(reply),
+            Err(_) => Err(AllocError),
+        }
+    }
+
+    /// The child of a command that is spawned now.
+    fn spawned(
+        &self,
+        alloc: Global,
+        command: &Command,
+        ticket: u64,
+    ) -> Result<ChildInFlight, AllocError>
+        ensures { IfOk result (λ child. child ≡ child_spawned (C.answers command.now) command.now self.now.world ticket) }
+    {
+        let reply = self.reply(alloc, command)?;
+        child_in_flight(alloc, &self.files, command, ticket, reply)
+    }
+
+    /// Leaves the first half of a reply's files, in byte order, where the command says.
+    fn leave(
+        &mut self,
+        alloc: Global,
+        out: &Option<PathText>,
+        made: &[(RelativePath, Bytes)],
+    ) -> Result<(), AllocError>
+        ensures half { OnOk result (self.new.world ≡ put_half out.now made.now self.old.world) }
+        ensures only { ChangesOnlyInSome out.now self.old.world self.new.world }
+        ensures same { record self.new { world = self.old.world } ≡ self.old }
+    {
+        match out {
+            Some(out) => leave_half(alloc, &mut self.files, out, made),
+            None => Ok(()),
+        }
+    }
+
+    /// Lets a child fly: half of its files stand.
+    #[tactic(auto, using(crate::proofs::InFlight::fly_laws))]
+    fn fly(
+        &mut self,
+        alloc: Global,
+        command: &Command,
+        fate: Option<StartFault>,
+    ) -> Result<u64, StartFault>
+        ensures fresh { IfOk result (λ ticket. is_flying ticket (children_in self.old.flying) ≡ false) }
+        ensures memory { IfErr result (λ e. e ≡ StartFault.OutOfMemory) }
+        ensures flying { IfOk result (λ ticket. self.new.flying ≡ self.old.flying ++ record { child = child_spawned (C.answers command.now) command.now self.old.world ticket; kept = fate } ∷ []) }
+        ensures children { children_in self.new.flying ≡ flown (child_spawned (C.answers command.now) command.now self.old.world) result (children_in self.old.flying) }
+        ensures most { self.new.most ≡ most_after result (length (children_in self.old.flying) + 1) self.old.most }
+        ensures kept { OnErr result (self.new.flying ≡ self.old.flying) }
+        ensures half { OnOk result (self.new.world ≡ put_half command.now.out (C.answers command.now (seen_by command.now self.old.world)).files self.old.world) }
+        ensures only { ChangesOnlyInSome command.now.out self.old.world self.new.world }
+        ensures same { record self.new { world = self.old.world; flying = self.old.flying; most = self.old.most } ≡ self.old }
+    {
+        let Some(ticket) = free_ticket(self.flying.as_slice()) else {
+            return Err(StartFault::OutOfMemory);
+        };
+        let child = self.spawned(alloc, command, ticket)?;
+        let left = self.leave(alloc, &command.out, child.files.as_slice());
+        let (child, ()) = with_next(child, left)?;
+        self.most = add_child(&mut self.flying, self.most, Flying { child, kept: fate })?;
+        Ok(ticket)
+    }
+
+    /// Spawns a child, as the fuse and the deaths will have it.
+    pub(super) fn begin(&mut self, alloc: Global, command: &Command) -> Result<u64, StartFault>
+        ensures fresh { IfOk result (λ ticket. is_flying ticket (children_in self.old.flying) ≡ false) }
+        ensures fault { IfErr result (λ e. e ≢ StartFault.OutOfMemory → e ≡ StartFault.CannotStart) }
+        ensures fails { IfErr result (λ e. e ≢ StartFault.OutOfMemory → may_fail self.old ≡ true) }
+        ensures later { may_fail self.new ≡ true → may_fail self.old ≡ true }
+        ensures burnt { self.old.fuse ≡ 1 → result ≡ Err StartFault.CannotStart }
+        ensures stillborn { self.old.fuse ≢ 1 → fate_of command.now.out self.old.deaths ≡ Some StartFault.CannotStart → result ≡ Err StartFault.CannotStart }
+        ensures quiet { self.old.fuse ≢ 1 → fate_of command.now.out self.old.deaths ≢ Some StartFault.CannotStart → IfErr result (λ e. e ≡ StartFault.OutOfMemory) }
+        ensures children { children_in self.new.flying ≡ flown (child_spawned (C.answers command.now) command.now self.old.world) result (children_in self.old.flying) }
+        ensures most { self.new.most ≡ most_after result (length (children_in self.old.flying) + 1) self.old.most }
+        ensures flying { IfOk result (λ ticket. self.new.flying ≡ self.old.flying ++ record { child = child_spawned (C.answers command.now) command.now self.old.world ticket; kept = fate_of command.now.out self.old.deaths } ∷ []) }
+        ensures kept { OnErr result (self.new.flying ≡ self.old.flying) }
+        ensures deaths { self.new.deaths ≡ deaths_after command.now.out self.old.fuse result self.old.deaths }
+        ensures half { OnOk result (self.new.world ≡ put_half command.now.out (C.answers command.now (seen_by command.now self.old.world)).files self.old.world) }
+        ensures nothing { IfErr result (λ e. e ≡ StartFault.CannotStart → self.new.world ≡ self.old.world) }
+        ensures only { ChangesOnlyInSome command.now.out self.old.world self.new.world }
+        ensures fuse { self.new.fuse ≡ self.old.fuse - 1 }
+        ensures tally { self.new.tally ≡ self.old.tally }
+    {
+        let burns = self.fuse == 1;
+        self.fuse = self.fuse.saturating_sub(1);
+        if burns {
+            return Err(StartFault::CannotStart);
+        }
+        let fate = fate(self.deaths.as_slice(), &command.out);
+        if fate == Some(StartFault::CannotStart) {
+            drop_death(&mut self.deaths, &command.out);
+            return Err(StartFault::CannotStart);
+        }
+        let ticket = self.fly(alloc, command, fate)?;
+        drop_death(&mut self.deaths, &command.out);
+        Ok(ticket)
+    }
+
+    /// What the end of a child leaves, as its fate will have it: the files of one that answers.
+    fn land(
+        &mut self,
+        alloc: Global,
+        fate: Option<StartFault>,
+        child: &ChildInFlight,
+    ) -> Result<(), StartFault>
+        ensures ok { OnOk result ((fate ≡ None) × (self.new.world ≡ landing child.now.command.out child.now.files child.now.before self.old.world)) }
+        ensures err { IfErr result (λ e. fate ≡ Some e ⊎ ((fate ≡ None) × (e ≡ StartFault.OutOfMemory))) }
+        ensures stands { IfSome fate (λ e. self.new.world ≡ self.old.world) }
+        ensures only { ChangesOnlyInSome child.now.command.out self.old.world self.new.world }
+        ensures same { record self.new { world = self.old.world } ≡ self.old }
+    {
+        match (fate, &child.command.out) {
+            (Some(fault), _) => Err(fault),
+            (None, Some(out)) => {
+                land(
+                    alloc,
+                    &mut self.files,
+                    out,
+                    &child.before,
+                    child.files.as_slice(),
+                )?;
+                Ok(())
+            }
+            (None, None) => Ok(()),
+        }
+    }
+
+    /// Ends a child, as the fuse and its fate will have it.
+    pub(super) fn end(&mut self, alloc: Global, ticket: u64) -> Result<Ended, StartFault>
+        requires flies { is_flying ticket (children_in self.old.flying) ≡ true }
+        ensures ok { IfOk result (λ ended. IfSome (child_at ticket (children_in self.old.flying)) (λ f. LandsAs f self.old.world ended self.new.world)) }
+        ensures only { IfSome (child_at ticket (children_in self.old.flying)) (λ f. ChangesOnlyInSome f.command.out self.old.world self.new.world) }
+        ensures children { children_in self.new.flying ≡ without ticket (children_in self.old.flying) }
+        ensures flying { self.new.flying ≡ other_entries ticket self.old.flying }
+        ensures most { self.new.most ≡ self.old.most }
+        ensures fuse { self.new.fuse ≡ self.old.fuse - 1 }
+        ensures fault { IfErr result (λ e. e ≢ StartFault.OutOfMemory → (e ≡ StartFault.Died) ⊎ (e ≡ StartFault.Capture)) }
+        ensures fails { IfErr result (λ e. e ≢ StartFault.OutOfMemory → may_fail self.old ≡ true) }
+        ensures burnt { self.old.fuse ≡ 1 → result ≡ Err StartFault.Died }
+        ensures fated { self.old.fuse ≢ 1 → IfSome (fate_at ticket self.old.flying) (λ e. e ≢ StartFault.CannotStart → result ≡ Err e) }
+        ensures quiet { self.old.fuse ≢ 1 → fate_at ticket self.old.flying ≡ None → IfErr result (λ e. e ≡ StartFault.OutOfMemory) }
+        ensures stands { IfErr result (λ e. e ≢ StartFault.OutOfMemory → self.new.world ≡ self.old.world) }
+        ensures deaths { self.new.deaths ≡ self.old.deaths }
+        ensures tally { self.new.tally ≡ self.old.tally }
+    {
+        let Some(flying) = take_child(&mut self.flying, ticket) else {
+            unreachable!();
+        };
+        let fate = fate_now(self.fuse == 1, flying.kept);
+        self.fuse = self.fuse.saturating_sub(1);
+        let landed = self.land(alloc, fate, &flying.child);
+        ended_by(landed, flying.child)
+    }
+}
