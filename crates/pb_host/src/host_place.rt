@@ -134,7 +134,7 @@ fn child_in_flight(
 }
 
 /// Adds a child in flight for which there is room, and gives the most that ever were.
-#[tactic(auto, using(pb_place::proofs::InFlight::fly_laws))]
+#[tactic(auto, using(pb_memory::proofs::InFlight::fly_laws))]
 fn add_child<K: Drop>(flying: &mut Vec<Flying<K>>, most: u64, one: Flying<K>) -> u64
     requires room { vec_len flying.old < vec_capacity flying.old }
     ensures children { children_in flying.new.items ≡ children_in flying.old.items ++ one.child ∷ [] }
@@ -155,7 +155,7 @@ fn fault_of(fault: ViewFault, own: PlaceFault) -> PlaceFault
     }
 }
 
-#[tactic(auto, using(pb_place::proofs::InFlight::tally_laws))]
+#[tactic(auto, using(pb_memory::proofs::InFlight::tally_laws))]
 impl<'a, R: Files + Env + Processes + AllocGlobal> Place for HostPlace<'a, R> {
     ghost use Rattle.std.specs.Prelude.{false};
     ghost use Rattle.pb_memory.specs.InFlight.{children_in};

@@ -38,11 +38,11 @@ Ends e calls old new = Looks {T = ℕ} (Err e) calls old new
 
 -- a fault of no call, after all of them
 pub looks_all : (e : LoadFault) (calls : List Call) (old new : Counts) → is_failure e ≡ false → new ≡ past_calls calls old → Ends e calls old new
-looks_all e paths old new here are = (λ inside. are, (λ _. subst (λ c. MakesSome calls old c) (sym are) (some_all calls old)), λ failed. absurd (false≢true (sym here ∙ failed)))
+looks_all e calls old new here are = (λ inside. are, (λ _. subst (λ c. MakesSome calls old c) (sym are) (some_all calls old)), λ failed. absurd (false≢true (sym here ∙ failed)))
 
 -- want of memory, before the first of them
 pub looks_none : (e : LoadFault) (calls : List Call) (old new : Counts) → is_outside e ≡ true → is_failure e ≡ false → new ≡ old → Ends e calls old new
-looks_none e paths old new outside here same = (λ inside. absurd (false≢true (sym inside ∙ outside)), (λ _. subst (λ c. MakesSome calls old c) (sym same) (some_none calls old)), λ failed. absurd (false≢true (sym here ∙ failed)))
+looks_none e calls old new outside here same = (λ inside. absurd (false≢true (sym inside ∙ outside)), (λ _. subst (λ c. MakesSome calls old c) (sym same) (some_none calls old)), λ failed. absurd (false≢true (sym here ∙ failed)))
 
 -- a second step that makes some calls, after a first that made others
 pub looks_both : {T : Type 0} (result : Result T LoadFault) (a b : List Call) (old mid new : Counts) → mid ≡ past_calls a old → Looks result b mid new → Looks result (a ++ b) old new
