@@ -423,6 +423,7 @@ pub fn missing_libraries<P: Place>(
     ensures refused { IsTrue P.tells → IfErr result (IsToldRefusal options.now (environment_of options.now (P.world place.old).variables).target (P.world place.old)) }
     ensures takes { Takes NoStart MayPlan result (P.counts place.old) (P.counts place.new) }
     ensures named { NamesCall result (P.counts place.new) }
+    ensures calls { IsTrue P.tells → PlansInTurn result (plan_called options.now (P.world place.old)) (P.counts place.old) (P.counts place.new) }
 {
     match plan_build(alloc, place, options) {
         Ok(plan) => Ok(without_library(plan)),

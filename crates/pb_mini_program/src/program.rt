@@ -79,7 +79,7 @@ pub fn carry_out<V: View, P: Place, O: Out, E: Out>(
     ensures stdout { IsTrue V.tells → OnOk result (Appends (O.taken out.old) (O.taken out.new) (answered words.now [] (V.shown view.now)).stdout) }
     ensures stderr { IsTrue V.tells → OnOk result (Appends (E.taken err.old) (E.taken err.new) (answered words.now [] (V.shown view.now)).stderr) }
     ensures files { IsTrue V.tells → IsTrue P.tells → OnOk result (P.world place.new ≡ put_reply (out_folder words.now (V.shown view.now)) (answered words.now [] (V.shown view.now)).files (P.world place.old)) }
-    ensures whole { OnOk result ((reply : Reply) × IsReply V.tells words.now (V.shown view.now) reply × WritesAll V.tells P.tells words.now (V.shown view.now) reply
+    ensures whole { IfOk result (λ status. (reply : Reply) × IsReply V.tells words.now (V.shown view.now) reply × (status ≡ reply.status) × WritesAll V.tells P.tells words.now (V.shown view.now) reply
         (outside (P.world place.old) (P.counts place.old) (O.taken out.old) (O.faults out.old) (E.taken err.old) (E.faults err.old))
         (outside (P.world place.new) (P.counts place.new) (O.taken out.new) (O.faults out.new) (E.taken err.new) (E.faults err.new))) }
     ensures read { IfErr result (λ e. e ≡ Fault.Read → V.fails view.now × (place.new ≡ place.old) × (out.new ≡ out.old) × (err.new ≡ err.old)) }

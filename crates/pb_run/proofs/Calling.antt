@@ -1,9 +1,10 @@
 -- Calls of a unit in turn, with the faults that a build tells of them.
-use Rattle.std.proofs.Common.{◌≡◌, ◌≢◌, ◌∙◌, ◌++◌, ◌⊎◌, inl, inr, ℕ, true, false, cond, is_some, List, [], ◌∷◌, Result, Ok, Err, sym, ap, subst}
+use Rattle.std.proofs.Common.{◌≡◌, ◌≢◌, ◌∙◌, ◌++◌, ◌⊎◌, inl, inr, ℕ, Bool, true, false, cond, is_some, List, [], ◌∷◌, Option, Result, Ok, Err, sym, ap, subst, append_assoc}
+use Rattle.std.proofs.lemmas.Bool.{false≢true}
 use Rattle.pb_answer.specs.declared.fault.BuildFault.{BuildFault}
 use Rattle.pb_answer.specs.declared.fault.BuildFault.TheVariants.{Plan, Toolchain, Child, Device, Sink, OutOfMemory}
 use Rattle.pb_answer.specs.declared.fault.DeviceFault.TheVariants.{Place, NumbersSpent}
-use Rattle.pb_place.specs.CallsInTurn.{Call, FailsAt, MakesSome, past_calls}
+use Rattle.pb_place.specs.CallsInTurn.{Call, FailsAt, MakesSome, past_calls, read_call, write_call}
 use Rattle.pb_place.specs.Counts.{Counts, past_call, past_place_fault}
 use Rattle.pb_place.specs.declared.place.PlaceFault.{PlaceFault}
 use Rattle.pb_place.specs.declared.place.PlaceFault.TheVariants as place
@@ -16,8 +17,9 @@ use Rattle.pb_command.specs.Judge.{file_at}
 use Rattle.pb_project.specs.Targets.{dep_info_of}
 use Rattle.pb_project.specs.declared.project.Project.{Project}
 use Rattle.pb_record.specs.declared.record.InputName.{InputName}
-use Rattle.pb_run.specs.Causes.{MakesInTurn, StopsAt, device_fault, store_fault}
+use Rattle.pb_run.specs.Causes.{MakesInTurn, NumberingStopsAt, NumbersInTurn, StopsAt, StopsBeforeWrite, device_fault, is_of_look, store_fault}
 use Rattle.pb_run.specs.Landing.{answered_called, dep_info_looked, judged_called, recorded_called}
+use Rattle.pb_run.specs.Launching.{DropEnds, LaunchEnds, RemovalEnds, SpawnEnds}
 use Rattle.pb_run.specs.Outcome.{judgement_by}
 use Rattle.pb_run.specs.Standing.{records_folder}
 use Rattle.pb_run.specs.declared.begun.Awaited.{Awaited}
@@ -25,7 +27,9 @@ use Rattle.pb_run.specs.declared.begun.Awaited.TheVariants as awaited
 use Rattle.pb_run.specs.declared.begun.Launched.{Launched}
 use Rattle.pb_run.specs.declared.ran.Judgement.{Judgement}
 use Rattle.pb_run.specs.declared.ran.Ran.{Ran}
-use Rattle.pb_soundness.specs.Records.{Reading, record_at}
+use Rattle.pb_record.specs.declared.record.Record.{Record}
+use Rattle.pb_soundness.specs.Records.{Reading, place_of, record_at}
+use Rattle.pb_store.specs.Migrating.{lacks_number}
 use Rattle.pb_store.specs.Looking as looking
 use Rattle.pb_store.specs.Looking.{kept_called, migrated_called}
 use Rattle.pb_store.specs.declared.replaying.Replayed.{Replayed}
@@ -39,7 +43,7 @@ stops_first (Plan refusal) a b old new is = is
 stops_first Toolchain a b old new is = is
 stops_first (Child unit fault) a b old new is = is
 stops_first (Device unit (Place fault)) a b old new is = fails_left fault a b old new is
-stops_first (Device unit NumbersSpent) a b old new is = some_left a b old new is
+stops_first (Device unit NumbersSpent) a b old new is = is
 stops_first Sink a b old new is = is
 stops_first OutOfMemory a b old new is = some_left a b old new is
 
@@ -49,7 +53,7 @@ stops_then (Plan refusal) a b old mid new first is = is
 stops_then Toolchain a b old mid new first is = is
 stops_then (Child unit fault) a b old mid new first is = is
 stops_then (Device unit (Place fault)) a b old mid new first is = fails_right fault a b old mid new first is
-stops_then (Device unit NumbersSpent) a b old mid new first is = some_right a b old mid new first is
+stops_then (Device unit NumbersSpent) a b old mid new first is = is
 stops_then Sink a b old mid new first is = is
 stops_then OutOfMemory a b old mid new first is = some_right a b old mid new first is
 
@@ -91,18 +95,47 @@ stored_stops unit store.OutOfMemory names old new is = is
 pub store_stops : (unit : List ℕ) (e : StoreFault) (told : BuildFault) (names : List Call) (old new : Counts) → told ≡ store_fault unit e → looking.StopsAt e names old new → StopsAt told names old new
 store_stops unit e told names old new is stops = subst (λ f. StopsAt f names old new) (sym is) (stored_stops unit e names old new stops)
 
--- one that gives a record a number may find none left, behind the reading of the record
-spent_some : (name : Call) (more : List Call) (old new : Counts) → new ≡ past_calls (name ∷ []) old → MakesSome (name ∷ more) old new
-spent_some name more old new is = inr (subst (λ c. MakesSome more (past_call old) c) (sym is) (some_none more (past_call old)))
+-- Of a step that may give a record a number: where a call stops it, as any other.
+numbering_so : (e : BuildFault) (calls : List Call) (old new : Counts) → StopsAt e calls old new → NumberingStopsAt e calls old new
+numbering_so (Plan refusal) calls old new is = is
+numbering_so Toolchain calls old new is = is
+numbering_so (Child unit fault) calls old new is = is
+numbering_so (Device unit (Place fault)) calls old new is = is
+numbering_so (Device unit NumbersSpent) calls old new is = absurd is
+numbering_so Sink calls old new is = is
+numbering_so OutOfMemory calls old new is = is
 
+pub numbering_first : (e : BuildFault) (a b : List Call) (old new : Counts) → StopsAt e a old new → NumberingStopsAt e (a ++ b) old new
+numbering_first e a b old new is = numbering_so e (a ++ b) old new (stops_first e a b old new is)
+
+numbering_then : (e : BuildFault) (a b : List Call) (old mid new : Counts) → mid ≡ past_calls a old → NumberingStopsAt e b mid new → NumberingStopsAt e (a ++ b) old new
+numbering_then (Plan refusal) a b old mid new first is = is
+numbering_then Toolchain a b old mid new first is = is
+numbering_then (Child unit fault) a b old mid new first is = is
+numbering_then (Device unit (Place fault)) a b old mid new first is = fails_right fault a b old mid new first is
+numbering_then (Device unit NumbersSpent) a b old mid new first (before, path, is, made) =
+    (a ++ before, path, ap (λ (calls : List Call). a ++ calls) is ∙ sym (append_assoc a before (write_call path ∷ [])), made_both a before old mid new first made)
+numbering_then Sink a b old mid new first is = is
+numbering_then OutOfMemory a b old mid new first is = some_right a b old mid new first is
+
+pub numbers_so : {T : Type 0} (result : Result T BuildFault) (calls : List Call) (old new : Counts) → MakesInTurn result calls old new → NumbersInTurn result calls old new
+numbers_so (Ok x) calls old new makes = makes
+numbers_so (Err e) calls old new makes = numbering_so e calls old new makes
+
+-- it may find no number left, behind the reading of the record, which is one without a number
 no_spent : {T : Type 0} (r : Result T StoreFault) (e : StoreFault) → r ≡ Err e → r ≡ Err store.NumbersSpent → e ≡ store.NumbersSpent
 no_spent r e is spent = cc
 
-pub migrate_stops : {T : Type 0} (r : Result T StoreFault) (unit : List ℕ) (e : StoreFault) (told : BuildFault) (name : Call) (more : List Call) (old new : Counts) → r ≡ Err e → told ≡ store_fault unit e
-    → ((r ≡ Err store.NumbersSpent) × (new ≡ past_calls (name ∷ []) old)) ⊎ looking.StopsAt e (name ∷ more) old new → StopsAt told (name ∷ more) old new
-migrate_stops r unit e told name more old new so is (inl spent) =
-    subst (λ f. StopsAt f (name ∷ more) old new) (sym (is ∙ ap (store_fault unit) (no_spent r e so spent.0))) (spent_some name more old new spent.1)
-migrate_stops r unit e told name more old new so is (inr stops) = store_stops unit e told (name ∷ more) old new is stops
+spent_there : (path : List ℕ) (lacks : Bool) (old new : Counts) → lacks ≡ true → new ≡ past_calls (read_call path ∷ []) old → StopsBeforeWrite (read_call path ∷ cond lacks (write_call path ∷ []) []) old new
+spent_there path lacks old new is made = (read_call path ∷ [], path, ap (λ b. read_call path ∷ cond b (write_call path ∷ []) []) is, made)
+
+pub migrate_stops : {T : Type 0} (r : Result T StoreFault) (unit : List ℕ) (e : StoreFault) (told : BuildFault) (folder key : List ℕ) (found : Option Record) (old new : Counts) → r ≡ Err e → told ≡ store_fault unit e
+    → (r ≡ Err store.NumbersSpent → lacks_number found ≡ true)
+    → ((r ≡ Err store.NumbersSpent) × (new ≡ past_calls (read_call (place_of folder key) ∷ []) old)) ⊎ looking.StopsAt e (migrated_called folder key found) old new → NumberingStopsAt told (migrated_called folder key found) old new
+migrate_stops r unit e told folder key found old new so is lacks (inl (spent, made)) =
+    subst (λ f. NumberingStopsAt f (migrated_called folder key found) old new) (sym (is ∙ ap (store_fault unit) (no_spent r e so spent))) (spent_there (place_of folder key) (lacks_number found) old new (lacks spent) made)
+migrate_stops r unit e told folder key found old new so is lacks (inr stops) =
+    numbering_so told (migrated_called folder key found) old new (store_stops unit e told (migrated_called folder key found) old new is stops)
 
 pub ruleset call_laws = (call_stops, memory_first, memory_last)
 
@@ -118,17 +151,17 @@ abbrev pub ended_badly : BuildFault → Result Ran BuildFault
 ended_badly fault = Err fault
 
 -- Two steps in turn.
-pub made_then : {T : Type 0} (result : Result T BuildFault) (a b : List Call) (old mid new : Counts) → mid ≡ past_calls a old → MakesInTurn result b mid new → MakesInTurn result (a ++ b) old new
-made_then (Ok x) a b old mid new first second = made_both a b old mid new first second
-made_then (Err e) a b old mid new first second = stops_then e a b old mid new first second
+numbers_then : {T : Type 0} (result : Result T BuildFault) (a b : List Call) (old mid new : Counts) → mid ≡ past_calls a old → NumbersInTurn result b mid new → NumbersInTurn result (a ++ b) old new
+numbers_then (Ok x) a b old mid new first second = made_both a b old mid new first second
+numbers_then (Err e) a b old mid new first second = numbering_then e a b old mid new first second
 
 -- What comes behind the dep-info, by the judgement of the answer.
 module _ (read : Reading) (project : Project) (u : Planned) (c : Command) (by : Awaited) (w : World) (ended : Ended) (j : Judgement)
     (judged : j ≡ judgement_by project u ended (answered_of project u c ended (file_at (dep_info_of project u) w.files))) (old mid : Counts) (first : mid ≡ past_calls (dep_info_looked (dep_info_of project u)) old) where
-  told_of : {T : Type 0} (result : Result T BuildFault) (new : Counts) → MakesInTurn result (judged_called read project u c w by j) mid new → MakesInTurn result (answered_called read project u c w by ended) old new
+  told_of : {T : Type 0} (result : Result T BuildFault) (new : Counts) → NumbersInTurn result (judged_called read project u c w by j) mid new → NumbersInTurn result (answered_called read project u c w by ended) old new
   told_of result new makes =
-      subst (λ (x : Judgement). MakesInTurn result (dep_info_looked (dep_info_of project u) ++ judged_called read project u c w by x) old new) judged
-      (made_then result (dep_info_looked (dep_info_of project u)) (judged_called read project u c w by j) old mid new first makes)
+      subst (λ (x : Judgement). NumbersInTurn result (dep_info_looked (dep_info_of project u) ++ judged_called read project u c w by x) old new) judged
+      (numbers_then result (dep_info_looked (dep_info_of project u)) (judged_called read project u c w by j) old mid new first makes)
 
   -- the unit is bad
   pub bad_made : is_some j.ran.bad ≡ true → mid ≡ past_calls (answered_called read project u c w by ended) old
@@ -137,10 +170,10 @@ module _ (read : Reading) (project : Project) (u : Planned) (c : Command) (by : 
       (made_both (dep_info_looked (dep_info_of project u)) (judged_called read project u c w by j) old mid mid first (ap (λ b. past_calls (cond b [] (recorded_called read project u c w j.names by)) mid) (sym bad)))
 
   -- it is good, and just these calls were made then
-  pub good_made : {T : Type 0} (result : Result T BuildFault) (names : List Call) (new : Counts) → is_some j.ran.bad ≡ false → names ≡ recorded_called read project u c w j.names by → MakesInTurn result names mid new
-      → MakesInTurn result (answered_called read project u c w by ended) old new
+  pub good_made : {T : Type 0} (result : Result T BuildFault) (names : List Call) (new : Counts) → is_some j.ran.bad ≡ false → names ≡ recorded_called read project u c w j.names by → NumbersInTurn result names mid new
+      → NumbersInTurn result (answered_called read project u c w by ended) old new
   good_made result names new good are makes =
-      told_of result new (subst (λ b. MakesInTurn result (cond b [] (recorded_called read project u c w j.names by)) mid new) (sym good) (subst (λ (ns : List Call). MakesInTurn result ns mid new) are makes))
+      told_of result new (subst (λ b. NumbersInTurn result (cond b [] (recorded_called read project u c w j.names by)) mid new) (sym good) (subst (λ (ns : List Call). NumbersInTurn result ns mid new) are makes))
 
 -- the record is kept; it has a number; it is given one
 pub kept_so : (read : Reading) (project : Project) (u : Planned) (c : Command) (l : Launched) (folder : List ℕ) (v w : World) (names known : List InputName) → folder ≡ records_folder project → v ≡ w → names ≡ known
@@ -159,3 +192,35 @@ renewed_names read project u c again folder v w known is same lacks =
     ap (λ (f : List ℕ). migrated_called f u.key (record_at read f v.files u.key)) is
     ∙ ap (λ (x : World). migrated_called (records_folder project) u.key (record_at read (records_folder project) x.files u.key)) same
     ∙ ap (λ b. cond b [] (migrated_called (records_folder project) u.key (record_at read (records_folder project) w.files u.key))) (sym lacks)
+
+-- what ends a launch is no call of a look
+removal_no_look : (path : List ℕ) (e : BuildFault) (old new : Counts) → RemovalEnds path e old new → is_of_look e ≡ true → ⊥
+removal_no_look path (Plan refusal) old new ends look = ends
+removal_no_look path Toolchain old new ends look = ends
+removal_no_look path (Child unit fault) old new ends look = ends
+removal_no_look path (Device unit (Place fault)) old new ends look = false≢true (ap (λ (f : PlaceFault). is_of_look (Device unit (Place f))) (sym ends.0) ∙ look)
+removal_no_look path (Device unit NumbersSpent) old new ends look = ends
+removal_no_look path Sink old new ends look = ends
+removal_no_look path OutOfMemory old new ends look = false≢true look
+
+drop_no_look : (path : List ℕ) (e : BuildFault) (old new : Counts) → DropEnds path e old new → is_of_look e ≡ true → ⊥
+drop_no_look path (Plan refusal) old new ends look = ends
+drop_no_look path Toolchain old new ends look = ends
+drop_no_look path (Child unit fault) old new ends look = ends
+drop_no_look path (Device unit (Place fault)) old new ends look = removal_no_look path (Device unit (Place fault)) old new ends look
+drop_no_look path (Device unit NumbersSpent) old new ends look = false≢true look
+drop_no_look path Sink old new ends look = ends
+drop_no_look path OutOfMemory old new ends look = false≢true look
+
+spawn_no_look : (e : BuildFault) (old new : Counts) → SpawnEnds e old new → is_of_look e ≡ true → ⊥
+spawn_no_look (Plan refusal) old new ends look = ends
+spawn_no_look Toolchain old new ends look = ends
+spawn_no_look (Child unit fault) old new ends look = false≢true look
+spawn_no_look (Device unit fault) old new ends look = ends
+spawn_no_look Sink old new ends look = ends
+spawn_no_look OutOfMemory old new ends look = false≢true look
+
+pub launch_no_look : (path folder : List ℕ) (e : BuildFault) (old new : Counts) → LaunchEnds path folder e old new → is_of_look e ≡ true → ⊥
+launch_no_look path folder e old new (inl dropped) look = drop_no_look path e old new dropped look
+launch_no_look path folder e old new (inr (inl emptied)) look = removal_no_look folder e (past_call old) new emptied look
+launch_no_look path folder e old new (inr (inr spawned)) look = spawn_no_look e (past_call (past_call old)) new spawned look

@@ -1,6 +1,6 @@
 -- Why a step of a build ends with a fault: which call failed, with which fault, after how many starts.
 use Rattle.std.specs.Prelude.{◌≡◌, ◌≢◌, ◌⊎◌, ◌++◌, ◌∷◌, [], ℕ, Bool, true, false, IsSome, List, Option, Some, None, IfErr, Result, MatchResult}
-use Rattle.pb_place.specs.CallsInTurn.{Call, FailsAt, MakesSome, past_calls}
+use Rattle.pb_place.specs.CallsInTurn.{Call, FailsAt, MakesSome, past_calls, write_call}
 use Rattle.pb_place.specs.Children.{is_flying}
 use Rattle.pb_place.specs.Counts.{Counts, Starts, up, up_starts, without, counted_finish}
 use Rattle.pb_place.specs.declared.child_in_flight.ChildInFlight.{ChildInFlight}
@@ -65,6 +65,13 @@ is_of_start (Child unit fault) = true
 is_of_start (Device unit NumbersSpent) = true
 is_of_start (Device unit (Place place.Remove)) = true
 is_of_start fault = false
+
+-- a file or a variable could not be read, or a folder not be listed
+abbrev pub is_of_look : BuildFault → Bool
+is_of_look (Device unit (Place place.Read)) = true
+is_of_look (Device unit (Place place.List)) = true
+is_of_look (Device unit (Place place.Variable)) = true
+is_of_look fault = false
 
 -- no run number is left
 abbrev pub is_spent : BuildFault → Bool
@@ -195,13 +202,24 @@ MayRunUnit next key OutOfMemory old new = (new ≡ old) ⊎ (new ≡ up_starts o
 
 -- Calls on files and variables in turn.
 
--- one of these calls failed, with the fault that is told: those before it went well, and it was the last; where memory was refused, or no run number is left, the first few of them were made; no other fault is told
+-- one of these calls failed, with the fault that is told: those before it went well, and it was the last; where memory was refused, the first few of them were made; no other fault is told
 abbrev pub StopsAt : BuildFault → List Call → Counts → Counts → Type 0
-StopsAt (Device unit (Place fault)) names old new = FailsAt fault names old new
-StopsAt (Device unit NumbersSpent) names old new = MakesSome names old new
-StopsAt OutOfMemory names old new = MakesSome names old new
-StopsAt e names old new = ⊥
+StopsAt (Device unit (Place fault)) calls old new = FailsAt fault calls old new
+StopsAt OutOfMemory calls old new = MakesSome calls old new
+StopsAt e calls old new = ⊥
 
--- where a step ended well, just these calls were made, in this order; else it stopped at one of them
+-- where a step ended well, just these calls were made; else it stopped at one of them. Since each may fail, with the fault of its kind and at its turn, they are told in their order
 abbrev pub MakesInTurn : {T : Type 0} → Result T BuildFault → List Call → Counts → Counts → Type 0
-MakesInTurn result names old new = MatchResult result (λ x. new ≡ past_calls names old) (λ e. StopsAt e names old new)
+MakesInTurn result calls old new = MatchResult result (λ x. new ≡ past_calls calls old) (λ e. StopsAt e calls old new)
+
+-- these calls were made but the last of them, which writes a file
+abbrev pub StopsBeforeWrite : List Call → Counts → Counts → Type 0
+StopsBeforeWrite calls old new = (before : List Call) × (path : List ℕ) × (calls ≡ before ++ write_call path ∷ []) × (new ≡ past_calls before old)
+
+-- of a step that may give a record a run number likewise; where none is left, it stopped before the record was written again
+abbrev pub NumberingStopsAt : BuildFault → List Call → Counts → Counts → Type 0
+NumberingStopsAt (Device unit NumbersSpent) calls old new = StopsBeforeWrite calls old new
+NumberingStopsAt e calls old new = StopsAt e calls old new
+
+abbrev pub NumbersInTurn : {T : Type 0} → Result T BuildFault → List Call → Counts → Counts → Type 0
+NumbersInTurn result calls old new = MatchResult result (λ x. new ≡ past_calls calls old) (λ e. NumberingStopsAt e calls old new)

@@ -13,7 +13,7 @@ use Rattle.pb_place.specs.declared.place.StartFault.{StartFault}
 use Rattle.pb_project.specs.Targets.{dep_info_of}
 use Rattle.pb_project.specs.declared.project.Project.{Project}
 use Rattle.pb_record.specs.declared.record.InputName.{InputName}
-use Rattle.pb_run.specs.Causes.{MakesInTurn}
+use Rattle.pb_run.specs.Causes.{NumbersInTurn}
 use Rattle.pb_run.specs.Outcome.{judgement_by}
 use Rattle.pb_run.specs.Standing.{records_folder}
 use Rattle.pb_run.specs.declared.begun.Awaited.{Awaited}
@@ -59,5 +59,5 @@ answered_called read project u c w by ended =
 
 -- behind the answer of a child just these calls were made, in this order; where it gave none, no call
 abbrev pub CallsBehind : {T : Type 0} → (Ended → List Call) → Result Ended StartFault → Result T BuildFault → Counts → Counts → Type 0
-CallsBehind names (Ok ended) result old new = MakesInTurn result (names ended) old new
-CallsBehind names (Err fault) result old new = new ≡ old
+CallsBehind calls (Ok ended) result old new = NumbersInTurn result (calls ended) old new
+CallsBehind calls (Err fault) result old new = new ≡ old

@@ -38,8 +38,8 @@ use Rattle.pb_turns.specs.Crew.{needs_of, launched_of, ticket_of_child}
 use Rattle.pb_turns.specs.Ends.{rows_in, nothing_said, Stands, StandsWhole, StandsCut, EndsWhole, EndsCut, Grounding, Dropped, Drained}
 use Rattle.pb_turns.specs.Laws.{SaysFirstRows}
 use Rattle.pb_turns.specs.Moments.{Moment, Heard}
-use Rattle.pb_turns.specs.Rows.{summary_of, started_keys, is_started, messages_in, bad_of, directives_told, Reasons, key_told, said_told, bad_told, differences_of, kept_of}
-use Rattle.pb_turns.specs.Story.{states_in, untouched, Stops, Changes, Happened, AllBeganFor, CameAfter, LacksNoNumber, NamesUnit, NumbersGiven, StartedFor, HasNoRecord, KeepsNoneOfBad, KeepsNoneInFlight, HasGiven, Story, StoryEnds, OnlyOf}
+use Rattle.pb_turns.specs.Rows.{summary_of, started_keys, is_started, messages_in, bad_of, directives_told, Reasons, key_told, said_told, bad_told, differences_of, kept_of, is_success}
+use Rattle.pb_turns.specs.Story.{states_in, untouched, Stops, Changes, Happened, AllBeganFor, CameAfter, LacksNoNumber, NamesUnit, NumbersGiven, StartedFor, HasNoRecord, KeepsNoneOfBad, KeepsNoneInFlight, HasGiven, Story, StoryEnds, OnlyOf, NotesStarted}
 use Rattle.pb_turns.specs.Summing.{summary_by, noted_of, count_told, keys_at, differences_at}
 use Rattle.pb_turns.specs.declared.crew.Aloft.{Aloft}
 use Rattle.pb_turns.specs.declared.crew.UnitCrew.{UnitCrew}
@@ -115,6 +115,7 @@ story_first tells child c at still aloft started holds = record {
   quiet = λ t f r s reading keeps none numbered. refl;
   calls = λ t f r s reading keeps. (refl, refl);
   unnoted = λ place at. refl;
+  noted = λ place s at ne. absurd (ne (untouched_at (needs_of c.project) place s at));
 }
 
 -- What stands.
@@ -303,6 +304,8 @@ module _ {S : Type 0} (tells : Bool) (child : Answers) (Turns : S → List ℕ �
       es = es;
       flies = flown.flies;
       finished = ap is_finished (sym flown.states_are) ∙ finished;
+      success = ap (λ (s : Summary). s.success) now_is ∙ success_of (bad_told c.project.plan.planned (states_in c.project es) (first_bad (states_in c.project es)))
+          ∙ ap (λ (p : Project). is_success (bad_told p.plan.planned (states_in p es) (first_bad (states_in p es)))) story.project;
       good = λ success. subst (λ (p : Project). (place : ℕ) (u : Planned) → unit_at p place ≡ Some u → is_good_at (slice_get (states_in p es) place) ≡ true) story.project
           (all_good_at c.project es c.project.plan.planned (states_in c.project es) (length_states (needs_of c.project) es ∙ length-map c.project.plan.planned (λ (u : Planned). u.needs))
           (ap is_finished (sym states_are) ∙ finished) (sym (ap (λ (s : Summary). s.success) now_is) ∙ success));
@@ -316,6 +319,7 @@ module _ {S : Type 0} (tells : Bool) (child : Answers) (Turns : S → List ℕ �
           let less : place < length first.project.plan.planned = subst (λ (n : ℕ). place < n) (length_states (needs_of first.project) es ∙ length-map first.project.plan.planned (λ (u : Planned). u.needs)) (slice_get_within (states_in first.project es) place Untouched at_place) in
           ap (λ (items : Reasons). slice_get items place) (ap (λ (x : UnitCrew). x.reasons.items) same)
           ∙ (story.unnoted place (ap (λ (p : Project). slice_get (states_in p es) place) story.project ∙ at_place) ∙ (ap (λ (items : Reasons). slice_get items place) empty ∙ none_noted first.project.plan.planned place less));
+      noted = subst (λ (p : Project). NotesStarted p es d.reasons.items) story.project (subst (NotesStarted c.project es) (sym (ap (λ (x : UnitCrew). x.reasons.items) same)) story.noted);
       lines = lines_are;
       faults = ap (λ (x : Heard). x.faults) heard ∙ story.goes.faults;
       mid = mid.counts;

@@ -25,11 +25,11 @@ use Rattle.pb_soundness.specs.Records.{Reading}
 use Rattle.pb_turns.specs.Calling.{CallsCut, CallsOver}
 use Rattle.pb_turns.specs.Crew.{needs_of, ticket_of_child}
 use Rattle.pb_turns.specs.Moments.{Moment}
-use Rattle.pb_turns.specs.Rows.{Reasons, Row, rows_of, said_from, started_keys, key_told, said_told, bad_told, differences_of, kept_of, summary_of}
-use Rattle.pb_turns.specs.Story.{states_in, untouched, upped, Stops, Spends, IsUntold, LacksNoNumber, OnlyOf, AllBeganFor, StartedFor, HasGiven, CameAfter, NamesUnit, NumbersGiven, KeepsNoneOfBad, KeepsNoneInFlight}
+use Rattle.pb_turns.specs.Rows.{Reasons, Row, rows_of, said_from, started_keys, is_success, key_told, said_told, bad_told, differences_of, kept_of, summary_of}
+use Rattle.pb_turns.specs.Story.{states_in, untouched, upped, Stops, Spends, IsUntold, LacksNoNumber, OnlyOf, AllBeganFor, StartedFor, HasGiven, CameAfter, NamesUnit, NumbersGiven, KeepsNoneOfBad, KeepsNoneInFlight, NotesStarted}
 use Rattle.pb_unit.specs.declared.plan.Planned.{Planned}
 
--- the children of these tickets were asked for their ends, in this order, their answers were dropped, and nothing else was called
+-- the children of these tickets were asked for their ends, each once, their answers were dropped, and nothing else was called; in which order no counter tells where each answers
 abbrev pub Dropped : List ℕ → Counts → Counts → Type 0
 Dropped [] old new = new ≡ old
 Dropped (ticket ∷ tickets) old new = (result : Result Ended StartFault) × IfErr result (λ e. e ≢ start.OutOfMemory → (e ≡ start.Died) ⊎ (e ≡ start.Capture)) × Dropped tickets (counted_finish ticket result old) new
@@ -76,11 +76,12 @@ pub record StandsCut (b : Basis) (fault : BuildFault) (next : Option ℕ) (es be
   pub started : StartedFor b fault before es old new
   pub spent : Spends (LacksNoNumber b old) fault next es
 
--- the units came to their end; where it is a success each of them has answered and is good; the bad unit that is told is the first by the answers; nothing is noted of a unit that has not begun; and no record is kept of a unit whose answer was dropped
+-- the units came to their end; it is a success exactly where no bad unit is told, and then each of them has answered and is good; the bad unit that is told is the first by the answers; nothing is noted of a unit that has not begun, and of each that has what differed first, which is something exactly where a child was started for it; and no record is kept of a unit whose answer was dropped
 pub record EndsWhole {S : Type 0} (tells : Bool) (child : Answers) (Turns : S → List ℕ → List ℕ → Step → S → Type 0) (setup : Setup) (project : Project) (next : Option ℕ) (from last : S) (summary : Summary) (old new : Moment) : Type 0 where
   pub es : List (Event BadUnit)
   pub flies : Flies Turns (needs_of project) Anyhow Anything from es last
   pub finished : is_finished (states_in project es) ≡ true
+  pub success : summary.success ≡ is_success (bad_told project.plan.planned (states_in project es) (first_bad (states_in project es)))
   pub good : summary.success ≡ true → (place : ℕ) (u : Planned) → unit_at project place ≡ Some u → is_good_at (slice_get (states_in project es) place) ≡ true
   pub bad : summary.bad ≡ key_told (bad_told project.plan.planned (states_in project es) (first_bad (states_in project es)))
   pub said : summary.said ≡ said_told (bad_told project.plan.planned (states_in project es) (first_bad (states_in project es)))
@@ -89,6 +90,7 @@ pub record EndsWhole {S : Type 0} (tells : Bool) (child : Answers) (Turns : S �
   pub differences : summary.differences ≡ differences_of es reasons
   pub kept : summary.kept ≡ kept_of project.plan.planned reasons
   pub unnoted : (place : ℕ) → slice_get (states_in project es) place ≡ Some Untouched → slice_get reasons place ≡ Some None
+  pub noted : NotesStarted project es reasons
   pub lines : Appends old.heard.taken new.heard.taken (due (states_in project es))
   pub faults : new.heard.faults ≡ old.heard.faults
   pub mid : Counts

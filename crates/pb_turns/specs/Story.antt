@@ -210,6 +210,11 @@ IsQuiet b es first now = started_by es ≡ [] → ((place : ℕ) → LacksNoNumb
 abbrev pub NotesBegun : Project → List (Event BadUnit) → Reasons → Reasons → Type 0
 NotesBegun project es first now = (place : ℕ) → slice_get (states_in project es) place ≡ Some Untouched → slice_get now place ≡ slice_get first place
 
+-- of each that has begun it is noted what differed first, which is something exactly where a child was started for it
+abbrev pub NotesStarted : Project → List (Event BadUnit) → Reasons → Type 0
+NotesStarted project es now = (place : ℕ) (s : State BadUnit) → slice_get (states_in project es) place ≡ Some s → s ≢ Untouched
+    → (d : Option Difference) × (slice_get now place ≡ Some (Some d)) × (is_some d ≡ is_started es place)
+
 -- The story.
 
 -- where no unit has begun
@@ -237,6 +242,7 @@ pub record Story (tells : Bool) (child : Answers) (first : UnitCrew) (at : Momen
   pub quiet : IsTrue tells → FromFirst child first at c (λ b. IsQuiet b es at.world now.world)
   pub calls : IsTrue tells → FromFirst child first at c (λ b. CallsOver b es at.world at.counts now.world now.counts)
   pub unnoted : NotesBegun c.project es first.reasons.items c.reasons.items
+  pub noted : NotesStarted c.project es c.reasons.items
 
 -- the last event is the beginning of the unit of this key
 abbrev pub IsBeginning : Project → List ℕ → Bool → List (Event BadUnit) → List (Event BadUnit) → Type 0

@@ -9,7 +9,7 @@ use Rattle.pb_run.specs.Causes.{StopsAt}
 use Rattle.pb_run.specs.Halves.{CanBegin, basis}
 use Rattle.pb_run.specs.Launching.{LaunchEnds}
 use Rattle.pb_run.specs.Standing.{records_folder}
-use Rattle.pb_run.proofs.Calling.{memory_first}
+use Rattle.pb_run.proofs.Calling.{launch_no_look, memory_first}
 use Rattle.pb_run.proofs.Halving.{begun_none, begun_some, flies_lifted, flying_begun, keeps_launched, keeps_same, others_begun, others_same, out_asked, still_after}
 use Rattle.pb_run.proofs.Held.{held_same, held_there}
 use Rattle.pb_run.proofs.Writes.{spawned_writes}
@@ -163,3 +163,6 @@ returns-in-Ok-launch-clause-held g c read records is told holds =
     subst (λ (f : List ℕ). FirstOf f records c.in-Ok-command.command (g.P.Place.world c.args.place.now) (record_at read f (g.P.Place.world c.args.place.now).files c.args.unit.now.key) (Some c.in-Differs.difference)) c.requires.folder
     (subst (λ (compared : Compared). FirstOf c.args.store.now.folder records c.in-Ok-command.command (g.P.Place.world c.args.place.now) (record_at read c.args.store.now.folder (g.P.Place.world c.args.place.now).files c.args.unit.now.key) (difference_in compared)) c.in-Differs.is
     (c.in-Ok-compare.ensures.held read records is told holds))
+
+pub returns-in-Err-launch-clause-unnumbered : goal.returns-in-Err-launch-clause-unnumbered
+returns-in-Err-launch-clause-unnumbered g c look = absurd (launch_no_look _ _ c.in-Err-launch.fault _ _ c.in-Err-launch.ensures.calls look)

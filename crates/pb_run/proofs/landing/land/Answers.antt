@@ -14,7 +14,7 @@ use Rattle.pb_project.specs.Targets.{dep_info_of}
 use Rattle.pb_run.specs.Landing.{dep_info_looked}
 use Rattle.pb_run.specs.declared.begun.Awaited.TheVariants as awaited
 use Rattle.pb_run.proofs.Answering.{landed_gives, landed_only}
-use Rattle.pb_run.proofs.Calling.{bad_made, ended_badly, ended_well, good_made, kept_so, stops_first}
+use Rattle.pb_run.proofs.Calling.{bad_made, ended_badly, ended_well, good_made, kept_so, numbering_first, numbers_so}
 use Rattle.pb_run.proofs.Ending.{TellsAnswer, landed_more, landed_told}
 use Rattle.pb_run.proofs.Settling.{keeps_bad, keeps_landed}
 use Rattle.pb_run.proofs.Writes.{ended_anyway, ended_only, none_changed, record_alone, record_only, unkept_only}
@@ -144,7 +144,7 @@ returns-in-Err-judged_now-clause-lands g c told = (
   Ok c.in-Ok.ended,
   ended_anyway _ _ _ _ _ (g.P.Place.world c.args.place.now) (g.P.Place.world c.finish.new.place) (g.P.Place.counts c.args.place.now) (g.P.Place.counts c.finish.new.place) (λ wrong. absurd (false≢true wrong)) (c.in-Ok.ensures.ended told),
   none_changed _ (g.P.Place.world c.finish.new.place) (g.P.Place.world c.judged_now.new.place) (c.in-Err-judged_now.ensures.same told),
-  λ read reading. stops_first c.in-Err-judged_now.fault (dep_info_looked (dep_info_of c.args.project.now c.args.unit.now)) _ (g.P.Place.counts c.finish.new.place) (g.P.Place.counts c.judged_now.new.place) c.in-Err-judged_now.ensures.calls,
+  λ read reading. numbering_first c.in-Err-judged_now.fault (dep_info_looked (dep_info_of c.args.project.now c.args.unit.now)) _ (g.P.Place.counts c.finish.new.place) (g.P.Place.counts c.judged_now.new.place) c.in-Err-judged_now.ensures.calls,
 )
 
 pub returns-then-is_some-clause-lands : goal.returns-then-is_some-clause-lands
@@ -180,7 +180,7 @@ returns-clause-lands g c told = (
   λ read reading. good_made read c.args.project.now c.args.unit.now c.args.command.now (awaited.Child c.args.launched.now) (g.P.Place.world c.finish.new.place) c.in-Ok.ended c.in-Ok-judged_now.judgement (c.in-Ok-judged_now.ensures.judged told)
       (g.P.Place.counts c.finish.new.place) (g.P.Place.counts c.judged_now.new.place) c.in-Ok-judged_now.ensures.calls (ended_badly c.in-Err-keep.fault) _ (g.P.Place.counts c.keep.new.place) (sym c.is_some.ensures ∙ c.if-is_some.false)
       (kept_so read c.args.project.now c.args.unit.now c.args.command.now c.args.launched.now c.args.store.now.folder (g.P.Place.world c.judged_now.new.place) (g.P.Place.world c.finish.new.place) c.as_slice.result.now c.in-Ok-judged_now.judgement.names c.requires.folder (c.in-Ok-judged_now.ensures.same told) c.as_slice.ensures)
-      (c.in-Err-keep.ensures.calls told),
+      (numbers_so (ended_badly c.in-Err-keep.fault) _ (g.P.Place.counts c.judged_now.new.place) (g.P.Place.counts c.keep.new.place) (c.in-Err-keep.ensures.calls told)),
 )
 
 pub returns-then-is_some-clause-numbers : goal.returns-then-is_some-clause-numbers

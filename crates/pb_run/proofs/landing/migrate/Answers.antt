@@ -1,5 +1,7 @@
-use Rattle.std.proofs.Common.{◌∙◌, ℕ, List, subst, sym}
+use Rattle.std.proofs.Common.{◌∙◌, ℕ, List, Err, refl, subst, sym}
+use Rattle.pb_run.proofs.Calling.{migrate_stops}
 use Rattle.pb_run.proofs.landing.migrate.Goals as goal
+use Rattle.pb_soundness.specs.Records.{record_at}
 use Rattle.pb_store.specs.Migrating.{IsMigrated}
 
 pub returns-in-Ok-migrate-clause-sound : goal.returns-in-Ok-migrate-clause-sound
@@ -21,3 +23,8 @@ pub returns-clause-ahead : goal.returns-clause-ahead
 returns-clause-ahead g c read judge cm r is told holds may ahead =
     c.in-Err-migrate.ensures.ahead read judge cm r is told holds
     (λ number given. subst (λ (ks : List (List ℕ)). IsMigrated read judge g.P.Place.child c.args.store.now.folder c.args.unit.now.key cm ks number (g.P.Place.world c.args.place.now) r) (sym (c.as_slice.ensures ∙ c.in-Ok.ensures)) (may number given)) ahead
+
+pub returns-clause-calls : goal.returns-clause-calls
+returns-clause-calls g c read reading told =
+    migrate_stops {T = Unit {0}} (Err c.in-Err-migrate.fault) _ c.in-Err-migrate.fault _ c.args.store.now.folder c.args.unit.now.key (record_at read c.args.store.now.folder (g.P.Place.world c.args.place.now).files c.args.unit.now.key) _ _ refl c.storeless.ensures
+    (c.in-Err-migrate.ensures.cause read reading told) (c.in-Err-migrate.ensures.calls read reading told)

@@ -31,7 +31,7 @@ use Rattle.pb_turns.proofs.Numbering.{answered_taken, has_child, started_flies, 
 use Rattle.pb_turns.proofs.Quiet.{answered_quiet}
 use Rattle.pb_turns.proofs.Reaching.{there_of}
 use Rattle.pb_turns.proofs.Staying.{none_began}
-use Rattle.pb_turns.proofs.Unbegun.{notes_answered}
+use Rattle.pb_turns.proofs.Unbegun.{notes_answered, started_answered}
 use Rattle.pb_turns.proofs.Unkept.{flight_asked, flight_given}
 use Rattle.pb_turns.proofs.crew.answer_at.Goals as goal
 
@@ -215,4 +215,5 @@ returns-clause-story g c = λ first at taken faults es given unit s flying lawfu
       quiet = answered_quiet g.P.Place.tells g.P.Place.child first c.args.crew.now at now new (g.P.Place.still c.args.place.now) es given s c.args.index c.remove-unit.result c.index-units-unit.result there at_index answer c.answer_unit.ensures.same;
       calls = calls_answered g.P.Place.world g.P.Place.counts g.P.Place.tells g.P.Place.child first c.args.crew.now at now new (g.P.Place.still c.args.place.now) es given s c.args.index c.remove-unit.result at_index c.index-units-unit.result there answer c.in-Ok.ran c.in-Ok.ensures.lands;
       unnoted = notes_answered c.args.crew.now.project es first.reasons.items c.args.crew.now.reasons.items c.remove-unit.result.unit answer begun s.unnoted;
+      noted = started_answered c.args.crew.now.project es c.args.crew.now.reasons.items c.remove-unit.result.unit answer begun s.noted;
     })

@@ -19,7 +19,7 @@ use Rattle.pb_turns.proofs.Manning.{manned_same, manned_begun, begin_fault_flies
 use Rattle.pb_turns.proofs.Numbering.{begun_taken, numbers_begun}
 use Rattle.pb_turns.proofs.Quiet.{begun_quiet}
 use Rattle.pb_turns.proofs.Reaching.{there_at, there_some, within_reasons}
-use Rattle.pb_turns.proofs.Unbegun.{notes_begun}
+use Rattle.pb_turns.proofs.Unbegun.{notes_begun, started_begun}
 use Rattle.pb_turns.proofs.Unkept.{flight_begun, flight_unbegun}
 use Rattle.pb_turns.proofs.crew.begin_at.Goals as goal
 
@@ -146,4 +146,6 @@ returns-clause-story g c = λ first at taken faults es given s flying lawful is_
           now.world now.counts new.counts (child_of c.in-Ok-begin_unit.made.begun) c.in-Ok-begin_unit.ensures.launches);
       unnoted = notes_begun c.args.crew.now.project es first.reasons.items c.args.crew.now.reasons.items c.note_begun.new.reasons.items c.args.unit (is_some (child_of c.in-Ok-begin_unit.made.begun)) (Some c.in-Ok-begin_unit.made.difference) may.untouched
           c.note_begun.ensures.reasons s.unnoted;
+      noted = started_begun c.args.crew.now.project es c.args.crew.now.reasons.items c.note_begun.new.reasons.items c.args.unit (is_some (child_of c.in-Ok-begin_unit.made.begun)) c.in-Ok-begin_unit.made.difference
+          (within_reasons c.args.crew.now c.args.unit c.requires.manned.reasoned c.requires.unit) (sym c.in-Ok-begin_unit.ensures.spawned) c.note_begun.ensures.reasons s.noted;
     }

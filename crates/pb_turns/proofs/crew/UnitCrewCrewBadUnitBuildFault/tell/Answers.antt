@@ -18,6 +18,7 @@ returns-then-write_all-clause-story g c = λ first first_place first_out es give
   quiet = s.quiet;
   calls = s.calls;
   unnoted = s.unnoted;
+  noted = s.noted;
 }
 
 pub returns-else-write_all-clause-story : goal.returns-else-write_all-clause-story
