@@ -23,3 +23,4 @@ pub mod Tables
 pub mod Units
 pub mod Views
 pub mod Writes
+pub mod RunsInTurn

@@ -6,3 +6,4 @@ pub mod Unfolding
 pub mod Halves
 pub mod Launching
 pub mod Landing
+pub mod Running

@@ -21,6 +21,7 @@ ghost use Rattle.pb_run.specs.Halves.{Footing, Basis, basis, outcomes_in, Keeps,
 ghost use Rattle.pb_run.specs.Landing.{EndsBy, CallsBehind, answered_called};
 ghost use Rattle.pb_run.specs.Launching.{HasLooked, Launches, LaunchEnds};
 ghost use Rattle.pb_run.specs.Outcome.{outcome_by, directives_in};
+ghost use Rattle.pb_run.specs.Running.{RunsCalling};
 ghost use Rattle.pb_run.specs.Standing.{IsCommandOf, IsInOrder, records_folder};
 ghost use Rattle.pb_run.specs.declared.begun.Begun.{Begun};
 ghost use Rattle.pb_unit.specs.declared.plan.Planned.{Planned};
@@ -222,6 +223,8 @@ pub fn answer_unit<P: Place>(
     ensures next { TakesNumber store.old.next store.new.next }
     ensures untaken { awaits_number begun.awaited ≡ false → store.new.next ≡ store.old.next }
     ensures spends { IfErr result (λ e. is_spent e ≡ true → awaits_number begun.awaited ≡ true) }
+    ensures spent { child_of begun ≡ None → store.old.next ≡ None → IsTrue P.tells → P.world place.new ≡ P.world place.old }
+    ensures cause { (read : Reading) → IsReading read → IsTrue P.tells → IfErr result (λ e. is_spent e ≡ true → lacks_number (record_at read (records_folder project.now) (P.world place.old).files unit.now.key) ≡ true) }
     ensures written { IfErr result (λ e. is_of_write e ≡ true → (P.counts place.new).named ≡ place_of (records_folder project.now) unit.now.key) }
     ensures most { P.most place.new ≡ P.most place.old }
     ensures takes { Takes (Lands (child_of begun)) (MayAnswerUnit store.old.next unit.now.key (child_of begun)) result (P.counts place.old) (P.counts place.new) }
@@ -330,7 +333,12 @@ pub fn run_unit<P: Place>(
     ensures only { IsTrue P.tells → ChangesOnly (is_of (records_folder project.now) unit.now.key) (P.world place.old) (P.world place.new) }
     ensures folder { store.new.folder ≡ store.old.folder }
     ensures next { TakesNumber store.old.next store.new.next }
+    ensures spent { store.old.next ≡ None → IsTrue P.tells → P.world place.new ≡ P.world place.old }
+    ensures cause { (read : Reading) → IsReading read → IsTrue P.tells → HoldsNumbers (record_at read (records_folder project.now) (P.world place.old).files) store.old.numbers
+        → IfErr result (λ e. is_spent e ≡ true → ((difference : Difference) × FirstDifference read (records_folder project.now) unit.now.key (command_of setup.now project.now unit.now done.now) (P.world place.old) (Some difference))
+        ⊎ (lacks_number (record_at read (records_folder project.now) (P.world place.old).files unit.now.key) ≡ true)) }
     ensures takes { Takes Runs (MayRunUnit store.old.next unit.now.key) result (P.counts place.old) (P.counts place.new) }
+    ensures calls { (read : Reading) → IsReading read → IsTrue P.tells → RunsCalling read P.child project.now unit.now (command_of setup.now project.now unit.now done.now) result (P.world place.old) (P.counts place.old) (P.counts place.new) }
 {
     project.is_in_order();
     let made = match begin_unit(alloc, place, store, setup, project, done, index, unit) {

@@ -227,6 +227,8 @@ fn migrate<P: Place>(
     ensures most { P.most place.new ≡ P.most place.old }
     ensures still { IsTrue P.tells → KeepsStillOutside (is_at_or_below (place_of store.old.folder unit.now.key)) (P.counts place.old).starts.flying (P.still place.old) (P.still place.new) }
     ensures takes { Takes NoStart (MayAnswerUnit store.old.next unit.now.key None) result (P.counts place.old) (P.counts place.new) }
+    ensures spent { store.old.next ≡ None → IsTrue P.tells → P.world place.new ≡ P.world place.old }
+    ensures cause { (read : Reading) → IsReading read → IsTrue P.tells → IfErr result (λ e. is_spent e ≡ true → lacks_number (record_at read store.old.folder (P.world place.old).files unit.now.key) ≡ true) }
     ensures written { IfErr result (λ e. is_of_write e ≡ true → (P.counts place.new).named ≡ place_of store.old.folder unit.now.key) }
     ensures calls { (read : Reading) → IsReading read → IsTrue P.tells → NumbersInTurn result (migrated_called store.old.folder unit.now.key (record_at read store.old.folder (P.world place.old).files unit.now.key)) (P.counts place.old) (P.counts place.new) }
 {
@@ -373,6 +375,8 @@ pub(crate) fn reuse<P: Place>(
     ensures most { P.most place.new ≡ P.most place.old }
     ensures untaken { again.now.numbered ≡ true → store.new.next ≡ store.old.next }
     ensures spends { IfErr result (λ e. is_spent e ≡ true → again.now.numbered ≡ false) }
+    ensures spent { store.old.next ≡ None → IsTrue P.tells → P.world place.new ≡ P.world place.old }
+    ensures cause { (read : Reading) → IsReading read → IsTrue P.tells → IfErr result (λ e. is_spent e ≡ true → lacks_number (record_at read (records_folder project.now) (P.world place.old).files unit.now.key) ≡ true) }
     ensures takes { Takes (Lands None) (MayAnswerUnit store.old.next unit.now.key None) result (P.counts place.old) (P.counts place.new) }
     ensures lands { IsTrue P.tells → ChangesOnly (is_at_or_below (place_of (records_folder project.now) unit.now.key)) (P.world place.old) (P.world place.new) }
     ensures calls { (read : Reading) → IsReading read → IsTrue P.tells → NumbersInTurn result (answered_called read project.now unit.now command.now (P.world place.old) (awaited.Record again.now) again.now.ended) (P.counts place.old) (P.counts place.new) }

@@ -24,6 +24,7 @@ use Rattle.pb_run.specs.Causes.{StopsAt}
 use Rattle.pb_run.specs.Halves.{Footing, Basis, basis, WaitsBy, child_of, command_in, view_in}
 use Rattle.pb_run.specs.Landing.{CallsBehind, EndsBy, answered_called}
 use Rattle.pb_run.specs.Launching.{HasLooked, LaunchEnds, Launches}
+use Rattle.pb_run.specs.Running.{StopsToBegin}
 use Rattle.pb_run.specs.Standing.{IsInOrder, records_folder}
 use Rattle.pb_run.specs.declared.begun.Awaited.{Awaited}
 use Rattle.pb_run.specs.declared.begun.Awaited.TheVariants as awaited
@@ -35,7 +36,7 @@ use Rattle.pb_run.proofs.Halving.{is_command}
 use Rattle.pb_soundness.specs.Apart.{is_of}
 use Rattle.pb_soundness.specs.Records.{Reading, place_of}
 use Rattle.pb_store.specs.Looking.{looked_at}
-use Rattle.pb_turns.specs.Calling.{AnswersCalling, CallsCut, CallsOver, CallsToBegin, CountsNow, StopsToBegin}
+use Rattle.pb_turns.specs.Calling.{AnswersCalling, CallsCut, CallsOver, CallsToBegin, CountsNow}
 use Rattle.pb_turns.specs.Crew.{needs_of}
 use Rattle.pb_turns.specs.Moments.{Moment}
 use Rattle.pb_turns.specs.Rows.{is_started}
@@ -109,7 +110,7 @@ module _ (tells : Bool) (child : Answers) (first old : UnitCrew) (at now new : M
       record {
         unit = u;
         there = there;
-        stops = subst (λ c. StopsToBegin (Of f r s) u c fault now.world now.counts new.counts) (commanded (command_of old.setup old.project u done) refl t f r s reading k) (elim (stops t) [
+        stops = subst (λ c. StopsToBegin r old.project u c fault now.world now.counts new.counts) (commanded (command_of old.setup old.project u done) refl t f r s reading k) (elim (stops t) [
           | inl look ↦ inl (look r reading)
           | inr (looked, past, ends) ↦ inr (subst (λ (c : Counts). LaunchEnds (place_of (records_folder old.project) u.key) u.out fault c new.counts) (past r reading) ends)
         ]);

@@ -3,7 +3,6 @@ use Rattle.std.specs.Prelude.{◌≡◌, ◌⊎◌, ◌∷◌, [], ℕ, Bool, tr
 use Rattle.pb_answer.specs.declared.bad_unit.BadUnit.{BadUnit}
 use Rattle.pb_answer.specs.declared.fault.BuildFault.{BuildFault}
 use Rattle.pb_flight.specs.Events.{Event, Began, Gave}
-use Rattle.pb_place.specs.CallsInTurn.{past_calls}
 use Rattle.pb_place.specs.Counts.{Counts}
 use Rattle.pb_place.specs.Paths.{is_at_or_below}
 use Rattle.pb_place.specs.World.{World, ChangesOnly}
@@ -11,30 +10,25 @@ use Rattle.pb_place.specs.declared.command.Command.{Command}
 use Rattle.pb_place.specs.declared.command.Ended.{Ended}
 use Rattle.pb_place.specs.declared.place.StartFault.{StartFault}
 use Rattle.pb_project.specs.Targets.{unit_at}
-use Rattle.pb_run.specs.Causes.{StopsAt}
 use Rattle.pb_run.specs.Halves.{Basis, child_in, command_in, records_in}
 use Rattle.pb_run.specs.Landing.{CallsBehind, EndsBy, answered_called}
-use Rattle.pb_run.specs.Launching.{LaunchEnds, Launches}
+use Rattle.pb_run.specs.Launching.{Launches}
+use Rattle.pb_run.specs.Running.{StopsToBegin, past_look}
 use Rattle.pb_run.specs.Standing.{records_folder}
 use Rattle.pb_run.specs.declared.begun.Awaited.{Awaited}
 use Rattle.pb_run.specs.declared.begun.Awaited.TheVariants as awaited
 use Rattle.pb_soundness.specs.Apart.{is_of}
 use Rattle.pb_soundness.specs.Records.{place_of}
-use Rattle.pb_store.specs.Looking.{looked_at}
 use Rattle.pb_store.specs.Replaying.{IsReplayed}
 use Rattle.pb_turns.specs.Rows.{is_started}
 use Rattle.pb_unit.specs.declared.plan.Planned.{Planned}
 
 -- A unit begins.
 
--- the counters once a unit was looked at for a difference from its record
-abbrev pub past_look : Basis → Planned → Command → World → Counts → Counts
-past_look b u c w old = past_calls (looked_at b.read (records_folder b.project) u.key c w) old
-
 -- where nothing differed no other call was made, and nothing was changed; else its child was launched
 abbrev pub CallsToBegin : Basis → Planned → Command → Bool → World → Counts → World → Counts → Type 0
-CallsToBegin b u c false before old after new = (after ≡ before) × (new ≡ past_look b u c before old)
-CallsToBegin b u c true before old after new = (ticket : ℕ) × Launches b.child c ticket (past_look b u c before old) new
+CallsToBegin b u c false before old after new = (after ≡ before) × (new ≡ past_look b.read b.project u c before old)
+CallsToBegin b u c true before old after new = (ticket : ℕ) × Launches b.child c ticket (past_look b.read b.project u c before old) new
 
 -- the unit at a place began by just these calls
 pub record BeginsCalling (b : Basis) (place : ℕ) (spawned : Bool) (before : World) (old : Counts) (after : World) (new : Counts) : Type 0 where
@@ -43,14 +37,11 @@ pub record BeginsCalling (b : Basis) (place : ℕ) (spawned : Bool) (before : Wo
   pub only : ChangesOnly (is_of (records_folder b.project) unit.key) before after
   pub calls : CallsToBegin b unit (command_in b place unit) spawned before old after new
 
--- it could not begin: it stopped at a call of its look, or of the launch of its child
-abbrev pub StopsToBegin : Basis → Planned → Command → BuildFault → World → Counts → Counts → Type 0
-StopsToBegin b u c fault w old new = StopsAt fault (looked_at b.read (records_folder b.project) u.key c w) old new ⊎ LaunchEnds (place_of (records_folder b.project) u.key) u.out fault (past_look b u c w old) new
-
+-- it could not begin
 pub record StopsBeginning (b : Basis) (place : ℕ) (fault : BuildFault) (w : World) (old new : Counts) : Type 0 where
   pub unit : Planned
   pub there : unit_at b.project place ≡ Some unit
-  pub stops : StopsToBegin b unit (command_in b place unit) fault w old new
+  pub stops : StopsToBegin b.read b.project unit (command_in b place unit) fault w old new
 
 -- A unit answers.
 

@@ -141,3 +141,22 @@ returns-in-Ok-clause-numbers g c read is told writes holds =
 
 pub returns-in-Ok-reuse-clause-numbers : goal.returns-in-Ok-reuse-clause-numbers
 returns-in-Ok-reuse-clause-numbers g c read is told writes holds = c.in-Ok-reuse.ensures.numbers read is told holds
+
+pub returns-in-Ok-clause-spent : goal.returns-in-Ok-clause-spent
+returns-in-Ok-clause-spent g c none last told = no_child c.in-Child.launched (child_of c.args.begun) _ (ap child_in c.in-Child.is) none
+
+pub returns-in-Child-clause-spent : goal.returns-in-Child-clause-spent
+returns-in-Child-clause-spent g c none last told = no_child c.in-Child.launched (child_of c.args.begun) _ (ap child_in c.in-Child.is) none
+
+pub returns-in-Ok-reuse-clause-spent : goal.returns-in-Ok-reuse-clause-spent
+returns-in-Ok-reuse-clause-spent g c none last told = c.reuse.ensures.spent last told
+
+pub returns-clause-spent : goal.returns-clause-spent
+returns-clause-spent g c none last told = c.reuse.ensures.spent last told
+
+pub returns-in-Child-clause-cause : goal.returns-in-Child-clause-cause
+returns-in-Child-clause-cause g c read reading told spent =
+    absurd (false≢true (sym (land_spares c.args.store.now.next c.args.unit.now.key c.in-Child.launched _ (g.P.Place.counts c.args.place.now).starts (g.P.Place.counts c.land.new.place).starts c.in-Err.ensures.takes.0) ∙ spent))
+
+pub returns-clause-cause : goal.returns-clause-cause
+returns-clause-cause g c read reading told spent = c.in-Err-reuse.ensures.cause read reading told spent

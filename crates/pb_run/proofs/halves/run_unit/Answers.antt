@@ -1,10 +1,11 @@
-use Rattle.std.proofs.Common.{◌≡◌, ◌∙◌, Bool, false, slice_set, sym, subst}
+use Rattle.std.proofs.Common.{◌≡◌, ◌∙◌, inl, inr, Bool, true, false, refl, slice_set, sym, subst}
 use Rattle.pb_flight.specs.declared.flight.State.TheVariants as state
 use Rattle.pb_run.specs.Causes.{RunsBy}
 use Rattle.pb_run.specs.Halves.{basis, child_of}
 use Rattle.pb_place.specs.World.{World}
 use Rattle.pb_soundness.specs.Records.{record_at}
 use Rattle.pb_store.specs.Migrating.{lacks_number}
+use Rattle.pb_run.proofs.RunsInTurn.{awaits_alone, begins_so, launch_needs, ran_badly, ran_well, spent_starts, stops_so}
 use Rattle.pb_run.proofs.Reusing.{child_numbered}
 use Rattle.pb_run.proofs.InTurn.{no_difference, answer_tells, both_run, both_take, can_answer, keeps_once, lifted_flies, number_kept}
 use Rattle.pb_run.proofs.Spawning.{launched_gone}
@@ -71,3 +72,42 @@ returns-in-Ok-answer_unit-clause-same g c read is told none has =
 pub returns-in-Ok-answer_unit-clause-numbers : goal.returns-in-Ok-answer_unit-clause-numbers
 returns-in-Ok-answer_unit-clause-numbers g c read is told holds =
     c.in-Ok-answer_unit.ensures.numbers read is told (c.in-Ok.ensures.writes told) (c.in-Ok.ensures.numbers read told holds)
+
+pub returns-in-Ok-answer_unit-clause-spent : goal.returns-in-Ok-answer_unit-clause-spent
+returns-in-Ok-answer_unit-clause-spent g c none told =
+    let (alone, last) = launch_needs (child_of c.in-Ok.made.begun) c.args.store.now.next c.begin_unit.new.store.next c.in-Ok.ensures.number none in
+    c.in-Ok-answer_unit.ensures.spent alone last told ∙ c.in-Ok.ensures.spent none told
+
+pub returns-in-Err-answer_unit-clause-spent : goal.returns-in-Err-answer_unit-clause-spent
+returns-in-Err-answer_unit-clause-spent g c none told =
+    let (alone, last) = launch_needs (child_of c.in-Ok.made.begun) c.args.store.now.next c.begin_unit.new.store.next c.in-Ok.ensures.number none in
+    c.in-Err-answer_unit.ensures.spent alone last told ∙ c.in-Ok.ensures.spent none told
+
+pub returns-in-Err-clause-cause : goal.returns-in-Err-clause-cause
+returns-in-Err-clause-cause g c read reading told holds spent = inl (c.in-Err.ensures.cause read reading told holds (spent_starts c.in-Err.fault spent))
+
+pub returns-in-Err-answer_unit-clause-cause : goal.returns-in-Err-answer_unit-clause-cause
+returns-in-Err-answer_unit-clause-cause g c read reading told holds spent =
+    inr
+    (subst (λ (w : World). lacks_number (record_at read (records_folder c.args.project.now) w.files c.args.unit.now.key) ≡ true) (c.in-Ok.ensures.same told (awaits_alone c.in-Ok.made.begun.awaited (c.in-Err-answer_unit.ensures.spends spent)))
+    (c.in-Err-answer_unit.ensures.cause read reading told spent))
+
+pub returns-in-Err-clause-calls : goal.returns-in-Err-clause-calls
+returns-in-Err-clause-calls g c read reading told =
+    inl (c.in-Err.fault, refl, stops_so g.P.Place.world g.P.Place.counts g.P.Place.tells g.P.Place.child read c.args.project.now c.args.unit.now _ (g.P.Place.world c.args.place.now) (g.P.Place.counts c.args.place.now) (g.P.Place.counts c.begin_unit.new.place) reading told c.in-Err.fault (c.in-Err.ensures.stops told))
+
+pub returns-in-Ok-answer_unit-clause-calls : goal.returns-in-Ok-answer_unit-clause-calls
+returns-in-Ok-answer_unit-clause-calls g c read reading told =
+    let (left, answer, ends, only, behind) = c.in-Ok-answer_unit.ensures.lands told in
+    let begins = begins_so g.P.Place.world g.P.Place.counts g.P.Place.tells g.P.Place.child read c.args.project.now c.args.unit.now c.in-Ok.made.begun.command (g.P.Place.world c.args.place.now) (g.P.Place.counts c.args.place.now) (g.P.Place.counts c.begin_unit.new.place) reading told
+        (child_of c.in-Ok.made.begun) (c.in-Ok.ensures.looks read reading told) c.in-Ok.ensures.launches in
+    inr (ran_well read g.P.Place.child c.args.project.now c.args.unit.now _ c.in-Ok.made.begun (g.P.Place.world c.args.place.now) (g.P.Place.world c.begin_unit.new.place) (g.P.Place.world left) (g.P.Place.counts c.args.place.now) (g.P.Place.counts c.begin_unit.new.place) (g.P.Place.counts left) (g.P.Place.counts c.answer_unit.new.place)
+    answer (g.P.Place.still c.begin_unit.new.place) c.in-Ok.ensures.asks begins c.in-Ok-answer_unit.ran _ ends (behind read reading))
+
+pub returns-in-Err-answer_unit-clause-calls : goal.returns-in-Err-answer_unit-clause-calls
+returns-in-Err-answer_unit-clause-calls g c read reading told =
+    let (left, answer, ends, only, behind) = c.in-Err-answer_unit.ensures.lands told in
+    let begins = begins_so g.P.Place.world g.P.Place.counts g.P.Place.tells g.P.Place.child read c.args.project.now c.args.unit.now c.in-Ok.made.begun.command (g.P.Place.world c.args.place.now) (g.P.Place.counts c.args.place.now) (g.P.Place.counts c.begin_unit.new.place) reading told
+        (child_of c.in-Ok.made.begun) (c.in-Ok.ensures.looks read reading told) c.in-Ok.ensures.launches in
+    inr (ran_badly read g.P.Place.child c.args.project.now c.args.unit.now _ c.in-Ok.made.begun (g.P.Place.world c.args.place.now) (g.P.Place.world c.begin_unit.new.place) (g.P.Place.world left) (g.P.Place.counts c.args.place.now) (g.P.Place.counts c.begin_unit.new.place) (g.P.Place.counts left) (g.P.Place.counts c.answer_unit.new.place)
+    answer (g.P.Place.still c.begin_unit.new.place) c.in-Ok.ensures.asks begins c.in-Err-answer_unit.fault ends (behind read reading))

@@ -1,4 +1,7 @@
-use Rattle.std.proofs.Common.{◌∙◌, ℕ, List, Err, refl, subst, sym}
+use Rattle.std.proofs.Common.{◌∙◌, ℕ, List, Err, ap, refl, subst, sym}
+use Rattle.pb_run.specs.Causes.{is_spent}
+use Rattle.pb_run.proofs.RunsInTurn.{spent_is}
+use Rattle.pb_store.specs.declared.fault.StoreFault.{StoreFault}
 use Rattle.pb_run.proofs.Calling.{migrate_stops}
 use Rattle.pb_run.proofs.landing.migrate.Goals as goal
 use Rattle.pb_soundness.specs.Records.{record_at}
@@ -28,3 +31,6 @@ pub returns-clause-calls : goal.returns-clause-calls
 returns-clause-calls g c read reading told =
     migrate_stops {T = Unit {0}} (Err c.in-Err-migrate.fault) _ c.in-Err-migrate.fault _ c.args.store.now.folder c.args.unit.now.key (record_at read c.args.store.now.folder (g.P.Place.world c.args.place.now).files c.args.unit.now.key) _ _ refl c.storeless.ensures
     (c.in-Err-migrate.ensures.cause read reading told) (c.in-Err-migrate.ensures.calls read reading told)
+
+pub returns-clause-cause : goal.returns-clause-cause
+returns-clause-cause g c read reading told spent = c.in-Err-migrate.ensures.cause read reading told (ap (λ (e : StoreFault). Err e) (spent_is _ c.in-Err-migrate.fault (ap is_spent (sym c.storeless.ensures) ∙ spent)))

@@ -1,13 +1,16 @@
-use Rattle.std.proofs.Common.{◌∙◌, [], ap, is_some, refl, sym}
+use Rattle.std.proofs.Common.{◌∙◌, [], ap, is_some, refl, sym, subst, true, ◌≡◌, ℕ, List}
 use Rattle.std.proofs.lemmas.Bool.{false≢true}
 use Rattle.pb_command.specs.Judge.{judge}
 use Rattle.pb_place.specs.Counts.{Starts}
+use Rattle.pb_place.specs.World.{World}
 use Rattle.pb_project.specs.Targets.{dep_info_of}
 use Rattle.pb_run.specs.Halves.{basis}
 use Rattle.pb_run.specs.Landing.{dep_info_looked}
 use Rattle.pb_run.specs.Standing.{records_folder}
 use Rattle.pb_run.specs.declared.begun.Awaited.TheVariants as awaited
 use Rattle.pb_run.specs.declared.ran.Ran.{Ran}
+use Rattle.pb_soundness.specs.Records.{record_at}
+use Rattle.pb_store.specs.Migrating.{lacks_number}
 use Rattle.pb_run.proofs.Calling.{bad_made, ended_badly, ended_well, good_made, numbered_so, numbering_first, renewed_names}
 use Rattle.pb_run.proofs.Causing.{follow_spares}
 use Rattle.pb_run.proofs.Held.{held_same, held_there}
@@ -214,3 +217,27 @@ returns-in-Ok-migrate-clause-numbers g c read is told holds =
     held_there read c.args.store.now.folder (records_folder c.args.project.now) (g.P.Place.world c.migrate.new.place) c.migrate.new.store.numbers c.requires.folder
     (c.in-Ok-migrate.ensures.numbers read is told
     (held_same read c.args.store.now.folder (records_folder c.args.project.now) (g.P.Place.world c.args.place.now) (g.P.Place.world c.judged_now.new.place) c.args.store.now.numbers c.requires.folder (c.in-Ok.ensures.same told) holds))
+
+pub returns-in-Err-clause-spent : goal.returns-in-Err-clause-spent
+returns-in-Err-clause-spent g c none told = c.in-Err.ensures.same told
+
+pub returns-then-is_some-clause-spent : goal.returns-then-is_some-clause-spent
+returns-then-is_some-clause-spent g c none told = c.in-Ok.ensures.same told
+
+pub returns-then-again-clause-spent : goal.returns-then-again-clause-spent
+returns-then-again-clause-spent g c none told = c.in-Ok.ensures.same told
+
+pub returns-in-Ok-migrate-clause-spent : goal.returns-in-Ok-migrate-clause-spent
+returns-in-Ok-migrate-clause-spent g c none told = c.in-Ok-migrate.ensures.spent none told ∙ c.in-Ok.ensures.same told
+
+pub returns-clause-spent : goal.returns-clause-spent
+returns-clause-spent g c none told = c.in-Err-migrate.ensures.spent none told ∙ c.in-Ok.ensures.same told
+
+pub returns-in-Err-clause-cause : goal.returns-in-Err-clause-cause
+returns-in-Err-clause-cause g c read reading told spent =
+    absurd (false≢true (sym (follow_spares c.args.unit.now.key _ (g.P.Place.counts c.args.place.now).starts (g.P.Place.counts c.judged_now.new.place).starts c.in-Err.ensures.takes.0) ∙ spent))
+
+pub returns-clause-cause : goal.returns-clause-cause
+returns-clause-cause g c read reading told spent =
+    subst (λ (f : List ℕ). lacks_number (record_at read f (g.P.Place.world c.args.place.now).files c.args.unit.now.key) ≡ true) c.requires.folder
+    (subst (λ (w : World). lacks_number (record_at read c.args.store.now.folder w.files c.args.unit.now.key) ≡ true) (c.in-Ok.ensures.same told) (c.in-Err-migrate.ensures.cause read reading told spent))

@@ -1,0 +1,116 @@
+-- The run of a unit: what its two halves say of its calls, and of a run number that is missing.
+use Rattle.std.proofs.Common.{◌≡◌, ◌≢◌, ◌∙◌, ◌⊎◌, inl, inr, ℕ, Bool, true, false, IsTrue, List, Option, Some, None, Result, Ok, Err, refl, sym, ap, subst}
+use Rattle.std.specs.Prelude.{IfSome, IsOk, MatchOption}
+use Rattle.std.proofs.lemmas.Bool.{false≢true}
+use Rattle.std.proofs.lemmas.Option.{none-some}
+use Rattle.pb_answer.specs.declared.fault.BuildFault.{BuildFault}
+use Rattle.pb_answer.specs.declared.fault.BuildFault.TheVariants.{Plan, Toolchain, Child, Device, Sink, OutOfMemory}
+use Rattle.pb_answer.specs.declared.fault.DeviceFault.TheVariants.{Place, NumbersSpent}
+use Rattle.pb_place.specs.Counts.{Counts}
+use Rattle.pb_place.specs.World.{World, Answers}
+use Rattle.pb_place.specs.declared.command.Command.{Command}
+use Rattle.pb_place.specs.declared.command.Ended.{Ended}
+use Rattle.pb_place.specs.declared.place.PlaceFault.TheVariants as place
+use Rattle.pb_place.specs.declared.place.StartFault.{StartFault}
+use Rattle.pb_project.specs.declared.project.Project.{Project}
+use Rattle.pb_record.specs.Parts.{IsReading}
+use Rattle.pb_run.specs.Causes.{StopsAt, is_of_start, is_spent, store_fault}
+use Rattle.pb_run.specs.Halves.{awaits_number, child_in, child_of}
+use Rattle.pb_run.specs.Landing.{CallsBehind, EndsBy, answered_called}
+use Rattle.pb_run.specs.Launching.{HasLooked, LaunchEnds, Launches}
+use Rattle.pb_run.specs.Running.{RunsThrough, StopsToBegin, past_look}
+use Rattle.pb_run.specs.Standing.{records_folder}
+use Rattle.pb_run.specs.declared.begun.Awaited.{Awaited}
+use Rattle.pb_run.specs.declared.begun.Awaited.TheVariants as awaited
+use Rattle.pb_run.specs.declared.begun.Begun.{Begun}
+use Rattle.pb_run.specs.declared.begun.Launched.{Launched}
+use Rattle.pb_run.specs.declared.ran.Ran.{Ran}
+use Rattle.pb_soundness.specs.Numbers.{after}
+use Rattle.pb_soundness.specs.Records.{Reading, place_of}
+use Rattle.pb_store.specs.Looking.{looked_at}
+use Rattle.pb_store.specs.declared.fault.StoreFault.{StoreFault}
+use Rattle.pb_store.specs.declared.fault.StoreFault.TheVariants as store
+use Rattle.pb_unit.specs.declared.plan.Planned.{Planned}
+use Rattle.pb_run.proofs.Calling.{ended_badly, ended_well}
+
+-- no run number is left
+pub spent_is : (unit : List ℕ) (e : StoreFault) → is_spent (store_fault unit e) ≡ true → e ≡ store.NumbersSpent
+spent_is unit (store.Place place.Read) is = absurd (false≢true is)
+spent_is unit (store.Place place.List) is = absurd (false≢true is)
+spent_is unit (store.Place place.Write) is = absurd (false≢true is)
+spent_is unit (store.Place place.Remove) is = absurd (false≢true is)
+spent_is unit (store.Place place.Variable) is = absurd (false≢true is)
+spent_is unit (store.Place place.OutOfMemory) is = absurd (false≢true is)
+spent_is unit store.NumbersSpent is = refl
+spent_is unit store.OutOfMemory is = absurd (false≢true is)
+
+pub spent_starts : (e : BuildFault) → is_spent e ≡ true → is_of_start e ≡ true
+spent_starts (Plan why) is = absurd (false≢true is)
+spent_starts Toolchain is = absurd (false≢true is)
+spent_starts (Child unit fault) is = absurd (false≢true is)
+spent_starts (Device unit (Place fault)) is = absurd (false≢true is)
+spent_starts (Device unit NumbersSpent) is = refl
+spent_starts Sink is = absurd (false≢true is)
+spent_starts OutOfMemory is = absurd (false≢true is)
+
+-- no child is launched then
+pub launch_needs : (o : Option Launched) (old new : Option ℕ) → MatchOption o (new ≡ old) (λ launched. (old ≡ Some launched.number) × (new ≡ after launched.number)) → old ≡ None → (o ≡ None) × (new ≡ None)
+launch_needs None old new is none = (refl, is ∙ none)
+launch_needs (Some launched) old new is none = absurd (none-some launched.number (sym none ∙ is.0))
+
+-- a record is to be given one only where there is no child
+pub awaits_alone : (by : Awaited) → awaits_number by ≡ true → child_in by ≡ None
+awaits_alone (awaited.Child launched) is = absurd (false≢true is)
+awaits_alone (awaited.Record again) is = refl
+
+-- What the beginning says of its calls.
+module _ {P : Type 0} (world : P → World) (counts : P → Counts) (tells : Bool) (child : Answers) (read : Reading) (project : Project) (u : Planned) (c : Command) (w : World) (old new : Counts) (reading : IsReading read) (told : IsTrue tells) where
+  pub stops_so : (e : BuildFault)
+      → ((r : Reading) → IsReading r → StopsAt e (looked_at r (records_folder project) u.key c w) old new)
+      ⊎ ((looked : P) × HasLooked tells (λ r. looked_at r (records_folder project) u.key c w) w (world looked) old (counts looked) × LaunchEnds (place_of (records_folder project) u.key) u.out e (counts looked) new)
+      → StopsToBegin read project u c e w old new
+  stops_so e (inl stops) = inl (stops read reading)
+  stops_so e (inr (looked, has, ends)) = inr (subst (λ k. LaunchEnds (place_of (records_folder project) u.key) u.out e k new) (has.looks read reading told) ends)
+
+  pub begins_so : (o : Option Launched) → (o ≡ None → new ≡ past_look read project u c w old)
+      → IfSome o (λ launched. (looked : P) × HasLooked tells (λ r. looked_at r (records_folder project) u.key c w) w (world looked) old (counts looked) × Launches child c launched.ticket (counts looked) new)
+      → MatchOption o (new ≡ past_look read project u c w old) (λ launched. Launches child c launched.ticket (past_look read project u c w old) new)
+  begins_so None looks launches = looks refl
+  begins_so (Some launched) looks launches = let (looked, has, so) = launches in subst (λ k. Launches child c launched.ticket k new) (has.looks read reading told) so
+
+-- What the answer says of its calls, whatever is told of it.
+unstood : (by : Awaited) (answer : Result Ended StartFault) (well : Type 0) (still : ℕ → Type 0) (before after : World) (old new : Counts) → EndsBy by answer well still before after old new → EndsBy by answer well (λ ticket. ⊥) before after old new
+unstood (awaited.Child launched) answer well still before after old new ends = record { counted = ends.counted; answered = ends.answered; only = ends.only; lands = λ stood. absurd stood }
+unstood (awaited.Record again) answer well still before after old new ends = ends
+
+module _ (read : Reading) (child : Answers) (project : Project) (u : Planned) (c : Command) (begun : Begun) (w between left : World) (old mid ended new : Counts) (answer : Result Ended StartFault) (still : ℕ → Type 0) (is : begun.command ≡ c)
+    (begins : MatchOption (child_of begun) (mid ≡ past_look read project u begun.command w old) (λ launched. Launches child begun.command launched.ticket (past_look read project u begun.command w old) mid)) where
+  through : {T : Type 0} (result : Result T BuildFault) → EndsBy begun.awaited answer (IsOk result) still between left mid ended
+      → CallsBehind (answered_called read project u begun.command left begun.awaited) answer result ended new → RunsThrough read child project u c result w old new
+  through result ends behind = subst (λ k. RunsThrough read child project u k result w old new) is record {
+    begun = begun;
+    between = between;
+    mid = mid;
+    begins = begins;
+    left = left;
+    ended = ended;
+    answer = answer;
+    ends = unstood begun.awaited answer (IsOk result) still between left mid ended ends;
+    behind = behind;
+  }
+
+  pub ran_well : {T : Type 0} (ran : Ran) (run : T) → EndsBy begun.awaited answer (IsOk (ended_well ran)) still between left mid ended
+      → CallsBehind (answered_called read project u begun.command left begun.awaited) answer (ended_well ran) ended new → RunsThrough {T = T} read child project u c (Ok run) w old new
+  ran_well {T} ran run ends behind = through {T = T} (Ok run) ends (well answer behind)
+    where
+      well : (a : Result Ended StartFault) → CallsBehind (answered_called read project u begun.command left begun.awaited) a (ended_well ran) ended new → CallsBehind {T = T} (answered_called read project u begun.command left begun.awaited) a (Ok run) ended new
+      well (Ok it) so = so
+      well (Err fault) so = so
+
+  pub ran_badly : {T : Type 0} (fault : BuildFault) → EndsBy begun.awaited answer (IsOk (ended_badly fault)) still between left mid ended
+      → CallsBehind (answered_called read project u begun.command left begun.awaited) answer (ended_badly fault) ended new → RunsThrough {T = T} read child project u c (Err fault) w old new
+  ran_badly {T} fault ends behind = through {T = T} (Err fault) ends (badly answer behind)
+    where
+      badly : (a : Result Ended StartFault) → CallsBehind (answered_called read project u begun.command left begun.awaited) a (ended_badly fault) ended new → CallsBehind {T = T} (answered_called read project u begun.command left begun.awaited) a (Err fault) ended new
+      badly (Ok it) so = so
+      badly (Err e) so = so

@@ -1,0 +1,43 @@
+-- Which calls the run of a unit makes, from its beginning to its answer.
+use Rattle.std.specs.Prelude.{◌≡◌, ◌⊎◌, IsOk, List, MatchOption, Result, Err}
+use Rattle.pb_answer.specs.declared.fault.BuildFault.{BuildFault}
+use Rattle.pb_place.specs.CallsInTurn.{past_calls}
+use Rattle.pb_place.specs.Counts.{Counts}
+use Rattle.pb_place.specs.World.{World, Answers}
+use Rattle.pb_place.specs.declared.command.Command.{Command}
+use Rattle.pb_place.specs.declared.command.Ended.{Ended}
+use Rattle.pb_place.specs.declared.place.StartFault.{StartFault}
+use Rattle.pb_project.specs.declared.project.Project.{Project}
+use Rattle.pb_run.specs.Causes.{StopsAt}
+use Rattle.pb_run.specs.Halves.{child_of}
+use Rattle.pb_run.specs.Landing.{CallsBehind, EndsBy, answered_called}
+use Rattle.pb_run.specs.Launching.{LaunchEnds, Launches}
+use Rattle.pb_run.specs.Standing.{records_folder}
+use Rattle.pb_run.specs.declared.begun.Begun.{Begun}
+use Rattle.pb_soundness.specs.Records.{Reading, place_of}
+use Rattle.pb_store.specs.Looking.{looked_at}
+use Rattle.pb_unit.specs.declared.plan.Planned.{Planned}
+
+-- the counters once a unit was looked at for a difference from its record
+abbrev pub past_look : Reading → Project → Planned → Command → World → Counts → Counts
+past_look read project u c w old = past_calls (looked_at read (records_folder project) u.key c w) old
+
+-- a unit could not begin: it stopped at a call of its look, or of the launch of its child
+abbrev pub StopsToBegin : Reading → Project → Planned → Command → BuildFault → World → Counts → Counts → Type 0
+StopsToBegin read project u c fault w old new = StopsAt fault (looked_at read (records_folder project) u.key c w) old new ⊎ LaunchEnds (place_of (records_folder project) u.key) u.out fault (past_look read project u c w old) new
+
+-- it began, by its look and the launch of its child where it has one, and its answer was taken: the end of the child was asked for, and behind it just the calls came that belong to the answer
+pub record RunsThrough {T : Type 0} (read : Reading) (child : Answers) (project : Project) (u : Planned) (c : Command) (result : Result T BuildFault) (w : World) (old new : Counts) : Type 0 where
+  pub begun : Begun
+  pub between : World
+  pub mid : Counts
+  pub begins : MatchOption (child_of begun) (mid ≡ past_look read project u c w old) (λ launched. Launches child c launched.ticket (past_look read project u c w old) mid)
+  pub left : World
+  pub ended : Counts
+  pub answer : Result Ended StartFault
+  pub ends : EndsBy begun.awaited answer (IsOk result) (λ ticket. ⊥) between left mid ended
+  pub behind : CallsBehind (answered_called read project u c left begun.awaited) answer result ended new
+
+-- a unit was run by just these calls
+abbrev pub RunsCalling : {T : Type 0} → Reading → Answers → Project → Planned → Command → Result T BuildFault → World → Counts → Counts → Type 0
+RunsCalling read child project u c result w old new = ((fault : BuildFault) × (result ≡ Err fault) × StopsToBegin read project u c fault w old new) ⊎ RunsThrough read child project u c result w old new
