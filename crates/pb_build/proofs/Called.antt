@@ -1,5 +1,5 @@
 -- Calls before the units, in turn.
-use Rattle.std.proofs.Common.{◌≡◌, ◌∙◌, ◌++◌, ◌∷◌, inr, ℕ, false, true, List, [], codes, refl, sym, ap, subst}
+use Rattle.std.proofs.Common.{◌≡◌, ◌∙◌, ◌++◌, ◌∷◌, inr, false, true, List, [], codes, refl, sym, ap, subst}
 use Rattle.pb_answer.specs.declared.fault.BuildFault.{BuildFault}
 use Rattle.pb_answer.specs.declared.fault.BuildFault.TheVariants.{Plan, Toolchain, Child, Device, Sink, OutOfMemory}
 use Rattle.pb_build.specs.Causes.{AskEnds, PlanStopsAt, ReadyStopsAt, StopsBefore, plan_called, ready_called, variables_asked}

@@ -1,5 +1,5 @@
 -- A call that failed behind the query, before the units, is one by which the records are opened.
-use Rattle.std.proofs.Common.{◌≡◌, ◌≢◌, ◌∙◌, ◌⊎◌, if◌then◌else◌, inl, inr, ℕ, true, List, [], ◌∷◌, Contains, sym, ap, subst, refl, arith}
+use Rattle.std.proofs.Common.{◌≡◌, ◌≢◌, ◌∙◌, ◌⊎◌, if◌then◌else◌, inl, inr, ℕ, true, List, [], ◌∷◌, Contains, ap, subst, refl, arith}
 use Rattle.std.proofs.lemmas.Bool.{cases_eq, ne_eqb}
 use Rattle.pb_answer.specs.declared.fault.BuildFault.{BuildFault}
 use Rattle.pb_answer.specs.declared.fault.BuildFault.TheVariants.{Plan, Toolchain, Child, Device, Sink, OutOfMemory}

@@ -1,5 +1,5 @@
 -- How many children a build has started before its units, which calls it has made, where a fault ends it, and what such a fault names.
-use Rattle.std.specs.Prelude.{◌≡◌, ◌⊎◌, ◌++◌, ◌∷◌, ℕ, codes, List, [], Result, MatchResult}
+use Rattle.std.specs.Prelude.{◌≡◌, ◌⊎◌, ◌++◌, ◌∷◌, codes, List, [], Result, MatchResult}
 use Rattle.pb_place.specs.CallsInTurn.{Call, past_calls, variable_call}
 use Rattle.pb_place.specs.Counts.{Counts, Starts, one_start, past_call, up_starts}
 use Rattle.pb_place.specs.World.{World}
@@ -69,12 +69,12 @@ plan_called options w = variables_asked ++ looked_at options.manifest (environme
 
 -- where the plan is refused, all of these calls were made; else it stopped at one of them
 abbrev pub PlanStopsAt : BuildFault → List Call → Counts → Counts → Type 0
-PlanStopsAt (Plan why) names old new = new ≡ past_calls names old
-PlanStopsAt e names old new = StopsAt e names old new
+PlanStopsAt (Plan why) calls old new = new ≡ past_calls calls old
+PlanStopsAt e calls old new = StopsAt e calls old new
 
--- where there is a plan, just these calls were made, in this order
+-- where there is a plan, just these calls were made; since each may fail, with the fault of its kind and at its turn, they are told in their order
 abbrev pub PlansInTurn : {T : Type 0} → Result T BuildFault → List Call → Counts → Counts → Type 0
-PlansInTurn result names old new = MatchResult result (λ x. new ≡ past_calls names old) (λ e. PlanStopsAt e names old new)
+PlansInTurn result calls old new = MatchResult result (λ x. new ≡ past_calls calls old) (λ e. PlanStopsAt e calls old new)
 
 -- to ask the compiler a child is started, by one call, also where it says no host
 abbrev pub AskEnds : BuildFault → Counts → Counts → Type 0
@@ -83,15 +83,15 @@ AskEnds e old new = SpawnEnds e old new
 
 -- the query is one call, and then the records are opened
 abbrev pub ready_called : List Call → Counts → Counts
-ready_called names old = past_calls names (past_call (one_start old))
+ready_called calls old = past_calls calls (past_call (one_start old))
 
 -- it stopped at the query, or at a call by which the records are opened behind it
 abbrev pub ReadyStopsAt : BuildFault → List Call → Counts → Counts → Type 0
-ReadyStopsAt e names old new = AskEnds e old new ⊎ StopsAt e names (past_call (one_start old)) new
+ReadyStopsAt e calls old new = AskEnds e old new ⊎ StopsAt e calls (past_call (one_start old)) new
 
--- where all is ready, just these calls were made, in this order
+-- where all is ready, just these calls were made, told likewise
 abbrev pub ReadiesInTurn : {T : Type 0} → Result T BuildFault → List Call → Counts → Counts → Type 0
-ReadiesInTurn result names old new = MatchResult result (λ x. new ≡ ready_called names old) (λ e. ReadyStopsAt e names old new)
+ReadiesInTurn result calls old new = MatchResult result (λ x. new ≡ ready_called calls old) (λ e. ReadyStopsAt e calls old new)
 
 -- a build of this world stopped before its units: at its plan; or, behind all calls of the plan, as a project of this world was made ready
 abbrev pub StopsBefore : Options → World → BuildFault → Counts → Counts → Type 0

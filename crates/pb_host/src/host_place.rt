@@ -16,9 +16,11 @@ use crate::reading::{file_at, variable_of};
 use crate::starting::{finish, spawn};
 use crate::writing::{remove_tree, write_file};
 use pb_data::{Bytes, Items, Text, TryCopy, with_next};
-use pb_memory::in_flight::{Flying, flies, free_ticket, take_out};
 use pb_memory::Tally;
-use pb_place::{ChildInFlight, Command, Ended, FileMap, PathText, Place, PlaceFault, StartFault, ViewFault};
+use pb_memory::in_flight::{Flying, flies, free_ticket, take_out};
+use pb_place::{
+    ChildInFlight, Command, Ended, FileMap, PathText, Place, PlaceFault, StartFault, ViewFault,
+};
 use std::alloc::{AllocError, Global};
 use std::process::{Child, Processes};
 use std::rt::{Env, Files};

@@ -1,4 +1,3 @@
-pub use Rattle.pb_data.specs.Gives
 pub mod Codes
 pub mod Fuses
 pub mod InFlight

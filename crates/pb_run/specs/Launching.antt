@@ -76,8 +76,8 @@ abbrev pub LaunchEnds : List ℕ → List ℕ → BuildFault → Counts → Coun
 LaunchEnds path folder e old new = DropEnds path e old new ⊎ AnewEnds folder e (past_call old) new
 
 -- what a comparison leaves as it was: the world, where it is told, how many calls failed, and the starts; and, where it is told, just these calls were made, in this order
-pub record HasLooked (tells : Bool) (names : Reading → List Call) (before after : World) (old new : Counts) : Type 0 where
+pub record HasLooked (tells : Bool) (calls : Reading → List Call) (before after : World) (old new : Counts) : Type 0 where
   pub same : IsTrue tells → after ≡ before
   pub failures : new.failures ≡ old.failures
   pub starts : new.starts ≡ old.starts
-  pub looks : (read : Reading) → IsReading read → IsTrue tells → new ≡ past_calls (names read) old
+  pub looks : (read : Reading) → IsReading read → IsTrue tells → new ≡ past_calls (calls read) old

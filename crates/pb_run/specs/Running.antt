@@ -1,5 +1,5 @@
 -- Which calls the run of a unit makes, from its beginning to its answer.
-use Rattle.std.specs.Prelude.{◌≡◌, ◌⊎◌, IsOk, List, MatchOption, Result, Err}
+use Rattle.std.specs.Prelude.{◌≡◌, ◌⊎◌, IsOk, MatchOption, Result, Err}
 use Rattle.pb_answer.specs.declared.fault.BuildFault.{BuildFault}
 use Rattle.pb_place.specs.CallsInTurn.{past_calls}
 use Rattle.pb_place.specs.Counts.{Counts}

@@ -1,4 +1,4 @@
--- Which call of the place failed: on which path, and what was done before it.
+-- Which call of the place failed: of which kind and on which path, and what was done before it.
 use Rattle.std.specs.Prelude.{◌≡◌, ◌⊎◌, ℕ, Bool, true, false, IsTrue, List, Contains, Result, MatchResult}
 use Rattle.pb_place.specs.CallsInTurn.{Call, Fails}
 use Rattle.pb_place.specs.Counts.{Counts, past_call}

@@ -29,21 +29,21 @@ use Rattle.pb_store.specs.declared.fault.StoreFault.TheVariants.{Place, NumbersS
 
 -- where a call failed, it was one of these; where memory was refused, the first few of them were made; no other fault is told
 abbrev pub StopsAt : StoreFault → List Call → Counts → Counts → Type 0
-StopsAt (Place fault) names old new = FailsAt fault names old new
-StopsAt NumbersSpent names old new = ⊥
-StopsAt OutOfMemory names old new = MakesSome names old new
+StopsAt (Place fault) calls old new = FailsAt fault calls old new
+StopsAt NumbersSpent calls old new = ⊥
+StopsAt OutOfMemory calls old new = MakesSome calls old new
 
 -- where it ended well, these calls were made, and no more; else it stopped at one of them. Every call is counted, and one that failed tells its turn, its kind and its name, so the list is told in its order
 abbrev pub Looks : {T : Type 0} → Result T StoreFault → List Call → Counts → Counts → Type 0
-Looks result names old new = MatchResult result (λ x. new ≡ past_calls names old) (λ e. StopsAt e names old new)
+Looks result calls old new = MatchResult result (λ x. new ≡ past_calls calls old) (λ e. StopsAt e calls old new)
 
 -- of opening likewise
 abbrev pub OpeningStopsAt : OpenFault → List Call → Counts → Counts → Type 0
-OpeningStopsAt (open_fault.Place path fault) names old new = FailsAt fault names old new
-OpeningStopsAt open_fault.OutOfMemory names old new = MakesSome names old new
+OpeningStopsAt (open_fault.Place path fault) calls old new = FailsAt fault calls old new
+OpeningStopsAt open_fault.OutOfMemory calls old new = MakesSome calls old new
 
 abbrev pub OpensLooking : {T : Type 0} → Result T OpenFault → List Call → Counts → Counts → Type 0
-OpensLooking result names old new = MatchResult result (λ x. new ≡ past_calls names old) (λ e. OpeningStopsAt e names old new)
+OpensLooking result calls old new = MatchResult result (λ x. new ≡ past_calls calls old) (λ e. OpeningStopsAt e calls old new)
 
 -- of a row, what is looked at for each item in turn, up to and with the first that differs
 abbrev pub looked_up_to : {A : Type 0} → (A → Bool) → (A → List Call) → List A → List Call

@@ -100,7 +100,7 @@ pub returns-in-Ok-answer_unit-clause-calls : goal.returns-in-Ok-answer_unit-clau
 returns-in-Ok-answer_unit-clause-calls g c read reading told =
     let (left, answer, ends, only, behind) = c.in-Ok-answer_unit.ensures.lands told in
     let begins = begins_so g.P.Place.world g.P.Place.counts g.P.Place.tells g.P.Place.child read c.args.project.now c.args.unit.now c.in-Ok.made.begun.command (g.P.Place.world c.args.place.now) (g.P.Place.counts c.args.place.now) (g.P.Place.counts c.begin_unit.new.place) reading told
-        (child_of c.in-Ok.made.begun) (c.in-Ok.ensures.looks read reading told) c.in-Ok.ensures.launches in
+    (child_of c.in-Ok.made.begun) (c.in-Ok.ensures.looks read reading told) c.in-Ok.ensures.launches in
     inr (ran_well read g.P.Place.child c.args.project.now c.args.unit.now _ c.in-Ok.made.begun (g.P.Place.world c.args.place.now) (g.P.Place.world c.begin_unit.new.place) (g.P.Place.world left) (g.P.Place.counts c.args.place.now) (g.P.Place.counts c.begin_unit.new.place) (g.P.Place.counts left) (g.P.Place.counts c.answer_unit.new.place)
     answer (g.P.Place.still c.begin_unit.new.place) c.in-Ok.ensures.asks begins c.in-Ok-answer_unit.ran _ ends (behind read reading))
 
@@ -108,6 +108,6 @@ pub returns-in-Err-answer_unit-clause-calls : goal.returns-in-Err-answer_unit-cl
 returns-in-Err-answer_unit-clause-calls g c read reading told =
     let (left, answer, ends, only, behind) = c.in-Err-answer_unit.ensures.lands told in
     let begins = begins_so g.P.Place.world g.P.Place.counts g.P.Place.tells g.P.Place.child read c.args.project.now c.args.unit.now c.in-Ok.made.begun.command (g.P.Place.world c.args.place.now) (g.P.Place.counts c.args.place.now) (g.P.Place.counts c.begin_unit.new.place) reading told
-        (child_of c.in-Ok.made.begun) (c.in-Ok.ensures.looks read reading told) c.in-Ok.ensures.launches in
+    (child_of c.in-Ok.made.begun) (c.in-Ok.ensures.looks read reading told) c.in-Ok.ensures.launches in
     inr (ran_badly read g.P.Place.child c.args.project.now c.args.unit.now _ c.in-Ok.made.begun (g.P.Place.world c.args.place.now) (g.P.Place.world c.begin_unit.new.place) (g.P.Place.world left) (g.P.Place.counts c.args.place.now) (g.P.Place.counts c.begin_unit.new.place) (g.P.Place.counts left) (g.P.Place.counts c.answer_unit.new.place)
     answer (g.P.Place.still c.begin_unit.new.place) c.in-Ok.ensures.asks begins c.in-Err-answer_unit.fault ends (behind read reading))
