@@ -108,10 +108,10 @@ fn try_cases(rt: &impl Abort, alloc: Global, cases: &str) -> Result<usize, Fail>
     Ok(count)
 }
 
-/// The files of a package with so many binaries.
-fn many_binaries(alloc: Global, count: u64) -> Result<String, AllocError> {
+/// The files of the package `a` with so many binaries, behind these files.
+fn many_binaries(alloc: Global, first: &str, count: u64) -> Result<String, AllocError> {
     let mut files = Shown::new(alloc);
-    files.put(&["@ /w/a/Cargo.toml\npackage.name = \"a\"\n"]);
+    files.put(&[first]);
     for number in 0..count {
         files.put(&["@ /w/a/src/bin/b"]);
         files.put_number(number);
@@ -139,11 +139,41 @@ fn plans_units(
     Ok(has_units(&answer, wanted))
 }
 
+/// A package alone.
+const ALONE: &str = "@ /w/a/Cargo.toml\npackage.name = \"a\"\n";
+
 /// Whether the plan of a package with so many binaries has so many units.
 fn binaries_give(alloc: Global, count: u64, wanted: Option<usize>) -> Result<bool, Fail> {
-    let files = many_binaries(alloc, count)?;
+    let files = many_binaries(alloc, ALONE, count)?;
     let workspace = workspace_of(alloc, ROOT, files.as_str())?;
     plans_units(alloc, &workspace, wanted)
+}
+
+/// The same with a library, and another package: a feature makes a circle of the two.
+const CIRCLE: &str = r#"@ /w/a/Cargo.toml
+package.name = "a"
+[dependencies]
+b = { path = "../b" }
+[features]
+circle = ["b/a"]
+@ /w/a/src/lib.rs
+@ /w/b/Cargo.toml
+package.name = "b"
+[dependencies]
+a = { path = "../a", optional = true }
+@ /w/b/src/lib.rs
+"#;
+
+/// What is asked of them where there are too many units, with the circle and without: the circle comes first.
+const CIRCLE_QUESTIONS: &str = r#"a = TooManyUnits
+a f:circle = Cycle a b
+"#;
+
+/// Asks this of them with so many binaries. How many questions there were.
+fn try_circle(rt: &impl Abort, alloc: Global, count: u64) -> Result<usize, Fail> {
+    let files = many_binaries(alloc, CIRCLE, count)?;
+    let workspace = workspace_of(alloc, ROOT, files.as_str())?;
+    ask_all(rt, alloc, &workspace, CIRCLE_QUESTIONS)
 }
 
 /// A package with a script, and one that it needs on both sides.
@@ -236,6 +266,7 @@ fn plans(rt: HostRuntime) -> Result<(), Fail> {
     assert_eq!(rt; try_cases(&rt, rt.alloc(), SCRIPT_CASES)?, 25);
     assert!(rt; binaries_give(rt.alloc(), 4096, Some(4096))?);
     assert!(rt; binaries_give(rt.alloc(), 4097, None)?);
+    assert_eq!(rt; try_circle(&rt, rt.alloc(), 4096)?, 2);
     assert!(rt; are_both_right(rt.alloc())?);
     Ok(())
 }
