@@ -2,8 +2,8 @@
 
 ghost use Rattle.std.specs.Prelude.{◌≡◌};
 
-use pb_package::{LoadFault, SettledWorkspace};
 use pb_memory::Memory;
+use pb_package::{LoadFault, SettledWorkspace};
 use pb_place::{Child, PathFault, PathText};
 use pb_workspace::load;
 use std::alloc::Global;

@@ -2,8 +2,8 @@
 
 use pb_checks_files::{Silent, no_options, put_files, workspace_in};
 use pb_data::Text;
-use pb_package::{Options, SettledWorkspace};
 use pb_memory::Memory;
+use pb_package::{Options, SettledWorkspace};
 use std::alloc::{AllocError, Global};
 use std::test::Fail;
 

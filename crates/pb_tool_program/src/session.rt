@@ -8,8 +8,8 @@ ghost use Rattle.pb_tool_program.specs.Writing.{Writes};
 
 use pb_answer::result_line;
 use pb_build::{Answer, session};
-use pb_mini::Mini;
 use pb_memory::Memory;
+use pb_mini::Mini;
 use pb_place::{Out, write_all};
 use pb_session::{BadSession, read_session};
 use std::alloc::{AllocError, Global};

@@ -33,8 +33,8 @@ started_begun project es old now unit spawned d within its is notes place s at n
     its ∙ sym (ap (is_started (Began unit spawned ∷ es)) (sym same) ∙ started_now es unit spawned),
   )
   | inr apart ↦
-    let (e, there, so) = notes place s (sym (get_set_other (states_in project es) unit place Begun apart) ∙ at) ne in
-    (e, ap (λ (reasons : Reasons). slice_get reasons place) is ∙ (get_set_other old unit place (Some d) apart ∙ there), so ∙ sym (started_other es unit place spawned apart))
+      let (e, there, so) = notes place s (sym (get_set_other (states_in project es) unit place Begun apart) ∙ at) ne in
+      (e, ap (λ (reasons : Reasons). slice_get reasons place) is ∙ (get_set_other old unit place (Some d) apart ∙ there), so ∙ sym (started_other es unit place spawned apart))
 ]
 
 -- one in flight has answered

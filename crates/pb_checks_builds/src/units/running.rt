@@ -8,8 +8,8 @@ ghost use Rattle.pb_run.specs.Standing.{IsCommandOf, records_folder};
 
 use crate::units::ready::{Bench, Told};
 use pb_answer::{BuildFault, Summary, result_line};
-use pb_mini::Mini;
 use pb_memory::Memory;
+use pb_mini::Mini;
 use pb_place::Place;
 use pb_project::unit_at;
 use pb_run::{

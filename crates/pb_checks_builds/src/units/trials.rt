@@ -3,8 +3,8 @@
 use crate::units::ready::{bench_of, project_in};
 use crate::units::steps::{make_steps, parts_of};
 use pb_checks_files::{Shown, put_files};
-use pb_mini::Mini;
 use pb_memory::Memory;
+use pb_mini::Mini;
 use pb_run::OrderedProject;
 use std::alloc::Global;
 use std::test::Fail;

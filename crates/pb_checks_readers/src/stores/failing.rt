@@ -2,8 +2,8 @@
 
 use crate::stores::steps::{begin, call, make_steps, tell_differs};
 use pb_checks_files::Shown;
-use pb_mini::Mini;
 use pb_memory::Memory;
+use pb_mini::Mini;
 use pb_place::Place;
 use pb_store::Store;
 use std::alloc::Global;

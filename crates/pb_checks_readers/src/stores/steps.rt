@@ -8,8 +8,8 @@ use crate::stores::units::{command_with, ended, input_names, needs, own_command,
 use crate::stores::world::{prepare, put_file, put_first, replaced, take_away, text_at};
 use pb_checks_files::Shown;
 use pb_data::{Items, Text};
-use pb_mini::Mini;
 use pb_memory::Memory;
+use pb_mini::Mini;
 use pb_place::{Command, PathText};
 use pb_record::InputName;
 use pb_store::{Compared, OpenFault, Replayed, Store, StoreFault};

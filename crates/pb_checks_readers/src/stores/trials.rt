@@ -2,8 +2,8 @@
 
 use crate::stores::steps::{begin, make_steps};
 use pb_checks_files::Shown;
-use pb_mini::Mini;
 use pb_memory::Memory;
+use pb_mini::Mini;
 use pb_store::Store;
 use std::alloc::Global;
 use std::test::Fail;

@@ -2,8 +2,8 @@
 
 use pb_checks_files::Shown;
 use pb_data::Bytes;
-use pb_mini::Mini;
 use pb_memory::Memory;
+use pb_mini::Mini;
 use pb_place::PathText;
 use std::alloc::{AllocError, Global};
 use std::test::Fail;
