@@ -20,15 +20,13 @@ mod files;
 mod measuring;
 mod workspace;
 
-ghost use Rattle.pb_package.specs.Settled.{IsSettled};
-
 use anyhow::Result;
 use child::Silent;
 use files::put;
 use measuring::{number_in, since, word_in};
 use pb_feature::{Features, resolve};
 use pb_memory::Memory;
-use pb_workspace::{Options, Side, Workspace, selected};
+use pb_workspace::{Options, SettledWorkspace, Side, Workspace, selected};
 use std::env;
 use std::time::CpuClock;
 use workspace::{options_of, workspace_in};
@@ -108,14 +106,12 @@ fn features_on(features: &Features, workspace: &Workspace) -> usize {
 }
 
 /// Resolves once. The time, and how many features are on.
-fn call(rt: &HostRuntime, workspace: &Workspace, options: &Options) -> Result<(u128, usize)>
-    requires { IsSettled workspace.now }
-{
+fn call(rt: &HostRuntime, workspace: &SettledWorkspace, options: &Options) -> Result<(u128, usize)> {
     let selection = selected(rt.alloc(), workspace, options)?;
     let start = rt.thread_cpu_time()?;
-    let features = resolve(rt.alloc(), workspace, &selection)?;
+    let features = resolve(rt.alloc(), &selection)?;
     let spent = since(rt, start)?;
-    Ok((spent, features_on(&features, workspace)))
+    Ok((spent, features_on(&features, workspace.get())))
 }
 
 fn main(rt: HostRuntime) -> Result<()> {

@@ -69,21 +69,16 @@ workspace() {
     cat > "$1/workspace.rt" <<'WORKSPACE'
 //! The workspace in `/w`, and a build of it.
 
-ghost use Rattle.std.specs.Prelude.{IfOk};
-ghost use Rattle.pb_package.specs.Settled.{IsSettled};
-
 use crate::child::Silent;
 use anyhow::Result;
 use pb_data::{Items, Text};
 use pb_memory::Memory;
 use pb_place::PathText;
-use pb_workspace::{Options, Workspace, load};
+use pb_workspace::{Options, SettledWorkspace, load};
 use std::alloc::Global;
 
 /// The workspace.
-pub fn workspace_in(rt: &HostRuntime, memory: &mut Memory<Silent>) -> Result<Workspace>
-    ensures { IfOk result IsSettled }
-{
+pub fn workspace_in(rt: &HostRuntime, memory: &mut Memory<Silent>) -> Result<SettledWorkspace> {
     let manifest = PathText::parse(rt.alloc(), "/w/Cargo.toml")?;
     let target = PathText::parse(rt.alloc(), "/w/target")?;
     let workspace = load(rt.alloc(), memory, &manifest, &target)?;

@@ -20,8 +20,6 @@ mod files;
 mod measuring;
 mod workspace;
 
-ghost use Rattle.pb_package.specs.Settled.{IsSettled};
-
 use anyhow::Result;
 use child::Silent;
 use files::put;
@@ -29,7 +27,7 @@ use measuring::{number_in, since, word_in};
 use pb_feature::resolve;
 use pb_memory::Memory;
 use pb_unit::Plan;
-use pb_workspace::{Options, Workspace, selected};
+use pb_workspace::{Options, SettledWorkspace, selected};
 use std::env;
 use std::time::CpuClock;
 use workspace::{options_of, workspace_in};
@@ -91,13 +89,11 @@ fn kept(plan: &Plan) -> usize {
 }
 
 /// Plans once. The time, and how many places the plan keeps.
-fn call(rt: &HostRuntime, workspace: &Workspace, options: &Options) -> Result<(u128, usize)>
-    requires { IsSettled workspace.now }
-{
+fn call(rt: &HostRuntime, workspace: &SettledWorkspace, options: &Options) -> Result<(u128, usize)> {
     let selection = selected(rt.alloc(), workspace, options)?;
-    let features = resolve(rt.alloc(), workspace, &selection)?;
+    let features = resolve(rt.alloc(), &selection)?;
     let start = rt.thread_cpu_time()?;
-    let plan = Plan::plan(rt.alloc(), workspace, &features, &selection, "dev");
+    let plan = Plan::plan(rt.alloc(), &selection, &features, "dev");
     let spent = since(rt, start)?;
     match plan {
         Ok(plan) => Ok((spent, kept(&plan))),

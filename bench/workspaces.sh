@@ -134,7 +134,7 @@ fn load_one(rt: &HostRuntime, memory: &mut Memory<Silent>) -> Result<(u128, usiz
     let loaded = load(alloc, memory, &manifest, &target);
     let spent = since(rt, start)?;
     match loaded {
-        Ok(workspace) => Ok((spent, workspace.packages.len())),
+        Ok(workspace) => Ok((spent, workspace.get().packages.len())),
         Err(_) => Ok((spent, 0)),
     }
 }
