@@ -10,7 +10,9 @@ use Rattle.pb_package.specs.declared.fault.LoadFault.{LoadFault}
 use Rattle.pb_package.specs.declared.fault.LoadFault.TheVariants as load
 use Rattle.pb_package.specs.declared.options.Options.{Options}
 use Rattle.pb_package.specs.declared.workspace.Workspace.{Workspace}
-use Rattle.pb_place.specs.CallsInTurn.{Call, MakesSome, past_calls, variable_call}
+use Rattle.pb_place.specs.CallsInTurn.{MakesSome, past_calls}
+use Rattle.pb_place.specs.declared.call.Call.{Call}
+use Rattle.pb_place.specs.declared.call.Call.TheVariants as call
 use Rattle.pb_place.specs.Counts.{Counts, past_call}
 use Rattle.pb_place.specs.World.{World}
 use Rattle.pb_project.specs.declared.project.Project.{Project}
@@ -24,13 +26,13 @@ use Rattle.pb_workspace.specs.LookedAt.{FailsOn}
 
 -- a fault at a variable, and behind all of them
 abbrev RUSTC : Call
-RUSTC = variable_call (codes "RUSTC")
+RUSTC = call.Variable (codes "RUSTC")
 
 abbrev RUSTFLAGS : Call
-RUSTFLAGS = variable_call (codes "RUSTFLAGS")
+RUSTFLAGS = call.Variable (codes "RUSTFLAGS")
 
 abbrev TARGET : Call
-TARGET = variable_call (codes "CARGO_TARGET_DIR")
+TARGET = call.Variable (codes "CARGO_TARGET_DIR")
 
 pub first_stops : (e : BuildFault) (old new : Counts) → StopsAt e (RUSTC ∷ []) old new → StopsAt e variables_asked old new
 first_stops e old new is = stops_first e (RUSTC ∷ []) (RUSTFLAGS ∷ TARGET ∷ []) old new is

@@ -1,15 +1,15 @@
 -- A call that failed behind the query, before the units, is one by which the records are opened.
-use Rattle.std.proofs.Common.{◌≡◌, ◌≢◌, ◌∙◌, ◌⊎◌, if◌then◌else◌, inl, inr, ℕ, true, List, [], ◌∷◌, Contains, ap, subst, refl, arith}
+use Rattle.std.proofs.Common.{◌≡◌, ◌≢◌, ◌∙◌, ◌⊎◌, if◌then◌else◌, inl, inr, ℕ, true, List, [], ◌∷◌, Contains, ap, sym, subst, refl, arith}
 use Rattle.std.proofs.lemmas.Bool.{cases_eq, ne_eqb}
 use Rattle.pb_answer.specs.declared.fault.BuildFault.{BuildFault}
 use Rattle.pb_answer.specs.declared.fault.BuildFault.TheVariants.{Plan, Toolchain, Child, Device, Sink, OutOfMemory}
 use Rattle.pb_answer.specs.declared.fault.DeviceFault.TheVariants as device
 use Rattle.pb_flight.proofs.Lists.{contains_head, contains_tail}
 use Rattle.pb_package.specs.declared.options.Options.{Options}
-use Rattle.pb_place.proofs.CallsInTurn.{call_is_told, told_call}
 use Rattle.pb_place.proofs.Failing.{call_tells_fault}
-use Rattle.pb_place.specs.CallsInTurn.{Call, FailsAt, past_calls}
-use Rattle.pb_place.specs.Counts.{Counts, one_start, past_call, past_place_fault, up}
+use Rattle.pb_place.specs.CallsInTurn.{FailsAt, own_fault, past_calls}
+use Rattle.pb_place.specs.declared.call.Call.{Call}
+use Rattle.pb_place.specs.Counts.{Counts, name_given, named_in, one_start, past_call, past_place_fault, up}
 use Rattle.pb_place.specs.World.{World, Answers}
 use Rattle.pb_place.specs.declared.place.PlaceFault.{PlaceFault}
 use Rattle.pb_place.specs.declared.place.PlaceFault.TheVariants as place
@@ -23,17 +23,17 @@ use Rattle.pb_build.specs.Headline.{NamesOpened}
 use Rattle.pb_build.specs.Planning.{IsProject}
 
 -- no call on files or variables is a start
-fault_starts : (name : List ℕ) (fault : PlaceFault) (c : Counts) → (past_place_fault name fault c).starts ≡ c.starts
-fault_starts name place.Read c = refl
-fault_starts name place.List c = refl
-fault_starts name place.Write c = refl
-fault_starts name place.Remove c = refl
-fault_starts name place.Variable c = refl
-fault_starts name place.OutOfMemory c = refl
+fault_starts : (call : Call) (fault : PlaceFault) (c : Counts) → (past_place_fault call fault c).starts ≡ c.starts
+fault_starts call place.Read c = refl
+fault_starts call place.List c = refl
+fault_starts call place.Write c = refl
+fault_starts call place.Remove c = refl
+fault_starts call place.Variable c = refl
+fault_starts call place.OutOfMemory c = refl
 
 fails_starts : (fault : PlaceFault) (names : List Call) (old new : Counts) → FailsAt fault names old new → new.starts ≡ old.starts
 fails_starts fault [] old new fails = absurd fails
-fails_starts fault (call ∷ names) old new (inl is) = ap (λ (c : Counts). c.starts) is.1 ∙ fault_starts call.name fault old
+fails_starts fault (call ∷ names) old new (inl is) = ap (λ (c : Counts). c.starts) is.1 ∙ fault_starts call fault old
 fails_starts fault (name ∷ names) old new (inr is) = fails_starts fault names (past_call old) new is
 
 past_failures : (names : List Call) (c : Counts) → (past_calls names c).failures ≡ c.failures
@@ -49,12 +49,20 @@ memory_fails (name ∷ names) count old new same (inl is) more none = elim (case
   | inr ne ↦ let later : new.late ≡ up old.late = ap (λ (c : Counts). c.late) is.1 ∙ ap (λ b. if b then 0 else up old.late) (ne_eqb old.failures 0 ne) in omega (arith, none, later)
 ]
 
--- the fault and the counters tell the call that failed
-named_among : (fault : PlaceFault) (calls : List Call) (old new : Counts) → fault ≢ place.OutOfMemory → FailsAt fault calls old new → Contains calls (told_call fault new.named)
+-- the counters tell the call that failed
+record Among (fault : PlaceFault) (calls : List Call) (name : List ℕ) : Type 0 where
+  call : Call
+  among : Contains calls call
+  own : own_fault call ≡ fault
+  given : name_given call ≡ name
+
+named_among : (fault : PlaceFault) (calls : List Call) (old new : Counts) → fault ≢ place.OutOfMemory → FailsAt fault calls old new → Among fault calls (named_in new)
 named_among fault [] old new real fails = absurd fails
 named_among fault (call ∷ calls) old new real (inl is) =
-    subst (Contains (call ∷ calls)) (call_is_told call fault new.named is.0 (ap (λ (c : Counts). c.named) (is.1 ∙ call_tells_fault call.name fault old real))) (contains_head call calls)
-named_among fault (call ∷ calls) old new real (inr is) = contains_tail call calls (told_call fault new.named) (named_among fault calls (past_call old) new real is)
+    record { call = call; among = contains_head call calls; own = sym is.0; given = sym (ap named_in (is.1 ∙ call_tells_fault call fault old real)) }
+named_among fault (call ∷ calls) old new real (inr is) =
+    let rest = named_among fault calls (past_call old) new real is in
+    record { call = rest.call; among = contains_tail call calls rest.call rest.among; own = rest.own; given = rest.given }
 
 is_real : (fault : PlaceFault) → (fault ≡ place.OutOfMemory) ⊎ (fault ≢ place.OutOfMemory)
 is_real place.Read = inr (λ e. cc)
@@ -79,5 +87,7 @@ module _ (child : Answers) (options : Options) (w : World) (folder : List ℕ) (
       let mid = past_call (one_start (past_calls (plan_called options w) old)) in
       elim (is_real fault) [
         | inl memory ↦ absurd (memory_fails names old.failures mid new (past_failures (plan_called options w) old) (subst (λ (f : PlaceFault). FailsAt f names mid new) memory stops) more none)
-        | inr real ↦ inr (subst (λ n. Contains (opened_looked folder w) (told_call fault n)) named (subst (λ (f : List ℕ). Contains (opened_looked f w) (told_call fault new.named)) (same project is) (named_among fault names mid new real stops)))
+        | inr real ↦
+          let told = named_among fault names mid new real stops in
+          inr (told.call, subst (λ (f : List ℕ). Contains (opened_looked f w) told.call) (same project is) told.among, told.own, told.given ∙ named)
       ]

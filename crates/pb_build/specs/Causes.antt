@@ -1,7 +1,9 @@
 -- How many children a build has started before its units, which calls it has made, where a fault ends it, and what such a fault names.
 use Rattle.std.specs.Prelude.{◌≡◌, ◌⊎◌, ◌++◌, ◌∷◌, codes, List, [], Result, MatchResult}
-use Rattle.pb_place.specs.CallsInTurn.{Call, past_calls, variable_call}
-use Rattle.pb_place.specs.Counts.{Counts, Starts, one_start, past_call, up_starts}
+use Rattle.pb_place.specs.CallsInTurn.{past_calls}
+use Rattle.pb_place.specs.declared.call.Call.{Call}
+use Rattle.pb_place.specs.declared.call.Call.TheVariants as call
+use Rattle.pb_place.specs.Counts.{Counts, Starts, named_in, one_start, past_call, up_starts}
 use Rattle.pb_place.specs.World.{World}
 use Rattle.pb_package.specs.declared.options.Options.{Options}
 use Rattle.pb_project.specs.declared.project.Project.{Project}
@@ -50,7 +52,7 @@ abbrev pub Names : BuildFault → Counts → Type 0
 Names (Plan why) new = Unit {0}
 Names Toolchain new = Unit {0}
 Names (Child unit fault) new = Unit {0}
-Names (Device name fault) new = new.named ≡ name
+Names (Device name fault) new = named_in new ≡ name
 Names Sink new = Unit {0}
 Names OutOfMemory new = Unit {0}
 
@@ -61,7 +63,7 @@ NamesCall result new = MatchResult result (λ _. Unit {0}) (λ e. Names e new)
 
 -- the variables that are asked for
 abbrev pub variables_asked : List Call
-variables_asked = variable_call (codes "RUSTC") ∷ variable_call (codes "RUSTFLAGS") ∷ variable_call (codes "CARGO_TARGET_DIR") ∷ []
+variables_asked = call.Variable (codes "RUSTC") ∷ call.Variable (codes "RUSTFLAGS") ∷ call.Variable (codes "CARGO_TARGET_DIR") ∷ []
 
 -- to plan a build they are asked for, and then the workspace is read
 abbrev pub plan_called : Options → World → List Call

@@ -13,7 +13,7 @@ use Rattle.pb_flight.specs.declared.turn.Step.{Step}
 use Rattle.pb_message.specs.Message.{finish_line}
 use Rattle.pb_package.specs.declared.options.Options.{Options}
 use Rattle.pb_place.specs.CallsInTurn.{past_calls}
-use Rattle.pb_place.specs.Counts.{Counts, up, up_starts}
+use Rattle.pb_place.specs.Counts.{Counts, named_in, up, up_starts}
 use Rattle.pb_place.specs.World.{World, Answers, from_nothing}
 use Rattle.pb_place.specs.declared.place.Failure.TheVariants.{Called, Started}
 use Rattle.pb_project.specs.declared.project.Project.{Project}
@@ -63,7 +63,7 @@ abbrev pub FailsBefore : Bool → Answers → Options → BuildFault → World �
 FailsBefore tells child options (Plan why) w old new = (IsTrue tells → IsRefused options (environment_of options w.variables).target w why) × (new.starts ≡ old.starts) × (new.failures ≡ old.failures)
 FailsBefore tells child options Toolchain w old new = (IsTrue tells → IsSilent child options w) × (new.starts ≡ up_starts old.starts) × (new.failures ≡ old.failures)
 FailsBefore tells child options (Child key fault) w old new = (key ≡ codes "-vV") × (new.starts ≡ up_starts old.starts) × FailedLast (Started fault) old new
-FailsBefore tells child options (Device name (device.Place fault)) w old new = ((new.starts ≡ old.starts) ⊎ (new.starts ≡ up_starts old.starts)) × FailedLast (Called fault) old new × (new.named ≡ name)
+FailsBefore tells child options (Device name (device.Place fault)) w old new = ((new.starts ≡ old.starts) ⊎ (new.starts ≡ up_starts old.starts)) × FailedLast (Called fault) old new × (named_in new ≡ name)
 FailsBefore tells child options (Device name device.NumbersSpent) w old new = ⊥
 FailsBefore tells child options Sink w old new = ⊥
 FailsBefore tells child options OutOfMemory w old new = ((new.starts ≡ old.starts) ⊎ (new.starts ≡ up_starts old.starts)) × (new.failures ≡ old.failures)

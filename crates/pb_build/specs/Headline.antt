@@ -18,7 +18,9 @@ use Rattle.pb_flight.specs.declared.turn.Last.{Last}
 use Rattle.pb_flight.specs.declared.turn.Step.{Step}
 use Rattle.pb_message.specs.declared.message.Message.{Message}
 use Rattle.pb_package.specs.declared.options.Options.{Options}
-use Rattle.pb_place.specs.Counts.{Starts, up}
+use Rattle.pb_place.specs.CallsInTurn.{own_fault}
+use Rattle.pb_place.specs.Counts.{Starts, name_given, up}
+use Rattle.pb_place.specs.declared.call.Call.{Call}
 use Rattle.pb_place.specs.Folders.{files_in}
 use Rattle.pb_place.specs.Paths.{below}
 use Rattle.pb_place.specs.World.{World, Map, Answers, from_nothing}
@@ -147,7 +149,7 @@ pub record GivesFirst (footing : Footing) (read : Reading) (child : Answers) (Sc
 
 -- what is told of a call that failed before the units: behind the query it is the listing of the folder of the records, or the reading of a record directly in it, by which they are opened; at which turn the call failed is said of the whole build (`StopsEarly`)
 abbrev pub NamesOpened : List ℕ → World → BuildFault → Starts → Starts → Type 0
-NamesOpened folder w (Device name (device.Place fault)) old new = (new ≡ old) ⊎ Contains (opened_looked folder w) (record { kind = fault; name = name })
+NamesOpened folder w (Device name (device.Place fault)) old new = (new ≡ old) ⊎ ((call : Call) × Contains (opened_looked folder w) call × (own_fault call ≡ fault) × (name_given call ≡ name))
 NamesOpened folder w e old new = Unit {0}
 
 -- what was given when the finish line was due

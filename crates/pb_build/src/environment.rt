@@ -2,7 +2,7 @@
 
 ghost use Rattle.std.specs.Prelude.{◌≡◌, ◌∷◌, [], IfOk, IfErr, IsTrue, codes};
 ghost use Rattle.std.specs.FinMap as finite;
-ghost use Rattle.pb_place.specs.CallsInTurn.{variable_call};
+ghost use Rattle.pb_place.specs.declared.call.Call.TheVariants as call;
 ghost use Rattle.pb_place.specs.Paths.{joined, below, folder_of};
 ghost use Rattle.pb_directive.specs.Directives.{words_of};
 ghost use Rattle.pb_build.specs.Causes.{MayPlan, NamesCall, variables_asked};
@@ -55,7 +55,7 @@ fn variable<P: Place>(alloc: Global, place: &mut P, name: &str) -> Result<Option
     ensures takes { Takes NoStart MayPlan result (P.counts place.old) (P.counts place.new) }
     ensures names { NamesCall result (P.counts place.new) }
     ensures unrefused { IfErr result IsUnrefused }
-    ensures calls { MakesInTurn result (variable_call name.now ∷ []) (P.counts place.old) (P.counts place.new) }
+    ensures calls { MakesInTurn result (call.Variable name.now ∷ []) (P.counts place.old) (P.counts place.new) }
 {
     let told = match Text::from_str(alloc, name) {
         Ok(told) => told,

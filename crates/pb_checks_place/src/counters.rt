@@ -1,6 +1,7 @@
 //! How the calls of a place are counted, by worked cases.
 
 ghost use Rattle.std.specs.Prelude.{◌≡◌, ◌==◌, [], Some, if◌then◌else◌};
+ghost use Rattle.pb_place.specs.declared.call.Call.TheVariants as call;
 ghost use Rattle.pb_place.specs.Counts.{up, counted, counted_start};
 
 use pb_place::{Failure, PlaceFault, StartFault};
@@ -54,11 +55,11 @@ fn past_fault(failure: Failure, before: Counters) -> Counters
 
 /// The counters after a call on files or variables.
 fn after_call(answer: Result<(), PlaceFault>, before: Counters) -> Counters
-    ensures calls { result.calls ≡ (counted [] answer record { calls = before.calls; failures = before.failures; starts = record { count = before.starts; flying = [] }; late = before.late; last = before.last; named = [] }).calls }
-    ensures failures { result.failures ≡ (counted [] answer record { calls = before.calls; failures = before.failures; starts = record { count = before.starts; flying = [] }; late = before.late; last = before.last; named = [] }).failures }
-    ensures starts { result.starts ≡ (counted [] answer record { calls = before.calls; failures = before.failures; starts = record { count = before.starts; flying = [] }; late = before.late; last = before.last; named = [] }).starts.count }
-    ensures late { result.late ≡ (counted [] answer record { calls = before.calls; failures = before.failures; starts = record { count = before.starts; flying = [] }; late = before.late; last = before.last; named = [] }).late }
-    ensures last { result.last ≡ (counted [] answer record { calls = before.calls; failures = before.failures; starts = record { count = before.starts; flying = [] }; late = before.late; last = before.last; named = [] }).last }
+    ensures calls { result.calls ≡ (counted (call.Read []) answer record { calls = before.calls; failures = before.failures; starts = record { count = before.starts; flying = [] }; late = before.late; last = before.last; failing = None }).calls }
+    ensures failures { result.failures ≡ (counted (call.Read []) answer record { calls = before.calls; failures = before.failures; starts = record { count = before.starts; flying = [] }; late = before.late; last = before.last; failing = None }).failures }
+    ensures starts { result.starts ≡ (counted (call.Read []) answer record { calls = before.calls; failures = before.failures; starts = record { count = before.starts; flying = [] }; late = before.late; last = before.last; failing = None }).starts.count }
+    ensures late { result.late ≡ (counted (call.Read []) answer record { calls = before.calls; failures = before.failures; starts = record { count = before.starts; flying = [] }; late = before.late; last = before.last; failing = None }).late }
+    ensures last { result.last ≡ (counted (call.Read []) answer record { calls = before.calls; failures = before.failures; starts = record { count = before.starts; flying = [] }; late = before.late; last = before.last; failing = None }).last }
 {
     match answer {
         Ok(()) => past_call(before),
@@ -69,11 +70,11 @@ fn after_call(answer: Result<(), PlaceFault>, before: Counters) -> Counters
 
 /// The counters after a start.
 fn after_start(answer: Result<(), StartFault>, before: Counters) -> Counters
-    ensures calls { result.calls ≡ (counted_start answer record { calls = before.calls; failures = before.failures; starts = record { count = before.starts; flying = [] }; late = before.late; last = before.last; named = [] }).calls }
-    ensures failures { result.failures ≡ (counted_start answer record { calls = before.calls; failures = before.failures; starts = record { count = before.starts; flying = [] }; late = before.late; last = before.last; named = [] }).failures }
-    ensures starts { result.starts ≡ (counted_start answer record { calls = before.calls; failures = before.failures; starts = record { count = before.starts; flying = [] }; late = before.late; last = before.last; named = [] }).starts.count }
-    ensures late { result.late ≡ (counted_start answer record { calls = before.calls; failures = before.failures; starts = record { count = before.starts; flying = [] }; late = before.late; last = before.last; named = [] }).late }
-    ensures last { result.last ≡ (counted_start answer record { calls = before.calls; failures = before.failures; starts = record { count = before.starts; flying = [] }; late = before.late; last = before.last; named = [] }).last }
+    ensures calls { result.calls ≡ (counted_start answer record { calls = before.calls; failures = before.failures; starts = record { count = before.starts; flying = [] }; late = before.late; last = before.last; failing = None }).calls }
+    ensures failures { result.failures ≡ (counted_start answer record { calls = before.calls; failures = before.failures; starts = record { count = before.starts; flying = [] }; late = before.late; last = before.last; failing = None }).failures }
+    ensures starts { result.starts ≡ (counted_start answer record { calls = before.calls; failures = before.failures; starts = record { count = before.starts; flying = [] }; late = before.late; last = before.last; failing = None }).starts.count }
+    ensures late { result.late ≡ (counted_start answer record { calls = before.calls; failures = before.failures; starts = record { count = before.starts; flying = [] }; late = before.late; last = before.last; failing = None }).late }
+    ensures last { result.last ≡ (counted_start answer record { calls = before.calls; failures = before.failures; starts = record { count = before.starts; flying = [] }; late = before.late; last = before.last; failing = None }).last }
 {
     let begun = Counters {
         starts: before.starts.saturating_add(1),

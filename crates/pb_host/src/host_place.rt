@@ -19,7 +19,8 @@ use pb_data::{Bytes, Items, Text, TryCopy, with_next};
 use pb_memory::Tally;
 use pb_memory::in_flight::{Flying, flies, free_ticket, take_out};
 use pb_place::{
-    ChildInFlight, Command, Ended, FileMap, PathText, Place, PlaceFault, StartFault, ViewFault,
+    Call, ChildInFlight, Command, Ended, FileMap, PathText, Place, PlaceFault, StartFault,
+    ViewFault,
 };
 use std::alloc::{AllocError, Global};
 use std::process::{Child, Processes};
@@ -54,7 +55,7 @@ impl<'a, R: Files + Env + Processes + AllocGlobal> HostPlace<'a, R> {
     {
         HostPlace {
             runtime,
-            tally: Tally::new(alloc),
+            tally: Tally::new(),
             flying: Vec::new(alloc),
             most: 0,
         }
@@ -179,18 +180,18 @@ impl<'a, R: Files + Env + Processes + AllocGlobal> Place for HostPlace<'a, R> {
     ghost fails = { λ _. Unit {0} };
 
     fn read(&mut self, alloc: Global, path: &PathText) -> Result<Option<Bytes>, PlaceFault> {
-        let name = self.tally.name(alloc, path.as_str())?;
+        let call = self.tally.kept(Call::read(alloc, path))?;
         let answer = match file_at(self.runtime, path.as_str()) {
             Ok(found) => Ok(found),
             Err(fault) => Err(fault_of(fault, PlaceFault::Read)),
         };
-        self.tally.count(name, answer)
+        self.tally.count(call, answer)
     }
 
     fn list(&mut self, alloc: Global, folder: &PathText) -> Result<Items<PathText>, PlaceFault> {
-        let name = self.tally.name(alloc, folder.as_str())?;
+        let call = self.tally.kept(Call::list(alloc, folder))?;
         let answer = files_below(self.runtime, alloc, folder);
-        self.tally.count(name, answer)
+        self.tally.count(call, answer)
     }
 
     fn list_outside(
@@ -199,9 +200,11 @@ impl<'a, R: Files + Env + Processes + AllocGlobal> Place for HostPlace<'a, R> {
         folder: &PathText,
         left_out: &PathText,
     ) -> Result<Items<PathText>, PlaceFault> {
-        let name = self.tally.name(alloc, folder.as_str())?;
+        let call = self
+            .tally
+            .kept(Call::list_outside(alloc, folder, left_out))?;
         let answer = files_outside(self.runtime, alloc, folder, left_out);
-        self.tally.count(name, answer)
+        self.tally.count(call, answer)
     }
 
     fn list_directly(
@@ -209,30 +212,30 @@ impl<'a, R: Files + Env + Processes + AllocGlobal> Place for HostPlace<'a, R> {
         alloc: Global,
         folder: &PathText,
     ) -> Result<Items<PathText>, PlaceFault> {
-        let name = self.tally.name(alloc, folder.as_str())?;
+        let call = self.tally.kept(Call::list_directly(alloc, folder))?;
         let answer = files_directly(self.runtime, alloc, folder);
-        self.tally.count(name, answer)
+        self.tally.count(call, answer)
     }
 
     fn write(&mut self, alloc: Global, path: &PathText, bytes: &[u8]) -> Result<(), PlaceFault> {
-        let name = self.tally.name(alloc, path.as_str())?;
+        let call = self.tally.kept(Call::write(alloc, path))?;
         let answer = write_file(self.runtime, alloc, path, bytes);
-        self.tally.count(name, answer)
+        self.tally.count(call, answer)
     }
 
     fn remove_tree(&mut self, alloc: Global, path: &PathText) -> Result<(), PlaceFault> {
-        let name = self.tally.name(alloc, path.as_str())?;
+        let call = self.tally.kept(Call::remove(alloc, path))?;
         let answer = remove_tree(self.runtime, path.as_str());
-        self.tally.count(name, answer)
+        self.tally.count(call, answer)
     }
 
     fn variable(&mut self, alloc: Global, name: &str) -> Result<Option<Text>, PlaceFault> {
-        let copy = self.tally.name(alloc, name)?;
+        let call = self.tally.kept(Call::variable(alloc, name))?;
         let answer = match variable_of(self.runtime, name) {
             Ok(found) => Ok(found),
             Err(fault) => Err(fault_of(fault, PlaceFault::Variable)),
         };
-        self.tally.count(copy, answer)
+        self.tally.count(call, answer)
     }
 
     fn spawn(&mut self, alloc: Global, command: &Command) -> Result<u64, StartFault> {

@@ -13,6 +13,7 @@ use Rattle.pb_place.specs.declared.place.StartFault.TheVariants as start
 use Rattle.pb_memory.specs.InFlight.{children_in, entry_at, other_entries}
 use Rattle.pb_memory.specs.Memory.{is_for, fate_of, fate_in, fate_at, other_deaths, is_doomed}
 use Rattle.pb_memory.specs.declared.in_flight.Death.{Death}
+use Rattle.pb_place.specs.declared.call.Call.{Call}
 use Rattle.pb_place.specs.declared.child_in_flight.ChildInFlight.{ChildInFlight}
 use Rattle.pb_memory.specs.declared.in_flight.Flying.{Flying}
 use Rattle.pb_place.proofs.InFlight.{next, or_left, or_right, or_true}
@@ -135,22 +136,22 @@ one_more [] x = refl
 one_more (y ∷ xs) x = let rest : length (xs ++ x ∷ []) ≡ length xs + 1 = one_more xs x in omega arith
 
 -- counters beside what flies
-pub called_with : {A : Type 0} (name : List ℕ) (r : Result A PlaceFault) (fs : List ChildInFlight) (c : Counts) → with_children fs (counted name r c) ≡ counted name r (with_children fs c)
-called_with name (Ok x) fs c = refl
-called_with name (Err place.Read) fs c = refl
-called_with name (Err place.List) fs c = refl
-called_with name (Err place.Write) fs c = refl
-called_with name (Err place.Remove) fs c = refl
-called_with name (Err place.Variable) fs c = refl
-called_with name (Err place.OutOfMemory) fs c = refl
+pub called_with : {A : Type 0} (call : Call) (r : Result A PlaceFault) (fs : List ChildInFlight) (c : Counts) → with_children fs (counted call r c) ≡ counted call r (with_children fs c)
+called_with call (Ok x) fs c = refl
+called_with call (Err place.Read) fs c = refl
+called_with call (Err place.List) fs c = refl
+called_with call (Err place.Write) fs c = refl
+called_with call (Err place.Remove) fs c = refl
+called_with call (Err place.Variable) fs c = refl
+called_with call (Err place.OutOfMemory) fs c = refl
 
-pub failed_with : (name : List ℕ) (e : PlaceFault) (fs : List ChildInFlight) (c : Counts) → with_children fs (past_place_fault name e c) ≡ past_place_fault name e (with_children fs c)
-failed_with name place.Read fs c = refl
-failed_with name place.List fs c = refl
-failed_with name place.Write fs c = refl
-failed_with name place.Remove fs c = refl
-failed_with name place.Variable fs c = refl
-failed_with name place.OutOfMemory fs c = refl
+pub failed_with : (call : Call) (e : PlaceFault) (fs : List ChildInFlight) (c : Counts) → with_children fs (past_place_fault call e c) ≡ past_place_fault call e (with_children fs c)
+failed_with call place.Read fs c = refl
+failed_with call place.List fs c = refl
+failed_with call place.Write fs c = refl
+failed_with call place.Remove fs c = refl
+failed_with call place.Variable fs c = refl
+failed_with call place.OutOfMemory fs c = refl
 
 pub spawned_with : (spawned : ℕ → ChildInFlight) (r : Result ℕ StartFault) (fs : List ChildInFlight) (c : Counts) → with_children (flown spawned r fs) (counted_start r c) ≡ counted_spawn spawned r (with_children fs c)
 spawned_with spawned (Ok t) fs c = refl

@@ -4,13 +4,10 @@ use Rattle.std.specs.Coded.{Coded, code_by, coded×, coded_ℕ, coded_ℤ, coded
 use Rattle.pb_place.specs.World.{World}
 use Rattle.pb_place.specs.Counts.{Counts, Starts}
 use Rattle.pb_place.specs.Maps.{map_code}
-use Rattle.pb_memory.specs.Private.{failure_code}
+use Rattle.pb_memory.specs.Private.{text_code, call_code, failure_code}
 use Rattle.pb_place.specs.declared.command.Command.{Command}
 use Rattle.pb_place.specs.declared.command.Ended.{Ended}
 use Rattle.pb_place.specs.declared.child_in_flight.ChildInFlight.{ChildInFlight}
-
-abbrev pub text_code : Coded (List ℕ)
-text_code = coded_list coded_ℕ
 
 abbrev pub command_code : Coded Command
 command_code = code_by _ (coded× text_code (coded× (coded_list text_code) (coded× text_code (coded× (coded_list (coded× text_code text_code)) (coded× (coded_option text_code) (coded× text_code (coded× text_code (coded_list text_code))))))))
@@ -31,6 +28,6 @@ abbrev pub starts_code : Coded Starts
 starts_code = code_by _ (coded× coded_ℕ (coded_list child_code)) (λ s. (s.count, s.flying)) (λ t. record { count = t.0; flying = t.1 }) (λ _. refl)
 
 abbrev pub counts_code : Coded Counts
-counts_code = code_by _ (coded× coded_ℕ (coded× coded_ℕ (coded× starts_code (coded× coded_ℕ (coded× (coded_option failure_code) text_code)))))
-    (λ c. (c.calls, (c.failures, (c.starts, (c.late, (c.last, c.named))))))
-    (λ t. record { calls = t.0; failures = t.1.0; starts = t.1.1.0; late = t.1.1.1.0; last = t.1.1.1.1.0; named = t.1.1.1.1.1 }) (λ _. refl)
+counts_code = code_by _ (coded× coded_ℕ (coded× coded_ℕ (coded× starts_code (coded× coded_ℕ (coded× (coded_option failure_code) (coded_option call_code))))))
+    (λ c. (c.calls, (c.failures, (c.starts, (c.late, (c.last, c.failing))))))
+    (λ t. record { calls = t.0; failures = t.1.0; starts = t.1.1.0; late = t.1.1.1.0; last = t.1.1.1.1.0; failing = t.1.1.1.1.1 }) (λ _. refl)

@@ -1,13 +1,45 @@
 -- Words that serve private functions and models alone; nobody needs to believe them.
-use Rattle.std.specs.Prelude.{◌≡◌, ◌⊎◌, ◌==◌, ℕ, if◌then◌else◌, refl}
-use Rattle.std.specs.Coded.{Coded, code_by, coded⊎, coded_ℕ}
+use Rattle.std.specs.Prelude.{◌≡◌, ◌⊎◌, ◌==◌, ℕ, List, [], if◌then◌else◌, refl}
+use Rattle.std.specs.Coded.{Coded, code_by, coded×, coded⊎, coded_list, coded_ℕ}
 use Rattle.std.proofs.Common.{inl, inr, ap}
+use Rattle.pb_place.specs.declared.call.Call.{Call}
+use Rattle.pb_place.specs.declared.call.Call.TheVariants as call
 use Rattle.pb_place.specs.declared.place.Failure.{Failure}
 use Rattle.pb_place.specs.declared.place.Failure.TheVariants.{Called, Started}
 use Rattle.pb_place.specs.declared.place.PlaceFault.{PlaceFault}
 use Rattle.pb_place.specs.declared.place.PlaceFault.TheVariants.{Read, List as Listing, Write, Remove, Variable, OutOfMemory}
 use Rattle.pb_place.specs.declared.place.StartFault.{StartFault}
 use Rattle.pb_place.specs.declared.place.StartFault.TheVariants as start
+
+abbrev pub text_code : Coded (List ℕ)
+text_code = coded_list coded_ℕ
+
+-- each call as a number and what it is given
+abbrev pub call_parts : Call → ℕ × (List ℕ × List ℕ)
+call_parts (call.Read path) = (0, (path, []))
+call_parts (call.List folder) = (1, (folder, []))
+call_parts (call.ListOutside folder left_out) = (2, (folder, left_out))
+call_parts (call.ListDirectly folder) = (3, (folder, []))
+call_parts (call.Write path) = (4, (path, []))
+call_parts (call.Remove path) = (5, (path, []))
+call_parts (call.Variable name) = (6, (name, []))
+
+abbrev pub call_made : ℕ × (List ℕ × List ℕ) → Call
+call_made (n, (given, left_out)) =
+    if n == 0 then call.Read given else (if n == 1 then call.List given else (if n == 2 then call.ListOutside given left_out
+    else (if n == 3 then call.ListDirectly given else (if n == 4 then call.Write given else (if n == 5 then call.Remove given else call.Variable given)))))
+
+pub call_back : (c : Call) → call_made (call_parts c) ≡ c
+call_back (call.Read path) = refl
+call_back (call.List folder) = refl
+call_back (call.ListOutside folder left_out) = refl
+call_back (call.ListDirectly folder) = refl
+call_back (call.Write path) = refl
+call_back (call.Remove path) = refl
+call_back (call.Variable name) = refl
+
+abbrev pub call_code : Coded Call
+call_code = code_by (ℕ × (List ℕ × List ℕ)) (coded× coded_ℕ (coded× text_code text_code)) call_parts call_made call_back
 
 -- each fault as a number
 abbrev pub place_number : PlaceFault → ℕ

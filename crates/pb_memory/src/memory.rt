@@ -54,7 +54,7 @@ impl<C> Memory<C> {
             files: FileMap::new(alloc),
             variables: TextMap::new(alloc),
             child,
-            tally: Tally::new(alloc),
+            tally: Tally::new(),
             flying: Vec::new(alloc),
             most: 0,
             fuse: 0,

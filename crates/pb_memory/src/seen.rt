@@ -3,6 +3,7 @@
 ghost use Rattle.std.specs.Prelude.{◌≡◌, ◌≢◌, ◌⊎◌, ◌+◌, ℕ, Bool, true, false, length, IfOk, IfErr, OnOk, OnErr, IsTrue, IfSome};
 ghost use Rattle.std.specs.FinMap as map;
 ghost use Rattle.pb_place.specs.World.{written, removed, listed, listed_directly, Torn, PartlyRemoved, ChangesOnlyInSome};
+ghost use Rattle.pb_place.specs.declared.call.Call.TheVariants as call;
 ghost use Rattle.pb_place.specs.Counts.{counted, counted_spawn, counted_finish};
 ghost use Rattle.pb_place.specs.Children.{child_spawned, is_flying, child_at, most_after, StaysStill, StaysStillBut, LandsAs};
 ghost use Rattle.pb_memory.specs.Seen.{call_failed, start_failed, seen, seen_end};
@@ -95,7 +96,7 @@ impl<P: Place> Place for Seen<P> {
         ensures same { IsTrue P.tells → P.world self.new.place ≡ P.world self.old.place }
         ensures fault { IfErr result (λ e. e ≢ PlaceFault.OutOfMemory → e ≡ PlaceFault.Read) }
         ensures fails { IfErr result (λ e. e ≢ PlaceFault.OutOfMemory → P.fails self.old.place) }
-        ensures counts { P.counts self.new.place ≡ counted path.now result (P.counts self.old.place) }
+        ensures counts { P.counts self.new.place ≡ counted (call.Read path.now) result (P.counts self.old.place) }
         ensures most { P.most self.new.place ≡ P.most self.old.place }
         ensures still { StaysStill (P.counts self.old.place).starts.flying (P.world self.old.place) (P.world self.new.place) (P.still self.old.place) (P.still self.new.place) }
         ensures seen { (self.new.faulted, self.new.after) ≡ seen (call_failed result) (self.old.faulted, self.old.after) }
@@ -110,7 +111,7 @@ impl<P: Place> Place for Seen<P> {
         ensures same { IsTrue P.tells → P.world self.new.place ≡ P.world self.old.place }
         ensures fault { IfErr result (λ e. e ≢ PlaceFault.OutOfMemory → e ≡ PlaceFault.List) }
         ensures fails { IfErr result (λ e. e ≢ PlaceFault.OutOfMemory → P.fails self.old.place) }
-        ensures counts { P.counts self.new.place ≡ counted folder.now result (P.counts self.old.place) }
+        ensures counts { P.counts self.new.place ≡ counted (call.List folder.now) result (P.counts self.old.place) }
         ensures most { P.most self.new.place ≡ P.most self.old.place }
         ensures still { StaysStill (P.counts self.old.place).starts.flying (P.world self.old.place) (P.world self.new.place) (P.still self.old.place) (P.still self.new.place) }
         ensures seen { (self.new.faulted, self.new.after) ≡ seen (call_failed result) (self.old.faulted, self.old.after) }
@@ -130,7 +131,7 @@ impl<P: Place> Place for Seen<P> {
         ensures same { IsTrue P.tells → P.world self.new.place ≡ P.world self.old.place }
         ensures fault { IfErr result (λ e. e ≢ PlaceFault.OutOfMemory → e ≡ PlaceFault.List) }
         ensures fails { IfErr result (λ e. e ≢ PlaceFault.OutOfMemory → P.fails self.old.place) }
-        ensures counts { P.counts self.new.place ≡ counted folder.now result (P.counts self.old.place) }
+        ensures counts { P.counts self.new.place ≡ counted (call.ListOutside folder.now left_out.now) result (P.counts self.old.place) }
         ensures most { P.most self.new.place ≡ P.most self.old.place }
         ensures still { StaysStill (P.counts self.old.place).starts.flying (P.world self.old.place) (P.world self.new.place) (P.still self.old.place) (P.still self.new.place) }
         ensures seen { (self.new.faulted, self.new.after) ≡ seen (call_failed result) (self.old.faulted, self.old.after) }
@@ -149,7 +150,7 @@ impl<P: Place> Place for Seen<P> {
         ensures same { IsTrue P.tells → P.world self.new.place ≡ P.world self.old.place }
         ensures fault { IfErr result (λ e. e ≢ PlaceFault.OutOfMemory → e ≡ PlaceFault.List) }
         ensures fails { IfErr result (λ e. e ≢ PlaceFault.OutOfMemory → P.fails self.old.place) }
-        ensures counts { P.counts self.new.place ≡ counted folder.now result (P.counts self.old.place) }
+        ensures counts { P.counts self.new.place ≡ counted (call.ListDirectly folder.now) result (P.counts self.old.place) }
         ensures most { P.most self.new.place ≡ P.most self.old.place }
         ensures still { StaysStill (P.counts self.old.place).starts.flying (P.world self.old.place) (P.world self.new.place) (P.still self.old.place) (P.still self.new.place) }
         ensures seen { (self.new.faulted, self.new.after) ≡ seen (call_failed result) (self.old.faulted, self.old.after) }
@@ -164,7 +165,7 @@ impl<P: Place> Place for Seen<P> {
         ensures err { IsTrue P.tells → OnErr result (Torn path.now bytes.now (P.world self.old.place) (P.world self.new.place)) }
         ensures fault { IfErr result (λ e. e ≢ PlaceFault.OutOfMemory → e ≡ PlaceFault.Write) }
         ensures fails { IfErr result (λ e. e ≢ PlaceFault.OutOfMemory → P.fails self.old.place) }
-        ensures counts { P.counts self.new.place ≡ counted path.now result (P.counts self.old.place) }
+        ensures counts { P.counts self.new.place ≡ counted (call.Write path.now) result (P.counts self.old.place) }
         ensures most { P.most self.new.place ≡ P.most self.old.place }
         ensures still { StaysStill (P.counts self.old.place).starts.flying (P.world self.old.place) (P.world self.new.place) (P.still self.old.place) (P.still self.new.place) }
         ensures seen { (self.new.faulted, self.new.after) ≡ seen (call_failed result) (self.old.faulted, self.old.after) }
@@ -179,7 +180,7 @@ impl<P: Place> Place for Seen<P> {
         ensures err { IsTrue P.tells → OnErr result (PartlyRemoved path.now (P.world self.old.place) (P.world self.new.place)) }
         ensures fault { IfErr result (λ e. e ≢ PlaceFault.OutOfMemory → e ≡ PlaceFault.Remove) }
         ensures fails { IfErr result (λ e. e ≢ PlaceFault.OutOfMemory → P.fails self.old.place) }
-        ensures counts { P.counts self.new.place ≡ counted path.now result (P.counts self.old.place) }
+        ensures counts { P.counts self.new.place ≡ counted (call.Remove path.now) result (P.counts self.old.place) }
         ensures most { P.most self.new.place ≡ P.most self.old.place }
         ensures still { StaysStill (P.counts self.old.place).starts.flying (P.world self.old.place) (P.world self.new.place) (P.still self.old.place) (P.still self.new.place) }
         ensures seen { (self.new.faulted, self.new.after) ≡ seen (call_failed result) (self.old.faulted, self.old.after) }
@@ -194,7 +195,7 @@ impl<P: Place> Place for Seen<P> {
         ensures same { IsTrue P.tells → P.world self.new.place ≡ P.world self.old.place }
         ensures fault { IfErr result (λ e. e ≢ PlaceFault.OutOfMemory → e ≡ PlaceFault.Variable) }
         ensures fails { IfErr result (λ e. e ≢ PlaceFault.OutOfMemory → P.fails self.old.place) }
-        ensures counts { P.counts self.new.place ≡ counted name.now result (P.counts self.old.place) }
+        ensures counts { P.counts self.new.place ≡ counted (call.Variable name.now) result (P.counts self.old.place) }
         ensures most { P.most self.new.place ≡ P.most self.old.place }
         ensures still { StaysStill (P.counts self.old.place).starts.flying (P.world self.old.place) (P.world self.new.place) (P.still self.old.place) (P.still self.new.place) }
         ensures seen { (self.new.faulted, self.new.after) ≡ seen (call_failed result) (self.old.faulted, self.old.after) }

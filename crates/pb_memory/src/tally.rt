@@ -1,17 +1,16 @@
 //! The counters of a place whose calls may fail.
 
-ghost use Rattle.std.specs.Prelude.{◌≡◌, ◌≢◌, ◌⊎◌, IfOk, IfErr, OnOk, OnErr};
-ghost use Rattle.pb_place.specs.Counts.{no_calls, past_call, past_fault, past_place_fault, counted, counted_start};
+ghost use Rattle.std.specs.Prelude.{◌≡◌, IfOk, IfErr, OnOk, OnErr, Ok};
+ghost use Rattle.pb_place.specs.Counts.{no_calls, past_call, past_fault, counted, counted_start};
 ghost use Rattle.pb_place.specs.declared.place.PlaceFault.TheVariants as place_fault;
 ghost use Rattle.pb_memory.specs.Tallies.{past_finish};
 
-use pb_data::Text;
-use pb_place::{Failure, PlaceFault, StartFault};
-use std::alloc::Global;
+use pb_place::{Call, Failure, PlaceFault, StartFault};
+use std::alloc::AllocError;
 use std::marker::Model;
 
-/// The counters of a place, the fault of the last call that failed, and the path or the variable's name that the
-/// last failing call on files or variables was given. Contracts see the counters of a place at which no child flies:
+/// The counters of a place, the fault of the last call that failed, and the last failing call on files or variables.
+/// Contracts see the counters of a place at which no child flies:
 /// what flies is for the place to say.
 #[derive(Debug, Drop)]
 pub struct Tally {
@@ -20,7 +19,7 @@ pub struct Tally {
     starts: u64,
     late: u64,
     last: Option<Failure>,
-    named: Text,
+    failing: Option<Call>,
 }
 
 impl Model for Tally {
@@ -32,12 +31,12 @@ impl Model for Tally {
 
     ghost coded = { counts_code };
 
-    ghost view = { λ t. record { calls = t.calls; failures = t.failures; starts = record { count = t.starts; flying = [] }; late = t.late; last = t.last; named = t.named } };
+    ghost view = { λ t. record { calls = t.calls; failures = t.failures; starts = record { count = t.starts; flying = [] }; late = t.late; last = t.last; failing = t.failing } };
 }
 
 impl Tally {
     /// The counters where no call was made. It takes no memory.
-    pub fn new(alloc: Global) -> Tally
+    pub fn new() -> Tally
         ensures { result ≡ no_calls }
     {
         Tally {
@@ -46,7 +45,7 @@ impl Tally {
             starts: 0,
             late: 0,
             last: None,
-            named: Text::new(String::new(alloc)),
+            failing: None,
         }
     }
 
@@ -92,16 +91,15 @@ impl Tally {
         self.last = Some(failure);
     }
 
-    /// A copy of what a call is given, taken before the call. Where memory is refused, nothing failed, and the call
-    /// is counted so.
-    pub fn name(&mut self, alloc: Global, name: &str) -> Result<Text, PlaceFault>
-        ensures copy { IfOk result (λ copy. copy ≡ name.now) }
+    /// A call that was kept before it is made. Where memory was refused for it nothing failed, and it is counted so.
+    pub fn kept(&mut self, call: Result<Call, AllocError>) -> Result<Call, PlaceFault>
+        ensures same { IfOk result (λ it. call ≡ Ok it) }
         ensures ok { OnOk result (self.new ≡ self.old) }
         ensures memory { IfErr result (λ e. e ≡ place_fault.OutOfMemory) }
         ensures err { OnErr result (self.new ≡ past_call self.old) }
     {
-        match Text::from_str(alloc, name) {
-            Ok(copy) => Ok(copy),
+        match call {
+            Ok(call) => Ok(call),
             Err(_) => {
                 self.pass();
                 Err(PlaceFault::OutOfMemory)
@@ -110,9 +108,9 @@ impl Tally {
     }
 
     /// Counts a call on files or variables by what it answered, and hands the answer on.
-    pub fn count<T>(&mut self, name: Text, answer: Result<T, PlaceFault>) -> Result<T, PlaceFault>
+    pub fn count<T>(&mut self, call: Call, answer: Result<T, PlaceFault>) -> Result<T, PlaceFault>
         ensures same { result ≡ answer }
-        ensures counts { self.new ≡ counted name answer self.old }
+        ensures counts { self.new ≡ counted call answer self.old }
     {
         match answer {
             Ok(value) => {
@@ -126,7 +124,7 @@ impl Tally {
             Err(fault) => {
                 self.calls = self.calls.saturating_add(1);
                 self.fail(Failure::Called(fault));
-                self.named = name;
+                self.failing = Some(call);
                 Err(fault)
             }
         }
@@ -166,27 +164,6 @@ impl Tally {
             Err(fault) => {
                 self.fail(Failure::Started(fault));
                 Err(fault)
-            }
-        }
-    }
-
-    /// Counts a call on the path or the variable of this name that failed, and gives the fault that it answers: want
-    /// of memory where its name cannot be kept.
-    pub fn fault(&mut self, alloc: Global, name: &str, fault: PlaceFault) -> PlaceFault
-        requires real { fault ≢ place_fault.OutOfMemory }
-        ensures told { (result ≡ place_fault.OutOfMemory) ⊎ (result ≡ fault) }
-        ensures counts { self.new ≡ past_place_fault name.now result self.old }
-    {
-        match Text::from_str(alloc, name) {
-            Ok(named) => {
-                self.calls = self.calls.saturating_add(1);
-                self.fail(Failure::Called(fault));
-                self.named = named;
-                fault
-            }
-            Err(_) => {
-                self.pass();
-                PlaceFault::OutOfMemory
             }
         }
     }

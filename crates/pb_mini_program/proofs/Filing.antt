@@ -3,7 +3,8 @@ use Rattle.std.proofs.Common.{◌≡◌, ◌∙◌, ◌<◌, ◌+◌, ◌==◌, 
 use Rattle.std.proofs.lemmas.List.{drop_more, take_more, take-append-drop}
 use Rattle.std.proofs.lemmas.Bool.Decides.{Decides-eqb}
 use Rattle.std.specs.FinMap as map
-use Rattle.pb_place.specs.CallsInTurn.{past_calls, write_call}
+use Rattle.pb_place.specs.CallsInTurn.{past_calls}
+use Rattle.pb_place.specs.declared.call.Call.TheVariants as call
 use Rattle.pb_place.specs.Counts.{Counts, past_call, past_place_fault}
 use Rattle.pb_place.specs.Paths.{below}
 use Rattle.pb_place.specs.World.{World, Map, Torn, put_files, put_reply, written}
@@ -31,14 +32,14 @@ parts : (files : List (List ℕ × List ℕ)) (i : ℕ) (file : List ℕ × List
 parts files i file on is = sym (take-append-drop i files) ∙ ap (λ r. take i files ++ r) (drop_more files i file on ∙ ap (λ f. f ∷ drop (i + 1) files) (sym is))
 
 -- one call more, for the file behind these
-writes_last : (folder : List ℕ) (done : List (List ℕ × List ℕ)) (file : List ℕ × List ℕ) → writes_in folder (done ++ file ∷ []) ≡ writes_in folder done ++ write_call (below folder file.0) ∷ []
+writes_last : (folder : List ℕ) (done : List (List ℕ × List ℕ)) (file : List ℕ × List ℕ) → writes_in folder (done ++ file ∷ []) ≡ writes_in folder done ++ call.Write (below folder file.0) ∷ []
 writes_last folder [] file = refl
-writes_last folder (f ∷ done) file = ap (λ calls. write_call (below folder f.0) ∷ calls) (writes_last folder done file)
+writes_last folder (f ∷ done) file = ap (λ calls. call.Write (below folder f.0) ∷ calls) (writes_last folder done file)
 
 past_last : (folder : List ℕ) (done : List (List ℕ × List ℕ)) (file : List ℕ × List ℕ) (old mid new : Counts)
     → mid ≡ past_calls (writes_in folder done) old → new ≡ past_call mid → new ≡ past_calls (writes_in folder (done ++ file ∷ [])) old
 past_last folder done file old mid new so is =
-    made_both (writes_in folder done) (write_call (below folder file.0) ∷ []) old mid new so is ∙ ap (λ calls. past_calls calls old) (sym (writes_last folder done file))
+    made_both (writes_in folder done) (call.Write (below folder file.0) ∷ []) old mid new so is ∙ ap (λ calls. past_calls calls old) (sym (writes_last folder done file))
 
 pub past_more : (folder : List ℕ) (files : List (List ℕ × List ℕ)) (i : ℕ) (file : List ℕ × List ℕ) (old mid new : Counts)
     → i < length files → file ≡ get_or files i file
@@ -55,13 +56,13 @@ torn path bytes path' bytes' mid mid' new p b m t =
 pub fails_at : (tells : Bool) (folder : List ℕ) (files : List (List ℕ × List ℕ)) (i : ℕ) (file : List ℕ × List ℕ) (path bytes : List ℕ) (e : PlaceFault) (old mid new : Kept)
     → i < length files → file ≡ get_or files i file → path ≡ below folder file.0 → bytes ≡ file.1
     → mid.counts ≡ past_calls (writes_in folder (take i files)) old.counts → (IsTrue tells → mid.world ≡ put_reply (Some folder) (take i files) old.world)
-    → e ≡ place.Write → new.counts ≡ past_place_fault path e mid.counts → (IsTrue tells → Torn path bytes mid.world new.world) → FailsToPut tells folder files old new
+    → e ≡ place.Write → new.counts ≡ past_place_fault (call.Write path) e mid.counts → (IsTrue tells → Torn path bytes mid.world new.world) → FailsToPut tells folder files old new
 fails_at tells folder files i file path bytes e old mid new on is is_path is_bytes so put is_write counts tears = (
   take i files,
   file,
   drop (i + 1) files,
   parts files i file on is,
-  counts ∙ ap₂ (λ p f. past_place_fault p f mid.counts) is_path is_write ∙ ap (past_place_fault (below folder file.0) place.Write) so,
+  counts ∙ ap₂ (λ p f. past_place_fault (call.Write p) f mid.counts) is_path is_write ∙ ap (past_place_fault (call.Write (below folder file.0)) place.Write) so,
   λ told. torn path bytes (below folder file.0) file.1 mid.world (put_reply (Some folder) (take i files) old.world) new.world is_path is_bytes (put told) (tears told),
 )
 
@@ -69,14 +70,14 @@ fails_at tells folder files i file path bytes e old mid new on is is_path is_byt
 pub stops_at : (tells : Bool) (folder : List ℕ) (files : List (List ℕ × List ℕ)) (i : ℕ) (file : List ℕ × List ℕ) (path bytes : List ℕ) (e : PlaceFault) (old mid new : Kept)
     → i < length files → file ≡ get_or files i file → path ≡ below folder file.0 → bytes ≡ file.1
     → mid.counts ≡ past_calls (writes_in folder (take i files)) old.counts → (IsTrue tells → mid.world ≡ put_reply (Some folder) (take i files) old.world)
-    → e ≡ place.OutOfMemory → new.counts ≡ past_place_fault path e mid.counts → (IsTrue tells → Torn path bytes mid.world new.world) → StopsPutting tells folder files old new
+    → e ≡ place.OutOfMemory → new.counts ≡ past_place_fault (call.Write path) e mid.counts → (IsTrue tells → Torn path bytes mid.world new.world) → StopsPutting tells folder files old new
 stops_at tells folder files i file path bytes e old mid new on is is_path is_bytes so put is_memory counts tears = (
   take i files,
   file,
   drop (i + 1) files,
   parts files i file on is,
   inr (
-    past_last folder (take i files) file old.counts mid.counts new.counts so (counts ∙ ap (λ f. past_place_fault path f mid.counts) is_memory),
+    past_last folder (take i files) file old.counts mid.counts new.counts so (counts ∙ ap (λ f. past_place_fault (call.Write path) f mid.counts) is_memory),
     λ told. torn path bytes (below folder file.0) file.1 mid.world (put_reply (Some folder) (take i files) old.world) new.world is_path is_bytes (put told) (tears told),
   ),
 )

@@ -1,7 +1,9 @@
 -- What the program writes of a reply, and at what it stops: first the files, then the output, then standard error. Nothing is written behind a write that failed.
 use Rattle.std.specs.Prelude.{◌≡◌, ◌⊎◌, ℕ, Bool, List, [], ◌∷◌, ◌++◌, take, Option, Some, None, IsTrue}
 use Rattle.std.specs.Io.KnownBytes.{Appends}
-use Rattle.pb_place.specs.CallsInTurn.{Call, past_calls, write_call}
+use Rattle.pb_place.specs.CallsInTurn.{past_calls}
+use Rattle.pb_place.specs.declared.call.Call.{Call}
+use Rattle.pb_place.specs.declared.call.Call.TheVariants as call
 use Rattle.pb_place.specs.Counts.{Counts, up, past_place_fault}
 use Rattle.pb_place.specs.Paths.{below}
 use Rattle.pb_place.specs.World.{World, Torn, put_reply}
@@ -34,7 +36,7 @@ kept world counts = record { world = world; counts = counts }
 -- each of some files is written in a folder, in turn
 abbrev pub writes_in : List ℕ → List (List ℕ × List ℕ) → List Call
 writes_in folder [] = []
-writes_in folder (file ∷ files) = write_call (below folder file.0) ∷ writes_in folder files
+writes_in folder (file ∷ files) = call.Write (below folder file.0) ∷ writes_in folder files
 
 -- after files were put in a folder: one call for each, in turn, and none where there is no folder
 abbrev pub past_puts : Option (List ℕ) → List (List ℕ × List ℕ) → Counts → Counts
@@ -53,7 +55,7 @@ PutsUpTo folder done file old new = Torn (below folder file.0) file.1 (put_reply
 abbrev pub FailsToPut : Bool → List ℕ → List (List ℕ × List ℕ) → Kept → Kept → Type 0
 FailsToPut tells folder files old new =
     (done : List (List ℕ × List ℕ)) × (file : List ℕ × List ℕ) × (left : List (List ℕ × List ℕ)) × (files ≡ done ++ file ∷ left)
-    × (new.counts ≡ past_place_fault (below folder file.0) place.Write (past_calls (writes_in folder done) old.counts)) × (IsTrue tells → PutsUpTo folder done file old.world new.world)
+    × (new.counts ≡ past_place_fault (call.Write (below folder file.0)) place.Write (past_calls (writes_in folder done) old.counts)) × (IsTrue tells → PutsUpTo folder done file old.world new.world)
 
 -- memory was refused at one of some files, before its write or in it, which is a call that did not fail; those before it were put in the folder
 abbrev pub StopsPutting : Bool → List ℕ → List (List ℕ × List ℕ) → Kept → Kept → Type 0

@@ -1,6 +1,7 @@
 -- Lemmas on calls in turn: one row behind another, and which call a fault tells.
 use Rattle.std.proofs.Common.{◌≡◌, ◌∙◌, ◌++◌, ◌+◌, ◌≤◌, inl, inr, ℕ, suc, List, [], ◌∷◌, length, refl, sym, ap, subst, arith}
-use Rattle.pb_place.specs.CallsInTurn.{Call, FailsAt, FaultTellsTurn, MakesSome, past_calls}
+use Rattle.pb_place.specs.declared.call.Call.{Call}
+use Rattle.pb_place.specs.CallsInTurn.{FailsAt, FaultTellsTurn, MakesSome, past_calls}
 use Rattle.pb_place.specs.Counts.{Counts, past_call, up}
 use Rattle.pb_place.specs.declared.place.PlaceFault.{PlaceFault}
 use Rattle.pb_place.proofs.Failing.{call_tells_fault}
@@ -49,21 +50,17 @@ fails_right fault (call ∷ a) b old mid new is fails = inr (fails_right fault a
 counts_up : (n m : ℕ) → n + suc m ≤ 0xffff_ffff_ffff_ffff → up n ≡ n + 1
 counts_up n m fits = omega arith
 
--- a call is told by its kind and its name
-abbrev pub told_call : PlaceFault → List ℕ → Call
-told_call kind name = record { kind = kind; name = name }
-
-pub call_is_told : (call : Call) (fault : PlaceFault) (name : List ℕ) → fault ≡ call.kind → name ≡ call.name → call ≡ told_call fault name
-call_is_told call fault name kind is = sym (ap (λ k. told_call k name) kind ∙ ap (λ n. told_call call.kind n) is)
-
 pub fault_tells_turn : FaultTellsTurn
 fault_tells_turn fault [] old new real fits fails = absurd fails
 fault_tells_turn fault (call ∷ calls) old new real fits (inl is) =
-    let told = is.1 ∙ call_tells_fault call.name fault old real in
+    let told = is.1 ∙ call_tells_fault call fault old real in
     record {
       before = [];
+      call = call;
       behind = calls;
-      call = ap (λ c. c ∷ calls) (call_is_told call fault new.named is.0 (ap (λ (c : Counts). c.named) told));
+      row = refl;
+      told = ap (λ (c : Counts). c.failing) told;
+      own = is.0;
       turn = ap (λ (c : Counts). c.calls) told ∙ counts_up old.calls (length calls) fits ∙ omega arith;
     }
 fault_tells_turn fault (call ∷ calls) old new real fits (inr is) =
@@ -71,7 +68,10 @@ fault_tells_turn fault (call ∷ calls) old new real fits (inr is) =
     let rest = fault_tells_turn fault calls (past_call old) new real (subst (λ n. n + length calls ≤ 0xffff_ffff_ffff_ffff) (sym more) (omega arith)) is in
     record {
       before = call ∷ rest.before;
+      call = rest.call;
       behind = rest.behind;
-      call = ap (λ cs. call ∷ cs) rest.call;
+      row = ap (λ cs. call ∷ cs) rest.row;
+      told = rest.told;
+      own = rest.own;
       turn = rest.turn ∙ ap (λ n. n + length rest.before + 1) more ∙ omega arith;
     }

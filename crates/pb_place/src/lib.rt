@@ -1,6 +1,7 @@
 //! The outside world: paths, places of files, variables and children, and sinks.
 #![tactic(auto)]
 
+pub mod call;
 pub mod child;
 pub mod child_in_flight;
 pub mod command;
@@ -13,6 +14,7 @@ mod sink;
 mod taken_apart;
 mod whole;
 
+pub use call::Call;
 pub use child::{Child, Reply, View, ViewFault};
 pub use child_in_flight::ChildInFlight;
 pub use command::{Command, Ended};

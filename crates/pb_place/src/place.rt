@@ -5,6 +5,7 @@ ghost use Rattle.std.specs.FinMap as map;
 ghost use Rattle.pb_place.specs.World.{World, Answers, written, removed, listed, listed_directly, Torn, PartlyRemoved, ChangesOnlyInSome, Ends};
 ghost use Rattle.pb_place.specs.Counts.{Counts, counted, counted_start, counted_spawn, counted_finish};
 ghost use Rattle.pb_place.specs.Children.{child_spawned, is_flying, child_at, most_after, StaysStill, StaysStillBut, LandsAs};
+ghost use Rattle.pb_place.specs.declared.call.Call.TheVariants as call;
 ghost use Rattle.pb_place.specs.declared.place.PlaceFault.TheVariants as place_fault;
 ghost use Rattle.pb_place.specs.declared.place.StartFault.TheVariants as start_fault;
 
@@ -110,9 +111,8 @@ pub trait Place {
     /// The child: a member of the type, so no call can change it.
     ghost child: { Answers };
 
-    /// The counters, the fault of the last call that failed, and the path or the variable's name that the last
-    /// failing call on files or variables was given: so each failing call sets them to the very fault that it
-    /// answers and to what it was called with.
+    /// The counters, the fault of the last call that failed, and the last failing call on files or variables: so each
+    /// failing call sets them to the very fault that it answers and to itself.
     ghost counts: { Self → Counts };
 
     /// The most children that ever were in flight at one moment.
@@ -131,7 +131,7 @@ pub trait Place {
         ensures same { IsTrue tells → world self.new ≡ world self.old }
         ensures fault { IfErr result (λ e. e ≢ PlaceFault.OutOfMemory → e ≡ PlaceFault.Read) }
         ensures fails { IfErr result (λ e. e ≢ PlaceFault.OutOfMemory → fails self.old) }
-        ensures counts { counts self.new ≡ counted path.now result (counts self.old) }
+        ensures counts { counts self.new ≡ counted (call.Read path.now) result (counts self.old) }
         ensures most { most self.new ≡ most self.old }
         ensures still { StaysStill (counts self.old).starts.flying (world self.old) (world self.new) (still self.old) (still self.new) };
 
@@ -141,7 +141,7 @@ pub trait Place {
         ensures same { IsTrue tells → world self.new ≡ world self.old }
         ensures fault { IfErr result (λ e. e ≢ PlaceFault.OutOfMemory → e ≡ PlaceFault.List) }
         ensures fails { IfErr result (λ e. e ≢ PlaceFault.OutOfMemory → fails self.old) }
-        ensures counts { counts self.new ≡ counted folder.now result (counts self.old) }
+        ensures counts { counts self.new ≡ counted (call.List folder.now) result (counts self.old) }
         ensures most { most self.new ≡ most self.old }
         ensures still { StaysStill (counts self.old).starts.flying (world self.old) (world self.new) (still self.old) (still self.new) };
 
@@ -157,7 +157,7 @@ pub trait Place {
         ensures same { IsTrue tells → world self.new ≡ world self.old }
         ensures fault { IfErr result (λ e. e ≢ PlaceFault.OutOfMemory → e ≡ PlaceFault.List) }
         ensures fails { IfErr result (λ e. e ≢ PlaceFault.OutOfMemory → fails self.old) }
-        ensures counts { counts self.new ≡ counted folder.now result (counts self.old) }
+        ensures counts { counts self.new ≡ counted (call.ListOutside folder.now left_out.now) result (counts self.old) }
         ensures most { most self.new ≡ most self.old }
         ensures still { StaysStill (counts self.old).starts.flying (world self.old) (world self.new) (still self.old) (still self.new) };
 
@@ -171,7 +171,7 @@ pub trait Place {
         ensures same { IsTrue tells → world self.new ≡ world self.old }
         ensures fault { IfErr result (λ e. e ≢ PlaceFault.OutOfMemory → e ≡ PlaceFault.List) }
         ensures fails { IfErr result (λ e. e ≢ PlaceFault.OutOfMemory → fails self.old) }
-        ensures counts { counts self.new ≡ counted folder.now result (counts self.old) }
+        ensures counts { counts self.new ≡ counted (call.ListDirectly folder.now) result (counts self.old) }
         ensures most { most self.new ≡ most self.old }
         ensures still { StaysStill (counts self.old).starts.flying (world self.old) (world self.new) (still self.old) (still self.new) };
 
@@ -182,7 +182,7 @@ pub trait Place {
         ensures err { IsTrue tells → OnErr result (Torn path.now bytes.now (world self.old) (world self.new)) }
         ensures fault { IfErr result (λ e. e ≢ PlaceFault.OutOfMemory → e ≡ PlaceFault.Write) }
         ensures fails { IfErr result (λ e. e ≢ PlaceFault.OutOfMemory → fails self.old) }
-        ensures counts { counts self.new ≡ counted path.now result (counts self.old) }
+        ensures counts { counts self.new ≡ counted (call.Write path.now) result (counts self.old) }
         ensures most { most self.new ≡ most self.old }
         ensures still { StaysStill (counts self.old).starts.flying (world self.old) (world self.new) (still self.old) (still self.new) };
 
@@ -193,7 +193,7 @@ pub trait Place {
         ensures err { IsTrue tells → OnErr result (PartlyRemoved path.now (world self.old) (world self.new)) }
         ensures fault { IfErr result (λ e. e ≢ PlaceFault.OutOfMemory → e ≡ PlaceFault.Remove) }
         ensures fails { IfErr result (λ e. e ≢ PlaceFault.OutOfMemory → fails self.old) }
-        ensures counts { counts self.new ≡ counted path.now result (counts self.old) }
+        ensures counts { counts self.new ≡ counted (call.Remove path.now) result (counts self.old) }
         ensures most { most self.new ≡ most self.old }
         ensures still { StaysStill (counts self.old).starts.flying (world self.old) (world self.new) (still self.old) (still self.new) };
 
@@ -203,7 +203,7 @@ pub trait Place {
         ensures same { IsTrue tells → world self.new ≡ world self.old }
         ensures fault { IfErr result (λ e. e ≢ PlaceFault.OutOfMemory → e ≡ PlaceFault.Variable) }
         ensures fails { IfErr result (λ e. e ≢ PlaceFault.OutOfMemory → fails self.old) }
-        ensures counts { counts self.new ≡ counted name.now result (counts self.old) }
+        ensures counts { counts self.new ≡ counted (call.Variable name.now) result (counts self.old) }
         ensures most { most self.new ≡ most self.old }
         ensures still { StaysStill (counts self.old).starts.flying (world self.old) (world self.new) (still self.old) (still self.new) };
 

@@ -4,7 +4,9 @@ use Rattle.std.proofs.lemmas.Bool.{false≢true}
 use Rattle.pb_answer.specs.declared.fault.BuildFault.{BuildFault}
 use Rattle.pb_answer.specs.declared.fault.BuildFault.TheVariants.{Plan, Toolchain, Child, Device, Sink, OutOfMemory}
 use Rattle.pb_answer.specs.declared.fault.DeviceFault.TheVariants.{Place, NumbersSpent}
-use Rattle.pb_place.specs.CallsInTurn.{Call, FailsAt, MakesSome, past_calls, read_call, write_call}
+use Rattle.pb_place.specs.CallsInTurn.{own_fault, FailsAt, MakesSome, past_calls}
+use Rattle.pb_place.specs.declared.call.Call.{Call}
+use Rattle.pb_place.specs.declared.call.Call.TheVariants as call
 use Rattle.pb_place.specs.Counts.{Counts, past_call, past_place_fault}
 use Rattle.pb_place.specs.declared.place.PlaceFault.{PlaceFault}
 use Rattle.pb_place.specs.declared.place.PlaceFault.TheVariants as place
@@ -65,7 +67,7 @@ pub memory_last : (names : List Call) (old new : Counts) → new ≡ past_calls 
 memory_last names old new is = subst (λ c. MakesSome names old c) (sym is) (some_all names old)
 
 -- the one call
-one_stops : (call : Call) (unit : List ℕ) (fault : PlaceFault) (old new : Counts) → (fault ≢ place.OutOfMemory → fault ≡ call.kind) → new ≡ past_place_fault call.name fault old → StopsAt (device_fault unit fault) (call ∷ []) old new
+one_stops : (call : Call) (unit : List ℕ) (fault : PlaceFault) (old new : Counts) → (fault ≢ place.OutOfMemory → fault ≡ own_fault call) → new ≡ past_place_fault call fault old → StopsAt (device_fault unit fault) (call ∷ []) old new
 one_stops call unit place.Read old new kind is = inl (kind (λ e. cc), is)
 one_stops call unit place.List old new kind is = inl (kind (λ e. cc), is)
 one_stops call unit place.Write old new kind is = inl (kind (λ e. cc), is)
@@ -73,7 +75,7 @@ one_stops call unit place.Remove old new kind is = inl (kind (λ e. cc), is)
 one_stops call unit place.Variable old new kind is = inl (kind (λ e. cc), is)
 one_stops call unit place.OutOfMemory old new kind is = inr is
 
-pub call_stops : (call : Call) (unit : List ℕ) (fault : PlaceFault) (told : BuildFault) (old new : Counts) → told ≡ device_fault unit fault → (fault ≢ place.OutOfMemory → fault ≡ call.kind) → new ≡ past_place_fault call.name fault old → StopsAt told (call ∷ []) old new
+pub call_stops : (call : Call) (unit : List ℕ) (fault : PlaceFault) (told : BuildFault) (old new : Counts) → told ≡ device_fault unit fault → (fault ≢ place.OutOfMemory → fault ≡ own_fault call) → new ≡ past_place_fault call fault old → StopsAt told (call ∷ []) old new
 call_stops call unit fault told old new is kind counts = subst (λ e. StopsAt e (call ∷ []) old new) (sym is) (one_stops call unit fault old new kind counts)
 
 -- a call of the store
@@ -114,7 +116,7 @@ numbering_then Toolchain a b old mid new first is = is
 numbering_then (Child unit fault) a b old mid new first is = is
 numbering_then (Device unit (Place fault)) a b old mid new first is = fails_right fault a b old mid new first is
 numbering_then (Device unit NumbersSpent) a b old mid new first (before, path, is, made) =
-    (a ++ before, path, ap (λ (calls : List Call). a ++ calls) is ∙ sym (append_assoc a before (write_call path ∷ [])), made_both a before old mid new first made)
+    (a ++ before, path, ap (λ (calls : List Call). a ++ calls) is ∙ sym (append_assoc a before (call.Write path ∷ [])), made_both a before old mid new first made)
 numbering_then Sink a b old mid new first is = is
 numbering_then OutOfMemory a b old mid new first is = some_right a b old mid new first is
 
@@ -126,12 +128,12 @@ numbers_so (Err e) calls old new makes = numbering_so e calls old new makes
 no_spent : {T : Type 0} (r : Result T StoreFault) (e : StoreFault) → r ≡ Err e → r ≡ Err store.NumbersSpent → e ≡ store.NumbersSpent
 no_spent r e is spent = cc
 
-spent_there : (path : List ℕ) (lacks : Bool) (old new : Counts) → lacks ≡ true → new ≡ past_calls (read_call path ∷ []) old → StopsBeforeWrite (read_call path ∷ cond lacks (write_call path ∷ []) []) old new
-spent_there path lacks old new is made = (read_call path ∷ [], path, ap (λ b. read_call path ∷ cond b (write_call path ∷ []) []) is, made)
+spent_there : (path : List ℕ) (lacks : Bool) (old new : Counts) → lacks ≡ true → new ≡ past_calls (call.Read path ∷ []) old → StopsBeforeWrite (call.Read path ∷ cond lacks (call.Write path ∷ []) []) old new
+spent_there path lacks old new is made = (call.Read path ∷ [], path, ap (λ b. call.Read path ∷ cond b (call.Write path ∷ []) []) is, made)
 
 pub migrate_stops : {T : Type 0} (r : Result T StoreFault) (unit : List ℕ) (e : StoreFault) (told : BuildFault) (folder key : List ℕ) (found : Option Record) (old new : Counts) → r ≡ Err e → told ≡ store_fault unit e
     → (r ≡ Err store.NumbersSpent → lacks_number found ≡ true)
-    → ((r ≡ Err store.NumbersSpent) × (new ≡ past_calls (read_call (place_of folder key) ∷ []) old)) ⊎ looking.StopsAt e (migrated_called folder key found) old new → NumberingStopsAt told (migrated_called folder key found) old new
+    → ((r ≡ Err store.NumbersSpent) × (new ≡ past_calls (call.Read (place_of folder key) ∷ []) old)) ⊎ looking.StopsAt e (migrated_called folder key found) old new → NumberingStopsAt told (migrated_called folder key found) old new
 migrate_stops r unit e told folder key found old new so is lacks (inl (spent, made)) =
     subst (λ f. NumberingStopsAt f (migrated_called folder key found) old new) (sym (is ∙ ap (store_fault unit) (no_spent r e so spent))) (spent_there (place_of folder key) (lacks_number found) old new (lacks spent) made)
 migrate_stops r unit e told folder key found old new so is lacks (inr stops) =

@@ -200,8 +200,8 @@ written_of unit (store.Place place.OutOfMemory) so = absurd (false≢true so)
 written_of unit store.NumbersSpent so = absurd (false≢true so)
 written_of unit store.OutOfMemory so = absurd (false≢true so)
 
-pub store_written : (unit : List ℕ) (e : StoreFault) (told : BuildFault) (named path : List ℕ) → told ≡ store_fault unit e → (e ≡ store.Place place.Write → named ≡ path) → is_of_write told ≡ true → named ≡ path
-store_written unit e told named path is from so = from (written_of unit e (sym (ap is_of_write is) ∙ so))
+pub store_written : {A : Type 0} (unit : List ℕ) (e : StoreFault) (told : BuildFault) (failing call : A) → told ≡ store_fault unit e → (e ≡ store.Place place.Write → failing ≡ call) → is_of_write told ≡ true → failing ≡ call
+store_written unit e told failing call is from so = from (written_of unit e (sym (ap is_of_write is) ∙ so))
 
 -- a read is none, nor is the end of a child
 read_fault : (fault : PlaceFault) → fault ≡ place.Read → (unit : List ℕ) → is_of_write (Device unit (Place fault)) ≡ false

@@ -1,6 +1,8 @@
 -- Why a step of a build ends with a fault: which call failed, with which fault, after how many starts.
 use Rattle.std.specs.Prelude.{◌≡◌, ◌≢◌, ◌⊎◌, ◌++◌, ◌∷◌, [], ℕ, Bool, true, false, IsSome, List, Option, Some, None, IfErr, Result, MatchResult}
-use Rattle.pb_place.specs.CallsInTurn.{Call, FailsAt, MakesSome, past_calls, write_call}
+use Rattle.pb_place.specs.CallsInTurn.{FailsAt, MakesSome, past_calls}
+use Rattle.pb_place.specs.declared.call.Call.{Call}
+use Rattle.pb_place.specs.declared.call.Call.TheVariants as call
 use Rattle.pb_place.specs.Children.{is_flying}
 use Rattle.pb_place.specs.Counts.{Counts, Starts, up, up_starts, without, counted_finish}
 use Rattle.pb_place.specs.declared.child_in_flight.ChildInFlight.{ChildInFlight}
@@ -214,7 +216,7 @@ MakesInTurn result calls old new = MatchResult result (λ x. new ≡ past_calls 
 
 -- these calls were made but the last of them, which writes a file
 abbrev pub StopsBeforeWrite : List Call → Counts → Counts → Type 0
-StopsBeforeWrite calls old new = (before : List Call) × (path : List ℕ) × (calls ≡ before ++ write_call path ∷ []) × (new ≡ past_calls before old)
+StopsBeforeWrite calls old new = (before : List Call) × (path : List ℕ) × (calls ≡ before ++ call.Write path ∷ []) × (new ≡ past_calls before old)
 
 -- of a step that may give a record a run number likewise; where none is left, it stopped before the record was written again
 abbrev pub NumberingStopsAt : BuildFault → List Call → Counts → Counts → Type 0

@@ -3,7 +3,8 @@ use Rattle.std.specs.Prelude.{◌≡◌, ◌++◌, ◌∷◌, ℕ, if◌then◌e
 use Rattle.pb_answer.specs.declared.fault.BuildFault.{BuildFault}
 use Rattle.pb_command.specs.Answers.{answered_of}
 use Rattle.pb_command.specs.Judge.{file_at}
-use Rattle.pb_place.specs.CallsInTurn.{Call, read_call}
+use Rattle.pb_place.specs.declared.call.Call.{Call}
+use Rattle.pb_place.specs.declared.call.Call.TheVariants as call
 use Rattle.pb_place.specs.Children.{LandsAs, child_at}
 use Rattle.pb_place.specs.Counts.{Counts, counted_finish}
 use Rattle.pb_place.specs.World.{World, ChangesOnlyInSome}
@@ -40,7 +41,7 @@ EndsBy (awaited.Record again) answer well still before after old new = (after �
 -- the dep-info of a unit is read, where it has one
 abbrev pub dep_info_looked : Option (List ℕ) → List Call
 dep_info_looked None = []
-dep_info_looked (Some path) = read_call path ∷ []
+dep_info_looked (Some path) = call.Read path ∷ []
 
 -- where its child was started, its record is kept; else a record that has no run number is given one
 abbrev pub recorded_called : Reading → Project → Planned → Command → World → List InputName → Awaited → List Call

@@ -4,7 +4,9 @@ use Rattle.std.specs.FinMap as finite
 use Rattle.pb_answer.specs.declared.fault.BuildFault.{BuildFault}
 use Rattle.pb_answer.specs.declared.fault.BuildFault.TheVariants.{Child, Device, OutOfMemory}
 use Rattle.pb_answer.specs.declared.fault.DeviceFault.TheVariants.{Place, NumbersSpent}
-use Rattle.pb_place.specs.CallsInTurn.{Call, Fails, past_calls, remove_call}
+use Rattle.pb_place.specs.CallsInTurn.{Fails, past_calls}
+use Rattle.pb_place.specs.declared.call.Call.{Call}
+use Rattle.pb_place.specs.declared.call.Call.TheVariants as call
 use Rattle.pb_place.specs.Children.{child_at, child_spawned, inside_out}
 use Rattle.pb_place.specs.Counts.{Counts, counted_spawn, one_start, past_call, past_start_fault}
 use Rattle.pb_place.specs.World.{World, Answers, ChangesOnly}
@@ -33,7 +35,7 @@ OneCall x old new = new ≡ past_call old
 
 -- the one call, which removes what stands at this path, failed; where memory was refused, it or none was made
 abbrev pub RemovalEnds : List ℕ → BuildFault → Counts → Counts → Type 0
-RemovalEnds path (Device unit (Place fault)) old new = Fails fault (remove_call path) old new
+RemovalEnds path (Device unit (Place fault)) old new = Fails fault (call.Remove path) old new
 RemovalEnds path OutOfMemory old new = (new ≡ old) ⊎ (new ≡ past_call old)
 RemovalEnds path e old new = ⊥
 

@@ -6,6 +6,7 @@ ghost use Rattle.pb_command.specs.Command.{command_of};
 ghost use Rattle.pb_directive.specs.declared.directive.Directive.{Directive};
 ghost use Rattle.pb_flight.specs.declared.flight.State.{State};
 ghost use Rattle.pb_flight.specs.declared.flight.State.TheVariants as state;
+ghost use Rattle.pb_place.specs.declared.call.Call.TheVariants as call;
 ghost use Rattle.pb_place.specs.Children.{child_at, is_flying};
 ghost use Rattle.pb_place.specs.Folders.{files_in};
 ghost use Rattle.pb_place.specs.Paths.{is_at_or_below};
@@ -225,7 +226,7 @@ pub fn answer_unit<P: Place>(
     ensures spends { IfErr result (λ e. is_spent e ≡ true → awaits_number begun.awaited ≡ true) }
     ensures spent { child_of begun ≡ None → store.old.next ≡ None → IsTrue P.tells → P.world place.new ≡ P.world place.old }
     ensures cause { (read : Reading) → IsReading read → IsTrue P.tells → IfErr result (λ e. is_spent e ≡ true → lacks_number (record_at read (records_folder project.now) (P.world place.old).files unit.now.key) ≡ true) }
-    ensures written { IfErr result (λ e. is_of_write e ≡ true → (P.counts place.new).named ≡ place_of (records_folder project.now) unit.now.key) }
+    ensures written { IfErr result (λ e. is_of_write e ≡ true → (P.counts place.new).failing ≡ Some (call.Write (place_of (records_folder project.now) unit.now.key))) }
     ensures most { P.most place.new ≡ P.most place.old }
     ensures takes { Takes (Lands (child_of begun)) (MayAnswerUnit store.old.next unit.now.key (child_of begun)) result (P.counts place.old) (P.counts place.new) }
     ensures lands { IsTrue P.tells → (left : P) × (answer : Result Ended StartFault) × EndsBy begun.awaited answer (IsOk result) (P.still place.old) (P.world place.old) (P.world left) (P.counts place.old) (P.counts left)

@@ -4,6 +4,7 @@ ghost use Rattle.std.specs.Prelude.{◌≡◌, ◌++◌, ℕ, true, false, List,
 ghost use Rattle.std.specs.FinMap as finite;
 ghost use Rattle.pb_command.specs.Answers.{answered_of};
 ghost use Rattle.pb_command.specs.Judge.{file_at};
+ghost use Rattle.pb_place.specs.declared.call.Call.TheVariants as call;
 ghost use Rattle.pb_place.specs.Children.{is_flying, child_at, LandsAs, StaysStillBut};
 ghost use Rattle.pb_place.specs.Paths.{is_at_or_below};
 ghost use Rattle.pb_place.specs.World.{World, ChangesOnly, ChangesOnlyInSome};
@@ -178,7 +179,7 @@ fn keep<P: Place>(
     ensures most { P.most place.new ≡ P.most place.old }
     ensures still { IsTrue P.tells → KeepsStillOutside (is_at_or_below (place_of store.old.folder unit.now.key)) (P.counts place.old).starts.flying (P.still place.old) (P.still place.new) }
     ensures takes { Takes NoStart (MayFollow unit.now.key) result (P.counts place.old) (P.counts place.new) }
-    ensures written { IfErr result (λ e. is_of_write e ≡ true → (P.counts place.new).named ≡ place_of store.old.folder unit.now.key) }
+    ensures written { IfErr result (λ e. is_of_write e ≡ true → (P.counts place.new).failing ≡ Some (call.Write (place_of store.old.folder unit.now.key))) }
     ensures calls { IsTrue P.tells → MakesInTurn result (kept_called store.old.folder unit.now.key command.now.target (P.world place.old) names.now) (P.counts place.old) (P.counts place.new) }
 {
     let needs = match needed_keys(alloc, project, unit) {
@@ -229,7 +230,7 @@ fn migrate<P: Place>(
     ensures takes { Takes NoStart (MayAnswerUnit store.old.next unit.now.key None) result (P.counts place.old) (P.counts place.new) }
     ensures spent { store.old.next ≡ None → IsTrue P.tells → P.world place.new ≡ P.world place.old }
     ensures cause { (read : Reading) → IsReading read → IsTrue P.tells → IfErr result (λ e. is_spent e ≡ true → lacks_number (record_at read store.old.folder (P.world place.old).files unit.now.key) ≡ true) }
-    ensures written { IfErr result (λ e. is_of_write e ≡ true → (P.counts place.new).named ≡ place_of store.old.folder unit.now.key) }
+    ensures written { IfErr result (λ e. is_of_write e ≡ true → (P.counts place.new).failing ≡ Some (call.Write (place_of store.old.folder unit.now.key))) }
     ensures calls { (read : Reading) → IsReading read → IsTrue P.tells → NumbersInTurn result (migrated_called store.old.folder unit.now.key (record_at read store.old.folder (P.world place.old).files unit.now.key)) (P.counts place.old) (P.counts place.new) }
 {
     let needs = match needed_keys(alloc, project, unit) {
@@ -303,7 +304,7 @@ pub(crate) fn land<P: Place>(
     ensures lands { IsTrue P.tells → (left : P) × (answer : Result Ended StartFault) × HasEnded launched.now.ticket answer (IsOk result) (P.still place.old launched.now.ticket) (P.world place.old) (P.world left) (P.counts place.old) (P.counts left)
         × ChangesOnly (is_at_or_below (place_of (records_folder project.now) unit.now.key)) (P.world left) (P.world place.new)
         × ((read : Reading) → IsReading read → CallsBehind (answered_called read project.now unit.now command.now (P.world left) (awaited.Child launched.now)) answer result (P.counts left) (P.counts place.new)) }
-    ensures written { IfErr result (λ e. is_of_write e ≡ true → (P.counts place.new).named ≡ place_of (records_folder project.now) unit.now.key) }
+    ensures written { IfErr result (λ e. is_of_write e ≡ true → (P.counts place.new).failing ≡ Some (call.Write (place_of (records_folder project.now) unit.now.key))) }
 {
     project.is_in_order();
     let ended = match finish(alloc, place, name, launched) {
@@ -380,7 +381,7 @@ pub(crate) fn reuse<P: Place>(
     ensures takes { Takes (Lands None) (MayAnswerUnit store.old.next unit.now.key None) result (P.counts place.old) (P.counts place.new) }
     ensures lands { IsTrue P.tells → ChangesOnly (is_at_or_below (place_of (records_folder project.now) unit.now.key)) (P.world place.old) (P.world place.new) }
     ensures calls { (read : Reading) → IsReading read → IsTrue P.tells → NumbersInTurn result (answered_called read project.now unit.now command.now (P.world place.old) (awaited.Record again.now) again.now.ended) (P.counts place.old) (P.counts place.new) }
-    ensures written { IfErr result (λ e. is_of_write e ≡ true → (P.counts place.new).named ≡ place_of (records_folder project.now) unit.now.key) }
+    ensures written { IfErr result (λ e. is_of_write e ≡ true → (P.counts place.new).failing ≡ Some (call.Write (place_of (records_folder project.now) unit.now.key))) }
 {
     project.is_in_order();
     let judgement = match judged_now(alloc, place, project, unit, command, &again.ended) {

@@ -4,7 +4,8 @@ use Rattle.std.specs.Prelude.{Decides}
 use Rattle.std.specs.List.{AllByRecursion, list_all}
 use Rattle.std.proofs.lemmas.Bool.Decides.{Decides-and, Decides-like, same_from_decides}
 use Rattle.std.proofs.lemmas.Slice.Eq.{bytes_eq-Decides}
-use Rattle.pb_place.specs.CallsInTurn.{Call, past_calls}
+use Rattle.pb_place.specs.CallsInTurn.{past_calls}
+use Rattle.pb_place.specs.declared.call.Call.{Call}
 use Rattle.pb_place.specs.Counts.{Counts}
 use Rattle.pb_place.specs.Paths.{is_relative}
 use Rattle.pb_place.specs.World.{World, Map}

@@ -1,8 +1,9 @@
 -- Which call of the place failed.
-use Rattle.std.proofs.Common.{◌≡◌, ◌≢◌, ◌∙◌, ℕ, Bool, true, IsTrue, List, ◌∷◌, Contains, Result, Ok, Err, refl, sym, ap, subst, inl, inr}
+use Rattle.std.proofs.Common.{◌≡◌, ◌≢◌, ◌∙◌, ℕ, Bool, true, IsTrue, List, ◌∷◌, Contains, Option, Some, None, Result, Ok, Err, refl, sym, ap, subst, inl, inr}
 use Rattle.std.specs.Prelude.{IfErr}
 use Rattle.std.proofs.lemmas.Bool.{false≢true}
-use Rattle.pb_place.specs.CallsInTurn.{Call}
+use Rattle.pb_place.specs.CallsInTurn.{own_fault}
+use Rattle.pb_place.specs.declared.call.Call.{Call}
 use Rattle.pb_place.specs.Counts.{Counts, past_place_fault}
 use Rattle.pb_place.specs.World.{World, listed_directly}
 use Rattle.pb_place.specs.declared.place.PlaceFault.{PlaceFault}
@@ -17,7 +18,7 @@ use Rattle.pb_store.specs.declared.fault.StoreFault.{StoreFault}
 use Rattle.pb_store.specs.declared.fault.StoreFault.TheVariants.{Place, NumbersSpent, OutOfMemory}
 
 -- the one call failed
-once : (call : Call) (fault : PlaceFault) (old new : Counts) → (fault ≢ place.OutOfMemory → fault ≡ call.kind) → new ≡ past_place_fault call.name fault old → EndsOnce call (stored fault) old new
+once : (call : Call) (fault : PlaceFault) (old new : Counts) → (fault ≢ place.OutOfMemory → fault ≡ own_fault call) → new ≡ past_place_fault call fault old → EndsOnce call (stored fault) old new
 once call place.Read old new kind is = (kind (λ e. cc), is)
 once call place.List old new kind is = (kind (λ e. cc), is)
 once call place.Write old new kind is = (kind (λ e. cc), is)
@@ -25,15 +26,15 @@ once call place.Remove old new kind is = (kind (λ e. cc), is)
 once call place.Variable old new kind is = (kind (λ e. cc), is)
 once call place.OutOfMemory old new kind is = inr is
 
-pub ends_once : (call : Call) (fault : PlaceFault) (e : StoreFault) (old new : Counts) → e ≡ stored fault → (fault ≢ place.OutOfMemory → fault ≡ call.kind) → new ≡ past_place_fault call.name fault old → EndsOnce call e old new
+pub ends_once : (call : Call) (fault : PlaceFault) (e : StoreFault) (old new : Counts) → e ≡ stored fault → (fault ≢ place.OutOfMemory → fault ≡ own_fault call) → new ≡ past_place_fault call fault old → EndsOnce call e old new
 ends_once call fault e old new told kind is = subst (λ f. EndsOnce call f old new) (sym told) (once call fault old new kind is)
 
 pub ends_there : (at : List ℕ → Call) (path other : List ℕ) (e : StoreFault) (old new : Counts) → path ≡ other → EndsOnce (at path) e old new → EndsOnce (at other) e old new
 ends_there at path other e old new same = subst (λ p. EndsOnce (at p) e old new) same
 
--- it was on this path
-pub named_once : (call : Call) (e : StoreFault) (old new : Counts) → EndsOnce call e old new → e ≡ Place place.Write → new.named ≡ call.name
-named_once call e old new ends is = ap (λ (c : Counts). c.named) (subst (λ f. EndsOnce call f old new) is ends).1
+-- it is the one that failed last
+pub named_once : (call : Call) (e : StoreFault) (old new : Counts) → EndsOnce call e old new → e ≡ Place place.Write → new.failing ≡ Some call
+named_once call e old new ends is = ap (λ (c : Counts). c.failing) (subst (λ f. EndsOnce call f old new) is ends).1
 
 -- a call that writes is none that looks
 pub no_look : (e : StoreFault) → MayWrite e → looked e ≡ true → ⊥
@@ -53,8 +54,8 @@ no_write e may is = elim (subst MayLook is may) [
 pub read_no_write : (e : StoreFault) → MayRead e → e ≡ Place place.Write → ⊥
 read_no_write e may is = let read : place.Write ≡ place.Read = subst MayRead is may in cc
 
-pub read_unwritten : (e : StoreFault) (named path : List ℕ) → MayRead e → e ≡ Place place.Write → named ≡ path
-read_unwritten e named path may is = absurd (read_no_write e may is)
+pub read_unwritten : {A : Type 0} (e : StoreFault) (failing told : A) → MayRead e → e ≡ Place place.Write → failing ≡ told
+read_unwritten e failing told may is = absurd (read_no_write e may is)
 
 -- opening
 reads : (path : List ℕ) (fault : PlaceFault) → (fault ≢ place.OutOfMemory → fault ≡ place.Read) → ReadsAt path (opened path fault)

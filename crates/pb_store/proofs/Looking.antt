@@ -1,7 +1,8 @@
 -- Lemmas on where a comparison looks: one step after the other.
 use Rattle.std.proofs.Common.{◌≡◌, ◌≢◌, ◌∙◌, ◌++◌, ◌+◌, ◌<◌, ◌≤◌, inl, inr, ℕ, Bool, true, false, cond, List, [], ◌∷◌, drop, length, get_or, Result, Ok, Err, refl, sym, ap, subst, append_assoc}
 use Rattle.std.proofs.lemmas.List.{drop_all, drop_more}
-use Rattle.pb_place.specs.CallsInTurn.{Call, MakesSome, past_calls}
+use Rattle.pb_place.specs.CallsInTurn.{own_fault, MakesSome, past_calls}
+use Rattle.pb_place.specs.declared.call.Call.{Call}
 use Rattle.pb_place.specs.Counts.{Counts, past_place_fault}
 use Rattle.pb_place.specs.World.{World}
 use Rattle.pb_place.specs.declared.place.PlaceFault.{PlaceFault}
@@ -30,7 +31,7 @@ looks_both (Ok x) a b old mid new first second = made_both a b old mid new first
 looks_both (Err e) a b old mid new first second = stops_then e a b old mid new first second
 
 -- the one call
-one_stops : (call : Call) (fault : PlaceFault) (old new : Counts) → (fault ≢ place.OutOfMemory → fault ≡ call.kind) → new ≡ past_place_fault call.name fault old → StopsAt (stored fault) (call ∷ []) old new
+one_stops : (call : Call) (fault : PlaceFault) (old new : Counts) → (fault ≢ place.OutOfMemory → fault ≡ own_fault call) → new ≡ past_place_fault call fault old → StopsAt (stored fault) (call ∷ []) old new
 one_stops call place.Read old new kind is = inl (kind (λ e. cc), is)
 one_stops call place.List old new kind is = inl (kind (λ e. cc), is)
 one_stops call place.Write old new kind is = inl (kind (λ e. cc), is)
@@ -38,7 +39,7 @@ one_stops call place.Remove old new kind is = inl (kind (λ e. cc), is)
 one_stops call place.Variable old new kind is = inl (kind (λ e. cc), is)
 one_stops call place.OutOfMemory old new kind is = inr is
 
-pub stops_once : (call : Call) (fault : PlaceFault) (e : StoreFault) (old new : Counts) → e ≡ stored fault → (fault ≢ place.OutOfMemory → fault ≡ call.kind) → new ≡ past_place_fault call.name fault old → StopsAt e (call ∷ []) old new
+pub stops_once : (call : Call) (fault : PlaceFault) (e : StoreFault) (old new : Counts) → e ≡ stored fault → (fault ≢ place.OutOfMemory → fault ≡ own_fault call) → new ≡ past_place_fault call fault old → StopsAt e (call ∷ []) old new
 stops_once call fault e old new told kind is = subst (λ f. StopsAt f (call ∷ []) old new) (sym told) (one_stops call fault old new kind is)
 
 -- a fault is told as it is

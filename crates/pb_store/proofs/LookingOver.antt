@@ -2,7 +2,8 @@
 use Rattle.std.proofs.Common.{◌≡◌, ◌∙◌, ◌++◌, ℕ, Bool, true, false, cond, List, [], ◌∷◌, Option, Some, None, Result, refl, sym, ap, subst}
 use Rattle.std.specs.Prelude.{Decides, MatchOption}
 use Rattle.std.specs.List.{list_all}
-use Rattle.pb_place.specs.CallsInTurn.{past_calls, read_call}
+use Rattle.pb_place.specs.CallsInTurn.{past_calls}
+use Rattle.pb_place.specs.declared.call.Call.TheVariants as call
 use Rattle.pb_place.specs.Counts.{Counts}
 use Rattle.pb_place.specs.World.{World}
 use Rattle.pb_place.specs.declared.command.Command as commands
@@ -84,23 +85,23 @@ module _ (folder : List ℕ) (c : commands.Command) (w : World) (r : Record) whe
 
 -- the place of a record, and the record that counts there
 module _ (read : Reading) (folder key : List ℕ) (c : commands.Command) (w : World) (old : Counts) where
-  pub at_unread : (e : StoreFault) (new : Counts) → StopsAt e (read_call (place_of folder key) ∷ []) old new → StopsAt e (looked_at read folder key c w) old new
+  pub at_unread : (e : StoreFault) (new : Counts) → StopsAt e (call.Read (place_of folder key) ∷ []) old new → StopsAt e (looked_at read folder key c w) old new
   unfolding looked_at
-  at_unread e new stops = stops_first e (read_call (place_of folder key) ∷ []) _ old new stops
+  at_unread e new stops = stops_first e (call.Read (place_of folder key) ∷ []) _ old new stops
 
-  pub at_none : (found : Option Record) (new : Counts) → found ≡ record_at read folder w.files key → found ≡ None → new ≡ past_calls (read_call (place_of folder key) ∷ []) old → new ≡ past_calls (looked_at read folder key c w) old
+  pub at_none : (found : Option Record) (new : Counts) → found ≡ record_at read folder w.files key → found ≡ None → new ≡ past_calls (call.Read (place_of folder key) ∷ []) old → new ≡ past_calls (looked_at read folder key c w) old
   unfolding looked_at
-  at_none found new is none made = made ∙ ap (λ o. past_calls (read_call (place_of folder key) ∷ kept_looked folder c w o) old) (sym none ∙ is)
+  at_none found new is none made = made ∙ ap (λ o. past_calls (call.Read (place_of folder key) ∷ kept_looked folder c w o) old) (sym none ∙ is)
 
-  at_names : (found : Option Record) (r : Record) → found ≡ record_at read folder w.files key → found ≡ Some r → looked_at read folder key c w ≡ (read_call (place_of folder key) ∷ []) ++ from_looked folder c w r
+  at_names : (found : Option Record) (r : Record) → found ≡ record_at read folder w.files key → found ≡ Some r → looked_at read folder key c w ≡ (call.Read (place_of folder key) ∷ []) ++ from_looked folder c w r
   unfolding looked_at
-  at_names found r is some = ap (λ o. read_call (place_of folder key) ∷ kept_looked folder c w o) (sym is ∙ some)
+  at_names found r is some = ap (λ o. call.Read (place_of folder key) ∷ kept_looked folder c w o) (sym is ∙ some)
 
-  pub at_then : {T : Type 0} (result : Result T StoreFault) (found : Option Record) (r : Record) (now : World) (mid new : Counts) → found ≡ record_at read folder w.files key → found ≡ Some r → now ≡ w → mid ≡ past_calls (read_call (place_of folder key) ∷ []) old
+  pub at_then : {T : Type 0} (result : Result T StoreFault) (found : Option Record) (r : Record) (now : World) (mid new : Counts) → found ≡ record_at read folder w.files key → found ≡ Some r → now ≡ w → mid ≡ past_calls (call.Read (place_of folder key) ∷ []) old
       → Looks result (from_looked folder c now r) mid new → Looks result (looked_at read folder key c w) old new
   at_then result found r now mid new is some same first second =
       subst (λ names. Looks result names old new) (sym (at_names found r is some))
-      (looks_both result (read_call (place_of folder key) ∷ []) (from_looked folder c w r) old mid new first
+      (looks_both result (call.Read (place_of folder key) ∷ []) (from_looked folder c w r) old mid new first
       (subst (λ (v : World). Looks result (from_looked folder c v r) mid new) same second))
 
 -- whatever reading it is

@@ -1,6 +1,7 @@
 -- Which call of the place failed: of which kind and on which path, and what was done before it.
 use Rattle.std.specs.Prelude.{◌≡◌, ◌⊎◌, ℕ, Bool, true, false, IsTrue, List, Contains, Result, MatchResult}
-use Rattle.pb_place.specs.CallsInTurn.{Call, Fails}
+use Rattle.pb_place.specs.CallsInTurn.{Fails}
+use Rattle.pb_place.specs.declared.call.Call.{Call}
 use Rattle.pb_place.specs.Counts.{Counts, past_call}
 use Rattle.pb_place.specs.World.{World, listed_directly}
 use Rattle.pb_place.specs.declared.place.PlaceFault.{PlaceFault}

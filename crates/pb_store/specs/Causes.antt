@@ -1,6 +1,6 @@
 -- Why a call of the store ends with a fault: which call of the place failed, and that it was the last.
 use Rattle.std.specs.Prelude.{◌≡◌, ◌⊎◌, ℕ, List, Option, Some, None, Result, MatchResult}
-use Rattle.pb_place.specs.Counts.{Counts, up}
+use Rattle.pb_place.specs.Counts.{Counts, named_in, up}
 use Rattle.pb_place.specs.declared.place.Failure.{Failure}
 use Rattle.pb_place.specs.declared.place.Failure.TheVariants.{Called}
 use Rattle.pb_place.specs.declared.place.PlaceFault.{PlaceFault}
@@ -87,7 +87,7 @@ MayMigrate next OutOfMemory = Unit {0}
 
 -- the cause of a fault of opening: the call on this path failed, with this fault, and was the last; or memory was refused, and none failed
 abbrev pub FailsToOpen : OpenFault → Counts → Counts → Type 0
-FailsToOpen (open_fault.Place path fault) old new = ((fault ≡ place.List) ⊎ (fault ≡ place.Read)) × FailedLast (Called fault) old new × (new.named ≡ path)
+FailsToOpen (open_fault.Place path fault) old new = ((fault ≡ place.List) ⊎ (fault ≡ place.Read)) × FailedLast (Called fault) old new × (named_in new ≡ path)
 FailsToOpen open_fault.OutOfMemory old new = new.failures ≡ old.failures
 
 -- what opening says of the counters: it starts no child; where it ended well, no call failed; else its fault has its cause

@@ -4,7 +4,9 @@ use Rattle.std.specs.Cmp.Lexicographic.{pointwise}
 use Rattle.std.specs.FinMap as finite
 use Rattle.std.specs.List.{filter, list_all}
 use Rattle.std.specs.Str.{bytes_eq}
-use Rattle.pb_place.specs.CallsInTurn.{Call, FailsAt, MakesSome, list_call, past_calls, read_call, variable_call, write_call}
+use Rattle.pb_place.specs.CallsInTurn.{FailsAt, MakesSome, past_calls}
+use Rattle.pb_place.specs.declared.call.Call.{Call}
+use Rattle.pb_place.specs.declared.call.Call.TheVariants as call
 use Rattle.pb_place.specs.Counts.{Counts}
 use Rattle.pb_place.specs.Paths.{is_at_or_below, is_relative}
 use Rattle.pb_place.specs.World.{World, Map, from_nothing, listed, listed_directly, removed}
@@ -33,7 +35,7 @@ StopsAt (Place fault) calls old new = FailsAt fault calls old new
 StopsAt NumbersSpent calls old new = ⊥
 StopsAt OutOfMemory calls old new = MakesSome calls old new
 
--- where it ended well, these calls were made, and no more; else it stopped at one of them. Every call is counted, and one that failed tells its turn, its kind and its name, so the list is told in its order
+-- where it ended well, these calls were made, and no more; else it stopped at one of them. Every call is counted, and the one that failed is kept, so the list is told in its order
 abbrev pub Looks : {T : Type 0} → Result T StoreFault → List Call → Counts → Counts → Type 0
 Looks result calls old new = MatchResult result (λ x. new ≡ past_calls calls old) (λ e. StopsAt e calls old new)
 
@@ -52,17 +54,17 @@ looked_up_to is_same look (x ∷ xs) = look x ++ (if is_same x then looked_up_to
 
 -- a file of the sources is read; at or below the target folder none is
 abbrev pub source_looked : List ℕ → List ℕ → List Call
-source_looked target path = if is_at_or_below target path then [] else read_call path ∷ []
+source_looked target path = if is_at_or_below target path then [] else call.Read path ∷ []
 
 -- where no file is there, the folder is listed, but for what is at or below the target folder, and then each file listed is read
 abbrev pub folder_looked : List ℕ → World → List ℕ → Option (List ℕ) → List Call
 folder_looked target w path (Some bytes) = []
-folder_looked target w path None = list_call path ∷ map read_call (listed path (removed target w))
+folder_looked target w path None = call.ListOutside path target ∷ map call.Read (listed path (removed target w))
 
 -- for an input: of a path the file, or the folder; of a variable its value
 abbrev pub name_looked : List ℕ → World → InputName → List Call
 name_looked target w (Path path) = source_looked target path ++ folder_looked target w path (finite.get (from_nothing target w).files path)
-name_looked target w (Variable name) = variable_call name ∷ []
+name_looked target w (Variable name) = call.Variable name ∷ []
 
 -- two texts, or none, are the same
 abbrev pub same_text : Option (List ℕ) → Option (List ℕ) → Bool
@@ -93,7 +95,7 @@ inputs_looked target w inputs = looked_up_to (is_present target w) (λ i. name_l
 
 -- the folder of a unit is listed, and then each file there is read; a text that is no path in a folder names none
 abbrev pub out_looked : List ℕ → World → List ℕ → List Call
-out_looked folder w key = if is_relative key then list_call (out_of folder key) ∷ map read_call (listed (out_of folder key) w) else []
+out_looked folder w key = if is_relative key then call.List (out_of folder key) ∷ map call.Read (listed (out_of folder key) w) else []
 
 -- a needed unit has the files with which a record names it
 unfoldable pub has_files : List ℕ → Map → List ℕ × List (List ℕ × List ℕ) → Bool
@@ -129,15 +131,15 @@ kept_looked folder c w (Some r) = from_looked folder c w r
 
 -- for a unit: the place of its record is read, and then it is looked where the record that counts there leads
 unfoldable pub looked_at : Reading → List ℕ → List ℕ → commands.Command → World → List Call
-looked_at read folder key c w = read_call (place_of folder key) ∷ kept_looked folder c w (record_at read folder w.files key)
+looked_at read folder key c w = call.Read (place_of folder key) ∷ kept_looked folder c w (record_at read folder w.files key)
 
 -- those of some files that have the name of a record are read, in their order
 abbrev pub records_looked : List (List ℕ) → List Call
-records_looked paths = map read_call (filter ends_as_record paths)
+records_looked paths = map call.Read (filter ends_as_record paths)
 
--- to open a folder it is listed, and then each record directly in it is read, in the order of the listing
+-- to open a folder the files directly in it are listed, and then each record directly in it is read, in the order of the listing
 abbrev pub opened_looked : List ℕ → World → List Call
-opened_looked folder w = list_call folder ∷ records_looked (listed_directly folder w)
+opened_looked folder w = call.ListDirectly folder ∷ records_looked (listed_directly folder w)
 
 -- it is looked at each of some inputs, in their order
 abbrev pub names_looked : List ℕ → World → List InputName → List Call
@@ -145,11 +147,11 @@ names_looked target w names = looked_up_to (λ name. true) (name_looked target w
 
 -- to keep a record the inputs are looked at, and then it is written in its place
 abbrev pub kept_called : List ℕ → List ℕ → List ℕ → World → List InputName → List Call
-kept_called folder key target w names = names_looked target w names ++ (write_call (place_of folder key) ∷ [])
+kept_called folder key target w names = names_looked target w names ++ (call.Write (place_of folder key) ∷ [])
 
 -- to migrate a record its place is read, and where one without a number counts there, it is written again
 abbrev pub migrated_called : List ℕ → List ℕ → Option Record → List Call
-migrated_called folder key found = read_call (place_of folder key) ∷ (if lacks_number found then write_call (place_of folder key) ∷ [] else [])
+migrated_called folder key found = call.Read (place_of folder key) ∷ (if lacks_number found then call.Write (place_of folder key) ∷ [] else [])
 
 -- The tests by which it is said how far it looks decide just that by which a difference is told.
 pub record TestsDecide : Type 0 where

@@ -4,7 +4,8 @@ use Rattle.std.specs.FinMap as finite
 use Rattle.std.specs.List.{fold}
 use Rattle.std.specs.Str.{bytes_eq}
 use Rattle.pb_data.specs.Table.{with_entry}
-use Rattle.pb_place.specs.CallsInTurn.{Call, read_call}
+use Rattle.pb_place.specs.declared.call.Call.{Call}
+use Rattle.pb_place.specs.declared.call.Call.TheVariants as call
 use Rattle.pb_place.specs.Paths.{inside}
 use Rattle.pb_place.specs.World.{Map}
 use Rattle.pb_record.specs.declared.record.Record.{Record}
@@ -26,7 +27,7 @@ file_in folder files path = both_of (inside folder path) (finite.get files path)
 -- it is read where it is below the folder
 abbrev pub file_looked : List ℕ → Option (List ℕ) → List Call
 file_looked path None = []
-file_looked path (Some relative) = read_call path ∷ []
+file_looked path (Some relative) = call.Read path ∷ []
 
 -- the files at these paths, in their order
 abbrev pub files_looked : List ℕ → List (List ℕ) → List Call

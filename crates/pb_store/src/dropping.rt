@@ -1,7 +1,7 @@
 //! A record that is dropped, and the run number that is given for the next one.
 
 ghost use Rattle.std.specs.Prelude.{◌≡◌, ◌≢◌, true, IsTrue, ℕ, List, Option, IfOk, OnOk, OnErr, Some, None};
-ghost use Rattle.pb_place.specs.CallsInTurn.{remove_call};
+ghost use Rattle.pb_place.specs.declared.call.Call.TheVariants as call;
 ghost use Rattle.pb_place.specs.Paths.{is_at_or_below};
 ghost use Rattle.pb_place.specs.World.{ChangesOnly, PartlyRemoved, removed};
 ghost use Rattle.pb_soundness.specs.Apart.{KeepsStillOutside};
@@ -40,7 +40,7 @@ fn remove<P: Place>(alloc: Global, place: &mut P, path: &PathText) -> Result<(),
     ensures most { P.most place.new ≡ P.most place.old }
     ensures still { IsTrue P.tells → KeepsStillOutside (is_at_or_below path.now) (P.counts place.old).starts.flying (P.still place.old) (P.still place.new) }
     ensures takes { Takes MayRemove result (P.counts place.old) (P.counts place.new) }
-    ensures calls { CallsOnce (remove_call path.now) result (P.counts place.old) (P.counts place.new) }
+    ensures calls { CallsOnce (call.Remove path.now) result (P.counts place.old) (P.counts place.new) }
 {
     match place.remove_tree(alloc, path) {
         Ok(()) => Ok(()),
@@ -64,7 +64,7 @@ fn remove_record<P: Place>(
     ensures most { P.most place.new ≡ P.most place.old }
     ensures still { IsTrue P.tells → KeepsStillOutside (is_at_or_below (place_of folder.now key.now)) (P.counts place.old).starts.flying (P.still place.old) (P.still place.new) }
     ensures takes { Takes MayRemove result (P.counts place.old) (P.counts place.new) }
-    ensures calls { CallsOnce (remove_call (place_of folder.now key.now)) result (P.counts place.old) (P.counts place.new) }
+    ensures calls { CallsOnce (call.Remove (place_of folder.now key.now)) result (P.counts place.old) (P.counts place.new) }
 {
     let _ = folder.as_str();
     let path = match place_path(alloc, folder, key) {
@@ -104,7 +104,7 @@ impl Store {
         ensures most { P.most place.new ≡ P.most place.old }
         ensures still { IsTrue P.tells → KeepsStillOutside (is_at_or_below (place_of self.old.folder key.now)) (P.counts place.old).starts.flying (P.still place.old) (P.still place.new) }
         ensures takes { Takes (MayDrop self.old.next) result (P.counts place.old) (P.counts place.new) }
-        ensures calls { CallsOnce (remove_call (place_of self.old.folder key.now)) result (P.counts place.old) (P.counts place.new) }
+        ensures calls { CallsOnce (call.Remove (place_of self.old.folder key.now)) result (P.counts place.old) (P.counts place.new) }
     {
         // The number first: where none is left, nothing is removed.
         let number = match self.next {

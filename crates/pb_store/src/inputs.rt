@@ -3,7 +3,7 @@
 ghost use Rattle.std.specs.Prelude.{◌≡◌, ◌∷◌, true, IsTrue, IfOk, Decides, List, [], ℕ, map};
 ghost use Rattle.std.specs.FinMap as finite;
 ghost use Rattle.std.specs.List.{filter_map};
-ghost use Rattle.pb_place.specs.CallsInTurn.{list_call, read_call, variable_call};
+ghost use Rattle.pb_place.specs.declared.call.Call.TheVariants as call;
 ghost use Rattle.pb_place.specs.Paths.{inside};
 ghost use Rattle.pb_place.specs.World.{from_nothing, listed, removed};
 ghost use Rattle.pb_record.specs.declared.record.InputName.TheVariants.{Path, Variable};
@@ -111,7 +111,7 @@ fn paths_outside<P: Place>(
     ensures most { P.most place.new ≡ P.most place.old }
     ensures still { IsTrue P.tells → KeepsStill (P.still place.old) (P.still place.new) }
     ensures takes { Takes MayLook result (P.counts place.old) (P.counts place.new) }
-    ensures looks { Looks result (list_call folder.now ∷ []) (P.counts place.old) (P.counts place.new) }
+    ensures looks { Looks result (call.ListOutside folder.now target.now ∷ []) (P.counts place.old) (P.counts place.new) }
 {
     match place.list_outside(alloc, folder, target) {
         Ok(paths) => Ok(paths),
@@ -131,7 +131,7 @@ fn paths_below<P: Place>(
     ensures most { P.most place.new ≡ P.most place.old }
     ensures still { IsTrue P.tells → KeepsStill (P.still place.old) (P.still place.new) }
     ensures takes { Takes MayLook result (P.counts place.old) (P.counts place.new) }
-    ensures looks { Looks result (list_call folder.now ∷ []) (P.counts place.old) (P.counts place.new) }
+    ensures looks { Looks result (call.List folder.now ∷ []) (P.counts place.old) (P.counts place.new) }
 {
     match place.list(alloc, folder) {
         Ok(paths) => Ok(paths),
@@ -152,7 +152,7 @@ fn sources_in<P: Place>(
     ensures most { P.most place.new ≡ P.most place.old }
     ensures still { IsTrue P.tells → KeepsStill (P.still place.old) (P.still place.new) }
     ensures takes { Takes MayLook result (P.counts place.old) (P.counts place.new) }
-    ensures looks { IsTrue P.tells → Looks result (list_call folder.now ∷ map read_call (listed folder.now (removed target.now (P.world place.old)))) (P.counts place.old) (P.counts place.new) }
+    ensures looks { IsTrue P.tells → Looks result (call.ListOutside folder.now target.now ∷ map call.Read (listed folder.now (removed target.now (P.world place.old)))) (P.counts place.old) (P.counts place.new) }
 {
     let paths = paths_outside(alloc, place, target, folder)?;
     match files_at(alloc, place, folder, paths.as_slice()) {
@@ -173,7 +173,7 @@ pub(crate) fn files_in<P: Place>(
     ensures most { P.most place.new ≡ P.most place.old }
     ensures still { IsTrue P.tells → KeepsStill (P.still place.old) (P.still place.new) }
     ensures takes { Takes MayLook result (P.counts place.old) (P.counts place.new) }
-    ensures looks { IsTrue P.tells → Looks result (list_call folder.now ∷ map read_call (listed folder.now (P.world place.old))) (P.counts place.old) (P.counts place.new) }
+    ensures looks { IsTrue P.tells → Looks result (call.List folder.now ∷ map call.Read (listed folder.now (P.world place.old))) (P.counts place.old) (P.counts place.new) }
 {
     let paths = paths_below(alloc, place, folder)?;
     match files_at(alloc, place, folder, paths.as_slice()) {
@@ -190,7 +190,7 @@ fn text_in<P: Place>(alloc: Global, place: &mut P, name: &Text) -> Result<Option
     ensures most { P.most place.new ≡ P.most place.old }
     ensures still { IsTrue P.tells → KeepsStill (P.still place.old) (P.still place.new) }
     ensures takes { Takes MayLook result (P.counts place.old) (P.counts place.new) }
-    ensures looks { Looks result (variable_call name.now ∷ []) (P.counts place.old) (P.counts place.new) }
+    ensures looks { Looks result (call.Variable name.now ∷ []) (P.counts place.old) (P.counts place.new) }
 {
     match place.variable(alloc, name.as_str()) {
         Ok(found) => Ok(found),
@@ -239,7 +239,7 @@ fn value_now<P: Place>(
     ensures most { P.most place.new ≡ P.most place.old }
     ensures still { IsTrue P.tells → KeepsStill (P.still place.old) (P.still place.new) }
     ensures takes { Takes MayLook result (P.counts place.old) (P.counts place.new) }
-    ensures looks { Looks result (variable_call name.now ∷ []) (P.counts place.old) (P.counts place.new) }
+    ensures looks { Looks result (call.Variable name.now ∷ []) (P.counts place.old) (P.counts place.new) }
 {
     let copied = match name.copy(alloc) {
         Ok(copied) => copied,

@@ -2,7 +2,7 @@
 
 ghost use Rattle.std.specs.Prelude.{◌≡◌, ◌≢◌, ℕ, List, Option, true, IsTrue, IfErr, IfOk, OnOk, OnErr, Some, map};
 ghost use Rattle.pb_place.specs.declared.place.PlaceFault.TheVariants as place_fault;
-ghost use Rattle.pb_place.specs.CallsInTurn.{write_call};
+ghost use Rattle.pb_place.specs.declared.call.Call.TheVariants as call;
 ghost use Rattle.pb_place.specs.Paths.{is_at_or_below};
 ghost use Rattle.pb_place.specs.World.{ChangesOnly, Torn, written};
 ghost use Rattle.pb_soundness.specs.Apart.{KeepsStill, KeepsStillOutside};
@@ -53,7 +53,7 @@ fn write<P: Place>(
     ensures most { P.most place.new ≡ P.most place.old }
     ensures still { IsTrue P.tells → KeepsStillOutside (is_at_or_below path.now) (P.counts place.old).starts.flying (P.still place.old) (P.still place.new) }
     ensures takes { Takes MayWrite result (P.counts place.old) (P.counts place.new) }
-    ensures calls { CallsOnce (write_call path.now) result (P.counts place.old) (P.counts place.new) }
+    ensures calls { CallsOnce (call.Write path.now) result (P.counts place.old) (P.counts place.new) }
 {
     match place.write(alloc, path, bytes) {
         Ok(()) => Ok(()),
@@ -78,7 +78,7 @@ pub(crate) fn put_record<P: Place>(
     ensures most { P.most place.new ≡ P.most place.old }
     ensures still { IsTrue P.tells → KeepsStillOutside (is_at_or_below (place_of folder.now key.now)) (P.counts place.old).starts.flying (P.still place.old) (P.still place.new) }
     ensures takes { Takes MayWrite result (P.counts place.old) (P.counts place.new) }
-    ensures calls { CallsOnce (write_call (place_of folder.now key.now)) result (P.counts place.old) (P.counts place.new) }
+    ensures calls { CallsOnce (call.Write (place_of folder.now key.now)) result (P.counts place.old) (P.counts place.new) }
 {
     let _ = folder.as_str();
     let path = match place_path(alloc, folder, key) {
@@ -231,7 +231,7 @@ impl Store {
         ensures still { IsTrue P.tells → KeepsStillOutside (is_at_or_below (place_of self.old.folder key.now)) (P.counts place.old).starts.flying (P.still place.old) (P.still place.new) }
         ensures takes { Takes MayKeep result (P.counts place.old) (P.counts place.new) }
         ensures before { IsTrue P.tells → IfErr result (λ e. looked e ≡ true → P.world place.new ≡ P.world place.old) }
-        ensures written { IfErr result (λ e. e ≡ store_fault.Place place_fault.Write → (P.counts place.new).named ≡ place_of self.old.folder key.now) }
+        ensures written { IfErr result (λ e. e ≡ store_fault.Place place_fault.Write → (P.counts place.new).failing ≡ Some (call.Write (place_of self.old.folder key.now))) }
         ensures calls { IsTrue P.tells → Looks result (kept_called self.old.folder key.now command.now.target (P.world place.old) names.now) (P.counts place.old) (P.counts place.new) }
     {
         let _ = self.folder.as_str();

@@ -1,7 +1,8 @@
 //! A record of format 1 that becomes one of format 2.
 
 ghost use Rattle.std.specs.Prelude.{is_some, false, ◌≡◌, ◌≢◌, ◌⊎◌, ◌∷◌, [], ℕ, List, true, IsTrue, IfErr, OnOk, Some, None, Err};
-ghost use Rattle.pb_place.specs.CallsInTurn.{past_calls, read_call, write_call};
+ghost use Rattle.pb_place.specs.CallsInTurn.{past_calls};
+ghost use Rattle.pb_place.specs.declared.call.Call.TheVariants as call;
 ghost use Rattle.pb_place.specs.declared.place.PlaceFault.TheVariants as place_fault;
 ghost use Rattle.pb_place.specs.Paths.{is_at_or_below};
 ghost use Rattle.pb_place.specs.World.{ChangesOnly};
@@ -74,8 +75,8 @@ impl Store {
         ensures still { IsTrue P.tells → KeepsStillOutside (is_at_or_below (place_of self.old.folder key.now)) (P.counts place.old).starts.flying (P.still place.old) (P.still place.new) }
         ensures takes { Takes (MayMigrate self.old.next) result (P.counts place.old) (P.counts place.new) }
         ensures before { IfErr result (λ e. looked e ≡ true → (self.new.next ≡ self.old.next) × (IsTrue P.tells → P.world place.new ≡ P.world place.old)) }
-        ensures written { IfErr result (λ e. e ≡ store_fault.Place place_fault.Write → (P.counts place.new).named ≡ place_of self.old.folder key.now) }
-        ensures calls { ((result ≡ Err store_fault.NumbersSpent) × (P.counts place.new ≡ P.counts place.old)) ⊎ Looks result (write_call (place_of self.old.folder key.now) ∷ []) (P.counts place.old) (P.counts place.new) }
+        ensures written { IfErr result (λ e. e ≡ store_fault.Place place_fault.Write → (P.counts place.new).failing ≡ Some (call.Write (place_of self.old.folder key.now))) }
+        ensures calls { ((result ≡ Err store_fault.NumbersSpent) × (P.counts place.new ≡ P.counts place.old)) ⊎ Looks result (call.Write (place_of self.old.folder key.now) ∷ []) (P.counts place.old) (P.counts place.new) }
     {
         let _ = self.folder.as_str();
         let number = match self.next {
@@ -147,8 +148,8 @@ impl Store {
         ensures still { IsTrue P.tells → KeepsStillOutside (is_at_or_below (place_of self.old.folder key.now)) (P.counts place.old).starts.flying (P.still place.old) (P.still place.new) }
         ensures takes { Takes (MayMigrate self.old.next) result (P.counts place.old) (P.counts place.new) }
         ensures before { IfErr result (λ e. looked e ≡ true → (self.new.next ≡ self.old.next) × (IsTrue P.tells → P.world place.new ≡ P.world place.old)) }
-        ensures written { IfErr result (λ e. e ≡ store_fault.Place place_fault.Write → (P.counts place.new).named ≡ place_of self.old.folder key.now) }
-        ensures calls { (read : Reading) → IsReading read → IsTrue P.tells → ((result ≡ Err store_fault.NumbersSpent) × (P.counts place.new ≡ past_calls (read_call (place_of self.old.folder key.now) ∷ []) (P.counts place.old)))
+        ensures written { IfErr result (λ e. e ≡ store_fault.Place place_fault.Write → (P.counts place.new).failing ≡ Some (call.Write (place_of self.old.folder key.now))) }
+        ensures calls { (read : Reading) → IsReading read → IsTrue P.tells → ((result ≡ Err store_fault.NumbersSpent) × (P.counts place.new ≡ past_calls (call.Read (place_of self.old.folder key.now) ∷ []) (P.counts place.old)))
             ⊎ Looks result (migrated_called self.old.folder key.now (record_at read self.old.folder (P.world place.old).files key.now)) (P.counts place.old) (P.counts place.new) }
     {
         let found = record_at(alloc, place, &self.folder, key)?;

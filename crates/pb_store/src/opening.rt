@@ -3,7 +3,7 @@
 ghost use Rattle.std.specs.Prelude.{◌≡◌, ◌∷◌, [], if◌then◌else◌, max, IsTrue, IfErr, IfOk, OnOk};
 ghost use Rattle.std.specs.List.{fold};
 ghost use Rattle.std.specs.FinMap as map;
-ghost use Rattle.pb_place.specs.CallsInTurn.{read_call};
+ghost use Rattle.pb_place.specs.declared.call.Call.TheVariants as call;
 ghost use Rattle.pb_soundness.specs.Apart.{KeepsStill};
 ghost use Rattle.pb_soundness.specs.Numbers.{IsAhead};
 ghost use Rattle.pb_soundness.specs.Records.{Reading, ends_as_record, read_text, record_at};
@@ -83,7 +83,7 @@ fn read_greatest<P: Place>(
     ensures still { IsTrue P.tells → KeepsStill (P.still place.old) (P.still place.new) }
     ensures takes { TakesOpen result (P.counts place.old) (P.counts place.new) }
     ensures told { IfErr result (ReadsAt path) }
-    ensures looks { OpensLooking result (read_call path ∷ []) (P.counts place.old) (P.counts place.new) }
+    ensures looks { OpensLooking result (call.Read path ∷ []) (P.counts place.old) (P.counts place.new) }
 {
     let text = match place.read(alloc, &path) {
         Ok(text) => text,
@@ -122,7 +122,7 @@ fn greatest_at<P: Place>(
     ensures still { IsTrue P.tells → KeepsStill (P.still place.old) (P.still place.new) }
     ensures takes { TakesOpen result (P.counts place.old) (P.counts place.new) }
     ensures told { IfErr result (ReadsRecord path) }
-    ensures looks { OpensLooking result (if ends_as_record path then read_call path ∷ [] else []) (P.counts place.old) (P.counts place.new) }
+    ensures looks { OpensLooking result (if ends_as_record path then call.Read path ∷ [] else []) (P.counts place.old) (P.counts place.new) }
 {
     if !ends_as_record(path.as_str().as_bytes()) {
         return Ok(0);

@@ -2,7 +2,7 @@
 
 ghost use Rattle.std.specs.Prelude.{◌≡◌, ◌∷◌, true, IsTrue, IfOk, List, [], option_map};
 ghost use Rattle.std.specs.FinMap as map;
-ghost use Rattle.pb_place.specs.CallsInTurn.{read_call};
+ghost use Rattle.pb_place.specs.declared.call.Call.TheVariants as call;
 ghost use Rattle.pb_place.specs.Paths.{is_path};
 ghost use Rattle.pb_soundness.specs.Apart.{KeepsStill};
 ghost use Rattle.pb_soundness.specs.Records.{Reading, is_key, place_of, record_at, read_text, if_of_key};
@@ -58,7 +58,7 @@ pub(crate) fn text_of<P: Place>(
     ensures most { P.most place.new ≡ P.most place.old }
     ensures still { IsTrue P.tells → KeepsStill (P.still place.old) (P.still place.new) }
     ensures takes { Takes MayRead result (P.counts place.old) (P.counts place.new) }
-    ensures looks { Looks result (read_call path.now ∷ []) (P.counts place.old) (P.counts place.new) }
+    ensures looks { Looks result (call.Read path.now ∷ []) (P.counts place.old) (P.counts place.new) }
 {
     match place.read(alloc, path) {
         Ok(found) => Ok(found),
@@ -79,7 +79,7 @@ fn text_at<P: Place>(
     ensures most { P.most place.new ≡ P.most place.old }
     ensures still { IsTrue P.tells → KeepsStill (P.still place.old) (P.still place.new) }
     ensures takes { Takes MayRead result (P.counts place.old) (P.counts place.new) }
-    ensures looks { Looks result (read_call (place_of folder.now key.now) ∷ []) (P.counts place.old) (P.counts place.new) }
+    ensures looks { Looks result (call.Read (place_of folder.now key.now) ∷ []) (P.counts place.old) (P.counts place.new) }
 {
     let path = match place_path(alloc, folder, key) {
         Ok(path) => path,
@@ -132,7 +132,7 @@ pub(crate) fn record_at<P: Place>(
     ensures most { P.most place.new ≡ P.most place.old }
     ensures still { IsTrue P.tells → KeepsStill (P.still place.old) (P.still place.new) }
     ensures takes { Takes MayRead result (P.counts place.old) (P.counts place.new) }
-    ensures looks { Looks result (read_call (place_of folder.now key.now) ∷ []) (P.counts place.old) (P.counts place.new) }
+    ensures looks { Looks result (call.Read (place_of folder.now key.now) ∷ []) (P.counts place.old) (P.counts place.new) }
 {
     let text = text_at(alloc, place, folder, key)?;
     match read_text(alloc, &text) {

@@ -2,6 +2,7 @@
 use Rattle.std.specs.Prelude.{◌≡◌, ◌⊎◌, ℕ, Bool, true, false, if◌then◌else◌, List, Option, Some, None, IsTrue, IfOk, Result, Ok, Err}
 use Rattle.std.specs.FinMap as map
 use Rattle.pb_place.specs.Counts.{Counts, counted}
+use Rattle.pb_place.specs.declared.call.Call.TheVariants as call
 use Rattle.pb_place.specs.World.{Answers}
 use Rattle.pb_place.specs.declared.place.PlaceFault.{PlaceFault}
 use Rattle.pb_answer.specs.declared.fault.BuildFault.TheVariants as build_fault
@@ -43,7 +44,7 @@ pub record RunsFile (tells : Bool) (path : List ℕ) (status : ℕ) (old new : M
   pub same : IsTrue tells → new.world ≡ old.world
   pub most : new.most ≡ old.most
   pub found : Result (Option (List ℕ)) PlaceFault
-  pub once : new.counts ≡ counted path found old.counts
+  pub once : new.counts ≡ counted (call.Read path) found old.counts
   pub is_file : IsTrue tells → IfOk found (λ bytes. bytes ≡ map.get old.world.files path)
   pub comes : RunsFound found status old.heard new.heard said_before said_after
 

@@ -9,7 +9,8 @@ use Rattle.pb_directive.specs.declared.directive.Directive.{Directive}
 use Rattle.pb_flight.specs.declared.flight.Answer.{Answer}
 use Rattle.pb_flight.specs.Events.{Event, Began, Gave, MayBegin}
 use Rattle.pb_flight.proofs.Lists.{injective}
-use Rattle.pb_place.specs.CallsInTurn.{Call, MakesSome, past_calls}
+use Rattle.pb_place.specs.CallsInTurn.{MakesSome, past_calls}
+use Rattle.pb_place.specs.declared.call.Call.{Call}
 use Rattle.pb_place.specs.Counts.{Counts}
 use Rattle.pb_place.specs.Paths.{is_at_or_below}
 use Rattle.pb_place.specs.World.{World, Answers, ChangesOnly}

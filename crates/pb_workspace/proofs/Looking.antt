@@ -1,7 +1,8 @@
 -- What steps look at, one after the other.
 use Rattle.std.proofs.Common.{◌≡◌, ◌∙◌, ◌++◌, ℕ, true, false, List, Result, Ok, Err, sym, ap, subst}
 use Rattle.std.proofs.lemmas.Bool.{false≢true}
-use Rattle.pb_place.specs.CallsInTurn.{Call, FailsAt, MakesSome, past_calls}
+use Rattle.pb_place.specs.CallsInTurn.{FailsAt, MakesSome, past_calls}
+use Rattle.pb_place.specs.declared.call.Call.{Call}
 use Rattle.pb_place.specs.Counts.{Counts}
 use Rattle.pb_place.specs.declared.place.PlaceFault.{PlaceFault}
 use Rattle.pb_place.proofs.CallsInTurn.{append_none, fails_left, fails_right, made_both, some_all, some_left, some_none, some_right}

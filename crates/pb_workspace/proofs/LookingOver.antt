@@ -3,7 +3,8 @@ use Rattle.std.proofs.Common.{◌≡◌, ◌∙◌, ◌++◌, ◌<◌, ◌≤◌
 use Rattle.std.proofs.Math.Seq.{drop-cons}
 use Rattle.std.specs.List.{flat_map}
 use Rattle.pb_data.specs.Gives.{◌>>=◌}
-use Rattle.pb_place.specs.CallsInTurn.{Call, past_calls}
+use Rattle.pb_place.specs.CallsInTurn.{past_calls}
+use Rattle.pb_place.specs.declared.call.Call.{Call}
 use Rattle.pb_place.specs.Counts.{Counts}
 use Rattle.pb_place.specs.World.{World, from_nothing}
 use Rattle.pb_package.specs.declared.fault.LoadFault.{LoadFault}

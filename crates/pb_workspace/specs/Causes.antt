@@ -1,6 +1,6 @@
 -- How a step that reads files ends: which faults come from outside the rules, and how the counters of the place moved.
 use Rattle.std.specs.Prelude.{◌≡◌, ℕ, List, [], Bool, true, false, Option, Some, None, Result, Ok, Err, MatchResult}
-use Rattle.pb_place.specs.Counts.{Counts, up}
+use Rattle.pb_place.specs.Counts.{Counts, named_in, up}
 use Rattle.pb_place.specs.declared.place.Failure.{Failure}
 use Rattle.pb_place.specs.declared.place.Failure.TheVariants.{Called}
 use Rattle.pb_place.specs.declared.place.PlaceFault.{PlaceFault}
@@ -113,4 +113,4 @@ Told result answer = MatchResult result (λ x. answer ≡ Ok x) (λ e. is_outsid
 -- no child was started; a call failed just where the fault says so, with this very fault and on this very path, and then no further call was made
 abbrev pub Reads : {T : Type 0} → Result T LoadFault → Counts → Counts → Type 0
 Reads result old new = MatchResult result (λ _. (new.failures ≡ old.failures) × (new.starts ≡ old.starts))
-    (λ e. (new.starts ≡ old.starts) × (is_failure e ≡ false → new.failures ≡ old.failures) × (is_failure e ≡ true → new.failures ≡ up old.failures) × (is_failure e ≡ true → new.late ≡ 0) × (is_failure e ≡ true → new.last ≡ failure_of e) × (is_failure e ≡ true → new.named ≡ path_told e) × (is_read e ≡ true))
+    (λ e. (new.starts ≡ old.starts) × (is_failure e ≡ false → new.failures ≡ old.failures) × (is_failure e ≡ true → new.failures ≡ up old.failures) × (is_failure e ≡ true → new.late ≡ 0) × (is_failure e ≡ true → new.last ≡ failure_of e) × (is_failure e ≡ true → named_in new ≡ path_told e) × (is_read e ≡ true))

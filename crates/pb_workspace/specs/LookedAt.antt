@@ -2,8 +2,10 @@
 use Rattle.std.specs.Prelude.{◌≡◌, ℕ, zero, suc, false, true, nat_le, if◌then◌else◌, List, [], ◌∷◌, ◌++◌, length, Option, Some, None, Result, Ok, Err, MatchResult}
 use Rattle.std.specs.List.{flat_map}
 use Rattle.std.specs.Str.{bytes_eq}
-use Rattle.pb_place.specs.CallsInTurn.{Call, FailsAt, MakesSome, list_call, past_calls, read_call}
-use Rattle.pb_place.specs.Counts.{Counts}
+use Rattle.pb_place.specs.CallsInTurn.{FailsAt, MakesSome, past_calls}
+use Rattle.pb_place.specs.declared.call.Call.{Call}
+use Rattle.pb_place.specs.declared.call.Call.TheVariants as call
+use Rattle.pb_place.specs.Counts.{Counts, name_given}
 use Rattle.pb_place.specs.Paths.{folder_of, is_at_or_below}
 use Rattle.pb_place.specs.World.{World, from_nothing}
 use Rattle.pb_manifest.specs.declared.package.Package.{Package}
@@ -30,23 +32,23 @@ abbrev pub FailsOn : LoadFault → List Call → Counts → Counts → Type 0
 FailsOn (Place path fault) calls old new = FailsAt fault calls old new
 FailsOn e calls old new = ⊥
 
--- where a value or a refusal is told, just these calls were made; where memory was refused, the first few of them; where a call failed, it was one of these, and the last. Each call is counted, and one that failed tells its turn, its kind and its name, so the calls are told in their order
+-- where a value or a refusal is told, just these calls were made; where memory was refused, the first few of them; where a call failed, it was one of these, and the last. Each call is counted, and the one that failed is kept, so the calls are told in their order
 abbrev pub Looks : {T : Type 0} → Result T LoadFault → List Call → Counts → Counts → Type 0
 Looks result calls old new = MatchResult result (λ _. new ≡ past_calls calls old)
     (λ e. (is_outside e ≡ false → new ≡ past_calls calls old) × (is_failure e ≡ false → MakesSome calls old new) × (is_failure e ≡ true → FailsOn e calls old new))
 
 -- a call on a path, unless that lies at or below the target folder
 abbrev pub looked : List ℕ → Call → List Call
-looked target call = if is_at_or_below target call.name then [] else call ∷ []
+looked target call = if is_at_or_below target (name_given call) then [] else call ∷ []
 
 -- what is looked at next, unless there was a fault
 abbrev pub after : {A : Type 0} → Result A LoadFault → (A → List Call) → List Call
 after (Ok x) next = next x
 after (Err e) next = []
 
--- the folder of a package is listed, its `src`, and what lies below its `src/bin`
+-- the files directly in the folder of a package are listed, those directly in its `src`, and those below its `src/bin`
 abbrev pub listings_at : List ℕ → List ℕ → List Call
-listings_at target folder = looked target (list_call folder) ++ (looked target (list_call (source_folder folder)) ++ looked target (list_call (bin_folder folder)))
+listings_at target folder = looked target (call.ListDirectly folder) ++ (looked target (call.ListDirectly (source_folder folder)) ++ looked target (call.ListOutside (bin_folder folder) target))
 
 -- where the manifest has a package
 abbrev pub package_looked : List ℕ → List ℕ → Option Package → List Call
@@ -55,7 +57,7 @@ package_looked target folder (Some p) = listings_at target folder
 
 -- a manifest is read, and then its folder is looked at
 unfoldable pub file_looked : List ℕ → World → Standing → List Call
-file_looked target sources at = looked target (read_call at.manifest) ++ after (parts_at sources at.manifest) (λ parts. package_looked target at.folder parts.found)
+file_looked target sources at = looked target (call.Read at.manifest) ++ after (parts_at sources at.manifest) (λ parts. package_looked target at.folder parts.found)
 
 -- but for the root's manifest, which was read
 unfoldable pub folder_looked : List ℕ → World → Frame → List ℕ → List Call
@@ -78,7 +80,7 @@ rounds_looked (suc n) read look r = round_looked read look r ++ after (round rea
 
 -- of each glob its base
 abbrev pub text_looked : List ℕ → Frame → List ℕ → List Call
-text_looked target f text = if is_glob text then looked target (list_call (base_of (parts_meant f.root text))) else []
+text_looked target f text = if is_glob text then looked target (call.ListOutside (base_of (parts_meant f.root text)) target) else []
 
 abbrev pub members_looked : List ℕ → Frame → List Call
 members_looked target f = flat_map (text_looked target f) f.members
@@ -95,7 +97,7 @@ unfoldable pub packages_looked : List ℕ → World → Frame → Tables → Opt
 packages_looked target sources f tables p = package_looked target f.root p ++ after (root_read sources f tables p) (λ begun. others_looked target sources f begun)
 
 abbrev pub root_looked : List ℕ → List ℕ → List Call
-root_looked target manifest = if is_manifest manifest then looked target (read_call manifest) else []
+root_looked target manifest = if is_manifest manifest then looked target (call.Read manifest) else []
 
 -- all that is looked at for the workspace of a manifest
 unfoldable pub looked_at : List ℕ → List ℕ → World → List Call

@@ -2,7 +2,7 @@
 
 ghost use Rattle.std.specs.Prelude.{◌≡◌, ◌++◌, [], ◌∷◌, IfOk, IfErr, OnOk, IsTrue, true, map, filter, string_bytes};
 ghost use Rattle.std.specs.List.{flat_map};
-ghost use Rattle.pb_place.specs.CallsInTurn.{list_call};
+ghost use Rattle.pb_place.specs.declared.call.Call.TheVariants as call;
 ghost use Rattle.pb_place.specs.Paths.{folder_of};
 ghost use Rattle.pb_place.specs.World.{from_nothing, listed};
 ghost use Rattle.pb_workspace.specs.LookedAt.{Looks, looked, text_looked, members_looked};
@@ -122,7 +122,7 @@ fn folders_taken<P: Place>(
     ensures most { P.most place.new ≡ P.most place.old }
     ensures outside { IfErr result (λ e. is_outside e ≡ true) }
     ensures reads { Reads result (P.counts place.old) (P.counts place.new) }
-    ensures looks { Looks result (looked target.now (list_call (base_of parts.now))) (P.counts place.old) (P.counts place.new) }
+    ensures looks { Looks result (looked target.now (call.ListOutside (base_of parts.now) target.now)) (P.counts place.old) (P.counts place.new) }
 {
     let base = base_of(alloc, parts)?;
     let paths = listed_sources(alloc, place, target, &base)?;

@@ -1,7 +1,7 @@
 //! The packages of a workspace, read folder by folder.
 
 ghost use Rattle.std.specs.Prelude.{◌≡◌, All, IfErr, IfOk, IsTrue, OnOk, false, true, IfSome};
-ghost use Rattle.pb_place.specs.CallsInTurn.{read_call};
+ghost use Rattle.pb_place.specs.declared.call.Call.TheVariants as call;
 ghost use Rattle.pb_place.specs.World.{from_nothing};
 ghost use Rattle.pb_place.specs.Paths.{below};
 ghost use Rattle.pb_manifest.specs.Letters.{is_name};
@@ -94,7 +94,7 @@ fn manifest_at<P: Place>(
     ensures same { IsTrue P.tells → P.world place.new ≡ P.world place.old }
     ensures most { P.most place.new ≡ P.most place.old }
     ensures reads { Reads result (P.counts place.old) (P.counts place.new) }
-    ensures looks { Looks result (looked target.now (read_call path.now)) (P.counts place.old) (P.counts place.new) }
+    ensures looks { Looks result (looked target.now (call.Read path.now)) (P.counts place.old) (P.counts place.new) }
 {
     let found = source(alloc, place, target, path)?;
     let manifest = read_found(alloc, path, found)?;
@@ -215,7 +215,7 @@ pub fn parts_at<P: Place>(
     ensures same { IsTrue P.tells → P.world place.new ≡ P.world place.old }
     ensures most { P.most place.new ≡ P.most place.old }
     ensures reads { Reads result (P.counts place.old) (P.counts place.new) }
-    ensures looks { Looks result (looked target.now (read_call path.now)) (P.counts place.old) (P.counts place.new) }
+    ensures looks { Looks result (looked target.now (call.Read path.now)) (P.counts place.old) (P.counts place.new) }
 {
     let found = manifest_at(alloc, place, target, path)?;
     Ok(parts_of(found))

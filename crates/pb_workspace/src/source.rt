@@ -2,7 +2,7 @@
 
 ghost use Rattle.std.specs.Prelude.{◌≡◌, IfOk, IfErr, IsTrue, true, not, filter};
 ghost use Rattle.std.specs.FinMap as finite;
-ghost use Rattle.pb_place.specs.CallsInTurn.{list_call, read_call};
+ghost use Rattle.pb_place.specs.declared.call.Call.TheVariants as call;
 ghost use Rattle.pb_place.specs.Paths.{below, is_at_or_below, is_relative};
 ghost use Rattle.pb_place.specs.World.{from_nothing, listed, listed_directly};
 ghost use Rattle.pb_workspace.specs.LookedAt.{Looks, looked};
@@ -38,7 +38,7 @@ pub fn source<P: Place>(
     ensures most { P.most place.new ≡ P.most place.old }
     ensures outside { IfErr result (λ e. is_outside e ≡ true) }
     ensures reads { Reads result (P.counts place.old) (P.counts place.new) }
-    ensures looks { Looks result (looked target.now (read_call path.now)) (P.counts place.old) (P.counts place.new) }
+    ensures looks { Looks result (looked target.now (call.Read path.now)) (P.counts place.old) (P.counts place.new) }
 {
     if path.starts_with(target) {
         return Ok(None);
@@ -81,7 +81,7 @@ pub fn sources_directly<P: Place>(
     ensures most { P.most place.new ≡ P.most place.old }
     ensures outside { IfErr result (λ e. is_outside e ≡ true) }
     ensures reads { Reads result (P.counts place.old) (P.counts place.new) }
-    ensures looks { Looks result (looked target.now (list_call folder.now)) (P.counts place.old) (P.counts place.new) }
+    ensures looks { Looks result (looked target.now (call.ListDirectly folder.now)) (P.counts place.old) (P.counts place.new) }
 {
     if folder.starts_with(target) {
         return Ok(Items::new(alloc));
@@ -107,7 +107,7 @@ pub fn listed_sources<P: Place>(
     ensures most { P.most place.new ≡ P.most place.old }
     ensures outside { IfErr result (λ e. is_outside e ≡ true) }
     ensures reads { Reads result (P.counts place.old) (P.counts place.new) }
-    ensures looks { Looks result (looked target.now (list_call folder.now)) (P.counts place.old) (P.counts place.new) }
+    ensures looks { Looks result (looked target.now (call.ListOutside folder.now target.now)) (P.counts place.old) (P.counts place.new) }
 {
     if folder.starts_with(target) {
         return Ok(Items::new(alloc));

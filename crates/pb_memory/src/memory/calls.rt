@@ -4,6 +4,8 @@
 ghost use Rattle.std.specs.Prelude.{◌≡◌, ◌≢◌, ◌⊎◌, ◌+◌, ◌-◌, ◌++◌, ◌∷◌, [], length, true, false, IfOk, IfErr, OnOk, OnErr, IfSome, Some, None, Err};
 ghost use Rattle.std.specs.FinMap as map;
 ghost use Rattle.pb_place.specs.World.{removed, listed, listed_directly, seen_by, Torn, PartlyRemoved, ChangesOnlyInSome};
+ghost use Rattle.pb_place.specs.CallsInTurn.{own_fault};
+ghost use Rattle.pb_place.specs.declared.call.Call.TheVariants as call;
 ghost use Rattle.pb_place.specs.Counts.{past_call, counted, counted_start, counted_spawn, counted_finish};
 ghost use Rattle.pb_place.specs.Children.{child_spawned, is_flying, child_at, most_after, LandsAs};
 ghost use Rattle.pb_place.specs.Copies.{put_half};
@@ -14,8 +16,8 @@ ghost use Rattle.pb_memory.specs.Fuses.{fuse_after, after_write, after_removal, 
 use crate::memory::Memory;
 use crate::sight::file_in;
 use pb_data::{Bytes, Items, Text};
-use pb_place::{Child, Command, Ended, PathText, Place, PlaceFault, StartFault};
-use std::alloc::Global;
+use pb_place::{Call, Child, Command, Ended, PathText, Place, PlaceFault, StartFault};
+use std::alloc::{AllocError, Global};
 
 impl<C> Memory<C> {
     /// Counts a call that does not fail.
@@ -26,17 +28,19 @@ impl<C> Memory<C> {
         self.fuse = self.fuse.saturating_sub(1);
     }
 
-    /// The call that the fuse lets fail. What it was given is kept first: where that is refused, the fuse stays.
-    fn fail<T>(&mut self, alloc: Global, name: &str, own: PlaceFault) -> Result<T, PlaceFault>
-        requires real { own ≢ PlaceFault.OutOfMemory }
+    /// The call that the fuse lets fail. It was kept first: where memory was refused for that, the fuse stays.
+    fn fail<T>(&mut self, call: Result<Call, AllocError>) -> Result<T, PlaceFault>
         requires burns { self.old.fuse ≡ 1 }
         ensures burns { IfOk result (λ _. ⊥) }
-        ensures fault { IfErr result (λ e. e ≢ PlaceFault.OutOfMemory → e ≡ own) }
-        ensures state { self.new ≡ record self.old { tally = counted name.now result self.old.tally; fuse = fuse_after result self.old.fuse } }
+        ensures fault { IfErr result (λ e. e ≢ PlaceFault.OutOfMemory → IfOk call (λ it. e ≡ own_fault it)) }
+        ensures state { IfOk call (λ it. self.new ≡ record self.old { tally = counted it result self.old.tally; fuse = fuse_after result self.old.fuse }) }
+        ensures memory { OnErr call (result ≡ Err PlaceFault.OutOfMemory) }
+        ensures refused { OnErr call (self.new ≡ record self.old { tally = past_call self.old.tally }) }
     {
-        let name = self.tally.name(alloc, name)?;
+        let call = self.tally.kept(call)?;
         self.fuse = 0;
-        self.tally.count(name, Err(own))
+        let own = call.own_fault();
+        self.tally.count(call, Err(own))
     }
 
     /// A write that fails: it leaves the first half of the bytes, rounded down, unless memory is refused.
@@ -46,15 +50,15 @@ impl<C> Memory<C> {
         ensures burns { IfOk result (λ _. ⊥) }
         ensures fault { IfErr result (λ e. e ≢ PlaceFault.OutOfMemory → e ≡ PlaceFault.Write) }
         ensures err { OnErr result (Torn path.now bytes.now self.old.world self.new.world) }
-        ensures state { self.new ≡ record self.old { world = after_write result path.now bytes.now self.old.world; tally = counted path.now result self.old.tally; fuse = fuse_after result self.old.fuse } }
+        ensures state { self.new ≡ record self.old { world = after_write result path.now bytes.now self.old.world; tally = counted (call.Write path.now) result self.old.tally; fuse = fuse_after result self.old.fuse } }
     {
-        let name = self.tally.name(alloc, path.as_str())?;
+        let call = self.tally.kept(Call::write(alloc, path))?;
         match self.files.insert(alloc, path, &bytes[..bytes.len() / 2]) {
             Ok(()) => {
                 self.fuse = 0;
-                self.tally.count(name, Err(PlaceFault::Write))
+                self.tally.count(call, Err(PlaceFault::Write))
             }
-            Err(_) => self.tally.count(name, Err(PlaceFault::OutOfMemory)),
+            Err(_) => self.tally.count(call, Err(PlaceFault::OutOfMemory)),
         }
     }
 
@@ -64,15 +68,15 @@ impl<C> Memory<C> {
         ensures burns { IfOk result (λ _. ⊥) }
         ensures fault { IfErr result (λ e. e ≢ PlaceFault.OutOfMemory → e ≡ PlaceFault.Remove) }
         ensures err { OnErr result (PartlyRemoved path.now self.old.world self.new.world) }
-        ensures state { self.new ≡ record self.old { world = after_removal result path.now self.old.world; tally = counted path.now result self.old.tally; fuse = fuse_after result self.old.fuse } }
+        ensures state { self.new ≡ record self.old { world = after_removal result path.now self.old.world; tally = counted (call.Remove path.now) result self.old.tally; fuse = fuse_after result self.old.fuse } }
     {
-        let name = self.tally.name(alloc, path.as_str())?;
+        let call = self.tally.kept(Call::remove(alloc, path))?;
         match self.files.remove_half(alloc, path) {
             Ok(()) => {
                 self.fuse = 0;
-                self.tally.count(name, Err(PlaceFault::Remove))
+                self.tally.count(call, Err(PlaceFault::Remove))
             }
-            Err(_) => self.tally.count(name, Err(PlaceFault::OutOfMemory)),
+            Err(_) => self.tally.count(call, Err(PlaceFault::OutOfMemory)),
         }
     }
 }
@@ -98,10 +102,10 @@ impl<C: Child> Place for Memory<C> {
         ensures burns { self.old.fuse ≡ 1 → IfOk result (λ _. ⊥) }
         ensures fault { IfErr result (λ e. e ≢ PlaceFault.OutOfMemory → e ≡ PlaceFault.Read) }
         ensures fails { IfErr result (λ e. e ≢ PlaceFault.OutOfMemory → self.old.fuse ≡ 1) }
-        ensures state { self.new ≡ record self.old { tally = counted path.now result self.old.tally; fuse = fuse_after result self.old.fuse } }
+        ensures state { self.new ≡ record self.old { tally = counted (call.Read path.now) result self.old.tally; fuse = fuse_after result self.old.fuse } }
     {
         if self.fuse == 1 {
-            return self.fail(alloc, path.as_str(), PlaceFault::Read);
+            return self.fail(Call::read(alloc, path));
         }
         self.pass();
         let found = file_in(alloc, &self.files, path)?;
@@ -113,10 +117,10 @@ impl<C: Child> Place for Memory<C> {
         ensures burns { self.old.fuse ≡ 1 → IfOk result (λ _. ⊥) }
         ensures fault { IfErr result (λ e. e ≢ PlaceFault.OutOfMemory → e ≡ PlaceFault.List) }
         ensures fails { IfErr result (λ e. e ≢ PlaceFault.OutOfMemory → self.old.fuse ≡ 1) }
-        ensures state { self.new ≡ record self.old { tally = counted folder.now result self.old.tally; fuse = fuse_after result self.old.fuse } }
+        ensures state { self.new ≡ record self.old { tally = counted (call.List folder.now) result self.old.tally; fuse = fuse_after result self.old.fuse } }
     {
         if self.fuse == 1 {
-            return self.fail(alloc, folder.as_str(), PlaceFault::List);
+            return self.fail(Call::list(alloc, folder));
         }
         self.pass();
         let paths = self.files.list(alloc, folder)?;
@@ -133,10 +137,10 @@ impl<C: Child> Place for Memory<C> {
         ensures burns { self.old.fuse ≡ 1 → IfOk result (λ _. ⊥) }
         ensures fault { IfErr result (λ e. e ≢ PlaceFault.OutOfMemory → e ≡ PlaceFault.List) }
         ensures fails { IfErr result (λ e. e ≢ PlaceFault.OutOfMemory → self.old.fuse ≡ 1) }
-        ensures state { self.new ≡ record self.old { tally = counted folder.now result self.old.tally; fuse = fuse_after result self.old.fuse } }
+        ensures state { self.new ≡ record self.old { tally = counted (call.ListOutside folder.now left_out.now) result self.old.tally; fuse = fuse_after result self.old.fuse } }
     {
         if self.fuse == 1 {
-            return self.fail(alloc, folder.as_str(), PlaceFault::List);
+            return self.fail(Call::list_outside(alloc, folder, left_out));
         }
         self.pass();
         let paths = self.files.list_outside(alloc, folder, left_out)?;
@@ -152,10 +156,10 @@ impl<C: Child> Place for Memory<C> {
         ensures burns { self.old.fuse ≡ 1 → IfOk result (λ _. ⊥) }
         ensures fault { IfErr result (λ e. e ≢ PlaceFault.OutOfMemory → e ≡ PlaceFault.List) }
         ensures fails { IfErr result (λ e. e ≢ PlaceFault.OutOfMemory → self.old.fuse ≡ 1) }
-        ensures state { self.new ≡ record self.old { tally = counted folder.now result self.old.tally; fuse = fuse_after result self.old.fuse } }
+        ensures state { self.new ≡ record self.old { tally = counted (call.ListDirectly folder.now) result self.old.tally; fuse = fuse_after result self.old.fuse } }
     {
         if self.fuse == 1 {
-            return self.fail(alloc, folder.as_str(), PlaceFault::List);
+            return self.fail(Call::list_directly(alloc, folder));
         }
         self.pass();
         let paths = self.files.list_directly(alloc, folder)?;
@@ -167,7 +171,7 @@ impl<C: Child> Place for Memory<C> {
         ensures fault { IfErr result (λ e. e ≢ PlaceFault.OutOfMemory → e ≡ PlaceFault.Write) }
         ensures fails { IfErr result (λ e. e ≢ PlaceFault.OutOfMemory → self.old.fuse ≡ 1) }
         ensures err { OnErr result (Torn path.now bytes.now self.old.world self.new.world) }
-        ensures state { self.new ≡ record self.old { world = after_write result path.now bytes.now self.old.world; tally = counted path.now result self.old.tally; fuse = fuse_after result self.old.fuse } }
+        ensures state { self.new ≡ record self.old { world = after_write result path.now bytes.now self.old.world; tally = counted (call.Write path.now) result self.old.tally; fuse = fuse_after result self.old.fuse } }
     {
         if self.fuse == 1 {
             return self.tear(alloc, path, bytes);
@@ -182,7 +186,7 @@ impl<C: Child> Place for Memory<C> {
         ensures fault { IfErr result (λ e. e ≢ PlaceFault.OutOfMemory → e ≡ PlaceFault.Remove) }
         ensures fails { IfErr result (λ e. e ≢ PlaceFault.OutOfMemory → self.old.fuse ≡ 1) }
         ensures err { OnErr result (PartlyRemoved path.now self.old.world self.new.world) }
-        ensures state { self.new ≡ record self.old { world = after_removal result path.now self.old.world; tally = counted path.now result self.old.tally; fuse = fuse_after result self.old.fuse } }
+        ensures state { self.new ≡ record self.old { world = after_removal result path.now self.old.world; tally = counted (call.Remove path.now) result self.old.tally; fuse = fuse_after result self.old.fuse } }
     {
         if self.fuse == 1 {
             return self.halve(alloc, path);
@@ -197,10 +201,10 @@ impl<C: Child> Place for Memory<C> {
         ensures burns { self.old.fuse ≡ 1 → IfOk result (λ _. ⊥) }
         ensures fault { IfErr result (λ e. e ≢ PlaceFault.OutOfMemory → e ≡ PlaceFault.Variable) }
         ensures fails { IfErr result (λ e. e ≢ PlaceFault.OutOfMemory → self.old.fuse ≡ 1) }
-        ensures state { self.new ≡ record self.old { tally = counted name.now result self.old.tally; fuse = fuse_after result self.old.fuse } }
+        ensures state { self.new ≡ record self.old { tally = counted (call.Variable name.now) result self.old.tally; fuse = fuse_after result self.old.fuse } }
     {
         if self.fuse == 1 {
-            return self.fail(alloc, name, PlaceFault::Variable);
+            return self.fail(Call::variable(alloc, name));
         }
         self.pass();
         let found = self.variables.get(alloc, name)?;

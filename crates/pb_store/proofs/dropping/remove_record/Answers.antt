@@ -1,5 +1,5 @@
 use Rattle.std.proofs.Common.{inl}
-use Rattle.pb_place.specs.CallsInTurn.{remove_call}
+use Rattle.pb_place.specs.declared.call.Call.TheVariants as call
 use Rattle.pb_store.proofs.Writing.{partly_left_at, removed_sound_at, partly_sound_at, removed_gone_at, removed_only_at, removed_ahead_at, partly_ahead_at}
 use Rattle.pb_store.proofs.Called.{ends_there}
 use Rattle.pb_store.proofs.dropping.remove_record.Goals as goal
@@ -29,4 +29,4 @@ pub returns-clause-left : goal.returns-clause-left
 returns-clause-left g c read told = partly_left_at _ _ _ c.requires _ _ _ (c.in-Err-remove.ensures.err told) c.in-Ok.ensures
 
 pub returns-clause-calls : goal.returns-clause-calls
-returns-clause-calls g c = ends_there remove_call _ _ _ _ _ c.in-Ok.ensures c.in-Err-remove.ensures.calls
+returns-clause-calls g c = ends_there call.Remove _ _ _ _ _ c.in-Ok.ensures c.in-Err-remove.ensures.calls

@@ -1,5 +1,5 @@
 use Rattle.std.proofs.Common.{inr}
-use Rattle.pb_place.specs.CallsInTurn.{write_call}
+use Rattle.pb_place.specs.declared.call.Call.TheVariants as call
 use Rattle.pb_store.proofs.Writing.{torn_left_at, written_sound_at, torn_sound_at, written_there_at, written_ahead_at, torn_ahead_at, written_only_at, torn_only_at}
 use Rattle.pb_store.proofs.Called.{ends_there}
 use Rattle.pb_store.proofs.keeping.put_record.Goals as goal
@@ -37,4 +37,4 @@ pub returns-clause-left : goal.returns-clause-left
 returns-clause-left g c read is told its = torn_left_at _ _ _ c.requires _ _ _ _ _ _ (c.in-Err-write.ensures.err told) c.in-Ok.ensures c.as_slice.ensures is c.in-Ok-write_record.ensures.says its
 
 pub returns-clause-calls : goal.returns-clause-calls
-returns-clause-calls g c = ends_there write_call _ _ _ _ _ c.in-Ok.ensures c.in-Err-write.ensures.calls
+returns-clause-calls g c = ends_there call.Write _ _ _ _ _ c.in-Ok.ensures c.in-Err-write.ensures.calls

@@ -1,5 +1,6 @@
 use Rattle.std.proofs.Common.{◌≡◌, ◌∙◌, ◌++◌, rules, subst}
-use Rattle.pb_place.specs.CallsInTurn.{list_call, past_calls}
+use Rattle.pb_place.specs.CallsInTurn.{past_calls}
+use Rattle.pb_place.specs.declared.call.Call.TheVariants as call
 use Rattle.pb_place.specs.World.{from_nothing, listed, listed_directly}
 use Rattle.pb_place.proofs.CallsInTurn.{made_both}
 use Rattle.pb_workspace.proofs.Looking.{Ends, ends_both, looks_first}
@@ -10,28 +11,28 @@ use Rattle.pb_workspace.proofs.listings.listings_of.Goals as goal
 
 pub returns-in_err-own-clause-looks : goal.returns-in_err-own-clause-looks
 returns-in_err-own-clause-looks g c =
-    let h = looks_first c.in_err-own.field-0.0 (looked c.args.target.now (list_call c.args.folder.now)) (looked c.args.target.now (list_call (source_folder c.args.folder.now)) ++ looked c.args.target.now (list_call (bin_folder c.args.folder.now))) (g.P.Place.counts c.args.place.now) (g.P.Place.counts c.sources_directly.new.place) c.in_err-own.ensures.outside c.in_err-own.ensures.looks in
+    let h = looks_first c.in_err-own.field-0.0 (looked c.args.target.now (call.ListDirectly c.args.folder.now)) (looked c.args.target.now (call.ListDirectly (source_folder c.args.folder.now)) ++ looked c.args.target.now (call.ListOutside (bin_folder c.args.folder.now) c.args.target.now)) (g.P.Place.counts c.args.place.now) (g.P.Place.counts c.sources_directly.new.place) c.in_err-own.ensures.outside c.in_err-own.ensures.looks in
     search (rules, h)
 
 pub returns-in-Err-clause-looks : goal.returns-in-Err-clause-looks
 returns-in-Err-clause-looks g c =
-    ends_both c.in-Err.fault (looked c.args.target.now (list_call c.args.folder.now)) _ (g.P.Place.counts c.args.place.now) (g.P.Place.counts c.sources_directly.new.place) (g.P.Place.counts c.sources_directly-2.new.place) c.in_ok-own.ensures.looks
-    (looks_first c.in-Err.fault (looked c.args.target.now (list_call (source_folder c.args.folder.now))) (looked c.args.target.now (list_call (bin_folder c.args.folder.now))) _ _ c.in-Err.ensures.outside
-    (subst (λ p. Ends c.in-Err.fault (looked c.args.target.now (list_call p)) (g.P.Place.counts c.sources_directly.new.place) (g.P.Place.counts c.sources_directly-2.new.place)) c.in_ok-src.ensures c.in-Err.ensures.looks))
+    ends_both c.in-Err.fault (looked c.args.target.now (call.ListDirectly c.args.folder.now)) _ (g.P.Place.counts c.args.place.now) (g.P.Place.counts c.sources_directly.new.place) (g.P.Place.counts c.sources_directly-2.new.place) c.in_ok-own.ensures.looks
+    (looks_first c.in-Err.fault (looked c.args.target.now (call.ListDirectly (source_folder c.args.folder.now))) (looked c.args.target.now (call.ListOutside (bin_folder c.args.folder.now) c.args.target.now)) _ _ c.in-Err.ensures.outside
+    (subst (λ p. Ends c.in-Err.fault (looked c.args.target.now (call.ListDirectly p)) (g.P.Place.counts c.sources_directly.new.place) (g.P.Place.counts c.sources_directly-2.new.place)) c.in_ok-src.ensures c.in-Err.ensures.looks))
 
 pub returns-in-Err-in_bin-clause-looks : goal.returns-in-Err-in_bin-clause-looks
 returns-in-Err-in_bin-clause-looks g c =
-    ends_both c.in-Err-in_bin.fault (looked c.args.target.now (list_call c.args.folder.now)) _ (g.P.Place.counts c.args.place.now) (g.P.Place.counts c.sources_directly.new.place) (g.P.Place.counts c.listed_sources-in_bin.new.place) c.in_ok-own.ensures.looks
-    (ends_both c.in-Err-in_bin.fault (looked c.args.target.now (list_call (source_folder c.args.folder.now))) (looked c.args.target.now (list_call (bin_folder c.args.folder.now))) _ (g.P.Place.counts c.sources_directly-2.new.place) _
-    (subst (λ p. g.P.Place.counts c.sources_directly-2.new.place ≡ past_calls (looked c.args.target.now (list_call p)) (g.P.Place.counts c.sources_directly.new.place)) c.in_ok-src.ensures c.in-Ok.ensures.looks)
-    (subst (λ p. Ends c.in-Err-in_bin.fault (looked c.args.target.now (list_call p)) (g.P.Place.counts c.sources_directly-2.new.place) (g.P.Place.counts c.listed_sources-in_bin.new.place)) c.in_ok-bin.ensures c.in-Err-in_bin.ensures.looks))
+    ends_both c.in-Err-in_bin.fault (looked c.args.target.now (call.ListDirectly c.args.folder.now)) _ (g.P.Place.counts c.args.place.now) (g.P.Place.counts c.sources_directly.new.place) (g.P.Place.counts c.listed_sources-in_bin.new.place) c.in_ok-own.ensures.looks
+    (ends_both c.in-Err-in_bin.fault (looked c.args.target.now (call.ListDirectly (source_folder c.args.folder.now))) (looked c.args.target.now (call.ListOutside (bin_folder c.args.folder.now) c.args.target.now)) _ (g.P.Place.counts c.sources_directly-2.new.place) _
+    (subst (λ p. g.P.Place.counts c.sources_directly-2.new.place ≡ past_calls (looked c.args.target.now (call.ListDirectly p)) (g.P.Place.counts c.sources_directly.new.place)) c.in_ok-src.ensures c.in-Ok.ensures.looks)
+    (subst (λ p. Ends c.in-Err-in_bin.fault (looked c.args.target.now (call.ListOutside p c.args.target.now)) (g.P.Place.counts c.sources_directly-2.new.place) (g.P.Place.counts c.listed_sources-in_bin.new.place)) c.in_ok-bin.ensures c.in-Err-in_bin.ensures.looks))
 
 pub returns-in-Ok-in_bin-clause-looks : goal.returns-in-Ok-in_bin-clause-looks
 returns-in-Ok-in_bin-clause-looks g c =
-    made_both (looked c.args.target.now (list_call c.args.folder.now)) _ (g.P.Place.counts c.args.place.now) (g.P.Place.counts c.sources_directly.new.place) (g.P.Place.counts c.listed_sources-in_bin.new.place) c.in_ok-own.ensures.looks
-    (made_both (looked c.args.target.now (list_call (source_folder c.args.folder.now))) (looked c.args.target.now (list_call (bin_folder c.args.folder.now))) _ (g.P.Place.counts c.sources_directly-2.new.place) _
-    (subst (λ p. g.P.Place.counts c.sources_directly-2.new.place ≡ past_calls (looked c.args.target.now (list_call p)) (g.P.Place.counts c.sources_directly.new.place)) c.in_ok-src.ensures c.in-Ok.ensures.looks)
-    (subst (λ p. g.P.Place.counts c.listed_sources-in_bin.new.place ≡ past_calls (looked c.args.target.now (list_call p)) (g.P.Place.counts c.sources_directly-2.new.place)) c.in_ok-bin.ensures c.in-Ok-in_bin.ensures.looks))
+    made_both (looked c.args.target.now (call.ListDirectly c.args.folder.now)) _ (g.P.Place.counts c.args.place.now) (g.P.Place.counts c.sources_directly.new.place) (g.P.Place.counts c.listed_sources-in_bin.new.place) c.in_ok-own.ensures.looks
+    (made_both (looked c.args.target.now (call.ListDirectly (source_folder c.args.folder.now))) (looked c.args.target.now (call.ListOutside (bin_folder c.args.folder.now) c.args.target.now)) _ (g.P.Place.counts c.sources_directly-2.new.place) _
+    (subst (λ p. g.P.Place.counts c.sources_directly-2.new.place ≡ past_calls (looked c.args.target.now (call.ListDirectly p)) (g.P.Place.counts c.sources_directly.new.place)) c.in_ok-src.ensures c.in-Ok.ensures.looks)
+    (subst (λ p. g.P.Place.counts c.listed_sources-in_bin.new.place ≡ past_calls (looked c.args.target.now (call.ListOutside p c.args.target.now)) (g.P.Place.counts c.sources_directly-2.new.place)) c.in_ok-bin.ensures c.in-Ok-in_bin.ensures.looks))
 
 pub returns-in-Ok-in_bin-clause-ok : goal.returns-in-Ok-in_bin-clause-ok
 returns-in-Ok-in_bin-clause-ok g c told = record {

@@ -1,5 +1,5 @@
 use Rattle.std.proofs.Common.{rules}
-use Rattle.pb_place.specs.CallsInTurn.{read_call}
+use Rattle.pb_place.specs.declared.call.Call.TheVariants as call
 use Rattle.pb_place.specs.World.{from_nothing}
 use Rattle.pb_workspace.proofs.Looking.{looks_no_further, looks_then}
 use Rattle.pb_workspace.proofs.Steps.{told_step, reads_step}
@@ -19,12 +19,12 @@ returns-clause-reads g c = reads_step c.draft_if.result (g.P.Place.counts c.args
 pub returns-clause-looks : goal.returns-clause-looks
 unfolding file_looked
 returns-clause-looks g c told =
-    looks_then c.draft_if.result (parts_at (from_nothing c.args.target.now (g.P.Place.world c.args.place.now)) c.args.at.manifest) c.in_ok-parts.parts (λ parts. package_looked c.args.target.now c.args.at.folder parts.found) (looked c.args.target.now (read_call c.args.at.manifest)) _ _ _
+    looks_then c.draft_if.result (parts_at (from_nothing c.args.target.now (g.P.Place.world c.args.place.now)) c.args.at.manifest) c.in_ok-parts.parts (λ parts. package_looked c.args.target.now c.args.at.folder parts.found) (looked c.args.target.now (call.Read c.args.at.manifest)) _ _ _
     (c.in_ok-parts.ensures.ok told) c.in_ok-parts.ensures.looks c.draft_if.ensures.looks
 
 pub returns-in_err-parts-clause-looks : goal.returns-in_err-parts-clause-looks
 unfolding file_looked
 returns-in_err-parts-clause-looks g c told =
-    let h = looks_no_further c.in_err-parts.field-0.0 (parts_at (from_nothing c.args.target.now (g.P.Place.world c.args.place.now)) c.args.at.manifest) (λ parts. package_looked c.args.target.now c.args.at.folder parts.found) (looked c.args.target.now (read_call c.args.at.manifest)) (g.P.Place.counts c.args.place.now) (g.P.Place.counts c.parts_at.new.place)
+    let h = looks_no_further c.in_err-parts.field-0.0 (parts_at (from_nothing c.args.target.now (g.P.Place.world c.args.place.now)) c.args.at.manifest) (λ parts. package_looked c.args.target.now c.args.at.folder parts.found) (looked c.args.target.now (call.Read c.args.at.manifest)) (g.P.Place.counts c.args.place.now) (g.P.Place.counts c.parts_at.new.place)
     (c.in_err-parts.ensures.ok told) c.in_err-parts.ensures.looks in
     search (rules, h)

@@ -1,5 +1,5 @@
 use Rattle.std.proofs.Common.{◌∙◌, ℕ, Err, ap, subst, sym}
-use Rattle.pb_place.specs.CallsInTurn.{list_call}
+use Rattle.pb_place.specs.declared.call.Call.TheVariants as call
 use Rattle.pb_workspace.proofs.Failed.{call_looks, call_reads, from_outside, of_list}
 use Rattle.pb_workspace.proofs.Looking.{Ends}
 use Rattle.pb_workspace.specs.Causes.{fault_at, is_outside, Reads}
@@ -12,9 +12,9 @@ returns-in-Err-clause-outside g c = ap is_outside c.failed.ensures ∙ from_outs
 pub returns-in-Err-clause-reads : goal.returns-in-Err-clause-reads
 returns-in-Err-clause-reads g c =
     subst (λ e. Reads {T = ℕ} (Err e) (g.P.Place.counts c.args.place.now) (g.P.Place.counts c.list_directly.new.self)) (sym (c.failed.ensures ∙ ap (λ p. fault_at p c.in-Err.fault) c.in_ok-named.ensures))
-    (call_reads c.args.folder.now _ _ c.in-Err.fault (of_list c.args.folder.now c.in-Err.fault c.in-Err.ensures.fault) c.in-Err.ensures.counts)
+    (call_reads (call.ListDirectly c.args.folder.now) _ _ c.in-Err.fault (of_list c.args.folder.now c.in-Err.fault c.in-Err.ensures.fault) c.in-Err.ensures.counts)
 
 pub returns-in-Err-clause-looks : goal.returns-in-Err-clause-looks
 returns-in-Err-clause-looks g c =
-    subst (λ e. Ends e (looked c.args.target.now (list_call c.args.folder.now)) (g.P.Place.counts c.args.place.now) (g.P.Place.counts c.list_directly.new.self)) (sym (c.failed.ensures ∙ ap (λ p. fault_at p c.in-Err.fault) c.in_ok-named.ensures))
-    (call_looks (list_call c.args.folder.now) _ _ c.args.target.now c.in-Err.fault (sym c.starts_with.ensures ∙ c.if-starts_with.false) c.in-Err.ensures.fault c.in-Err.ensures.counts)
+    subst (λ e. Ends e (looked c.args.target.now (call.ListDirectly c.args.folder.now)) (g.P.Place.counts c.args.place.now) (g.P.Place.counts c.list_directly.new.self)) (sym (c.failed.ensures ∙ ap (λ p. fault_at p c.in-Err.fault) c.in_ok-named.ensures))
+    (call_looks (call.ListDirectly c.args.folder.now) _ _ c.args.target.now c.in-Err.fault (sym c.starts_with.ensures ∙ c.if-starts_with.false) c.in-Err.ensures.fault c.in-Err.ensures.counts)

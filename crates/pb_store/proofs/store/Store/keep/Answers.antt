@@ -1,5 +1,5 @@
 use Rattle.std.proofs.Common.{[], ◌∷◌, ap, sym, subst}
-use Rattle.pb_place.specs.CallsInTurn.{write_call}
+use Rattle.pb_place.specs.declared.call.Call.TheVariants as call
 use Rattle.pb_place.specs.World.{World}
 use Rattle.pb_place.proofs.CallsInTurn.{made_both}
 use Rattle.pb_soundness.specs.Numbers.{IsAhead}
@@ -53,14 +53,14 @@ returns-in-Err-clause-calls g c told = stops_first _ _ _ _ _ (c.in-Err.ensures.l
 
 pub returns-in-Ok-put_record-clause-calls : goal.returns-in-Ok-put_record-clause-calls
 returns-in-Ok-put_record-clause-calls g c told =
-    made_both (names_looked c.args.command.now.target (g.P.Place.world c.args.place.now) c.args.names.now) (write_call (place_of c.args.self.now.folder c.args.key.now) ∷ []) (g.P.Place.counts c.args.place.now) _ _ (c.in-Ok.ensures.looks told) c.in-Ok-put_record.ensures.calls
+    made_both (names_looked c.args.command.now.target (g.P.Place.world c.args.place.now) c.args.names.now) (call.Write (place_of c.args.self.now.folder c.args.key.now) ∷ []) (g.P.Place.counts c.args.place.now) _ _ (c.in-Ok.ensures.looks told) c.in-Ok-put_record.ensures.calls
 
 pub returns-in-Err-put_record-clause-calls : goal.returns-in-Err-put_record-clause-calls
 returns-in-Err-put_record-clause-calls g c told = stops_then _ _ _ _ _ _ (c.in-Ok.ensures.looks told) (ends_stops _ _ _ _ c.in-Err-put_record.ensures.takes.1.0 c.in-Err-put_record.ensures.calls)
 
 pub returns-in-Err-note-clause-calls : goal.returns-in-Err-note-clause-calls
 returns-in-Err-note-clause-calls g c told = subst (λ e. StopsAt e (kept_called c.args.self.now.folder c.args.key.now c.args.command.now.target (g.P.Place.world c.args.place.now) c.args.names.now) (g.P.Place.counts c.args.place.now) (g.P.Place.counts c.kept_now.new.place)) (sym c.in-Err-note.ensures.fault)
-    (stops_first OutOfMemory (names_looked c.args.command.now.target (g.P.Place.world c.args.place.now) c.args.names.now) (write_call (place_of c.args.self.now.folder c.args.key.now) ∷ []) _ _ (refused_after _ _ _ (c.in-Ok.ensures.looks told)))
+    (stops_first OutOfMemory (names_looked c.args.command.now.target (g.P.Place.world c.args.place.now) c.args.names.now) (call.Write (place_of c.args.self.now.folder c.args.key.now) ∷ []) _ _ (refused_after _ _ _ (c.in-Ok.ensures.looks told)))
 
 pub returns-in-Ok-put_record-clause-numbers : goal.returns-in-Ok-put_record-clause-numbers
 returns-in-Ok-put_record-clause-numbers g c read is told holds =

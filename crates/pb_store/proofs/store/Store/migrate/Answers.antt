@@ -1,5 +1,6 @@
-use Rattle.std.proofs.Common.{◌∙◌, ap, is_some, rules, sym, subst}
+use Rattle.std.proofs.Common.{◌∙◌, ap, Some, is_some, rules, sym, subst}
 use Rattle.std.proofs.lemmas.Bool.{false≢true}
+use Rattle.pb_place.specs.declared.call.Call.TheVariants as call
 use Rattle.pb_place.specs.World.{World}
 use Rattle.pb_soundness.specs.Numbers.{IsAhead}
 use Rattle.pb_soundness.specs.Records.{place_of, record_at}
@@ -79,7 +80,7 @@ returns-in-Err-clause-cause g c read is told spent = lacks_it read c.args.self.n
 
 pub returns-in_err-found-clause-written : goal.returns-in_err-found-clause-written
 returns-in_err-found-clause-written g c =
-    let h = read_unwritten c.in_err-found.field-0.0 (g.P.Place.counts c.record_at.new.place).named (place_of c.args.self.now.folder c.args.key.now) c.in_err-found.ensures.takes.1.0 in
+    let h = read_unwritten c.in_err-found.field-0.0 (g.P.Place.counts c.record_at.new.place).failing (Some (call.Write (place_of c.args.self.now.folder c.args.key.now))) c.in_err-found.ensures.takes.1.0 in
     search (rules, h)
 
 pub returns-in-Err-clause-before : goal.returns-in-Err-clause-before
