@@ -88,6 +88,6 @@ module _ (child : Answers) (options : Options) (w : World) (folder : List ℕ) (
       elim (is_real fault) [
         | inl memory ↦ absurd (memory_fails names old.failures mid new (past_failures (plan_called options w) old) (subst (λ (f : PlaceFault). FailsAt f names mid new) memory stops) more none)
         | inr real ↦
-          let told = named_among fault names mid new real stops in
-          inr (told.call, subst (λ (f : List ℕ). Contains (opened_looked f w) told.call) (same project is) told.among, told.own, told.given ∙ named)
+            let told = named_among fault names mid new real stops in
+            inr (told.call, subst (λ (f : List ℕ). Contains (opened_looked f w) told.call) (same project is) told.among, told.own, told.given ∙ named)
       ]
