@@ -31,11 +31,16 @@ LAWS = """
 --but=pb_project.Targets.source_by=UnitsMakeTargets,PlansHaveTargets
 --but=pb_project.Targets.made_file_of=UnitsMakeTargets,PlansHaveTargets,RunsMakeNone
 --but=pb_project.Targets.dep_info_of=UnitsMakeTargets,PlansHaveTargets,RunsMakeNone
---but=pb_message.Message.lines_of=LinesFollow,ArtifactsAreObjects,NotesAreObjects,ExecutedAreObjects,DiagnosticsAreCopied
+--but=pb_message.Message.lines_of=LinesFollow,MessagesAreObjects,DiagnosticsAreCopied
 --but=pb_message.Message.line_of=LinesFollow
 --but=pb_message.Message.finish_line=EndsAreObjects
 --but=pb_message.Diagnostics.diagnostics_of=CompilersSay
 --but=pb_message.Diagnostics.plain_lines_of=CompilersSay
+--but=pb_record.Commands.command_of=AskedPartForPart
+--but=pb_record.Commands.AsksAs=AskedPartForPart
+--but=pb_store.Asking.IsFirstName=FirstNameIsLeast
+--but=pb_turns.Rows.summary_of=SummariesSay
+--but=pb_build.Headline.ByFirst=BuildsGoInTurn
 """.split()
 
 # the rows of units, their lines and summary; the project and the version of the compiler; refusals, and the finish line
@@ -118,7 +123,9 @@ def below(starts, instead):
 
 
 def length(it, stood_for):
-    """The lines of a definition; of a function that laws stand for, those of its type, which is all that is read of it."""
+    """The lines of a definition; of one that laws stand for, those of its type, which is all that is read of it."""
+    if it in stood_for and HEAD.match(lines[it][0])[1] == "record":
+        return 1
     body = [n for n, line in enumerate(lines[it]) if line.startswith(it.split(".")[-1] + " ")]
     return body[0] if it in stood_for and body and body[0] else len(lines[it])
 
@@ -139,7 +146,6 @@ for it in sys.argv[1:] + (LAWS if "--laws" in sys.argv else []):
         old, _, new = it[6:].partition("=")
         instead[named(old)] = {named(part) for part in new.split(",") if part}
 starts = [named(it) for it in words] or [named("pb_build.Headline.Headline"), named("pb_build.Headline.ByFirst")]
-laws = list(set().union(*instead.values())) if instead else []
 stops = {old: set() for old in instead}
 
 
@@ -158,4 +164,4 @@ def told(title, seen, stops):
 
 told("with all definitions", below(starts, {}), {})
 if instead:
-    told("with the laws in their place", below(starts + laws, stops), stops)
+    told("with the laws in their place", below(starts, instead), stops)

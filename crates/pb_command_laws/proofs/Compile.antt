@@ -19,8 +19,8 @@ use Rattle.pb_command.specs.Command.{crate_part, words_of, command_by, command_f
 use Rattle.pb_command.specs.Externs.{dependency_words, extern_words, externs, in_order, library_words}
 use Rattle.pb_command.specs.Said.{search_words, own_words, said_words}
 use Rattle.pb_command.specs.Words.{crate_words, output_words, settings_words, feature_words}
-use Rattle.pb_command_laws.specs.Compiles.{CompileSays, CompilesSay, is_binary, settings_table, told, heard, feature_is_on, features_there_are, libraries_at}
-use Rattle.pb_command_laws.specs.Libraries.{IsLibrary}
+use Rattle.pb_command_laws.specs.Compiles.{CompileSays, CompilesSay, is_binary, settings_table, heard, feature_is_on, features_there_are, libraries_at}
+use Rattle.pb_command_laws.specs.Libraries.{assigned, IsLibrary}
 use Rattle.pb_command_laws.specs.Reading.{said_by}
 use Rattle.pb_command_laws.proofs.Asking.{folder_searched, searches_asked, links_asked, conditions_asked, checks_asked}
 use Rattle.pb_command_laws.proofs.Sayings.{Group, all_under, Says, says_one, says_both, values-groups}
@@ -34,7 +34,7 @@ module _ (project : Project) (unit : Planned) (done : List (Option (List Directi
   abbrev first_groups : List Group
   first_groups =
       crate_groups (crate_name_of project unit) (codes "--edition=" ++ edition_text p.edition) (source_by p what) ++ output_groups (map crate_type_text (crate_types p.library what)) unit.out
-      ++ (codes "-C", told (settings_table what unit.settings)) ∷ [] ++ feature_groups (features_at project.features unit.unit.owner unit.unit.side) p.features
+      ++ (codes "-C", map assigned (settings_table what unit.settings)) ∷ [] ++ feature_groups (features_at project.features unit.unit.owner unit.unit.side) p.features
 
   abbrev library_groups : List Group
   library_groups = (codes "-L", map dependency_in (libraries_at project unit.reaches)) ∷ (codes "--extern", map (λ (pair : List ℕ × List ℕ). pair.1) (in_order (externs project unit p))) ∷ []
@@ -46,12 +46,12 @@ module _ (project : Project) (unit : Planned) (done : List (Option (List Directi
   first_say absolute =
       let crate = crate_groups (crate_name_of project unit) (codes "--edition=" ++ edition_text p.edition) (source_by p what) in
       let output = output_groups (map crate_type_text (crate_types p.library what)) unit.out in
-      let settings = (codes "-C", told (settings_table what unit.settings)) ∷ [] in
+      let settings = (codes "-C", map assigned (settings_table what unit.settings)) ∷ [] in
       let features = feature_groups (features_at project.features unit.unit.owner unit.unit.side) p.features in
       says_both (crate_words project unit p ++ output_words unit p ++ settings_words what unit.settings) (feature_words project unit p) (crate ++ output ++ settings) features
       (says_both (crate_words project unit p ++ output_words unit p) (settings_words what unit.settings) (crate ++ output) settings
       (says_both (crate_words project unit p) (output_words unit p) crate output (crate_says project unit p absolute) (output_says unit p))
-      (says_one (settings_words what unit.settings) (codes "-C") (told (settings_table what unit.settings)) (settings_give what unit.settings))) (features_say project unit p)
+      (says_one (settings_words what unit.settings) (codes "-C") (map assigned (settings_table what unit.settings)) (settings_give what unit.settings))) (features_say project unit p)
 
   libraries_say : Says (library_words project unit p) library_groups
   libraries_say =
@@ -84,7 +84,7 @@ module _ (project : Project) (unit : Planned) (done : List (Option (List Directi
     crate_types = values-groups (codes "--crate-type") groups ∙ append-nil _;
     folder = values-groups (codes "--out-dir") groups;
     alone = values-groups [] groups;
-    settings = values-groups (codes "-C") groups ∙ ap (λ vs. told (settings_table what unit.settings) ++ vs) (append-nil _) ∙ ap (λ vs. told (settings_table what unit.settings) ++ map link_arg vs) (flags_are what (heard project unit done));
+    settings = values-groups (codes "-C") groups ∙ ap (λ vs. map assigned (settings_table what unit.settings) ++ vs) (append-nil _) ∙ ap (λ vs. map assigned (settings_table what unit.settings) ++ map link_arg vs) (flags_are what (heard project unit done));
     conditions = values-groups (codes "--cfg") groups ∙ ap (λ vs. map feature_is_on (features_at project.features unit.unit.owner unit.unit.side) ++ vs) (append-nil _ ∙ conditions_asked (heard project unit done));
     expected = values-groups (codes "--check-cfg") groups ∙ append-nil _ ∙ ap (λ vs. features_there_are p.features ∷ vs) (checks_asked (heard project unit done));
     searched = values-groups (codes "-L") groups ∙ ap (λ vs. map dependency_in (libraries_at project unit.reaches) ++ vs) (append-nil _ ∙ searches_asked (flat_map (said_at done) unit.reaches));

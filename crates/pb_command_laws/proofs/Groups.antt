@@ -1,8 +1,8 @@
 -- What each group of the words of a compile says.
-use Rattle.std.proofs.Common.{◌≡◌, ℕ, ◌&&◌, eqb, Bool, true, false, cond, codes, List, [], ◌∷◌, ◌++◌, map, filter, Option, Some, None, refl, sym, ◌∙◌, ap, append_assoc, is_some}
+use Rattle.std.proofs.Common.{◌≡◌, ℕ, ◌&&◌, eqb, Bool, true, false, cond, if◌then◌else◌, codes, List, [], ◌∷◌, ◌++◌, map, filter, Option, Some, None, refl, sym, ◌∙◌, ap, is_some}
 use Rattle.std.proofs.lemmas.Bool.Decides.{Decides-eqb}
 use Rattle.std.proofs.lemmas.Grind.{flat_map-append}
-use Rattle.std.proofs.lemmas.List.{append-nil, map-append}
+use Rattle.std.proofs.lemmas.List.{map-append}
 use Rattle.std.proofs.lemmas.List.Concat.{flat_map_single}
 use Rattle.std.specs.Fmt.{decimal}
 use Rattle.std.specs.List.{flat_map, filter_map, cons_option}
@@ -34,7 +34,8 @@ use Rattle.pb_command.specs.Externs.{folder_words, folder_words_in, folder_words
 use Rattle.pb_command.specs.Said.{search_word, link_word, condition_word, check_word, argument_word, binaries_word, binary_word, searched_words, condition_words, argument_words, binary_link_words, own_words}
 use Rattle.pb_command.specs.Words.{option, name_words, edition_word, format_words, crate_words, type_word, type_words, emit_words, out_words, output_words, setting, rpath_words, strip_words, lto_text_words, lto_words, level_words, debug_words, assertion_words, overflow_words, codegen_words, panic_words, common_settings, settings_words, feature_text, feature_word, expected_text, active_words, expected_words, feature_words, quoted, switch, debug_info_text, panic_text}
 use Rattle.pb_mini.specs.CommandLine.{takes_value}
-use Rattle.pb_command_laws.specs.Compiles.{is_binary, hears, only_if, strip_value, lto_value, assigned, settings_table, told, linker_flags, feature_is_on, features_there_are, libraries_at}
+use Rattle.pb_command_laws.specs.Libraries.{assigned}
+use Rattle.pb_command_laws.specs.Compiles.{is_binary, hears, strip_value, lto_value, row, settings_table, linker_flags, feature_is_on, features_there_are, libraries_at}
 use Rattle.pb_command_laws.proofs.Asking.{folder_searched, library_linked, condition_set, condition_expected, flag_for_all, flag_for_binaries, flag_for, flags_asked, binaries_asked, one_binary_asked}
 use Rattle.pb_command_laws.proofs.Sayings.{Gives, gives_none, gives_one, gives_alone, gives_both, gives_each, gives_same, Says, Group, says_one, says_both, says_nothing}
 
@@ -105,22 +106,25 @@ setting_gives : (key value : List ℕ) → Gives (setting key value) (codes "-C"
 unfolding setting option
 setting_gives key value = gives_one (codes "-C") (key ++ value) refl
 
-rpath_gives : (on : Bool) → Gives (rpath_words on) (codes "-C") (assigned (codes "rpath") (only_if on (Some (codes "yes"))))
+abbrev told_row : List ℕ → Option (List ℕ) → List (List ℕ)
+told_row key value = map assigned (row key value)
+
+rpath_gives : (on : Bool) → Gives (rpath_words on) (codes "-C") (told_row (codes "rpath") (if on then Some (codes "yes") else None))
 rpath_gives true = setting_gives (codes "rpath=") (codes "yes")
 rpath_gives false = gives_none (codes "-C")
 
-strip_gives : (s : Strip) → Gives (strip_words s) (codes "-C") (assigned (codes "strip") (strip_value s))
+strip_gives : (s : Strip) → Gives (strip_words s) (codes "-C") (told_row (codes "strip") (strip_value s))
 strip_gives strip.Nothing = gives_none (codes "-C")
 strip_gives strip.DebugInfo = setting_gives (codes "strip=") (codes "debuginfo")
 strip_gives strip.Symbols = setting_gives (codes "strip=") (codes "symbols")
 
-lto_text_gives : (l : Lto) → Gives (lto_text_words l) (codes "-C") (assigned (codes "lto") (lto_value l))
+lto_text_gives : (l : Lto) → Gives (lto_text_words l) (codes "-C") (told_row (codes "lto") (lto_value l))
 lto_text_gives lto.ThinLocal = gives_none (codes "-C")
 lto_text_gives lto.Fat = setting_gives (codes "lto=") (codes "fat")
 lto_text_gives lto.Thin = setting_gives (codes "lto=") (codes "thin")
 lto_text_gives lto.Off = setting_gives (codes "lto=") (codes "off")
 
-lto_gives : (what : What) (l : Lto) → Gives (lto_words what l) (codes "-C") (assigned (codes "lto") (only_if (is_binary what) (lto_value l)))
+lto_gives : (what : What) (l : Lto) → Gives (lto_words what l) (codes "-C") (told_row (codes "lto") (if is_binary what then lto_value l else None))
 lto_gives Lib l = gives_none (codes "-C")
 lto_gives (Bin name) l = lto_text_gives l
 lto_gives Script l = gives_none (codes "-C")
@@ -132,8 +136,8 @@ more a b x y one other = gives_both a b (codes "-C") x y one other
 
 abbrev common_values : Settings → List (List ℕ)
 common_values s =
-    assigned (codes "opt-level") (Some (opt_level_text s.opt_level)) ++ assigned (codes "debuginfo") (Some (debug_info_text s.debug)) ++ assigned (codes "debug-assertions") (Some (switch s.debug_assertions))
-    ++ assigned (codes "overflow-checks") (Some (switch s.overflow_checks)) ++ assigned (codes "codegen-units") (Some (decimal s.codegen_units)) ++ assigned (codes "panic") (Some (panic_text s.panic))
+    told_row (codes "opt-level") (Some (opt_level_text s.opt_level)) ++ told_row (codes "debuginfo") (Some (debug_info_text s.debug)) ++ told_row (codes "debug-assertions") (Some (switch s.debug_assertions))
+    ++ told_row (codes "overflow-checks") (Some (switch s.overflow_checks)) ++ told_row (codes "codegen-units") (Some (decimal s.codegen_units)) ++ told_row (codes "panic") (Some (panic_text s.panic))
 
 common_gives : (s : Settings) → Gives (common_settings s) (codes "-C") (common_values s)
 unfolding level_words debug_words assertion_words overflow_words codegen_words panic_words
@@ -141,13 +145,16 @@ common_gives s =
     more _ (panic_words s.panic) _ _ (more _ (codegen_words s.codegen_units) _ _ (more _ (overflow_words s.overflow_checks) _ _ (more _ (assertion_words s.debug_assertions) _ _
     (more (level_words s.opt_level) (debug_words s.debug) _ _ (setting_gives _ _) (setting_gives _ _)) (setting_gives _ _)) (setting_gives _ _)) (setting_gives _ _)) (setting_gives _ _)
 
-pub settings_give : (what : What) (s : Settings) → Gives (settings_words what s) (codes "-C") (told (settings_table what s))
+pub settings_give : (what : What) (s : Settings) → Gives (settings_words what s) (codes "-C") (map assigned (settings_table what s))
 settings_give what s =
-    let rpath = assigned (codes "rpath") (only_if s.rpath (Some (codes "yes"))) in
-    let strip = assigned (codes "strip") (strip_value s.strip) in
-    let lto = assigned (codes "lto") (only_if (is_binary what) (lto_value s.lto)) in
-    gives_same (settings_words what s) (codes "-C") (common_values s ++ rpath ++ strip ++ lto) (told (settings_table what s))
-    (ap (λ ws. common_values s ++ ws) (append_assoc rpath strip lto ∙ ap (λ ws. rpath ++ (strip ++ ws)) (sym (append-nil lto))))
+    let on = row (codes "rpath") (if s.rpath then Some (codes "yes") else None) in
+    let stripped = row (codes "strip") (strip_value s.strip) in
+    let optimised = row (codes "lto") (if is_binary what then lto_value s.lto else None) in
+    let rpath = told_row (codes "rpath") (if s.rpath then Some (codes "yes") else None) in
+    let strip = told_row (codes "strip") (strip_value s.strip) in
+    let lto = told_row (codes "lto") (if is_binary what then lto_value s.lto else None) in
+    gives_same (settings_words what s) (codes "-C") (common_values s ++ rpath ++ strip ++ lto) (map assigned (settings_table what s))
+    (ap (λ ws. common_values s ++ ws) (sym (map-append assigned (on ++ stripped) optimised ∙ ap (λ ws. ws ++ lto) (map-append assigned on stripped))))
     (more (common_settings s ++ rpath_words s.rpath ++ strip_words s.strip) (lto_words what s.lto) (common_values s ++ rpath ++ strip) lto
     (more (common_settings s ++ rpath_words s.rpath) (strip_words s.strip) (common_values s ++ rpath) strip
     (more (common_settings s) (rpath_words s.rpath) (common_values s) rpath (common_gives s) (rpath_gives s.rpath)) (strip_gives s.strip)) (lto_gives what s.lto))

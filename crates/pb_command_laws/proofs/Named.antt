@@ -29,7 +29,7 @@ use Rattle.pb_unit.specs.Units.{is_build}
 use Rattle.pb_unit.specs.declared.plan.Planned.{Planned}
 use Rattle.pb_unit.specs.declared.unit.What.{What}
 use Rattle.pb_unit.specs.declared.unit.What.TheVariants.{Lib, Bin, Script, Run}
-use Rattle.pb_command_laws.specs.Libraries.{IsCalled, IsLibrary, by_name, AreLibraries, given_as}
+use Rattle.pb_command_laws.specs.Libraries.{IsCalled, IsLibrary, by_name, AreLibraries, assigned}
 use Rattle.pb_command_laws.proofs.Pairs.{Pair, all_from, all_at, ordered_from, ordered_to}
 
 -- ---- a name has no byte 0
@@ -226,12 +226,12 @@ module _ (project : Project) (unit : Planned) (p : Package) (settled : IsSettled
   abbrev pub libraries_of : List (List ℕ × List ℕ)
   libraries_of = named_in ordered all_are
 
-  told_in : (some : List Pair) (all : AllByRecursion IsOne some) → map (λ (pair : Pair). pair.1) some ≡ map given_as (named_in some all)
+  told_in : (some : List Pair) (all : AllByRecursion IsOne some) → map (λ (pair : Pair). pair.1) some ≡ map assigned (named_in some all)
   unfolding extern_text
   told_in [] all = refl
   told_in (pair ∷ some) all = λ i. all.0.text i ∷ told_in some all.1 i
 
-  pub libraries_told : map (λ (pair : Pair). pair.1) ordered ≡ map given_as libraries_of
+  pub libraries_told : map (λ (pair : Pair). pair.1) ordered ≡ map assigned libraries_of
   libraries_told = told_in ordered all_are
 
   one_before : (pair other : Pair) (one : IsOne pair) (next : IsOne other) → slice_cmp nat_cmp pair.0 other.0 ≡ Less → by_name (one.name, one.file) (next.name, next.file) ≡ Less

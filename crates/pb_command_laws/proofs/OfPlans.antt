@@ -13,7 +13,7 @@ use Rattle.pb_command_laws.specs.OfPlans as plans
 use Rattle.pb_command_laws.specs.OfPlans.{Hears, CompilesOfPlans, RunsOfPlans}
 use Rattle.pb_command_laws.specs.Planned.{IsWanted, StandsInPlan}
 use Rattle.pb_command_laws.specs.Starts.{StartsScript}
-use Rattle.pb_command_laws.specs.Variables.{CompileHas, folder_at}
+use Rattle.pb_command_laws.specs.Variables.{HasVariables, compile_table, folder_at}
 use Rattle.pb_command_laws.proofs.Compile.{compiles_say}
 use Rattle.pb_command_laws.proofs.Having.{compiles_have}
 use Rattle.pb_command_laws.proofs.Running.{runs_have}
@@ -88,8 +88,8 @@ compiles_of_plans setup project u done p settled stands compiles path =
       lines = h.lines;
       ran = h.ran;
       hears = h.hears_so;
-      has = subst (CompileHas setup project u p (command_of setup project u done) h.lines) h.ran_is
-          (subst (λ lines. CompileHas setup project u p (command_of setup project u done) lines (if hears u.unit.what then folder_at project (own_run project u) else None)) h.lines_are (compiles_have setup project u done p stands.owner compiles));
+      has = subst (λ ran. HasVariables (command_of setup project u done) (compile_table setup project u p h.lines ran)) h.ran_is
+          (subst (λ lines. HasVariables (command_of setup project u done) (compile_table setup project u p lines (if hears u.unit.what then folder_at project (own_run project u) else None))) h.lines_are (compiles_have setup project u done p stands.owner compiles));
       order = commands_rise setup project u done;
       said = told.0;
       words = told.1;

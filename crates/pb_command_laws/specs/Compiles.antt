@@ -2,6 +2,7 @@
 use Rattle.std.specs.Prelude.{◌≡◌, ℕ, Bool, true, false, ◌&&◌, ◌||◌, if◌then◌else◌, is_some, codes, List, [], ◌∷◌, ◌++◌, map, filter, Option, Some, None}
 use Rattle.std.specs.Fmt.{decimal}
 use Rattle.std.specs.List.{flat_map, filter_map, join_by}
+use Rattle.std.specs.Option.{option_map, option_to_list}
 use Rattle.pb_directive.specs.declared.directive.Directive.{Directive}
 use Rattle.pb_directive.specs.declared.directive.Directive.TheVariants.{LinkSearch, LinkLib, Cfg, CheckCfg, LinkArg, LinkArgBins, LinkArgBin}
 use Rattle.pb_manifest.specs.Library.{crate_type_text}
@@ -25,7 +26,7 @@ use Rattle.pb_project.specs.declared.project.Project.{Project}
 use Rattle.pb_project.specs.declared.project.Setup.{Setup}
 use Rattle.pb_command.specs.Command.{command_of}
 use Rattle.pb_command.specs.Words.{switch, debug_info_text, panic_text}
-use Rattle.pb_command_laws.specs.Libraries.{AreLibraries, IsLibrary, given_as}
+use Rattle.pb_command_laws.specs.Libraries.{AreLibraries, IsLibrary, assigned}
 use Rattle.pb_command_laws.specs.Reading.{said_by, values}
 
 abbrev pub is_binary : What → Bool
@@ -45,30 +46,22 @@ lto_value lto.Fat = Some (codes "fat")
 lto_value lto.Thin = Some (codes "thin")
 lto_value lto.Off = Some (codes "off")
 
-abbrev pub only_if : Bool → Option (List ℕ) → Option (List ℕ)
-only_if on value = if on then value else None
+-- a row of a table, where there is a value
+abbrev pub row : List ℕ → Option (List ℕ) → List (List ℕ × List ℕ)
+row name value = option_to_list (option_map (λ text. (name, text)) value)
 
 -- each setting with its value; one without a value is not told
-abbrev pub settings_table : What → Settings → List (List ℕ × Option (List ℕ))
+abbrev pub settings_table : What → Settings → List (List ℕ × List ℕ)
 settings_table what s =
-    (codes "opt-level", Some (opt_level_text s.opt_level))
-    ∷ (codes "debuginfo", Some (debug_info_text s.debug))
-    ∷ (codes "debug-assertions", Some (switch s.debug_assertions))
-    ∷ (codes "overflow-checks", Some (switch s.overflow_checks))
-    ∷ (codes "codegen-units", Some (decimal s.codegen_units))
-    ∷ (codes "panic", Some (panic_text s.panic))
-    ∷ (codes "rpath", only_if s.rpath (Some (codes "yes")))
-    ∷ (codes "strip", strip_value s.strip)
-    ∷ (codes "lto", only_if (is_binary what) (lto_value s.lto))
-    ∷ []
-
--- `KEY=VALUE`
-abbrev pub assigned : List ℕ → Option (List ℕ) → List (List ℕ)
-assigned key None = []
-assigned key (Some value) = (key ++ 61 ∷ value) ∷ []
-
-abbrev pub told : List (List ℕ × Option (List ℕ)) → List (List ℕ)
-told table = flat_map (λ (row : List ℕ × Option (List ℕ)). assigned row.0 row.1) table
+    (codes "opt-level", opt_level_text s.opt_level)
+    ∷ (codes "debuginfo", debug_info_text s.debug)
+    ∷ (codes "debug-assertions", switch s.debug_assertions)
+    ∷ (codes "overflow-checks", switch s.overflow_checks)
+    ∷ (codes "codegen-units", decimal s.codegen_units)
+    ∷ (codes "panic", panic_text s.panic)
+    ∷ row (codes "rpath") (if s.rpath then Some (codes "yes") else None)
+    ++ row (codes "strip") (strip_value s.strip)
+    ++ row (codes "lto") (if is_binary what then lto_value s.lto else None)
 
 -- What the lines of scripts say.
 
@@ -125,13 +118,13 @@ pub record CompileSays (project : Project) (unit : Planned) (done : List (Option
   pub crate_types : values (codes "--crate-type") said ≡ map crate_type_text (crate_types p.library unit.unit.what)
   pub folder : values (codes "--out-dir") said ≡ unit.out ∷ []
   pub alone : values [] said ≡ (codes "--edition=" ++ edition_text p.edition) ∷ source_by p unit.unit.what ∷ codes "--error-format=json" ∷ codes "--emit=dep-info,link" ∷ []
-  pub settings : values (codes "-C") said ≡ told (settings_table unit.unit.what unit.settings) ++ map (λ flag. codes "link-arg=" ++ flag) (linker_flags unit.unit.what lines)
+  pub settings : values (codes "-C") said ≡ map assigned (settings_table unit.unit.what unit.settings) ++ map (λ flag. codes "link-arg=" ++ flag) (linker_flags unit.unit.what lines)
   pub conditions : values (codes "--cfg") said ≡ map feature_is_on (features_at project.features unit.unit.owner unit.unit.side) ++ asked (codes "rustc-cfg") lines
   pub expected : values (codes "--check-cfg") said ≡ features_there_are p.features ∷ asked (codes "rustc-check-cfg") lines
   pub searched : values (codes "-L") said ≡ map (λ (library : Planned). codes "dependency=" ++ library.out) (libraries_at project unit.reaches) ++ asked (codes "rustc-link-search") (flat_map (said_at done) unit.reaches)
   pub linked : values (codes "-l") said ≡ (if is_binary unit.unit.what && is_some p.library then [] else asked (codes "rustc-link-lib") lines)
   pub libraries : List (List ℕ × List ℕ)
-  pub given : values (codes "--extern") said ≡ map given_as libraries
+  pub given : values (codes "--extern") said ≡ map assigned libraries
   pub are : AreLibraries Is libraries
 
 -- The law: the words of a compile say this, and then what the flags of the user say. The package is one of a workspace that was read, and its source has a normalised absolute path

@@ -38,6 +38,6 @@ pub record AreLibraries (Is : List ℕ → List ℕ → Type 0) (libraries : Lis
   pub order : IsStrictlySortedBy by_name libraries
   pub same : (library : List ℕ × List ℕ) → Contains libraries library ↔ Is library.0 library.1
 
--- `NAME=FILE`
-abbrev pub given_as : List ℕ × List ℕ → List ℕ
-given_as library = library.0 ++ 61 ∷ library.1
+-- `NAME=VALUE`
+abbrev pub assigned : List ℕ × List ℕ → List ℕ
+assigned pair = pair.0 ++ 61 ∷ pair.1

@@ -17,7 +17,7 @@ use Rattle.pb_command_laws.specs.Compiles.{CompileSays, hears}
 use Rattle.pb_command_laws.specs.Planned.{IsWanted, StandsInPlan, folder_of}
 use Rattle.pb_command_laws.specs.Reading.{said_by}
 use Rattle.pb_command_laws.specs.Starts.{StartsCompiler, StartsScript}
-use Rattle.pb_command_laws.specs.Variables.{CompileHas, RunHas}
+use Rattle.pb_command_laws.specs.Variables.{HasVariables, compile_table, run_table}
 
 -- what a compile hears of its package's script: a library or a binary the lines of the run on its own side, whose files have this folder
 pub data Hears (project : Project) (u : Planned) (p : Package) (done : List (Option (List Directive))) : List Directive → Option (List ℕ) → Type 0 where
@@ -30,7 +30,7 @@ pub record IsCompile (setup : Setup) (project : Project) (u : Planned) (done : L
   pub lines : List Directive
   pub ran : Option (List ℕ)
   pub hears : Hears project u p done lines ran
-  pub has : CompileHas setup project u p command lines ran
+  pub has : HasVariables command (compile_table setup project u p lines ran)
   pub order : IsAscending (names_of command.pairs)
   pub said : List (List ℕ × List ℕ)
   pub words : said_by command.words ≡ said ++ said_by setup.flags
@@ -39,7 +39,7 @@ pub record IsCompile (setup : Setup) (project : Project) (u : Planned) (done : L
 -- a run starts the script of its package on its side; the names of its variables rise too
 pub record IsRun (setup : Setup) (project : Project) (u : Planned) (done : List (Option (List Directive))) (p : Package) (command : Command) : Type 0 where
   pub starts : StartsScript setup project u p (Some (below (folder_of project (unit u.unit.owner u.unit.side Script)) (codes "build_script_build"))) command
-  pub has : RunHas setup project u done p command
+  pub has : HasVariables command (run_table setup project u done p)
   pub order : IsAscending (names_of command.pairs)
 
 -- The laws. The package is one of a workspace that was read, and its source has a normalised absolute path.

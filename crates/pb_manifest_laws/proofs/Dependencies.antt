@@ -15,12 +15,19 @@ use Rattle.pb_manifest.specs.declared.fault.ManifestFault.TheVariants.{BadName, 
 use Rattle.pb_manifest.specs.declared.key.Key.{Key}
 use Rattle.pb_manifest.specs.declared.key.Key.TheVariants as key
 use Rattle.pb_manifest_reader.proofs.Came.{came}
-use Rattle.pb_manifest_laws.specs.Dependencies.{HoldsRequirement, IsSource, IsDependencyEntry}
+use Rattle.pb_manifest_laws.specs.Dependencies.{IsSource, IsDependencyEntry}
 use Rattle.pb_manifest_laws.specs.Laws.{ReadsDependencies}
-use Rattle.pb_manifest_laws.specs.Values.{IsPath, Holds, HoldsPath, HoldsOr, Lists}
+use Rattle.pb_manifest_laws.specs.Values.{IsPath, Holds, HoldsValid, HoldsOr, Lists, OfTable}
 use Rattle.pb_manifest_laws.proofs.Chains.{three, five, then_back}
 use Rattle.pb_manifest_laws.proofs.Packages.{all_any, some_any}
 use Rattle.pb_manifest_laws.proofs.Reading.{IsWrittenAs, Any, text_written, truth_written, path_written, spelled_so, table_is, truly, optional_only, optional_back, or_from, or_to, lists_only, lists_back}
+
+-- a path and a requirement, where they are written
+abbrev pub HoldsPath : Option Data → Option (List ℕ) → Type 0
+HoldsPath = HoldsValid IsPath (λ t. string t)
+
+abbrev pub HoldsRequirement : Option Data → Option (List ℕ) → Type 0
+HoldsRequirement = HoldsValid (λ text. is_requirement text ≡ true) (λ t. string t)
 
 -- requirements
 pub requirement_only : (text x : List ℕ) → requirement_in text ≡ Ok x → (text ≡ x) × (is_requirement x ≡ true)
@@ -71,7 +78,7 @@ source_only ms df name version written path u df_is name_is version_is written_i
         let default : HoldsOr false (λ b. boolean b) (get_member (codes "default-features") ms) (is_true df) =
         subst (HoldsOr false (λ b. boolean b) (get_member (codes "default-features") ms)) (sym (true_or df)) (or_from (truth_of key.DefaultFeatures) (λ b. boolean b) Any (truth_written key.DefaultFeatures) false (get_member (codes "default-features") ms) df df_is) in
         subst (λ p. IsSource ms (source_of df name version p)) none
-        (there.0 on, default, record { path = o; name = name; version = version; path_is = holds; name_is = name_is; version_is = version_is })
+        (there.0 on, default, ((o, holds), (name, name_is), (version, version_is)))
     by false off None holds h = cc
     by false off (Some text) holds h =
         let there = workspace_only (value_at key.Workspace ms) (takes_workspace ms) u refl workspace in
@@ -87,7 +94,7 @@ source_only ms df name version written path u df_is name_is version_is written_i
           },
         )
 
-table_only : (name : List ℕ) (d : Data) (ms : Members) (x : Dependency) → is_name name ≡ true → d ≡ table ms → dependency_keys name ms ≡ Ok x → IsDependencyEntry name d x
+table_only : (name : List ℕ) (d : Data) (ms : Members) (x : Dependency) → is_name name ≡ true → d ≡ table ms → dependency_keys name ms ≡ Ok x → OfTable (IsDependencyEntry name) d x
 unfolding spelled
 table_only name d ms x letters is h =
     let a = came (first_keys false ms) (λ a. last_keys ms >>= (λ b. Ok record { key = name; source = source_of a.default_features a.package b.version b.path; optional = a.optional; features = a.features })) x h in
@@ -108,28 +115,30 @@ table_only name d ms x letters is h =
     let made : Dependency = record { key = name; source = source_of t.0 t.4 v.value u.0; optional = is_true t.3; features = t.1 } in
     let whole : made ≡ x = (λ i. record { key = name; source = source_of t.0 t.4 (version i) u.0; optional = is_true t.3; features = t.1 })
     ∙ (λ i. record { key = name; source = source_of (t.10 i).default_features (t.10 i).package (u.6 i).version (u.6 i).path; optional = (t.10 i).optional; features = (t.10 i).features }) ∙ cc (b.more) in
-    subst (IsDependencyEntry name d) whole (record {
-      key = refl;
-      letters = letters;
-      inner = ms;
-      is_table = is;
-      source = source;
-      optional = subst (HoldsOr false (λ q. boolean q) (get_member (codes "optional") ms)) (sym (true_or t.3)) (or_from (truth_of key.Optional) (λ q. boolean q) Any (truth_written key.Optional) false (get_member (codes "optional") ms) t.3 optional.0);
-      features = (lists_only (text_of key.Features) (λ q. string q) Any (text_written key.Features) key.Features (value_at key.Features ms) t.1 t.6).0;
-      no_git = kept_git (value_at key.Git ms) t.2 t.7;
-      no_registry = refused_only (value_at key.Registry ms) u.1 u.4;
-    })
+    subst (OfTable (IsDependencyEntry name) d) whole (
+      ms,
+      is,
+      record {
+        key = refl;
+        letters = letters;
+        source = source;
+        optional = subst (HoldsOr false (λ q. boolean q) (get_member (codes "optional") ms)) (sym (true_or t.3)) (or_from (truth_of key.Optional) (λ q. boolean q) Any (truth_written key.Optional) false (get_member (codes "optional") ms) t.3 optional.0);
+        features = (lists_only (text_of key.Features) (λ q. string q) Any (text_written key.Features) key.Features (value_at key.Features ms) t.1 t.6).0;
+        no_git = kept_git (value_at key.Git ms) t.2 t.7;
+        no_registry = refused_only (value_at key.Registry ms) u.1 u.4;
+      },
+    )
 
-dependency_only : (k : Key) (name : List ℕ) (d : Data) (x : Dependency) → dependency_of k name d ≡ Ok x → IsDependencyEntry name d x
+dependency_only : (k : Key) (name : List ℕ) (d : Data) (x : Dependency) → dependency_of k name d ≡ Ok x → OfTable (IsDependencyEntry name) d x
 unfolding dependency_of
 dependency_only k name d x h = by (is_name name) refl h
   where
-    from : (version : Option (List ℕ)) (found : Option Members) → is_name name ≡ true → as_table d ≡ found → dependency_from k name version found ≡ Ok x → IsDependencyEntry name d x
+    from : (version : Option (List ℕ)) (found : Option Members) → is_name name ≡ true → as_table d ≡ found → dependency_from k name version found ≡ Ok x → OfTable (IsDependencyEntry name) d x
     from (Some version) found letters is h = cc
     from None (Some ms) letters is h = table_only name d ms x letters (table_is d ms is) h
     from None None letters is h = cc
 
-    by : (b : Bool) → is_name name ≡ b → (if b then dependency_from k name (as_str d) (as_table d) else Err BadName) ≡ Ok x → IsDependencyEntry name d x
+    by : (b : Bool) → is_name name ≡ b → (if b then dependency_from k name (as_str d) (as_table d) else Err BadName) ≡ Ok x → OfTable (IsDependencyEntry name) d x
     by true letters h = from (as_str d) (as_table d) letters refl h
     by false letters h = cc
 
@@ -166,7 +175,7 @@ module _ (name : List ℕ) (ms : Members) (features : List (List ℕ)) (optional
       let o = or_to (truth_of key.DefaultFeatures) (λ b. boolean b) Any (truth_written key.DefaultFeatures) false (value_at key.DefaultFeatures ms) default is.1 in
       let default_is : is_true o.0 ≡ default = true_or o.0 ∙ o.2 in
       let workspace_is : workspace_at ms ≡ Ok tt = (λ i. workspace_in (is.0 i) (on i)) in
-      keys_back o.0 is.2.name is.2.version is.2.path None o.1 is.2.name_is is.2.version_is is.2.path_is (ap (λ b. own_path b is.2.path) on) workspace_is
+      keys_back o.0 is.2.1.0 is.2.2.0 is.2.0.0 None o.1 is.2.1.1 is.2.2.1 is.2.0.1 (ap (λ b. own_path b is.2.0.0) on) workspace_is
       ∙ (λ i. Ok record { key = name; source = own.Workspace (default_is i); optional = optional; features = features })
   source_back (own.Path s) is =
       let off : takes_workspace ms ≡ false = untaken_so (value_at key.Workspace ms) is.0 in
@@ -175,12 +184,12 @@ module _ (name : List ℕ) (ms : Members) (features : List (List ℕ)) (optional
       keys_back o.0 s.package s.version (Some s.path) (Some s.path) o.1 is.1.name is.1.version (is.1.path, is.1.path_is) (ap (λ b. own_path b (Some s.path)) off) workspace_is
       ∙ (λ i. Ok record { key = name; source = own.Path (record { path = s.path; «package» = s.package; version = s.version; default_features = o.2 i }); optional = optional; features = features })
 
-dependency_back : (k : Key) (name : List ℕ) (d : Data) (x : Dependency) → IsDependencyEntry name d x → dependency_of k name d ≡ Ok x
+dependency_back : (k : Key) (name : List ℕ) (d : Data) (x : Dependency) → OfTable (IsDependencyEntry name) d x → dependency_of k name d ≡ Ok x
 unfolding dependency_of spelled
 dependency_back k name d x says =
-    (λ i. if says.letters i then dependency_from k name (as_str (says.is_table i)) (as_table (says.is_table i)) else Err BadName)
-    ∙ source_back name says.inner x.features x.optional says.no_git says.no_registry says.optional says.features x.source says.source
-    ∙ (λ i. Ok record { key = sym says.key i; source = x.source; optional = x.optional; features = x.features })
+    (λ i. if says.2.letters i then dependency_from k name (as_str (says.1 i)) (as_table (says.1 i)) else Err BadName)
+    ∙ source_back name says.0 x.features x.optional says.2.no_git says.2.no_registry says.2.optional says.2.features x.source says.2.source
+    ∙ (λ i. Ok record { key = sym says.2.key i; source = x.source; optional = x.optional; features = x.features })
 
 pub dependencies_read : ReadsDependencies
 dependencies_read k name d x = (dependency_only k name d x, dependency_back k name d x)

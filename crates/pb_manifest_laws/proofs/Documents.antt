@@ -1,6 +1,8 @@
 -- A document is read as the manifest that it says, and so are bytes.
 use Rattle.std.proofs.Common.{◌≡◌, ◌↔◌, ◌∙◌, ◌≤◌, ◌||◌, ℕ, Bool, true, false, if◌then◌else◌, nat_lt, List, [], codes, length, Option, Some, None, Ok, Err, is_some, refl, sym, ap, subst, arith}
 use Rattle.std.proofs.lemmas.Bool.Decides.{nat_tests}
+use Rattle.std.specs.List.{AllZip}
+use Rattle.std.specs.Option.{option_and_then, option_map_or}
 use Rattle.std.specs.Str.{is_utf8}
 use Rattle.toml.specs.Data.{Data, string, integer, float, boolean, datetime, array, table, Members, get_member, as_table}
 use Rattle.toml.specs.Parse.{parse_document}
@@ -13,7 +15,7 @@ use Rattle.pb_manifest.specs.Keys.{spelled}
 use Rattle.pb_manifest_reader.specs.Library.{library_of}
 use Rattle.pb_manifest_reader.specs.Package.{package_of}
 use Rattle.pb_manifest_reader.specs.Profiles.{profile_of, profiles_at}
-use Rattle.pb_manifest_reader.specs.Values.{optional, value_at, has, table_of, table_in, keys_in, keys_at}
+use Rattle.pb_manifest_reader.specs.Values.{optional, value_at, has, table_of, table_in, keys_in, keys_at, keys_of}
 use Rattle.pb_manifest_reader.specs.Workspace.{workspace_of}
 use Rattle.pb_manifest.specs.declared.fault.ManifestFault.TheVariants.{TooLarge, NotToml, UnsupportedTable, OldResolver, BadKind, BadProfile}
 use Rattle.pb_manifest.specs.declared.key.Key.TheVariants as key
@@ -22,15 +24,15 @@ use Rattle.pb_manifest.specs.declared.package.Package.{Package}
 use Rattle.pb_manifest.specs.declared.target.Binary.{Binary}
 use Rattle.pb_manifest_reader.proofs.Came.{came}
 use Rattle.pb_manifest_laws.specs.Dependencies.{IsDependencyEntry}
-use Rattle.pb_manifest_laws.specs.Documents.{IsBinaryItem, AreBinariesAt, AreKeysAt, IsDocument, AreManifest}
+use Rattle.pb_manifest_laws.specs.Documents.{IsDocument, AreManifest}
 use Rattle.pb_manifest_laws.specs.Laws.{ReadsDocuments, ReadsManifests, DocumentsSayOne}
-use Rattle.pb_manifest_laws.specs.Packages.{IsResolver, absent, second, third, IsPackageTable, IsLibraryTable, IsFeatureEntry}
+use Rattle.pb_manifest_laws.specs.Packages.{IsResolver, IsPackageTable, IsLibraryTable, IsBinaryTable, IsFeatureEntry}
 use Rattle.pb_manifest_laws.specs.Profiles.{IsProfileEntry}
-use Rattle.pb_manifest_laws.specs.Values.{IsTableAt}
+use Rattle.pb_manifest_laws.specs.Values.{OfTable, IsTableAt, AreTablesAt}
 use Rattle.pb_manifest_laws.specs.Workspaces.{IsWorkspaceTable}
 use Rattle.pb_manifest_laws.proofs.Chains.{three, four_on, five, then_back}
 use Rattle.pb_manifest_laws.proofs.Dependencies.{dependencies_read}
-use Rattle.pb_manifest_laws.proofs.Packages.{packages_read}
+use Rattle.pb_manifest_laws.proofs.Packages.{each_resolver, packages_read}
 use Rattle.pb_manifest_laws.proofs.Profiles.{profiles_read}
 use Rattle.pb_manifest_laws.proofs.Reading.{table_is}
 use Rattle.pb_manifest_laws.proofs.Tables.{entries_at_only, entries_at_back, items_only, items_back, table_at_only, table_at_back}
@@ -56,26 +58,20 @@ package_only false None o h = cc
 package_only false (Some (table ms)) o h =
     let c = came (package_of ms) (λ found. Ok (Some found)) o h in
     let same : Some c.value ≡ o = cc (c.more) in
-    (subst (IsTableAt IsPackageTable (Some (table ms))) same ((packages_read ms c.value).0 c.was), λ none. absurd (let clash : Some (table ms) ≡ None = none in cc))
+    (subst (IsTableAt IsPackageTable (Some (table ms))) same ((ms, refl, (packages_read ms c.value).0 c.was), tt), λ none. absurd (let clash : Some (table ms) ≡ None = none in cc))
 package_only false (Some _) o h = cc
 
 package_back : (b : Bool) (found : Option Data) (o : Option Package) → IsTableAt IsPackageTable found o → (found ≡ None → b ≡ true) → (optional (table_of key.Package) found >>= package_in b) ≡ Ok o
 package_back true found o is one = table_at_back package_of IsPackageTable packages_read (package_in true) refl (λ ms. refl) (BadKind key.Package) found o is
 package_back false None o is one = absurd (let clash : false ≡ true = one refl in cc)
-package_back false (Some (table ms)) None is one = absurd is
-package_back false (Some (table ms)) (Some x) is one = ap (λ r. r >>= (λ y. Ok (Some y))) ((packages_read ms x).1 is)
-package_back false (Some (string s)) o is one = absurd is
-package_back false (Some (integer z)) o is one = absurd is
-package_back false (Some (float x)) o is one = absurd is
-package_back false (Some (boolean b)) o is one = absurd is
-package_back false (Some (datetime t)) o is one = absurd is
-package_back false (Some (array ds)) o is one = absurd is
+package_back false (Some d) None is one = absurd is
+package_back false (Some d) (Some x) is one = ap (λ e. optional (table_of key.Package) (Some e) >>= package_in false) is.0.1 ∙ ap (λ r. r >>= (λ y. Ok (Some y))) ((packages_read is.0.0 x).1 is.0.2)
 
 -- `[[bin]]`
-binary_only : (d : Data) (b : Binary) → binary_of d ≡ Ok b → IsBinaryItem d b
+binary_only : (d : Data) (b : Binary) → binary_of d ≡ Ok b → OfTable IsBinaryTable d b
 binary_only d b h =
     let c = came (table_of key.Bin d) binary_keys b h in
-    record { inner = c.value; is_table = table_is d c.value (table_found d c.value c.was); says = (binaries_read c.value b).0 c.more }
+    (c.value, table_is d c.value (table_found d c.value c.was), (binaries_read c.value b).0 c.more)
   where
     some_found : (found : Option Members) (ms : Members) → some_or (BadKind key.Bin) found ≡ Ok ms → found ≡ Some ms
     some_found None ms h = cc
@@ -84,65 +80,41 @@ binary_only d b h =
     table_found : (d : Data) (ms : Members) → table_of key.Bin d ≡ Ok ms → as_table d ≡ Some ms
     table_found d ms h = some_found (as_table d) ms h
 
-binary_back : (d : Data) (b : Binary) → IsBinaryItem d b → binary_of d ≡ Ok b
-binary_back d b says = ap binary_of says.is_table ∙ (binaries_read says.inner b).1 says.says
+binary_back : (d : Data) (b : Binary) → OfTable IsBinaryTable d b → binary_of d ≡ Ok b
+binary_back d b says = ap binary_of says.1 ∙ (binaries_read says.0 b).1 says.2
 
-binary_reads : (d : Data) (b : Binary) → (binary_of d ≡ Ok b) ↔ IsBinaryItem d b
+binary_reads : (d : Data) (b : Binary) → (binary_of d ≡ Ok b) ↔ OfTable IsBinaryTable d b
 binary_reads d b = (binary_only d b, binary_back d b)
 
-binaries_only : (found : Option Data) (bs : List Binary) → binaries_in found ≡ Ok bs → AreBinariesAt found bs
-binaries_only None bs h = let same : [] ≡ bs = cc in sym same
-binaries_only (Some (array ds)) bs h = items_only binary_of IsBinaryItem binary_reads ds bs h
+binaries_only : (found : Option Data) (bs : List Binary) → binaries_in found ≡ Ok bs → AreTablesAt IsBinaryTable found bs
+binaries_only None bs h = let same : [] ≡ bs = cc in ([], refl, subst (AllZip (OfTable IsBinaryTable) []) same tt)
+binaries_only (Some (array ds)) bs h = let r = items_only binary_of (OfTable IsBinaryTable) binary_reads ds bs h in (r.0, ap (λ ds. array ds) r.1, r.2)
 binaries_only (Some _) bs h = cc
 
-binaries_back : (found : Option Data) (bs : List Binary) → AreBinariesAt found bs → binaries_in found ≡ Ok bs
-binaries_back None bs is = ap (λ xs. Ok xs) (sym is)
-binaries_back (Some (array ds)) bs is = items_back binary_of IsBinaryItem binary_reads ds bs is
-binaries_back (Some (string s)) bs is = absurd is
-binaries_back (Some (integer z)) bs is = absurd is
-binaries_back (Some (float x)) bs is = absurd is
-binaries_back (Some (boolean b)) bs is = absurd is
-binaries_back (Some (datetime t)) bs is = absurd is
-binaries_back (Some (table ms)) bs is = absurd is
+binaries_back : (found : Option Data) (bs : List Binary) → AreTablesAt IsBinaryTable found bs → binaries_in found ≡ Ok bs
+binaries_back None bs is = items_back binary_of (OfTable IsBinaryTable) binary_reads [] bs (subst (λ ds. AllZip (OfTable IsBinaryTable) ds bs) is.1 is.2)
+binaries_back (Some d) bs is = ap (λ e. binaries_in (Some e)) is.1 ∙ items_back binary_of (OfTable IsBinaryTable) binary_reads is.0 bs is.2
 
 -- the keys of `[dev-dependencies]`
-keys_only : (found : Option Data) → AreKeysAt found (keys_in (table_in found))
-keys_only None = refl
-keys_only (Some (string s)) = refl
-keys_only (Some (integer z)) = refl
-keys_only (Some (float x)) = refl
-keys_only (Some (boolean b)) = refl
-keys_only (Some (datetime t)) = refl
-keys_only (Some (array ds)) = refl
-keys_only (Some (table ms)) = refl
-
-keys_back : (found : Option Data) (ks : List (List ℕ)) → AreKeysAt found ks → keys_in (table_in found) ≡ ks
-keys_back None ks is = sym is
-keys_back (Some (string s)) ks is = sym is
-keys_back (Some (integer z)) ks is = sym is
-keys_back (Some (float x)) ks is = sym is
-keys_back (Some (boolean b)) ks is = sym is
-keys_back (Some (datetime t)) ks is = sym is
-keys_back (Some (array ds)) ks is = sym is
-keys_back (Some (table ms)) ks is = sym is
+keys_are : (found : Option Data) → keys_in (table_in found) ≡ option_map_or keys_of (option_and_then as_table found) []
+keys_are None = refl
+keys_are (Some (string s)) = refl
+keys_are (Some (integer z)) = refl
+keys_are (Some (float x)) = refl
+keys_are (Some (boolean b)) = refl
+keys_are (Some (datetime t)) = refl
+keys_are (Some (array ds)) = refl
+keys_are (Some (table ms)) = refl
 
 -- a table with a resolver that is served does not ask for resolver 1
 not_one : (found : Option Data) → IsResolver found → is_one (text_in found) ≡ false
-not_one found (absent is) = ap (λ f. is_one (text_in f)) is
-not_one found (second is) = ap (λ f. is_one (text_in f)) is
-not_one found (third is) = ap (λ f. is_one (text_in f)) is
+not_one found is = each_resolver (λ f. is_one (text_in f) ≡ false) found is refl refl refl
 
 new_table : {A : Type 0} (Is : Members → A → Type 0) → ((ms : Members) (x : A) → Is ms x → IsResolver (get_member (codes "resolver") ms)) → (found : Option Data) (o : Option A) → IsTableAt Is found o → says_one (table_in found) ≡ false
 unfolding spelled
 new_table Is resolver None o is = refl
-new_table Is resolver (Some (table ms)) None is = absurd is
-new_table Is resolver (Some (table ms)) (Some x) is = not_one (value_at key.Resolver ms) (resolver ms x is)
-new_table Is resolver (Some (string s)) o is = refl
-new_table Is resolver (Some (integer z)) o is = refl
-new_table Is resolver (Some (float x)) o is = refl
-new_table Is resolver (Some (boolean b)) o is = refl
-new_table Is resolver (Some (datetime t)) o is = refl
-new_table Is resolver (Some (array ds)) o is = refl
+new_table Is resolver (Some d) None is = absurd is
+new_table Is resolver (Some d) (Some x) is = ap (λ e. says_one (table_in (Some e))) is.0.1 ∙ not_one (value_at key.Resolver is.0.0) (resolver is.0.0 x is.0.2)
 
 document_only : (ms : Members) (m : Manifest) → document_of ms ≡ Ok m → IsDocument ms m
 unfolding document_of targets_of tables_of spelled
@@ -199,11 +171,11 @@ document_only ms m h =
       one = own.1;
       library = table_at_only library_of IsLibraryTable libraries_read library_in refl (λ ns. refl) (BadKind key.Lib) (value_at key.Lib ms) a.1 a.4;
       binaries = binaries_only (value_at key.Bin ms) a.2 a.5;
-      dependencies = entries_at_only (dependency_of key.Dependencies) IsDependencyEntry (dependencies_read key.Dependencies) (BadKind key.Dependencies) (value_at key.Dependencies ms) b.0 b.5;
-      build_dependencies = entries_at_only (dependency_of key.BuildDependencies) IsDependencyEntry (dependencies_read key.BuildDependencies) (BadKind key.BuildDependencies) (value_at key.BuildDependencies ms) b.1 b.6;
-      dev_dependencies = keys_only (value_at key.DevDependencies ms);
+      dependencies = entries_at_only (dependency_of key.Dependencies) (λ name. OfTable (IsDependencyEntry name)) (dependencies_read key.Dependencies) (BadKind key.Dependencies) (value_at key.Dependencies ms) b.0 b.5;
+      build_dependencies = entries_at_only (dependency_of key.BuildDependencies) (λ name. OfTable (IsDependencyEntry name)) (dependencies_read key.BuildDependencies) (BadKind key.BuildDependencies) (value_at key.BuildDependencies ms) b.1 b.6;
+      dev_dependencies = keys_are (value_at key.DevDependencies ms);
       features = entries_at_only feature_of IsFeatureEntry features_read (BadKind key.Features) (value_at key.Features ms) b.2 b.7;
-      profiles = entries_at_only profile_of IsProfileEntry profiles_read BadProfile (value_at key.Profile ms) b.3 b.8;
+      profiles = entries_at_only profile_of (λ name. OfTable (IsProfileEntry name)) profiles_read BadProfile (value_at key.Profile ms) b.3 b.8;
       workspace = table_at_only workspace_of IsWorkspaceTable workspaces_read workspace_in refl (λ ns. refl) (BadKind key.Workspace) (value_at key.Workspace ms) b.4 b.9;
     })
 
@@ -217,11 +189,11 @@ document_back ms m says =
     let c : package_at ms ≡ Ok m.package = package_back (has key.Workspace ms) (value_at key.Package ms) m.package says.own says.one in
     let d : library_at ms ≡ Ok m.library = table_at_back library_of IsLibraryTable libraries_read library_in refl (λ ns. refl) (BadKind key.Lib) (value_at key.Lib ms) m.library says.library in
     let e : binaries_at ms ≡ Ok m.binaries = binaries_back (value_at key.Bin ms) m.binaries says.binaries in
-    let f : dependencies_at key.Dependencies ms ≡ Ok m.dependencies = entries_at_back (dependency_of key.Dependencies) IsDependencyEntry (dependencies_read key.Dependencies) (BadKind key.Dependencies) (value_at key.Dependencies ms) m.dependencies says.dependencies in
-    let g : dependencies_at key.BuildDependencies ms ≡ Ok m.build_dependencies = entries_at_back (dependency_of key.BuildDependencies) IsDependencyEntry (dependencies_read key.BuildDependencies) (BadKind key.BuildDependencies) (value_at key.BuildDependencies ms) m.build_dependencies says.build_dependencies in
-    let h : keys_at key.DevDependencies ms ≡ m.dev_dependencies = keys_back (value_at key.DevDependencies ms) m.dev_dependencies says.dev_dependencies in
+    let f : dependencies_at key.Dependencies ms ≡ Ok m.dependencies = entries_at_back (dependency_of key.Dependencies) (λ name. OfTable (IsDependencyEntry name)) (dependencies_read key.Dependencies) (BadKind key.Dependencies) (value_at key.Dependencies ms) m.dependencies says.dependencies in
+    let g : dependencies_at key.BuildDependencies ms ≡ Ok m.build_dependencies = entries_at_back (dependency_of key.BuildDependencies) (λ name. OfTable (IsDependencyEntry name)) (dependencies_read key.BuildDependencies) (BadKind key.BuildDependencies) (value_at key.BuildDependencies ms) m.build_dependencies says.build_dependencies in
+    let h : keys_at key.DevDependencies ms ≡ m.dev_dependencies = keys_are (value_at key.DevDependencies ms) ∙ sym says.dev_dependencies in
     let j : features_at ms ≡ Ok m.features = entries_at_back feature_of IsFeatureEntry features_read (BadKind key.Features) (value_at key.Features ms) m.features says.features in
-    let k : profiles_at ms ≡ Ok m.profiles = entries_at_back profile_of IsProfileEntry profiles_read BadProfile (value_at key.Profile ms) m.profiles says.profiles in
+    let k : profiles_at ms ≡ Ok m.profiles = entries_at_back profile_of (λ name. OfTable (IsProfileEntry name)) profiles_read BadProfile (value_at key.Profile ms) m.profiles says.profiles in
     let l : workspace_at ms ≡ Ok m.workspace = table_at_back workspace_of IsWorkspaceTable workspaces_read workspace_in refl (λ ns. refl) (BadKind key.Workspace) (value_at key.Workspace ms) m.workspace says.workspace in
     (λ i. a i >>= (λ none. b i >>= (λ new. targets_of ms >>= (λ a. tables_of ms >>= (λ b. Ok record {
       «package» = a.package;

@@ -1,9 +1,10 @@
 -- `[package]`, `[lib]`, `[[bin]]` and `[features]` are read as what they say.
-use Rattle.std.proofs.Common.{◌≡◌, ◌∙◌, ℕ, Bool, true, false, if◌then◌else◌, ◌||◌, List, [], ◌∷◌, codes, Option, Some, None, Ok, Err, IfSome, unwrap_or, refl, sym, ap, subst}
+use Rattle.std.proofs.Common.{inl, inr, arith, ◌≡◌, ◌∙◌, ℕ, Bool, true, false, if◌then◌else◌, ◌||◌, List, [], ◌∷◌, codes, Option, Some, None, Ok, Err, IfSome, unwrap_or, refl, sym, ap, subst}
 use Rattle.std.specs.List.{AllByRecursion}
 use Rattle.std.specs.Str.{bytes_eq}
 use Rattle.std.proofs.lemmas.Slice.Eq.{bytes_eq-Decides}
 use Rattle.semver.specs.Parse.{digits_from}
+use Rattle.pb_closure.proofs.Membership.{cases, single}
 use Rattle.toml.specs.Data.{Data, string, boolean, Members, as_table}
 use Rattle.pb_data.specs.Gives.{◌>>=◌}
 use Rattle.pb_manifest.specs.Keys.{spelled}
@@ -30,7 +31,7 @@ use Rattle.pb_manifest.specs.declared.package.Readme.{Readme}
 use Rattle.pb_manifest.specs.declared.package.Readme.TheVariants as readme
 use Rattle.pb_manifest_reader.proofs.Came.{came}
 use Rattle.pb_manifest_laws.specs.Laws.{ReadsPackages}
-use Rattle.pb_manifest_laws.specs.Packages.{edition, IsBuild, readme_value, IsVersion, IsResolver, absent, second, third, IsPackageTable}
+use Rattle.pb_manifest_laws.specs.Packages.{edition, IsBuild, readme_value, IsVersion, IsResolver, IsPackageTable}
 use Rattle.pb_manifest_laws.specs.Values.{texts, Holds, HoldsOrTakes}
 use Rattle.pb_manifest_laws.proofs.Chains.{three, five, then_back}
 use Rattle.pb_manifest_laws.proofs.Reading.{IsWrittenAs, Any, text_written, truth_written, path_written, list_written, spelled_so, chosen, optional_only, optional_back, or_from, or_to, taken_only, taken_back, IfWritten, IfOwn, inherited_only, inherited_back}
@@ -124,6 +125,12 @@ pub name_back : (found : Option Data) (x : List ℕ) → found ≡ Some (string 
 name_back found x there is = ap (λ f. optional (text_of key.Name) f >>= name_in) there ∙ ap (λ b. if b then Ok x else Err BadName) is
 
 -- the resolver
+pub each_resolver : (P : Option Data → Type 0) (found : Option Data) → IsResolver found → P None → P (Some (string (codes "2"))) → P (Some (string (codes "3"))) → P found
+each_resolver P found is absent second third = elim (cases None (Some (string (codes "2")) ∷ Some (string (codes "3")) ∷ []) found is) [
+  | inl here ↦ subst P here absent
+  | inr later ↦ (elim (cases (Some (string (codes "2"))) (Some (string (codes "3")) ∷ []) found later) [ inl here ↦ subst P here second | inr last ↦ subst P (single (Some (string (codes "3"))) found last) third ])
+]
+
 pub resolver_only : (found : Option Data) (u : Unit {0}) → (optional (text_of key.Resolver) found >>= resolver_in) ≡ Ok u → IsResolver found
 resolver_only found u h =
     let c = came (optional (text_of key.Resolver) found) resolver_in u h in
@@ -131,18 +138,16 @@ resolver_only found u h =
     by c.value v.0 c.more
   where
     which : (text : List ℕ) (a b : Bool) → bytes_eq text (codes "2") ≡ a → bytes_eq text (codes "3") ≡ b → found ≡ Some (string text) → (if a || b then Ok tt else Err (BadKind key.Resolver)) ≡ Ok u → IsResolver found
-    which text true b two three there h = second (there ∙ ap (λ t. Some (string t)) ((bytes_eq-Decides text (codes "2")).0 two))
-    which text false true two three there h = third (there ∙ ap (λ t. Some (string t)) ((bytes_eq-Decides text (codes "3")).0 three))
+    which text true b two three there h = (1, omega arith, sym (there ∙ ap (λ t. Some (string t)) ((bytes_eq-Decides text (codes "2")).0 two)))
+    which text false true two three there h = (2, omega arith, sym (there ∙ ap (λ t. Some (string t)) ((bytes_eq-Decides text (codes "3")).0 three)))
     which text false false two three there h = cc
 
     by : (o : Option (List ℕ)) → Holds (λ t. string t) found o → resolver_in o ≡ Ok u → IsResolver found
-    by None holds h = absent holds
+    by None holds h = (0, omega arith, sym holds)
     by (Some text) holds h = which text (bytes_eq text (codes "2")) (bytes_eq text (codes "3")) refl refl holds h
 
 pub resolver_back : (found : Option Data) → IsResolver found → (optional (text_of key.Resolver) found >>= resolver_in) ≡ Ok tt
-resolver_back found (absent is) = ap (λ f. optional (text_of key.Resolver) f >>= resolver_in) is
-resolver_back found (second is) = ap (λ f. optional (text_of key.Resolver) f >>= resolver_in) is
-resolver_back found (third is) = ap (λ f. optional (text_of key.Resolver) f >>= resolver_in) is
+resolver_back found is = each_resolver (λ f. (optional (text_of key.Resolver) f >>= resolver_in) ≡ Ok tt) found is refl refl refl
 
 version_fact : (x : Inherited (List ℕ)) → IfOwn version_of (λ t. string t) IsOne version_written x → IsVersion x
 version_fact (Written x) is = is

@@ -30,7 +30,7 @@ use Rattle.pb_manifest.specs.declared.profile.Profile.{Profile}
 use Rattle.pb_manifest_reader.proofs.Came.{came}
 use Rattle.pb_manifest_laws.specs.Laws.{ReadsSettings, ReadsProfiles}
 use Rattle.pb_manifest_laws.specs.Profiles.{opt_levels, debug_infos, ltos, strips, panics, HoldsOne, AreSettings, IsOverrideEntry, IsProfileEntry}
-use Rattle.pb_manifest_laws.specs.Values.{Holds}
+use Rattle.pb_manifest_laws.specs.Values.{Holds, OfTable}
 use Rattle.pb_manifest_laws.proofs.Chains.{four_on, five}
 use Rattle.pb_manifest_laws.proofs.Packages.{some_any}
 use Rattle.pb_manifest_laws.proofs.Reading.{IsWrittenAs, Any, table_is, optional_only, optional_back}
@@ -173,13 +173,13 @@ module _ {A : Type 0} (reads : Data → Option A) (forms : A → List Data) (f :
   form_only (Some d) o h =
       let c = came (some_or BadProfile (reads d)) (λ x. Ok (Some x)) o h in
       let same : Some c.value ≡ o = cc (c.more) in
-      subst (HoldsOne forms (Some d)) same (f.only d c.value (some_ok (reads d) c.value c.was))
+      subst (HoldsOne forms (Some d)) same (f.only d c.value (some_ok (reads d) c.value c.was), tt)
 
   form_back : (found : Option Data) (o : Option A) → HoldsOne forms found o → optional (λ d. some_or BadProfile (reads d)) found ≡ Ok o
   form_back None None is = refl
   form_back None (Some x) is = absurd is
   form_back (Some d) None is = absurd is
-  form_back (Some d) (Some x) is = ap (λ q. some_or BadProfile q >>= (λ y. Ok (Some y))) (all_at (λ e. reads e ≡ Some x) (forms x) d (f.back x) is)
+  form_back (Some d) (Some x) is = ap (λ q. some_or BadProfile q >>= (λ y. Ok (Some y))) (all_at (λ e. reads e ≡ Some x) (forms x) d (f.back x) is.0)
 
 -- truth values, numbers, texts
 truth_form : IsWrittenAs (λ d. some_or BadProfile (as_bool d)) (λ b. boolean b) Any
@@ -232,8 +232,7 @@ settings_only ms k h =
     (λ opt_level overflow_checks panic rpath strip. record { codegen_units = t.0; debug = t.1; debug_assertions = t.2; lto = t.3; opt_level = opt_level; overflow_checks = overflow_checks; panic = panic; rpath = rpath; strip = strip }) t.8 in
     let units = optional_only (λ d. some_or BadProfile (codegen_units_in d)) (λ n. integer (pos n)) InRange units_form (value_at key.CodegenUnits ms) t.0 t.4 in
     subst (AreSettings ms) u.10 (record {
-      codegen_units = units.0;
-      units_are = units.1;
+      codegen_units = units;
       debug_is = form_only debug_in debug_infos debug_forms (value_at key.Debug ms) t.1 t.5;
       debug_assertions = (optional_only (λ d. some_or BadProfile (as_bool d)) (λ b. boolean b) Any truth_form (value_at key.DebugAssertions ms) t.2 t.6).0;
       lto_is = form_only lto_in ltos lto_forms (value_at key.Lto ms) t.3 t.7;
@@ -250,7 +249,7 @@ truth_back found o is = optional_back (λ d. some_or BadProfile (as_bool d)) (λ
 settings_back : (ms : Members) (k : ProfileKeys) → AreSettings ms k → profile_keys ms ≡ Ok k
 unfolding spelled
 settings_back ms k says =
-    let a : profile_value codegen_units_in key.CodegenUnits ms ≡ Ok k.codegen_units = optional_back (λ d. some_or BadProfile (codegen_units_in d)) (λ n. integer (pos n)) InRange units_form (value_at key.CodegenUnits ms) k.codegen_units says.codegen_units says.units_are in
+    let a : profile_value codegen_units_in key.CodegenUnits ms ≡ Ok k.codegen_units = optional_back (λ d. some_or BadProfile (codegen_units_in d)) (λ n. integer (pos n)) InRange units_form (value_at key.CodegenUnits ms) k.codegen_units says.codegen_units.0 says.codegen_units.1 in
     let b : profile_value debug_in key.Debug ms ≡ Ok k.debug = form_back debug_in debug_infos debug_forms (value_at key.Debug ms) k.debug says.debug_is in
     let c : profile_value as_bool key.DebugAssertions ms ≡ Ok k.debug_assertions = truth_back (value_at key.DebugAssertions ms) k.debug_assertions says.debug_assertions in
     let d : profile_value lto_in key.Lto ms ≡ Ok k.lto = form_back lto_in ltos lto_forms (value_at key.Lto ms) k.lto says.lto_is in
@@ -269,22 +268,22 @@ settings_read ms k = (settings_only ms k, settings_back ms k)
 table_ok : (d : Data) (ms : Members) → profile_table d ≡ Ok ms → d ≡ table ms
 table_ok d ms h = table_is d ms (some_ok (as_table d) ms h)
 
-override_only : (name : List ℕ) (d : Data) (o : ProfileOverride) → override_of name d ≡ Ok o → IsOverrideEntry name d o
+override_only : (name : List ℕ) (d : Data) (o : ProfileOverride) → override_of name d ≡ Ok o → OfTable (IsOverrideEntry name) d o
 unfolding override_of
 override_only name d o h =
     let a = came (profile_table d) (λ ms. profile_keys ms >>= (λ keys. Ok record { name = name; keys = keys })) o h in
     let b = came (profile_keys a.value) (λ keys. Ok record { name = name; keys = keys }) o a.more in
     let made : ProfileOverride = record { name = name; keys = b.value } in
     let same : made ≡ o = cc (b.more) in
-    subst (IsOverrideEntry name d) same (record { name_is = refl; inner = a.value; is_table = table_ok d a.value a.was; keys = settings_only a.value b.value b.was })
+    subst (OfTable (IsOverrideEntry name) d) same (a.value, table_ok d a.value a.was, record { name_is = refl; keys = settings_only a.value b.value b.was })
 
-override_back : (name : List ℕ) (d : Data) (o : ProfileOverride) → IsOverrideEntry name d o → override_of name d ≡ Ok o
+override_back : (name : List ℕ) (d : Data) (o : ProfileOverride) → OfTable (IsOverrideEntry name) d o → override_of name d ≡ Ok o
 unfolding override_of
 override_back name d o says =
-    (λ i. profile_table (says.is_table i) >>= (λ ms. profile_keys ms >>= (λ keys. Ok record { name = name; keys = keys })))
-    ∙ (λ i. settings_back says.inner o.keys says.keys i >>= (λ keys. Ok record { name = sym says.name_is i; keys = keys }))
+    (λ i. profile_table (says.1 i) >>= (λ ms. profile_keys ms >>= (λ keys. Ok record { name = name; keys = keys })))
+    ∙ (λ i. settings_back says.0 o.keys says.2.keys i >>= (λ keys. Ok record { name = sym says.2.name_is i; keys = keys }))
 
-override_reads : (name : List ℕ) (d : Data) (o : ProfileOverride) → (override_of name d ≡ Ok o) ↔ IsOverrideEntry name d o
+override_reads : (name : List ℕ) (d : Data) (o : ProfileOverride) → (override_of name d ≡ Ok o) ↔ OfTable (IsOverrideEntry name) d o
 override_reads name d o = (override_only name d o, override_back name d o)
 
 build_none : build_override_in None ≡ Ok None
@@ -293,7 +292,7 @@ build_none = refl
 build_some : (ms : Members) → build_override_in (Some ms) ≡ (profile_keys ms >>= (λ keys. Ok (Some keys)))
 build_some ms = refl
 
-profile_only : (name : List ℕ) (d : Data) (p : Profile) → profile_of name d ≡ Ok p → IsProfileEntry name d p
+profile_only : (name : List ℕ) (d : Data) (p : Profile) → profile_of name d ≡ Ok p → OfTable (IsProfileEntry name) d p
 unfolding profile_of spelled
 profile_only name d p h =
     let a = came (profile_table d) (profile_of_table name) p h in
@@ -303,32 +302,35 @@ profile_only name d p h =
   where
     by : (ms : Members) (build_override : Option ProfileKeys) (keys : ProfileKeys) (inherits : Option (List ℕ)) (packages : List ProfileOverride) → d ≡ table ms → build_override_at ms ≡ Ok build_override → profile_keys ms ≡ Ok keys
         → profile_value as_str key.Inherits ms ≡ Ok inherits → overrides_at ms ≡ Ok packages → (b : Bool) → may_be_profile name inherits ≡ b
-        → (if b then Ok record { name = name; keys = keys; inherits = inherits; packages = packages; build_override = build_override } else Err BadProfile) ≡ Ok p → IsProfileEntry name d p
+        → (if b then Ok record { name = name; keys = keys; inherits = inherits; packages = packages; build_override = build_override } else Err BadProfile) ≡ Ok p → OfTable (IsProfileEntry name) d p
     by ms build_override keys inherits packages is one two three four true may h =
         let made : Profile = record { name = name; keys = keys; inherits = inherits; packages = packages; build_override = build_override } in
         let same : made ≡ p = cc (h) in
-        subst (IsProfileEntry name d) same (record {
-          name_is = refl;
-          inner = ms;
-          is_table = is;
-          keys = settings_only ms keys two;
-          inherits = (optional_only (λ d. some_or BadProfile (as_str d)) (λ t. string t) Any text_form (value_at key.Inherits ms) inherits three).0;
-          may_be = may;
-          packages = entries_at_only override_of IsOverrideEntry override_reads BadProfile (value_at key.Package ms) packages four;
-          build_override = table_at_only profile_keys AreSettings settings_read build_override_in build_none build_some BadProfile (value_at key.BuildOverride ms) build_override one;
-        })
+        subst (OfTable (IsProfileEntry name) d) same (
+          ms,
+          is,
+          record {
+            name_is = refl;
+            keys = settings_only ms keys two;
+            inherits = (optional_only (λ d. some_or BadProfile (as_str d)) (λ t. string t) Any text_form (value_at key.Inherits ms) inherits three).0;
+            may_be = may;
+            packages = entries_at_only override_of (λ name. OfTable (IsOverrideEntry name)) override_reads BadProfile (value_at key.Package ms) packages four;
+            build_override = table_at_only profile_keys AreSettings settings_read build_override_in build_none build_some BadProfile (value_at key.BuildOverride ms) build_override one;
+          },
+        )
     by ms build_override keys inherits packages is one two three four false may h = cc
 
-profile_back : (name : List ℕ) (d : Data) (p : Profile) → IsProfileEntry name d p → profile_of name d ≡ Ok p
+profile_back : (name : List ℕ) (d : Data) (p : Profile) → OfTable (IsProfileEntry name) d p → profile_of name d ≡ Ok p
 unfolding profile_of spelled
 profile_back name d p says =
-    let one : build_override_at says.inner ≡ Ok p.build_override = table_at_back profile_keys AreSettings settings_read build_override_in build_none build_some BadProfile (value_at key.BuildOverride says.inner) p.build_override says.build_override in
-    let two : profile_keys says.inner ≡ Ok p.keys = settings_back says.inner p.keys says.keys in
-    let three : profile_value as_str key.Inherits says.inner ≡ Ok p.inherits = optional_back (λ d. some_or BadProfile (as_str d)) (λ t. string t) Any text_form (value_at key.Inherits says.inner) p.inherits says.inherits (some_any p.inherits) in
-    let four : overrides_at says.inner ≡ Ok p.packages = entries_at_back override_of IsOverrideEntry override_reads BadProfile (value_at key.Package says.inner) p.packages says.packages in
-    (λ i. profile_table (says.is_table i) >>= profile_of_table name)
+    let ms = says.0 in
+    let one : build_override_at ms ≡ Ok p.build_override = table_at_back profile_keys AreSettings settings_read build_override_in build_none build_some BadProfile (value_at key.BuildOverride ms) p.build_override says.2.build_override in
+    let two : profile_keys ms ≡ Ok p.keys = settings_back ms p.keys says.2.keys in
+    let three : profile_value as_str key.Inherits ms ≡ Ok p.inherits = optional_back (λ d. some_or BadProfile (as_str d)) (λ t. string t) Any text_form (value_at key.Inherits ms) p.inherits says.2.inherits (some_any p.inherits) in
+    let four : overrides_at ms ≡ Ok p.packages = entries_at_back override_of (λ name. OfTable (IsOverrideEntry name)) override_reads BadProfile (value_at key.Package ms) p.packages says.2.packages in
+    (λ i. profile_table (says.1 i) >>= profile_of_table name)
     ∙ (λ i. one i >>= (λ build_override. two i >>= (λ keys. three i >>= (λ inherits. four i >>= (λ packages. if may_be_profile name inherits then Ok record { name = name; keys = keys; inherits = inherits; packages = packages; build_override = build_override } else Err BadProfile)))))
-    ∙ (λ i. if says.may_be i then Ok record { name = sym says.name_is i; keys = p.keys; inherits = p.inherits; packages = p.packages; build_override = p.build_override } else Err BadProfile)
+    ∙ (λ i. if says.2.may_be i then Ok record { name = sym says.2.name_is i; keys = p.keys; inherits = p.inherits; packages = p.packages; build_override = p.build_override } else Err BadProfile)
 
 pub profiles_read : ReadsProfiles
 profiles_read name d p = (profile_only name d p, profile_back name d p)

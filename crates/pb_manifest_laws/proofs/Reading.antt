@@ -4,6 +4,7 @@ use Rattle.std.specs.List.{AllByRecursion}
 use Rattle.std.specs.Str.{bytes_eq}
 use Rattle.std.proofs.lemmas.Slice.Eq.{bytes_eq-Decides}
 use Rattle.toml.specs.Data.{Data, string, boolean, array, table, Items, no_items, item, Members, get_member, as_table}
+use Rattle.toml.specs.View.{items_of}
 use Rattle.pb_data.specs.Gives.{◌>>=◌}
 use Rattle.pb_manifest.specs.Keys.{spelled}
 use Rattle.pb_manifest.specs.Letters.{has_zero}
@@ -17,7 +18,7 @@ use Rattle.pb_manifest.specs.declared.inherited.Inherited.TheVariants as inherit
 use Rattle.pb_manifest.specs.declared.key.Key.{Key}
 use Rattle.pb_manifest.specs.declared.key.Key.TheVariants as key
 use Rattle.pb_manifest_reader.proofs.Came.{came}
-use Rattle.pb_manifest_laws.specs.Values.{items, IsPath, Holds, HoldsOr, Lists, HoldsOrTakes, HasOrTakes}
+use Rattle.pb_manifest_laws.specs.Values.{IsPath, Holds, HoldsOr, Lists, HoldsOrTakes, HasOrTakes}
 
 -- a value is read just where it stands, written so
 pub record IsWrittenAs {A : Type 0} (read : Data → Read A) (write : A → Data) (Valid : A → Type 0) : Type 0 where
@@ -114,23 +115,23 @@ module _ {A : Type 0} (read : Data → Read A) (write : A → Data) (Valid : A �
   or_to default (Some d) x h = (Some x, ap (λ e. Some e) h, refl)
 
   -- a list
-  each_only : (ds : Items) (xs : List A) → each read ds ≡ Ok xs → (ds ≡ items (map write xs)) × AllByRecursion Valid xs
-  each_only no_items xs h = let same : [] ≡ xs = cc in subst (λ ys. (no_items ≡ items (map write ys)) × AllByRecursion Valid ys) same (refl, tt)
+  each_only : (ds : Items) (xs : List A) → each read ds ≡ Ok xs → (ds ≡ items_of (map write xs)) × AllByRecursion Valid xs
+  each_only no_items xs h = let same : [] ≡ xs = cc in subst (λ ys. (no_items ≡ items_of (map write ys)) × AllByRecursion Valid ys) same (refl, tt)
   each_only (item d ds) xs h =
       let a = came (read d) (λ x. each read ds >>= (λ rest. Ok (x ∷ rest))) xs h in
       let b = came (each read ds) (λ rest. Ok (a.value ∷ rest)) xs a.more in
       let v = w.only d a.value a.was in
       let r = each_only ds b.value b.was in
       let same : a.value ∷ b.value ≡ xs = cc (b.more) in
-      let whole : item d ds ≡ items (map write (a.value ∷ b.value)) = λ i. item (v.0 i) (r.0 i) in
-      subst (λ ys. (item d ds ≡ items (map write ys)) × AllByRecursion Valid ys) same (whole, (v.1, r.1))
+      let whole : item d ds ≡ items_of (map write (a.value ∷ b.value)) = λ i. item (v.0 i) (r.0 i) in
+      subst (λ ys. (item d ds ≡ items_of (map write ys)) × AllByRecursion Valid ys) same (whole, (v.1, r.1))
 
-  each_back : (xs : List A) → AllByRecursion Valid xs → each read (items (map write xs)) ≡ Ok xs
+  each_back : (xs : List A) → AllByRecursion Valid xs → each read (items_of (map write xs)) ≡ Ok xs
   each_back [] all = refl
   each_back (x ∷ xs) all = λ i. w.back x all.0 i >>= (λ y. each_back xs all.1 i >>= (λ rest. Ok (y ∷ rest)))
 
   abbrev pub write_list : List A → Data
-  write_list xs = array (items (map write xs))
+  write_list xs = array (items_of (map write xs))
 
   pub list_written : (k : Key) → IsWrittenAs (λ d. array_of k d >>= each read) write_list (AllByRecursion Valid)
   list_written k = record {
@@ -153,7 +154,7 @@ module _ {A : Type 0} (read : Data → Read A) (write : A → Data) (Valid : A �
           → HoldsOrTakes write (Some d) x × IfWritten x
       on ms true at takes h =
           let same : Workspace ≡ x = cc in
-          subst (λ q. HoldsOrTakes write (Some d) q × IfWritten q) same (record { inner = ms; is_table = ap (λ e. Some e) (table_is d ms at); says = says_so ms takes }, tt)
+          subst (λ q. HoldsOrTakes write (Some d) q × IfWritten q) same ((ms, ap (λ e. Some e) (table_is d ms at), says_so ms takes), tt)
       on ms false at takes h = cc
 
       by : (found : Option Members) → as_table d ≡ found → (is_taken k found >>= (λ taken. if taken then Ok Workspace else (read d >>= (λ y. Ok (Written y))))) ≡ Ok x → HoldsOrTakes write (Some d) x × IfWritten x
@@ -169,8 +170,8 @@ module _ {A : Type 0} (read : Data → Read A) (write : A → Data) (Valid : A �
   taken_back k found (Written y) holds valid =
       ap (inheritable_in k read) holds ∙ ap (λ t. is_taken k t >>= (λ taken. if taken then Ok Workspace else (read (write y) >>= (λ z. Ok (Written z))))) (w.plain y) ∙ ap (λ r. r >>= (λ z. Ok (Written z))) (w.back y valid)
   taken_back k found Workspace takes valid =
-      let true_there : takes_workspace takes.inner ≡ true = ap (λ f. is_true (truth_in f)) takes.says in
-      ap (inheritable_in k read) takes.is_table ∙ ap (λ b. (if b then Ok true else Err (BadKind k)) >>= (λ taken. if taken then Ok Workspace else (read (table takes.inner) >>= (λ z. Ok (Written z))))) true_there
+      let true_there : takes_workspace takes.0 ≡ true = ap (λ f. is_true (truth_in f)) takes.2 in
+      ap (inheritable_in k read) takes.1 ∙ ap (λ b. (if b then Ok true else Err (BadKind k)) >>= (λ taken. if taken then Ok Workspace else (read (table takes.0) >>= (λ z. Ok (Written z))))) true_there
   taken_back k found Absent holds valid = ap (inheritable_in k read) holds
 
   -- and that has a default

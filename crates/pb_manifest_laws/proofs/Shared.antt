@@ -15,11 +15,11 @@ use Rattle.pb_manifest.specs.declared.dependency.WorkspaceSource.TheVariants as 
 use Rattle.pb_manifest.specs.declared.fault.ManifestFault.TheVariants.{BadName, BadVersion}
 use Rattle.pb_manifest.specs.declared.key.Key.TheVariants as key
 use Rattle.pb_manifest_reader.proofs.Came.{came}
-use Rattle.pb_manifest_laws.specs.Dependencies.{HoldsRequirement, HasIdleKeys, IsSharedSource, IsSharedTable, IsSharedVersion, IsSharedEntry}
+use Rattle.pb_manifest_laws.specs.Dependencies.{HasIdleKeys, IsSharedSource, IsSharedTable, IsSharedVersion, IsSharedEntry}
 use Rattle.pb_manifest_laws.specs.Laws.{ReadsSharedDependencies}
-use Rattle.pb_manifest_laws.specs.Values.{IsPath, Holds, HoldsPath, Lists}
+use Rattle.pb_manifest_laws.specs.Values.{IsPath, Holds, Lists, OfTable}
 use Rattle.pb_manifest_laws.proofs.Chains.{five, then_back}
-use Rattle.pb_manifest_laws.proofs.Dependencies.{requirement_only, requirement_written, workspace_only, taken_so, untaken_so}
+use Rattle.pb_manifest_laws.proofs.Dependencies.{HoldsPath, HoldsRequirement, requirement_only, requirement_written, workspace_only, taken_so, untaken_so}
 use Rattle.pb_manifest_laws.proofs.Packages.{all_any, some_any}
 use Rattle.pb_manifest_laws.proofs.Reading.{Any, text_written, truth_written, path_written, table_is, optional_only, optional_back, or_from, or_to, lists_only, lists_back}
 
@@ -51,7 +51,7 @@ unfolding spelled
 source_only ms df name version written df_is name_is version_is written_is = by (value_at key.Git ms) (value_at key.Registry ms) written refl refl written_is
   where
     idle : (o : Option (List ℕ)) → HoldsPath (get_member (codes "path") ms) o → HasIdleKeys ms
-    idle o holds = record { path = o; name = name; version = version; path_is = holds; name_is = name_is; version_is = version_is }
+    idle o holds = ((o, holds), (name, name_is), (version, version_is))
 
     by : (g r : Option Data) (o : Option (List ℕ)) → get_member (codes "git") ms ≡ g → get_member (codes "registry") ms ≡ r → HoldsPath (get_member (codes "path") ms) o
         → IsSharedSource ms (shared_source_of df name version (if is_some g || is_some r then None else o))
@@ -70,7 +70,7 @@ source_only ms df name version written df_is name_is version_is written_is = by 
       registry,
     )
 
-table_only : (name : List ℕ) (d : Data) (ms : Members) (x : WorkspaceDependency) → is_name name ≡ true → d ≡ table ms → shared_dependency_keys name ms ≡ Ok x → IsSharedTable name d x
+table_only : (name : List ℕ) (d : Data) (ms : Members) (x : WorkspaceDependency) → is_name name ≡ true → d ≡ table ms → shared_dependency_keys name ms ≡ Ok x → OfTable (IsSharedTable name) d x
 unfolding spelled
 table_only name d ms x letters is h =
     let a = came (first_keys true ms) (λ a. shared_keys ms >>= (λ b. Ok record { key = name; source = shared_source_of a.default_features a.package b.version b.path; features = a.features })) x h in
@@ -92,17 +92,18 @@ table_only name d ms x letters is h =
     ∙ (λ i. record { key = name; source = shared_source_of (t.10 i).default_features (t.10 i).package u.value (supported_path ms c.value); features = (t.10 i).features })
     ∙ (let last : Ok (record { path = supported_path ms c.value; version = u.value }) ≡ Ok b.value = u.more in
     ap (λ r. elim r as (λ q. WorkspaceDependency) [ Ok q ↦ record { key = name; source = shared_source_of a.value.default_features a.value.package q.version q.path; features = a.value.features } | Err e ↦ x ]) last) ∙ cc (b.more) in
-    subst (IsSharedTable name d) whole (record {
-      key = refl;
-      letters = letters;
-      inner = ms;
-      is_table = is;
-      source = source_only ms t.0 t.4 v.value c.value df.0 renamed.0 requirement path;
-      features = (lists_only (text_of key.Features) (λ q. string q) Any (text_written key.Features) key.Features (value_at key.Features ms) t.1 t.6).0;
-      optional = t.3;
-      optional_is = optional.0;
-      taken = taken_only ms w.value w.was;
-    })
+    subst (OfTable (IsSharedTable name) d) whole (
+      ms,
+      is,
+      record {
+        key = refl;
+        letters = letters;
+        source = source_only ms t.0 t.4 v.value c.value df.0 renamed.0 requirement path;
+        features = (lists_only (text_of key.Features) (λ q. string q) Any (text_written key.Features) key.Features (value_at key.Features ms) t.1 t.6).0;
+        optional = (t.3, optional.0);
+        taken = taken_only ms w.value w.was;
+      },
+    )
 
 version_only : (name : List ℕ) (d : Data) (text : List ℕ) (x : WorkspaceDependency) → is_name name ≡ true → d ≡ string text → shared_version name text ≡ Ok x → IsSharedVersion name d x
 version_only name d text x letters is h =
@@ -110,7 +111,7 @@ version_only name d text x letters is h =
     let r = requirement_only text c.value c.was in
     let made : WorkspaceDependency = record { key = name; source = shared.Unsupported; features = [] } in
     let same : made ≡ x = cc (c.more) in
-    subst (IsSharedVersion name d) same (record { key = refl; letters = letters; text = text; is_text = is; requirement = ap is_requirement r.0 ∙ r.1; source = refl; features = refl })
+    (letters, (text, is, ap is_requirement r.0 ∙ r.1), sym same)
 
 text_of_data : (d : Data) (text : List ℕ) → as_str d ≡ Some text → d ≡ string text
 text_of_data (string s) text h = let same : s ≡ text = cc in ap (λ t. string t) same
@@ -164,23 +165,23 @@ source_back name ms features optional (shared.Path s) features_are optional_is t
     keys_back name ms features o.0 optional s.package s.version (Some s.path) (Some s.path) features_are optional_is o.1 is.0.name is.0.version (is.0.path, is.0.path_is) path_is (taken_back ms taken)
     ∙ (λ i. Ok record { key = name; source = shared.Path (record { path = s.path; «package» = s.package; version = s.version; default_features = o.2 i }); features = features })
 source_back name ms features optional shared.Unsupported features_are optional_is taken is =
-    keys_back name ms features is.1.0 optional is.0.name is.0.version is.0.path None features_are optional_is is.1.1 is.0.name_is is.0.version_is is.0.path_is (by (value_at key.Git ms) (value_at key.Registry ms) refl refl) (taken_back ms taken)
+    keys_back name ms features is.1.0 optional is.0.1.0 is.0.2.0 is.0.0.0 None features_are optional_is is.1.1 is.0.1.1 is.0.2.1 is.0.0.1 (by (value_at key.Git ms) (value_at key.Registry ms) refl refl) (taken_back ms taken)
   where
-    by : (g r : Option Data) → get_member (codes "git") ms ≡ g → get_member (codes "registry") ms ≡ r → (if is_some g || is_some r then None else is.0.path) ≡ None
+    by : (g r : Option Data) → get_member (codes "git") ms ≡ g → get_member (codes "registry") ms ≡ r → (if is_some g || is_some r then None else is.0.0.0) ≡ None
     by (Some d) r git registry = refl
     by None (Some d) git registry = refl
-    by None None git registry = none_written is.0.path (sym is.0.path_is.0 ∙ is.2 git registry)
+    by None None git registry = none_written is.0.0.0 (sym is.0.0.1.0 ∙ is.2 git registry)
 
 shared_back : (name : List ℕ) (d : Data) (x : WorkspaceDependency) → IsSharedEntry name d x → shared_dependency_of name d ≡ Ok x
 unfolding shared_dependency_of spelled
 shared_back name d x (inl says) =
-    (λ i. if says.letters i then shared_dependency_from name (as_str (says.is_table i)) (as_table (says.is_table i)) else Err BadName)
-    ∙ source_back name says.inner x.features says.optional x.source says.features says.optional_is says.taken says.source
-    ∙ (λ i. Ok record { key = sym says.key i; source = x.source; features = x.features })
+    (λ i. if says.2.letters i then shared_dependency_from name (as_str (says.1 i)) (as_table (says.1 i)) else Err BadName)
+    ∙ source_back name says.0 x.features says.2.optional.0 x.source says.2.features says.2.optional.1 says.2.taken says.2.source
+    ∙ (λ i. Ok record { key = sym says.2.key i; source = x.source; features = x.features })
 shared_back name d x (inr says) =
-    (λ i. if says.letters i then shared_dependency_from name (as_str (says.is_text i)) (as_table (says.is_text i)) else Err BadName)
-    ∙ (λ i. (if says.requirement i then Ok says.text else Err BadVersion) >>= (λ requirement. Ok record { key = name; source = shared.Unsupported; features = [] }))
-    ∙ (λ i. Ok record { key = sym says.key i; source = sym says.source i; features = sym says.features i })
+    (λ i. if says.0 i then shared_dependency_from name (as_str (says.1.1 i)) (as_table (says.1.1 i)) else Err BadName)
+    ∙ (λ i. (if says.1.2 i then Ok says.1.0 else Err BadVersion) >>= (λ requirement. Ok record { key = name; source = shared.Unsupported; features = [] }))
+    ∙ ap (λ y. Ok y) (sym says.2)
 
 pub shared_read : ReadsSharedDependencies
 shared_read name d x = (shared_only name d x, shared_back name d x)

@@ -88,8 +88,7 @@ library_only ms l h =
     let name = crate_only (value_at key.Name ms) t.1 t.5 in
     subst (IsLibraryTable ms) t.8 (record {
       crate_types = (lists_only crate_type_of (λ t. string (crate_type_text t)) Any type_written key.CrateType (value_at key.CrateType ms) t.0 t.4).0;
-      name = name.0;
-      letters = name.1;
+      name = name;
       path = optional_only (path_of key.Path) (λ x. string x) IsPath (path_written key.Path) (value_at key.Path ms) t.2 t.6;
       no_macro = macro_only (value_at key.ProcMacro ms) t.3 t.7;
     })
@@ -98,7 +97,7 @@ library_back : (ms : Members) (l : Library) → IsLibraryTable ms l → library_
 unfolding spelled
 library_back ms l says =
     let crate_types : crate_types_at ms ≡ Ok l.crate_types = lists_back crate_type_of (λ t. string (crate_type_text t)) Any type_written key.CrateType (value_at key.CrateType ms) l.crate_types says.crate_types (all_any l.crate_types) in
-    let name : crate_name_at ms ≡ Ok l.name = crate_back (value_at key.Name ms) l.name says.name says.letters in
+    let name : crate_name_at ms ≡ Ok l.name = crate_back (value_at key.Name ms) l.name says.name.0 says.name.1 in
     let path : path_at key.Path ms ≡ Ok l.path = optional_back (path_of key.Path) (λ x. string x) IsPath (path_written key.Path) (value_at key.Path ms) l.path says.path.0 says.path.1 in
     let no_macro : proc_macro_at ms ≡ Ok tt = macro_back (value_at key.ProcMacro ms) says.no_macro in
     λ i. crate_types i >>= (λ a. name i >>= (λ b. path i >>= (λ c. no_macro i >>= (λ d. Ok record { crate_types = a; name = b; path = c }))))

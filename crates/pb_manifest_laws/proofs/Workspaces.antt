@@ -110,8 +110,7 @@ inherited_only ms w h =
       readme_is = (optional_only readme_of readme_value Any readme_written (value_at key.Readme ms) u.1 u.6).0;
       repository = text_only key.Repository ms u.2 u.7;
       rust_version = text_only key.RustVersion ms u.3 u.8;
-      version = version.0;
-      version_is = version.1;
+      version = version;
     })
 
 inherited_back : (ms : Members) (w : WorkspacePackage) → IsInheritedTable ms w → workspace_package_of ms ≡ Ok w
@@ -126,7 +125,7 @@ inherited_back ms w says =
     let g : readme_at ms ≡ Ok w.readme = optional_back readme_of readme_value Any readme_written (value_at key.Readme ms) w.readme says.readme_is (some_any w.readme) in
     let h : text_at key.Repository ms ≡ Ok w.repository = text_back key.Repository ms w.repository says.repository in
     let j : text_at key.RustVersion ms ≡ Ok w.rust_version = text_back key.RustVersion ms w.rust_version says.rust_version in
-    let k : version_at ms ≡ Ok w.version = optional_back version_of (λ t. string t) (λ t. is_version t ≡ true) version_written (value_at key.Version ms) w.version says.version says.version_is in
+    let k : version_at ms ≡ Ok w.version = optional_back version_of (λ t. string t) (λ t. is_version t ≡ true) version_written (value_at key.Version ms) w.version says.version.0 says.version.1 in
     then_back (first_keys ms) (λ a. last_keys ms >>= (λ b. Ok record {
       authors = a.authors;
       description = a.description;
@@ -178,8 +177,7 @@ workspace_only ms w h =
     subst (IsWorkspaceTable ms) same (record {
       members = members.0;
       members_are = members.1;
-      default_members = defaults.0;
-      defaults_are = defaults.1;
+      default_members = defaults;
       exclude = exclude.0;
       exclude_are = exclude.1;
       inherited = table_at_only workspace_package_of IsInheritedTable inherited_reads workspace_package_in package_none package_some (BadKind key.Package) (value_at key.Package ms) u.value u.was;
@@ -190,7 +188,7 @@ workspace_only ms w h =
 workspace_back : (ms : Members) (w : WorkspaceTable) → IsWorkspaceTable ms w → workspace_of ms ≡ Ok w
 unfolding spelled
 workspace_back ms w says =
-    let a : paths_at key.DefaultMembers ms ≡ Ok w.default_members = optional_back (paths_of key.DefaultMembers) texts (AllByRecursion IsPath) (paths_written key.DefaultMembers) (value_at key.DefaultMembers ms) w.default_members says.default_members says.defaults_are in
+    let a : paths_at key.DefaultMembers ms ≡ Ok w.default_members = optional_back (paths_of key.DefaultMembers) texts (AllByRecursion IsPath) (paths_written key.DefaultMembers) (value_at key.DefaultMembers ms) w.default_members says.default_members.0 says.default_members.1 in
     let b : shared_dependencies_at ms ≡ Ok w.dependencies = entries_at_back shared_dependency_of IsSharedEntry shared_read (BadKind key.Dependencies) (value_at key.Dependencies ms) w.dependencies says.dependencies in
     let c : listed_paths_at key.Exclude ms ≡ Ok w.exclude = lists_back (path_of key.Exclude) (λ t. string t) IsPath (path_written key.Exclude) key.Exclude (value_at key.Exclude ms) w.exclude says.exclude says.exclude_are in
     let d : listed_paths_at key.Members ms ≡ Ok w.members = lists_back (path_of key.Members) (λ t. string t) IsPath (path_written key.Members) key.Members (value_at key.Members ms) w.members says.members says.members_are in

@@ -1,6 +1,6 @@
 -- What the entries of `[dependencies]`, `[build-dependencies]` and `[workspace.dependencies]` say, key by key (The Cargo Book, Specifying Dependencies, Workspaces).
-use Rattle.std.specs.Prelude.{◌≡◌, ◌⊎◌, ℕ, Bool, true, false, List, [], codes, Option, Some, None, IfSome}
-use Rattle.toml.specs.Data.{Data, string, boolean, table, Members, get_member}
+use Rattle.std.specs.Prelude.{◌≡◌, ◌⊎◌, ℕ, Bool, true, false, List, [], codes, Option, Some, None}
+use Rattle.toml.specs.Data.{Data, string, boolean, Members, get_member}
 use Rattle.pb_manifest.specs.Letters.{is_name}
 use Rattle.pb_manifest.specs.Versions.{is_requirement}
 use Rattle.pb_manifest.specs.declared.dependency.Dependency.{Dependency}
@@ -10,28 +10,20 @@ use Rattle.pb_manifest.specs.declared.dependency.Source.TheVariants as own
 use Rattle.pb_manifest.specs.declared.dependency.WorkspaceDependency.{WorkspaceDependency}
 use Rattle.pb_manifest.specs.declared.dependency.WorkspaceSource.{WorkspaceSource}
 use Rattle.pb_manifest.specs.declared.dependency.WorkspaceSource.TheVariants as shared
-use Rattle.pb_manifest_laws.specs.Values.{IsPath, Holds, HoldsPath, HoldsOr, Lists}
-
--- a requirement, where one is written
-abbrev pub HoldsRequirement : Option Data → Option (List ℕ) → Type 0
-HoldsRequirement found version = Holds string found version × IfSome version (λ text. is_requirement text ≡ true)
+use Rattle.pb_manifest_laws.specs.Values.{IsPath, Holds, HoldsValid, HoldsOr, Lists, OfTable}
 
 -- the package at a path, whose feature `default` is asked for unless `default-features = false`
 pub record IsPathSource (ms : Members) (s : PathSource) : Type 0 where
   pub path : get_member (codes "path") ms ≡ Some (string s.path)
   pub path_is : IsPath s.path
   pub name : Holds string (get_member (codes "package") ms) s.package
-  pub version : HoldsRequirement (get_member (codes "version") ms) s.version
+  pub version : HoldsValid (λ text. is_requirement text ≡ true) string (get_member (codes "version") ms) s.version
   pub default_features : HoldsOr true boolean (get_member (codes "default-features") ms) s.default_features
 
--- keys that have to be of their kind, and have no effect
-pub record HasIdleKeys (ms : Members) : Type 0 where
-  pub path : Option (List ℕ)
-  pub name : Option (List ℕ)
-  pub version : Option (List ℕ)
-  pub path_is : HoldsPath (get_member (codes "path") ms) path
-  pub name_is : Holds string (get_member (codes "package") ms) name
-  pub version_is : HoldsRequirement (get_member (codes "version") ms) version
+-- keys that have to be of their kind, with a requirement for `version`, and have no effect
+abbrev pub HasIdleKeys : Members → Type 0
+HasIdleKeys ms = ((path : Option (List ℕ)) × HoldsValid IsPath string (get_member (codes "path") ms) path) × ((name : Option (List ℕ)) × Holds string (get_member (codes "package") ms) name)
+    × ((version : Option (List ℕ)) × HoldsValid (λ text. is_requirement text ≡ true) string (get_member (codes "version") ms) version)
 
 -- where an entry of a package comes from: `workspace = true`, beside which `default-features = true` may ask for the feature `default`; or a path
 abbrev pub IsSource : Members → Source → Type 0
@@ -39,16 +31,14 @@ IsSource ms (own.Workspace default) = (get_member (codes "workspace") ms ≡ Som
 IsSource ms (own.Path s) = (get_member (codes "workspace") ms ≡ None) × IsPathSource ms s
 
 -- an entry of `[dependencies]` or `[build-dependencies]`: a table without `git` and `registry`
-pub record IsDependencyEntry (name : List ℕ) (d : Data) (x : Dependency) : Type 0 where
+pub record IsDependencyEntry (name : List ℕ) (ms : Members) (x : Dependency) : Type 0 where
   pub key : x.key ≡ name
   pub letters : is_name name ≡ true
-  pub inner : Members
-  pub is_table : d ≡ table inner
-  pub source : IsSource inner x.source
-  pub optional : HoldsOr false boolean (get_member (codes "optional") inner) x.optional
-  pub features : Lists string (get_member (codes "features") inner) x.features
-  pub no_git : get_member (codes "git") inner ≡ None
-  pub no_registry : get_member (codes "registry") inner ≡ None
+  pub source : IsSource ms x.source
+  pub optional : HoldsOr false boolean (get_member (codes "optional") ms) x.optional
+  pub features : Lists string (get_member (codes "features") ms) x.features
+  pub no_git : get_member (codes "git") ms ≡ None
+  pub no_registry : get_member (codes "registry") ms ≡ None
 
 -- where an entry of `[workspace.dependencies]` comes from: a path; one without a path, or with `git` or `registry`, is kept, and refused where it is taken
 abbrev pub IsSharedSource : Members → WorkspaceSource → Type 0
@@ -57,26 +47,17 @@ IsSharedSource ms shared.Unsupported =
     HasIdleKeys ms × ((default : Option Bool) × Holds boolean (get_member (codes "default-features") ms) default) × (get_member (codes "git") ms ≡ None → get_member (codes "registry") ms ≡ None → get_member (codes "path") ms ≡ None)
 
 -- such an entry that is a table
-pub record IsSharedTable (name : List ℕ) (d : Data) (x : WorkspaceDependency) : Type 0 where
+pub record IsSharedTable (name : List ℕ) (ms : Members) (x : WorkspaceDependency) : Type 0 where
   pub key : x.key ≡ name
   pub letters : is_name name ≡ true
-  pub inner : Members
-  pub is_table : d ≡ table inner
-  pub source : IsSharedSource inner x.source
-  pub features : Lists string (get_member (codes "features") inner) x.features
-  pub optional : Option Bool
-  pub optional_is : Holds boolean (get_member (codes "optional") inner) optional
-  pub taken : (get_member (codes "workspace") inner ≡ None) ⊎ (get_member (codes "workspace") inner ≡ Some (boolean true))
+  pub source : IsSharedSource ms x.source
+  pub features : Lists string (get_member (codes "features") ms) x.features
+  pub optional : (optional : Option Bool) × Holds boolean (get_member (codes "optional") ms) optional
+  pub taken : (get_member (codes "workspace") ms ≡ None) ⊎ (get_member (codes "workspace") ms ≡ Some (boolean true))
 
 -- or one that is a version alone, which has no path
-pub record IsSharedVersion (name : List ℕ) (d : Data) (x : WorkspaceDependency) : Type 0 where
-  pub key : x.key ≡ name
-  pub letters : is_name name ≡ true
-  pub text : List ℕ
-  pub is_text : d ≡ string text
-  pub requirement : is_requirement text ≡ true
-  pub source : x.source ≡ shared.Unsupported
-  pub features : x.features ≡ []
+abbrev pub IsSharedVersion : List ℕ → Data → WorkspaceDependency → Type 0
+IsSharedVersion name d x = (is_name name ≡ true) × ((text : List ℕ) × (d ≡ string text) × (is_requirement text ≡ true)) × (x ≡ record { key = name; source = shared.Unsupported; features = [] })
 
 abbrev pub IsSharedEntry : List ℕ → Data → WorkspaceDependency → Type 0
-IsSharedEntry name d x = IsSharedTable name d x ⊎ IsSharedVersion name d x
+IsSharedEntry name d x = OfTable (IsSharedTable name) d x ⊎ IsSharedVersion name d x

@@ -15,6 +15,7 @@ use Rattle.pb_manifest.specs.declared.manifest.Manifest.{Manifest}
 use Rattle.pb_manifest_laws.specs.Dependencies.{IsDependencyEntry, IsSharedEntry}
 use Rattle.pb_manifest_laws.specs.Documents.{IsDocument, AreManifest}
 use Rattle.pb_manifest_laws.specs.Profiles.{AreSettings, IsProfileEntry}
+use Rattle.pb_manifest_laws.specs.Values.{OfTable}
 use Rattle.pb_manifest_laws.specs.Workspaces.{IsWorkspaceTable}
 use Rattle.pb_manifest_laws.specs.Packages.{IsPackageTable, IsLibraryTable, IsBinaryTable, IsFeatureEntry}
 
@@ -36,13 +37,13 @@ ReadsFeatures = (name : List ℕ) → Reads (feature_of name) (IsFeatureEntry na
 
 -- of whichever of the two tables
 abbrev pub ReadsDependencies : Type 0
-ReadsDependencies = (k : Key) (name : List ℕ) → Reads (dependency_of k name) (IsDependencyEntry name)
+ReadsDependencies = (k : Key) (name : List ℕ) → Reads (dependency_of k name) (OfTable (IsDependencyEntry name))
 
 abbrev pub ReadsSettings : Type 0
 ReadsSettings = Reads profile_keys AreSettings
 
 abbrev pub ReadsProfiles : Type 0
-ReadsProfiles = (name : List ℕ) → Reads (profile_of name) (IsProfileEntry name)
+ReadsProfiles = (name : List ℕ) → Reads (profile_of name) (OfTable (IsProfileEntry name))
 
 abbrev pub ReadsSharedDependencies : Type 0
 ReadsSharedDependencies = (name : List ℕ) → Reads (shared_dependency_of name) (IsSharedEntry name)

@@ -1,7 +1,8 @@
 -- What `[package]`, `[lib]`, `[[bin]]` and `[features]` say, key by key (The Cargo Book, Manifest Format, Cargo Targets, Features).
-use Rattle.std.specs.Prelude.{◌≡◌, ℕ, true, false, List, map, codes, Option, Some, None, IfSome}
+use Rattle.std.specs.Prelude.{◌≡◌, ℕ, true, false, List, [], ◌∷◌, map, codes, Option, Some, None, Contains}
 use Rattle.std.specs.List.{AllByRecursion}
 use Rattle.toml.specs.Data.{Data, string, boolean, array, Members, get_member}
+use Rattle.toml.specs.View.{items_of}
 use Rattle.pb_manifest_reader.specs.Laws.{item_text}
 use Rattle.pb_manifest.specs.Letters.{is_name, is_crate_name, is_feature_name}
 use Rattle.pb_manifest.specs.Library.{crate_type_text}
@@ -20,7 +21,7 @@ use Rattle.pb_manifest.specs.declared.package.Readme.{Readme}
 use Rattle.pb_manifest.specs.declared.package.Readme.TheVariants as readme
 use Rattle.pb_manifest.specs.declared.target.Binary.{Binary}
 use Rattle.pb_manifest.specs.declared.target.Library.{Library}
-use Rattle.pb_manifest_laws.specs.Values.{items, texts, IsPath, Holds, HoldsPath, HoldsOr, Lists, HoldsOrTakes, HasOrTakes}
+use Rattle.pb_manifest_laws.specs.Values.{texts, IsPath, Holds, HoldsValid, HoldsOr, Lists, HoldsOrTakes, HasOrTakes}
 
 abbrev pub edition : Edition → Data
 edition e = string (edition_text e)
@@ -43,10 +44,8 @@ IsVersion (Written text) = is_version text ≡ true
 IsVersion Workspace = Unit {0}
 
 -- `"2"` or `"3"`, where one is written
-pub data IsResolver (found : Option Data) : Type 0 where
-  absent : (is : found ≡ None) → IsResolver found
-  second : (is : found ≡ Some (string (codes "2"))) → IsResolver found
-  third : (is : found ≡ Some (string (codes "3"))) → IsResolver found
+abbrev pub IsResolver : Option Data → Type 0
+IsResolver found = Contains (None ∷ Some (string (codes "2")) ∷ Some (string (codes "3")) ∷ []) found
 
 -- `[package]`
 pub record IsPackageTable (ms : Members) (p : Package) : Type 0 where
@@ -71,21 +70,20 @@ pub record IsPackageTable (ms : Members) (p : Package) : Type 0 where
 -- `[lib]`; `proc-macro = true` is refused
 pub record IsLibraryTable (ms : Members) (l : Library) : Type 0 where
   pub crate_types : Lists (λ t. string (crate_type_text t)) (get_member (codes "crate-type") ms) l.crate_types
-  pub name : Holds string (get_member (codes "name") ms) l.name
-  pub letters : IfSome l.name (λ name. is_crate_name name ≡ true)
-  pub path : HoldsPath (get_member (codes "path") ms) l.path
+  pub name : HoldsValid (λ name. is_crate_name name ≡ true) string (get_member (codes "name") ms) l.name
+  pub path : HoldsValid IsPath string (get_member (codes "path") ms) l.path
   pub no_macro : HoldsOr false boolean (get_member (codes "proc-macro") ms) false
 
 -- a `[[bin]]`
 pub record IsBinaryTable (ms : Members) (b : Binary) : Type 0 where
   pub name : get_member (codes "name") ms ≡ Some (string b.name)
   pub letters : is_name b.name ≡ true
-  pub path : HoldsPath (get_member (codes "path") ms) b.path
+  pub path : HoldsValid IsPath string (get_member (codes "path") ms) b.path
   pub required_features : Lists string (get_member (codes "required-features") ms) b.required_features
 
 -- an entry of `[features]`: a list of items, each spelled `F`, `dep:N`, `N/F` or `N?/F`
 pub record IsFeatureEntry (name : List ℕ) (d : Data) (f : Feature) : Type 0 where
   pub name_is : f.name ≡ name
   pub letters : is_feature_name name ≡ true
-  pub listed : d ≡ array (items (map (λ i. string (item_text i)) f.items))
+  pub listed : d ≡ array (items_of (map (λ i. string (item_text i)) f.items))
   pub items_are : AllByRecursion IsItem f.items

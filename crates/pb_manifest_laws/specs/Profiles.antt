@@ -1,6 +1,8 @@
 -- What `[profile.*]` says, key by key (The Cargo Book, Profiles).
-use Rattle.std.specs.Prelude.{◌≡◌, ◌≤◌, ℕ, pos, true, false, List, [], ◌∷◌, codes, Option, Some, None, IfSome, Contains}
-use Rattle.toml.specs.Data.{Data, string, integer, boolean, table, Members, get_member}
+use Rattle.std.specs.Prelude.{◌≡◌, ◌≤◌, ℕ, pos, true, false, List, [], ◌∷◌, codes, Option, Contains}
+use Rattle.std.specs.List.{AllZip}
+use Rattle.std.specs.Option.{option_to_list}
+use Rattle.toml.specs.Data.{Data, string, integer, boolean, Members, get_member}
 use Rattle.pb_manifest_reader.specs.Profiles.{may_be_profile}
 use Rattle.pb_manifest.specs.declared.profile.OptLevel.{OptLevel}
 use Rattle.pb_manifest.specs.declared.profile.OptLevel.TheVariants.{Zero, One, Two, Three, Size, SmallestSize}
@@ -15,7 +17,7 @@ use Rattle.pb_manifest.specs.declared.profile.Strip.TheVariants as strip
 use Rattle.pb_manifest.specs.declared.profile.ProfileKeys.{ProfileKeys}
 use Rattle.pb_manifest.specs.declared.profile.ProfileOverride.{ProfileOverride}
 use Rattle.pb_manifest.specs.declared.profile.Profile.{Profile}
-use Rattle.pb_manifest_laws.specs.Values.{Holds, IsTableAt, AreEntriesAt}
+use Rattle.pb_manifest_laws.specs.Values.{Holds, HoldsValid, OfTable, IsTableAt, AreEntriesAt}
 
 -- how each value may be written
 
@@ -51,15 +53,11 @@ panics Abort = string (codes "abort") ∷ []
 
 -- a key holds a value in one of its forms; nothing is read just where it is left out
 abbrev pub HoldsOne : {A : Type 0} → (A → List Data) → Option Data → Option A → Type 0
-HoldsOne forms None None = Unit {0}
-HoldsOne forms None (Some x) = ⊥
-HoldsOne forms (Some d) None = ⊥
-HoldsOne forms (Some d) (Some x) = Contains (forms x) d
+HoldsOne forms found value = AllZip (λ d x. Contains (forms x) d) (option_to_list found) (option_to_list value)
 
 -- what a profile or an override sets; `codegen-units` is from 1 to 65,536
 pub record AreSettings (ms : Members) (keys : ProfileKeys) : Type 0 where
-  pub codegen_units : Holds (λ n. integer (pos n)) (get_member (codes "codegen-units") ms) keys.codegen_units
-  pub units_are : IfSome keys.codegen_units (λ n. (1 ≤ n) × (n ≤ 65536))
+  pub codegen_units : HoldsValid (λ n. (1 ≤ n) × (n ≤ 65536)) (λ n. integer (pos n)) (get_member (codes "codegen-units") ms) keys.codegen_units
   pub debug_is : HoldsOne debug_infos (get_member (codes "debug") ms) keys.debug
   pub debug_assertions : Holds boolean (get_member (codes "debug-assertions") ms) keys.debug_assertions
   pub lto_is : HoldsOne ltos (get_member (codes "lto") ms) keys.lto
@@ -70,19 +68,15 @@ pub record AreSettings (ms : Members) (keys : ProfileKeys) : Type 0 where
   pub strip_is : HoldsOne strips (get_member (codes "strip") ms) keys.strip
 
 -- an override, by the name of a package
-pub record IsOverrideEntry (name : List ℕ) (d : Data) (o : ProfileOverride) : Type 0 where
+pub record IsOverrideEntry (name : List ℕ) (ms : Members) (o : ProfileOverride) : Type 0 where
   pub name_is : o.name ≡ name
-  pub inner : Members
-  pub is_table : d ≡ table inner
-  pub keys : AreSettings inner o.keys
+  pub keys : AreSettings ms o.keys
 
 -- a profile; one that is not built in has a name that may be its own, and `inherits`
-pub record IsProfileEntry (name : List ℕ) (d : Data) (p : Profile) : Type 0 where
+pub record IsProfileEntry (name : List ℕ) (ms : Members) (p : Profile) : Type 0 where
   pub name_is : p.name ≡ name
-  pub inner : Members
-  pub is_table : d ≡ table inner
-  pub keys : AreSettings inner p.keys
-  pub inherits : Holds string (get_member (codes "inherits") inner) p.inherits
+  pub keys : AreSettings ms p.keys
+  pub inherits : Holds string (get_member (codes "inherits") ms) p.inherits
   pub may_be : may_be_profile name p.inherits ≡ true
-  pub packages : AreEntriesAt IsOverrideEntry (get_member (codes "package") inner) p.packages
-  pub build_override : IsTableAt AreSettings (get_member (codes "build-override") inner) p.build_override
+  pub packages : AreEntriesAt (λ name. OfTable (IsOverrideEntry name)) (get_member (codes "package") ms) p.packages
+  pub build_override : IsTableAt AreSettings (get_member (codes "build-override") ms) p.build_override

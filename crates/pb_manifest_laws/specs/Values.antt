@@ -1,20 +1,17 @@
 -- How the values of a manifest stand in a TOML document.
 use Rattle.std.specs.Prelude.{◌≡◌, ℕ, true, false, List, [], ◌∷◌, map, codes, Option, Some, None, IfSome}
-use Rattle.std.specs.Option.{option_map}
-use Rattle.toml.specs.Data.{Data, string, boolean, array, table, Items, no_items, item, Members, no_members, member, get_member}
+use Rattle.std.specs.List.{AllZip}
+use Rattle.std.specs.Option.{option_map, option_to_list}
+use Rattle.toml.specs.Data.{Data, string, boolean, array, table, Members, no_members, member, get_member}
+use Rattle.toml.specs.View.{items_of}
 use Rattle.pb_manifest.specs.Letters.{has_zero}
 use Rattle.pb_manifest.specs.declared.inherited.Inheritable.{Inheritable}
 use Rattle.pb_manifest.specs.declared.inherited.Inheritable.TheVariants.{Written, Workspace, Absent}
 use Rattle.pb_manifest.specs.declared.inherited.Inherited.{Inherited}
 use Rattle.pb_manifest.specs.declared.inherited.Inherited.TheVariants as inherited
 
--- an array of these
-abbrev pub items : List Data → Items
-items [] = no_items
-items (d ∷ ds) = item d (items ds)
-
 abbrev pub texts : List (List ℕ) → Data
-texts xs = array (items (map string xs))
+texts xs = array (items_of (map string xs))
 
 -- a path: a text without byte 0
 abbrev pub IsPath : List ℕ → Type 0
@@ -24,9 +21,9 @@ IsPath text = has_zero text ≡ false
 abbrev pub Holds : {A : Type 0} → (A → Data) → Option Data → Option A → Type 0
 Holds write found value = found ≡ option_map write value
 
--- the same of a path
-abbrev pub HoldsPath : Option Data → Option (List ℕ) → Type 0
-HoldsPath found path = Holds string found path × IfSome path IsPath
+-- the same of a value of which this holds
+abbrev pub HoldsValid : {A : Type 0} → (A → Type 0) → (A → Data) → Option Data → Option A → Type 0
+HoldsValid Valid write found value = Holds write found value × IfSome value Valid
 
 -- a key holds this, or is left out and this is its default
 abbrev pub HoldsOr : {A : Type 0} → A → (A → Data) → Option Data → A → Type 0
@@ -35,13 +32,15 @@ HoldsOr default write (Some d) value = d ≡ write value
 
 -- a list, empty where the key is left out
 abbrev pub Lists : {A : Type 0} → (A → Data) → Option Data → List A → Type 0
-Lists write = HoldsOr [] (λ xs. array (items (map write xs)))
+Lists write = HoldsOr [] (λ xs. array (items_of (map write xs)))
+
+-- a value is a table, of which this holds
+abbrev pub OfTable : {A : Type 0} → (Members → A → Type 0) → Data → A → Type 0
+OfTable Is d x = (inner : Members) × (d ≡ table inner) × Is inner x
 
 -- a table with `workspace = true`
-pub record TakesWorkspace (found : Option Data) : Type 0 where
-  pub inner : Members
-  pub is_table : found ≡ Some (table inner)
-  pub says : get_member (codes "workspace") inner ≡ Some (boolean true)
+abbrev pub TakesWorkspace : Option Data → Type 0
+TakesWorkspace found = (inner : Members) × (found ≡ Some (table inner)) × (get_member (codes "workspace") inner ≡ Some (boolean true))
 
 -- a key that may say `{ workspace = true }` in place of its value
 abbrev pub HoldsOrTakes : {A : Type 0} → (A → Data) → Option Data → Inheritable A → Type 0
@@ -54,28 +53,19 @@ abbrev pub HasOrTakes : {A : Type 0} → A → (A → Data) → Option Data → 
 HasOrTakes default write found (inherited.Written x) = HoldsOr default write found x
 HasOrTakes default write found inherited.Workspace = TakesWorkspace found
 
--- the entries of a table, one for one and in its order
-abbrev pub AreEntries : {A : Type 0} → (List ℕ → Data → A → Type 0) → Members → List A → Type 0
-AreEntries Is no_members [] = Unit {0}
-AreEntries Is no_members (x ∷ xs) = ⊥
-AreEntries Is (member name d ms) [] = ⊥
-AreEntries Is (member name d ms) (x ∷ xs) = Is name d x × AreEntries Is ms xs
-
--- the items of an array, one for one
-abbrev pub AreItems : {A : Type 0} → (Data → A → Type 0) → Items → List A → Type 0
-AreItems Is no_items [] = Unit {0}
-AreItems Is no_items (x ∷ xs) = ⊥
-AreItems Is (item d ds) [] = ⊥
-AreItems Is (item d ds) (x ∷ xs) = Is d x × AreItems Is ds xs
-
 -- a table that may be left out, and then nothing is read of it
 abbrev pub IsTableAt : {A : Type 0} → (Members → A → Type 0) → Option Data → Option A → Type 0
-IsTableAt Is None None = Unit {0}
-IsTableAt Is (Some (table ms)) (Some x) = Is ms x
-IsTableAt Is _ _ = ⊥
+IsTableAt Is found value = AllZip (OfTable Is) (option_to_list found) (option_to_list value)
 
--- a table whose keys the user chooses, which has no entries where it is left out
+-- tables in an array, read one for one and in its order; there are none where it is left out
+abbrev pub AreTablesAt : {A : Type 0} → (Members → A → Type 0) → Option Data → List A → Type 0
+AreTablesAt Is found xs = (tables : List Data) × HoldsOr [] (λ ds. array (items_of ds)) found tables × AllZip (OfTable Is) tables xs
+
+-- the members that these entries make
+abbrev pub members_of : List (List ℕ × Data) → Members
+members_of [] = no_members
+members_of (entry ∷ entries) = member entry.0 entry.1 (members_of entries)
+
+-- a table whose keys the user chooses, read entry for entry and in its order; it has none where it is left out
 abbrev pub AreEntriesAt : {A : Type 0} → (List ℕ → Data → A → Type 0) → Option Data → List A → Type 0
-AreEntriesAt Is None xs = xs ≡ []
-AreEntriesAt Is (Some (table ms)) xs = AreEntries Is ms xs
-AreEntriesAt Is _ xs = ⊥
+AreEntriesAt Is found xs = (entries : List (List ℕ × Data)) × HoldsOr [] (λ es. table (members_of es)) found entries × AllZip (λ (entry : List ℕ × Data) x. Is entry.0 entry.1 x) entries xs

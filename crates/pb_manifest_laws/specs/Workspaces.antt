@@ -1,5 +1,5 @@
 -- What `[workspace]` and `[workspace.package]` say, key by key (The Cargo Book, Workspaces).
-use Rattle.std.specs.Prelude.{◌≡◌, true, codes, IfSome}
+use Rattle.std.specs.Prelude.{◌≡◌, true, codes}
 use Rattle.std.specs.List.{AllByRecursion}
 use Rattle.toml.specs.Data.{string, Members, get_member}
 use Rattle.pb_manifest.specs.Versions.{is_version}
@@ -7,7 +7,7 @@ use Rattle.pb_manifest.specs.declared.manifest.WorkspacePackage.{WorkspacePackag
 use Rattle.pb_manifest.specs.declared.manifest.WorkspaceTable.{WorkspaceTable}
 use Rattle.pb_manifest_laws.specs.Dependencies.{IsSharedEntry}
 use Rattle.pb_manifest_laws.specs.Packages.{edition, readme_value, IsResolver}
-use Rattle.pb_manifest_laws.specs.Values.{texts, IsPath, Holds, Lists, IsTableAt, AreEntriesAt}
+use Rattle.pb_manifest_laws.specs.Values.{texts, IsPath, Holds, HoldsValid, Lists, IsTableAt, AreEntriesAt}
 
 -- `[workspace.package]`
 pub record IsInheritedTable (ms : Members) (w : WorkspacePackage) : Type 0 where
@@ -20,15 +20,13 @@ pub record IsInheritedTable (ms : Members) (w : WorkspacePackage) : Type 0 where
   pub readme_is : Holds readme_value (get_member (codes "readme") ms) w.readme
   pub repository : Holds string (get_member (codes "repository") ms) w.repository
   pub rust_version : Holds string (get_member (codes "rust-version") ms) w.rust_version
-  pub version : Holds string (get_member (codes "version") ms) w.version
-  pub version_is : IfSome w.version (λ text. is_version text ≡ true)
+  pub version : HoldsValid (λ text. is_version text ≡ true) string (get_member (codes "version") ms) w.version
 
 -- `[workspace]`
 pub record IsWorkspaceTable (ms : Members) (w : WorkspaceTable) : Type 0 where
   pub members : Lists string (get_member (codes "members") ms) w.members
   pub members_are : AllByRecursion IsPath w.members
-  pub default_members : Holds texts (get_member (codes "default-members") ms) w.default_members
-  pub defaults_are : IfSome w.default_members (AllByRecursion IsPath)
+  pub default_members : HoldsValid (AllByRecursion IsPath) texts (get_member (codes "default-members") ms) w.default_members
   pub exclude : Lists string (get_member (codes "exclude") ms) w.exclude
   pub exclude_are : AllByRecursion IsPath w.exclude
   pub inherited : IsTableAt IsInheritedTable (get_member (codes "package") ms) w.package

@@ -1,5 +1,5 @@
 -- The texts of messages are those of objects.
-use Rattle.std.proofs.Common.{◌≡◌, ℕ, Bool, true, false, cond, codes, List, [], ◌∷◌, ◌++◌, map, refl, sym, ◌∙◌, ap, append_assoc, arith}
+use Rattle.std.proofs.Common.{◌≡◌, ℕ, Bool, true, false, cond, codes, List, [], ◌∷◌, ◌++◌, map, Option, Some, IfSome, refl, sym, ◌∙◌, ap, append_assoc, arith}
 use Rattle.std.proofs.lemmas.Fmt.{decimal_digit}
 use Rattle.std.proofs.lemmas.List.{append-nil}
 use Rattle.json.specs.Print.{escape_byte, quoted}
@@ -10,17 +10,21 @@ use Rattle.pb_manifest.specs.declared.profile.DebugInfo.TheVariants.{Nothing, Li
 use Rattle.pb_manifest.specs.declared.profile.OptLevel.{OptLevel}
 use Rattle.pb_manifest.specs.declared.profile.OptLevel.TheVariants as opt
 use Rattle.pb_message.specs.Json.{truth_text, after_commas, listed, json_texts, json_pair, json_pairs}
-use Rattle.pb_message.specs.Message.{package_id, required_list, required_text, target_object, target_text, id_text, subject_object, subject_text, debug_info_json, profile_text, executable_text, artifact_object, level_text, note_object, executed_object}
+use Rattle.pb_message.specs.Message.{package_id, required_list, required_text, target_object, target_text, id_text, subject_object, subject_text, debug_info_json, profile_text, executable_text, artifact_object, level_text, line_of, note_object, executed_object}
 use Rattle.pb_message.specs.declared.message.Artifact.{Artifact}
+use Rattle.pb_message.specs.declared.message.Executed.{Executed}
 use Rattle.pb_message.specs.declared.message.Level.{Level}
 use Rattle.pb_message.specs.declared.message.Level.TheVariants.{Warning, Error}
+use Rattle.pb_message.specs.declared.message.Message.{Message}
+use Rattle.pb_message.specs.declared.message.Message.TheVariants.{CompilerMessage, CompilerArtifact, BuildScriptNote, BuildScriptExecuted}
 use Rattle.pb_message.specs.declared.subject.Subject.{Subject}
 use Rattle.pb_message.specs.declared.subject.Target.{Target}
 use Rattle.pb_profile.specs.Words.{opt_level_text}
 use Rattle.pb_profile.specs.declared.settings.Settings.{Settings}
 use Rattle.serde_json.specs.Data.{Data, boolean, string, array, object, Members, no_members, member}
+use Rattle.serde_json.specs.View.{items_of}
 use Rattle.serde_json.specs.Written.{comma_if, compact_text, items_text, members_text}
-use Rattle.pb_message_objects.specs.Objects.{members, items, texts, required, target_of, debug_info_of, profile_of, pairs, artifact, note, executed, ArtifactsAreObjects, NotesAreObjects, ExecutedAreObjects, EndsAreObjects, DiagnosticsAreCopied}
+use Rattle.pb_message_objects.specs.Objects.{members, texts, required, target_of, debug_info_of, profile_of, pairs, object_of, MessagesAreObjects, EndsAreObjects, DiagnosticsAreCopied}
 
 -- ---- what follows an object
 
@@ -38,18 +42,18 @@ followed later (member k d ms) rest =
     ∙ ap (λ t. quoted k ++ 58 ∷ t) (append_assoc (compact_text d) (members_text true ms) rest ∙ ap (λ t. compact_text d ++ t) (followed true ms rest)))
 
 -- the members of an object
-abbrev members_in : Data → Members
-members_in (object ms) = ms
+abbrev members_in : Option Data → Members
+members_in (Some (object ms)) = ms
 members_in _ = no_members
 
 -- ---- lists
 
 module _ {A : Type 0} (f : A → List ℕ) (g : A → Data) (same : (x : A) → f x ≡ compact_text (g x)) where
-  more_are : (xs : List A) → after_commas (map f xs) ++ 93 ∷ [] ≡ items_text true (items (map g xs))
+  more_are : (xs : List A) → after_commas (map f xs) ++ 93 ∷ [] ≡ items_text true (items_of (map g xs))
   more_are [] = refl
   more_are (x ∷ xs) = ap (λ t. 44 ∷ t) (append_assoc (f x) (after_commas (map f xs)) (93 ∷ []) ∙ (λ i. same x i ++ more_are xs i))
 
-  list_is : (xs : List A) → listed (map f xs) ≡ compact_text (array (items (map g xs)))
+  list_is : (xs : List A) → listed (map f xs) ≡ compact_text (array (items_of (map g xs)))
   list_is [] = refl
   list_is (x ∷ xs) = ap (λ t. 91 ∷ t) (append_assoc (f x) (after_commas (map f xs)) (93 ∷ []) ∙ (λ i. same x i ++ more_are xs i))
 
@@ -139,7 +143,10 @@ runs_is : (is : Bool) (file : List ℕ) → executable_text is file ≡ compact_
 runs_is true file = refl
 runs_is false file = refl
 
-pub artifacts_are : ArtifactsAreObjects
+abbrev IsLineOf : Subject → Bool → Message → Type 0
+IsLineOf s fresh m = IfSome (object_of s fresh m) (λ told. line_of s fresh m ≡ compact_text told ++ 10 ∷ [])
+
+artifacts_are : (s : Subject) (fresh : Bool) (a : Artifact) → IsLineOf s fresh (CompilerArtifact a)
 unfolding escape_byte artifact_object
 artifacts_are s fresh a =
     ap (λ t. codes "{\"reason\":\"compiler-artifact\"," ++ t)
@@ -150,16 +157,16 @@ artifacts_are s fresh a =
     codes "{\"reason\":\"compiler-artifact\",\"package_id\":" ++ (json_string (package_id s) ++ (codes ",\"manifest_path\":" ++ (json_string s.manifest ++ (codes ",\"target\":" ++ (compact_text (target_of s.target)
     ++ (codes ",\"profile\":" ++ (profile_is a.settings i ++ (codes ",\"features\":" ++ (texts_are a.features i ++ (codes ",\"filenames\":"
     ++ file_is a (codes ",\"executable\":" ++ (runs_is a.is_executable a.file i ++ (codes ",\"fresh\":" ++ (truth_is fresh i ++ codes "}\n")))) i)))))))))))
-    ∙ ap (λ t. 123 ∷ t) (sym (followed false (members_in (artifact s fresh a)) (10 ∷ [])))
+    ∙ ap (λ t. 123 ∷ t) (sym (followed false (members_in (object_of s fresh (CompilerArtifact a))) (10 ∷ [])))
 
-pub notes_are : NotesAreObjects
+notes_are : (s : Subject) (fresh : Bool) (level : Level) (text : List ℕ) → IsLineOf s fresh (BuildScriptNote level text)
 unfolding escape_byte note_object
 notes_are s fresh level text =
     ap (λ t. codes "{\"reason\":\"build-script-note\"," ++ t) (id_then s (codes ",\"level\":\"" ++ (level_text level ++ (codes "\",\"text\":" ++ (json_string text ++ codes "}\n")))))
     ∙ ap (λ t. codes "{\"reason\":\"build-script-note\",\"package_id\":" ++ (json_string (package_id s) ++ (codes ",\"level\":" ++ t))) (level_is level (codes ",\"text\":" ++ (json_string text ++ codes "}\n")))
-    ∙ ap (λ t. 123 ∷ t) (sym (followed false (members_in (note s level text)) (10 ∷ [])))
+    ∙ ap (λ t. 123 ∷ t) (sym (followed false (members_in (object_of s fresh (BuildScriptNote level text))) (10 ∷ [])))
 
-pub executed_are : ExecutedAreObjects
+executed_are : (s : Subject) (fresh : Bool) (e : Executed) → IsLineOf s fresh (BuildScriptExecuted e)
 unfolding escape_byte executed_object
 executed_are s fresh e =
     ap (λ t. codes "{\"reason\":\"build-script-executed\"," ++ t)
@@ -169,7 +176,13 @@ executed_are s fresh e =
     ∙ (λ i.
     codes "{\"reason\":\"build-script-executed\",\"package_id\":" ++ (json_string (package_id s) ++ (codes ",\"linked_libs\":" ++ (texts_are e.linked_libraries i ++ (codes ",\"linked_paths\":" ++ (texts_are e.linked_paths i
     ++ (codes ",\"cfgs\":" ++ (texts_are e.conditions i ++ (codes ",\"env\":" ++ (pairs_are e.variables i ++ (codes ",\"out_dir\":" ++ (json_string e.out_folder ++ codes "}\n"))))))))))))
-    ∙ ap (λ t. 123 ∷ t) (sym (followed false (members_in (executed s e)) (10 ∷ [])))
+    ∙ ap (λ t. 123 ∷ t) (sym (followed false (members_in (object_of s fresh (BuildScriptExecuted e))) (10 ∷ [])))
+
+pub messages_are : MessagesAreObjects
+messages_are s fresh (CompilerMessage text) = tt
+messages_are s fresh (CompilerArtifact a) = artifacts_are s fresh a
+messages_are s fresh (BuildScriptNote level text) = notes_are s fresh level text
+messages_are s fresh (BuildScriptExecuted e) = executed_are s fresh e
 
 pub ends_are : EndsAreObjects
 unfolding escape_byte

@@ -1,20 +1,18 @@
 -- What each message line is: one JSON object for each reason, without spaces, and then a line feed (The Cargo Book, External Tools).
-use Rattle.std.specs.Prelude.{◌≡◌, ℕ, Bool, false, if◌then◌else◌, codes, List, [], ◌∷◌, ◌++◌, map}
+use Rattle.std.specs.Prelude.{◌≡◌, ℕ, Bool, false, if◌then◌else◌, codes, List, [], ◌∷◌, ◌++◌, map, Option, Some, None, IfSome}
 use Rattle.std.specs.List.{flat_map}
 use Rattle.pb_manifest.specs.Package.{edition_text}
 use Rattle.pb_manifest.specs.declared.profile.DebugInfo.{DebugInfo}
 use Rattle.pb_manifest.specs.declared.profile.DebugInfo.TheVariants.{Nothing, Limited, Full, LineTablesOnly, LineDirectivesOnly}
 use Rattle.pb_message.specs.Message.{package_id, level_text, line_of, lines_of, finish_line}
-use Rattle.pb_message.specs.declared.message.Artifact.{Artifact}
-use Rattle.pb_message.specs.declared.message.Executed.{Executed}
-use Rattle.pb_message.specs.declared.message.Level.{Level}
 use Rattle.pb_message.specs.declared.message.Message.{Message}
 use Rattle.pb_message.specs.declared.message.Message.TheVariants.{CompilerMessage, CompilerArtifact, BuildScriptNote, BuildScriptExecuted}
 use Rattle.pb_message.specs.declared.subject.Subject.{Subject}
 use Rattle.pb_message.specs.declared.subject.Target.{Target}
 use Rattle.pb_profile.specs.Words.{opt_level_text}
 use Rattle.pb_profile.specs.declared.settings.Settings.{Settings}
-use Rattle.serde_json.specs.Data.{unsigned, Data, null, boolean, number, string, array, object, Items, no_items, item, Members, no_members, member}
+use Rattle.serde_json.specs.Data.{unsigned, Data, null, boolean, number, string, array, object, Members, no_members, member}
+use Rattle.serde_json.specs.View.{items_of}
 use Rattle.serde_json.specs.Written.{compact_text}
 
 -- an object and its members, in this order
@@ -25,12 +23,8 @@ members (m ∷ ms) = member m.0 m.1 (members ms)
 abbrev pub of_members : List (List ℕ × Data) → Data
 of_members ms = object (members ms)
 
-abbrev pub items : List Data → Items
-items [] = no_items
-items (d ∷ ds) = item d (items ds)
-
 abbrev pub texts : List (List ℕ) → Data
-texts ts = array (items (map string ts))
+texts ts = array (items_of (map string ts))
 
 -- The parts of a message.
 
@@ -39,8 +33,7 @@ required [] = []
 required (feature ∷ features) = (codes "required-features", texts (feature ∷ features)) ∷ []
 
 abbrev pub target_of : Target → Data
-target_of t = of_members (
-    (codes "kind", texts t.kinds) ∷ (codes "crate_types", texts t.crate_types) ∷ (codes "name", string t.name) ∷ (codes "src_path", string t.source)
+target_of t = of_members ((codes "kind", texts t.kinds) ∷ (codes "crate_types", texts t.crate_types) ∷ (codes "name", string t.name) ∷ (codes "src_path", string t.source)
     ∷ (codes "edition", string (edition_text t.edition)) ∷ required t.required_features)
 
 abbrev pub debug_info_of : DebugInfo → Data
@@ -51,55 +44,45 @@ debug_info_of LineTablesOnly = string (codes "line-tables-only")
 debug_info_of LineDirectivesOnly = string (codes "line-directives-only")
 
 abbrev pub profile_of : Settings → Data
-profile_of s = of_members (
-    (codes "opt_level", string (opt_level_text s.opt_level)) ∷ (codes "debuginfo", debug_info_of s.debug) ∷ (codes "debug_assertions", boolean s.debug_assertions)
+profile_of s = of_members ((codes "opt_level", string (opt_level_text s.opt_level)) ∷ (codes "debuginfo", debug_info_of s.debug) ∷ (codes "debug_assertions", boolean s.debug_assertions)
     ∷ (codes "overflow_checks", boolean s.overflow_checks) ∷ (codes "test", boolean false) ∷ [])
 
 abbrev pub pairs : List (List ℕ × List ℕ) → Data
-pairs ps = array (items (map (λ (p : List ℕ × List ℕ). texts (p.0 ∷ p.1 ∷ [])) ps))
+pairs ps = array (items_of (map (λ (p : List ℕ × List ℕ). texts (p.0 ∷ p.1 ∷ [])) ps))
 
 -- One object a reason.
 
+-- a message of a package: its reason and its package, and more
+abbrev pub of_package : List ℕ → Subject → List (List ℕ × Data) → Data
+of_package reason s more = of_members ((codes "reason", string reason) ∷ (codes "package_id", string (package_id s)) ∷ more)
+
+-- one of a target of a package
+abbrev pub of_target : List ℕ → Subject → List (List ℕ × Data) → Data
+of_target reason s more = of_package reason s ((codes "manifest_path", string s.manifest) ∷ (codes "target", target_of s.target) ∷ more)
+
 abbrev pub diagnostic : Subject → Data → Data
-diagnostic s message = of_members (
-    (codes "reason", string (codes "compiler-message")) ∷ (codes "package_id", string (package_id s)) ∷ (codes "manifest_path", string s.manifest) ∷ (codes "target", target_of s.target)
-    ∷ (codes "message", message) ∷ [])
+diagnostic s message = of_target (codes "compiler-message") s ((codes "message", message) ∷ [])
 
-abbrev pub artifact : Subject → Bool → Artifact → Data
-artifact s fresh a = of_members (
-    (codes "reason", string (codes "compiler-artifact")) ∷ (codes "package_id", string (package_id s)) ∷ (codes "manifest_path", string s.manifest) ∷ (codes "target", target_of s.target)
-    ∷ (codes "profile", profile_of a.settings) ∷ (codes "features", texts a.features) ∷ (codes "filenames", texts (a.file ∷ []))
-    ∷ (codes "executable", if a.is_executable then string a.file else null) ∷ (codes "fresh", boolean fresh) ∷ [])
-
-abbrev pub note : Subject → Level → List ℕ → Data
-note s level text = of_members (
-    (codes "reason", string (codes "build-script-note")) ∷ (codes "package_id", string (package_id s)) ∷ (codes "level", string (level_text level)) ∷ (codes "text", string text) ∷ [])
-
-abbrev pub executed : Subject → Executed → Data
-executed s e = of_members (
-    (codes "reason", string (codes "build-script-executed")) ∷ (codes "package_id", string (package_id s)) ∷ (codes "linked_libs", texts e.linked_libraries)
-    ∷ (codes "linked_paths", texts e.linked_paths) ∷ (codes "cfgs", texts e.conditions) ∷ (codes "env", pairs e.variables) ∷ (codes "out_dir", string e.out_folder) ∷ [])
+-- the object of each message that is no diagnostic
+abbrev pub object_of : Subject → Bool → Message → Option Data
+object_of s fresh (CompilerArtifact a) = Some (of_target (codes "compiler-artifact") s ((codes "profile", profile_of a.settings) ∷ (codes "features", texts a.features) ∷ (codes "filenames", texts (a.file ∷ []))
+    ∷ (codes "executable", if a.is_executable then string a.file else null) ∷ (codes "fresh", boolean fresh) ∷ []))
+object_of s fresh (BuildScriptNote level text) = Some (of_package (codes "build-script-note") s ((codes "level", string (level_text level)) ∷ (codes "text", string text) ∷ []))
+object_of s fresh (BuildScriptExecuted e) = Some (of_package (codes "build-script-executed") s ((codes "linked_libs", texts e.linked_libraries) ∷ (codes "linked_paths", texts e.linked_paths)
+    ∷ (codes "cfgs", texts e.conditions) ∷ (codes "env", pairs e.variables) ∷ (codes "out_dir", string e.out_folder) ∷ []))
+object_of s fresh (CompilerMessage text) = None
 
 abbrev pub finished : Bool → Data
 finished success = of_members ((codes "reason", string (codes "build-finished")) ∷ (codes "success", boolean success) ∷ [])
 
 -- The laws.
 
--- the text of an object without spaces, and a line feed
-abbrev pub IsLine : List ℕ → Data → Type 0
-IsLine line told = line ≡ compact_text told ++ 10 ∷ []
-
-abbrev pub ArtifactsAreObjects : Type 0
-ArtifactsAreObjects = (s : Subject) (fresh : Bool) (a : Artifact) → IsLine (line_of s fresh (CompilerArtifact a)) (artifact s fresh a)
-
-abbrev pub NotesAreObjects : Type 0
-NotesAreObjects = (s : Subject) (fresh : Bool) (level : Level) (text : List ℕ) → IsLine (line_of s fresh (BuildScriptNote level text)) (note s level text)
-
-abbrev pub ExecutedAreObjects : Type 0
-ExecutedAreObjects = (s : Subject) (fresh : Bool) (e : Executed) → IsLine (line_of s fresh (BuildScriptExecuted e)) (executed s e)
+-- the text of its object without spaces, and a line feed
+abbrev pub MessagesAreObjects : Type 0
+MessagesAreObjects = (s : Subject) (fresh : Bool) (m : Message) → IfSome (object_of s fresh m) (λ told. line_of s fresh m ≡ compact_text told ++ 10 ∷ [])
 
 abbrev pub EndsAreObjects : Type 0
-EndsAreObjects = (success : Bool) → IsLine (finish_line success) (finished success)
+EndsAreObjects = (success : Bool) → finish_line success ≡ compact_text (finished success) ++ 10 ∷ []
 
 -- a diagnostic is copied byte for byte: its line is that of the object in whose text the compiler's own stands in place of the message's
 abbrev pub DiagnosticsAreCopied : Type 0

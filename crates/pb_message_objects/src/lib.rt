@@ -2,15 +2,13 @@
 //! External Tools).
 #![tactic(auto)]
 
-ghost use Rattle.pb_message_objects.specs.Objects.{ArtifactsAreObjects, NotesAreObjects, ExecutedAreObjects, EndsAreObjects, DiagnosticsAreCopied, LinesFollow};
+ghost use Rattle.pb_message_objects.specs.Objects.{MessagesAreObjects, EndsAreObjects, DiagnosticsAreCopied, LinesFollow};
 ghost use Rattle.pb_message_objects.specs.Streams.{CompilersSay};
 
 /// A law: each message line is the text of one object without spaces, with these members in this order, and a line
 /// feed. A compiler's diagnostic is copied byte for byte to where its member `message` stands.
 pub fn lines_are_objects()
-    ensures artifacts { ArtifactsAreObjects }
-    ensures notes { NotesAreObjects }
-    ensures executed { ExecutedAreObjects }
+    ensures messages { MessagesAreObjects }
     ensures ends { EndsAreObjects }
     ensures diagnostics { DiagnosticsAreCopied }
 {}

@@ -1,7 +1,7 @@
 -- The entries of a package: each asks for what its table says, with what it takes from its workspace.
 use Rattle.std.proofs.Common.{inl, inr, ◌≡◌, ◌∙◌, ℕ, Bool, true, false, not, ◌||◌, List, [], ◌∷◌, ◌++◌, map, Contains, Option, Some, None, Ok, IfSome, unwrap_or, slice_get, cond, refl, sym, ap, subst}
 use Rattle.std.proofs.lemmas.Slice.Eq.{bytes_eq-Decides}
-use Rattle.std.specs.List.{find}
+use Rattle.std.specs.List.{AllZip, find}
 use Rattle.std.specs.Str.{bytes_eq}
 use Rattle.pb_closure.proofs.Membership.{none, head, tail, cases}
 use Rattle.pb_data.specs.Gives.{◌>>=◌, some_or}
@@ -23,7 +23,7 @@ use Rattle.pb_workspace.specs.ByFolder.{value_of}
 use Rattle.pb_workspace.specs.Wanted.{is_renamed, wanted_at, shared_at, taken_from, wanted_by, wanted_of, each_wanted}
 use Rattle.pb_workspace.specs.declared.wanted.Wanted.{Wanted}
 use Rattle.pb_workspace.proofs.FoldersPut.{opened}
-use Rattle.pb_package_laws.specs.Packages.{Asks, path, workspace, IsEntry, AreOneForOne}
+use Rattle.pb_package_laws.specs.Packages.{Asks, path, workspace, IsEntry}
 
 -- the package to which an entry leads
 pub record Leads (places : List (List ℕ × ℕ)) (ws : Workspace) (w : Wanted) : Type 0 where
@@ -45,6 +45,20 @@ found_one {A} test (y ∷ xs) x is = by (test y) refl is (λ h. found_one test x
     by : (b : Bool) → test y ≡ b → cond b (Some y) (find test xs) ≡ Some x → (find test xs ≡ Some x → Contains xs x × (test x ≡ true)) → Contains (y ∷ xs) x × (test x ≡ true)
     by true at h rest = let same : y ≡ x = cc in (subst (Contains (y ∷ xs)) same (head y xs), ap test (sym same) ∙ at)
     by false at h rest = let r = rest h in (tail y xs x r.0, r.1)
+
+-- one for one, each beside its kind
+pub beside : {K A B : Type 0} (R : K → A → B → Type 0) (k : K) (xs : List A) (ys more : List B) (rest : List (K × A)) → AllZip (R k) xs ys → AllZip (λ (x : K × A) y. R x.0 x.1 y) rest more
+    → AllZip (λ (x : K × A) y. R x.0 x.1 y) (map (λ x. (k, x)) xs ++ rest) (ys ++ more)
+beside R k [] [] more rest is later = later
+beside R k [] (y ∷ ys) more rest is later = absurd is
+beside R k (x ∷ xs) [] more rest is later = absurd is
+beside R k (x ∷ xs) (y ∷ ys) more rest is later = (is.0, beside R k xs ys more rest is.1 later)
+
+pub beside_one : {K A B : Type 0} (R : K → A → B → Type 0) (k : K) (xs : List A) (ys : List B) → AllZip (R k) xs ys → AllZip (λ (x : K × A) y. R x.0 x.1 y) (map (λ x. (k, x)) xs) ys
+beside_one R k [] [] is = tt
+beside_one R k [] (y ∷ ys) is = absurd is
+beside_one R k (x ∷ xs) [] is = absurd is
+beside_one R k (x ∷ xs) (y ∷ ys) is = (is.0, beside_one R k xs ys is.1)
 
 module _ (root folder manifest : List ℕ) (given : List WorkspaceDependency) (kind : DependencyKind) where
   -- what an entry wants is what its dependency asks for
@@ -147,12 +161,12 @@ module _ (root folder manifest : List ℕ) (given : List WorkspaceDependency) (k
 
     -- all entries of a table
     pub entries_are : (ds : List Dependency) (wanted : List Wanted) → each_wanted (wanted_of root folder manifest given kind) ds ≡ Ok wanted → ((w : Wanted) → Contains wanted w → Leads places ws w)
-        → AreOneForOne Is ds (map (entry_at places) wanted)
-    entries_are [] wanted is leads = let same : [] ≡ wanted = cc in subst (λ (xs : List Wanted). AreOneForOne Is [] (map (entry_at places) xs)) same tt
+        → AllZip Is ds (map (entry_at places) wanted)
+    entries_are [] wanted is leads = let same : [] ≡ wanted = cc in subst (λ (xs : List Wanted). AllZip Is [] (map (entry_at places) xs)) same tt
     entries_are (d ∷ ds) wanted is leads =
         let a = opened (wanted_of root folder manifest given kind d) (λ (w : Wanted). each_wanted (wanted_of root folder manifest given kind) ds >>= (λ rest. Ok (w ∷ rest))) wanted is in
         let b = opened (each_wanted (wanted_of root folder manifest given kind) ds) (λ (rest : List Wanted). Ok (a.0 ∷ rest)) wanted a.2 in
         let same : a.0 ∷ b.0 ≡ wanted = cc (b.2) in
         let all = subst (λ (xs : List Wanted). (w : Wanted) → Contains xs w → Leads places ws w) (sym same) leads in
-        subst (λ (xs : List Wanted). AreOneForOne Is (d ∷ ds) (map (entry_at places) xs)) same
+        subst (λ (xs : List Wanted). AllZip Is (d ∷ ds) (map (entry_at places) xs)) same
         (entry_is d a.0 (asked_so d a.0 a.1) (all a.0 (head a.0 b.0)), entries_are ds b.0 b.1 (λ w there. all w (tail a.0 b.0 w there)))

@@ -1,7 +1,7 @@
 -- The keys of a package, its library and its script.
-use Rattle.std.proofs.Common.{◌≡◌, ◌≢◌, ◌∙◌, ℕ, Bool, true, false, if◌then◌else◌, List, [], ◌∷◌, ◌++◌, codes, Option, Some, None, Ok, Err, Result, unwrap_or, refl, sym, ap, subst}
+use Rattle.std.proofs.Common.{◌≡◌, ◌∙◌, ℕ, Bool, true, false, if◌then◌else◌, List, [], ◌∷◌, ◌++◌, codes, Option, Some, None, Ok, Err, Result, unwrap_or, refl, sym, ap, subst}
 use Rattle.std.specs.List.{flat_map}
-use Rattle.std.specs.Option.{option_map}
+use Rattle.std.specs.Option.{option_map, option_map_or}
 use Rattle.pb_data.specs.Gives.{◌>>=◌, some_or}
 use Rattle.pb_manifest.specs.Letters.{underscored}
 use Rattle.pb_manifest.specs.Library.{named_or}
@@ -23,11 +23,11 @@ use Rattle.pb_package.specs.declared.package.Library.{Library}
 use Rattle.pb_place.specs.Paths.{below}
 use Rattle.pb_place.specs.World.{World}
 use Rattle.pb_workspace.specs.Settling.{readme_found}
-use Rattle.pb_workspace.specs.Sources.{has_own_file, own_source, found_readme, library_of, library_source, served_types, script_of}
+use Rattle.pb_workspace.specs.Sources.{has_own_file, own_source, found_readme, library_of, library_source, resolved, served_types, script_of}
 use Rattle.pb_workspace.specs.Taken.{own_or_given, text_of, authors_of, further_authors, joined_authors, license_file_of, from_member, readme_of, readme_text, given_readme, about_of}
 use Rattle.pb_workspace.proofs.FoldersPut.{opened}
 use Rattle.pb_package_laws.specs.Files.{is_file, first_file, first_path}
-use Rattle.pb_package_laws.specs.Packages.{IsOwnOrTaken, IsText, IsPlainText, with_colons, script, path_or, IsLibrary}
+use Rattle.pb_package_laws.specs.Packages.{IsOwnOrTaken, IsText, IsPlainText, with_colons, kinds_or_lib, library, script}
 
 -- a value that has to be there
 given_some : {A : Type 0} (given : Option A) (x : A) → some_or NoInherited given ≡ Ok x → given ≡ Some x
@@ -106,28 +106,24 @@ script_so sources folder build.Never = refl
 script_so sources folder (build.At path) = refl
 
 -- the library
-pub library_is : (sources : World) (folder name : List ℕ) (l : Option WrittenLibrary) → IsLibrary sources folder name l (library_of folder sources name l)
-library_is sources folder name None = by (is_file sources folder (codes "src/lib.rs"))
+pub library_so : (sources : World) (folder name : List ℕ) (l : Option WrittenLibrary) → library_of folder sources name l ≡ library sources folder name l
+library_so sources folder name None = by (is_file sources folder (codes "src/lib.rs"))
   where
     by : (b : Bool) → if◌then◌else◌ {A = Option Library} b (Some record { name = underscored name; crate_types = Lib ∷ []; source = below folder (codes "src/lib.rs") }) None
         ≡ option_map (λ path. record { name = underscored name; crate_types = Lib ∷ []; source = path }) (option_map (below folder) (if b then Some (codes "src/lib.rs") else None))
     by true = refl
     by false = refl
-library_is sources folder name (Some l) = record { called = called l.name; kinds = kinds l.crate_types; kind = kind l.crate_types; source = at l.path }
+library_so sources folder name (Some l) = λ i. Some record { name = called l.name i; crate_types = kinds l.crate_types i; source = at l.path i }
   where
     called : (o : Option (List ℕ)) → named_or o (underscored name) ≡ unwrap_or o (underscored name)
     called None = refl
     called (Some own) = refl
 
-    kinds : (ts : List CrateType) → ts ≢ [] → served_types ts ≡ ts
-    kinds [] some = absurd (some refl)
-    kinds (t ∷ ts) some = refl
+    kinds : (ts : List CrateType) → served_types ts ≡ kinds_or_lib ts
+    kinds [] = refl
+    kinds (t ∷ ts) = refl
 
-    kind : (ts : List CrateType) → ts ≡ [] → served_types ts ≡ Lib ∷ []
-    kind [] none = refl
-    kind (t ∷ ts) none = cc
-
-    at : (o : Option (List ℕ)) → library_source folder o ≡ path_or folder (codes "src/lib.rs") o
+    at : (o : Option (List ℕ)) → library_source folder o ≡ option_map_or (resolved folder) o (below folder (codes "src/lib.rs"))
     at None = refl
     at (Some path) = refl
 

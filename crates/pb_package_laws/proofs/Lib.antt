@@ -1,4 +1,5 @@
 pub mod Sorting
+pub mod Position
 pub mod Features
 pub mod Entries
 pub mod Keys

@@ -1,7 +1,8 @@
 -- There is one workspace that is what its manifests and their folders say.
-use Rattle.std.proofs.Common.{inl, inr, ◌≡◌, ◌≢◌, ◌↔◌, ◌∙◌, codes, ℕ, Bool, true, false, not, List, [], ◌∷◌, ◌++◌, map, Contains, Option, Some, None, unwrap_or, slice_get, Less, refl, sym, ap, subst}
+use Rattle.std.proofs.Common.{inl, inr, ◌≡◌, ◌↔◌, ◌∙◌, codes, ℕ, Bool, true, false, not, List, [], ◌∷◌, ◌++◌, map, Contains, Option, Some, unwrap_or, slice_get, Less, refl, sym, ap, subst}
 use Rattle.std.proofs.lemmas.List.{map-id}
 use Rattle.std.proofs.lemmas.Option.{slice_get-map}
+use Rattle.std.specs.List.{AllZip, position}
 use Rattle.std.specs.List.Sorted.{IsStrictlySortedBy}
 use Rattle.std.specs.Option.{option_map}
 use Rattle.std.specs.Str.{bytes_eq}
@@ -17,15 +18,12 @@ use Rattle.pb_manifest.specs.declared.inherited.Inherited.TheVariants as key
 use Rattle.pb_manifest.specs.declared.manifest.Manifest.{Manifest}
 use Rattle.pb_manifest.specs.declared.manifest.WorkspacePackage.{WorkspacePackage}
 use Rattle.pb_manifest.specs.declared.package.Package.{Package as Written}
-use Rattle.pb_manifest.specs.declared.target.CrateType.{CrateType}
-use Rattle.pb_manifest.specs.declared.target.Library.{Library as WrittenLibrary}
 use Rattle.pb_manifest_reader.proofs.Manifests.{manifest_is}
 use Rattle.pb_package.specs.declared.package.About.{About}
 use Rattle.pb_package.specs.declared.package.Binary.{Binary}
 use Rattle.pb_package.specs.declared.package.DependencyKind.{DependencyKind}
 use Rattle.pb_package.specs.declared.package.DependencyKind.TheVariants.{Normal, Build as ForScript}
 use Rattle.pb_package.specs.declared.package.Entry.{Entry}
-use Rattle.pb_package.specs.declared.package.Library.{Library}
 use Rattle.pb_package.specs.declared.package.Package.{Package}
 use Rattle.pb_package.specs.declared.workspace.Workspace.{Workspace}
 use Rattle.pb_place.specs.Paths.{below}
@@ -39,7 +37,7 @@ use Rattle.pb_package_laws.specs.Binaries.{IsBinary, HasBinaries}
 use Rattle.pb_package_laws.specs.Files.{first_file, IsManifestAt}
 use Rattle.pb_package_laws.specs.Laws.{frame_in, IsWorkspaceOf, WorkspacesAreOne}
 use Rattle.pb_package_laws.specs.Members.{IsMember}
-use Rattle.pb_package_laws.specs.Packages.{IsOwnOrTaken, IsText, IsPlainText, with_colons, script, IsLibrary, IsOfTable, IsEntry, AreOneForOne, IsPackageOf}
+use Rattle.pb_package_laws.specs.Packages.{IsOwnOrTaken, IsText, IsPlainText, with_colons, library, script, IsEntry, IsPackageOf}
 use Rattle.pb_package_laws.proofs.Folders.{Keyed, keyed_so, asks_one}
 use Rattle.pb_package_laws.proofs.Keys.{IsAbout}
 use Rattle.pb_package_laws.proofs.Reading.{one_manifest}
@@ -96,12 +94,6 @@ one_truth true false P one other = let no : false ≡ true = other.1 (one.0 refl
 one_truth false true P one other = let no : false ≡ true = one.1 (other.0 refl) in cc
 one_truth false false P one other = refl
 
--- two places that are the same wherever one is
-one_place : (a b : Option ℕ) → ((n : ℕ) → (a ≡ Some n) → (b ≡ Some n)) → ((n : ℕ) → (b ≡ Some n) → (a ≡ Some n)) → a ≡ b
-one_place None None onto back = refl
-one_place None (Some n) onto back = back n refl
-one_place (Some n) b onto back = sym (onto n refl)
-
 -- keys
 one_own : {A : Type 0} (i : Inherited A) (given : Option A) (x y : A) → IsOwnOrTaken i given x → IsOwnOrTaken i given y → x ≡ y
 one_own (key.Written z) given x y one other = one ∙ sym other
@@ -115,32 +107,11 @@ one_text own taken absent text.Workspace given x y one other =
     one.2 ∙ ap taken same ∙ sym other.2
 one_text own taken absent text.Absent given x y one other = one ∙ sym other
 
--- targets
-one_kind : (folder name : List ℕ) (l : WrittenLibrary) (x y : Library) → IsOfTable folder name l x → IsOfTable folder name l y → x.crate_types ≡ y.crate_types
-one_kind folder name l x y one other = by l.crate_types refl
-  where
-    by : (kinds : List CrateType) → l.crate_types ≡ kinds → x.crate_types ≡ y.crate_types
-    by [] at = one.kind at ∙ sym (other.kind at)
-    by (k ∷ kinds) at = let some : l.crate_types ≢ [] = λ empty. apart (sym at ∙ empty) in one.kinds some ∙ sym (other.kinds some)
-      where
-        apart : k ∷ kinds ≡ [] → ⊥
-        apart e = cc
-
-one_library : (sources : World) (folder name : List ℕ) (l : Option WrittenLibrary) (x y : Option Library) → IsLibrary sources folder name l x → IsLibrary sources folder name l y → x ≡ y
-one_library sources folder name (Some l) (Some x) (Some y) one other =
-    let called : x.name ≡ y.name = one.called ∙ sym other.called in
-    let kinds : x.crate_types ≡ y.crate_types = one_kind folder name l x y one other in
-    let source : x.source ≡ y.source = one.source ∙ sym other.source in
-    ap (λ (z : Library). Some z) (λ i. record { name = called i; crate_types = kinds i; source = source i })
-one_library sources folder name (Some l) None y one other = absurd one
-one_library sources folder name (Some l) (Some x) None one other = absurd other
-one_library sources folder name None x y one other = one ∙ sym other
-
 -- entries
 module _ (root folder : List ℕ) (entries : List WorkspaceDependency) (up : Keyed entries) (v w : Workspace) (v_up : Rises (map (λ (p : Package). p.folder) v.packages))
-    (folders : map (λ (p : Package). p.folder) v.packages ≡ map (λ (p : Package). p.folder) w.packages) (kind : DependencyKind) where
-  one_entry : (d : Dependency) (x y : Entry) → IsEntry root folder entries v kind d x → IsEntry root folder entries w kind d y → x ≡ y
-  one_entry d x y one other =
+    (folders : map (λ (p : Package). p.folder) v.packages ≡ map (λ (p : Package). p.folder) w.packages) where
+  one_entry : (kind : DependencyKind) (d : Dependency) (x y : Entry) → IsEntry root folder entries v kind d x → IsEntry root folder entries w kind d y → x ≡ y
+  one_entry kind d x y one other =
       let asked = asks_one root folder entries up d one.found.folder other.found.folder one.s other.s x.default_features y.default_features x.features y.features one.asks other.asks in
       let key_same : x.key ≡ y.key = one.key_is ∙ sym other.key_is in
       let name_same : one.found.name ≡ other.found.name = one.name ∙ ap (λ (s : PathSource). unwrap_or s.package x.key) asked.source_is ∙ ap (λ k. unwrap_or other.s.package k) key_same ∙ sym other.name in
@@ -156,13 +127,18 @@ module _ (root folder : List ℕ) (entries : List WorkspaceDependency) (up : Key
       let features_same : x.features ≡ y.features = asked.features_are in
       λ i. record { key = key_same i; kind = kind_same i; to = to_same i; renamed = renamed_same i; optional = optional_same i; default_features = default_same i; features = features_same i }
 
-  one_for_one : (ds : List Dependency) (xs ys : List Entry) → AreOneForOne (IsEntry root folder entries v kind) ds xs → AreOneForOne (IsEntry root folder entries w kind) ds ys → xs ≡ ys
+  one_for_one : (asked : List (DependencyKind × Dependency)) (xs ys : List Entry) → AllZip (λ (a : DependencyKind × Dependency) e. IsEntry root folder entries v a.0 a.1 e) asked xs
+      → AllZip (λ (a : DependencyKind × Dependency) e. IsEntry root folder entries w a.0 a.1 e) asked ys → xs ≡ ys
   one_for_one [] [] [] one other = refl
   one_for_one [] [] (y ∷ ys) one other = absurd other
   one_for_one [] (x ∷ xs) ys one other = absurd one
-  one_for_one (d ∷ ds) [] ys one other = absurd one
-  one_for_one (d ∷ ds) (x ∷ xs) [] one other = absurd other
-  one_for_one (d ∷ ds) (x ∷ xs) (y ∷ ys) one other = ap (λ z. z ∷ xs) (one_entry d x y one.0 other.0) ∙ ap (λ zs. y ∷ zs) (one_for_one ds xs ys one.1 other.1)
+  one_for_one (a ∷ asked) [] ys one other = absurd one
+  one_for_one (a ∷ asked) (x ∷ xs) [] one other = absurd other
+  one_for_one (a ∷ asked) (x ∷ xs) (y ∷ ys) one other = ap (λ z. z ∷ xs) (one_entry a.0 a.1 x y one.0 other.0) ∙ ap (λ zs. y ∷ zs) (one_for_one asked xs ys one.1 other.1)
+
+-- the dependencies of both tables
+abbrev asked_in : Manifest → List (DependencyKind × Dependency)
+asked_in m = map (λ d. (Normal, d)) m.dependencies ++ map (λ d. (ForScript, d)) m.build_dependencies
 
 -- packages
 one_about : (sources : World) (root folder : List ℕ) (given : WorkspacePackage) (t : Written) (x y : About) → IsAbout sources root folder t given x → IsAbout sources root folder t given y → x ≡ y
@@ -193,13 +169,9 @@ one_about sources root folder given t x y one other =
 -- what is said of a package, with its folder apart
 record IsIn (sources : World) (root : List ℕ) (given : Given) (ws : Workspace) (m : Manifest) (t : Written) (folder : List ℕ) (p : Package) : Type 0 where
   about : IsAbout sources root folder t given.package p.about
-  library : IsLibrary sources folder t.name m.library p.library
+  library_is : p.library ≡ library sources folder t.name m.library
   script_is : p.script ≡ script sources folder t.build
-  normal : List Entry
-  for_script : List Entry
-  entries : p.entries ≡ normal ++ for_script
-  of_dependencies : AreOneForOne (IsEntry root folder given.dependencies ws Normal) m.dependencies normal
-  of_build_dependencies : AreOneForOne (IsEntry root folder given.dependencies ws ForScript) m.build_dependencies for_script
+  entries : AllZip (λ (a : DependencyKind × Dependency) e. IsEntry root folder given.dependencies ws a.0 a.1 e) (asked_in m) p.entries
 
 is_in : (sources : World) (root : List ℕ) (given : Given) (ws : Workspace) (m : Manifest) (t : Written) (p : Package) → IsPackageOf sources root given ws m t p → IsIn sources root given ws m t p.folder p
 is_in sources root given ws m t p is = record {
@@ -213,13 +185,9 @@ is_in sources root given ws m t p is = record {
     repository = is.repository;
     rust_version = is.rust_version;
   };
-  library = is.library;
+  library_is = is.library_is;
   script_is = is.script_is;
-  normal = is.normal;
-  for_script = is.for_script;
   entries = is.entries;
-  of_dependencies = is.of_dependencies;
-  of_build_dependencies = is.of_build_dependencies;
 }
 
 module _ (sources : World) (root : List ℕ) (v w : Workspace) (v_up : Rises (map (λ (p : Package). p.folder) v.packages)) (folders : map (λ (p : Package). p.folder) v.packages ≡ map (λ (p : Package). p.folder) w.packages)
@@ -233,13 +201,11 @@ module _ (sources : World) (root : List ℕ) (v w : Workspace) (v_up : Rises (ma
       let edition : p.edition ≡ q.edition = one_own t.edition given.package.edition p.edition q.edition one.edition other.edition in
       let about : p.about ≡ q.about = one_about sources root p.folder given.package t p.about q.about a.about b.about in
       let links : p.links ≡ q.links = one.links ∙ sym other.links in
-      let library : p.library ≡ q.library = one_library sources p.folder t.name m.library p.library q.library a.library b.library in
+      let library : p.library ≡ q.library = a.library_is ∙ sym b.library_is in
       let script : p.script ≡ q.script = a.script_is ∙ sym b.script_is in
       let features : p.features ≡ q.features =
       one_list (λ (f : Feature). f.name) p.features q.features one.features_order other.features_order (λ f. (λ there. (other.features f).1 ((one.features f).0 there), λ there. (one.features f).1 ((other.features f).0 there))) in
-      let normal = one_for_one root p.folder given.dependencies up v w v_up folders Normal m.dependencies a.normal b.normal a.of_dependencies b.of_dependencies in
-      let for_script = one_for_one root p.folder given.dependencies up v w v_up folders ForScript m.build_dependencies a.for_script b.for_script a.of_build_dependencies b.of_build_dependencies in
-      let entries : p.entries ≡ q.entries = a.entries ∙ ap (λ xs. xs ++ a.for_script) normal ∙ ap (λ xs. b.normal ++ xs) for_script ∙ sym b.entries in
+      let entries : p.entries ≡ q.entries = one_for_one root p.folder given.dependencies up v w v_up folders (asked_in m) p.entries q.entries a.entries b.entries in
       let development : p.development ≡ q.development = one.development ∙ sym other.development in
       λ i. record {
         name = name i;
@@ -301,9 +267,7 @@ module _ (sources : World) (manifest : List ℕ) (r : Manifest) (v w : Workspace
   root_so = one.root ∙ sym other.root
 
   place_so : v.root_package ≡ w.root_package
-  place_so = one_place v.root_package w.root_package
-      (λ n is. (other.root_package n).1 (let h = (one.root_package n).0 is in record { p = h.p; there = subst (λ ps. slice_get ps n ≡ Some h.p) packages_so h.there; folder = h.folder ∙ root_so }))
-      (λ n is. (one.root_package n).1 (let h = (other.root_package n).0 is in record { p = h.p; there = subst (λ ps. slice_get ps n ≡ Some h.p) (sym packages_so) h.there; folder = h.folder ∙ sym root_so }))
+  place_so = one.root_package ∙ (λ i. position (λ (p : Package). bytes_eq p.folder (root_so i)) (packages_so i)) ∙ sym other.root_package
 
   members_so : v.default_members ≡ w.default_members
   members_so = one.default_members ∙ ap (λ x. default_members_of x v.packages f.default_members) root_so ∙ ap (λ ps. default_members_of w.root ps f.default_members) packages_so ∙ sym other.default_members

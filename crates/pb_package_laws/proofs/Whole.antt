@@ -3,7 +3,7 @@ use Rattle.std.proofs.Common.{◌≡◌, ◌↔◌, ◌∙◌, ◌≤◌, ℕ, B
 use Rattle.std.proofs.lemmas.List.{map-append}
 use Rattle.std.proofs.lemmas.Option.{slice_get-map}
 use Rattle.std.proofs.lemmas.Slice.Eq.{bytes_eq-Decides}
-use Rattle.std.specs.List.{AllByRecursion, list_any}
+use Rattle.std.specs.List.{AllByRecursion, AllZip, list_any}
 use Rattle.std.specs.Option.{option_map}
 use Rattle.std.specs.Str.{bytes_eq}
 use Rattle.pb_closure.specs.Closure.{onward}
@@ -11,12 +11,15 @@ use Rattle.std.proofs.lemmas.List.Elements.{Contains-append_left, Contains-appen
 use Rattle.pb_data.specs.Gives.{◌>>=◌}
 use Rattle.pb_manifest_reader.proofs.Manifests.{manifest_is}
 use Rattle.pb_manifest_reader.specs.Promises.{IsManifest, IsPackage}
+use Rattle.pb_manifest.specs.declared.dependency.Dependency.{Dependency}
 use Rattle.pb_manifest.specs.declared.manifest.Manifest.{Manifest}
 use Rattle.pb_manifest.specs.declared.manifest.WorkspacePackage.{WorkspacePackage}
 use Rattle.pb_manifest.specs.declared.manifest.WorkspaceTable.{WorkspaceTable}
 use Rattle.pb_manifest.specs.declared.package.Package.{Package as Written}
 use Rattle.pb_package.specs.declared.fault.LoadFault.{LoadFault}
+use Rattle.pb_package.specs.declared.package.DependencyKind.{DependencyKind}
 use Rattle.pb_package.specs.declared.package.DependencyKind.TheVariants.{Normal, Build as ForScript}
+use Rattle.pb_package.specs.declared.package.Entry.{Entry}
 use Rattle.pb_package.specs.declared.package.Package.{Package}
 use Rattle.pb_package.specs.declared.workspace.Workspace.{Workspace}
 use Rattle.pb_place.specs.Paths.{below, folder_of, is_path}
@@ -55,7 +58,7 @@ use Rattle.pb_workspace.proofs.Puttings.{map_twice}
 use Rattle.pb_workspace.proofs.WholeWorkspace.{map_only, map_each, manifest_there, all_found, begun, own_folders}
 use Rattle.pb_package_laws.specs.Files.{IsManifestAt}
 use Rattle.pb_package_laws.specs.Folders as Folders
-use Rattle.pb_package_laws.specs.Laws.{IsOfItsFolder, IsRootPackage, IsWorkspaceOf, WorkspacesAreRead, AllAreSettled}
+use Rattle.pb_package_laws.specs.Laws.{IsOfItsFolder, IsWorkspaceOf, WorkspacesAreRead, AllAreSettled}
 use Rattle.pb_package_laws.specs.Members.{IsMember}
 use Rattle.pb_package_laws.proofs.Members.{member_is}
 use Rattle.pb_package_laws.specs.Binaries.{IsBinary, HasBinaries}
@@ -65,16 +68,17 @@ use Rattle.pb_package.specs.declared.package.Binary.{Binary}
 use Rattle.pb_package.specs.Settled.{IsAscending, IsSettled}
 use Rattle.pb_workspace.specs.Drafted.{IsPut}
 use Rattle.pb_manifest.specs.Letters.{is_name}
-use Rattle.pb_package_laws.specs.Packages.{IsOwnOrTaken, IsLibrary, script, IsPackageOf}
+use Rattle.pb_package_laws.specs.Packages.{IsOwnOrTaken, library, script, IsEntry, IsPackageOf}
 use Rattle.pb_package_laws.proofs.Fine.{AreFine, fine_so, not_off, matched}
-use Rattle.pb_package_laws.proofs.Entries.{Leads, entries_are}
+use Rattle.pb_package_laws.proofs.Entries.{Leads, beside, beside_one, entries_are}
 use Rattle.pb_package_laws.proofs.Features.{none_meets, features_rise, features_are}
 use Rattle.pb_package_laws.proofs.Folders.{keyed_so, folders_are}
 use Rattle.pb_package_laws.proofs.Order.{packages_up}
 use Rattle.pb_package_laws.proofs.Reading.{all_at, drafted, parts_read, wanted_so}
 use Rattle.pb_package_laws.proofs.Settling.{draft_kept}
 use Rattle.pb_package_laws.proofs.Sorting.{Rises, contained, same_place}
-use Rattle.pb_package_laws.proofs.Keys.{own_or_taken, about_is, IsAbout, script_so, library_is}
+use Rattle.pb_package_laws.proofs.Keys.{own_or_taken, about_is, IsAbout, script_so, library_so}
+use Rattle.pb_package_laws.proofs.Position.{position_is}
 
 -- the keys
 record AreKeys (sources : World) (at : Standing) (given : WorkspacePackage) (w : Written) (k : Keys) : Type 0 where
@@ -109,6 +113,12 @@ module _ (sources : World) (at : Standing) (member : Bool) (given : Given) (ws :
   abbrev Says : Draft → Type 0
   Says d = IsPackageOf sources at.root given ws m w (package_at places d)
 
+  abbrev Is : DependencyKind → Dependency → Entry → Type 0
+  Is kind d e = IsEntry at.root at.folder given.dependencies ws kind d e
+
+  abbrev Asked : DependencyKind × Dependency → Entry → Type 0
+  Asked asked e = Is asked.0 asked.1 e
+
   draft_says : (d : Draft) → draft_of sources at member given w (tables_in m) ≡ Ok d → ((x : Wanted) → Contains d.wanted x → Leads places ws x) → Says d
   unfolding draft_of draft_with
   draft_says d h leads =
@@ -139,15 +149,15 @@ module _ (sources : World) (at : Standing) (member : Bool) (given : Given) (ws :
         repository = keys.about.repository;
         rust_version = keys.about.rust_version;
         links = keys.links;
-        library = subst (λ name. IsLibrary sources at.folder name m.library (library_of at.folder sources k.0.name m.library)) keys.name (library_is sources at.folder k.0.name m.library);
+        library_is = library_so sources at.folder k.0.name m.library ∙ ap (λ name. library sources at.folder name m.library) keys.name;
         script_is = script_so sources at.folder k.0.build ∙ ap (script sources at.folder) keys.build;
         features_order = features_rise m kept.features.order;
         features = features_are m kept.features.order;
-        normal = map (entry_at places) n.0;
-        for_script = map (entry_at places) s.0;
-        entries = map-append (entry_at places) n.0 s.0;
-        of_dependencies = entries_are at.root at.folder at.manifest given.dependencies Normal places ws m.dependencies n.0 n.1 (λ x there. all x (Contains-append_left n.0 s.0 x there));
-        of_build_dependencies = entries_are at.root at.folder at.manifest given.dependencies ForScript places ws m.build_dependencies s.0 s.1 (λ x there. all x (Contains-append_right n.0 s.0 x there));
+        entries = subst (AllZip Asked (map (λ d. (Normal, d)) m.dependencies ++ map (λ d. (ForScript, d)) m.build_dependencies)) (sym (map-append (entry_at places) n.0 s.0))
+            (beside Is Normal m.dependencies (map (entry_at places) n.0) (map (entry_at places) s.0) (map (λ d. (ForScript, d)) m.build_dependencies)
+            (entries_are at.root at.folder at.manifest given.dependencies Normal places ws m.dependencies n.0 n.1 (λ x there. all x (Contains-append_left n.0 s.0 x there)))
+            (beside_one Is ForScript m.build_dependencies (map (entry_at places) s.0)
+            (entries_are at.root at.folder at.manifest given.dependencies ForScript places ws m.build_dependencies s.0 s.1 (λ x there. all x (Contains-append_right n.0 s.0 x there)))));
         development = refl;
       })
 
@@ -333,7 +343,13 @@ module _ (manifest target : List ℕ) (w : World) (ws : Workspace) (path : is_pa
         (folders_are sources f (keyed_so manifest root.workspace (manifest_is there.bytes root there.says).workspace) root r all_so.0 all_so.1 folder)
 
     -- the root package
-    at_root_so : (place : ℕ) → (ws.root_package ≡ Some place) ↔ IsRootPackage ws place
+    abbrev at_root : Package → Bool
+    at_root p = bytes_eq p.folder ws.root
+
+    abbrev IsRootPackage : ℕ → Type 0
+    IsRootPackage place = (p : Package) × (slice_get ws.packages place ≡ Some p) × (at_root p ≡ true)
+
+    at_root_so : (place : ℕ) → (ws.root_package ≡ Some place) ↔ IsRootPackage place
     at_root_so place = (onto, back)
       where
         root_is : ws.root ≡ f.root
@@ -342,17 +358,17 @@ module _ (manifest target : List ℕ) (w : World) (ws : Workspace) (path : is_pa
         package_so : (k : ℕ) (d : Draft) → slice_get drafts_read k ≡ Some d → slice_get ws.packages k ≡ Some (package_at (places_of drafts_read) d)
         package_so k d at = ap (λ ps. slice_get ps k) drafts_are ∙ slice_get-map (package_at (places_of drafts_read)) drafts_read k ∙ ap (option_map (package_at (places_of drafts_read))) at
 
-        onto : ws.root_package ≡ Some place → IsRootPackage ws place
+        onto : ws.root_package ≡ Some place → IsRootPackage place
         onto h =
             let a = places_are drafts_read f.root place (sym root_place ∙ h) in
-            record { p = package_at (places_of drafts_read) a.0; there = package_so place a.0 a.1; folder = a.2 ∙ sym root_is }
+            (package_at (places_of drafts_read) a.0, package_so place a.0 a.1, (bytes_eq-Decides a.0.folder ws.root).1 (a.2 ∙ sym root_is))
 
-        back : IsRootPackage ws place → ws.root_package ≡ Some place
+        back : IsRootPackage place → ws.root_package ≡ Some place
         back is =
-            let in_folder : is.p.folder ≡ f.root = is.folder ∙ root_is in
-            let known : Contains (map (λ (p : Package). p.folder) ws.packages) f.root = subst (Contains (map (λ (p : Package). p.folder) ws.packages)) in_folder (map_each (λ (p : Package). p.folder) ws.packages is.p (contained ws.packages place is.p is.there)) in
+            let in_folder : is.0.folder ≡ f.root = (bytes_eq-Decides is.0.folder ws.root).0 is.2 ∙ root_is in
+            let known : Contains (map (λ (p : Package). p.folder) ws.packages) f.root = subst (Contains (map (λ (p : Package). p.folder) ws.packages)) in_folder (map_each (λ (p : Package). p.folder) ws.packages is.0 (contained ws.packages place is.0 is.1)) in
             let h = place_there drafts_read f.root (subst (λ xs. Contains xs f.root) (folders_so ∙ sym (own_folders sources f r.found all_so.1)) known) in
-            let same : h.0 ≡ place = same_place (λ (p : Package). p.folder) ws.packages h.0 place (package_at (places_of drafts_read) h.1) is.p rise_so (package_so h.0 h.1 h.3) is.there (h.4 ∙ sym in_folder) in
+            let same : h.0 ≡ place = same_place (λ (p : Package). p.folder) ws.packages h.0 place (package_at (places_of drafts_read) h.1) is.0 rise_so (package_so h.0 h.1 h.3) is.1 (h.4 ∙ sym in_folder) in
             root_place ∙ h.2 ∙ ap (λ k. Some k) same
 
     -- what is promised of each package
@@ -421,7 +437,7 @@ module _ (manifest target : List ℕ) (w : World) (ws : Workspace) (path : is_pa
       order = rise_so;
       folders = set_so;
       packages = each_read;
-      root_package = at_root_so;
+      root_package = position_is at_root ws.root_package ws.packages at_root_so;
       default_members = members_are ∙ ap (λ x. default_members_of x ws.packages f.default_members) (stands_there.0 ∙ sym (root_kept manifest target w ws made));
       profiles = profiles_are;
     }

@@ -1,5 +1,6 @@
 -- The binaries of a package that was read (The Cargo Book, Cargo Targets). `sources` is the world without what lies at or below the target folder.
-use Rattle.std.specs.Prelude.{◌≡◌, ◌≢◌, ◌↔◌, ℕ, true, if◌then◌else◌, codes, List, [], ◌∷◌, ◌++◌, map, Option, Some, None, Contains, get_or, unwrap_or}
+use Rattle.std.specs.Prelude.{◌≡◌, ◌≢◌, ◌↔◌, ℕ, true, if◌then◌else◌, codes, List, [], ◌∷◌, ◌++◌, map, Option, Some, Contains, get_or, unwrap_or}
+use Rattle.std.specs.Option.{option_map_or}
 use Rattle.std.specs.Str.{bytes_eq}
 use Rattle.pb_manifest.specs.Letters.{is_name}
 use Rattle.pb_manifest.specs.declared.manifest.Manifest.{Manifest}
@@ -23,8 +24,7 @@ places package_name name = if bytes_eq name package_name then codes "src/main.rs
 
 -- the source of a `[[bin]]`: the path that it writes, else the first of these places that is a file, and the first of them where none is
 abbrev pub source_of : World → List ℕ → List (List ℕ) → Option (List ℕ) → List ℕ
-source_of sources folder names (Some path) = resolved folder path
-source_of sources folder names None = below folder (unwrap_or (first_file sources folder names) (get_or names 0 []))
+source_of sources folder names path = option_map_or (resolved folder) path (below folder (unwrap_or (first_file sources folder names) (get_or names 0 [])))
 
 -- a binary: that of a `[[bin]]`; or, unless `autobins = false`, one that is found in its first place, where no `[[bin]]` has its name
 pub data IsBinary (sources : World) (folder : List ℕ) (m : Manifest) (w : Written) (b : Binary) : Type 0 where

@@ -1,5 +1,7 @@
 -- The law of workspaces: a workspace that was read is what its manifests and their folders say.
-use Rattle.std.specs.Prelude.{◌≡◌, ◌↔◌, ℕ, true, codes, List, map, Some, Ok, Contains, slice_get}
+use Rattle.std.specs.Prelude.{◌≡◌, ◌↔◌, ℕ, true, codes, List, map, Some, Ok, Contains}
+use Rattle.std.specs.List.{position}
+use Rattle.std.specs.Str.{bytes_eq}
 use Rattle.pb_manifest.specs.declared.manifest.Manifest.{Manifest}
 use Rattle.pb_manifest.specs.declared.package.Package.{Package as Written}
 use Rattle.pb_package.specs.Settled.{IsAscending, IsSettled}
@@ -28,24 +30,18 @@ pub record IsOfItsFolder (sources : World) (f : Frame) (ws : Workspace) (p : Pac
   pub says : IsPackageOf sources f.root (given_to f p.is_member) ws own written p
   pub binaries : FilesHavePaths sources → HasBinaries sources own written p
 
--- the package at this place stands in the root's folder
-pub record IsRootPackage (ws : Workspace) (place : ℕ) : Type 0 where
-  pub p : Package
-  pub there : slice_get ws.packages place ≡ Some p
-  pub folder : p.folder ≡ ws.root
-
 -- what a root manifest says of its workspace
 abbrev pub frame_in : List ℕ → Manifest → Frame
 frame_in manifest r = frame_of (folder_of manifest) manifest r.workspace
 
--- The workspace of the root manifest `r`, which stands at this path.
+-- The workspace of the root manifest `r`, which stands at this path. Its root package is the one in the root's folder.
 pub record IsWorkspaceOf (sources : World) (manifest : List ℕ) (r : Manifest) (ws : Workspace) : Type 0 where
   pub read : IsManifestAt sources manifest r
   pub root : ws.root ≡ folder_of manifest
   pub order : IsAscending (map (λ (p : Package). p.folder) ws.packages)
   pub folders : (folder : List ℕ) → Contains (map (λ (p : Package). p.folder) ws.packages) folder ↔ IsPackageFolder sources (frame_in manifest r) r folder
   pub packages : (p : Package) → Contains ws.packages p → IsOfItsFolder sources (frame_in manifest r) ws p
-  pub root_package : (place : ℕ) → (ws.root_package ≡ Some place) ↔ IsRootPackage ws place
+  pub root_package : ws.root_package ≡ position (λ (p : Package). bytes_eq p.folder ws.root) ws.packages
   pub default_members : ws.default_members ≡ default_members_of ws.root ws.packages (frame_in manifest r).default_members
   pub profiles : ws.profiles ≡ r.profiles
 

@@ -1,7 +1,7 @@
 -- A package that was read, in the words of The Cargo Book (Manifest Format, Cargo Targets, Build Scripts, Features, Specifying Dependencies, Workspaces). `sources` is the world without what lies at or below the target folder.
 use Rattle.std.specs.Prelude.{◌≡◌, ◌≢◌, ◌↔◌, ℕ, Bool, true, not, ◌||◌, codes, List, [], ◌∷◌, ◌++◌, map, Option, Some, None, IfSome, Contains, slice_get, unwrap_or}
-use Rattle.std.specs.List.{join_by}
-use Rattle.std.specs.Option.{option_map}
+use Rattle.std.specs.List.{AllZip, join_by}
+use Rattle.std.specs.Option.{option_map, option_map_or}
 use Rattle.std.specs.Str.{bytes_eq}
 use Rattle.pb_manifest.specs.Letters.{underscored}
 use Rattle.pb_manifest.specs.Versions.{matches}
@@ -20,6 +20,7 @@ use Rattle.pb_manifest.specs.declared.manifest.Manifest.{Manifest}
 use Rattle.pb_manifest.specs.declared.package.Build.{Build}
 use Rattle.pb_manifest.specs.declared.package.Build.TheVariants as build
 use Rattle.pb_manifest.specs.declared.package.Package.{Package as Written}
+use Rattle.pb_manifest.specs.declared.target.CrateType.{CrateType}
 use Rattle.pb_manifest.specs.declared.target.CrateType.TheVariants.{Lib}
 use Rattle.pb_manifest.specs.declared.target.Library.{Library as WrittenLibrary}
 use Rattle.pb_package.specs.Settled.{IsAscending}
@@ -65,23 +66,15 @@ script sources folder build.Standard = Some (below folder (codes "build.rs"))
 script sources folder build.Never = None
 script sources folder (build.At path) = Some (resolved folder path)
 
--- the path that a table writes, or else this one of the package's folder
-abbrev pub path_or : List ℕ → List ℕ → Option (List ℕ) → List ℕ
-path_or folder name None = below folder name
-path_or folder name (Some path) = resolved folder path
-
 -- a library that is not said to be of another kind is of the kind `lib`
-pub record IsOfTable (folder name : List ℕ) (l : WrittenLibrary) (library : Library) : Type 0 where
-  pub called : library.name ≡ unwrap_or l.name (underscored name)
-  pub kinds : l.crate_types ≢ [] → library.crate_types ≡ l.crate_types
-  pub kind : l.crate_types ≡ [] → library.crate_types ≡ Lib ∷ []
-  pub source : library.source ≡ path_or folder (codes "src/lib.rs") l.path
+abbrev pub kinds_or_lib : List CrateType → List CrateType
+kinds_or_lib [] = Lib ∷ []
+kinds_or_lib (kind ∷ kinds) = kind ∷ kinds
 
--- the library: that of `[lib]`, and without that table there is one where `src/lib.rs` is a file
-abbrev pub IsLibrary : World → List ℕ → List ℕ → Option WrittenLibrary → Option Library → Type 0
-IsLibrary sources folder name (Some l) (Some library) = IsOfTable folder name l library
-IsLibrary sources folder name (Some l) None = ⊥
-IsLibrary sources folder name None library = library ≡ option_map (λ path. record { name = underscored name; crate_types = Lib ∷ []; source = path }) (first_path sources folder (codes "src/lib.rs" ∷ []))
+-- the library: that of `[lib]`, in `src/lib.rs` unless it writes a path; and without that table there is one where `src/lib.rs` is a file
+abbrev pub library : World → List ℕ → List ℕ → Option WrittenLibrary → Option Library
+library sources folder name (Some l) = Some record { name = unwrap_or l.name (underscored name); crate_types = kinds_or_lib l.crate_types; source = option_map_or (resolved folder) l.path (below folder (codes "src/lib.rs")) }
+library sources folder name None = option_map (λ path. record { name = underscored name; crate_types = Lib ∷ []; source = path }) (first_path sources folder (codes "src/lib.rs" ∷ []))
 
 -- Features.
 
@@ -112,14 +105,7 @@ pub record IsEntry (root folder : List ℕ) (entries : List WorkspaceDependency)
   pub renamed : e.renamed ≡ not (bytes_eq found.name e.key)
   pub version : IfSome s.version (λ requirement. matches requirement found.version ≡ true)
 
--- one for one, in this order
-abbrev pub AreOneForOne : {A B : Type 0} → (A → B → Type 0) → List A → List B → Type 0
-AreOneForOne Is [] [] = Unit {0}
-AreOneForOne Is [] (y ∷ ys) = ⊥
-AreOneForOne Is (x ∷ xs) [] = ⊥
-AreOneForOne Is (x ∷ xs) (y ∷ ys) = Is x y × AreOneForOne Is xs ys
-
--- A package of a workspace whose root folder and entries are these, with the manifest `m` and its `[package]` table `w`.
+-- A package of a workspace whose root folder and entries are these, with the manifest `m` and its `[package]` table `w`. Its entries are one for one those of the two tables, in their order.
 pub record IsPackageOf (sources : World) (root : List ℕ) (given : Given) (ws : Workspace) (m : Manifest) (w : Written) (p : Package) : Type 0 where
   pub name : p.name ≡ w.name
   pub version : IsOwnOrTaken w.version given.package.version p.version
@@ -133,13 +119,10 @@ pub record IsPackageOf (sources : World) (root : List ℕ) (given : Given) (ws :
   pub repository : IsPlainText w.repository given.package.repository p.about.repository
   pub rust_version : IsPlainText w.rust_version given.package.rust_version p.about.rust_version
   pub links : p.links ≡ w.links
-  pub library : IsLibrary sources p.folder w.name m.library p.library
+  pub library_is : p.library ≡ library sources p.folder w.name m.library
   pub script_is : p.script ≡ script sources p.folder w.build
   pub features_order : IsAscending (map (λ (f : Feature). f.name) p.features)
   pub features : (f : Feature) → Contains p.features f ↔ IsFeature m f
-  pub normal : List Entry
-  pub for_script : List Entry
-  pub entries : p.entries ≡ normal ++ for_script
-  pub of_dependencies : AreOneForOne (IsEntry root p.folder given.dependencies ws Normal) m.dependencies normal
-  pub of_build_dependencies : AreOneForOne (IsEntry root p.folder given.dependencies ws ForScript) m.build_dependencies for_script
+  pub entries : AllZip (λ (asked : DependencyKind × Dependency) e. IsEntry root p.folder given.dependencies ws asked.0 asked.1 e)
+      (map (λ d. (Normal, d)) m.dependencies ++ map (λ d. (ForScript, d)) m.build_dependencies) p.entries
   pub development : p.development ≡ m.dev_dependencies

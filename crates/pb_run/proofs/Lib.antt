@@ -6,6 +6,7 @@ pub mod Ending
 pub mod Halving
 pub mod Held
 pub mod InTurn
+pub mod Judged
 pub mod Kept
 pub mod Recorded
 pub mod RecordedAnswer

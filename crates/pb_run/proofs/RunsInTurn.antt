@@ -16,7 +16,7 @@ use Rattle.pb_project.specs.declared.project.Project.{Project}
 use Rattle.pb_record.specs.Parts.{IsReading}
 use Rattle.pb_run.specs.Causes.{StopsAt, is_of_start, is_spent, store_fault}
 use Rattle.pb_run.specs.Halves.{awaits_number, child_in, child_of}
-use Rattle.pb_run.specs.Landing.{CallsBehind, EndsBy, answered_called}
+use Rattle.pb_run.specs.Landing.{CallsBehind, EndsBy, GivesRecord, answered_called}
 use Rattle.pb_run.specs.Launching.{HasLooked, LaunchEnds, Launches}
 use Rattle.pb_run.specs.Running.{RunsThrough, StopsToBegin, past_look}
 use Rattle.pb_run.specs.Standing.{records_folder}
@@ -26,7 +26,7 @@ use Rattle.pb_run.specs.declared.begun.Begun.{Begun}
 use Rattle.pb_run.specs.declared.begun.Launched.{Launched}
 use Rattle.pb_run.specs.declared.ran.Ran.{Ran}
 use Rattle.pb_soundness.specs.Numbers.{after}
-use Rattle.pb_soundness.specs.Records.{Reading, place_of}
+use Rattle.pb_soundness.specs.Records.{Reading, place_of, record_at}
 use Rattle.pb_store.specs.Looking.{looked_at}
 use Rattle.pb_store.specs.declared.fault.StoreFault.{StoreFault}
 use Rattle.pb_store.specs.declared.fault.StoreFault.TheVariants as store
@@ -84,7 +84,8 @@ unstood (awaited.Child launched) answer well still before after old new ends = r
 unstood (awaited.Record again) answer well still before after old new ends = ends
 
 module _ (read : Reading) (child : Answers) (project : Project) (u : Planned) (c : Command) (begun : Begun) (w between left : World) (old mid ended new : Counts) (answer : Result Ended StartFault) (still : ℕ → Type 0) (is : begun.command ≡ c)
-    (begins : MatchOption (child_of begun) (mid ≡ past_look read project u begun.command w old) (λ launched. Launches child begun.command launched.ticket (past_look read project u begun.command w old) mid)) where
+    (begins : MatchOption (child_of begun) (mid ≡ past_look read project u begun.command w old) (λ launched. Launches child begun.command launched.ticket (past_look read project u begun.command w old) mid))
+    (same : child_of begun ≡ None → between ≡ w) (gives : GivesRecord (record_at read (records_folder project) w.files u.key) begun.awaited) where
   through : {T : Type 0} (result : Result T BuildFault) → EndsBy begun.awaited answer (IsOk result) still between left mid ended
       → CallsBehind (answered_called read project u begun.command left begun.awaited) answer result ended new → RunsThrough read child project u c result w old new
   through result ends behind = subst (λ k. RunsThrough read child project u k result w old new) is record {
@@ -92,6 +93,8 @@ module _ (read : Reading) (child : Answers) (project : Project) (u : Planned) (c
     between = between;
     mid = mid;
     begins = begins;
+    same = same;
+    gives = gives;
     left = left;
     ended = ended;
     answer = answer;

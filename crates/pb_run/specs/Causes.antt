@@ -75,6 +75,11 @@ is_of_look (Device unit (Place place.List)) = true
 is_of_look (Device unit (Place place.Variable)) = true
 is_of_look fault = false
 
+-- a child could not be started, or gave no answer
+abbrev pub is_of_child : BuildFault → Bool
+is_of_child (Child unit fault) = true
+is_of_child fault = false
+
 -- no run number is left
 abbrev pub is_spent : BuildFault → Bool
 is_spent (Device unit NumbersSpent) = true

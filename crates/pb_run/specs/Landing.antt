@@ -14,14 +14,17 @@ use Rattle.pb_place.specs.declared.place.StartFault.{StartFault}
 use Rattle.pb_project.specs.Targets.{dep_info_of}
 use Rattle.pb_project.specs.declared.project.Project.{Project}
 use Rattle.pb_record.specs.declared.record.InputName.{InputName}
+use Rattle.pb_record.specs.declared.record.Record.{Record}
 use Rattle.pb_run.specs.Causes.{NumbersInTurn}
-use Rattle.pb_run.specs.Outcome.{judgement_by}
+use Rattle.pb_run.specs.Outcome.{judgement_by, ran_of, unstarted}
 use Rattle.pb_run.specs.Standing.{records_folder}
 use Rattle.pb_run.specs.declared.begun.Awaited.{Awaited}
 use Rattle.pb_run.specs.declared.begun.Awaited.TheVariants as awaited
 use Rattle.pb_run.specs.declared.ran.Judgement.{Judgement}
+use Rattle.pb_run.specs.declared.ran.Ran.{Ran}
 use Rattle.pb_soundness.specs.Records.{Reading, record_at}
 use Rattle.pb_store.specs.Looking.{kept_called, migrated_called}
+use Rattle.pb_store.specs.Replaying.{IsReplayed}
 use Rattle.pb_unit.specs.declared.plan.Planned.{Planned}
 
 -- the end of the child of this ticket was asked for, by one call and no other, which gave this answer, and changed the child's folder alone; where all went well it answered, and then, where it stood still, it left what was fixed when it was spawned
@@ -35,6 +38,20 @@ pub record HasEnded (ticket : ℕ) (answer : Result Ended StartFault) (well stoo
 abbrev pub EndsBy : Awaited → Result Ended StartFault → Type 0 → (ℕ → Type 0) → World → World → Counts → Counts → Type 0
 EndsBy (awaited.Child launched) answer well still before after old new = HasEnded launched.ticket answer well (still launched.ticket) before after old new
 EndsBy (awaited.Record again) answer well still before after old new = (after ≡ before) × (new ≡ old) × (answer ≡ Ok again.ended)
+
+-- what came of a unit, where no child was started for it
+abbrev pub ran_from : Awaited → Ran → Ran
+ran_from (awaited.Child launched) ran = ran
+ran_from (awaited.Record again) ran = unstarted ran
+
+-- what came of a unit is the judgement of this answer, by the files that then stood: of the one that its child gave, or that its record gives again
+abbrev pub IsJudged : Project → Planned → Command → Awaited → Ended → World → Ran → Type 0
+IsJudged project u c by ended w ran = ran ≡ ran_from by (ran_of project u c ended w.files)
+
+-- where no child was started, the answer that is given again is that of this record
+abbrev pub GivesRecord : Option Record → Awaited → Type 0
+GivesRecord found (awaited.Child launched) = Unit {0}
+GivesRecord found (awaited.Record again) = IsReplayed found again
 
 -- What is called once the answer is there.
 

@@ -1,6 +1,6 @@
 //! A unit's run, in halves: it begins, with a child or without; it answers, or its answer is dropped. And both in turn.
 
-ghost use Rattle.std.specs.Prelude.{◌≡◌, ◌≢◌, ◌+◌, ◌⊎◌, ℕ, true, false, List, Option, IsTrue, IsSome, IsOk, IfOk, IfErr, IfSome, MatchOption, MatchResult, OnOk, Some, None, Result, max, length, is_some, slice_get, slice_set};
+ghost use Rattle.std.specs.Prelude.{◌≡◌, ◌≢◌, ◌+◌, ◌⊎◌, ℕ, true, false, List, Option, IsTrue, IsSome, IsOk, IfOk, IfErr, IfSome, MatchOption, MatchResult, OnOk, Ok, Some, None, Result, max, length, is_some, slice_get, slice_set};
 ghost use Rattle.std.specs.FinMap as finite;
 ghost use Rattle.pb_command.specs.Command.{command_of};
 ghost use Rattle.pb_directive.specs.declared.directive.Directive.{Directive};
@@ -17,11 +17,11 @@ ghost use Rattle.pb_place.specs.declared.place.StartFault.{StartFault};
 ghost use Rattle.pb_project.specs.Targets.{unit_at};
 ghost use Rattle.pb_answer.specs.declared.bad_unit.BadUnit.{BadUnit};
 ghost use Rattle.pb_record.specs.Parts.{IsReading};
-ghost use Rattle.pb_run.specs.Causes.{Takes, Begins, Lands, Drops, Runs, MayBeginUnit, MayAnswerUnit, MayRunUnit, StopsAt, is_of_look, is_of_start, is_of_write, is_spent};
+ghost use Rattle.pb_run.specs.Causes.{Takes, Begins, Lands, Drops, Runs, MayBeginUnit, MayAnswerUnit, MayRunUnit, StopsAt, is_of_child, is_of_look, is_of_start, is_of_write, is_spent};
 ghost use Rattle.pb_run.specs.Halves.{Footing, Basis, basis, outcomes_in, Keeps, IsBegun, CanBegin, CanAnswer, BeginsApart, WritesTo, awaits_number, child_of};
-ghost use Rattle.pb_run.specs.Landing.{EndsBy, CallsBehind, answered_called};
+ghost use Rattle.pb_run.specs.Landing.{EndsBy, CallsBehind, GivesRecord, IsJudged, answered_called};
 ghost use Rattle.pb_run.specs.Launching.{HasLooked, Launches, LaunchEnds};
-ghost use Rattle.pb_run.specs.Outcome.{outcome_by, directives_in};
+ghost use Rattle.pb_run.specs.Outcome.{outcome_by, directives_in, ran_of, unstarted};
 ghost use Rattle.pb_run.specs.Running.{RunsCalling};
 ghost use Rattle.pb_run.specs.Standing.{IsCommandOf, IsInOrder, records_folder};
 ghost use Rattle.pb_run.specs.declared.begun.Begun.{Begun};
@@ -36,6 +36,8 @@ ghost use Rattle.pb_place.specs.CallsInTurn.{past_calls};
 ghost use Rattle.pb_store.specs.Looking.{looked_at};
 ghost use Rattle.pb_store.specs.declared.difference.Difference.{Difference};
 ghost use Rattle.pb_store.specs.Migrating.{TakesNumber, lacks_number};
+ghost use Rattle.pb_store.specs.Replaying.{IsReplayed};
+ghost use Rattle.pb_store.specs.declared.replaying.Replayed.{Replayed};
 
 use crate::begun::{Awaited, Beginning, Begun};
 use crate::landing::{land, reuse};
@@ -116,6 +118,8 @@ pub fn begin_unit<P: Place>(
     ensures spent { store.old.next ≡ None → IsTrue P.tells → P.world place.new ≡ P.world place.old }
     ensures unnumbered { IfErr result (λ e. is_of_look e ≡ true → store.new.next ≡ store.old.next) }
     ensures number { IfOk result (λ made. MatchOption (child_of made.begun) (store.new.next ≡ store.old.next) (λ launched. (store.old.next ≡ Some launched.number) × (store.new.next ≡ after launched.number))) }
+    ensures taken { IfErr result (λ e. is_of_child e ≡ true → (number : ℕ) × (store.old.next ≡ Some number) × (store.new.next ≡ after number)) }
+    ensures carries { (read : Reading) → IsReading read → IsTrue P.tells → IfOk result (λ made. GivesRecord (record_at read (records_folder project.now) (P.world place.old).files unit.now.key) made.begun.awaited) }
     ensures most { MatchResult result (λ made. MatchOption (child_of made.begun) (P.most place.new ≡ P.most place.old) (λ launched. P.most place.new ≡ max (P.most place.old) (length (P.counts place.old).starts.flying + 1))) (λ e. P.most place.new ≡ P.most place.old) }
     ensures takes { Takes Begins (MayBeginUnit store.old.next unit.now.key) result (P.counts place.old) (P.counts place.new) }
     ensures looks { (read : Reading) → IsReading read → IsTrue P.tells → IfOk result (λ made. child_of made.begun ≡ None → P.counts place.new ≡ past_calls (looked_at read (records_folder project.now) unit.now.key made.begun.command (P.world place.old)) (P.counts place.old)) }
@@ -223,9 +227,12 @@ pub fn answer_unit<P: Place>(
     ensures folder { store.new.folder ≡ store.old.folder }
     ensures next { TakesNumber store.old.next store.new.next }
     ensures untaken { awaits_number begun.awaited ≡ false → store.new.next ≡ store.old.next }
+    ensures unnumbered { IfErr result (λ e. is_of_look e ≡ true → store.new.next ≡ store.old.next) }
     ensures spends { IfErr result (λ e. is_spent e ≡ true → awaits_number begun.awaited ≡ true) }
     ensures spent { child_of begun ≡ None → store.old.next ≡ None → IsTrue P.tells → P.world place.new ≡ P.world place.old }
     ensures cause { (read : Reading) → IsReading read → IsTrue P.tells → IfErr result (λ e. is_spent e ≡ true → lacks_number (record_at read (records_folder project.now) (P.world place.old).files unit.now.key) ≡ true) }
+    ensures judged { IsTrue P.tells → IfOk result (λ ran. (left : P) × (ended : Ended) × EndsBy begun.awaited (Ok ended) (IsOk result) (P.still place.old) (P.world place.old) (P.world left) (P.counts place.old) (P.counts left)
+        × IsJudged project.now unit.now begun.command begun.awaited ended (P.world left) ran) }
     ensures written { IfErr result (λ e. is_of_write e ≡ true → (P.counts place.new).failing ≡ Some (call.Write (place_of (records_folder project.now) unit.now.key))) }
     ensures most { P.most place.new ≡ P.most place.old }
     ensures takes { Takes (Lands (child_of begun)) (MayAnswerUnit store.old.next unit.now.key (child_of begun)) result (P.counts place.old) (P.counts place.new) }
@@ -334,6 +341,10 @@ pub fn run_unit<P: Place>(
     ensures only { IsTrue P.tells → ChangesOnly (is_of (records_folder project.now) unit.now.key) (P.world place.old) (P.world place.new) }
     ensures folder { store.new.folder ≡ store.old.folder }
     ensures next { TakesNumber store.old.next store.new.next }
+    ensures number { IfOk result (λ run. IsSome run.difference → (number : ℕ) × (store.old.next ≡ Some number) × (store.new.next ≡ after number)) }
+    ensures untaken { (read : Reading) → IsReading read → IsTrue P.tells → IfOk result (λ run. run.difference ≡ None → lacks_number (record_at read (records_folder project.now) (P.world place.old).files unit.now.key) ≡ false → store.new.next ≡ store.old.next) }
+    ensures judged { (read : Reading) → IsReading read → IsTrue P.tells → IfOk result (λ run. run.difference ≡ None → (again : Replayed) × IsReplayed (record_at read (records_folder project.now) (P.world place.old).files unit.now.key) again
+        × (run.ran ≡ unstarted (ran_of project.now unit.now (command_of setup.now project.now unit.now done.now) again.ended (P.world place.old).files))) }
     ensures spent { store.old.next ≡ None → IsTrue P.tells → P.world place.new ≡ P.world place.old }
     ensures cause { (read : Reading) → IsReading read → IsTrue P.tells → HoldsNumbers (record_at read (records_folder project.now) (P.world place.old).files) store.old.numbers
         → IfErr result (λ e. is_spent e ≡ true → ((difference : Difference) × FirstDifference read (records_folder project.now) unit.now.key (command_of setup.now project.now unit.now done.now) (P.world place.old) (Some difference))

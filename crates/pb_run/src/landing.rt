@@ -14,7 +14,7 @@ ghost use Rattle.pb_project.specs.Targets.{dep_info_of};
 ghost use Rattle.pb_record.specs.Parts.{IsReading};
 ghost use Rattle.pb_record.specs.Sorted.{are_sorted};
 ghost use Rattle.pb_record.specs.declared.record.Record.{Record};
-ghost use Rattle.pb_run.specs.Causes.{Takes, NoStart, Lands, MayFollow, MayAnswerUnit, MakesInTurn, NumbersInTurn, is_of_write, is_spent};
+ghost use Rattle.pb_run.specs.Causes.{Takes, NoStart, Lands, MayFollow, MayAnswerUnit, MakesInTurn, NumbersInTurn, is_of_look, is_of_write, is_spent};
 ghost use Rattle.pb_directive.specs.declared.directive.Directive.{Directive};
 ghost use Rattle.pb_flight.specs.declared.flight.State.{State};
 ghost use Rattle.pb_flight.specs.declared.flight.State.TheVariants as state;
@@ -22,7 +22,7 @@ ghost use Rattle.pb_place.specs.Folders.{files_in};
 ghost use Rattle.pb_answer.specs.declared.bad_unit.BadUnit.{BadUnit};
 ghost use Rattle.pb_project.specs.declared.project.Setup.{Setup};
 ghost use Rattle.pb_run.specs.Halves.{Footing, basis, begun_with, outcomes_in, key_at, needed_keys, Keeps, IsBegun, CanAnswer, BeginsApart, WritesTo};
-ghost use Rattle.pb_run.specs.Landing.{HasEnded, CallsBehind, answered_called, dep_info_looked};
+ghost use Rattle.pb_run.specs.Landing.{HasEnded, CallsBehind, answered_called, dep_info_looked, IsJudged};
 ghost use Rattle.pb_run.specs.Standing.{IsCommandOf, records_folder};
 ghost use Rattle.pb_run.specs.declared.begun.Awaited.TheVariants as awaited;
 ghost use Rattle.pb_run.specs.declared.begun.Begun.{Begun};
@@ -221,6 +221,7 @@ fn migrate<P: Place>(
     ensures numbered { (read : Reading) (r : Record) → IsReading read → IsTrue P.tells → OnOk result (record_at read store.old.folder (P.world place.new).files unit.now.key ≡ Some r → is_some (number_of r) ≡ true) }
     ensures numbers { (read : Reading) → IsReading read → IsTrue P.tells → HoldsNumbers (record_at read store.old.folder (P.world place.old).files) store.old.numbers → OnOk result (HoldsNumbers (record_at read store.old.folder (P.world place.new).files) store.new.numbers) }
     ensures same { (read : Reading) → IsReading read → IsTrue P.tells → lacks_number (record_at read store.old.folder (P.world place.old).files unit.now.key) ≡ false → P.world place.new ≡ P.world place.old }
+    ensures unnumbered { IfErr result (λ e. is_of_look e ≡ true → store.new.next ≡ store.old.next) }
     ensures next { TakesNumber store.old.next store.new.next }
     ensures folder { store.new.folder ≡ store.old.folder }
     ensures stands { (read : Reading) → IsReading read → IsTrue P.tells → HoldsNumbers (record_at read store.old.folder (P.world place.old).files) store.old.numbers → OnOk result (record_at read store.old.folder (P.world place.new).files unit.now.key ≡ migrated store.old.next (numbered (record_at read store.old.folder (P.world place.old).files) (needed_keys project.now unit.now)) (record_at read store.old.folder (P.world place.old).files unit.now.key)) }
@@ -304,6 +305,8 @@ pub(crate) fn land<P: Place>(
     ensures lands { IsTrue P.tells → (left : P) × (answer : Result Ended StartFault) × HasEnded launched.now.ticket answer (IsOk result) (P.still place.old launched.now.ticket) (P.world place.old) (P.world left) (P.counts place.old) (P.counts left)
         × ChangesOnly (is_at_or_below (place_of (records_folder project.now) unit.now.key)) (P.world left) (P.world place.new)
         × ((read : Reading) → IsReading read → CallsBehind (answered_called read project.now unit.now command.now (P.world left) (awaited.Child launched.now)) answer result (P.counts left) (P.counts place.new)) }
+    ensures judged { IsTrue P.tells → IfOk result (λ ran. (left : P) × (ended : Ended) × HasEnded launched.now.ticket (Ok ended) (IsOk result) (P.still place.old launched.now.ticket) (P.world place.old) (P.world left) (P.counts place.old) (P.counts left)
+        × IsJudged project.now unit.now command.now (awaited.Child launched.now) ended (P.world left) ran) }
     ensures written { IfErr result (λ e. is_of_write e ≡ true → (P.counts place.new).failing ≡ Some (call.Write (place_of (records_folder project.now) unit.now.key))) }
 {
     project.is_in_order();
@@ -375,12 +378,14 @@ pub(crate) fn reuse<P: Place>(
     ensures next { TakesNumber store.old.next store.new.next }
     ensures most { P.most place.new ≡ P.most place.old }
     ensures untaken { again.now.numbered ≡ true → store.new.next ≡ store.old.next }
+    ensures unnumbered { IfErr result (λ e. is_of_look e ≡ true → store.new.next ≡ store.old.next) }
     ensures spends { IfErr result (λ e. is_spent e ≡ true → again.now.numbered ≡ false) }
     ensures spent { store.old.next ≡ None → IsTrue P.tells → P.world place.new ≡ P.world place.old }
     ensures cause { (read : Reading) → IsReading read → IsTrue P.tells → IfErr result (λ e. is_spent e ≡ true → lacks_number (record_at read (records_folder project.now) (P.world place.old).files unit.now.key) ≡ true) }
     ensures takes { Takes (Lands None) (MayAnswerUnit store.old.next unit.now.key None) result (P.counts place.old) (P.counts place.new) }
     ensures lands { IsTrue P.tells → ChangesOnly (is_at_or_below (place_of (records_folder project.now) unit.now.key)) (P.world place.old) (P.world place.new) }
     ensures calls { (read : Reading) → IsReading read → IsTrue P.tells → NumbersInTurn result (answered_called read project.now unit.now command.now (P.world place.old) (awaited.Record again.now) again.now.ended) (P.counts place.old) (P.counts place.new) }
+    ensures judged { IsTrue P.tells → IfOk result (IsJudged project.now unit.now command.now (awaited.Record again.now) again.now.ended (P.world place.old)) }
     ensures written { IfErr result (λ e. is_of_write e ≡ true → (P.counts place.new).failing ≡ Some (call.Write (place_of (records_folder project.now) unit.now.key))) }
 {
     project.is_in_order();

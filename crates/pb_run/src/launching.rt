@@ -6,7 +6,7 @@ ghost use Rattle.pb_place.specs.Paths.{is_path, is_at_or_below};
 ghost use Rattle.pb_place.specs.World.{ChangesOnly, ChangesOnlyInSome};
 ghost use Rattle.pb_record.specs.Parts.{IsReading};
 ghost use Rattle.pb_record.specs.declared.record.Record.{Record};
-ghost use Rattle.pb_run.specs.Causes.{Takes, NoStart, IsLifted, MayBeginUnit, MakesInTurn, is_of_start};
+ghost use Rattle.pb_run.specs.Causes.{Takes, NoStart, IsLifted, MayBeginUnit, MakesInTurn, is_of_child, is_of_start};
 ghost use Rattle.pb_run.specs.Launching.{IsSpawned, Calls, OneCall, DropEnds, Spawns, SpawnEnds, SpawnsAnew, AnewEnds, Launches, LaunchEnds};
 ghost use Rattle.pb_soundness.specs.Apart.{is_of, KeepsStill, KeepsStillOutside};
 ghost use Rattle.pb_soundness.specs.Grounded.{Standing};
@@ -162,6 +162,7 @@ pub(crate) fn launch<P: Place>(
     requires key { is_key unit.now.key ≡ true }
     requires path { is_path store.old.folder ≡ true }
     ensures number { IfOk result (λ launched. (store.old.next ≡ Some launched.number) × (store.new.next ≡ after launched.number)) }
+    ensures taken { IfErr result (λ e. is_of_child e ≡ true → (number : ℕ) × (store.old.next ≡ Some number) × (store.new.next ≡ after number)) }
     ensures next { TakesNumber store.old.next store.new.next }
     ensures folder { store.new.folder ≡ store.old.folder }
     ensures spent { store.old.next ≡ None → IsTrue P.tells → P.world place.new ≡ P.world place.old }

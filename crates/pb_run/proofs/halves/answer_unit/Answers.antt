@@ -6,7 +6,7 @@ use Rattle.pb_place.specs.Paths.{is_at_or_below}
 use Rattle.pb_place.specs.World.{ChangesOnly}
 use Rattle.pb_place.proofs.Folders.{only_same}
 use Rattle.pb_run.specs.Halves.{WritesTo, basis, child_in, child_of}
-use Rattle.pb_run.specs.Landing.{CallsBehind, EndsBy, answered_called}
+use Rattle.pb_run.specs.Landing.{CallsBehind, EndsBy, IsJudged, answered_called}
 use Rattle.pb_run.specs.declared.begun.Awaited.{Awaited}
 use Rattle.pb_run.specs.declared.begun.Awaited.TheVariants as awaited
 use Rattle.pb_run.proofs.Calling.{ended_badly, ended_well}
@@ -160,3 +160,22 @@ returns-in-Child-clause-cause g c read reading told spent =
 
 pub returns-clause-cause : goal.returns-clause-cause
 returns-clause-cause g c read reading told spent = c.in-Err-reuse.ensures.cause read reading told spent
+
+pub returns-in-Ok-clause-judged : goal.returns-in-Ok-clause-judged
+returns-in-Ok-clause-judged g c told =
+    let (left, ended, ends, is) = c.in-Ok.ensures.judged told in (
+      left,
+      ended,
+      subst (λ (o : Awaited). EndsBy o (Ok ended) _ (g.P.Place.still c.args.place.now) (g.P.Place.world c.args.place.now) (g.P.Place.world left) (g.P.Place.counts c.args.place.now) (g.P.Place.counts left)) (sym c.in-Child.is) ends,
+      subst (λ (o : Awaited). IsJudged c.args.project.now c.args.unit.now c.args.begun.command o ended (g.P.Place.world left) c.in-Ok.ran) (sym c.in-Child.is) is,
+    )
+
+pub returns-in-Ok-reuse-clause-judged : goal.returns-in-Ok-reuse-clause-judged
+returns-in-Ok-reuse-clause-judged g c told = (
+  c.args.place.now,
+  c.in-Record.again.ended,
+  subst
+      (λ (o : Awaited). EndsBy o (Ok c.in-Record.again.ended) _ (g.P.Place.still c.args.place.now) (g.P.Place.world c.args.place.now) (g.P.Place.world c.args.place.now) (g.P.Place.counts c.args.place.now) (g.P.Place.counts c.args.place.now))
+      (sym c.in-Record.is) (refl, refl, refl),
+  subst (λ (o : Awaited). IsJudged c.args.project.now c.args.unit.now c.args.begun.command o c.in-Record.again.ended (g.P.Place.world c.args.place.now) c.in-Ok-reuse.ran) (sym c.in-Record.is) (c.in-Ok-reuse.ensures.judged told),
+)

@@ -9,6 +9,7 @@ use Rattle.pb_run.specs.Causes.{StopsAt}
 use Rattle.pb_run.specs.Halves.{CanBegin, basis}
 use Rattle.pb_run.specs.Launching.{LaunchEnds}
 use Rattle.pb_run.specs.Standing.{records_folder}
+use Rattle.pb_run.proofs.Judged.{child_starts}
 use Rattle.pb_run.proofs.Calling.{launch_no_look, memory_first}
 use Rattle.pb_run.proofs.Halving.{begun_none, begun_some, flies_lifted, flying_begun, keeps_launched, keeps_same, others_begun, others_same, out_asked, still_after}
 use Rattle.pb_run.proofs.Held.{held_same, held_there}
@@ -19,7 +20,7 @@ use Rattle.pb_soundness.specs.Records.{place_of, record_at}
 use Rattle.pb_store.specs.Differences.{FirstOf}
 use Rattle.pb_store.specs.Keeping.{Leaves}
 use Rattle.pb_store.specs.Looking.{looked_at}
-use Rattle.pb_store.specs.Replaying.{difference_in}
+use Rattle.pb_store.specs.Replaying.{IsReplayed, difference_in}
 use Rattle.pb_store.specs.declared.replaying.Compared.{Compared}
 
 pub returns-in-Err-clause-keeps : goal.returns-in-Err-clause-keeps
@@ -166,3 +167,10 @@ returns-in-Ok-launch-clause-held g c read records is told holds =
 
 pub returns-in-Err-launch-clause-unnumbered : goal.returns-in-Err-launch-clause-unnumbered
 returns-in-Err-launch-clause-unnumbered g c look = absurd (launch_no_look _ _ c.in-Err-launch.fault _ _ c.in-Err-launch.ensures.calls look)
+
+pub returns-in-Same-clause-carries : goal.returns-in-Same-clause-carries
+returns-in-Same-clause-carries g c read is told =
+    subst (λ (f : List ℕ). IsReplayed (record_at read f (g.P.Place.world c.args.place.now).files c.args.unit.now.key) c.in-Same.again) c.requires.folder (rw c.in-Same.is at (c.in-Ok-compare.ensures.carries read is told))
+
+pub returns-in-Err-compare-clause-taken : goal.returns-in-Err-compare-clause-taken
+returns-in-Err-compare-clause-taken g c child = absurd (child_starts c.in-Err-compare.fault child c.in-Err-compare.ensures.looks)

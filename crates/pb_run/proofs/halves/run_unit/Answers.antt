@@ -1,10 +1,14 @@
-use Rattle.std.proofs.Common.{◌≡◌, ◌∙◌, inl, inr, Bool, true, false, refl, slice_set, sym, subst}
+use Rattle.std.proofs.Common.{◌≡◌, ◌∙◌, inl, inr, Bool, true, false, refl, slice_set, sym, subst, ap}
 use Rattle.pb_flight.specs.declared.flight.State.TheVariants as state
 use Rattle.pb_run.specs.Causes.{RunsBy}
+use Rattle.pb_command.specs.Command.{command_of}
+use Rattle.pb_place.specs.declared.command.Command.{Command}
 use Rattle.pb_run.specs.Halves.{basis, child_of}
+use Rattle.pb_run.specs.Outcome.{ran_of, unstarted}
 use Rattle.pb_place.specs.World.{World}
 use Rattle.pb_soundness.specs.Records.{record_at}
 use Rattle.pb_store.specs.Migrating.{lacks_number}
+use Rattle.pb_run.proofs.Judged.{judged_again, numbered_given, taken_so}
 use Rattle.pb_run.proofs.RunsInTurn.{awaits_alone, begins_so, launch_needs, ran_badly, ran_well, spent_starts, stops_so}
 use Rattle.pb_run.proofs.Reusing.{child_numbered}
 use Rattle.pb_run.proofs.InTurn.{no_difference, answer_tells, both_run, both_take, can_answer, keeps_once, lifted_flies, number_kept}
@@ -102,7 +106,7 @@ returns-in-Ok-answer_unit-clause-calls g c read reading told =
     let begins = begins_so g.P.Place.world g.P.Place.counts g.P.Place.tells g.P.Place.child read c.args.project.now c.args.unit.now c.in-Ok.made.begun.command (g.P.Place.world c.args.place.now) (g.P.Place.counts c.args.place.now) (g.P.Place.counts c.begin_unit.new.place) reading told
     (child_of c.in-Ok.made.begun) (c.in-Ok.ensures.looks read reading told) c.in-Ok.ensures.launches in
     inr (ran_well read g.P.Place.child c.args.project.now c.args.unit.now _ c.in-Ok.made.begun (g.P.Place.world c.args.place.now) (g.P.Place.world c.begin_unit.new.place) (g.P.Place.world left) (g.P.Place.counts c.args.place.now) (g.P.Place.counts c.begin_unit.new.place) (g.P.Place.counts left) (g.P.Place.counts c.answer_unit.new.place)
-    answer (g.P.Place.still c.begin_unit.new.place) c.in-Ok.ensures.asks begins c.in-Ok-answer_unit.ran _ ends (behind read reading))
+    answer (g.P.Place.still c.begin_unit.new.place) c.in-Ok.ensures.asks begins (c.in-Ok.ensures.same told) (c.in-Ok.ensures.carries read reading told) c.in-Ok-answer_unit.ran _ ends (behind read reading))
 
 pub returns-in-Err-answer_unit-clause-calls : goal.returns-in-Err-answer_unit-clause-calls
 returns-in-Err-answer_unit-clause-calls g c read reading told =
@@ -110,4 +114,26 @@ returns-in-Err-answer_unit-clause-calls g c read reading told =
     let begins = begins_so g.P.Place.world g.P.Place.counts g.P.Place.tells g.P.Place.child read c.args.project.now c.args.unit.now c.in-Ok.made.begun.command (g.P.Place.world c.args.place.now) (g.P.Place.counts c.args.place.now) (g.P.Place.counts c.begin_unit.new.place) reading told
     (child_of c.in-Ok.made.begun) (c.in-Ok.ensures.looks read reading told) c.in-Ok.ensures.launches in
     inr (ran_badly read g.P.Place.child c.args.project.now c.args.unit.now _ c.in-Ok.made.begun (g.P.Place.world c.args.place.now) (g.P.Place.world c.begin_unit.new.place) (g.P.Place.world left) (g.P.Place.counts c.args.place.now) (g.P.Place.counts c.begin_unit.new.place) (g.P.Place.counts left) (g.P.Place.counts c.answer_unit.new.place)
-    answer (g.P.Place.still c.begin_unit.new.place) c.in-Ok.ensures.asks begins c.in-Err-answer_unit.fault ends (behind read reading))
+    answer (g.P.Place.still c.begin_unit.new.place) c.in-Ok.ensures.asks begins (c.in-Ok.ensures.same told) (c.in-Ok.ensures.carries read reading told) c.in-Err-answer_unit.fault ends (behind read reading))
+
+pub returns-in-Ok-answer_unit-clause-number : goal.returns-in-Ok-answer_unit-clause-number
+returns-in-Ok-answer_unit-clause-number g c some =
+    taken_so c.args.store.now.next c.begin_unit.new.store.next c.answer_unit.new.store.next (child_of c.in-Ok.made.begun) c.in-Ok.made.difference c.in-Ok.ensures.spawned c.in-Ok.ensures.number (λ has. c.answer_unit.ensures.untaken (child_numbered c.in-Ok.made.begun has)) some
+
+pub returns-in-Ok-answer_unit-clause-untaken : goal.returns-in-Ok-answer_unit-clause-untaken
+returns-in-Ok-answer_unit-clause-untaken g c read reading told none has =
+    c.answer_unit.ensures.untaken (numbered_given (record_at read (records_folder c.args.project.now) (g.P.Place.world c.args.place.now).files c.args.unit.now.key) c.in-Ok.made.begun.awaited (c.in-Ok.ensures.carries read reading told) has)
+    ∙ number_kept c.args.store.now.next c.begin_unit.new.store.next (child_of c.in-Ok.made.begun) _ c.in-Ok.ensures.number (no_difference (child_of c.in-Ok.made.begun) c.in-Ok.made.difference c.in-Ok.ensures.spawned none)
+
+pub returns-in-Ok-answer_unit-clause-judged : goal.returns-in-Ok-answer_unit-clause-judged
+returns-in-Ok-answer_unit-clause-judged g c read reading told none =
+    let alone = no_difference (child_of c.in-Ok.made.begun) c.in-Ok.made.difference c.in-Ok.ensures.spawned none in
+    let (left, ended, ends, is) = c.in-Ok-answer_unit.ensures.judged told in
+    let (again, gives, ran) = judged_again c.args.project.now c.args.unit.now c.in-Ok.made.begun.command (record_at read (records_folder c.args.project.now) (g.P.Place.world c.args.place.now).files c.args.unit.now.key) c.in-Ok.made.begun.awaited ended _ (g.P.Place.still c.begin_unit.new.place)
+    (g.P.Place.world c.begin_unit.new.place) (g.P.Place.world left) (g.P.Place.counts c.begin_unit.new.place) (g.P.Place.counts left) c.in-Ok-answer_unit.ran alone (c.in-Ok.ensures.carries read reading told) ends is in (
+      again,
+      gives,
+      ran
+          ∙ ap (λ (k : Command). unstarted (ran_of c.args.project.now c.args.unit.now k again.ended (g.P.Place.world c.begin_unit.new.place).files)) c.in-Ok.ensures.asks
+          ∙ ap (λ (w : World). unstarted (ran_of c.args.project.now c.args.unit.now (command_of c.args.setup.now c.args.project.now c.args.unit.now c.args.done.now) again.ended w.files)) (c.in-Ok.ensures.same told alone),
+    )

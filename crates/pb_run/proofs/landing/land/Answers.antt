@@ -1,6 +1,7 @@
 use Rattle.std.proofs.Common.{◌≡◌, ◌∙◌, Err, Ok, Some, ap, refl, slice_get, subst, sym}
 use Rattle.pb_command.specs.Judge.{judge}
 use Rattle.pb_place.specs.Counts.{Starts}
+use Rattle.pb_run.specs.declared.ran.Judgement.{Judgement}
 use Rattle.pb_run.proofs.Halving.{out_lies}
 use Rattle.pb_run.proofs.Held.{begun_next, held_landed, held_there, keeps_next}
 use Rattle.pb_run.proofs.Kept.{flying_answer, flying_follow, held_ended, keeps_kept, keeps_over, others_ended, others_kept, outcome_kept, pairs_sorted}
@@ -194,3 +195,9 @@ returns-in-Ok-keep-clause-numbers g c read is told writes holds =
     (c.in-Ok-keep.ensures.numbers read is told
     (held_landed read c.args.project.now c.is_in_order.ensures c.args.index c.args.unit.now c.requires.unit c.args.store.now.folder (g.P.Place.world c.args.place.now) (g.P.Place.world c.finish.new.place) (g.P.Place.world c.judged_now.new.place) c.args.store.now.numbers c.requires.folder (c.in-Ok-judged_now.ensures.same told)
     (ended_only c.args.unit.now.out c.args.launched.now (g.P.Place.counts c.args.place.now).starts.flying (g.P.Place.world c.args.place.now) (g.P.Place.world c.finish.new.place) c.requires.flies writes (c.in-Ok.ensures.only told)) holds))
+
+pub returns-then-is_some-clause-judged : goal.returns-then-is_some-clause-judged
+returns-then-is_some-clause-judged g c told = (c.finish.new.place, c.in-Ok.ended, c.in-Ok.ensures.ended told, ap (λ (j : Judgement). j.ran) (c.in-Ok-judged_now.ensures.judged told))
+
+pub returns-in-Ok-keep-clause-judged : goal.returns-in-Ok-keep-clause-judged
+returns-in-Ok-keep-clause-judged g c told = (c.finish.new.place, c.in-Ok.ended, c.in-Ok.ensures.ended told, ap (λ (j : Judgement). j.ran) (c.in-Ok-judged_now.ensures.judged told))

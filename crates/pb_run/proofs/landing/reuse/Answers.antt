@@ -11,6 +11,8 @@ use Rattle.pb_run.specs.declared.begun.Awaited.TheVariants as awaited
 use Rattle.pb_run.specs.declared.ran.Ran.{Ran}
 use Rattle.pb_soundness.specs.Records.{record_at}
 use Rattle.pb_store.specs.Migrating.{lacks_number}
+use Rattle.pb_run.specs.Outcome.{unstarted}
+use Rattle.pb_run.specs.declared.ran.Judgement.{Judgement}
 use Rattle.pb_run.proofs.Calling.{bad_made, ended_badly, ended_well, good_made, numbered_so, numbering_first, renewed_names}
 use Rattle.pb_run.proofs.Causing.{follow_spares}
 use Rattle.pb_run.proofs.Held.{held_same, held_there}
@@ -241,3 +243,12 @@ pub returns-clause-cause : goal.returns-clause-cause
 returns-clause-cause g c read reading told spent =
     subst (λ (f : List ℕ). lacks_number (record_at read f (g.P.Place.world c.args.place.now).files c.args.unit.now.key) ≡ true) c.requires.folder
     (subst (λ (w : World). lacks_number (record_at read c.args.store.now.folder w.files c.args.unit.now.key) ≡ true) (c.in-Ok.ensures.same told) (c.in-Err-migrate.ensures.cause read reading told spent))
+
+pub returns-then-is_some-clause-judged : goal.returns-then-is_some-clause-judged
+returns-then-is_some-clause-judged g c told = c.unstarted-ran.ensures ∙ ap (λ (j : Judgement). unstarted j.ran) (c.in-Ok.ensures.judged told)
+
+pub returns-then-again-clause-judged : goal.returns-then-again-clause-judged
+returns-then-again-clause-judged g c told = c.unstarted-ran.ensures ∙ ap (λ (j : Judgement). unstarted j.ran) (c.in-Ok.ensures.judged told)
+
+pub returns-in-Ok-migrate-clause-judged : goal.returns-in-Ok-migrate-clause-judged
+returns-in-Ok-migrate-clause-judged g c told = c.unstarted-ran.ensures ∙ ap (λ (j : Judgement). unstarted j.ran) (c.in-Ok.ensures.judged told)

@@ -1,0 +1,4 @@
+pub mod Asking
+pub mod Naming
+pub mod Summing
+pub mod Turning
