@@ -1,20 +1,21 @@
 -- The calls of a crew, where a unit begins or answers, or a fault comes in its place.
-use Rattle.std.proofs.Common.{◌≡◌, ◌∙◌, ◌⊎◌, ◌∷◌, inl, inr, Bool, List, ℕ, Option, Some, None, Result, Ok, Err, IsTrue, refl, sym, ap, subst, is_some, slice_get}
-use Rattle.std.specs.Prelude.{IfSome, IsOk}
+use Rattle.std.proofs.Common.{◌≡◌, ◌∙◌, ◌⊎◌, ◌∷◌, inl, inr, Bool, true, List, ℕ, Option, Some, None, Result, Ok, Err, IsTrue, refl, sym, ap, subst, is_some, slice_get}
+use Rattle.std.proofs.lemmas.Bool.{false≢true}
+use Rattle.std.specs.Prelude.{IfOk, IfSome, IsOk}
 use Rattle.pb_answer.specs.declared.bad_unit.BadUnit.{BadUnit}
 use Rattle.pb_answer.specs.declared.fault.BuildFault.{BuildFault}
 use Rattle.pb_answer.specs.declared.fault.BuildFault.TheVariants.{OutOfMemory}
 use Rattle.pb_command.specs.Command.{command_of}
+use Rattle.pb_command.specs.Judge.{ended_by, replied_files}
 use Rattle.pb_directive.specs.declared.directive.Directive.{Directive}
 use Rattle.pb_flight.specs.declared.flight.Answer.{Answer}
 use Rattle.pb_flight.specs.Events.{Event, Began, Gave, MayBegin}
-use Rattle.pb_flight.proofs.Lists.{injective}
 use Rattle.pb_place.specs.CallsInTurn.{MakesSome, past_calls}
+use Rattle.pb_place.specs.Children.{LandsAs, child_at, child_spawned, inside_out, landing}
 use Rattle.pb_place.specs.declared.call.Call.{Call}
 use Rattle.pb_place.specs.Counts.{Counts}
 use Rattle.pb_place.specs.Paths.{is_at_or_below}
-use Rattle.pb_place.specs.World.{World, Answers, ChangesOnly}
-use Rattle.pb_place.specs.declared.child_in_flight.ChildInFlight.{ChildInFlight}
+use Rattle.pb_place.specs.World.{World, Answers, ChangesOnly, seen_by}
 use Rattle.pb_place.specs.declared.command.Command.{Command}
 use Rattle.pb_place.specs.declared.command.Ended.{Ended}
 use Rattle.pb_place.specs.declared.place.StartFault.{StartFault}
@@ -22,7 +23,7 @@ use Rattle.pb_place.proofs.CallsInTurn.{some_all}
 use Rattle.pb_project.specs.Targets.{unit_at}
 use Rattle.pb_record.specs.Parts.{IsReading}
 use Rattle.pb_run.specs.Causes.{StopsAt}
-use Rattle.pb_run.specs.Halves.{Footing, Basis, basis, WaitsBy, child_of, command_in, view_in}
+use Rattle.pb_run.specs.Halves.{Footing, Basis, basis, IsInFlight, WaitsBy, child_in, child_of, command_in, view_in}
 use Rattle.pb_run.specs.Landing.{CallsBehind, EndsBy, answered_called}
 use Rattle.pb_run.specs.Launching.{HasLooked, LaunchEnds, Launches}
 use Rattle.pb_run.specs.Running.{StopsToBegin}
@@ -32,12 +33,13 @@ use Rattle.pb_run.specs.declared.begun.Awaited.TheVariants as awaited
 use Rattle.pb_run.specs.declared.begun.Begun.{Begun as unit_begun}
 use Rattle.pb_run.specs.declared.begun.Launched.{Launched}
 use Rattle.pb_run.specs.declared.ran.Ran.{Ran}
+use Rattle.pb_run.proofs.Answering.{begun_as, command_out, its_landing, landed_files}
 use Rattle.pb_run.proofs.Calling.{ended_badly, ended_well}
 use Rattle.pb_run.proofs.Halving.{is_command}
 use Rattle.pb_soundness.specs.Apart.{is_of}
 use Rattle.pb_soundness.specs.Records.{Reading, place_of}
 use Rattle.pb_store.specs.Looking.{looked_at}
-use Rattle.pb_turns.specs.Calling.{AnswersCalling, CallsCut, CallsOver, CallsToBegin, CountsNow}
+use Rattle.pb_turns.specs.Calling.{AnswersCalling, CallsCut, CallsOver, CallsToBegin, CountsNow, RepliesFromNothing, reply_from_nothing}
 use Rattle.pb_turns.specs.Crew.{needs_of}
 use Rattle.pb_turns.specs.Moments.{Moment}
 use Rattle.pb_turns.specs.Rows.{is_started}
@@ -135,18 +137,51 @@ pub behind_untold : (names : Ended → List Call) (answer : Result Ended StartFa
 behind_untold names (Ok ended) ran old new is = subst (MakesSome (names ended) old) (sym is) (some_all (names ended) old)
 behind_untold names (Err e) ran old new is = is
 
-module _ {P : Type 0} (world : P → World) (counts : P → Counts) (tells : Bool) (child : Answers) (first old : UnitCrew) (at now new : Moment) (still : ℕ → Type 0) (es : List (Event BadUnit)) (given : ℕ) (story : Story tells child first at old now still es given)
+-- What came of a unit in flight, by what it waits for.
+
+module _ (b : Basis) (u : Planned) (c : Command) (view : World) (next : Option ℕ) (before : World) (old : Counts) (still : ℕ → Type 0) where
+  -- its record counts now, where it has no child
+  counts_now : (by : Awaited) → WaitsBy b u c view by next before old.starts.flying still → CountsNow b u before by
+  counts_now (awaited.Child launched) waits = tt
+  counts_now (awaited.Record again) waits = waits.1
+
+  -- what its child sees stood still
+  stood_still : (by : Awaited) (answer : Result Ended StartFault) (well well' : Type 0) (after : World) (new : Counts) → WaitsBy b u c view by next before old.starts.flying still → (well' → well) → EndsBy by answer well still before after old new
+      → EndsBy by answer well' (λ ticket. Unit {0}) before after old new
+  stood_still (awaited.Child launched) answer well well' after new waits so ends =
+      let flight = waits.0 in
+      record { counted = ends.counted; answered = λ w. ends.answered (so w); only = ends.only; lands = λ stood. ends.lands flight.stands }
+  stood_still (awaited.Record again) answer well well' after new waits so ends = ends
+
+-- and so a child gave its reply from nothing
+module _ (b : Basis) (order : IsInOrder b.project) (place : ℕ) (u : Planned) (there : unit_at b.project place ≡ Some u) (c : Command) (asks : c ≡ command_in b place u)
+    (next : Option ℕ) (before after : World) (old new : Counts) (still : ℕ → Type 0) where
+  replied_landing : (launched : Launched) (ended : Ended) → IsInFlight b.child c (view_in b place u) launched.ticket old.starts.flying still
+      → (still launched.ticket → IfSome (child_at launched.ticket old.starts.flying) (λ spawned. LandsAs spawned before ended after)) → RepliesFromNothing b place u ended after
+  replied_landing launched ended flight lands =
+      let landed : LandsAs (child_spawned (b.child c) c flight.spawned launched.ticket) before ended after =
+      its_landing b order place u there u.key c launched next old.starts.flying still before after ended flight.spawned flight.flies (lands flight.stands) in
+      let replies : b.child c (seen_by c flight.spawned) ≡ reply_from_nothing b place u = ap (b.child c) flight.sees ∙ ap (λ (d : Command). b.child d (view_in b place u)) asks in
+      let out : c.out ≡ Some u.out = ap (λ (d : Command). d.out) asks ∙ command_out b order place u there in
+      record {
+        answer = landed.answer ∙ ap ended_by replies;
+        files = landed_files u.out (b.child c (seen_by c flight.spawned)).files (inside_out c.out flight.spawned.files) before after flight.emptied
+            (landed.world ∙ ap (λ (o : Option (List ℕ)). landing o (b.child c (seen_by c flight.spawned)).files (inside_out c.out flight.spawned.files) before) out)
+            ∙ ap (replied_files u.out) replies;
+      }
+
+  replies_so : (by : Awaited) (answer : Result Ended StartFault) (well : Type 0) → WaitsBy b u c (view_in b place u) by next before old.starts.flying still → EndsBy by answer well still before after old new
+      → is_some (child_in by) ≡ true → IfOk answer (λ ended. RepliesFromNothing b place u ended after)
+  replies_so (awaited.Child launched) (Ok ended) well waits ends is = replied_landing launched ended waits.0 ends.lands
+  replies_so (awaited.Child launched) (Err fault) well waits ends is = tt
+  replies_so (awaited.Record again) answer well waits ends is = absurd (false≢true is)
+
+-- It has answered, or a fault came in its place.
+
+module _ {P : Type 0} (world : P → World) (counts : P → Counts) (tells : Bool) (child : Answers) (first old : UnitCrew) (at now new : Moment) (still : ℕ → Type 0) (es : List (Event BadUnit)) (given : ℕ) (story : Story tells child first at old now still es given) (order : IsInOrder old.project)
     (index : ℕ) (a : Aloft) (at_index : slice_get old.aloft.items index ≡ Some a) (u : Planned) (there : unit_at old.project a.unit ≡ Some u) where
   abbrev On : Footing → Reading → World → Basis
   On footing read sources = basis footing read child old.setup old.project sources
-
-  counts_now : (b : Basis) (v : Planned) (c : Command) (view : World) (by : Awaited) (next : Option ℕ) (w : World) (flying : List ChildInFlight) → WaitsBy b v c view by next w flying still → CountsNow b v w by
-  counts_now b v c view (awaited.Child launched) next w flying waits = tt
-  counts_now b v c view (awaited.Record again) next w flying waits = waits.1
-
-  unstood : (by : Awaited) (answer : Result Ended StartFault) (well well' : Type 0) (before after : World) (old new : Counts) → (well' → well) → EndsBy by answer well still before after old new → EndsBy by answer well' (λ ticket. ⊥) before after old new
-  unstood (awaited.Child launched) answer well well' before after old new so ends = record { counted = ends.counted; answered = λ w. ends.answered (so w); only = ends.only; lands = λ stood. absurd stood }
-  unstood (awaited.Record again) answer well well' before after old new so ends = ends
 
   -- what a call says that takes its answer
   abbrev pub Lands : Result Ran BuildFault → Type 0
@@ -160,22 +195,23 @@ module _ {P : Type 0} (world : P → World) (counts : P → Counts) (tells : Boo
   answers result told so same_calls lands t f r s reading k =
       let (h, began) = story.happened t f r s reading k in
       let so_begun = all_get (FliesSo (On f r s) es old.store.next now.world now.counts.starts.flying still) old.aloft.items index a h.begun at_index in
-      let same = injective (sym so_begun.begun_so.there ∙ there) in
+      let (asks, waits) = begun_as (On f r s) order a.unit u there a.begun old.store.next now.world now.counts.starts.flying still so_begun.begun_so in
       let (left, answer, ends, only, behind) = lands t in
+      let by = a.begun.awaited in
       record {
         unit = u;
         there = there;
-        by = a.begun.awaited;
+        by = by;
         is_child = so_begun.started;
-        counts_now = subst (λ (v : Planned). CountsNow (On f r s) v now.world a.begun.awaited) same
-            (counts_now (On f r s) so_begun.begun_so.unit a.begun.command (view_in (On f r s) a.unit so_begun.begun_so.unit) a.begun.awaited old.store.next now.world now.counts.starts.flying so_begun.begun_so.waits);
+        counts_now = counts_now (On f r s) u a.begun.command (view_in (On f r s) a.unit u) old.store.next now.world now.counts still by waits;
         left = world left;
         mid = counts left;
         answer = answer;
-        ends = unstood a.begun.awaited answer (IsOk told) (IsOk result) now.world (world left) now.counts (counts left) so ends;
+        ends = stood_still (On f r s) u a.begun.command (view_in (On f r s) a.unit u) old.store.next now.world now.counts still by answer (IsOk told) (IsOk result) (world left) (counts left) waits so ends;
+        replied = λ spawned. replies_so (On f r s) order a.unit u there a.begun.command asks old.store.next now.world (world left) now.counts (counts left) still by answer (IsOk told) waits ends (sym so_begun.started ∙ spawned);
         only = only;
-        calls = subst (λ c. CallsBehind (answered_called r old.project u c (world left) a.begun.awaited) answer result (counts left) new.counts) (so_begun.begun_so.command ∙ ap (command_in (On f r s) a.unit) same)
-            (same_calls (answered_called r old.project u a.begun.command (world left) a.begun.awaited) answer (counts left) new.counts (behind r reading));
+        calls = subst (λ c. CallsBehind (answered_called r old.project u c (world left) by) answer result (counts left) new.counts) asks
+            (same_calls (answered_called r old.project u a.begun.command (world left) by) answer (counts left) new.counts (behind r reading));
       }
 
   -- it has answered

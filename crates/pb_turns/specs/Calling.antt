@@ -1,16 +1,19 @@
 -- Which calls of the place the units of a build make, event by event, and in which worlds.
-use Rattle.std.specs.Prelude.{◌≡◌, ◌⊎◌, ◌∷◌, [], ℕ, Bool, true, false, is_some, List, Option, Some, None, Result, Ok, Err, IsOk}
+use Rattle.std.specs.Prelude.{◌≡◌, ◌⊎◌, ◌∷◌, [], ℕ, Bool, true, false, is_some, List, Option, Some, None, Result, Ok, Err, IsOk, IfOk}
 use Rattle.pb_answer.specs.declared.bad_unit.BadUnit.{BadUnit}
 use Rattle.pb_answer.specs.declared.fault.BuildFault.{BuildFault}
+use Rattle.pb_command.specs.Judge.{ended_by, replied_files}
 use Rattle.pb_flight.specs.Events.{Event, Began, Gave}
 use Rattle.pb_place.specs.Counts.{Counts}
+use Rattle.pb_place.specs.Folders.{files_in}
 use Rattle.pb_place.specs.Paths.{is_at_or_below}
 use Rattle.pb_place.specs.World.{World, ChangesOnly}
+use Rattle.pb_place.specs.declared.child.Reply.{Reply}
 use Rattle.pb_place.specs.declared.command.Command.{Command}
 use Rattle.pb_place.specs.declared.command.Ended.{Ended}
 use Rattle.pb_place.specs.declared.place.StartFault.{StartFault}
 use Rattle.pb_project.specs.Targets.{unit_at}
-use Rattle.pb_run.specs.Halves.{Basis, child_in, command_in, records_in}
+use Rattle.pb_run.specs.Halves.{Basis, child_in, command_in, records_in, view_in}
 use Rattle.pb_run.specs.Landing.{CallsBehind, EndsBy, answered_called}
 use Rattle.pb_run.specs.Launching.{Launches}
 use Rattle.pb_run.specs.Running.{StopsToBegin, past_look}
@@ -50,7 +53,16 @@ abbrev pub CountsNow : Basis → Planned → World → Awaited → Type 0
 CountsNow b u w (awaited.Child launched) = Unit {0}
 CountsNow b u w (awaited.Record again) = IsReplayed (records_in b w u.key) again
 
--- the answer of the unit at a place was taken: the end of its child was asked for, where it has one, and behind it just the calls came that belong to the answer
+-- the reply of the child to the command of the unit at a place, in the unit's view of a build from nothing
+abbrev pub reply_from_nothing : Basis → ℕ → Planned → Reply
+reply_from_nothing b place u = b.child (command_in b place u) (view_in b place u)
+
+-- a child ended as that reply says, and left just its files in the unit's folder
+pub record RepliesFromNothing (b : Basis) (place : ℕ) (u : Planned) (ended : Ended) (left : World) : Type 0 where
+  pub answer : ended ≡ ended_by (reply_from_nothing b place u)
+  pub files : files_in u.out left.files ≡ replied_files u.out (reply_from_nothing b place u)
+
+-- the answer of the unit at a place was taken: the end of its child was asked for, where it has one, and behind it just the calls came that belong to the answer. Where a child was started for it, what that sees stood still to its end, and if it answered, it gave its reply from nothing: so it is where the build is grounded and the place tells its maps (`Grounding`), and only there is any of this said
 pub record AnswersCalling (b : Basis) (place : ℕ) (spawned : Bool) (result : Result (Unit {0}) BuildFault) (before : World) (old : Counts) (after : World) (new : Counts) : Type 0 where
   pub unit : Planned
   pub there : unit_at b.project place ≡ Some unit
@@ -60,7 +72,8 @@ pub record AnswersCalling (b : Basis) (place : ℕ) (spawned : Bool) (result : R
   pub left : World
   pub mid : Counts
   pub answer : Result Ended StartFault
-  pub ends : EndsBy by answer (IsOk result) (λ ticket. ⊥) before left old mid
+  pub ends : EndsBy by answer (IsOk result) (λ ticket. Unit {0}) before left old mid
+  pub replied : spawned ≡ true → IfOk answer (λ ended. RepliesFromNothing b place unit ended left)
   pub only : ChangesOnly (is_at_or_below (place_of (records_folder b.project) unit.key)) left after
   pub calls : CallsBehind (answered_called b.read b.project unit (command_in b place unit) left by) answer result mid new
 

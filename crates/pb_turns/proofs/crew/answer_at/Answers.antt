@@ -134,7 +134,7 @@ returns-in-Err-clause-story g c = λ first at taken faults es given unit s flyin
             spends_answered (LacksNoNumber b at.world) es first.store.next c.args.crew.now.store.next c.index-units-unit.result.key (child_of c.remove-unit.result.begun) c.in-Err.fault now.counts.starts new.counts.starts c.in-Err.ensures.takes.0 (s.taken t f r sources reading k),
             none_began b c.in-Err.fault es at.world new.world,
           );
-      calls = calls_unanswered g.P.Place.world g.P.Place.counts g.P.Place.tells g.P.Place.child first c.args.crew.now at now new (g.P.Place.still c.args.place.now) es given s c.args.index c.remove-unit.result at_index c.index-units-unit.result there c.in-Err.fault unit its c.in-Err.ensures.lands;
+      calls = calls_unanswered g.P.Place.world g.P.Place.counts g.P.Place.tells g.P.Place.child first c.args.crew.now at now new (g.P.Place.still c.args.place.now) es given s c.requires.manned.order c.args.index c.remove-unit.result at_index c.index-units-unit.result there c.in-Err.fault unit its c.in-Err.ensures.lands;
     }
 
 pub returns-in-Err-lines_of_unit-clause-story : goal.returns-in-Err-lines_of_unit-clause-story
@@ -168,7 +168,7 @@ returns-in-Err-lines_of_unit-clause-story g c = λ first at taken faults es give
           c.requires.manned.units_apart c.requires.manned.tickets_apart c.requires.manned.numbers_apart c.answer_unit.new.store.next (λ footing read setup sources states done other its reading t. c.answer_unit.ensures.others footing read setup sources states done other its reading t (s.held t read reading)) c.requires.manned.order only c.answer_unit.ensures.same
           c.in-Ok.ran c.in-Ok.ensures.outcome (λ footing read setup sources states done reading t. c.in-Ok.ensures.keeps footing read setup sources states done reading t (s.held t read reading)) c.in-Ok.ensures.directives c.remove-unit.new.self.items c.remove-unit.ensures.items;
       caused = λ t f r sources reading k. (tt, none_began (basis f r g.P.Place.child c.args.crew.now.setup c.args.crew.now.project sources) OutOfMemory es at.world new.world);
-      calls = calls_untold g.P.Place.world g.P.Place.counts g.P.Place.tells g.P.Place.child first c.args.crew.now at now new (g.P.Place.still c.args.place.now) es given s c.args.index c.remove-unit.result at_index c.index-units-unit.result there c.in-Ok.ran unit its c.in-Ok.ensures.lands;
+      calls = calls_untold g.P.Place.world g.P.Place.counts g.P.Place.tells g.P.Place.child first c.args.crew.now at now new (g.P.Place.still c.args.place.now) es given s c.requires.manned.order c.args.index c.remove-unit.result at_index c.index-units-unit.result there c.in-Ok.ran unit its c.in-Ok.ensures.lands;
     }
 
 pub returns-clause-story : goal.returns-clause-story
@@ -213,7 +213,7 @@ returns-clause-story g c = λ first at taken faults es given unit s flying lawfu
           c.in-Ok.ran c.in-Ok.ensures.outcome (λ footing read setup sources states done reading t. c.in-Ok.ensures.keeps footing read setup sources states done reading t (s.held t read reading)) c.in-Ok.ensures.directives c.in-Ok-lines_of_unit.lines c.remove-unit.new.self.items c.note_answer.new.done.items c.remove-unit.ensures.items c.note_answer.ensures.done
           c.in-Ok.ensures.started (c.in-Ok-lines_of_unit.ensures ∙ ap (λ p. unit_lines p c.index-units-unit.result c.in-Ok.ran.started c.as_slice.result.now) c.get.ensures ∙ ap (λ ms. unit_lines c.args.crew.now.project c.index-units-unit.result c.in-Ok.ran.started ms) c.as_slice.ensures);
       quiet = answered_quiet g.P.Place.tells g.P.Place.child first c.args.crew.now at now new (g.P.Place.still c.args.place.now) es given s c.args.index c.remove-unit.result c.index-units-unit.result there at_index answer c.answer_unit.ensures.same;
-      calls = calls_answered g.P.Place.world g.P.Place.counts g.P.Place.tells g.P.Place.child first c.args.crew.now at now new (g.P.Place.still c.args.place.now) es given s c.args.index c.remove-unit.result at_index c.index-units-unit.result there answer c.in-Ok.ran c.in-Ok.ensures.lands;
+      calls = calls_answered g.P.Place.world g.P.Place.counts g.P.Place.tells g.P.Place.child first c.args.crew.now at now new (g.P.Place.still c.args.place.now) es given s c.requires.manned.order c.args.index c.remove-unit.result at_index c.index-units-unit.result there answer c.in-Ok.ran c.in-Ok.ensures.lands;
       unnoted = notes_answered c.args.crew.now.project es first.reasons.items c.args.crew.now.reasons.items c.remove-unit.result.unit answer begun s.unnoted;
       noted = started_answered c.args.crew.now.project es c.args.crew.now.reasons.items c.remove-unit.result.unit answer begun s.noted;
     })
