@@ -11,7 +11,7 @@ use Rattle.clap.specs.declared.error.kind.ErrorKind.TheVariants as kind
 use Rattle.clap.proofs.OnLiterals.{clap_on_literals}
 use Rattle.pb_place.specs.Paths.{joined}
 use Rattle.pb_place.specs.declared.path.PathFault.{PathFault}
-use Rattle.pb_arguments.specs.Asking.{AsksWrongly, BuildsWrongly, HasBadJobs, HasTwoProfiles, IsProfile, Unasks, bad_build, bad_file, bad_jobs, bad_manifest, file_of, jobs_told, manifest_of, path_told, profiles_told, two_profiles}
+use Rattle.pb_arguments.specs.Asking.{AsksWrongly, BuildsWrongly, HasBadJobs, HasTwoProfiles, IsProfile, IsTaken, Unasks, bad_build, bad_file, bad_jobs, bad_manifest, file_of, jobs_told, manifest_of, path_told, profiles_told, two_profiles}
 use Rattle.pb_arguments.specs.Description.{IsJson, program}
 use Rattle.pb_arguments.specs.Private.{ToldWrong, TellsKind, RefusedBy}
 use Rattle.pb_arguments.specs.declared.asked.Unasked.{Unasked}
@@ -68,11 +68,11 @@ wrong_session folder given rows (Wrong text) is (fault, bad, told) = bad_file ro
 wrong_session folder given rows OutOfMemory is told = tt
 
 -- what is wrong with what was given, of words that are taken
-pub wrong_words : (words : List Text) (folder : Text) (formats : ValueParser) (given : Option (Text × List Row)) (unasked : Unasked) → IsJson formats → given ≡ subcommand_of (program formats) words
+pub wrong_words : (words : List Text) (folder : Text) (formats : ValueParser) (given : Option (Text × List Row)) (unasked : Unasked) → IsJson formats → IsTaken formats words → given ≡ subcommand_of (program formats) words
     → ToldWrong (AsksWrongly folder given) unasked → Unasks words folder unasked
-wrong_words words folder formats given (Help text) json is told = absurd told
-wrong_words words folder formats given (Wrong text) json is told = (formats, json, inr (subst (λ g. AsksWrongly folder g text) is told))
-wrong_words words folder formats given OutOfMemory json is told = tt
+wrong_words words folder formats given (Help text) json taken is told = absurd told
+wrong_words words folder formats given (Wrong text) json taken is told = (formats, json, inr (taken, subst (λ g. AsksWrongly folder g text) is told))
+wrong_words words folder formats given OutOfMemory json taken is told = tt
 
 -- words that are not taken
 pub refused_words : (words : List Text) (folder : Text) (unasked : Unasked) → RefusedBy words unasked → Unasks words folder unasked

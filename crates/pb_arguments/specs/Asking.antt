@@ -132,8 +132,8 @@ AsksForHelp formats words = IsAmong DisplayHelp (fault_of (program formats) word
 abbrev pub IsRefused : ValueParser → List Text → Type 0
 IsRefused formats words = (kind : ErrorKind) × (kind ≢ DisplayHelp) × IsAmong kind (fault_of (program formats) words)
 
--- why the words ask for nothing, and what is told of it; of the texts of `clap` this says nothing
+-- why the words ask for nothing, and what is told of it; wrong values are told only of words that `clap` takes, so never where help is asked for; of the texts of `clap` this says nothing
 abbrev pub Unasks : List Text → Text → Unasked → Type 0
 Unasks words folder (Help text) = (formats : ValueParser) × IsJson formats × AsksForHelp formats words
-Unasks words folder (Wrong text) = (formats : ValueParser) × IsJson formats × (IsRefused formats words ⊎ AsksWrongly folder (subcommand_of (program formats) words) text)
+Unasks words folder (Wrong text) = (formats : ValueParser) × IsJson formats × (IsRefused formats words ⊎ IsTaken formats words × AsksWrongly folder (subcommand_of (program formats) words) text)
 Unasks words folder OutOfMemory = Unit {0}

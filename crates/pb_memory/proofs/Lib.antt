@@ -1,1 +1,2 @@
 pub mod InFlight
+pub mod Starts

@@ -1,5 +1,5 @@
 -- How the logic stores what places hold. Nobody needs to believe it.
-use Rattle.std.specs.Prelude.{ℕ, List, refl}
+use Rattle.std.specs.Prelude.{refl}
 use Rattle.std.specs.Coded.{Coded, code_by, coded×, coded_ℕ, coded_ℤ, coded_list, coded_option}
 use Rattle.pb_place.specs.World.{World}
 use Rattle.pb_place.specs.Counts.{Counts, Starts}

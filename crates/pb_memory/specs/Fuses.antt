@@ -1,8 +1,9 @@
 -- What a failing call leaves of a place in memory, and what it uses up of what was set to fail. Want of memory is no failure, and uses up neither a fuse nor a death.
-use Rattle.std.specs.Prelude.{ℕ, ◌-◌, ◌/◌, ◌==◌, List, length, take, Option, Result, Ok, Err, if◌then◌else◌}
+use Rattle.std.specs.Prelude.{◌≡◌, ◌⊎◌, ℕ, ◌+◌, ◌-◌, ◌/◌, ◌==◌, max, List, length, take, Option, Result, Ok, Err, if◌then◌else◌}
 use Rattle.pb_place.specs.World.{World, written, removed}
 use Rattle.pb_place.specs.Copies.{half_removed}
-use Rattle.pb_memory.specs.Memory.{other_deaths}
+use Rattle.pb_memory.specs.InFlight.{children_in}
+use Rattle.pb_memory.specs.Memory.{Held, other_deaths}
 use Rattle.pb_memory.specs.declared.in_flight.Death.{Death}
 use Rattle.pb_place.specs.declared.place.PlaceFault.{PlaceFault}
 use Rattle.pb_place.specs.declared.place.PlaceFault.TheVariants.{OutOfMemory}
@@ -44,3 +45,29 @@ deaths_past e out fuse ds = if fuse == 1 then ds else other_deaths out ds
 abbrev pub deaths_after : {T : Type 0} → Option (List ℕ) → ℕ → Result T StartFault → List Death → List Death
 deaths_after out fuse (Ok x) ds = other_deaths out ds
 deaths_after out fuse (Err e) ds = deaths_past e out fuse ds
+
+-- what a start used up whose spawn failed so: one call, and no child flew
+pub record SpawnFailed (e : StartFault) (out : Option (List ℕ)) (old new : Held) : Type 0 where
+  pub fuse : new.fuse ≡ old.fuse - 1
+  pub deaths : new.deaths ≡ deaths_past e out old.fuse old.deaths
+  pub most : new.most ≡ old.most
+
+-- what a start used up whose child flew, however it ended: two calls, the spawn and the end
+pub record ChildFlew (out : Option (List ℕ)) (old new : Held) : Type 0 where
+  pub fuse : new.fuse ≡ old.fuse - 2
+  pub deaths : new.deaths ≡ other_deaths out old.deaths
+  pub most : new.most ≡ max old.most (length (children_in old.flying) + 1)
+
+-- which of the two a start is, by its answer; where memory was refused, it was refused to the spawn or to the end
+abbrev pub UsedByFault : StartFault → Option (List ℕ) → Held → Held → Type 0
+UsedByFault start.CannotStart out old new = SpawnFailed start.CannotStart out old new
+UsedByFault start.OutOfMemory out old new = SpawnFailed start.OutOfMemory out old new ⊎ ChildFlew out old new
+UsedByFault e out old new = ChildFlew out old new
+
+abbrev pub UsedByStart : {T : Type 0} → Result T StartFault → Option (List ℕ) → Held → Held → Type 0
+UsedByStart (Ok x) out old new = ChildFlew out old new
+UsedByStart (Err e) out old new = UsedByFault e out old new
+
+-- memory was refused to the spawn of a start
+abbrev pub SpawnRefused : {T : Type 0} → Result T StartFault → Option (List ℕ) → Held → Held → Type 0
+SpawnRefused result out old new = (result ≡ Err start.OutOfMemory) × SpawnFailed start.OutOfMemory out old new

@@ -109,7 +109,8 @@ impl<C> Memory<C> {
     }
 
     /// Lets the call of this number, from 1 on, fail; 0 lets none. It takes the place of what was set before, and stays
-    /// until so many calls came. `spawn` and `finish` are calls; `failures`, `starts`, `late` and `most` are none.
+    /// until so many calls came. `spawn` and `finish` are calls, and `start` is both; `failures`, `starts`, `late` and
+    /// `most` are none.
     /// The call that fails gives its own fault: a write leaves the first half of the bytes, a removal takes away the
     /// first half of the files in byte order, both rounded down; a spawn is CannotStart and leaves nothing, a finish
     /// is Died and leaves what stands. Where memory is refused to it, the next call is to fail. Our own choice.

@@ -1,10 +1,10 @@
 //! A place that counts what comes after the first call that failed.
 
-ghost use Rattle.std.specs.Prelude.{◌≡◌, ◌≢◌, ◌⊎◌, ◌+◌, ℕ, Bool, true, false, length, IfOk, IfErr, OnOk, OnErr, IsTrue, IfSome};
+ghost use Rattle.std.specs.Prelude.{◌≡◌, ◌≢◌, ◌⊎◌, ◌+◌, ℕ, Bool, true, false, length, max, IfOk, IfErr, OnOk, OnErr, IsTrue, IfSome};
 ghost use Rattle.std.specs.FinMap as map;
-ghost use Rattle.pb_place.specs.World.{written, removed, listed, listed_directly, Torn, PartlyRemoved, ChangesOnlyInSome};
+ghost use Rattle.pb_place.specs.World.{written, removed, listed, listed_directly, Torn, PartlyRemoved, ChangesOnlyInSome, Ends};
 ghost use Rattle.pb_place.specs.declared.call.Call.TheVariants as call;
-ghost use Rattle.pb_place.specs.Counts.{counted, counted_spawn, counted_finish};
+ghost use Rattle.pb_place.specs.Counts.{counted, counted_start, counted_spawn, counted_finish};
 ghost use Rattle.pb_place.specs.Children.{child_spawned, is_flying, child_at, most_after, StaysStill, StaysStillBut, LandsAs};
 ghost use Rattle.pb_memory.specs.Seen.{call_failed, start_failed, seen, seen_end};
 
@@ -236,6 +236,19 @@ impl<P: Place> Place for Seen<P> {
         let answer = self.place.finish(alloc, ticket);
         self.note_end(start_failed(&answer));
         answer
+    }
+
+    fn start(&mut self, alloc: Global, command: &Command) -> Result<Ended, StartFault>
+        ensures ok { IsTrue P.tells → IfOk result (λ ended. Ends (P.child command.now) command.now (P.world self.old.place) ended (P.world self.new.place)) }
+        ensures only { IsTrue P.tells → ChangesOnlyInSome command.now.out (P.world self.old.place) (P.world self.new.place) }
+        ensures fails { IfErr result (λ e. e ≢ StartFault.OutOfMemory → P.fails self.old.place) }
+        ensures counts { P.counts self.new.place ≡ counted_start result (P.counts self.old.place) }
+        ensures most { OnOk result (P.most self.new.place ≡ max (P.most self.old.place) (length (P.counts self.old.place).starts.flying + 1)) }
+        ensures most_else { OnErr result ((P.most self.new.place ≡ P.most self.old.place) ⊎ (P.most self.new.place ≡ max (P.most self.old.place) (length (P.counts self.old.place).starts.flying + 1))) }
+        ensures seen { (self.new.faulted, self.new.after) ≡ seen (start_failed result) (self.old.faulted, self.old.after) }
+    {
+        let ticket = self.spawn(alloc, command)?;
+        self.finish(alloc, ticket)
     }
 
     fn failures(&self) -> u64 {

@@ -94,6 +94,7 @@ impl Tally {
     /// A call that was kept before it is made. Where memory was refused for it nothing failed, and it is counted so.
     pub fn kept(&mut self, call: Result<Call, AllocError>) -> Result<Call, PlaceFault>
         ensures same { IfOk result (λ it. call ≡ Ok it) }
+        ensures keeps { IfOk call (λ it. result ≡ Ok it) }
         ensures ok { OnOk result (self.new ≡ self.old) }
         ensures memory { IfErr result (λ e. e ≡ place_fault.OutOfMemory) }
         ensures err { OnErr result (self.new ≡ past_call self.old) }

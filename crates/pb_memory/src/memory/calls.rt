@@ -3,7 +3,7 @@
 
 ghost use Rattle.std.specs.Prelude.{◌≡◌, ◌≢◌, ◌⊎◌, ◌+◌, ◌-◌, ◌++◌, ◌∷◌, [], length, true, false, IfOk, IfErr, OnOk, OnErr, IfSome, Some, None, Err};
 ghost use Rattle.std.specs.FinMap as map;
-ghost use Rattle.pb_place.specs.World.{removed, listed, listed_directly, seen_by, Torn, PartlyRemoved, ChangesOnlyInSome};
+ghost use Rattle.pb_place.specs.World.{removed, listed, listed_directly, seen_by, Torn, PartlyRemoved, ChangesOnlyInSome, Ends};
 ghost use Rattle.pb_place.specs.CallsInTurn.{own_fault};
 ghost use Rattle.pb_place.specs.declared.call.Call.TheVariants as call;
 ghost use Rattle.pb_place.specs.Counts.{past_call, counted, counted_start, counted_spawn, counted_finish};
@@ -11,7 +11,7 @@ ghost use Rattle.pb_place.specs.Children.{child_spawned, is_flying, child_at, mo
 ghost use Rattle.pb_place.specs.Copies.{put_half};
 ghost use Rattle.pb_memory.specs.InFlight.{children_in, other_entries};
 ghost use Rattle.pb_memory.specs.Memory.{counts_in, may_fail, fate_at, fate_of};
-ghost use Rattle.pb_memory.specs.Fuses.{fuse_after, after_write, after_removal, deaths_after};
+ghost use Rattle.pb_memory.specs.Fuses.{SpawnRefused, UsedByStart, fuse_after, after_write, after_removal, deaths_after};
 
 use crate::memory::Memory;
 use crate::sight::file_in;
@@ -252,6 +252,25 @@ impl<C: Child> Place for Memory<C> {
     {
         let answer = self.end(alloc, ticket);
         self.tally.count_finish(answer)
+    }
+
+    fn start(&mut self, alloc: Global, command: &Command) -> Result<Ended, StartFault>
+        ensures ok { IfOk result (λ ended. Ends (C.answers command.now) command.now self.old.world ended self.new.world) }
+        ensures burns { self.old.fuse ≡ 1 → result ≡ Err StartFault.CannotStart }
+        ensures stillborn { self.old.fuse ≢ 1 → fate_of command.now.out self.old.deaths ≡ Some StartFault.CannotStart → result ≡ Err StartFault.CannotStart }
+        ensures dies { self.old.fuse ≡ 2 → fate_of command.now.out self.old.deaths ≢ Some StartFault.CannotStart → (result ≡ Err StartFault.Died) ⊎ SpawnRefused result command.now.out self.old self.new }
+        ensures fated { self.old.fuse ≢ 1 → self.old.fuse ≢ 2 → IfSome (fate_of command.now.out self.old.deaths) (λ e. e ≢ StartFault.CannotStart → (result ≡ Err e) ⊎ SpawnRefused result command.now.out self.old self.new) }
+        ensures quiet { self.old.fuse ≢ 1 → self.old.fuse ≢ 2 → fate_of command.now.out self.old.deaths ≡ None → IfErr result (λ e. e ≡ StartFault.OutOfMemory) }
+        ensures nothing { IfErr result (λ e. e ≡ StartFault.CannotStart → self.new.world ≡ self.old.world) }
+        ensures half { IfErr result (λ e. e ≢ StartFault.CannotStart → e ≢ StartFault.OutOfMemory → self.new.world ≡ put_half command.now.out (C.answers command.now (seen_by command.now self.old.world)).files self.old.world) }
+        ensures only { ChangesOnlyInSome command.now.out self.old.world self.new.world }
+        ensures flying { self.new.flying ≡ self.old.flying }
+        ensures used { UsedByStart result command.now.out self.old self.new }
+        ensures counts { counts_in self.new ≡ counted_start result (counts_in self.old) }
+        ensures fails { IfErr result (λ e. e ≢ StartFault.OutOfMemory → may_fail self.old ≡ true) }
+    {
+        let ticket = self.spawn(alloc, command)?;
+        self.finish(alloc, ticket)
     }
 
     fn failures(&self) -> u64 {

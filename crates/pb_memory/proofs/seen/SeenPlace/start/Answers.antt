@@ -1,0 +1,45 @@
+use Rattle.std.proofs.Common.{◌≡◌, ◌∙◌, Some, ap}
+use Rattle.std.specs.Prelude.{IfSome}
+use Rattle.pb_place.specs.Children.{is_flying, child_at, child_spawned, LandsAs}
+use Rattle.pb_place.specs.Counts.{Counts, counted_finish}
+use Rattle.pb_place.specs.World.{ChangesOnlyInSome, Ends}
+use Rattle.pb_place.specs.declared.child_in_flight.ChildInFlight.{ChildInFlight}
+use Rattle.pb_place.proofs.InFlight.{last_flies, last_at, last_gone, same_number}
+use Rattle.pb_place.proofs.Starts.{started_ends, some_join, each_ok, of_some, counted_both}
+use Rattle.pb_memory.proofs.seen.SeenPlace.start.Goals as goal
+
+pub finish-requires : goal.finish-requires
+finish-requires g c = record { flies = ap (λ (k : Counts). is_flying c.in_ok-ticket.ticket k.starts.flying) c.in_ok-ticket.ensures.counts ∙ last_flies _ _ _ (same_number c.in_ok-ticket.ticket) }
+
+pub returns-clause-ok : goal.returns-clause-ok
+returns-clause-ok g c told =
+    let t = c.in_ok-ticket.ticket in
+    let w = g.P.Place.world c.args.self.now.place in
+    let v = g.P.Place.world c.spawn.new.self.place in
+    let u = g.P.Place.world c.finish.new.self.place in
+    let spawned = child_spawned (g.P.Place.child c.args.command.now) c.args.command.now w t in
+    let found : child_at t (g.P.Place.counts c.spawn.new.self.place).starts.flying ≡ Some spawned =
+    ap (λ (k : Counts). child_at t k.starts.flying) c.in_ok-ticket.ensures.counts ∙ last_at t (g.P.Place.counts c.args.self.now.place).starts.flying spawned c.in_ok-ticket.ensures.fresh (same_number t) in
+    each_ok
+    (λ ended. IfSome (child_at t (g.P.Place.counts c.spawn.new.self.place).starts.flying) (λ f. LandsAs f v ended u))
+    (λ ended. Ends (g.P.Place.child c.args.command.now) c.args.command.now w ended u)
+    c.finish.result
+    (λ ended lands. started_ends (g.P.Place.child c.args.command.now) c.args.command.now w v u t ended (c.in_ok-ticket.ensures.only told) (of_some (λ f. LandsAs f v ended u) _ spawned found lands))
+    (c.finish.ensures.ok told c.in_ok-ticket.ensures.stands)
+
+pub returns-clause-only : goal.returns-clause-only
+returns-clause-only g c told =
+    let t = c.in_ok-ticket.ticket in
+    let w = g.P.Place.world c.args.self.now.place in
+    let v = g.P.Place.world c.spawn.new.self.place in
+    let u = g.P.Place.world c.finish.new.self.place in
+    let spawned = child_spawned (g.P.Place.child c.args.command.now) c.args.command.now w t in
+    let found : child_at t (g.P.Place.counts c.spawn.new.self.place).starts.flying ≡ Some spawned =
+    ap (λ (k : Counts). child_at t k.starts.flying) c.in_ok-ticket.ensures.counts ∙ last_at t (g.P.Place.counts c.args.self.now.place).starts.flying spawned c.in_ok-ticket.ensures.fresh (same_number t) in
+    some_join c.args.command.now.out w v u (c.in_ok-ticket.ensures.only told) (of_some (λ (f : ChildInFlight). ChangesOnlyInSome f.command.out v u) _ spawned found (c.finish.ensures.only told))
+
+pub returns-clause-counts : goal.returns-clause-counts
+returns-clause-counts g c =
+    c.finish.ensures.counts ∙ ap (λ (k : Counts). counted_finish c.in_ok-ticket.ticket c.finish.result k) c.in_ok-ticket.ensures.counts
+    ∙ counted_both c.finish.result c.in_ok-ticket.ticket (child_spawned (g.P.Place.child c.args.command.now) c.args.command.now (g.P.Place.world c.args.self.now.place)) (g.P.Place.counts c.args.self.now.place)
+    (last_gone _ _ _ c.in_ok-ticket.ensures.fresh (same_number c.in_ok-ticket.ticket))
