@@ -15,7 +15,7 @@ LAWS = """
 --but=pb_workspace.Globs.matches=DecidesGlobs
 --but=pb_command.Command.command_of=CompilesOfPlans,RunsOfPlans
 --but=pb_command.Answers.answered_of=AnswersSay
---but=pb_command.Judge.judge=JudgesAsAnswered
+--but=pb_command.Judge.judge=InputsAreJudged
 --but=pb_directive.Directives.line_directives=LinesSay
 --but=pb_directive.DepInfo.line_info=InfosSay
 --but=pb_package.Settled.IsSettled=AllAreSettled
@@ -41,6 +41,18 @@ LAWS = """
 --but=pb_store.Asking.IsFirstName=FirstNameIsLeast
 --but=pb_turns.Rows.summary_of=SummariesSay
 --but=pb_build.Headline.ByFirst=BuildsGoInTurn
+--but=pb_run.Telling.unit_lines=LinesAreTold
+--but=pb_run.Telling.good_messages=GoodUnitsTell
+--but=pb_run.Telling.bad_messages=BadUnitsTell
+--but=pb_run.Telling.said_by=BadUnitsTell
+--but=pb_run.Outcome.outcomes=OutcomesAreThese
+--but=pb_profile.Settings.settings_along=SettingsAreThese
+--but=pb_feature.Faults.package_fault=PackagesAreAtFault
+--but=pb_project.Targets.is_library=KindsAreThese
+--but=pb_project.Targets.is_script=KindsAreThese
+--but=pb_project.Targets.is_run=KindsAreThese
+--but=pb_project.Targets.folder_of=FoldersArePackages
+--but=pb_project.Targets.said_at=RunsSay
 """.split()
 
 # the rows of units, their lines and summary; the project and the version of the compiler; refusals, and the finish line

@@ -3,3 +3,6 @@ pub mod Needing
 pub mod Inheriting
 pub mod Making
 pub mod Having
+pub mod Faulting
+pub mod Setting
+pub mod Sorts

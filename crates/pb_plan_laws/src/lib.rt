@@ -1,10 +1,13 @@
-//! Laws of plans: what is on, what a unit needs and makes, what a profile inherits (The Cargo Book, Features, Specifying
-//! Dependencies, Build Scripts, Cargo Targets, Profiles).
+//! Laws of plans: what is on, what is wrong with a feature, what a unit needs and makes, what a profile inherits and sets
+//! (The Cargo Book, Features, Specifying Dependencies, Build Scripts, Cargo Targets, Profiles).
 #![tactic(auto)]
 
 ghost use Rattle.pb_plan_laws.specs.Features.{FeaturesAreOne};
+ghost use Rattle.pb_plan_laws.specs.Items.{PackagesAreAtFault};
+ghost use Rattle.pb_plan_laws.specs.Kinds.{FoldersArePackages, KindsAreThese, RunsSay};
 ghost use Rattle.pb_plan_laws.specs.Needs.{NeedsAreThese};
 ghost use Rattle.pb_plan_laws.specs.Profiles.{LinesAreThese};
+ghost use Rattle.pb_plan_laws.specs.Settings.{SettingsAreThese};
 ghost use Rattle.pb_plan_laws.specs.Targets.{PlansHaveTargets, RunsMakeNone, UnitsMakeTargets};
 
 /// A law: what holds of a selection leaves nothing unsaid of its features: what is asked of them has one answer.
@@ -29,4 +32,21 @@ pub fn units_make_targets()
     ensures targets { UnitsMakeTargets }
     ensures runs { RunsMakeNone }
     ensures plans { PlansHaveTargets }
+{}
+
+/// A law: of a package's features the first item that is wrong is told, and why it is.
+pub fn packages_are_at_fault()
+    ensures { PackagesAreAtFault }
+{}
+
+/// A law: the kinds of units; the folder of one; what a run has said.
+pub fn kinds_are_these()
+    ensures kinds { KindsAreThese }
+    ensures folders { FoldersArePackages }
+    ensures said { RunsSay }
+{}
+
+/// A law: the settings of a package in a role are the first values of the keys that count for it.
+pub fn settings_are_these()
+    ensures { SettingsAreThese }
 {}

@@ -1,3 +1,5 @@
 pub mod Commands
 pub mod Summaries
 pub mod Schedules
+pub mod Telling
+pub mod Outcomes

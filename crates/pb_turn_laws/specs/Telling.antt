@@ -1,0 +1,75 @@
+-- What a unit tells its users, whole: its target, and what is told where it is good and where it is bad (The Cargo Book, External Tools).
+use Rattle.std.specs.Prelude.{◌≡◌, ◌++◌, ◌∷◌, [], ℕ, Bool, true, false, not, List, Option, Some, None, find, map, option_and_then, option_map}
+use Rattle.std.specs.List.{filter_map}
+use Rattle.std.specs.Option.{option_map_or}
+use Rattle.std.specs.Result.{result_unwrap_or}
+use Rattle.std.specs.Str.{bytes_eq}
+use Rattle.pb_directive.specs.Directives.{directives_of}
+use Rattle.pb_directive.specs.declared.directive.Directive.{Directive}
+use Rattle.pb_feature.specs.Resolved.{features_at}
+use Rattle.pb_message.specs.Diagnostics.{diagnostics_of, plain_lines_of}
+use Rattle.pb_message.specs.Message.{lines_of}
+use Rattle.pb_message.specs.Targets.{library_target, binary_target, script_target}
+use Rattle.pb_message.specs.declared.message.Message.{Message}
+use Rattle.pb_message.specs.declared.message.Message.TheVariants.{CompilerMessage, CompilerArtifact}
+use Rattle.pb_message.specs.declared.subject.Subject.{Subject}
+use Rattle.pb_message.specs.declared.subject.Target.{Target}
+use Rattle.pb_package.specs.declared.package.Binary.{Binary}
+use Rattle.pb_package.specs.declared.package.Library.{Library}
+use Rattle.pb_package.specs.declared.package.Package.{Package}
+use Rattle.pb_place.specs.declared.command.Ended.{Ended}
+use Rattle.pb_project.specs.Targets.{made_file_of, package_of}
+use Rattle.pb_project.specs.declared.fault.UnitFault.{UnitFault}
+use Rattle.pb_project.specs.declared.fault.UnitFault.TheVariants as fault
+use Rattle.pb_project.specs.declared.project.Project.{Project}
+use Rattle.pb_run.specs.Telling.{unit_lines, good_messages, bad_messages, said_by, note_in, executed}
+use Rattle.pb_unit.specs.declared.plan.Planned.{Planned}
+use Rattle.pb_unit.specs.declared.unit.What.{What}
+use Rattle.pb_unit.specs.declared.unit.What.TheVariants.{Lib, Bin, Run}
+
+-- the target of a package that is compiled or run, where the package has it
+abbrev pub target_in : Package → What → Option Target
+target_in p Lib = option_map (λ (l : Library). library_target l.crate_types l.name l.source p.edition) p.library
+target_in p (Bin name) = option_map (λ (b : Binary). binary_target b.name b.source p.edition b.required_features) (find (λ (b : Binary). bytes_eq name b.name) p.binaries)
+target_in p _ = option_map (λ source. script_target source p.edition) p.script
+
+-- the lines of a package name it, and the target
+abbrev pub subject : Package → Target → Subject
+subject p target = record { name = p.name; version = p.version; folder = p.folder; manifest = p.manifest; target = target }
+
+-- the package and the target of a unit
+abbrev pub subject_at : Project → Planned → Option Subject
+subject_at project u = option_and_then (λ (p : Package). option_map (subject p) (target_in p u.unit.what)) (package_of project u)
+
+-- of what is compiled, a binary alone can be run
+abbrev pub can_be_run : What → Bool
+can_be_run (Bin name) = true
+can_be_run _ = false
+
+-- the message of a file that a unit made
+abbrev pub made_message : Project → Planned → List ℕ → Message
+made_message project u file = CompilerArtifact record { settings = u.settings; features = features_at project.features u.unit.owner u.unit.side; file = file; is_executable = can_be_run u.unit.what }
+
+-- the messages of a good unit, by what a run said: a compile gives its diagnostics, and then what it made; a run its notes in printed order, and then what it gave the compiler
+abbrev pub told_well : Project → Planned → List ℕ → Option (List Directive) → List Message
+told_well project u stderr None = map CompilerMessage (diagnostics_of stderr) ++ option_map_or (λ file. made_message project u file ∷ []) (made_file_of project u) []
+told_well project u stderr (Some directives) = filter_map note_in directives ++ executed u directives ∷ []
+
+-- the messages of a bad unit, and what its child wrote that none of them holds, by its standard output and error. Of streams that are too long nothing is told; a script that told of an error gives its notes in printed order, where they read; another run nothing; a compile its diagnostics
+abbrev pub told_badly : What → UnitFault → List ℕ → List ℕ → List Message × List ℕ
+told_badly what fault.OutputTooLong stdout stderr = ([], [])
+told_badly what fault.ScriptError stdout stderr = (filter_map note_in (result_unwrap_or (directives_of stdout) []), stderr)
+told_badly Run _ stdout stderr = ([], stdout ++ stderr)
+told_badly what _ stdout stderr = (map CompilerMessage (diagnostics_of stderr), plain_lines_of stderr)
+
+-- The lines of a unit are those of its messages, where its package and its target are there; `started` says whether a child was started.
+abbrev pub LinesAreTold : Type 0
+LinesAreTold = (project : Project) (u : Planned) (started : Bool) (messages : List Message) → unit_lines project u started messages ≡ option_map_or (λ s. lines_of s (not started) messages) (subject_at project u) []
+
+-- These are the messages of a good unit.
+abbrev pub GoodUnitsTell : Type 0
+GoodUnitsTell = (project : Project) (u : Planned) (stderr : List ℕ) (directives : Option (List Directive)) → good_messages project u stderr directives ≡ told_well project u stderr directives
+
+-- This is told of a bad one.
+abbrev pub BadUnitsTell : Type 0
+BadUnitsTell = (what : What) (fault : UnitFault) (ended : Ended) → (bad_messages what fault ended, said_by what fault ended) ≡ told_badly what fault ended.stdout ended.stderr
