@@ -1,5 +1,5 @@
 -- The loop over the steps of a session: whatever the rest of the steps comes to, all of them come to; and where the rest breaks off, all of them do.
-use Rattle.std.proofs.Common.{◌≡◌, ◌∙◌, ◌<◌, ◌≤◌, ◌+◌, ℕ, List, [], ◌∷◌, Result, Ok, Err, OnErr, length, drop, refl, sym, ap, subst}
+use Rattle.std.proofs.Common.{◌≡◌, ◌∙◌, ◌<◌, ◌≤◌, ◌+◌, ℕ, List, [], ◌∷◌, length, drop, refl, sym, ap, subst}
 use Rattle.std.proofs.Math.ListN.{get_or}
 use Rattle.std.proofs.lemmas.List.{drop_more, drop_all}
 use Rattle.pb_place.specs.World.{Answers}
@@ -24,10 +24,6 @@ steps_taken child steps i start now past reaches = reaches now (subst (λ (s : L
 
 pub none_taken : (child : Answers) (steps : List SessionStep) (start begun : Point) → begun ≡ start → Reaches child steps steps start begun
 none_taken child steps start begun is end course = subst (λ (m : Point). Course child steps m end) is course
-
-pub on_err : {T E Q : Type 0} (r : Result T E) → Q → OnErr r Q
-on_err (Ok x) q = tt
-on_err (Err e) q = q
 
 -- where the rest of the steps breaks off, all of them do
 abbrev pub BreaksOff : Answers → List SessionStep → List SessionStep → Point → Point → Type 0

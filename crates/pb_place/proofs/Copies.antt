@@ -1,5 +1,5 @@
 -- What stands at a path after files were taken over.
-use Rattle.std.proofs.Common.{◌≡◌, ℕ, Bool, true, false, not, ◌&&◌, ◌||◌, List, [], ◌∷◌, Option, Some, None, zero, suc, take, ◌⊎◌, is_some, inl, inr, refl, sym, ap, ◌∙◌, cond}
+use Rattle.std.proofs.Common.{◌≡◌, ℕ, Bool, true, false, not, ◌&&◌, ◌||◌, ◌+◌, ◌<◌, List, [], ◌∷◌, Option, Some, None, zero, suc, take, drop, length, get_or, drop-cons, add-one, ◌⊎◌, is_some, inl, inr, refl, sym, subst, ap, ◌∙◌, cond}
 use Rattle.std.specs.List.{filter, list_all, list_any}
 use Rattle.std.specs.FinMap.{get, empty, keys, retain_keys, from_entries, get-empty, same_map}
 use Rattle.std.specs.List.Sorted.{IsStrictlySortedBy}
@@ -10,7 +10,7 @@ use Rattle.std.specs.Map.{keys_of}
 use Rattle.pb_place.specs.Paths.{is_below, is_at_or_below}
 use Rattle.pb_place.specs.World.{Map, AgreeBut, PartlyRemovedAt, is_same_path}
 use Rattle.pb_place.specs.Folders.{first_of, files_in, over}
-use Rattle.pb_place.specs.Copies.{put_one, put_from, first_half, half_removed}
+use Rattle.pb_place.specs.Copies.{put_one, put_from, PutsSome, first_half, half_removed}
 use Rattle.pb_place.proofs.MapLemmas.{Entries, exact, symm, among_keys, get-kept, keys-filter}
 use Rattle.pb_place.proofs.Folders.{get-over, get-files_in}
 use Rattle.pb_place.proofs.Worlds.{get-same, get-other, same_path, apart_by}
@@ -32,6 +32,18 @@ below_gone folder m n is q outside = ap (λ x. get x q) is ∙ get-kept m (λ p.
 
 pub agree_same : (may : List ℕ → Bool) (m n : Map) → n ≡ m → AgreeBut may m n
 agree_same may m n is q outside = ap (λ x. get x q) is
+
+-- the first few of the files at some paths, by the paths that are left
+rest_at : (paths : List (List ℕ)) (i : ℕ) (path : List ℕ) → i < length paths → path ≡ get_or paths i path → drop i paths ≡ path ∷ drop (i + 1) paths
+rest_at paths i path below is = drop-cons paths i path below ∙ ap (λ n. get_or paths i path ∷ drop n paths) (sym (add-one i)) ∙ ap (λ p. p ∷ drop (i + 1) paths) (sym is)
+
+pub some_on : (from : Map) (paths : List (List ℕ)) (i : ℕ) (path : List ℕ) (now next m : Map) → i < length paths → path ≡ get_or paths i path
+    → next ≡ put_one path (get from path) now → PutsSome from (drop (i + 1) paths) next m → PutsSome from (drop i paths) now m
+some_on from paths i path now next m below is put some =
+    subst (λ ps. PutsSome from ps now m) (sym (rest_at paths i path below is)) (inr (subst (λ x. PutsSome from (drop (i + 1) paths) x m) put some))
+
+pub some_none : (from : Map) (paths : List (List ℕ)) (i : ℕ) (path : List ℕ) (now m : Map) → i < length paths → path ≡ get_or paths i path → m ≡ now → PutsSome from (drop i paths) now m
+some_none from paths i path now m below is same = subst (λ ps. PutsSome from ps now m) (sym (rest_at paths i path below is)) (inl same)
 
 -- what stands at a path after one file, and after some files, were taken over
 first_at : (q : List ℕ) (o : Option (List ℕ)) (m : Map) → get (put_one q o m) q ≡ first_of o (get m q)

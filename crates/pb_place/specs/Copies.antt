@@ -1,5 +1,5 @@
 -- Files taken over from one map into another.
-use Rattle.std.specs.Prelude.{ℕ, not, ◌/◌, List, [], ◌∷◌, Option, Some, None, length, take}
+use Rattle.std.specs.Prelude.{◌≡◌, ◌⊎◌, ℕ, not, ◌/◌, List, [], ◌∷◌, Option, Some, None, length, take}
 use Rattle.std.specs.FinMap as map
 use Rattle.std.specs.List.{list_any}
 use Rattle.pb_place.specs.Paths.{is_below, is_at_or_below}
@@ -14,6 +14,11 @@ put_one path (Some bytes) m = map.insert m path bytes
 abbrev pub put_from : Map → List (List ℕ) → Map → Map
 put_from from [] m = m
 put_from from (path ∷ paths) m = put_from from paths (put_one path (map.get from path) m)
+
+-- the files at the first few of these paths were put, or at all, and no other
+abbrev pub PutsSome : Map → List (List ℕ) → Map → Map → Type 0
+PutsSome from [] old new = new ≡ old
+PutsSome from (path ∷ paths) old new = (new ≡ old) ⊎ PutsSome from paths (put_one path (map.get from path) old) new
 
 -- the first half, rounded down, of some paths
 abbrev pub first_half : List (List ℕ) → List (List ℕ)

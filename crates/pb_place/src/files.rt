@@ -13,7 +13,7 @@ ghost use Rattle.std.specs.FinMap as map;
 ghost use Rattle.std.specs.Option.{option_copied};
 ghost use Rattle.pb_place.specs.Paths.{is_path, stem, is_below, is_at_or_below};
 ghost use Rattle.pb_place.specs.World.{is_directly_in, is_same_path, AgreeBut, PartlyRemovedAt};
-ghost use Rattle.pb_place.specs.Copies.{put_one, put_from, half_removed};
+ghost use Rattle.pb_place.specs.Copies.{put_one, put_from, PutsSome, half_removed};
 ghost use Rattle.pb_place.specs.Maps.{files_of};
 
 use crate::path::{PathText, is_at_or_below, stem};
@@ -164,7 +164,8 @@ impl FileMap {
         }
     }
 
-    /// Puts the files of another map that stand at some paths, in turn. Where memory is refused, some of them.
+    /// Puts the files of another map that stand at some paths, in turn. Where memory is refused, those at the first few
+    /// of the paths are put, and no other.
     pub fn put_from(
         &mut self,
         alloc: Global,
@@ -172,6 +173,7 @@ impl FileMap {
         paths: &[PathText],
     ) -> Result<(), AllocError>
         ensures ok { OnOk result (self.new ≡ put_from from.now paths.now self.old) }
+        ensures some { OnErr result (PutsSome from.now paths.now self.old self.new) }
         ensures only { (may : List ℕ → Bool) → AgreeBut may map.empty from.now → AgreeBut may self.old self.new }
     {
         for path in paths {

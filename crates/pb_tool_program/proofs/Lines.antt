@@ -1,5 +1,5 @@
 -- The lines of a session that were written, and where it was stopped.
-use Rattle.std.proofs.Common.{◌≡◌, ◌≢◌, ◌⊎◌, ◌==◌, inl, inr, ℕ, Bool, true, false, List, [], ◌∷◌, ◌++◌, codes, length, take, Option, Some, None, is_some, IsTrue, Result, Ok, Err, OnErr, refl, sym, subst}
+use Rattle.std.proofs.Common.{◌≡◌, ◌≢◌, ◌⊎◌, ◌==◌, inl, inr, ℕ, Bool, true, false, List, [], ◌∷◌, ◌++◌, codes, length, take, Option, Some, None, is_some, IsTrue, Ok, refl, sym, subst}
 use Rattle.std.proofs.lemmas.Bool.{false≢true}
 use Rattle.std.specs.Io.KnownBytes.{Appends}
 use Rattle.pb_answer.specs.Explanation.{ended, said_by_bad}
@@ -56,10 +56,6 @@ session_untold bytes read steps first last old mid before after new answers is_r
     is_new,
   ),
 )
-
-pub on_err : {T E Q : Type 0} (r : Result T E) → Q → OnErr r Q
-on_err (Ok x) q = tt
-on_err (Err e) q = q
 
 -- What a sink was given, by the clauses of the call that gave it.
 pub tells_by : (result : Bool) (bytes told : List ℕ) (old new : Heard) → told ≡ bytes

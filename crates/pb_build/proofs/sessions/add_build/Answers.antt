@@ -5,7 +5,7 @@ use Rattle.pb_build.specs.Environment.{environment_of}
 use Rattle.pb_build.specs.Headline.{Headline}
 use Rattle.pb_build.specs.Kept.{SourcesStay}
 use Rattle.pb_build.specs.Session.{Picked, ByPicked, Carries, point}
-use Rattle.pb_build.proofs.StepsTaken.{on_err}
+use Rattle.pb_place.proofs.Failing.{on_err}
 use Rattle.pb_session.specs.declared.step.SessionStep.TheVariants.{Build}
 use Rattle.pb_build.proofs.sessions.add_build.Goals as goal
 

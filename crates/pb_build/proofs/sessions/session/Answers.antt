@@ -2,7 +2,8 @@ use Rattle.std.proofs.Common.{[], ap}
 use Rattle.pb_memory.specs.Memory.{counts_in}
 use Rattle.pb_turns.specs.Moments.{moment}
 use Rattle.pb_build.specs.Session.{point}
-use Rattle.pb_build.proofs.StepsTaken.{none_taken, none_passed, on_err, step_taken, step_passed, step_lost, steps_taken}
+use Rattle.pb_place.proofs.Failing.{on_err}
+use Rattle.pb_build.proofs.StepsTaken.{none_taken, none_passed, step_taken, step_passed, step_lost, steps_taken}
 use Rattle.pb_build.proofs.sessions.session.Goals as goal
 
 pub loop-step-init : goal.loop-step-init

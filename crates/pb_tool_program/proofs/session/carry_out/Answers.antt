@@ -1,7 +1,8 @@
 use Rattle.std.proofs.Common.{ap, inl, refl}
 use Rattle.pb_memory.specs.Memory.{counts_in}
 use Rattle.pb_turns.specs.Moments.{moment}
-use Rattle.pb_tool_program.proofs.Lines.{on_err, session_broken, session_untold, session_written}
+use Rattle.pb_place.proofs.Failing.{on_err}
+use Rattle.pb_tool_program.proofs.Lines.{session_broken, session_untold, session_written}
 use Rattle.pb_tool_program.proofs.session.carry_out.Goals as goal
 
 pub returns-clause-written : goal.returns-clause-written
