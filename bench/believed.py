@@ -21,9 +21,9 @@ LAWS = """
 --but=pb_package.Settled.IsSettled=AllAreSettled
 --but=pb_record.Parts.Reads=HasOneReading,HasReading
 --but=pb_soundness.Sound.Sound=NothingIsSound,OutsideLaw
---but=pb_feature.Resolved.is_active=FeaturesAreOne
---but=pb_feature.Resolved.features_at=FeaturesAreOne
---but=pb_feature.Resolved.is_enabled=FeaturesAreOne
+--but=pb_resolved.Features.is_active=FeaturesAreOne
+--but=pb_resolved.Features.features_at=FeaturesAreOne
+--but=pb_resolved.Features.is_enabled=FeaturesAreOne
 --but=pb_profile.Line.line_of=LinesAreThese
 --but=pb_unit.Units.needs=NeedsAreThese
 --but=pb_project.Targets.crate_name_of=UnitsMakeTargets,PlansHaveTargets

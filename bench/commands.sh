@@ -13,7 +13,7 @@ root=$(cd "$(dirname "$0")/.." && pwd)
 work=$(mktemp -d)
 trap 'rm -rf "$work"' EXIT
 mkdir "$work/crates"
-for name in pb_checks_files pb_closure pb_command pb_data pb_directive pb_feature pb_manifest pb_manifest_reader pb_memory pb_order pb_package pb_place pb_profile pb_project pb_record pb_unit pb_workspace; do
+for name in pb_checks_files pb_closure pb_command pb_data pb_directive pb_resolved pb_feature pb_manifest pb_manifest_reader pb_memory pb_order pb_package pb_place pb_profile pb_project pb_record pb_unit pb_workspace; do
   cp -a "$root/crates/$name" "$work/crates/$name"
   rm -rf "$work/crates/$name/must-fail"
   grep "^$name:" "$root/crates.txt" >> "$work/crates.txt"

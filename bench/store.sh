@@ -17,7 +17,7 @@
 # of them to keep, and 133 MB of memory since its text is written into room that is made once; the same unit 84 million to
 # compare.
 set -euo pipefail
-crates="pb_data pb_closure pb_order pb_memory pb_place pb_directive pb_manifest pb_package pb_profile pb_feature pb_unit pb_project pb_record pb_soundness pb_store"
+crates="pb_data pb_closure pb_order pb_memory pb_place pb_directive pb_manifest pb_package pb_profile pb_resolved pb_feature pb_unit pb_project pb_record pb_soundness pb_store"
 uses="pb_data pb_memory pb_place pb_project pb_record pb_soundness pb_store"
 . "$(dirname "$0")/measured.sh"
 program <<'PROGRAM'

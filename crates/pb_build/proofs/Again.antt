@@ -5,8 +5,8 @@ use Rattle.pb_command.specs.Command.{command_of}
 use Rattle.pb_command.specs.Judge.{judge}
 use Rattle.pb_answer.specs.declared.fault.BuildFault.TheVariants.{Plan, Toolchain, Child, Device, Sink, OutOfMemory}
 use Rattle.pb_answer.specs.declared.summary.Summary.{Summary}
-use Rattle.pb_feature.specs.Resolved.{features_at, is_enabled}
-use Rattle.pb_feature.specs.declared.resolved.Features.{Features}
+use Rattle.pb_resolved.specs.Features.{features_at, is_enabled}
+use Rattle.pb_resolved.specs.declared.features.Features.{Features}
 use Rattle.pb_flight.specs.declared.turn.Step.{Step}
 use Rattle.pb_package.specs.declared.options.Options.{Options}
 use Rattle.pb_package.specs.declared.package.Side.{Side}

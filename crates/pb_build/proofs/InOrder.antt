@@ -26,7 +26,7 @@ use Rattle.pb_profile.specs.declared.fault.ProfileFault.{ProfileFault}
 use Rattle.pb_profile.specs.declared.fault.ProfileFault.TheVariants.{NoSuchProfile}
 use Rattle.pb_package.specs.declared.workspace.Workspace.{Workspace}
 use Rattle.pb_package.specs.declared.options.Selection.{Selection}
-use Rattle.pb_feature.specs.declared.resolved.Features.{Features}
+use Rattle.pb_resolved.specs.declared.features.Features.{Features}
 use Rattle.pb_unit.specs.Plan.{IsPlan, LieApart, ComesBefore, ArePlaces, HasSettings, above, level_at, level_of, profile_folder}
 use Rattle.pb_unit.specs.Units.{needs, Reaches, direct, onward, IsPlanned, key_of, name_at, what_name}
 use Rattle.pb_unit.specs.declared.plan.Plan.{Plan}

@@ -11,8 +11,9 @@ use Rattle.std.proofs.lemmas.Cmp.{nat_list_cmp_total}
 use Rattle.pb_feature.specs.Faults as feature
 use Rattle.pb_feature.specs.Faults.{IsFirstFault, package_fault, by_item, by_asked, by_missing}
 use Rattle.pb_feature.specs.declared.fault.FeatureFault.{FeatureFault}
-use Rattle.pb_feature.specs.Resolved.{IsResolved, features_at, is_enabled}
-use Rattle.pb_feature.specs.declared.resolved.Features.{Features}
+use Rattle.pb_feature.specs.Resolved.{IsResolved}
+use Rattle.pb_resolved.specs.Features.{features_at, is_enabled}
+use Rattle.pb_resolved.specs.declared.features.Features.{Features}
 use Rattle.pb_project.specs.declared.project.Project.{Project}
 use Rattle.pb_project.specs.declared.project.Setup.{Setup}
 use Rattle.pb_place.specs.World.{World, Answers, from_nothing}

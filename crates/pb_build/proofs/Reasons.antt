@@ -6,8 +6,9 @@ use Rattle.std.specs.Ordering.{nat_cmp}
 use Rattle.std.specs.declared.cmp.Ordering.TheVariants.{Less}
 use Rattle.std.proofs.lemmas.List.{length-map}
 use Rattle.pb_closure.specs.Placed.{placed}
-use Rattle.pb_feature.specs.Resolved.{IsResolved, is_enabled, features_at}
-use Rattle.pb_feature.specs.declared.resolved.Features.{Features}
+use Rattle.pb_feature.specs.Resolved.{IsResolved}
+use Rattle.pb_resolved.specs.Features.{is_enabled, features_at}
+use Rattle.pb_resolved.specs.declared.features.Features.{Features}
 use Rattle.pb_order.proofs.Elements.{all_at}
 use Rattle.pb_unit.specs.Plan.{IsPlan, IsCycle, IsCrowd, Stops, by_cycle, by_number, by_nothing, Refuses, by_profile, by_units}
 use Rattle.pb_unit.specs.Units.{key_of, unit, is_normal, is_build, has_library, hands_on, entries_at, library_by, tool_by, run_by, libraries, tools, runs, own_library, own_run, needs_of, needs, Reaches, direct, onward, IsRoot, library, binary, IsPlanned}

@@ -13,8 +13,8 @@ use Rattle.pb_project.specs.declared.fault.UnitFault.{UnitFault}
 use Rattle.pb_project.specs.declared.project.Project.{Project}
 use Rattle.pb_project.specs.declared.project.Setup.{Setup}
 use Rattle.pb_directive.specs.declared.directive.Directive.{Directive}
-use Rattle.pb_feature.specs.Resolved.{features_at, is_enabled}
-use Rattle.pb_feature.specs.declared.resolved.Features.{Features}
+use Rattle.pb_resolved.specs.Features.{features_at, is_enabled}
+use Rattle.pb_resolved.specs.declared.features.Features.{Features}
 use Rattle.pb_message.specs.declared.message.Message.{Message}
 use Rattle.pb_message.specs.declared.message.Message.TheVariants.{CompilerArtifact}
 use Rattle.pb_place.specs.World.{World, Answers}

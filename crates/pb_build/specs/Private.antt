@@ -7,7 +7,7 @@ use Rattle.pb_answer.specs.declared.fault.Refusal.{Refusal}
 use Rattle.pb_answer.specs.declared.fault.Refusal.TheVariants as refusal
 use Rattle.pb_feature.specs.Faults as feature
 use Rattle.pb_feature.specs.declared.fault.FeatureFault.{FeatureFault}
-use Rattle.pb_feature.specs.declared.resolved.Features.{Features}
+use Rattle.pb_resolved.specs.declared.features.Features.{Features}
 use Rattle.pb_package.specs.declared.fault.LoadFault.{LoadFault}
 use Rattle.pb_package.specs.declared.fault.LoadFault.TheVariants as load
 use Rattle.pb_package.specs.declared.options.Options.{Options}

@@ -6,3 +6,4 @@ pub mod Linking
 pub mod Walking
 pub mod Indexing
 pub mod Placed
+pub mod Placing

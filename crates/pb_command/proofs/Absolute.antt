@@ -3,7 +3,7 @@ use Rattle.std.proofs.Common.{◌≡◌, ℕ, true, List, [], ◌∷◌, Option,
 use Rattle.std.specs.List.{flat_map}
 use Rattle.std.proofs.lemmas.List.Elements.{All-append, All-from_recursion}
 use Rattle.pb_directive.specs.declared.directive.Directive.{Directive}
-use Rattle.pb_feature.proofs.Sound.{all_at}
+use Rattle.pb_closure.proofs.Membership.{all_at}
 use Rattle.pb_place.specs.Paths.{is_path}
 use Rattle.pb_unit.specs.declared.plan.Planned.{Planned}
 use Rattle.pb_unit.specs.declared.unit.What.{What}

@@ -2,7 +2,7 @@
 use Rattle.std.proofs.Common.{◌≡◌, ℕ, Bool, true, false, cond, codes, List, Option, Some, refl, sym, ap, subst, ◌∙◌}
 use Rattle.std.specs.Str.{bytes_eq}
 use Rattle.pb_directive.specs.declared.directive.Directive.{Directive}
-use Rattle.pb_feature.proofs.Sound.{all_at}
+use Rattle.pb_closure.proofs.Membership.{all_at}
 use Rattle.pb_place.specs.declared.child.Reply.{Reply}
 use Rattle.pb_package.specs.declared.package.Package.{Package}
 use Rattle.pb_unit.specs.Laws.{last_word, TellsWhat}

@@ -3,7 +3,7 @@ use Rattle.std.specs.Prelude.{ℕ, ◌&&◌, Bool, false, if◌then◌else◌, c
 use Rattle.std.specs.FinMap as map
 use Rattle.std.specs.List.{flat_map}
 use Rattle.pb_closure.specs.Placed.{placed}
-use Rattle.pb_feature.specs.Resolved.{is_enabled}
+use Rattle.pb_resolved.specs.Features.{is_enabled}
 use Rattle.pb_manifest.specs.Letters.{underscored}
 use Rattle.pb_place.specs.World.{Map}
 use Rattle.pb_unit.specs.Units.{is_normal, is_build}

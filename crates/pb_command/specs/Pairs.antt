@@ -8,7 +8,7 @@ use Rattle.pb_directive.specs.Lines.{lines_of, text_of, after_prefix}
 use Rattle.pb_directive.specs.Metadata.{in_capitals, dep_pairs}
 use Rattle.pb_directive.specs.declared.directive.Directive.{Directive}
 use Rattle.pb_directive.specs.declared.directive.Directive.TheVariants.{Env}
-use Rattle.pb_feature.specs.Resolved.{features_at}
+use Rattle.pb_resolved.specs.Features.{features_at}
 use Rattle.pb_manifest.specs.declared.profile.DebugInfo.{DebugInfo}
 use Rattle.pb_manifest.specs.declared.profile.DebugInfo.TheVariants as debug_info
 use Rattle.pb_profile.specs.Line.{Seen, checked_line}

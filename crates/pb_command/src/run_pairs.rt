@@ -3,7 +3,7 @@
 ghost use Rattle.std.specs.Prelude.{◌≡◌, ◌++◌, ◌∷◌, [], IfOk, OnOk, map, option_map, string_bytes, Some};
 ghost use Rattle.std.specs.List.{flat_map};
 ghost use Rattle.pb_directive.specs.Metadata.{dep_pairs};
-ghost use Rattle.pb_feature.specs.Resolved.{features_at};
+ghost use Rattle.pb_resolved.specs.Features.{features_at};
 ghost use Rattle.pb_project.specs.Targets.{unit_at};
 ghost use Rattle.pb_command.specs.Externs.{all_set};
 ghost use Rattle.pb_command.specs.Pairs.{links_pairs, feature_name, feature_pair, described_pairs, triple_of, is_debugged, truth_text, profile_word, platform_pairs, settings_pairs, encoded, compiler_pairs, out_pairs, building_pairs, linked_pairs, links_in, passed_by, passed_at, passed_pairs, run_pairs};

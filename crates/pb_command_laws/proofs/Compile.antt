@@ -3,7 +3,7 @@ use Rattle.std.proofs.Common.{◌≡◌, ◌&&◌, is_some, cond, ℕ, true, fal
 use Rattle.std.proofs.lemmas.List.{append-nil}
 use Rattle.std.specs.List.{flat_map}
 use Rattle.pb_directive.specs.declared.directive.Directive.{Directive}
-use Rattle.pb_feature.specs.Resolved.{features_at}
+use Rattle.pb_resolved.specs.Features.{features_at}
 use Rattle.pb_manifest.specs.Library.{crate_type_text}
 use Rattle.pb_manifest.specs.Package.{edition_text}
 use Rattle.pb_package.specs.Settled.{IsSettled}

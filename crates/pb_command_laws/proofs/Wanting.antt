@@ -5,8 +5,8 @@ use Rattle.std.proofs.lemmas.List.Elements.{Contains-append_left, Contains-appen
 use Rattle.std.specs.List.{find}
 use Rattle.pb_closure.proofs.Membership.{none, single, head, tail, cases}
 use Rattle.pb_closure.proofs.Placed.{placed_to, placed_from, where_true, at_true}
-use Rattle.pb_feature.specs.Resolved.{is_enabled}
-use Rattle.pb_feature.specs.declared.resolved.Features.{Features}
+use Rattle.pb_resolved.specs.Features.{is_enabled}
+use Rattle.pb_resolved.specs.declared.features.Features.{Features}
 use Rattle.pb_order.proofs.Elements.{contains_map, map_contains, at_from_contains, contains_from_at}
 use Rattle.pb_package.specs.declared.options.Selection.{Selection}
 use Rattle.pb_package.specs.declared.package.DependencyKind.{DependencyKind}

@@ -14,7 +14,7 @@ use Rattle.pb_manifest.specs.declared.profile.Strip.{Strip}
 use Rattle.pb_manifest.specs.declared.profile.Strip.TheVariants as strip
 use Rattle.pb_profile.specs.Words.{opt_level_text}
 use Rattle.pb_profile.specs.declared.settings.Settings.{Settings}
-use Rattle.pb_feature.specs.Resolved.{features_at}
+use Rattle.pb_resolved.specs.Features.{features_at}
 use Rattle.pb_package.specs.Settled.{IsSettled}
 use Rattle.pb_package.specs.declared.package.Package.{Package}
 use Rattle.pb_place.specs.Paths.{is_path}

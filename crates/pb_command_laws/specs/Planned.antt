@@ -1,6 +1,6 @@
 -- Which units of a plan a command speaks of: the libraries that a compile is given, the run that a compile hears, and the script that a run starts (The Cargo Book, Specifying Dependencies, Build Scripts).
 use Rattle.std.specs.Prelude.{◌≡◌, ◌↔◌, ℕ, ◌++◌, true, false, if◌then◌else◌, codes, is_some, List, Some, None, slice_get}
-use Rattle.pb_feature.specs.Resolved.{is_enabled}
+use Rattle.pb_resolved.specs.Features.{is_enabled}
 use Rattle.pb_manifest.specs.Letters.{underscored}
 use Rattle.pb_package.specs.declared.options.Selection.{Selection}
 use Rattle.pb_package.specs.declared.package.Entry.{Entry}

@@ -10,7 +10,7 @@ use Rattle.pb_data.specs.Table.{value_at, last_value}
 use Rattle.pb_directive.specs.Metadata.{in_capitals, passed}
 use Rattle.pb_directive.specs.declared.directive.Directive.{Directive}
 use Rattle.pb_directive.specs.declared.directive.Directive.TheVariants.{Env}
-use Rattle.pb_feature.specs.Resolved.{features_at}
+use Rattle.pb_resolved.specs.Features.{features_at}
 use Rattle.pb_manifest.specs.declared.profile.DebugInfo.{DebugInfo}
 use Rattle.pb_manifest.specs.declared.profile.DebugInfo.TheVariants as debug_info
 use Rattle.pb_package.specs.declared.package.Package.{Package}

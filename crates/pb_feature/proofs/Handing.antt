@@ -12,7 +12,7 @@ use Rattle.pb_closure.specs.Table.{IsInRange, joined_by}
 use Rattle.pb_closure.specs.Placed.{placed}
 use Rattle.pb_feature.specs.declared.fault.FeatureFault.{FeatureFault}
 use Rattle.pb_feature.specs.declared.fault.FeatureFault.TheVariants.{OutOfMemory, NoSuchFeature}
-use Rattle.pb_feature.specs.declared.resolved.Features.{Features}
+use Rattle.pb_resolved.specs.declared.features.Features.{Features}
 use Rattle.pb_feature.specs.Facts.{Has}
 use Rattle.pb_feature.specs.Faults.{IsMissing}
 use Rattle.pb_feature.specs.Numbers.{bases_from, end_from, slot}

@@ -1,4 +1,3 @@
-pub mod Placing
 pub mod Slots
 pub mod Finding
 pub mod Cells

@@ -24,19 +24,20 @@ use Rattle.pb_closure.specs.declared.table.Rule.{Rule}
 use Rattle.pb_closure.specs.Closure.{seed, joined, IsLeast, is_on}
 use Rattle.pb_closure.specs.Table.{IsInRange}
 use Rattle.pb_closure.specs.Placed.{placed}
-use Rattle.pb_closure.proofs.Membership.{none, single, cases, head}
+use Rattle.pb_closure.proofs.Membership.{none, single, cases, head, all_at}
 use Rattle.pb_closure.proofs.Placed.{placed_from, placed_to, where_true, at_true}
-use Rattle.pb_feature.specs.declared.resolved.Part.{Part}
-use Rattle.pb_feature.specs.declared.resolved.Sides.{Sides}
-use Rattle.pb_feature.specs.declared.resolved.Features.{Features}
+use Rattle.pb_resolved.specs.declared.features.Part.{Part}
+use Rattle.pb_resolved.specs.declared.features.Sides.{Sides}
+use Rattle.pb_resolved.specs.declared.features.Features.{Features}
 use Rattle.pb_feature.specs.Facts.{On, Has, Enabled, of_package, IsChosen, all, asked, asked_of, default, Holds, selected, chosen}
 use Rattle.pb_feature.specs.Numbers.{bases_from, end_from, slot, slot_at, on, has, enabled}
 use Rattle.pb_feature.specs.Rules.{pair, rules_of, is_text_of, is_chosen, chosen_seeds, owner_seeds, selected_seeds, seeds_of}
-use Rattle.pb_feature.specs.Resolved.{part_of, active_of, names_of, enabled_of, is_active, features_at, is_enabled, IsResolved}
+use Rattle.pb_feature.specs.Resolved.{IsResolved}
+use Rattle.pb_resolved.specs.Features.{part_of, active_of, names_of, enabled_of, is_active, features_at, is_enabled}
 use Rattle.pb_feature.specs.Marked.{marked_name, marked_entry, marked_part, marked_sides, NoneMarkedMissing}
 use Rattle.pb_feature.proofs.Slots.{IsSlot, slot_named, slot_at_place, same_name}
 use Rattle.pb_feature.proofs.Cells.{Cell, IsOn, HasSlot, IsEnabled, Numbered, exact, below}
-use Rattle.pb_feature.proofs.Sound.{Means, IsSound, from_rules, same_owner, all_at, one_at, contains_at, num_on, num_has, num_enabled, slot_of, feature_there, holds_named}
+use Rattle.pb_feature.proofs.Sound.{Means, IsSound, from_rules, same_owner, one_at, contains_at, num_on, num_has, num_enabled, slot_of, feature_there, holds_named}
 use Rattle.pb_feature.proofs.Whole.{Follows, whole}
 
 or_cases : (a b c : Bool) → (a || b || c) ≡ true → (a ≡ true) ⊎ ((b ≡ true) ⊎ (c ≡ true))

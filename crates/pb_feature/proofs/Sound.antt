@@ -1,5 +1,5 @@
 -- Each rule that is written down speaks of cells, and what it gives holds where its premises do.
-use Rattle.std.proofs.Common.{◌≡◌, ◌≢◌, inl, inr, ℕ, ◌+◌, ◌<◌, ◌≤◌, ◌==◌, Bool, true, false, codes, List, [], ◌∷◌, ◌++◌, Contains, All, Option, Some, length, arith, refl, sym, ◌∙◌, ap, subst, if◌then◌else◌}
+use Rattle.std.proofs.Common.{◌≡◌, ◌≢◌, inl, inr, ℕ, ◌+◌, ◌<◌, ◌≤◌, ◌==◌, Bool, true, false, codes, List, [], ◌∷◌, ◌++◌, Contains, Option, Some, length, arith, refl, sym, ◌∙◌, ap, subst, if◌then◌else◌}
 use Rattle.std.specs.Prelude.{slice_get}
 use Rattle.std.specs.Str.{bytes_eq}
 use Rattle.std.proofs.lemmas.Bool.{eq-eqb, false≢true}
@@ -18,7 +18,7 @@ use Rattle.pb_package.specs.Workspace.{side_of, HasEntry, ListsItem, HasFeature}
 use Rattle.pb_package.specs.Settled.{IsSettled, IsPackage}
 use Rattle.pb_closure.specs.declared.table.Rule.{Rule}
 use Rattle.pb_closure.specs.Placed.{placed}
-use Rattle.pb_closure.proofs.Membership.{none, single, cases, head}
+use Rattle.pb_closure.proofs.Membership.{none, single, cases, head, all_at}
 use Rattle.pb_closure.proofs.Placed.{placed_from, where_true, where_false}
 use Rattle.pb_feature.specs.Facts.{On, Has, Enabled, Holds, required, listed, named, of_enables, of_asks, of_gives, of_enabled, leads, with_listed, with_asked, with_default}
 use Rattle.pb_feature.specs.Numbers.{bases_from, slot, features_of, slot_at, on, has, enabled}
@@ -34,10 +34,6 @@ same_entry o a b x y = cc
 
 pub same_feature : (o : Option Feature) (a b : Feature) → o ≡ Some a → o ≡ Some b → a ≡ b
 same_feature o a b x y = cc
-
--- what holds of each of a list holds of the one at a place
-pub all_at : {X : Type 0} (P : X → Type 0) (xs : List X) (k : ℕ) (x : X) → All P xs → slice_get xs k ≡ Some x → P x
-all_at P xs k x all at = subst P (get_or_from_slice_get xs k x x at) (all k x (slice_get_within xs k x at))
 
 -- there is one at each place below the length
 pub one_at : {X : Type 0} (xs : List X) (k : ℕ) → k < length xs → (x : X) × (slice_get xs k ≡ Some x)

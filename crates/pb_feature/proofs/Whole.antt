@@ -22,13 +22,13 @@ use Rattle.pb_closure.specs.declared.table.Rule.{Rule}
 use Rattle.pb_closure.specs.Closure.{Least, seed, joined}
 use Rattle.pb_closure.specs.Table.{joined_by}
 use Rattle.pb_closure.specs.Placed.{placed}
-use Rattle.pb_closure.proofs.Membership.{head, tail}
+use Rattle.pb_closure.proofs.Membership.{head, tail, all_at}
 use Rattle.pb_closure.proofs.Placed.{placed_to, at_true, at_false}
 use Rattle.pb_feature.specs.Facts.{Fact, On, Has, Enabled, Asked, of_package, IsChosen, all, asked, asked_of, default, Holds, selected, chosen, required, listed, named, of_enables, of_asks, of_gives, of_enabled, leads, with_listed, with_asked, with_default}
 use Rattle.pb_feature.specs.Numbers.{bases_from, slot, slot_at, on, has, enabled}
 use Rattle.pb_feature.specs.Rules.{pair, alone, there_rules, given_rules, enabled_rules, entry_rules, of_rules, item_rules, own_rules, both_item_rules, both_own_rules, one_item_rules, feature_rules, both_entry_rules, package_rules, rules_of, is_text_of, is_chosen, chosen_seeds, owner_seeds, selected_seeds, seeds_of}
 use Rattle.pb_feature.proofs.Slots.{IsSlot, slot_named, there_some, slot_at_place, its_name}
-use Rattle.pb_feature.proofs.Sound.{same_owner, same_entry, all_at, one_at, to_there, slot_of}
+use Rattle.pb_feature.proofs.Sound.{same_owner, same_entry, one_at, to_there, slot_of}
 
 -- a place of what is in a list
 pub at_contains : {X : Type 0} (xs : List X) (x : X) → Contains xs x → (k : ℕ) × (slice_get xs k ≡ Some x)

@@ -7,8 +7,8 @@ use Rattle.pb_package.specs.declared.package.Package.{Package}
 use Rattle.pb_package.specs.declared.package.Entry.{Entry}
 use Rattle.pb_closure.specs.Closure.{is_on}
 use Rattle.pb_closure.specs.Placed.{placed}
-use Rattle.pb_feature.specs.declared.resolved.Part.{Part}
-use Rattle.pb_feature.specs.declared.resolved.Sides.{Sides}
+use Rattle.pb_resolved.specs.declared.features.Part.{Part}
+use Rattle.pb_resolved.specs.declared.features.Sides.{Sides}
 use Rattle.pb_feature.specs.Numbers.{on, has, enabled}
 
 -- the name of a feature that is marked

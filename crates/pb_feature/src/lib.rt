@@ -8,12 +8,12 @@ pub mod fault;
 mod items;
 mod numbers;
 mod resolution;
-pub mod resolved;
+mod resolved;
 mod rules;
 mod rules_of_entries;
 mod rules_of_items;
 mod seeds;
 
 pub use fault::FeatureFault;
+pub use pb_resolved::{Features, Part, Sides};
 pub use resolution::resolve;
-pub use resolved::{Features, Part, Sides};

@@ -18,11 +18,12 @@ use crate::asked::check_asked;
 use crate::checks::check_items;
 use crate::fault::FeatureFault;
 use crate::numbers::{Ground, bases_of};
-use crate::resolved::{Features, features_marked, is_marked};
+use crate::resolved::features_marked;
 use crate::rules::rules_of;
 use crate::seeds::seeds_of;
 use pb_closure::derived;
 use pb_package::{Package, SelectedWorkspace, Side};
+use pb_resolved::{Features, is_marked};
 use std::alloc::{AllocError, Global};
 
 /// The packages of the workspace that something is selected of.

@@ -15,7 +15,7 @@ use Rattle.pb_data.proofs.TableLemmas.{value-table_of, names-table_of}
 use Rattle.pb_directive.specs.Metadata.{passed, dep_pairs}
 use Rattle.pb_directive.specs.declared.directive.Directive.{Directive}
 use Rattle.pb_directive.specs.declared.directive.Directive.TheVariants.{Metadata}
-use Rattle.pb_feature.specs.Resolved.{features_at}
+use Rattle.pb_resolved.specs.Features.{features_at}
 use Rattle.pb_unit.specs.declared.plan.Planned.{Planned}
 use Rattle.pb_unit.specs.declared.unit.What.TheVariants.{Run}
 use Rattle.pb_package.specs.declared.package.Package.{Package}

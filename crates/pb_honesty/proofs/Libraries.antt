@@ -9,8 +9,8 @@ use Rattle.std.specs.Cmp.Lexicographic.{slice_cmp}
 use Rattle.std.specs.Ordering.{nat_cmp}
 use Rattle.std.specs.List.{flat_map, find, list_all, prefix_len, AllByRecursion}
 use Rattle.pb_closure.specs.Placed.{placed}
-use Rattle.pb_feature.proofs.Sound.{all_at}
-use Rattle.pb_feature.specs.Resolved.{is_enabled}
+use Rattle.pb_closure.proofs.Membership.{all_at}
+use Rattle.pb_resolved.specs.Features.{is_enabled}
 use Rattle.pb_manifest.specs.Letters.{is_name, is_name_byte, is_crate_name, is_crate_name_byte, underscored, underscored_byte}
 use Rattle.pb_place.specs.Paths.{below, is_below, is_path, is_relative, parsed}
 use Rattle.pb_place.specs.World.{Map}

@@ -1,8 +1,8 @@
 -- A unit of a plan reaches what it needs.
 use Rattle.std.proofs.Common.{◌≡◌, ℕ, suc, List, [], ◌∷◌, Some, Contains, refl, arith, slice_get}
 use Rattle.std.specs.List.{AllByRecursion}
-use Rattle.pb_feature.proofs.Sound.{all_at}
-use Rattle.pb_feature.specs.declared.resolved.Features.{Features}
+use Rattle.pb_closure.proofs.Membership.{all_at}
+use Rattle.pb_resolved.specs.declared.features.Features.{Features}
 use Rattle.pb_unit.specs.Plan.{ArePlaces, IsPlan}
 use Rattle.pb_unit.specs.Units.{needs, Reaches, direct}
 use Rattle.pb_unit.specs.declared.plan.Plan.{Plan}

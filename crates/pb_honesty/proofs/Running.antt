@@ -10,7 +10,7 @@ use Rattle.pb_data.specs.Table.{value_at, table_of}
 use Rattle.pb_data.proofs.MentionLemmas.{is_mentioned-once}
 use Rattle.pb_directive.specs.Directives.{directives_of}
 use Rattle.pb_directive.specs.declared.directive.Directive.{Directive}
-use Rattle.pb_feature.proofs.Sound.{all_at}
+use Rattle.pb_closure.proofs.Membership.{all_at}
 use Rattle.pb_manifest.specs.Letters.{is_name}
 use Rattle.pb_place.specs.Paths.{is_absolute, is_path, joined, parsed}
 use Rattle.pb_place.specs.World.{World}

@@ -4,8 +4,8 @@ use Rattle.std.specs.Prelude.{is_some}
 use Rattle.std.proofs.lemmas.List.Elements.{Contains-append_left, Contains-append_right, Contains-append_cases}
 use Rattle.pb_closure.proofs.Membership.{single, head, tail, cases}
 use Rattle.pb_closure.proofs.Placed.{placed_to, placed_from, where_true, at_true}
-use Rattle.pb_feature.specs.Resolved.{is_enabled}
-use Rattle.pb_feature.specs.declared.resolved.Features.{Features}
+use Rattle.pb_resolved.specs.Features.{is_enabled}
+use Rattle.pb_resolved.specs.declared.features.Features.{Features}
 use Rattle.pb_package.specs.Workspace.{HasEntry}
 use Rattle.pb_package.specs.declared.package.DependencyKind.{DependencyKind}
 use Rattle.pb_package.specs.declared.package.DependencyKind.TheVariants.{Normal, Build}

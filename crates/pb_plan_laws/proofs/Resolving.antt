@@ -8,7 +8,7 @@ use Rattle.std.specs.List.Sorted.{IsStrictlySortedBy}
 use Rattle.std.specs.Ordering.{nat_cmp}
 use Rattle.pb_closure.proofs.Membership.{none, head, tail, cases}
 use Rattle.pb_package.specs.Settled.{IsAscending}
-use Rattle.pb_feature.specs.Resolved.{features_at, is_active, is_enabled}
+use Rattle.pb_resolved.specs.Features.{features_at, is_active, is_enabled}
 use Rattle.pb_plan_laws.specs.Features.{FeaturesAreOne}
 
 abbrev pub Before : List ℕ → List ℕ → Type 0

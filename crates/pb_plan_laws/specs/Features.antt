@@ -1,7 +1,8 @@
 -- What holds leaves nothing unsaid of what is on.
 use Rattle.std.specs.Prelude.{◌≡◌, ℕ}
-use Rattle.pb_feature.specs.Resolved.{IsResolved, features_at, is_active, is_enabled}
-use Rattle.pb_feature.specs.declared.resolved.Features.{Features}
+use Rattle.pb_feature.specs.Resolved.{IsResolved}
+use Rattle.pb_resolved.specs.Features.{features_at, is_active, is_enabled}
+use Rattle.pb_resolved.specs.declared.features.Features.{Features}
 use Rattle.pb_package.specs.declared.options.Selection.{Selection}
 use Rattle.pb_package.specs.declared.package.Side.{Side}
 use Rattle.pb_package.specs.declared.workspace.Workspace.{Workspace}

@@ -1,7 +1,7 @@
 -- What a unit needs (The Cargo Book, Specifying Dependencies, Build Scripts): a rule for each kind of unit.
 use Rattle.std.specs.Prelude.{◌≡◌, ◌↔◌, ℕ, true, is_some, List, Contains, Some, slice_get}
-use Rattle.pb_feature.specs.Resolved.{is_enabled}
-use Rattle.pb_feature.specs.declared.resolved.Features.{Features}
+use Rattle.pb_resolved.specs.Features.{is_enabled}
+use Rattle.pb_resolved.specs.declared.features.Features.{Features}
 use Rattle.pb_package.specs.Workspace.{HasEntry}
 use Rattle.pb_package.specs.declared.package.DependencyKind.TheVariants.{Normal, Build}
 use Rattle.pb_package.specs.declared.package.Entry.{Entry}

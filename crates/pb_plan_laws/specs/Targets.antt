@@ -6,7 +6,7 @@ use Rattle.pb_manifest.specs.declared.target.CrateType.TheVariants as crate_type
 use Rattle.pb_package.specs.Settled.{IsAscending}
 use Rattle.pb_package.specs.declared.package.Binary.{Binary}
 use Rattle.pb_package.specs.declared.package.Library.{Library}
-use Rattle.pb_feature.specs.declared.resolved.Features.{Features}
+use Rattle.pb_resolved.specs.declared.features.Features.{Features}
 use Rattle.pb_package.specs.declared.options.Selection.{Selection}
 use Rattle.pb_package.specs.declared.package.Package.{Package}
 use Rattle.pb_package.specs.declared.package.Side.{Side}

@@ -1,8 +1,8 @@
 //! What a build knows when it makes commands.
 
 use pb_data::{Bytes, Items, Text};
-use pb_feature::Features;
 use pb_package::Workspace;
+use pb_resolved::Features;
 use pb_unit::Plan;
 
 /// All that a build knows of its workspace once it is planned.

@@ -18,7 +18,7 @@ use Rattle.pb_place.specs.declared.command.Ended.{Ended}
 use Rattle.pb_package.specs.declared.package.Package.{Package}
 use Rattle.pb_package.specs.declared.package.Library.{Library}
 use Rattle.pb_package.specs.declared.package.Binary.{Binary}
-use Rattle.pb_feature.specs.Resolved.{features_at}
+use Rattle.pb_resolved.specs.Features.{features_at}
 use Rattle.pb_unit.specs.declared.plan.Planned.{Planned}
 use Rattle.pb_unit.specs.declared.unit.What.{What}
 use Rattle.pb_unit.specs.declared.unit.What.TheVariants.{Lib, Bin, Script, Run}

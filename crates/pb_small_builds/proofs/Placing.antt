@@ -3,7 +3,7 @@ use Rattle.std.proofs.Common.{◌≡◌, ℕ, Bool, true, false, cond, if◌then
 use Rattle.std.specs.FinMap.{get}
 use Rattle.pb_command.specs.Laws.{HasPaths}
 use Rattle.pb_data.specs.Gives.{◌>>=◌}
-use Rattle.pb_feature.specs.declared.resolved.Features.{Features}
+use Rattle.pb_resolved.specs.declared.features.Features.{Features}
 use Rattle.pb_honesty.proofs.Named.{parsed_path_is}
 use Rattle.pb_order.proofs.Elements.{all_at, all_from_at, contains_from_at}
 use Rattle.pb_package.specs.declared.options.Options.{Options}

@@ -8,7 +8,7 @@ use Rattle.std.specs.Str.{bytes_eq}
 use Rattle.pb_directive.specs.Directives.{directives_of}
 use Rattle.pb_directive.specs.declared.directive.Directive.{Directive}
 use Rattle.pb_directive.specs.declared.fault.LineFault.{LineFault}
-use Rattle.pb_feature.specs.Resolved.{features_at}
+use Rattle.pb_resolved.specs.Features.{features_at}
 use Rattle.pb_message.specs.Message.{lines_of}
 use Rattle.pb_message.specs.Targets.{library_target, binary_target, script_target}
 use Rattle.pb_message.specs.declared.message.Message.{Message}

@@ -6,7 +6,7 @@ use Rattle.std.specs.Result.{result_unwrap_or}
 use Rattle.std.specs.Str.{bytes_eq}
 use Rattle.pb_directive.specs.Directives.{directives_of}
 use Rattle.pb_directive.specs.declared.directive.Directive.{Directive}
-use Rattle.pb_feature.specs.Resolved.{features_at}
+use Rattle.pb_resolved.specs.Features.{features_at}
 use Rattle.pb_message.specs.Diagnostics.{diagnostics_of, plain_lines_of}
 use Rattle.pb_message.specs.Message.{lines_of}
 use Rattle.pb_message.specs.Targets.{library_target, binary_target, script_target}

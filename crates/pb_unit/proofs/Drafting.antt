@@ -26,8 +26,8 @@ use Rattle.pb_package.specs.declared.package.Package.{Package}
 use Rattle.pb_package.specs.declared.package.Binary.{Binary}
 use Rattle.pb_package.specs.declared.options.Selection.{Selection}
 use Rattle.pb_package.specs.declared.workspace.Workspace.{Workspace}
-use Rattle.pb_feature.specs.declared.resolved.Features.{Features}
-use Rattle.pb_feature.specs.Resolved.{features_at}
+use Rattle.pb_resolved.specs.declared.features.Features.{Features}
+use Rattle.pb_resolved.specs.Features.{features_at}
 use Rattle.pb_manifest.specs.Letters as letters
 use Rattle.pb_unit.specs.declared.unit.Unit.{Unit}
 use Rattle.pb_unit.specs.declared.unit.What.{What}

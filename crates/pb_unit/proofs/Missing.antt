@@ -9,8 +9,8 @@ use Rattle.pb_package.specs.declared.package.Side.{Side}
 use Rattle.pb_package.specs.declared.package.Side.TheVariants.{Target, Host}
 use Rattle.pb_package.specs.declared.package.Entry.{Entry}
 use Rattle.pb_package.specs.declared.workspace.Workspace.{Workspace}
-use Rattle.pb_feature.specs.declared.resolved.Features.{Features}
-use Rattle.pb_feature.specs.Resolved.{is_enabled}
+use Rattle.pb_resolved.specs.declared.features.Features.{Features}
+use Rattle.pb_resolved.specs.Features.{is_enabled}
 use Rattle.pb_unit.specs.Units.{name_at, has_library}
 use Rattle.pb_unit.specs.Drawing.{missing_by, missing_at, all_missing}
 

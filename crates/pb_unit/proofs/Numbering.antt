@@ -5,8 +5,8 @@ use Rattle.pb_closure.specs.Placed.{placed}
 use Rattle.pb_package.specs.declared.package.Side.{Side}
 use Rattle.pb_package.specs.declared.package.Side.TheVariants.{Host}
 use Rattle.pb_package.specs.declared.workspace.Workspace.{Workspace}
-use Rattle.pb_feature.specs.declared.resolved.Features.{Features}
-use Rattle.pb_feature.specs.Resolved.{is_enabled}
+use Rattle.pb_resolved.specs.declared.features.Features.{Features}
+use Rattle.pb_resolved.specs.Features.{is_enabled}
 use Rattle.pb_unit.specs.declared.dependencies.Need.TheVariants as need
 use Rattle.pb_unit.specs.declared.unit.Unit.{Unit}
 use Rattle.pb_unit.specs.declared.unit.What.TheVariants.{Lib, Bin, Script, Run}

@@ -22,7 +22,7 @@ use Rattle.pb_order.proofs.Elements.{contains_map, map_contains, at_from_contain
 use Rattle.pb_package.specs.Settled.{IsSettled, IsAscending}
 use Rattle.pb_package.specs.declared.options.Selection.{Selection}
 use Rattle.pb_package.specs.declared.workspace.Workspace.{Workspace}
-use Rattle.pb_feature.specs.declared.resolved.Features.{Features}
+use Rattle.pb_resolved.specs.declared.features.Features.{Features}
 use Rattle.pb_profile.specs.Line.{Seen}
 use Rattle.pb_place.specs.Paths.{below, is_relative, is_path, is_name, is_at_or_below}
 use Rattle.pb_place.proofs.Folders.{named_folders_lie_apart}

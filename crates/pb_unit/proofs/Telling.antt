@@ -10,7 +10,7 @@ use Rattle.pb_package.specs.declared.package.Binary.{Binary}
 use Rattle.pb_package.specs.declared.package.Package.{Package}
 use Rattle.pb_package.specs.declared.workspace.Workspace.{Workspace}
 use Rattle.pb_package.proofs.NamesInPaths.{no_dot}
-use Rattle.pb_feature.specs.declared.resolved.Features.{Features}
+use Rattle.pb_resolved.specs.declared.features.Features.{Features}
 use Rattle.pb_order.proofs.Elements.{all_at, all_from_at, at_from_contains, contains_from_at, contains_map}
 use Rattle.pb_unit.specs.declared.plan.Planned.{Planned}
 use Rattle.pb_unit.specs.declared.unit.Unit.{Unit}

@@ -23,8 +23,8 @@ use Rattle.pb_package.specs.declared.package.Binary.{Binary}
 use Rattle.pb_package.specs.declared.package.Entry.{Entry}
 use Rattle.pb_package.specs.declared.options.Selection.{Selection}
 use Rattle.pb_package.specs.declared.workspace.Workspace.{Workspace}
-use Rattle.pb_feature.specs.declared.resolved.Features.{Features}
-use Rattle.pb_feature.specs.Resolved.{features_at, is_enabled}
+use Rattle.pb_resolved.specs.declared.features.Features.{Features}
+use Rattle.pb_resolved.specs.Features.{features_at, is_enabled}
 use Rattle.pb_profile.specs.Line.{Seen}
 use Rattle.pb_profile.specs.Settings.{settings_along}
 use Rattle.pb_unit.specs.declared.unit.Unit.{Unit}

@@ -5,7 +5,7 @@ use Rattle.pb_place.specs.Paths.{is_name}
 use Rattle.pb_package.specs.Settled.{IsSettled}
 use Rattle.pb_package.specs.declared.options.Selection.{Selection}
 use Rattle.pb_package.specs.declared.workspace.Workspace.{Workspace}
-use Rattle.pb_feature.specs.declared.resolved.Features.{Features}
+use Rattle.pb_resolved.specs.declared.features.Features.{Features}
 use Rattle.pb_unit.specs.declared.plan.Planned.{Planned}
 use Rattle.pb_unit.specs.declared.plan.Plan.{Plan}
 use Rattle.pb_unit.specs.Plan.{IsPlan}

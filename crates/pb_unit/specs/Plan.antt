@@ -13,8 +13,8 @@ use Rattle.pb_package.specs.declared.package.Package.{Package}
 use Rattle.pb_package.specs.declared.package.Entry.{Entry}
 use Rattle.pb_package.specs.declared.options.Selection.{Selection}
 use Rattle.pb_package.specs.declared.workspace.Workspace.{Workspace}
-use Rattle.pb_feature.specs.declared.resolved.Features.{Features}
-use Rattle.pb_feature.specs.Resolved.{is_enabled}
+use Rattle.pb_resolved.specs.declared.features.Features.{Features}
+use Rattle.pb_resolved.specs.Features.{is_enabled}
 use Rattle.pb_profile.specs.Line.{Seen, checked_line, folder_of}
 use Rattle.pb_profile.specs.Settings.{settings_along}
 use Rattle.pb_profile.specs.declared.fault.ProfileFault.{ProfileFault}

@@ -10,9 +10,9 @@ ghost use Rattle.pb_unit.specs.Drawing.{missing_by, missing_at, all_missing, nam
 use crate::dependencies::has_library;
 use crate::unit::{Unit, name_at};
 use pb_data::{Items, Text};
-use pb_feature::Features;
 use pb_order::sort_once;
 use pb_package::{Entry, Side, Workspace};
+use pb_resolved::Features;
 use std::alloc::{AllocError, Global};
 
 /// Names in byte order, each once.

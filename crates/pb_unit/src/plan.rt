@@ -20,12 +20,12 @@ use crate::fault::PlanFault;
 use crate::names::{names_behind, without_library};
 use crate::unit::Unit;
 use pb_data::{Items, Text, TryCopy};
-use pb_feature::Features;
 use pb_order::order::order;
 use pb_order::{OrderFault, Step};
 use pb_package::{SelectedWorkspace, Workspace};
 use pb_place::{PathText, RelativePath};
 use pb_profile::{Ancestor, ProfileFault, Settings, folder_of, line_of, settings_along};
+use pb_resolved::Features;
 use std::alloc::{AllocError, Global};
 
 /// How many units a plan may have.

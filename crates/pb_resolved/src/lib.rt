@@ -1,0 +1,7 @@
+//! What is on in a workspace: which packages, features and entries, on each of two sides (The Cargo Book, Features,
+//! resolver 2). `pb_feature` finds it.
+#![tactic(auto)]
+
+pub mod features;
+
+pub use features::{Features, Part, Sides, is_marked};
