@@ -7,7 +7,9 @@ use Rattle.pb_answer.specs.declared.fault.BuildFault.{BuildFault}
 use Rattle.pb_answer.specs.declared.fault.BuildFault.TheVariants.{Plan, Toolchain, Child, Device, Sink, OutOfMemory}
 use Rattle.pb_answer.specs.declared.fault.DeviceFault.TheVariants.{Place, NumbersSpent}
 use Rattle.pb_place.specs.Counts.{Counts}
-use Rattle.pb_place.specs.World.{World, Answers}
+use Rattle.pb_place.specs.Paths.{is_at_or_below}
+use Rattle.pb_place.specs.World.{World, Answers, ChangesOnly}
+use Rattle.pb_place.specs.declared.child_in_flight.ChildInFlight.{ChildInFlight}
 use Rattle.pb_place.specs.declared.command.Command.{Command}
 use Rattle.pb_place.specs.declared.command.Ended.{Ended}
 use Rattle.pb_place.specs.declared.place.PlaceFault.TheVariants as place
@@ -17,7 +19,7 @@ use Rattle.pb_record.specs.Parts.{IsReading}
 use Rattle.pb_run.specs.Causes.{StopsAt, is_of_start, is_spent, store_fault}
 use Rattle.pb_run.specs.Halves.{awaits_number, child_in, child_of}
 use Rattle.pb_run.specs.Landing.{CallsBehind, EndsBy, GivesRecord, answered_called}
-use Rattle.pb_run.specs.Launching.{HasLooked, LaunchEnds, Launches}
+use Rattle.pb_run.specs.Launching.{HasLooked, IsSpawned, LaunchEnds, Launches}
 use Rattle.pb_run.specs.Running.{RunsThrough, StopsToBegin, past_look}
 use Rattle.pb_run.specs.Standing.{records_folder}
 use Rattle.pb_run.specs.declared.begun.Awaited.{Awaited}
@@ -25,6 +27,7 @@ use Rattle.pb_run.specs.declared.begun.Awaited.TheVariants as awaited
 use Rattle.pb_run.specs.declared.begun.Begun.{Begun}
 use Rattle.pb_run.specs.declared.begun.Launched.{Launched}
 use Rattle.pb_run.specs.declared.ran.Ran.{Ran}
+use Rattle.pb_soundness.specs.Apart.{is_of}
 use Rattle.pb_soundness.specs.Numbers.{after}
 use Rattle.pb_soundness.specs.Records.{Reading, place_of, record_at}
 use Rattle.pb_store.specs.Looking.{looked_at}
@@ -78,32 +81,41 @@ module _ {P : Type 0} (world : P → World) (counts : P → Counts) (tells : Boo
   begins_so None looks launches = looks refl
   begins_so (Some launched) looks launches = let (looked, has, so) = launches in subst (λ k. Launches child c launched.ticket k new) (has.looks read reading told) so
 
--- What the answer says of its calls, whatever is told of it.
-unstood : (by : Awaited) (answer : Result Ended StartFault) (well : Type 0) (still : ℕ → Type 0) (before after : World) (old new : Counts) → EndsBy by answer well still before after old new → EndsBy by answer well (λ ticket. ⊥) before after old new
-unstood (awaited.Child launched) answer well still before after old new ends = record { counted = ends.counted; answered = ends.answered; only = ends.only; lands = λ stood. absurd stood }
-unstood (awaited.Record again) answer well still before after old new ends = ends
+-- The child stood still between its spawn and its end, since nothing was called then.
+stood : (inside : List ℕ → Bool) (child : Answers) (c : Command) (w : World) (flying : List ChildInFlight) (still : ℕ → Type 0) (by : Awaited) (answer : Result Ended StartFault) (well : Type 0) (before after : World) (old new : Counts)
+    → IfSome (child_in by) (λ launched. IsSpawned inside child c w launched.ticket flying still) → EndsBy by answer well still before after old new → EndsBy by answer well (λ ticket. Unit {0}) before after old new
+stood inside child c w flying still (awaited.Child launched) answer well before after old new spawned ends = record { counted = ends.counted; answered = ends.answered; only = ends.only; lands = λ any. ends.lands spawned.stands }
+stood inside child c w flying still (awaited.Record again) answer well before after old new spawned ends = ends
 
-module _ (read : Reading) (child : Answers) (project : Project) (u : Planned) (c : Command) (begun : Begun) (w between left : World) (old mid ended new : Counts) (answer : Result Ended StartFault) (still : ℕ → Type 0) (is : begun.command ≡ c)
+spawned_so : (inside : List ℕ → Bool) (child : Answers) (c : Command) (w : World) (flying : List ChildInFlight) (still : ℕ → Type 0) (o : Option Launched)
+    → IfSome o (λ launched. IsSpawned inside child c w launched.ticket flying still) → IfSome o (λ launched. IsSpawned inside child c w launched.ticket flying (λ ticket. Unit {0}))
+spawned_so inside child c w flying still None spawned = tt
+spawned_so inside child c w flying still (Some launched) spawned = record { spawned = spawned.spawned; only = spawned.only; flies = spawned.flies; emptied = spawned.emptied; stands = tt }
+
+module _ (read : Reading) (child : Answers) (project : Project) (u : Planned) (c : Command) (begun : Begun) (w between left after : World) (old mid ended new : Counts) (answer : Result Ended StartFault) (still : ℕ → Type 0) (is : begun.command ≡ c)
     (begins : MatchOption (child_of begun) (mid ≡ past_look read project u begun.command w old) (λ launched. Launches child begun.command launched.ticket (past_look read project u begun.command w old) mid))
-    (same : child_of begun ≡ None → between ≡ w) (gives : GivesRecord (record_at read (records_folder project) w.files u.key) begun.awaited) where
+    (spawned : IfSome (child_of begun) (λ launched. IsSpawned (is_of (records_folder project) u.key) child begun.command w launched.ticket mid.starts.flying still))
+    (same : child_of begun ≡ None → between ≡ w) (gives : GivesRecord (record_at read (records_folder project) w.files u.key) begun.awaited) (only : ChangesOnly (is_at_or_below (place_of (records_folder project) u.key)) left after) where
   through : {T : Type 0} (result : Result T BuildFault) → EndsBy begun.awaited answer (IsOk result) still between left mid ended
-      → CallsBehind (answered_called read project u begun.command left begun.awaited) answer result ended new → RunsThrough read child project u c result w old new
-  through result ends behind = subst (λ k. RunsThrough read child project u k result w old new) is record {
+      → CallsBehind (answered_called read project u begun.command left begun.awaited) answer result ended new → RunsThrough read child project u c result w old after new
+  through result ends behind = subst (λ k. RunsThrough read child project u k result w old after new) is record {
     begun = begun;
     between = between;
     mid = mid;
     begins = begins;
+    spawned = spawned_so (is_of (records_folder project) u.key) child begun.command w mid.starts.flying still (child_of begun) spawned;
     same = same;
     gives = gives;
     left = left;
     ended = ended;
     answer = answer;
-    ends = unstood begun.awaited answer (IsOk result) still between left mid ended ends;
+    ends = stood (is_of (records_folder project) u.key) child begun.command w mid.starts.flying still begun.awaited answer (IsOk result) between left mid ended spawned ends;
+    only = only;
     behind = behind;
   }
 
   pub ran_well : {T : Type 0} (ran : Ran) (run : T) → EndsBy begun.awaited answer (IsOk (ended_well ran)) still between left mid ended
-      → CallsBehind (answered_called read project u begun.command left begun.awaited) answer (ended_well ran) ended new → RunsThrough {T = T} read child project u c (Ok run) w old new
+      → CallsBehind (answered_called read project u begun.command left begun.awaited) answer (ended_well ran) ended new → RunsThrough {T = T} read child project u c (Ok run) w old after new
   ran_well {T} ran run ends behind = through {T = T} (Ok run) ends (well answer behind)
     where
       well : (a : Result Ended StartFault) → CallsBehind (answered_called read project u begun.command left begun.awaited) a (ended_well ran) ended new → CallsBehind {T = T} (answered_called read project u begun.command left begun.awaited) a (Ok run) ended new
@@ -111,7 +123,7 @@ module _ (read : Reading) (child : Answers) (project : Project) (u : Planned) (c
       well (Err fault) so = so
 
   pub ran_badly : {T : Type 0} (fault : BuildFault) → EndsBy begun.awaited answer (IsOk (ended_badly fault)) still between left mid ended
-      → CallsBehind (answered_called read project u begun.command left begun.awaited) answer (ended_badly fault) ended new → RunsThrough {T = T} read child project u c (Err fault) w old new
+      → CallsBehind (answered_called read project u begun.command left begun.awaited) answer (ended_badly fault) ended new → RunsThrough {T = T} read child project u c (Err fault) w old after new
   ran_badly {T} fault ends behind = through {T = T} (Err fault) ends (badly answer behind)
     where
       badly : (a : Result Ended StartFault) → CallsBehind (answered_called read project u begun.command left begun.awaited) a (ended_badly fault) ended new → CallsBehind {T = T} (answered_called read project u begun.command left begun.awaited) a (Err fault) ended new

@@ -1,9 +1,10 @@
 -- Which calls the run of a unit makes, from its beginning to its answer.
-use Rattle.std.specs.Prelude.{◌≡◌, ◌⊎◌, IsOk, MatchOption, None, Result, Err}
+use Rattle.std.specs.Prelude.{◌≡◌, ◌⊎◌, IfSome, IsOk, MatchOption, None, Result, Err}
 use Rattle.pb_answer.specs.declared.fault.BuildFault.{BuildFault}
 use Rattle.pb_place.specs.CallsInTurn.{past_calls}
 use Rattle.pb_place.specs.Counts.{Counts}
-use Rattle.pb_place.specs.World.{World, Answers}
+use Rattle.pb_place.specs.Paths.{is_at_or_below}
+use Rattle.pb_place.specs.World.{World, Answers, ChangesOnly}
 use Rattle.pb_place.specs.declared.command.Command.{Command}
 use Rattle.pb_place.specs.declared.command.Ended.{Ended}
 use Rattle.pb_place.specs.declared.place.StartFault.{StartFault}
@@ -11,9 +12,10 @@ use Rattle.pb_project.specs.declared.project.Project.{Project}
 use Rattle.pb_run.specs.Causes.{StopsAt}
 use Rattle.pb_run.specs.Halves.{child_of}
 use Rattle.pb_run.specs.Landing.{CallsBehind, EndsBy, GivesRecord, answered_called}
-use Rattle.pb_run.specs.Launching.{LaunchEnds, Launches}
+use Rattle.pb_run.specs.Launching.{IsSpawned, LaunchEnds, Launches}
 use Rattle.pb_run.specs.Standing.{records_folder}
 use Rattle.pb_run.specs.declared.begun.Begun.{Begun}
+use Rattle.pb_soundness.specs.Apart.{is_of}
 use Rattle.pb_soundness.specs.Records.{Reading, place_of, record_at}
 use Rattle.pb_store.specs.Looking.{looked_at}
 use Rattle.pb_unit.specs.declared.plan.Planned.{Planned}
@@ -26,20 +28,22 @@ past_look read project u c w old = past_calls (looked_at read (records_folder pr
 abbrev pub StopsToBegin : Reading → Project → Planned → Command → BuildFault → World → Counts → Counts → Type 0
 StopsToBegin read project u c fault w old new = StopsAt fault (looked_at read (records_folder project) u.key c w) old new ⊎ LaunchEnds (place_of (records_folder project) u.key) u.out fault (past_look read project u c w old) new
 
--- it began, by its look and the launch of its child where it has one, and where it has none nothing was changed and the record that counts gives its answer again; and its answer was taken: the end of the child was asked for, and behind it just the calls came that belong to the answer
-pub record RunsThrough {T : Type 0} (read : Reading) (child : Answers) (project : Project) (u : Planned) (c : Command) (result : Result T BuildFault) (w : World) (old new : Counts) : Type 0 where
+-- it began, by its look and the launch of its child where it has one, which was spawned over an empty folder, and where it has none nothing was changed and the record that counts gives its answer again; and its answer was taken: the end of the child was asked for, which left what its reply makes of that moment, and behind it just the calls came that belong to the answer, of which the unit's record alone is written
+pub record RunsThrough {T : Type 0} (read : Reading) (child : Answers) (project : Project) (u : Planned) (c : Command) (result : Result T BuildFault) (w : World) (old : Counts) (after : World) (new : Counts) : Type 0 where
   pub begun : Begun
   pub between : World
   pub mid : Counts
   pub begins : MatchOption (child_of begun) (mid ≡ past_look read project u c w old) (λ launched. Launches child c launched.ticket (past_look read project u c w old) mid)
+  pub spawned : IfSome (child_of begun) (λ launched. IsSpawned (is_of (records_folder project) u.key) child c w launched.ticket mid.starts.flying (λ ticket. Unit {0}))
   pub same : child_of begun ≡ None → between ≡ w
   pub gives : GivesRecord (record_at read (records_folder project) w.files u.key) begun.awaited
   pub left : World
   pub ended : Counts
   pub answer : Result Ended StartFault
-  pub ends : EndsBy begun.awaited answer (IsOk result) (λ ticket. ⊥) between left mid ended
+  pub ends : EndsBy begun.awaited answer (IsOk result) (λ ticket. Unit {0}) between left mid ended
+  pub only : ChangesOnly (is_at_or_below (place_of (records_folder project) u.key)) left after
   pub behind : CallsBehind (answered_called read project u c left begun.awaited) answer result ended new
 
 -- a unit was run by just these calls
-abbrev pub RunsCalling : {T : Type 0} → Reading → Answers → Project → Planned → Command → Result T BuildFault → World → Counts → Counts → Type 0
-RunsCalling read child project u c result w old new = ((fault : BuildFault) × (result ≡ Err fault) × StopsToBegin read project u c fault w old new) ⊎ RunsThrough read child project u c result w old new
+abbrev pub RunsCalling : {T : Type 0} → Reading → Answers → Project → Planned → Command → Result T BuildFault → World → Counts → World → Counts → Type 0
+RunsCalling read child project u c result w old after new = ((fault : BuildFault) × (result ≡ Err fault) × StopsToBegin read project u c fault w old new) ⊎ RunsThrough read child project u c result w old after new

@@ -20,7 +20,7 @@ ghost use Rattle.pb_record.specs.Parts.{IsReading};
 ghost use Rattle.pb_run.specs.Causes.{Takes, Begins, Lands, Drops, Runs, MayBeginUnit, MayAnswerUnit, MayRunUnit, StopsAt, is_of_child, is_of_look, is_of_start, is_of_write, is_spent};
 ghost use Rattle.pb_run.specs.Halves.{Footing, Basis, basis, outcomes_in, Keeps, IsBegun, CanBegin, CanAnswer, BeginsApart, WritesTo, awaits_number, child_of};
 ghost use Rattle.pb_run.specs.Landing.{EndsBy, CallsBehind, GivesRecord, IsJudged, answered_called};
-ghost use Rattle.pb_run.specs.Launching.{HasLooked, Launches, LaunchEnds};
+ghost use Rattle.pb_run.specs.Launching.{HasLooked, IsSpawned, LaunchEnds, Launches};
 ghost use Rattle.pb_run.specs.Outcome.{outcome_by, directives_in, ran_of, unstarted};
 ghost use Rattle.pb_run.specs.Running.{RunsCalling};
 ghost use Rattle.pb_run.specs.Standing.{IsCommandOf, IsInOrder, records_folder};
@@ -112,6 +112,7 @@ pub fn begin_unit<P: Place>(
     ensures dropped { (read : Reading) → IsTrue P.tells → IfOk result (λ made. IsSome (child_of made.begun) → record_at read (records_folder project.now) (P.world place.new).files unit.now.key ≡ None) }
     ensures numbers { (read : Reading) → IsTrue P.tells → HoldsNumbers (record_at read (records_folder project.now) (P.world place.old).files) store.old.numbers → OnOk result (HoldsNumbers (record_at read (records_folder project.now) (P.world place.new).files) store.new.numbers) }
     ensures writes { IsTrue P.tells → IfOk result (λ made. WritesTo unit.now.out (child_of made.begun) (P.counts place.new).starts.flying) }
+    ensures launched { IsTrue P.tells → IfOk result (λ made. IfSome (child_of made.begun) (λ launched. IsSpawned (is_of (records_folder project.now) unit.now.key) P.child made.begun.command (P.world place.old) launched.ticket (P.counts place.new).starts.flying (P.still place.new))) }
     ensures stay { (ticket : ℕ) (its : ChildInFlight) → child_at ticket (P.counts place.old).starts.flying ≡ Some its → child_at ticket (P.counts place.new).starts.flying ≡ Some its }
     ensures folder { store.new.folder ≡ store.old.folder }
     ensures next { TakesNumber store.old.next store.new.next }
@@ -350,7 +351,7 @@ pub fn run_unit<P: Place>(
         → IfErr result (λ e. is_spent e ≡ true → ((difference : Difference) × FirstDifference read (records_folder project.now) unit.now.key (command_of setup.now project.now unit.now done.now) (P.world place.old) (Some difference))
         ⊎ (lacks_number (record_at read (records_folder project.now) (P.world place.old).files unit.now.key) ≡ true)) }
     ensures takes { Takes Runs (MayRunUnit store.old.next unit.now.key) result (P.counts place.old) (P.counts place.new) }
-    ensures calls { (read : Reading) → IsReading read → IsTrue P.tells → RunsCalling read P.child project.now unit.now (command_of setup.now project.now unit.now done.now) result (P.world place.old) (P.counts place.old) (P.counts place.new) }
+    ensures calls { (read : Reading) → IsReading read → IsTrue P.tells → RunsCalling read P.child project.now unit.now (command_of setup.now project.now unit.now done.now) result (P.world place.old) (P.counts place.old) (P.world place.new) (P.counts place.new) }
 {
     project.is_in_order();
     let made = match begin_unit(alloc, place, store, setup, project, done, index, unit) {

@@ -7,7 +7,7 @@ use Rattle.pb_place.specs.World.{World, ChangesOnly}
 use Rattle.pb_place.specs.declared.command.Command.{Command}
 use Rattle.pb_run.specs.Causes.{StopsAt}
 use Rattle.pb_run.specs.Halves.{CanBegin, basis}
-use Rattle.pb_run.specs.Launching.{LaunchEnds}
+use Rattle.pb_run.specs.Launching.{IsSpawned, LaunchEnds}
 use Rattle.pb_run.specs.Standing.{records_folder}
 use Rattle.pb_run.proofs.Judged.{child_starts}
 use Rattle.pb_run.proofs.Calling.{launch_no_look, memory_first}
@@ -88,6 +88,12 @@ pub returns-in-Ok-launch-clause-writes : goal.returns-in-Ok-launch-clause-writes
 returns-in-Ok-launch-clause-writes g c told =
     spawned_writes c.args.unit.now.out (is_of c.args.store.now.folder c.args.unit.now.key) g.P.Place.child c.in-Ok-command.command (g.P.Place.world c.compare.new.place) c.in-Ok-launch.launched (g.P.Place.counts c.launch.new.place).starts.flying (g.P.Place.still c.launch.new.place)
     (out_asked c.args.project.now c.args.setup.now c.args.index c.args.unit.now c.args.done.now c.in-Ok-command.command c.is_in_order.ensures c.requires.unit c.in-Ok-command.ensures) (c.in-Ok-launch.ensures.spawned told)
+
+pub returns-in-Ok-launch-clause-launched : goal.returns-in-Ok-launch-clause-launched
+returns-in-Ok-launch-clause-launched g c told =
+    subst (λ (folder : List ℕ). IsSpawned (is_of folder c.args.unit.now.key) g.P.Place.child c.in-Ok-command.command (g.P.Place.world c.args.place.now) c.in-Ok-launch.launched.ticket (g.P.Place.counts c.launch.new.place).starts.flying (g.P.Place.still c.launch.new.place)) c.requires.folder
+    (subst (λ (w : World). IsSpawned (is_of c.args.store.now.folder c.args.unit.now.key) g.P.Place.child c.in-Ok-command.command w c.in-Ok-launch.launched.ticket (g.P.Place.counts c.launch.new.place).starts.flying (g.P.Place.still c.launch.new.place)) (c.in-Ok-compare.ensures.same told)
+    (c.in-Ok-launch.ensures.spawned told))
 
 pub returns-in-Err-compare-clause-stay : goal.returns-in-Err-compare-clause-stay
 returns-in-Err-compare-clause-stay g c ticket its there = ap (child_at ticket) (flying_begun c.args.store.now.next c.args.unit.now.key _ (g.P.Place.counts c.args.place.now).starts (g.P.Place.counts c.compare.new.place).starts c.in-Err-compare.ensures.takes.0) ∙ there

@@ -105,16 +105,16 @@ returns-in-Ok-answer_unit-clause-calls g c read reading told =
     let (left, answer, ends, only, behind) = c.in-Ok-answer_unit.ensures.lands told in
     let begins = begins_so g.P.Place.world g.P.Place.counts g.P.Place.tells g.P.Place.child read c.args.project.now c.args.unit.now c.in-Ok.made.begun.command (g.P.Place.world c.args.place.now) (g.P.Place.counts c.args.place.now) (g.P.Place.counts c.begin_unit.new.place) reading told
     (child_of c.in-Ok.made.begun) (c.in-Ok.ensures.looks read reading told) c.in-Ok.ensures.launches in
-    inr (ran_well read g.P.Place.child c.args.project.now c.args.unit.now _ c.in-Ok.made.begun (g.P.Place.world c.args.place.now) (g.P.Place.world c.begin_unit.new.place) (g.P.Place.world left) (g.P.Place.counts c.args.place.now) (g.P.Place.counts c.begin_unit.new.place) (g.P.Place.counts left) (g.P.Place.counts c.answer_unit.new.place)
-    answer (g.P.Place.still c.begin_unit.new.place) c.in-Ok.ensures.asks begins (c.in-Ok.ensures.same told) (c.in-Ok.ensures.carries read reading told) c.in-Ok-answer_unit.ran _ ends (behind read reading))
+    inr (ran_well read g.P.Place.child c.args.project.now c.args.unit.now _ c.in-Ok.made.begun (g.P.Place.world c.args.place.now) (g.P.Place.world c.begin_unit.new.place) (g.P.Place.world left) (g.P.Place.world c.answer_unit.new.place) (g.P.Place.counts c.args.place.now) (g.P.Place.counts c.begin_unit.new.place) (g.P.Place.counts left) (g.P.Place.counts c.answer_unit.new.place)
+    answer (g.P.Place.still c.begin_unit.new.place) c.in-Ok.ensures.asks begins (c.in-Ok.ensures.launched told) (c.in-Ok.ensures.same told) (c.in-Ok.ensures.carries read reading told) only c.in-Ok-answer_unit.ran _ ends (behind read reading))
 
 pub returns-in-Err-answer_unit-clause-calls : goal.returns-in-Err-answer_unit-clause-calls
 returns-in-Err-answer_unit-clause-calls g c read reading told =
     let (left, answer, ends, only, behind) = c.in-Err-answer_unit.ensures.lands told in
     let begins = begins_so g.P.Place.world g.P.Place.counts g.P.Place.tells g.P.Place.child read c.args.project.now c.args.unit.now c.in-Ok.made.begun.command (g.P.Place.world c.args.place.now) (g.P.Place.counts c.args.place.now) (g.P.Place.counts c.begin_unit.new.place) reading told
     (child_of c.in-Ok.made.begun) (c.in-Ok.ensures.looks read reading told) c.in-Ok.ensures.launches in
-    inr (ran_badly read g.P.Place.child c.args.project.now c.args.unit.now _ c.in-Ok.made.begun (g.P.Place.world c.args.place.now) (g.P.Place.world c.begin_unit.new.place) (g.P.Place.world left) (g.P.Place.counts c.args.place.now) (g.P.Place.counts c.begin_unit.new.place) (g.P.Place.counts left) (g.P.Place.counts c.answer_unit.new.place)
-    answer (g.P.Place.still c.begin_unit.new.place) c.in-Ok.ensures.asks begins (c.in-Ok.ensures.same told) (c.in-Ok.ensures.carries read reading told) c.in-Err-answer_unit.fault ends (behind read reading))
+    inr (ran_badly read g.P.Place.child c.args.project.now c.args.unit.now _ c.in-Ok.made.begun (g.P.Place.world c.args.place.now) (g.P.Place.world c.begin_unit.new.place) (g.P.Place.world left) (g.P.Place.world c.answer_unit.new.place) (g.P.Place.counts c.args.place.now) (g.P.Place.counts c.begin_unit.new.place) (g.P.Place.counts left) (g.P.Place.counts c.answer_unit.new.place)
+    answer (g.P.Place.still c.begin_unit.new.place) c.in-Ok.ensures.asks begins (c.in-Ok.ensures.launched told) (c.in-Ok.ensures.same told) (c.in-Ok.ensures.carries read reading told) only c.in-Err-answer_unit.fault ends (behind read reading))
 
 pub returns-in-Ok-answer_unit-clause-number : goal.returns-in-Ok-answer_unit-clause-number
 returns-in-Ok-answer_unit-clause-number g c some =
