@@ -38,11 +38,12 @@ use Rattle.pb_turns.specs.Crew.{needs_of, launched_of, ticket_of_child}
 use Rattle.pb_turns.specs.Ends.{rows_in, nothing_said, Stands, StandsWhole, StandsCut, EndsWhole, EndsCut, Grounding, Dropped, Drained}
 use Rattle.pb_turns.specs.Laws.{SaysFirstRows}
 use Rattle.pb_turns.specs.Moments.{Moment, Heard}
-use Rattle.pb_turns.specs.Rows.{summary_of, started_keys, is_started, messages_in, bad_of, directives_told, Reasons, key_told, said_told, bad_told, differences_of, kept_of, is_success}
-use Rattle.pb_turns.specs.Story.{states_in, untouched, Stops, Changes, Happened, AllBeganFor, CameAfter, LacksNoNumber, NamesUnit, NumbersGiven, StartedFor, HasNoRecord, KeepsNoneOfBad, KeepsNoneInFlight, HasGiven, Story, StoryEnds, OnlyOf, NotesStarted}
-use Rattle.pb_turns.specs.Summing.{summary_by, noted_of, count_told, keys_at, differences_at}
+use Rattle.pb_turns.specs.Rows.{summary_of, started_keys, is_started, messages_in, bad_of, directives_told, Reasons, key_told, said_told, bad_told, differences_of, kept_of, is_success, noted_of, count_told, noted_told}
+use Rattle.pb_turns.specs.Story.{states_in, untouched, AllAnswerAgain, Stops, Changes, Happened, AllBeganFor, CameAfter, LacksNoNumber, NamesUnit, NumbersGiven, StartedFor, HasNoRecord, KeepsNoneOfBad, KeepsNoneInFlight, HasGiven, Story, StoryEnds, OnlyOf, NotesStarted}
+use Rattle.pb_turns.specs.Summing.{summary_by, keys_at, differences_at}
 use Rattle.pb_turns.specs.declared.crew.Aloft.{Aloft}
 use Rattle.pb_turns.specs.declared.crew.UnitCrew.{UnitCrew}
+use Rattle.pb_turns.proofs.Again.{replays_first}
 use Rattle.pb_turns.proofs.Changing.{changes_first}
 use Rattle.pb_turns.proofs.Counting.{appends_none, stops_refused}
 use Rattle.pb_turns.proofs.States.{due_all}
@@ -111,6 +112,7 @@ story_first tells child c at still aloft started holds = record {
     λ place has. absurd (none_begun c.project place has),
   );
   unrecorded = λ t. none_in_flight c.project at.world;
+  again = λ t. replays_first c.setup c.project c.done.items c.aloft.items at.world aloft;
   held = holds;
   quiet = λ t f r s reading keeps none numbered. refl;
   calls = λ t f r s reading keeps. (refl, refl);
@@ -245,6 +247,7 @@ module _ {S : Type 0} (tells : Bool) (child : Answers) (Turns : S → List ℕ �
     only = λ t. subst (λ (p : Project). OnlyOf p es at.world new.world) ends.project (changes at.world es t (ends.changes t)).only;
     unkept = λ t. subst (λ (p : Project). KeepsNoneOfBad p es new.world) ends.project (changes at.world es t (ends.changes t)).unkept;
     dropped = λ t. subst (λ (p : Project). KeepsNoneInFlight p ends.before asked new.world) ends.project (λ place u there state apart started. unrecorded at.world es place u t (ends.changes t) there (ends.unrecorded t place u there state apart started));
+    again = λ t. (c.done.items, subst (λ (s : Setup). AllAnswerAgain s first.project es c.done.items at.world) ends.setup (subst (λ (p : Project). AllAnswerAgain c.setup p es c.done.items at.world) ends.project (ends.again t)));
     told = since_first (λ b. StandsCut b fault first.store.next es ends.before at.world new.world) ends.setup ends.project (λ t f r sources reading keeps.
         let (h, began) = ends.happened t f r sources reading keeps in
         let (spent, started_for) = ends.caused t f r sources reading keeps in
@@ -271,6 +274,7 @@ module _ {S : Type 0} (tells : Bool) (child : Answers) (Turns : S → List ℕ �
     most = s.goes.most;
     changes = s.changes;
     unrecorded = s.unrecorded;
+    again = λ t. (s.again t).gave;
     happened = s.happened;
     caused = λ t f r sources reading keeps. (tt, no_start (basis f r child c.setup c.project sources) OutOfMemory es es at.world mid.world refl);
     calls = λ t f r sources reading keeps. (mid.world, mid.counts, s.calls t f r sources reading keeps, inl refl);
@@ -315,6 +319,10 @@ module _ {S : Type 0} (tells : Bool) (child : Answers) (Turns : S → List ℕ �
       reasons = d.reasons.items;
       differences = ap (λ (s : Summary). s.differences) now_is ∙ ap (differences_at d.reasons.items) started_is;
       kept = ap (λ (s : Summary). s.kept) now_is ∙ ap (λ (p : Project). kept_of p.plan.planned d.reasons.items) story.project;
+      done = c.done.items;
+      directives = ap (λ (s : Summary). s.directives) now_is
+          ∙ ap (λ ds. noted_told c.project.plan.planned ds (first_bad (states_in c.project es))) (ap (λ (x : UnitCrew). x.done.items) same)
+          ∙ ap (λ (p : Project). noted_told p.plan.planned c.done.items (first_bad (states_in p es))) story.project;
       unnoted = λ place at_place.
           let less : place < length first.project.plan.planned = subst (λ (n : ℕ). place < n) (length_states (needs_of first.project) es ∙ length-map first.project.plan.planned (λ (u : Planned). u.needs)) (slice_get_within (states_in first.project es) place Untouched at_place) in
           ap (λ (items : Reasons). slice_get items place) (ap (λ (x : UnitCrew). x.reasons.items) same)
@@ -332,6 +340,7 @@ module _ {S : Type 0} (tells : Bool) (child : Answers) (Turns : S → List ℕ �
       numbers = (c.store.next, story.numbers);
       unkept = λ t. subst (λ (p : Project). KeepsNoneOfBad p es new.world) story.project (changes at.world es t (story.changes t)).unkept;
       dropped = λ t. subst (λ (p : Project). KeepsNoneInFlight p es None new.world) story.project (λ place u there state apart started. unrecorded at.world es place u t (story.changes t) there (story.unrecorded t place u there state apart started));
+      again = λ t. subst (λ (s : Setup). AllAnswerAgain s first.project es c.done.items at.world) story.setup (subst (λ (p : Project). AllAnswerAgain c.setup p es c.done.items at.world) story.project (story.again t).gave);
       told = since_first (λ b. StandsWhole b first.store.next es d.reasons.items summary at.world new.world) story.setup story.project (λ t f r sources reading keeps.
           let (h, began) = story.happened t f r sources reading keeps in
           stands_whole (basis f r child c.setup c.project sources) d.done.items d.aloft.items d.store.next es new.world new.counts.starts.flying still' (happened (basis f r child c.setup c.project sources) es t refl h)
@@ -363,6 +372,7 @@ ends_before tells child Turns setup project next from at none = record {
   only = λ t. record { variables = refl; files = λ q outside. refl };
   unkept = λ t. none_bad project at.world;
   dropped = λ t. none_in_flight project at.world;
+  again = λ t. ([], (replays_first setup project [] [] at.world refl).gave);
   told = λ t f r sources reading keeps. record {
     stands = stands (basis f r child setup project sources) (nothing_said project) [] next [] at.world [] (λ n. Unit {0}) record {
       keeps = keeps;

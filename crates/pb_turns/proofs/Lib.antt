@@ -8,6 +8,7 @@ pub mod Staying
 pub mod Answered
 pub mod Unkept
 pub mod Changing
+pub mod Again
 pub mod Alone
 pub mod Counting
 pub mod Calling

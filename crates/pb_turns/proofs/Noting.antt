@@ -2,8 +2,7 @@
 use Rattle.std.proofs.Common.{◌≡◌, ◌∙◌, ◌++◌, List, [], ◌∷◌, ℕ, zero, suc, Option, Some, sym, ap, slice_get, take, append_assoc, append-nil}
 use Rattle.pb_directive.specs.declared.directive.Directive.{Directive}
 use Rattle.pb_flight.proofs.Lists.{injective, clash}
-use Rattle.pb_turns.specs.Rows.{keyed, Reasons, kept_key, kept_of}
-use Rattle.pb_turns.specs.Summing.{noted_of}
+use Rattle.pb_turns.specs.Rows.{keyed, Reasons, kept_key, kept_of, noted_of}
 use Rattle.pb_unit.specs.declared.plan.Planned.{Planned}
 use Rattle.pb_store.specs.declared.difference.Difference.{Difference}
 

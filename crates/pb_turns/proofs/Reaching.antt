@@ -1,11 +1,15 @@
 -- What a unit that may begin reaches is good; and whose paths are whose.
-use Rattle.std.proofs.Common.{◌≡◌, ◌≢◌, ◌⊎◌, ◌∙◌, ◌<◌, ◌||◌, inl, inr, Bool, true, false, List, [], ◌∷◌, ℕ, zero, suc, Option, Some, Contains, refl, sym, ap, subst, arith, slice_get, get_or, map, length}
+use Rattle.std.proofs.Common.{◌≡◌, ◌≢◌, ◌⊎◌, ◌∙◌, ◌<◌, ◌||◌, inl, inr, Bool, true, false, List, [], ◌∷◌, ℕ, zero, suc, Option, Some, None, Contains, refl, sym, ap, subst, arith, slice_get, get_or, map, length}
+use Rattle.std.proofs.lemmas.Bool.{false≢true}
 use Rattle.std.proofs.lemmas.List.{length-map}
 use Rattle.std.proofs.lemmas.Option.{slice_get_read, slice_get_within}
 use Rattle.pb_directive.specs.declared.directive.Directive.{Directive}
 use Rattle.pb_flight.specs.declared.flight.State.{State}
-use Rattle.pb_flight.specs.Events.{MayBegin}
-use Rattle.pb_flight.specs.Table.{is_good_at, are_good}
+use Rattle.pb_flight.specs.declared.flight.State.TheVariants.{Untouched, Begun, Answered}
+use Rattle.pb_flight.specs.Events.{Event, Began, Gave, IsLawful, MayBegin}
+use Rattle.pb_flight.specs.Laws.{HasBegun}
+use Rattle.pb_flight.specs.Table.{is_good_at, are_good, is_untouched}
+use Rattle.pb_flight.proofs.Handing.{began_lawful, gave_lawful}
 use Rattle.pb_flight.proofs.Lists.{injective, clash}
 use Rattle.pb_flight.proofs.Ready.{good_at, all_good}
 use Rattle.pb_place.specs.Folders.{LieApart}
@@ -23,6 +27,8 @@ use Rattle.pb_soundness.specs.Apart.{is_of}
 use Rattle.pb_soundness.specs.Records.{out_of, place_of}
 use Rattle.pb_soundness.proofs.Places.{one_key, place_outside, places_differ, outs_apart, out_place_apart}
 use Rattle.pb_turns.specs.Crew.{needs_of}
+use Rattle.pb_turns.specs.Story.{states_in}
+use Rattle.pb_turns.proofs.States.{begun_cases, good_set}
 use Rattle.pb_unit.specs.declared.plan.Planned.{Planned}
 use Rattle.pb_turns.specs.declared.crew.UnitCrew.{UnitCrew}
 
@@ -100,24 +106,59 @@ module _ (project : Project) (order : IsInOrder project) (i j : ℕ) (u v : Plan
         (places_differ (records_folder project) u.key v.key (order.keys i u at_i) (order.keys j v at_j) keys) (places_differ (records_folder project) v.key u.key (order.keys j v at_j) (order.keys i u at_i) (λ e. keys (sym e))) at)
   ]
 
-module _ (b : Basis) (order : IsInOrder b.project) (states : List (State BadUnit)) (done : List (Option (List Directive))) (next : Option ℕ) (w : World) (keeps : Keeps b states done next w)
-    (place : ℕ) (u : Planned) (there : unit_at b.project place ≡ Some u) (may : MayBegin (needs_of b.project) states place) where
-  need_good : (p : ℕ) → Contains u.needs p → is_good_at (slice_get states p) ≡ true
-  need_good p has = may.good p (subst (λ ns. Contains ns p) (injective (sym (needs_get b.project.plan.planned place u there) ∙ may.unit)) has)
+-- all that a good unit reaches is good
+abbrev Closed : Project → List (State BadUnit) → Type 0
+Closed project states = (place : ℕ) (u : Planned) → is_good_at (slice_get states place) ≡ true → unit_at project place ≡ Some u → are_good states u.reaches ≡ true
 
-  reached_at : (p : ℕ) (x : Planned) → unit_at b.project p ≡ Some x → IsReadByNeed b.project u x.out → is_good_at (slice_get states p) ≡ true
+module _ (project : Project) (order : IsInOrder project) (states : List (State BadUnit)) (closed : Closed project states) (place : ℕ) (u : Planned) (there : unit_at project place ≡ Some u) (may : MayBegin (needs_of project) states place) where
+  need_good : (p : ℕ) → Contains u.needs p → is_good_at (slice_get states p) ≡ true
+  need_good p has = may.good p (subst (λ ns. Contains ns p) (injective (sym (needs_get project.plan.planned place u there) ∙ may.unit)) has)
+
+  reached_at : (p : ℕ) (x : Planned) → unit_at project p ≡ Some x → IsReadByNeed project u x.out → is_good_at (slice_get states p) ≡ true
   reached_at p x at by = elim by.own_or_read [
-    | inl own ↦ subst (λ n. is_good_at (slice_get states n) ≡ true) (sym (same_out b.project order p by.place x by.need at by.there own)) (need_good by.place by.needed)
+    | inl own ↦ subst (λ n. is_good_at (slice_get states n) ≡ true) (sym (same_out project order p by.place x by.need at by.there own)) (need_good by.place by.needed)
     | inr read ↦
-        let (y, one, same) = read_reached b.project order by.need x.out read in
-        subst (λ n. is_good_at (slice_get states n) ≡ true) (sym (same_out b.project order p one.place x y at one.there same))
-        (good_at states by.need.reaches one.place (keeps.closed by.place by.need (need_good by.place by.needed) by.there) one.among)
+        let (y, one, same) = read_reached project order by.need x.out read in
+        subst (λ n. is_good_at (slice_get states n) ≡ true) (sym (same_out project order p one.place x y at one.there same))
+        (good_at states by.need.reaches one.place (closed by.place by.need (need_good by.place by.needed) by.there) one.among)
   ]
 
-  pub reached_good : are_good states u.reaches ≡ true
+  reached_good : are_good states u.reaches ≡ true
   reached_good = all_good states u.reaches (λ p has.
-      let (x, at) = unit_before b.project.plan.planned place p u there (each_of (λ q. q < place) u.reaches p (order.reaches place u there) has) in
-      reached_at p x at ((order.reads_are place u there x.out).0 (reached_read b.project order u x p has at)))
+      let (x, at) = unit_before project.plan.planned place p u there (each_of (λ q. q < place) u.reaches p (order.reaches place u there) has) in
+      reached_at p x at ((order.reads_are place u there x.out).0 (reached_read project order u x p has at)))
 
-  pub can_begin : CanBegin b states done place u next w
-  can_begin = record { keeps = keeps; untouched = may.untouched; reaches = reached_good }
+pub can_begin : (b : Basis) (order : IsInOrder b.project) (states : List (State BadUnit)) (done : List (Option (List Directive))) (next : Option ℕ) (w : World) (keeps : Keeps b states done next w)
+    (place : ℕ) (u : Planned) (there : unit_at b.project place ≡ Some u) (may : MayBegin (needs_of b.project) states place) → CanBegin b states done place u next w
+can_begin b order states done next w keeps place u there may = record { keeps = keeps; untouched = may.untouched; reaches = reached_good b.project order states keeps.closed place u there may }
+
+-- whatever is kept: all that a unit reaches that has begun is good
+
+good_begun : (states : List (State BadUnit)) (place : ℕ) (o : Option (State BadUnit)) → slice_get states place ≡ o → is_good_at o ≡ true → HasBegun states place
+good_begun states place None at good = absurd (false≢true good)
+good_begun states place (Some Untouched) at good = absurd (false≢true good)
+good_begun states place (Some Begun) at good = absurd (false≢true good)
+good_begun states place (Some (Answered answer)) at good = (Answered answer, at, refl)
+
+none_begun : (needs : List (List ℕ)) (place : ℕ) → HasBegun {F = BadUnit} (map (λ _. Untouched) needs) place → ⊥
+none_begun [] place (s, at, begun) = clash at
+none_begun (n ∷ needs) zero (s, at, begun) = false≢true (sym begun ∙ ap is_untouched (sym (injective at)))
+none_begun (n ∷ needs) (suc place) has = none_begun needs place has
+
+module _ (project : Project) (order : IsInOrder project) where
+  pub all_reach : (es : List (Event BadUnit)) → IsLawful (needs_of project) es → (place : ℕ) (u : Planned) → HasBegun (states_in project es) place → unit_at project place ≡ Some u → are_good (states_in project es) u.reaches ≡ true
+  all_reach [] lawful place u has at = absurd (none_begun (needs_of project) place has)
+  all_reach (Began unit spawned ∷ es) lawful place u has at =
+      let (before, may) = began_lawful (needs_of project) _ es unit spawned lawful in
+      good_set (states_in project es) unit Untouched Begun u.reaches may.untouched refl (elim (begun_cases (states_in project es) unit place Begun has) [
+        | inl same ↦
+            reached_good project order (states_in project es) (λ p v good at_v. all_reach es before p v (good_begun (states_in project es) p (slice_get (states_in project es) p) refl good) at_v)
+            unit u (ap (unit_at project) same ∙ at) may
+        | inr begun ↦ all_reach es before place u begun at
+      ])
+  all_reach (Gave unit answer ∷ es) lawful place u has at =
+      let (before, flies) = gave_lawful (needs_of project) _ es unit answer lawful in
+      good_set (states_in project es) unit Begun (Answered answer) u.reaches flies refl (all_reach es before place u (elim (begun_cases (states_in project es) unit place (Answered answer) has) [
+        | inl same ↦ (Begun, ap (slice_get (states_in project es)) (sym same) ∙ flies, refl)
+        | inr begun ↦ begun
+      ]) at)

@@ -23,7 +23,7 @@ use Rattle.pb_turns.proofs.States.{answered_before, answered_cases}
 use Rattle.pb_turns.proofs.Staying.{place_its_own}
 use Rattle.pb_unit.specs.declared.plan.Planned.{Planned}
 
-no_answer : (needs : List (List ℕ)) (place : ℕ) (answer : Answer BadUnit) → slice_get (map (λ _. Untouched) needs) place ≡ Some (Answered answer) → ⊥
+pub no_answer : (needs : List (List ℕ)) (place : ℕ) (answer : Answer BadUnit) → slice_get (map (λ _. Untouched) needs) place ≡ Some (Answered answer) → ⊥
 no_answer [] place answer at = clash at
 no_answer (n ∷ needs) zero answer at = not_both (injective at)
   where

@@ -25,8 +25,8 @@ use Rattle.pb_soundness.specs.Records.{Reading}
 use Rattle.pb_turns.specs.Calling.{CallsCut, CallsOver}
 use Rattle.pb_turns.specs.Crew.{needs_of, ticket_of_child}
 use Rattle.pb_turns.specs.Moments.{Moment}
-use Rattle.pb_turns.specs.Rows.{Reasons, Row, rows_of, said_from, started_keys, is_success, key_told, said_told, bad_told, differences_of, kept_of, summary_of}
-use Rattle.pb_turns.specs.Story.{states_in, untouched, upped, Stops, Spends, IsUntold, LacksNoNumber, OnlyOf, AllBeganFor, StartedFor, HasGiven, CameAfter, NamesUnit, NumbersGiven, KeepsNoneOfBad, KeepsNoneInFlight, NotesStarted}
+use Rattle.pb_turns.specs.Rows.{Reasons, Row, rows_of, said_from, started_keys, is_success, key_told, said_told, bad_told, differences_of, kept_of, noted_told, summary_of}
+use Rattle.pb_turns.specs.Story.{states_in, untouched, upped, AllAnswerAgain, Stops, Spends, IsUntold, LacksNoNumber, OnlyOf, AllBeganFor, StartedFor, HasGiven, CameAfter, NamesUnit, NumbersGiven, KeepsNoneOfBad, KeepsNoneInFlight, NotesStarted}
 use Rattle.pb_unit.specs.declared.plan.Planned.{Planned}
 
 -- the children of these tickets were asked for their ends, each once, their answers were dropped, and nothing else was called; in which order no counter tells where each answers
@@ -76,7 +76,7 @@ pub record StandsCut (b : Basis) (fault : BuildFault) (next : Option ℕ) (es be
   pub started : StartedFor b fault before es old new
   pub spent : Spends (LacksNoNumber b old) fault next es
 
--- the units came to their end; it is a success exactly where no bad unit is told, and then each of them has answered and is good; the bad unit that is told is the first by the answers; nothing is noted of a unit that has not begun, and of each that has what differed first, which is something exactly where a child was started for it; and no record is kept of a unit whose answer was dropped
+-- the units came to their end; it is a success exactly where no bad unit is told, and then each of them has answered and is good; the bad unit that is told is the first by the answers; nothing is noted of a unit that has not begun, and of each that has what differed first, which is something exactly where a child was started for it; no record is kept of a unit whose answer was dropped; and a unit for which no child was started answered by the record that counted in its place at first, and by the files of its folder as they stood at first, whether the records are true or not; that the units which it needs are as the record names them is said of true records alone (`told`)
 pub record EndsWhole {S : Type 0} (tells : Bool) (child : Answers) (Turns : S → List ℕ → List ℕ → Step → S → Type 0) (setup : Setup) (project : Project) (next : Option ℕ) (from last : S) (summary : Summary) (old new : Moment) : Type 0 where
   pub es : List (Event BadUnit)
   pub flies : Flies Turns (needs_of project) Anyhow Anything from es last
@@ -89,6 +89,8 @@ pub record EndsWhole {S : Type 0} (tells : Bool) (child : Answers) (Turns : S �
   pub reasons : Reasons
   pub differences : summary.differences ≡ differences_of es reasons
   pub kept : summary.kept ≡ kept_of project.plan.planned reasons
+  pub done : List (Option (List Directive))
+  pub directives : summary.directives ≡ noted_told project.plan.planned done (first_bad (states_in project es))
   pub unnoted : (place : ℕ) → slice_get (states_in project es) place ≡ Some Untouched → slice_get reasons place ≡ Some None
   pub noted : NotesStarted project es reasons
   pub lines : Appends old.heard.taken new.heard.taken (due (states_in project es))
@@ -103,10 +105,11 @@ pub record EndsWhole {S : Type 0} (tells : Bool) (child : Answers) (Turns : S �
   pub numbers : (after : Option ℕ) × NumbersGiven IsUntold es next after
   pub unkept : IsTrue tells → KeepsNoneOfBad project es new.world
   pub dropped : IsTrue tells → KeepsNoneInFlight project es None new.world
+  pub again : IsTrue tells → AllAnswerAgain setup project es done old.world
   pub told : IsTrue tells → Grounding child setup project next old.world (λ b. StandsWhole b next es reasons summary old.world new.world)
   pub calls : IsTrue tells → Grounding child setup project next old.world (λ b. (last : World) × CallsOver b es old.world old.counts last mid)
 
--- a fault ended them: its cause, and what the sink had heard, are those of the moment before the children in flight were dropped; no more children flew at one time than by the events before it, and the turn was asked no more; where an answer ended in it, or a unit could not begin, units were missing (`HandsBack`, `Flies`); and no record is kept of a unit whose answer was dropped
+-- a fault ended them: its cause, and what the sink had heard, are those of the moment before the children in flight were dropped; no more children flew at one time than by the events before it, and the turn was asked no more; where an answer ended in it, or a unit could not begin, units were missing (`HandsBack`, `Flies`); no record is kept of a unit whose answer was dropped; and of a unit for which no child was started the same is said as at a good end
 pub record EndsCut {S : Type 0} (tells : Bool) (child : Answers) (Turns : S → List ℕ → List ℕ → Step → S → Type 0) (setup : Setup) (project : Project) (next : Option ℕ) (from back : S) (fault : BuildFault) (old new : Moment) : Type 0 where
   pub es : List (Event BadUnit)
   pub last : S
@@ -126,6 +129,7 @@ pub record EndsCut {S : Type 0} (tells : Bool) (child : Answers) (Turns : S → 
   pub only : IsTrue tells → OnlyOf project es old.world new.world
   pub unkept : IsTrue tells → KeepsNoneOfBad project es new.world
   pub dropped : IsTrue tells → KeepsNoneInFlight project before asked new.world
+  pub again : IsTrue tells → (done : List (Option (List Directive))) × AllAnswerAgain setup project es done old.world
   pub told : IsTrue tells → Grounding child setup project next old.world (λ b. StandsCut b fault next es before old.world new.world)
   pub calls : IsTrue tells → Grounding child setup project next old.world (λ b. CallsCut b fault asked es before old.world old.counts mid.counts)
 

@@ -2,6 +2,7 @@ pub mod Moments
 pub mod Rows
 pub mod Crew
 pub mod Calling
+pub mod Again
 pub mod Story
 pub mod Ends
 pub mod Summing

@@ -1,5 +1,5 @@
 -- What the units of a build give, one after another in plan order, and what is told of them.
-use Rattle.std.specs.Prelude.{ℕ, suc, Bool, true, false, ◌==◌, List, [], ◌∷◌, ◌++◌, Option, Some, None, if◌then◌else◌, slice_get}
+use Rattle.std.specs.Prelude.{ℕ, suc, Bool, true, false, ◌==◌, ◌+◌, List, [], ◌∷◌, ◌++◌, length, take, Option, Some, None, if◌then◌else◌, slice_get}
 use Rattle.std.specs.List.{flat_map}
 use Rattle.pb_answer.specs.declared.summary.Summary.{Summary}
 use Rattle.pb_directive.specs.declared.directive.Directive.{Directive}
@@ -154,3 +154,18 @@ bad_with (Some u) (Some s) = with_key u.key (fault_of s)
 abbrev pub bad_told : List Planned → List (State BadUnit) → Option ℕ → Option (List ℕ × BadUnit)
 bad_told units states None = None
 bad_told units states (Some place) = bad_with (slice_get units place) (slice_get states place)
+
+-- the keys of these units with what is noted of them
+abbrev pub noted_of : List Planned → List (Option (List Directive)) → List (List ℕ × List Directive)
+noted_of [] noted = []
+noted_of (u ∷ us) [] = []
+noted_of (u ∷ us) (d ∷ noted) = keyed u.key d ++ noted_of us noted
+
+-- how many units are told, by the place of the first bad one
+abbrev pub count_told : ℕ → Option ℕ → ℕ
+count_told units None = units
+count_told units (Some place) = place + 1
+
+-- the directives of the units that are told, by what is noted of each: of all, or of all up to and with the first bad one
+abbrev pub noted_told : List Planned → List (Option (List Directive)) → Option ℕ → List (List ℕ × List Directive)
+noted_told units noted bad = noted_of (take (count_told (length units) bad) units) (take (count_told (length units) bad) noted)

@@ -21,6 +21,7 @@ use Rattle.pb_place.specs.declared.place.StartFault.TheVariants.{CannotStart}
 use Rattle.pb_project.specs.Targets.{unit_at}
 use Rattle.pb_answer.specs.declared.bad_unit.BadUnit.{BadUnit}
 use Rattle.pb_project.specs.declared.project.Project.{Project}
+use Rattle.pb_project.specs.declared.project.Setup.{Setup}
 use Rattle.pb_record.specs.Parts.{IsReading}
 use Rattle.pb_run.specs.Causes.{HasCause, is_of_start}
 use Rattle.pb_run.specs.Halves.{Footing, Basis, basis, outcomes_in, command_in, records_in, Keeps, IsBegun, WritesTo, child_of, key_at}
@@ -34,6 +35,7 @@ use Rattle.pb_store.specs.Differences.{FirstDifference}
 use Rattle.pb_store.specs.Held.{HoldsNumbers}
 use Rattle.pb_store.specs.Migrating.{TakesNumber, lacks_number}
 use Rattle.pb_store.specs.declared.difference.Difference.{Difference}
+use Rattle.pb_turns.specs.Again.{AnswersAgain, FliesAgain}
 use Rattle.pb_turns.specs.Calling.{CallsCut, CallsOver}
 use Rattle.pb_turns.specs.Crew.{needs_of, launched_of}
 use Rattle.pb_turns.specs.Moments.{Moment}
@@ -189,6 +191,16 @@ pub record Changes (project : Project) (first : World) (aloft : List Aloft) (es 
   pub only : OnlyOf project es first world
   pub unkept : KeepsNoneOfBad project es world
 
+-- each unit that answered and for which no child was started did so by the record that counted in its place at first, whatever reads the records' texts
+abbrev pub AllAnswerAgain : Setup → Project → List (Event BadUnit) → List (Option (List Directive)) → World → Type 0
+AllAnswerAgain setup project es done first = (read : Reading) → IsReading read → (place : ℕ) (answer : Answer BadUnit) → slice_get (states_in project es) place ≡ Some (Answered answer) → is_started es place ≡ false
+    → AnswersAgain read setup project done first place answer
+
+-- and those in flight wait to do so
+pub record Replays (setup : Setup) (project : Project) (done : List (Option (List Directive))) (aloft : List Aloft) (es : List (Event BadUnit)) (first now : World) : Type 0 where
+  pub waits : (read : Reading) → IsReading read → AllByRecursion (λ (a : Aloft). FliesAgain read setup project done first now a) aloft
+  pub gave : AllAnswerAgain setup project es done first
+
 -- a unit in flight has begun so; all that it reaches is good
 pub record FliesSo (b : Basis) (es : List (Event BadUnit)) (next : Option ℕ) (world : World) (flying : List ChildInFlight) (still : ℕ → Type 0) (a : Aloft) : Type 0 where
   pub state : slice_get (states_in b.project es) a.unit ≡ Some Begun
@@ -235,6 +247,7 @@ pub record Story (tells : Bool) (child : Answers) (first : UnitCrew) (at : Momen
   pub numbers : NumbersGiven IsUntold es first.store.next c.store.next
   pub changes : IsTrue tells → Changes c.project at.world c.aloft.items es now.world now.counts.starts.flying
   pub unrecorded : IsTrue tells → KeepsNoneInFlight c.project es None now.world
+  pub again : IsTrue tells → Replays c.setup c.project c.done.items c.aloft.items es at.world now.world
   pub held : IsTrue tells → (read : Reading) → IsReading read → HoldsNumbers (record_at read (records_folder c.project) now.world.files) c.store.numbers
   pub happened : IsTrue tells
       → FromFirst child first at c (λ b. Happened b c.done.items c.aloft.items c.store.next es now.world now.counts.starts.flying still × AllBeganFor b es c.reasons.items at.world now.world)
@@ -275,6 +288,7 @@ pub record StoryEnds (tells : Bool) (child : Answers) (fault : BuildFault) (aske
   pub most : now.most ≡ max at.most (peak before)
   pub changes : IsTrue tells → Changes c.project at.world c.aloft.items es now.world now.counts.starts.flying
   pub unrecorded : IsTrue tells → KeepsNoneInFlight c.project before asked now.world
+  pub again : IsTrue tells → AllAnswerAgain c.setup c.project es c.done.items at.world
   pub happened : IsTrue tells
       → FromFirst child first at c (λ b. Happened b c.done.items c.aloft.items c.store.next es now.world now.counts.starts.flying still × AllBeganFor b before c.reasons.items at.world now.world)
   pub caused : IsTrue tells → FromFirst child first at c (λ b. Spends (LacksNoNumber b at.world) fault first.store.next es × StartedFor b fault before es at.world now.world)

@@ -1,5 +1,5 @@
 -- What functions of the summary promise to one another. Nothing here is needed to read how units end.
-use Rattle.std.specs.Prelude.{ℕ, ◌+◌, length, take, is_none, List, [], ◌∷◌, ◌++◌, Option, Some, None, slice_get}
+use Rattle.std.specs.Prelude.{ℕ, is_none, List, Option, slice_get}
 use Rattle.std.specs.List.{flat_map}
 use Rattle.pb_answer.specs.declared.summary.Summary.{Summary}
 use Rattle.pb_directive.specs.declared.directive.Directive.{Directive}
@@ -7,27 +7,16 @@ use Rattle.pb_flight.specs.declared.flight.State.{State}
 use Rattle.pb_answer.specs.declared.bad_unit.BadUnit.{BadUnit}
 use Rattle.pb_run.specs.Halves.{key_in}
 use Rattle.pb_store.specs.declared.difference.Difference.{Difference}
-use Rattle.pb_turns.specs.Rows.{Reasons, keyed, key_told, said_told, difference_in, kept_of, bad_told}
+use Rattle.pb_turns.specs.Rows.{Reasons, key_told, said_told, difference_in, kept_of, bad_told, noted_told}
 use Rattle.pb_unit.specs.declared.plan.Planned.{Planned}
 
 -- the keys of the units at these places
 abbrev pub keys_at : List Planned → List ℕ → List (List ℕ)
 keys_at units places = flat_map (λ place. key_in (slice_get units place)) places
 
--- the keys of these units with what is noted of them
-abbrev pub noted_of : List Planned → List (Option (List Directive)) → List (List ℕ × List Directive)
-noted_of [] noted = []
-noted_of (u ∷ us) [] = []
-noted_of (u ∷ us) (d ∷ noted) = keyed u.key d ++ noted_of us noted
-
 -- what differed first of the units at these places
 abbrev pub differences_at : Reasons → List ℕ → List Difference
 differences_at reasons places = flat_map (λ place. difference_in (slice_get reasons place)) places
-
--- how many units are told, by the place of the first bad one
-abbrev pub count_told : ℕ → Option ℕ → ℕ
-count_told units None = units
-count_told units (Some place) = place + 1
 
 abbrev pub summary_by : List Planned → List (State BadUnit) → List (Option (List Directive)) → List ℕ → Reasons → Option ℕ → Summary
 summary_by units states noted started reasons bad = record {
@@ -37,5 +26,5 @@ summary_by units states noted started reasons bad = record {
   started = keys_at units started;
   differences = differences_at reasons started;
   kept = kept_of units reasons;
-  directives = noted_of (take (count_told (length units) bad) units) (take (count_told (length units) bad) noted);
+  directives = noted_told units noted bad;
 }

@@ -2,8 +2,8 @@
 
 ghost use Rattle.std.specs.Prelude.{◌≡◌, ◌++◌, ◌≤◌, ◌<◌, ℕ, List, length, take, IfOk, IfSome, OnOk, Some, None, slice_get};
 ghost use Rattle.pb_run.specs.Halves.{key_in};
-ghost use Rattle.pb_turns.specs.Rows.{keyed, key_told, said_told, difference_in, kept_key, kept_of, fault_of, with_key, bad_told};
-ghost use Rattle.pb_turns.specs.Summing.{noted_of, keys_at, count_told, differences_at, summary_by};
+ghost use Rattle.pb_turns.specs.Rows.{keyed, key_told, said_told, difference_in, kept_key, kept_of, fault_of, with_key, bad_told, noted_of, count_told};
+ghost use Rattle.pb_turns.specs.Summing.{keys_at, differences_at, summary_by};
 
 use pb_answer::{BadUnit, Summary};
 use pb_data::{Bytes, Items, Text, TryCopy};

@@ -19,6 +19,7 @@ use Rattle.pb_turns.specs.Crew.{IsOfPlan, place_of_unit, places_of, needs_of}
 use Rattle.pb_turns.specs.Moments.{moment}
 use Rattle.pb_turns.specs.Rows.{is_started}
 use Rattle.pb_turns.specs.Story.{IsUntold, KeepsNoneInFlight, LacksNoNumber, NamesUnit, NoneWritesTo, Story, states_in}
+use Rattle.pb_turns.proofs.Again.{answered_again}
 use Rattle.pb_turns.proofs.Alone.{apart_removed, none_writes}
 use Rattle.pb_turns.proofs.Answering.{failed_happened, untold_happened, answered_happened}
 use Rattle.pb_turns.proofs.Beginning.{goes_lists}
@@ -126,6 +127,7 @@ returns-in-Err-clause-story g c = λ first at taken faults es given unit s flyin
           (only t) c.answer_unit.ensures.stay c.remove-unit.new.self.items c.remove-unit.ensures.items;
       unrecorded = λ t. subst (λ n. KeepsNoneInFlight c.args.crew.now.project es (Some n) new.world) (sym its)
           (flight_asked c.args.crew.now.project c.requires.manned.order es now.world new.world c.remove-unit.result.unit c.index-units-unit.result there (only t) (s.unrecorded t));
+      again = λ t. (s.again t).gave;
       happened = failed_happened g.P.Place.tells g.P.Place.child first c.args.crew.now at now new (g.P.Place.still c.args.place.now) (g.P.Place.still c.answer_unit.new.place) es given c.args.index c.remove-unit.result c.index-units-unit.result there s at_index
           c.requires.manned.units_apart c.requires.manned.tickets_apart c.requires.manned.numbers_apart c.answer_unit.new.store.next (λ footing read setup sources states done other its reading t. c.answer_unit.ensures.others footing read setup sources states done other its reading t (s.held t read reading)) c.requires.manned.order only c.answer_unit.ensures.same
           c.remove-unit.new.self.items c.remove-unit.ensures.items (λ footing read setup sources states done reading t. c.in-Err.ensures.keeps footing read setup sources states done reading t (s.held t read reading));
@@ -164,6 +166,7 @@ returns-in-Err-lines_of_unit-clause-story g c = λ first at taken faults es give
           (only t) c.answer_unit.ensures.stay c.remove-unit.new.self.items c.remove-unit.ensures.items;
       unrecorded = λ t. subst (λ n. KeepsNoneInFlight c.args.crew.now.project es (Some n) new.world) (sym its)
           (flight_asked c.args.crew.now.project c.requires.manned.order es now.world new.world c.remove-unit.result.unit c.index-units-unit.result there (only t) (s.unrecorded t));
+      again = λ t. (s.again t).gave;
       happened = untold_happened g.P.Place.tells g.P.Place.child first c.args.crew.now at now new (g.P.Place.still c.args.place.now) (g.P.Place.still c.answer_unit.new.place) es given c.args.index c.remove-unit.result c.index-units-unit.result there s at_index
           c.requires.manned.units_apart c.requires.manned.tickets_apart c.requires.manned.numbers_apart c.answer_unit.new.store.next (λ footing read setup sources states done other its reading t. c.answer_unit.ensures.others footing read setup sources states done other its reading t (s.held t read reading)) c.requires.manned.order only c.answer_unit.ensures.same
           c.in-Ok.ran c.in-Ok.ensures.outcome (λ footing read setup sources states done reading t. c.in-Ok.ensures.keeps footing read setup sources states done reading t (s.held t read reading)) c.in-Ok.ensures.directives c.remove-unit.new.self.items c.remove-unit.ensures.items;
@@ -207,6 +210,9 @@ returns-clause-story g c = λ first at taken faults es given unit s flying lawfu
           (c.in-Ok.ensures.unkept t (its_writes c.args.crew.now.project c.requires.manned.order at.world c.args.crew.now.aloft.items es now.world new.world now.counts.starts.flying new.counts.starts.flying (s.changes t) (λ j y at_j. flying_of c.args.crew.now now.counts j y c.requires.manned at_j)
           c.args.index c.remove-unit.result at_index c.index-units-unit.result there) bad) (none read));
       unrecorded = λ t. flight_given c.args.crew.now.project c.requires.manned.order es now.world new.world c.remove-unit.result.unit c.index-units-unit.result there (only t) (s.unrecorded t) answer begun;
+      again = answered_again g.P.Place.tells g.P.Place.child first c.args.crew.now at now new (g.P.Place.still c.args.place.now) es given s c.requires.manned.order g.P.Place.world g.P.Place.counts _ lawful c.args.index c.remove-unit.result c.index-units-unit.result c.requires.manned at_index there only
+          c.in-Ok.ran c.in-Ok-lines_of_unit.lines (c.in-Ok-lines_of_unit.ensures ∙ ap (λ p. unit_lines p c.index-units-unit.result c.in-Ok.ran.started c.as_slice.result.now) c.get.ensures ∙ ap (λ ms. unit_lines c.args.crew.now.project c.index-units-unit.result c.in-Ok.ran.started ms) c.as_slice.ensures)
+          c.in-Ok.ensures.judged c.remove-unit.new.self.items c.note_answer.new.done.items c.remove-unit.ensures.items c.note_answer.ensures.done;
       held = λ t read reading. c.in-Ok.ensures.numbers read reading t (writes t) (s.held t read reading);
       happened = answered_happened g.P.Place.tells g.P.Place.child first c.args.crew.now at now new (g.P.Place.still c.args.place.now) (g.P.Place.still c.answer_unit.new.place) es given c.args.index c.remove-unit.result c.index-units-unit.result there s at_index
           c.requires.manned.units_apart c.requires.manned.tickets_apart c.requires.manned.numbers_apart c.answer_unit.new.store.next (λ footing read setup sources states done other its reading t. c.answer_unit.ensures.others footing read setup sources states done other its reading t (s.held t read reading)) c.requires.manned.order only c.answer_unit.ensures.same

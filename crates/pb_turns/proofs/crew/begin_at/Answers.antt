@@ -10,6 +10,7 @@ use Rattle.pb_store.specs.Looking.{looked_at}
 use Rattle.pb_turns.specs.Crew.{ticket_of_child}
 use Rattle.pb_turns.specs.Moments.{moment}
 use Rattle.pb_turns.specs.Story.{Story, IsUntold, NoneWritesTo}
+use Rattle.pb_turns.proofs.Again.{begun_again, gave_begun}
 use Rattle.pb_turns.proofs.Alone.{none_writes}
 use Rattle.pb_turns.proofs.Beginning.{goes_lists, refused_happened, failed_caused, failed_happened, begun_happened, by_number}
 use Rattle.pb_turns.proofs.Calling.{calls_begun, calls_unbegun, launched_behind}
@@ -59,6 +60,7 @@ returns-in-Err-clause-story g c = λ first at taken faults es given s flying law
         changes = λ t. changes_begun c.args.crew.now.project c.requires.manned.order at.world c.args.crew.now.aloft.items es now.world now.world now.counts.starts.flying now.counts.starts.flying (s.changes t) (λ index a at. flying_of c.args.crew.now (g.P.Place.counts c.args.place.now) index a c.requires.manned at)
             c.args.unit u there may.untouched (only_same _ now.world) (λ ticket its is. is) false c.make_room.new.aloft.items c.make_room.ensures.aloft;
         unrecorded = s.unrecorded;
+        again = λ t. gave_begun c.args.crew.now.setup c.args.crew.now.project c.args.crew.now.done.items es at.world c.args.unit false may.untouched (s.again t).gave;
         happened = refused_happened g.P.Place.tells g.P.Place.child first c.args.crew.now at now now (g.P.Place.still c.args.place.now) (g.P.Place.still c.args.place.now) es given c.args.unit u c.requires.manned.order there s may c.make_room.new.aloft.items c.make_room.ensures.aloft;
         caused = λ t f r sources reading keeps. (tt, λ place spawned is so. absurd (false≢true so));
         calls = λ t f r sources reading keeps. (now.world, now.counts, s.calls t f r sources reading keeps, inl refl);
@@ -93,6 +95,7 @@ returns-in-Err-begin_unit-clause-story g c = λ first at taken faults es given s
             (s.changes t) (λ index a at. flying_of c.args.crew.now (g.P.Place.counts c.args.place.now) index a c.requires.manned at)
             c.args.unit c.index-units-unit.result there may.untouched (c.begin_unit.ensures.only t) c.begin_unit.ensures.stay spawned c.make_room.new.aloft.items c.make_room.ensures.aloft;
         unrecorded = λ t. flight_unbegun c.args.crew.now.project c.requires.manned.order es (g.P.Place.world c.args.place.now) (g.P.Place.world c.begin_unit.new.place) c.args.unit c.index-units-unit.result there (c.begin_unit.ensures.only t) (s.unrecorded t) may.untouched;
+        again = λ t. gave_begun c.args.crew.now.setup c.args.crew.now.project c.args.crew.now.done.items es at.world c.args.unit spawned may.untouched (s.again t).gave;
         happened = failed_happened g.P.Place.tells g.P.Place.child first c.args.crew.now at (moment (g.P.Place.world c.args.place.now) (g.P.Place.counts c.args.place.now) (g.P.Place.most c.args.place.now) taken faults)
             (moment (g.P.Place.world c.begin_unit.new.place) (g.P.Place.counts c.begin_unit.new.place) (g.P.Place.most c.begin_unit.new.place) taken faults) (g.P.Place.still c.args.place.now) (g.P.Place.still c.begin_unit.new.place)
             es given c.args.unit c.index-units-unit.result c.requires.manned.order there s may c.begin_unit.new.store.next c.as_slice.result.now c.as_slice.ensures.value
@@ -133,6 +136,9 @@ returns-clause-story g c = λ first at taken faults es given s flying lawful is_
           record { unit = c.args.unit; begun = c.in-Ok-begin_unit.made.begun } c.note_begun.new.aloft.items refl more (c.in-Ok-begin_unit.ensures.writes t) refl (λ launched read. c.in-Ok-begin_unit.ensures.dropped read t launched);
       unrecorded = λ t. flight_begun c.args.crew.now.project c.requires.manned.order es now.world new.world c.args.unit c.index-units-unit.result there (c.begin_unit.ensures.only t) (s.unrecorded t) (is_some (child_of c.in-Ok-begin_unit.made.begun)) may.untouched
           (λ launched read. c.in-Ok-begin_unit.ensures.dropped read t launched);
+      again = begun_again g.P.Place.tells g.P.Place.child first c.args.crew.now at now new (g.P.Place.still c.args.place.now) es given s c.requires.manned.order c.args.unit c.index-units-unit.result there may.untouched (λ t. c.begin_unit.ensures.only t)
+          c.as_slice.result.now c.as_slice.ensures.value c.in-Ok-begin_unit.made.begun c.in-Ok-begin_unit.ensures.asks c.in-Ok-begin_unit.made.difference c.note_begun.new.aloft.items more (λ read reading t. c.in-Ok-begin_unit.ensures.differs read reading t (s.held t read reading)) c.in-Ok-begin_unit.ensures.spawned
+          c.in-Ok-begin_unit.ensures.carries c.in-Ok-begin_unit.ensures.same;
       held = λ t read reading. c.in-Ok-begin_unit.ensures.numbers read t (s.held t read reading);
       happened = begun_happened g.P.Place.tells g.P.Place.child first c.args.crew.now at now new (g.P.Place.still c.args.place.now) (g.P.Place.still c.begin_unit.new.place)
           es given c.args.unit c.index-units-unit.result c.requires.manned.order there s may c.begin_unit.new.store.next c.as_slice.result.now c.as_slice.ensures.value

@@ -1,7 +1,7 @@
 use Rattle.std.proofs.Common.{◌≡◌, ◌∙◌, ◌++◌, ◌<◌, ◌+◌, suc, sym, ap, refl, arith, length, take}
 use Rattle.std.proofs.lemmas.Option.{slice_get_read}
 use Rattle.pb_turns.specs.Rows.{keyed}
-use Rattle.pb_turns.specs.Summing.{noted_of}
+use Rattle.pb_turns.specs.Rows.{noted_of}
 use Rattle.pb_turns.proofs.Noting.{noted_more}
 use Rattle.pb_unit.specs.declared.plan.Planned.{Planned}
 use Rattle.pb_turns.proofs.summing.noted_of.Goals as goal

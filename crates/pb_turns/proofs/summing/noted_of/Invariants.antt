@@ -1,5 +1,5 @@
 use Rattle.std.proofs.Common.{◌≡◌, take}
-use Rattle.pb_turns.specs.Summing.{noted_of}
+use Rattle.pb_turns.specs.Rows.{noted_of}
 use Rattle.pb_turns.proofs.summing.noted_of.Given as goal
 
 abbrev pub invariant-loop-index : goal.invariant-loop-index

@@ -15,6 +15,7 @@ returns g c = λ first first_place last_place first_out last_out es given s. rec
   most = s.goes.most;
   changes = s.changes;
   unrecorded = s.unrecorded;
+  again = λ t. (s.again t).gave;
   happened = s.happened;
   caused = λ t f r sources reading keeps. (tt, λ place spawned is so. absurd (false≢true so));
   calls = λ t f r sources reading keeps. (g.P.Place.world last_place, g.P.Place.counts last_place, s.calls t f r sources reading keeps, inl refl);
