@@ -62,6 +62,7 @@ spelled_so k next spell Valid only back = record {
 }
 
 zero_only : (k : Key) (text x : List ℕ) → zero_free k text ≡ Ok x → (text ≡ x) × IsPath x
+unfolding has_zero
 zero_only k text x h = by (has_zero text) refl h
   where
     by : (b : Bool) → has_zero text ≡ b → (if b then Err (BadKind k) else Ok text) ≡ Ok x → (text ≡ x) × IsPath x
@@ -69,6 +70,7 @@ zero_only k text x h = by (has_zero text) refl h
     by false on h = let same : text ≡ x = cc in (same, ap has_zero (sym same) ∙ on)
 
 zero_back : (k : Key) (x : List ℕ) → IsPath x → zero_free k x ≡ Ok x
+unfolding has_zero
 zero_back k x is = ap (λ b. if b then Err (BadKind k) else Ok x) is
 
 pub path_written : (k : Key) → IsWrittenAs (path_of k) (λ x. string x) IsPath

@@ -4,18 +4,18 @@ use Rattle.std.specs.List.{AllZip}
 use Rattle.std.specs.Option.{option_map, option_to_list}
 use Rattle.toml.specs.Data.{Data, string, boolean, array, table, Members, no_members, member, get_member}
 use Rattle.toml.specs.View.{items_of}
-use Rattle.pb_manifest.specs.Letters.{has_zero}
 use Rattle.pb_manifest.specs.declared.inherited.Inheritable.{Inheritable}
 use Rattle.pb_manifest.specs.declared.inherited.Inheritable.TheVariants.{Written, Workspace, Absent}
 use Rattle.pb_manifest.specs.declared.inherited.Inherited.{Inherited}
 use Rattle.pb_manifest.specs.declared.inherited.Inherited.TheVariants as inherited
+use Rattle.pb_place.specs.Paths.{has_byte_0}
 
 abbrev pub texts : List (List ℕ) → Data
 texts xs = array (items_of (map string xs))
 
 -- a path: a text without byte 0
 abbrev pub IsPath : List ℕ → Type 0
-IsPath text = has_zero text ≡ false
+IsPath text = has_byte_0 text ≡ false
 
 -- a key that may be left out holds this, written so; nothing is read just where it is left out
 abbrev pub Holds : {A : Type 0} → (A → Data) → Option Data → Option A → Type 0
