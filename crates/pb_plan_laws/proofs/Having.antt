@@ -2,7 +2,7 @@
 use Rattle.std.proofs.Common.{◌≡◌, inl, inr, ℕ, true, List, [], ◌∷◌, ◌++◌, Option, Some, None, codes, refl, slice_get}
 use Rattle.std.specs.Prelude.{is_some}
 use Rattle.pb_resolved.specs.declared.features.Features.{Features}
-use Rattle.pb_manifest.specs.Letters.{underscored}
+use Rattle.pb_directive.specs.Metadata.{underscored}
 use Rattle.pb_manifest.specs.declared.target.CrateType.{CrateType}
 use Rattle.pb_manifest.specs.declared.target.CrateType.TheVariants as crate_type
 use Rattle.pb_package.specs.declared.options.Selection.{Selection}

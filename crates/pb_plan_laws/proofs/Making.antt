@@ -5,6 +5,7 @@ use Rattle.std.specs.List.Sorted.{IsStrictlySortedBy}
 use Rattle.std.specs.Str.{bytes_eq}
 use Rattle.std.proofs.lemmas.Slice.Eq.{bytes_eq-Decides}
 use Rattle.pb_closure.proofs.Membership.{none, cases}
+use Rattle.pb_manifest.specs.Letters.{underscored}
 use Rattle.pb_manifest.specs.declared.target.CrateType.{CrateType}
 use Rattle.pb_package.specs.Settled.{IsAscending}
 use Rattle.pb_package.specs.declared.package.Binary.{Binary}
@@ -36,6 +37,7 @@ is_found (x ∷ bs) b up there = by (bytes_eq b.name x.name) refl (cases x bs b 
 module _ (project : Project) (u : Planned) (p : Package) (there : package_of project u ≡ Some p) where
   -- of a unit of this package, by what its library and its name say
   made : (what : What) (crate : List ℕ) (types : List CrateType) (source file : List ℕ) → u.unit.what ≡ what → IsTarget p what crate types source file → IsAscending (map (λ (b : Binary). b.name) p.binaries) → Makes project u p crate types source file
+  unfolding underscored
   made _ _ _ _ _ is (library l has) up = record {
     crate_is = ap (λ o. crate_name (library_in o) u.unit.what) there ∙ ap (crate_name p.library) is ∙ ap library_name has;
     types_are = ap (crate_types p.library) is ∙ ap library_types has;

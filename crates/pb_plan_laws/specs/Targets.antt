@@ -1,6 +1,6 @@
 -- What a unit compiles, and where what it makes lies (The Cargo Book, Cargo Targets, Build Scripts).
 use Rattle.std.specs.Prelude.{◌≡◌, ℕ, codes, List, [], ◌∷◌, ◌++◌, map, None, Some, Contains, slice_get}
-use Rattle.pb_manifest.specs.Letters.{underscored}
+use Rattle.pb_directive.specs.Metadata.{underscored}
 use Rattle.pb_manifest.specs.declared.target.CrateType.{CrateType}
 use Rattle.pb_manifest.specs.declared.target.CrateType.TheVariants as crate_type
 use Rattle.pb_package.specs.Settled.{IsAscending}

@@ -4,7 +4,7 @@
 
 ghost use Rattle.pb_plan_laws.specs.Features.{FeaturesAreOne};
 ghost use Rattle.pb_plan_laws.specs.Items.{PackagesAreAtFault};
-ghost use Rattle.pb_plan_laws.specs.Kinds.{FoldersArePackages, KindsAreThese, RunsSay};
+ghost use Rattle.pb_plan_laws.specs.Kinds.{FoldersArePackages, KindsAreThese, RolesAreThese, RunsSay};
 ghost use Rattle.pb_plan_laws.specs.Needs.{NeedsAreThese};
 ghost use Rattle.pb_plan_laws.specs.Profiles.{LinesAreThese};
 ghost use Rattle.pb_plan_laws.specs.Settings.{SettingsAreThese};
@@ -39,9 +39,10 @@ pub fn packages_are_at_fault()
     ensures { PackagesAreAtFault }
 {}
 
-/// A law: the kinds of units; the folder of one; what a run has said.
+/// A law: the kinds of units; the role and the folder of one; what a run has said.
 pub fn kinds_are_these()
     ensures kinds { KindsAreThese }
+    ensures roles { RolesAreThese }
     ensures folders { FoldersArePackages }
     ensures said { RunsSay }
 {}
