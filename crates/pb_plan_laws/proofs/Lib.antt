@@ -6,3 +6,4 @@ pub mod Having
 pub mod Faulting
 pub mod Setting
 pub mod Sorts
+pub mod Levelling

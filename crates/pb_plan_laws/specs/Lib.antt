@@ -5,3 +5,4 @@ pub mod Targets
 pub mod Items
 pub mod Kinds
 pub mod Settings
+pub mod Levels

@@ -5,6 +5,7 @@
 ghost use Rattle.pb_plan_laws.specs.Features.{FeaturesAreOne};
 ghost use Rattle.pb_plan_laws.specs.Items.{PackagesAreAtFault};
 ghost use Rattle.pb_plan_laws.specs.Kinds.{FoldersArePackages, KindsAreThese, RolesAreThese, RunsSay};
+ghost use Rattle.pb_plan_laws.specs.Levels.{LevelsAreThese, PackagesHaveNames};
 ghost use Rattle.pb_plan_laws.specs.Needs.{NeedsAreThese};
 ghost use Rattle.pb_plan_laws.specs.Profiles.{LinesAreThese};
 ghost use Rattle.pb_plan_laws.specs.Settings.{SettingsAreThese};
@@ -50,4 +51,10 @@ pub fn kinds_are_these()
 /// A law: the settings of a package in a role are the first values of the keys that count for it.
 pub fn settings_are_these()
     ensures { SettingsAreThese }
+{}
+
+/// A law: the level above units; the name of the package at a place, and whether it has a library.
+pub fn levels_are_these()
+    ensures levels { LevelsAreThese }
+    ensures packages { PackagesHaveNames }
 {}
