@@ -1,9 +1,12 @@
 -- An answer is judged just so.
-use Rattle.std.proofs.Common.{inl, inr, ◌≡◌, ◌≢◌, ◌⊎◌, ◌∙◌, ℕ, Bool, true, false, ◌||◌, if◌then◌else◌, List, [], ◌∷◌, ◌++◌, Option, Some, None, pos, Result, Ok, Err, refl, sym, ap, subst}
+use Rattle.std.proofs.Common.{inl, inr, ◌≡◌, ◌≢◌, ◌⊎◌, ◌∙◌, ℕ, Bool, true, false, ◌||◌, if◌then◌else◌, codes, List, [], ◌∷◌, ◌++◌, Option, Some, None, pos, Result, Ok, Err, refl, sym, ap, subst}
 use Rattle.std.proofs.lemmas.Bool.Decides.{Decides-int_eq}
-use Rattle.std.specs.List.{flat_map, list_any}
+use Rattle.std.specs.Prelude.{filter, map, not}
+use Rattle.std.specs.List.{find, flat_map, list_any}
+use Rattle.std.specs.Option.{option_to_list}
 use Rattle.std.specs.Ordering.{int_eq}
-use Rattle.pb_command.specs.Answers.{answered_by, changed_path, changed_variable, compile_answered, ended_fault, info_in, info_inputs, inputs_of, is_error, is_too_long, paths_from, read_info, read_or_none, rerun_inputs, run_answered, said_in, said_inputs, unless_error, unless_fault}
+use Rattle.std.specs.Result.{result_ok}
+use Rattle.pb_command.specs.Answers.{answered_by, compile_answered, ended_fault, info_in, info_inputs, inherited, inputs_of, is_covered, is_error, is_foreign, is_source, is_too_long, path_or_none, path_said, paths_from, read_info, read_or_none, rerun_inputs, run_answered, said_in, said_inputs, unless_error, unless_fault, unless_foreign}
 use Rattle.pb_data.specs.Gives.{◌>>=◌, lifted}
 use Rattle.pb_data.specs.Mentions.{once}
 use Rattle.pb_directive.specs.DepInfo.{dep_info_of}
@@ -11,16 +14,38 @@ use Rattle.pb_directive.specs.Directives.{directives_of}
 use Rattle.pb_directive.specs.declared.dep_info.DepInfo.{DepInfo}
 use Rattle.pb_directive.specs.declared.directive.Directive.{Directive}
 use Rattle.pb_directive.specs.declared.fault.LineFault.{LineFault}
+use Rattle.pb_place.specs.Paths.{is_at_or_below, joined}
 use Rattle.pb_place.specs.declared.command.Command.{Command}
 use Rattle.pb_place.specs.declared.command.Ended.{Ended}
+use Rattle.pb_place.specs.declared.path.PathFault.{PathFault}
 use Rattle.pb_project.specs.Targets.{folder_of, is_run}
 use Rattle.pb_project.specs.declared.answer.Answered.{Answered}
 use Rattle.pb_project.specs.declared.fault.UnitFault.{UnitFault}
 use Rattle.pb_project.specs.declared.fault.UnitFault.TheVariants as unit_fault
+use Rattle.pb_record.specs.declared.record.InputName.{InputName}
+use Rattle.pb_record.specs.declared.record.InputName.TheVariants.{Path, Variable}
 use Rattle.pb_unit.specs.declared.unit.What.{What}
 use Rattle.pb_unit.specs.declared.unit.What.TheVariants.{Lib, Bin, Script, Run}
+use Rattle.pb_command_laws.specs.Compiles.{asked}
 use Rattle.pb_command_laws.specs.Judged as words
-use Rattle.pb_command_laws.specs.Judged.{EndedWell, IsInfo, IsTold, IsAnswer, AnswersSay}
+use Rattle.pb_command_laws.specs.Judged.{EndedWell, IsInfo, IsTold, IsAnswer, AnswersSay, paths_said}
+use Rattle.pb_command_laws.proofs.Asking.{asked_errors, asked_none, errors_asked, none_asked, paths_asked, variables_asked}
+
+-- the paths that texts say
+path_is : (folder text : List ℕ) → words.path_said folder text ≡ path_said folder text
+unfolding path_said
+path_is folder text = by (joined folder text)
+  where
+    by : (r : Result (List ℕ) PathFault) → option_to_list (result_ok r) ≡ path_or_none r
+    by (Ok path) = refl
+    by (Err fault) = refl
+
+each_is : (folder : List ℕ) (texts : List (List ℕ)) → flat_map (path_said folder) texts ≡ flat_map (words.path_said folder) texts
+each_is folder [] = refl
+each_is folder (text ∷ texts) = (λ i. sym (path_is folder text) i ++ each_is folder texts i)
+
+pub paths_are : (folder : List ℕ) (texts : List (List ℕ)) → paths_from folder texts ≡ paths_said folder texts
+paths_are folder texts = ap once (each_is folder texts)
 
 abbrev pub Answer : Type 0
 Answer = Result Answered UnitFault
@@ -66,20 +91,35 @@ module _ (what : What) (c : Command) (folder : List ℕ) (e : Ended) (dep_info :
   abbrev with_inputs : Option (List Directive) → List (List ℕ) → List (List ℕ) → Answer
   with_inputs said paths variables = inputs_of c paths variables >>= (λ inputs. Ok record { directives = said; inputs = inputs })
 
-  rerun_so : (paths variables : List (List ℕ)) → paths ++ variables ≢ [] → rerun_inputs c folder paths variables ≡ inputs_of c (paths_from folder paths) (once variables)
+  rerun_so : (paths variables : List (List ℕ)) → paths ++ variables ≢ [] → rerun_inputs c folder paths variables ≡ inputs_of c (paths_said folder paths) (once variables)
   rerun_so [] [] some = absurd (some refl)
   rerun_so [] (name ∷ names) some = refl
-  rerun_so (path ∷ paths) names some = refl
+  rerun_so (path ∷ paths) names some = ap (λ said. inputs_of c said (once names)) (paths_are folder (path ∷ paths))
 
   told_so : (said : Option (List Directive)) (paths variables : List (List ℕ)) → IsTold what c folder e dep_info said paths variables → answered_by what c folder e dep_info ≡ with_inputs said paths variables
   told_so _ _ _ (words.compile is info read) =
       compile_so is ∙ ap (λ (r : Result DepInfo UnitFault). r >>= (λ i. info_inputs c i >>= (λ inputs. Ok record { directives = None; inputs = inputs }))) (info_so info read)
+      ∙ ap (λ paths. inputs_of c paths (inherited c info.variables) >>= (λ inputs. Ok record { directives = None; inputs = inputs })) (paths_are c.folder info.words)
   told_so _ _ _ (words.run is said read fine some) =
-      run_so is ∙ ap (λ (r : Result (List Directive) UnitFault). r >>= (λ s. said_inputs c folder s >>= (λ inputs. Ok record { directives = Some s; inputs = inputs }))) (said_so said read fine)
-      ∙ ap (λ r. r >>= (λ inputs. Ok record { directives = Some said; inputs = inputs })) (rerun_so (flat_map changed_path said) (flat_map changed_variable said) some)
+      run_so is ∙ ap (λ (r : Result (List Directive) UnitFault). r >>= (λ s. said_inputs c folder s >>= (λ inputs. Ok record { directives = Some s; inputs = inputs }))) (said_so said read (asked_none said fine))
+      ∙ (λ i. rerun_inputs c folder (paths_asked said i) (variables_asked said i) >>= (λ inputs. Ok record { directives = Some said; inputs = inputs }))
+      ∙ ap (λ r. r >>= (λ inputs. Ok record { directives = Some said; inputs = inputs })) (rerun_so (asked (codes "rerun-if-changed") said) (asked (codes "rerun-if-env-changed") said) some)
   told_so _ _ _ (words.run_alone is said read fine no_path no_variable) =
-      run_so is ∙ ap (λ (r : Result (List Directive) UnitFault). r >>= (λ s. said_inputs c folder s >>= (λ inputs. Ok record { directives = Some s; inputs = inputs }))) (said_so said read fine)
+      run_so is ∙ ap (λ (r : Result (List Directive) UnitFault). r >>= (λ s. said_inputs c folder s >>= (λ inputs. Ok record { directives = Some s; inputs = inputs }))) (said_so said read (asked_none said fine))
+      ∙ (λ i. rerun_inputs c folder (paths_asked said i) (variables_asked said i) >>= (λ inputs. Ok record { directives = Some said; inputs = inputs }))
       ∙ (λ i. rerun_inputs c folder (no_path i) (no_variable i) >>= (λ inputs. Ok record { directives = Some said; inputs = inputs }))
+
+  -- the inputs
+  abbrev inputs_are : List (List ℕ) → List (List ℕ) → List InputName
+  inputs_are paths variables = map Path (filter (λ path. not (is_at_or_below c.target path)) paths) ++ map Variable variables
+
+  inputs_so : (paths variables : List (List ℕ)) → find (words.is_foreign c) paths ≡ None → inputs_of c paths variables ≡ Ok (inputs_are paths variables)
+  unfolding is_covered is_foreign is_source
+  inputs_so paths variables none = ap (λ o. unless_foreign o (filter (λ path. not (is_at_or_below c.target path)) paths) >>= (λ sources. Ok (map Path sources ++ map Variable variables))) none
+
+  foreign_so : (paths variables : List (List ℕ)) (path : List ℕ) → find (words.is_foreign c) paths ≡ Some path → inputs_of c paths variables ≡ Err (unit_fault.ForeignInput path)
+  unfolding is_covered is_foreign is_source
+  foreign_so paths variables path foreign = ap (λ o. unless_foreign o (filter (λ path. not (is_at_or_below c.target path)) paths) >>= (λ sources. Ok (map Path sources ++ map Variable variables))) foreign
 
   abbrev InfoView : Type 0
   InfoView = ((info : DepInfo) × IsInfo dep_info info) ⊎ ((read_info dep_info ≡ Err unit_fault.NoDepInfo) × ((info : DepInfo) → IsInfo dep_info info → ⊥))
@@ -130,10 +170,12 @@ module _ (what : What) (c : Command) (folder : List ℕ) (e : Ended) (dep_info :
   answer_so _ (words.script_error well is said read some) =
       well_so well ∙ run_so is
       ∙ ap (λ (r : Result (List Directive) LineFault). (lifted unit_fault.Directive r >>= unless_error) >>= (λ s. said_inputs c folder s >>= (λ inputs. Ok record { directives = Some s; inputs = inputs }))) read
-      ∙ ap (λ b. (if b then Err unit_fault.ScriptError else Ok said) >>= (λ s. said_inputs c folder s >>= (λ inputs. Ok record { directives = Some s; inputs = inputs }))) some
-  answer_so _ (words.refused well said paths variables told fault inputs) = well_so well ∙ told_so said paths variables told ∙ ap (λ r. r >>= (λ inputs. Ok record { directives = said; inputs = inputs })) inputs
-  answer_so _ (words.good well paths variables answered told inputs) =
-      well_so well ∙ told_so answered.directives paths variables told ∙ ap (λ r. r >>= (λ inputs. Ok record { directives = answered.directives; inputs = inputs })) inputs
+      ∙ ap (λ b. (if b then Err unit_fault.ScriptError else Ok said) >>= (λ s. said_inputs c folder s >>= (λ inputs. Ok record { directives = Some s; inputs = inputs }))) (asked_errors said some)
+  answer_so _ (words.refused well said paths variables told path foreign) =
+      well_so well ∙ told_so said paths variables told ∙ ap (λ r. r >>= (λ inputs. Ok record { directives = said; inputs = inputs })) (foreign_so paths variables path foreign)
+  answer_so _ (words.good well paths variables answered told none inputs) =
+      well_so well ∙ told_so answered.directives paths variables told ∙ ap (λ r. r >>= (λ inputs. Ok record { directives = answered.directives; inputs = inputs })) (inputs_so paths variables none)
+      ∙ ap (λ inputs. Ok record { directives = answered.directives; inputs = inputs }) (sym inputs)
 
   -- and one of the cases is there
   abbrev pub Is : Answer → Type 0
@@ -143,31 +185,31 @@ module _ (what : What) (c : Command) (folder : List ℕ) (e : Ended) (dep_info :
   found a is = subst Is (sym (answer_so a is)) is
 
   by_inputs : EndedWell e → (said : Option (List Directive)) (paths variables : List (List ℕ)) → IsTold what c folder e dep_info said paths variables → Is answer
-  by_inputs well said paths variables told = by (inputs_of c paths variables) refl
+  by_inputs well said paths variables told = by (find (words.is_foreign c) paths) refl
     where
-      by : (r : _) → inputs_of c paths variables ≡ r → Is answer
-      by (Ok inputs) at = found _ (words.good well paths variables (record { directives = said; inputs = inputs }) told at)
-      by (Err fault) at = found _ (words.refused well said paths variables told fault at)
+      by : (o : Option (List ℕ)) → find (words.is_foreign c) paths ≡ o → Is answer
+      by None at = found _ (words.good well paths variables (record { directives = said; inputs = inputs_are paths variables }) told at refl)
+      by (Some path) at = found _ (words.refused well said paths variables told path at)
 
   by_lines : EndedWell e → is_run what ≡ true → (said : List Directive) → directives_of e.stdout ≡ Ok said → list_any is_error said ≡ false → Is answer
-  by_lines well is said read fine = by (flat_map changed_path said) (flat_map changed_variable said) refl refl
+  by_lines well is said read fine = by (asked (codes "rerun-if-changed") said) (asked (codes "rerun-if-env-changed") said) refl refl
     where
       apart : (x : List ℕ) (xs : List (List ℕ)) → x ∷ xs ≢ []
       apart x xs same = cc
 
-      by : (paths variables : List (List ℕ)) → flat_map changed_path said ≡ paths → flat_map changed_variable said ≡ variables → Is answer
-      by [] [] one other = by_inputs well (Some said) (folder ∷ []) [] (words.run_alone is said read fine one other)
+      by : (paths variables : List (List ℕ)) → asked (codes "rerun-if-changed") said ≡ paths → asked (codes "rerun-if-env-changed") said ≡ variables → Is answer
+      by [] [] one other = by_inputs well (Some said) (folder ∷ []) [] (words.run_alone is said read (none_asked said fine) one other)
       by [] (name ∷ names) one other =
-          by_inputs well (Some said) _ _ (words.run is said read fine (λ empty. apart name names (sym (λ i. one i ++ other i) ∙ empty)))
+          by_inputs well (Some said) _ _ (words.run is said read (none_asked said fine) (λ empty. apart name names (sym (λ i. one i ++ other i) ∙ empty)))
       by (path ∷ paths) variables one other =
-          by_inputs well (Some said) _ _ (words.run is said read fine (λ empty. apart path (paths ++ variables) (sym (λ i. one i ++ other i) ∙ empty)))
+          by_inputs well (Some said) _ _ (words.run is said read (none_asked said fine) (λ empty. apart path (paths ++ variables) (sym (λ i. one i ++ other i) ∙ empty)))
 
   by_said : EndedWell e → is_run what ≡ true → (r : Result (List Directive) LineFault) → directives_of e.stdout ≡ r → Is answer
   by_said well is (Err fault) read = found _ (words.bad_line well is fault read)
   by_said well is (Ok said) read = by (list_any is_error said) refl
     where
       by : (b : Bool) → list_any is_error said ≡ b → Is answer
-      by true some = found _ (words.script_error well is said read some)
+      by true some = found _ (words.script_error well is said read (errors_asked said some))
       by false fine = by_lines well is said read fine
 
   by_kind : EndedWell e → (b : Bool) → is_run what ≡ b → Is answer

@@ -12,3 +12,4 @@ pub mod Wanting
 pub mod Wanted
 pub mod OfPlans
 pub mod Judged
+pub mod Texts

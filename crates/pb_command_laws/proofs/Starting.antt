@@ -27,18 +27,14 @@ reads_are project (place ∷ places) = by (unit_at project place) (reads_are pro
 
 module _ (setup : Setup) (project : Project) (unit : Planned) (done : Lines) (p : Package) where
   compiler : StartsCompiler setup project unit (compile_of setup project unit done p)
-  compiler = record { common = record { out = refl; target = refl; reads = reads_are project unit.reaches; toolchain = refl }; program = refl; folder = refl }
+  compiler = (refl, record { folder_is = refl; out = refl; target = refl; reads = reads_are project unit.reaches; toolchain = refl })
 
   started : (runner : List (List ℕ)) (file : Option (List ℕ)) (script : List ℕ) → file ≡ Some script → run_program runner (script_source file) ∷ run_words runner (script_source file) ≡ runner ++ script ∷ []
   started [] file script is = ap (λ f. script_source f ∷ []) is
   started (program ∷ words) file script is = ap (λ f. program ∷ words ++ script_source f ∷ []) is
 
   script : StartsScript setup project unit p (script_file project unit) (run_of setup project unit done p)
-  script = record {
-    common = record { out = refl; target = refl; reads = reads_are project unit.reaches; toolchain = refl };
-    words = started setup.runner (script_file project unit);
-    folder = refl;
-  }
+  script = (started setup.runner (script_file project unit), record { folder_is = refl; out = refl; target = refl; reads = reads_are project unit.reaches; toolchain = refl })
 
   by_what : (what : What) → is_run what ≡ false → StartsCompiler setup project unit (command_by what setup project unit done p)
   by_what Lib compiles = compiler

@@ -2,6 +2,8 @@
 use Rattle.std.proofs.Common.{◌≡◌, ◌⊎◌, inl, inr, ℕ, Bool, true, false, cond, codes, is_some, List, ◌++◌, Contains, Option, Some, None, refl, sym, ◌∙◌, ap, subst, slice_get}
 use Rattle.pb_closure.proofs.Membership.{head}
 use Rattle.pb_manifest.specs.Letters.{underscored}
+use Rattle.pb_package.specs.declared.package.DependencyKind.{DependencyKind}
+use Rattle.pb_package.specs.declared.package.DependencyKind.TheVariants.{Normal, Build}
 use Rattle.pb_package.specs.declared.package.Entry.{Entry}
 use Rattle.pb_package.specs.declared.package.Library.{Library}
 use Rattle.pb_package.specs.declared.package.Package.{Package}
@@ -11,13 +13,14 @@ use Rattle.pb_place.specs.Paths.{below}
 use Rattle.pb_project.specs.Targets.{unit_at, library_in, library_name, crate_name, file_in, file_by, is_library, is_script, is_run, needed, own_run, file_at, file_there, library_file, script_file}
 use Rattle.pb_project.specs.declared.project.Project.{Project}
 use Rattle.pb_unit.specs.Plan.{profile_folder}
-use Rattle.pb_unit.specs.Units.{unit, key_of, has_library, has_script, entries_of, needs_of}
+use Rattle.pb_unit.specs.Units.{unit, key_of, role_of, has_library, has_script, is_build, entries_of, needs_of}
 use Rattle.pb_unit.specs.declared.plan.Planned.{Planned}
+use Rattle.pb_unit.specs.declared.unit.Unit.{Unit as OfPlan}
 use Rattle.pb_unit.specs.declared.unit.What.{What}
 use Rattle.pb_unit.specs.declared.unit.What.TheVariants.{Lib, Bin, Script, Run}
 use Rattle.pb_command_laws.specs.Compiles.{hears}
 use Rattle.pb_command_laws.specs.Libraries.{crate_at, IsCalled, IsLibrary}
-use Rattle.pb_command_laws.specs.Planned.{StandsInPlan, folder_of, IsLibraryOf, side_for, IsWanted, LibrariesAreWanted, IsRunOf, HearsOwnRun, CompilesHearRuns, RunsStartScripts}
+use Rattle.pb_command_laws.specs.Planned.{StandsInPlan, folder_of, IsLibraryOf, IsWanted, LibrariesAreWanted, IsRunOf, HearsOwnRun, CompilesHearRuns, RunsStartScripts}
 use Rattle.pb_command_laws.proofs.Pairs.{all_at}
 use Rattle.pb_command_laws.proofs.Wanting.{library_need, run_need, run_needed, script_need, library_needed, own_needed, found_is, is_found, none_found}
 
@@ -39,6 +42,25 @@ kind_is (Bin name) is = inr (name, refl)
 kind_is Script is = absurd (cc)
 kind_is Run is = absurd (cc)
 
+role_is : (u : OfPlan) → role_of u ≡ cond (is_script u.what) Host u.side
+role_is u = by u.what
+  where
+    by : (what : What) → role_of (record u { what = what }) ≡ cond (is_script what) Host u.side
+    by Lib = refl
+    by (Bin name) = refl
+    by Script = refl
+    by Run = refl
+
+sort_is : (kind : DependencyKind) (script : Bool) → is_build kind ≡ script → kind ≡ cond script Build Normal
+sort_is Normal true is = absurd (cc)
+sort_is Normal false is = refl
+sort_is Build true is = refl
+sort_is Build false is = absurd (cc)
+
+is_sort : (kind : DependencyKind) (script : Bool) → kind ≡ cond script Build Normal → is_build kind ≡ script
+is_sort kind true is = ap is_build is
+is_sort kind false is = ap is_build is
+
 called_is : (project : Project) (entry : Entry) (name : List ℕ) → IsCalled project entry name → cond entry.renamed (underscored entry.key) (crate_at project entry.to) ≡ name
 called_is project entry _ (IsCalled.renamed is) = ap (λ r. cond r (underscored entry.key) (crate_at project entry.to)) is
 called_is project entry _ (IsCalled.itself is) = ap (λ r. cond r (underscored entry.key) (crate_at project entry.to)) is
@@ -52,7 +74,7 @@ is_called project entry crate same = by entry.renamed refl
 
 module _ (project : Project) (u : Planned) (p : Package) (stands : StandsInPlan project u p) where
   abbrev side : Side
-  side = side_for u
+  side = cond (is_script u.unit.what) Host u.unit.side
 
   out_is : (k : ℕ) (v : Planned) → unit_at project k ≡ Some v → v.out ≡ folder_of project v.unit
   out_is k v at =
@@ -123,14 +145,19 @@ module _ (project : Project) (u : Planned) (p : Package) (stands : StandsInPlan 
   side_of_binary binary is = ap (λ what. cond (is_script what) Host u.unit.side) is
 
   wants : (name file : List ℕ) → is_run u.unit.what ≡ false → IsLibrary project u p name file → IsWanted project u p name file
+  unfolding underscored
   wants _ _ compiles (IsLibrary.by_entry n entry name file at enabled kind called found) =
-      subst (λ (x : List ℕ). IsWanted project u p x file) (called_is project entry name called) (IsWanted.by_entry n entry (crate_at project entry.to) file at enabled kind (library_from entry.to file compiles found))
+      subst (λ (x : List ℕ). IsWanted project u p x file) (called_is project entry name called) (IsWanted.by_entry n entry (crate_at project entry.to) file at enabled (sort_is entry.kind (is_script u.unit.what) kind)
+      (subst (λ s. IsLibraryOf project entry.to s (crate_at project entry.to) file) (sym (role_is u.unit)) (library_from entry.to file compiles found)))
   wants _ _ compiles (IsLibrary.own binary file is found) =
       IsWanted.own binary (crate_at project u.unit.owner) file is
       (subst (λ s. IsLibraryOf project u.unit.owner s (crate_at project u.unit.owner) file) (side_of_binary binary is) (library_from u.unit.owner file compiles found))
 
   gives : (name file : List ℕ) → is_run u.unit.what ≡ false → IsWanted project u p name file → IsLibrary project u p name file
-  gives _ _ compiles (IsWanted.by_entry n entry crate file at enabled kind of) =
+  unfolding underscored
+  gives _ _ compiles (IsWanted.by_entry n entry crate file at enabled sort there) =
+      let of = subst (λ s. IsLibraryOf project entry.to s crate file) (role_is u.unit) there in
+      let kind = is_sort entry.kind (is_script u.unit.what) sort in
       IsLibrary.by_entry n entry (cond entry.renamed (underscored entry.key) crate) file at enabled kind (is_called project entry crate (crate_so entry.to side crate file of))
       (library_to entry.to crate file compiles of
       (library_needed project.workspace project.features u.unit.owner u.unit.side u.unit.what n entry compiles (ap (λ o. slice_get (entries_of o) n) stands.owner ∙ at) enabled kind (has_one entry.to side crate file of)))

@@ -4,7 +4,7 @@ use Rattle.std.specs.Fmt.{decimal}
 use Rattle.std.specs.List.{flat_map, filter_map, join_by}
 use Rattle.std.specs.Option.{option_map, option_to_list}
 use Rattle.pb_directive.specs.declared.directive.Directive.{Directive}
-use Rattle.pb_directive.specs.declared.directive.Directive.TheVariants.{LinkSearch, LinkLib, Cfg, CheckCfg, LinkArg, LinkArgBins, LinkArgBin}
+use Rattle.pb_directive.specs.declared.directive.Directive.TheVariants.{LinkSearch, LinkLib, Cfg, CheckCfg, LinkArg, LinkArgBins, LinkArgBin, RerunIfChanged, RerunIfEnvChanged, Error}
 use Rattle.pb_manifest.specs.Library.{crate_type_text}
 use Rattle.pb_manifest.specs.Package.{edition_text}
 use Rattle.pb_manifest.specs.declared.feature.Feature.{Feature}
@@ -74,6 +74,9 @@ as_line (CheckCfg condition) = (codes "rustc-check-cfg", condition)
 as_line (LinkArg flag) = (codes "rustc-link-arg", flag)
 as_line (LinkArgBins flag) = (codes "rustc-link-arg-bins", flag)
 as_line (LinkArgBin binary flag) = (codes "rustc-link-arg-bin=" ++ binary, flag)
+as_line (RerunIfChanged path) = (codes "rerun-if-changed", path)
+as_line (RerunIfEnvChanged name) = (codes "rerun-if-env-changed", name)
+as_line (Error text) = (codes "error", text)
 as_line _ = ([], [])
 
 -- the values of the lines with a key, in printed order

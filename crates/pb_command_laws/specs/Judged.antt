@@ -1,13 +1,16 @@
 -- How the answer of a unit's child is judged, in words of its own (The Cargo Book, Build Cache, Build Scripts).
-use Rattle.std.specs.Prelude.{◌≡◌, ◌≢◌, ◌↔◌, ℕ, true, false, ◌||◌, ◌++◌, List, [], ◌∷◌, Option, Some, None, pos, Result, Ok, Err}
-use Rattle.std.specs.List.{flat_map, list_any}
-use Rattle.pb_command.specs.Answers.{answered_of, changed_path, changed_variable, inherited, inputs_of, is_error, is_too_long, paths_from}
+use Rattle.std.specs.Prelude.{◌≡◌, ◌≢◌, ◌↔◌, ℕ, Bool, true, false, ◌&&◌, ◌||◌, not, ◌++◌, codes, List, [], ◌∷◌, filter, map, Option, Some, None, pos, Result, Ok, Err}
+use Rattle.std.specs.List.{find, flat_map, list_any}
+use Rattle.std.specs.Option.{option_to_list}
+use Rattle.std.specs.Result.{result_ok}
+use Rattle.pb_command.specs.Answers.{answered_of, inherited, is_too_long}
 use Rattle.pb_data.specs.Mentions.{once}
 use Rattle.pb_directive.specs.DepInfo.{dep_info_of}
 use Rattle.pb_directive.specs.Directives.{directives_of}
 use Rattle.pb_directive.specs.declared.dep_info.DepInfo.{DepInfo}
 use Rattle.pb_directive.specs.declared.directive.Directive.{Directive}
 use Rattle.pb_directive.specs.declared.fault.LineFault.{LineFault}
+use Rattle.pb_place.specs.Paths.{is_at_or_below, joined}
 use Rattle.pb_place.specs.declared.command.Command.{Command}
 use Rattle.pb_place.specs.declared.command.Ended.{Ended}
 use Rattle.pb_project.specs.Targets.{folder_of, is_run}
@@ -15,34 +18,50 @@ use Rattle.pb_project.specs.declared.answer.Answered.{Answered}
 use Rattle.pb_project.specs.declared.fault.UnitFault.{UnitFault}
 use Rattle.pb_project.specs.declared.fault.UnitFault.TheVariants as unit_fault
 use Rattle.pb_project.specs.declared.project.Project.{Project}
+use Rattle.pb_record.specs.declared.record.InputName.TheVariants.{Path, Variable}
 use Rattle.pb_unit.specs.declared.plan.Planned.{Planned}
 use Rattle.pb_unit.specs.declared.unit.What.{What}
+use Rattle.pb_command_laws.specs.Compiles.{asked}
 
 -- the child ended well: no stream is too long, and the status is 0
 abbrev pub EndedWell : Ended → Type 0
 EndedWell e = ((is_too_long e.stdout || is_too_long e.stderr) ≡ false) × (e.status ≡ pos 0)
 
+-- the path that a text says from a folder; a text with byte 0 says none
+abbrev pub path_said : List ℕ → List ℕ → List (List ℕ)
+path_said folder text = option_to_list (result_ok (joined folder text))
+
+-- the paths that texts say from a folder, each once, in order of mention
+abbrev pub paths_said : List ℕ → List (List ℕ) → List (List ℕ)
+paths_said folder texts = once (flat_map (path_said folder) texts)
+
 -- the dep-info of a compile, which is there, not too long, and reads
 abbrev pub IsInfo : Option (List ℕ) → DepInfo → Type 0
 IsInfo file info = (bytes : List ℕ) × (file ≡ Some bytes) × (is_too_long bytes ≡ false) × (dep_info_of bytes ≡ Ok info)
 
+-- a path of the target folder that lies in the folder of no unit that is reached
+abbrev pub is_foreign : Command → List ℕ → Bool
+is_foreign c path = is_at_or_below c.target path && not (list_any (λ folder. is_at_or_below folder path) c.reads)
+
 -- what tells of inputs, and these paths and variables: of a compile its dep-info, but for variables that the command sets; of a run its lines, and without any that names one the package's folder
 pub data IsTold (what : What) (c : Command) (folder : List ℕ) (e : Ended) (dep_info : Option (List ℕ)) : Option (List Directive) → List (List ℕ) → List (List ℕ) → Type 0 where
-  compile : (is : is_run what ≡ false) (info : DepInfo) (read : IsInfo dep_info info) → IsTold what c folder e dep_info None (paths_from c.folder info.words) (inherited c info.variables)
-  run : (is : is_run what ≡ true) (said : List Directive) (read : directives_of e.stdout ≡ Ok said) (fine : list_any is_error said ≡ false) (some : flat_map changed_path said ++ flat_map changed_variable said ≢ [])
-      → IsTold what c folder e dep_info (Some said) (paths_from folder (flat_map changed_path said)) (once (flat_map changed_variable said))
-  run_alone : (is : is_run what ≡ true) (said : List Directive) (read : directives_of e.stdout ≡ Ok said) (fine : list_any is_error said ≡ false) (no_path : flat_map changed_path said ≡ []) (no_variable : flat_map changed_variable said ≡ [])
+  compile : (is : is_run what ≡ false) (info : DepInfo) (read : IsInfo dep_info info) → IsTold what c folder e dep_info None (paths_said c.folder info.words) (inherited c info.variables)
+  run : (is : is_run what ≡ true) (said : List Directive) (read : directives_of e.stdout ≡ Ok said) (fine : asked (codes "error") said ≡ []) (some : asked (codes "rerun-if-changed") said ++ asked (codes "rerun-if-env-changed") said ≢ [])
+      → IsTold what c folder e dep_info (Some said) (paths_said folder (asked (codes "rerun-if-changed") said)) (once (asked (codes "rerun-if-env-changed") said))
+  run_alone : (is : is_run what ≡ true) (said : List Directive) (read : directives_of e.stdout ≡ Ok said) (fine : asked (codes "error") said ≡ []) (no_path : asked (codes "rerun-if-changed") said ≡ []) (no_variable : asked (codes "rerun-if-env-changed") said ≡ [])
       → IsTold what c folder e dep_info (Some said) (folder ∷ []) []
 
--- an answer. How the child ended is looked at first; then a run's lines or a compile's dep-info; then the inputs
+-- an answer. How the child ended is looked at first; then a run's lines or a compile's dep-info; then the inputs: the paths outside the target folder, and the variables, where no path is foreign
 pub data IsAnswer (what : What) (c : Command) (folder : List ℕ) (e : Ended) (dep_info : Option (List ℕ)) : Result Answered UnitFault → Type 0 where
   too_long : (is : (is_too_long e.stdout || is_too_long e.stderr) ≡ true) → IsAnswer what c folder e dep_info (Err unit_fault.OutputTooLong)
   status : (short : (is_too_long e.stdout || is_too_long e.stderr) ≡ false) (is : e.status ≢ pos 0) → IsAnswer what c folder e dep_info (Err (unit_fault.Status e.status))
   no_dep_info : (well : EndedWell e) (is : is_run what ≡ false) (none : (info : DepInfo) → IsInfo dep_info info → ⊥) → IsAnswer what c folder e dep_info (Err unit_fault.NoDepInfo)
   bad_line : (well : EndedWell e) (is : is_run what ≡ true) (fault : LineFault) (read : directives_of e.stdout ≡ Err fault) → IsAnswer what c folder e dep_info (Err (unit_fault.Directive fault))
-  script_error : (well : EndedWell e) (is : is_run what ≡ true) (said : List Directive) (read : directives_of e.stdout ≡ Ok said) (some : list_any is_error said ≡ true) → IsAnswer what c folder e dep_info (Err unit_fault.ScriptError)
-  refused : (well : EndedWell e) (said : Option (List Directive)) (paths variables : List (List ℕ)) (told : IsTold what c folder e dep_info said paths variables) (fault : UnitFault) (inputs : inputs_of c paths variables ≡ Err fault) → IsAnswer what c folder e dep_info (Err fault)
-  good : (well : EndedWell e) (paths variables : List (List ℕ)) (answered : Answered) (told : IsTold what c folder e dep_info answered.directives paths variables) (inputs : inputs_of c paths variables ≡ Ok answered.inputs) → IsAnswer what c folder e dep_info (Ok answered)
+  script_error : (well : EndedWell e) (is : is_run what ≡ true) (said : List Directive) (read : directives_of e.stdout ≡ Ok said) (some : asked (codes "error") said ≢ []) → IsAnswer what c folder e dep_info (Err unit_fault.ScriptError)
+  refused : (well : EndedWell e) (said : Option (List Directive)) (paths variables : List (List ℕ)) (told : IsTold what c folder e dep_info said paths variables) (path : List ℕ) (foreign : find (is_foreign c) paths ≡ Some path)
+      → IsAnswer what c folder e dep_info (Err (unit_fault.ForeignInput path))
+  good : (well : EndedWell e) (paths variables : List (List ℕ)) (answered : Answered) (told : IsTold what c folder e dep_info answered.directives paths variables) (none : find (is_foreign c) paths ≡ None)
+      (inputs : answered.inputs ≡ map Path (filter (λ path. not (is_at_or_below c.target path)) paths) ++ map Variable variables) → IsAnswer what c folder e dep_info (Ok answered)
 
 abbrev pub AnswersSay : Type 0
 AnswersSay = (project : Project) (u : Planned) (c : Command) (e : Ended) (dep_info : Option (List ℕ)) (answer : Result Answered UnitFault)

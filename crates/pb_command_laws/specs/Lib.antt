@@ -6,3 +6,4 @@ pub mod Starts
 pub mod Planned
 pub mod OfPlans
 pub mod Judged
+pub mod Texts

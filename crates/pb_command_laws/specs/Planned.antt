@@ -1,18 +1,18 @@
 -- Which units of a plan a command speaks of: the libraries that a compile is given, the run that a compile hears, and the script that a run starts (The Cargo Book, Specifying Dependencies, Build Scripts).
 use Rattle.std.specs.Prelude.{◌≡◌, ◌↔◌, ℕ, ◌++◌, true, false, if◌then◌else◌, codes, is_some, List, Some, None, slice_get}
 use Rattle.pb_resolved.specs.Features.{is_enabled}
-use Rattle.pb_manifest.specs.Letters.{underscored}
+use Rattle.pb_directive.specs.Metadata.{underscored}
 use Rattle.pb_package.specs.declared.options.Selection.{Selection}
+use Rattle.pb_package.specs.declared.package.DependencyKind.TheVariants.{Normal, Build}
 use Rattle.pb_package.specs.declared.package.Entry.{Entry}
 use Rattle.pb_package.specs.declared.package.Library.{Library}
 use Rattle.pb_package.specs.declared.package.Package.{Package}
 use Rattle.pb_package.specs.declared.package.Side.{Side}
-use Rattle.pb_package.specs.declared.package.Side.TheVariants.{Host}
 use Rattle.pb_place.specs.Paths.{below}
 use Rattle.pb_project.specs.Targets.{package_of, unit_at, file_in, is_script, is_run, own_run, script_file}
 use Rattle.pb_project.specs.declared.project.Project.{Project}
 use Rattle.pb_unit.specs.Plan.{IsPlan, profile_folder}
-use Rattle.pb_unit.specs.Units.{unit, key_of, is_build}
+use Rattle.pb_unit.specs.Units.{unit, key_of, role_of}
 use Rattle.pb_unit.specs.declared.plan.Planned.{Planned}
 use Rattle.pb_unit.specs.declared.unit.Unit.{Unit as OfPlan}
 use Rattle.pb_unit.specs.declared.unit.What.TheVariants.{Lib, Bin, Script, Run}
@@ -40,14 +40,10 @@ pub record IsLibraryOf (project : Project) (place : ℕ) (side : Side) (crate fi
   pub crate_is : crate ≡ library.name
   pub file_is : file_in (folder_of project (unit place side Lib)) (codes "lib" ++ crate ++ codes ".rlib") ≡ Some file
 
--- the side of the libraries that a unit needs: the host for a script, and else its own
-abbrev pub side_for : Planned → Side
-side_for u = if is_script u.unit.what then Host else u.unit.side
-
--- each entry that is enabled on the unit's side, of `[build-dependencies]` for a script and else of `[dependencies]`, and leads to a package with a library; and, of a binary, its package's own library
+-- each entry that is enabled on the unit's side, of `[build-dependencies]` for a script and else of `[dependencies]`, and leads to a package with a library, which is that of the unit's role; and, of a binary, its package's own library
 pub data IsWanted (project : Project) (u : Planned) (p : Package) : List ℕ → List ℕ → Type 0 where
   by_entry : (n : ℕ) (entry : Entry) (crate file : List ℕ) (there : slice_get p.entries n ≡ Some entry) (enabled : is_enabled project.features u.unit.owner u.unit.side n ≡ true)
-      (kind : is_build entry.kind ≡ is_script u.unit.what) (library : IsLibraryOf project entry.to (side_for u) crate file) → IsWanted project u p (if entry.renamed then underscored entry.key else crate) file
+      (kind : entry.kind ≡ (if is_script u.unit.what then Build else Normal)) (library : IsLibraryOf project entry.to (role_of u.unit) crate file) → IsWanted project u p (if entry.renamed then underscored entry.key else crate) file
   own : (binary crate file : List ℕ) (is : u.unit.what ≡ Bin binary) (library : IsLibraryOf project u.unit.owner u.unit.side crate file) → IsWanted project u p crate file
 
 -- These are the libraries that a compile of a plan is given.

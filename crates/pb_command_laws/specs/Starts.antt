@@ -10,24 +10,21 @@ use Rattle.pb_project.specs.declared.project.Project.{Project}
 use Rattle.pb_project.specs.declared.project.Setup.{Setup}
 use Rattle.pb_command.specs.Command.{command_of}
 
--- a command writes into its unit's folder; of the target folder it may read the folders of all units that its unit reaches, in plan order
-pub record IsOfUnit (setup : Setup) (project : Project) (unit : Planned) (command : Command) : Type 0 where
+-- a command starts in a folder and writes into its unit's; of the target folder it may read the folders of all units that its unit reaches, in plan order
+pub record IsOfUnit (setup : Setup) (project : Project) (unit : Planned) (folder : List ℕ) (command : Command) : Type 0 where
+  pub folder_is : command.folder ≡ folder
   pub out : command.out ≡ Some unit.out
   pub target : command.target ≡ project.workspace.target
   pub reads : command.reads ≡ map (λ (u : Planned). u.out) (filter_map (unit_at project) unit.reaches)
   pub toolchain : command.toolchain ≡ setup.toolchain
 
 -- a compile starts the compiler in the workspace's root
-pub record StartsCompiler (setup : Setup) (project : Project) (unit : Planned) (command : Command) : Type 0 where
-  pub common : IsOfUnit setup project unit command
-  pub program : command.program ≡ setup.rustc
-  pub folder : command.folder ≡ project.workspace.root
+abbrev pub StartsCompiler : Setup → Project → Planned → Command → Type 0
+StartsCompiler setup project unit command = (command.program ≡ setup.rustc) × IsOfUnit setup project unit project.workspace.root command
 
 -- a run starts its script, where there is one, behind the words of the runner where there is one, in its package's folder
-pub record StartsScript (setup : Setup) (project : Project) (unit : Planned) (p : Package) (file : Option (List ℕ)) (command : Command) : Type 0 where
-  pub common : IsOfUnit setup project unit command
-  pub words : (script : List ℕ) → file ≡ Some script → command.program ∷ command.words ≡ setup.runner ++ script ∷ []
-  pub folder : command.folder ≡ p.folder
+abbrev pub StartsScript : Setup → Project → Planned → Package → Option (List ℕ) → Command → Type 0
+StartsScript setup project unit p file command = ((script : List ℕ) → file ≡ Some script → command.program ∷ command.words ≡ setup.runner ++ script ∷ []) × IsOfUnit setup project unit p.folder command
 
 -- The laws.
 

@@ -1,0 +1,25 @@
+-- What a whole text says, line by line: the output of a script, and dep-info (The Cargo Book, Build Scripts, Build Cache).
+use Rattle.std.specs.Prelude.{◌≡◌, ◌<◌, ◌+◌, ℕ, true, is_ok, List, Result, Ok, Err, Some, slice_get}
+use Rattle.std.specs.List.{AllZip, flat_map}
+use Rattle.pb_data.specs.Mentions.{once}
+use Rattle.pb_directive.specs.DepInfo.{dep_info_of, line_info}
+use Rattle.pb_directive.specs.Directives.{directives_of, line_directives}
+use Rattle.pb_directive.specs.Faults.{fault_at}
+use Rattle.pb_directive.specs.Lines.{lines_of}
+use Rattle.pb_directive.specs.declared.dep_info.DepInfo.{DepInfo}
+use Rattle.pb_directive.specs.declared.fault.LineFault.{LineFault}
+use Rattle.pb_directive.specs.declared.fault.Problem.{Problem}
+
+-- what is read of lines: all that each of them gives, in turn; or what is wrong with the first that does not read, told with its number from 1
+pub data AreRead {T U : Type 0} (read : List ℕ → Result T Problem) (all : List T → U) (lines : List (List ℕ)) : Result U LineFault → Type 0 where
+  each : (parts : List T) (are : AllZip (λ line part. read line ≡ Ok part) lines parts) → AreRead read all lines (Ok (all parts))
+  first : (place : ℕ) (line : List ℕ) (problem : Problem) (there : slice_get lines place ≡ Some line) (wrong : read line ≡ Err problem)
+      (before : (n : ℕ) (other : List ℕ) → n < place → slice_get lines n ≡ Some other → is_ok (read other) ≡ true) → AreRead read all lines (Err (fault_at (place + 1) problem))
+
+-- The directives of an output are those of its lines, one after another.
+abbrev pub OutputsAreRead : Type 0
+OutputsAreRead = (bytes : List ℕ) → AreRead line_directives (flat_map (λ said. said)) (lines_of bytes) (directives_of bytes)
+
+-- Dep-info names the words and the variables that its lines name, each once, in order of first mention.
+abbrev pub InfosAreRead : Type 0
+InfosAreRead = (bytes : List ℕ) → AreRead line_info (λ infos. record { words = once (flat_map (λ (info : DepInfo). info.words) infos); variables = once (flat_map (λ (info : DepInfo). info.variables) infos) }) (lines_of bytes) (dep_info_of bytes)
