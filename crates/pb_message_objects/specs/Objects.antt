@@ -1,9 +1,11 @@
 -- What each message line is: one JSON object for each reason, without spaces, and then a line feed (The Cargo Book, External Tools).
 use Rattle.std.specs.Prelude.{◌≡◌, ℕ, Bool, false, if◌then◌else◌, codes, List, [], ◌∷◌, ◌++◌, map, Option, Some, None, IfSome}
-use Rattle.std.specs.List.{flat_map}
+use Rattle.std.specs.List.{flat_map, position}
+use Rattle.std.specs.Option.{option_map_or}
+use Rattle.std.specs.Str.{bytes_eq}
+use Rattle.pb_command.specs.Words.{debug_info_text}
 use Rattle.pb_manifest.specs.Package.{edition_text}
 use Rattle.pb_manifest.specs.declared.profile.DebugInfo.{DebugInfo}
-use Rattle.pb_manifest.specs.declared.profile.DebugInfo.TheVariants.{Nothing, Limited, Full, LineTablesOnly, LineDirectivesOnly}
 use Rattle.pb_message.specs.Message.{package_id, level_text, line_of, lines_of, finish_line}
 use Rattle.pb_message.specs.declared.message.Message.{Message}
 use Rattle.pb_message.specs.declared.message.Message.TheVariants.{CompilerMessage, CompilerArtifact, BuildScriptNote, BuildScriptExecuted}
@@ -36,12 +38,9 @@ abbrev pub target_of : Target → Data
 target_of t = of_members ((codes "kind", texts t.kinds) ∷ (codes "crate_types", texts t.crate_types) ∷ (codes "name", string t.name) ∷ (codes "src_path", string t.source)
     ∷ (codes "edition", string (edition_text t.edition)) ∷ required t.required_features)
 
+-- what is kept for debuggers: the compiler's own word for it, as a number where it is one
 abbrev pub debug_info_of : DebugInfo → Data
-debug_info_of Nothing = number (unsigned 0)
-debug_info_of Limited = number (unsigned 1)
-debug_info_of Full = number (unsigned 2)
-debug_info_of LineTablesOnly = string (codes "line-tables-only")
-debug_info_of LineDirectivesOnly = string (codes "line-directives-only")
+debug_info_of d = option_map_or (λ n. number (unsigned n)) (position (bytes_eq (debug_info_text d)) (codes "0" ∷ codes "1" ∷ codes "2" ∷ [])) (string (debug_info_text d))
 
 abbrev pub profile_of : Settings → Data
 profile_of s = of_members ((codes "opt_level", string (opt_level_text s.opt_level)) ∷ (codes "debuginfo", debug_info_of s.debug) ∷ (codes "debug_assertions", boolean s.debug_assertions)
