@@ -1,6 +1,7 @@
 -- An answer is judged just so.
-use Rattle.std.proofs.Common.{inl, inr, ◌≡◌, ◌≢◌, ◌⊎◌, ◌∙◌, ℕ, Bool, true, false, ◌||◌, if◌then◌else◌, codes, List, [], ◌∷◌, ◌++◌, Option, Some, None, pos, Result, Ok, Err, refl, sym, ap, subst}
-use Rattle.std.proofs.lemmas.Bool.Decides.{Decides-int_eq}
+use borrow.Author.Tests.{ltb-false}
+use Rattle.std.proofs.Common.{inl, inr, ◌≡◌, ◌≢◌, ◌<◌, ◌⊎◌, ◌∙◌, ℕ, Bool, true, false, ◌||◌, if◌then◌else◌, codes, List, [], ◌∷◌, ◌++◌, Option, Some, None, pos, Result, Ok, Err, length, refl, sym, ap, subst, arith}
+use Rattle.std.proofs.lemmas.Bool.Decides.{Decides-int_eq, Decides-ltb}
 use Rattle.std.specs.Prelude.{filter, map, not}
 use Rattle.std.specs.List.{find, flat_map, list_any}
 use Rattle.std.specs.Option.{option_to_list}
@@ -28,8 +29,41 @@ use Rattle.pb_unit.specs.declared.unit.What.{What}
 use Rattle.pb_unit.specs.declared.unit.What.TheVariants.{Lib, Bin, Script, Run}
 use Rattle.pb_command_laws.specs.Compiles.{asked}
 use Rattle.pb_command_laws.specs.Judged as words
-use Rattle.pb_command_laws.specs.Judged.{EndedWell, IsInfo, IsTold, IsAnswer, AnswersSay, paths_said}
+use Rattle.pb_command_laws.specs.Judged.{EndedWell, IsInfo, IsShort, IsTold, IsAnswer, AnswersSay, paths_said}
 use Rattle.pb_command_laws.proofs.Asking.{asked_errors, asked_none, errors_asked, none_asked, paths_asked, variables_asked}
+
+-- how long a text is
+
+pub short_so : (bytes : List ℕ) → IsShort bytes → is_too_long bytes ≡ false
+short_so bytes short = by (is_too_long bytes) refl
+  where
+    by : (b : Bool) → is_too_long bytes ≡ b → is_too_long bytes ≡ false
+    by true long = let more : 4194304 < length bytes = (Decides-ltb 4194304 (length bytes)).0 long in absurd (omega arith)
+    by false is = is
+
+pub so_short : (bytes : List ℕ) → is_too_long bytes ≡ false → IsShort bytes
+so_short bytes is = omega (arith, ltb-false)
+
+pub both_so : (e : Ended) → IsShort e.stdout → IsShort e.stderr → (is_too_long e.stdout || is_too_long e.stderr) ≡ false
+both_so e out err = λ i. short_so e.stdout out i || short_so e.stderr err i
+
+pub so_both : (e : Ended) → (is_too_long e.stdout || is_too_long e.stderr) ≡ false → IsShort e.stdout × IsShort e.stderr
+so_both e is = (so_short e.stdout (first (is_too_long e.stdout) (is_too_long e.stderr) is), so_short e.stderr (second (is_too_long e.stdout) (is_too_long e.stderr) is))
+  where
+    first : (a b : Bool) → (a || b) ≡ false → a ≡ false
+    first true b h = absurd (cc)
+    first false b h = refl
+
+    second : (a b : Bool) → (a || b) ≡ false → b ≡ false
+    second true b h = absurd (cc)
+    second false b h = h
+
+long_so : (e : Ended) → (IsShort e.stdout × IsShort e.stderr → ⊥) → (is_too_long e.stdout || is_too_long e.stderr) ≡ true
+long_so e never = by (is_too_long e.stdout || is_too_long e.stderr) refl
+  where
+    by : (b : Bool) → (is_too_long e.stdout || is_too_long e.stderr) ≡ b → (is_too_long e.stdout || is_too_long e.stderr) ≡ true
+    by true is = is
+    by false is = absurd (never (so_both e is))
 
 -- the paths that texts say
 path_is : (folder text : List ℕ) → words.path_said folder text ≡ path_said folder text
@@ -64,7 +98,7 @@ module _ (what : What) (c : Command) (folder : List ℕ) (e : Ended) (dep_info :
   well_so : EndedWell e → answer ≡ answered_by what c folder e dep_info
   well_so well =
       ap (λ o. unless_fault o (answered_by what c folder e dep_info))
-      (ap (λ b. if b then Some unit_fault.OutputTooLong else by_status) well.0 ∙ ap (λ b. if b then None else Some (unit_fault.Status e.status)) ((Decides-int_eq e.status (pos 0)).1 well.1))
+      (ap (λ b. if b then Some unit_fault.OutputTooLong else by_status) (both_so e well.0 well.1) ∙ ap (λ b. if b then None else Some (unit_fault.Status e.status)) ((Decides-int_eq e.status (pos 0)).1 well.2))
 
   kind_so : answered_by what c folder e dep_info ≡ (if is_run what then run_answered c folder e else compile_answered c dep_info)
   kind_so = by what
@@ -83,7 +117,7 @@ module _ (what : What) (c : Command) (folder : List ℕ) (e : Ended) (dep_info :
 
   -- what it tells
   info_so : (info : DepInfo) → IsInfo dep_info info → read_info dep_info ≡ Ok info
-  info_so info (bytes, there, short, read) = ap read_info there ∙ ap (λ b. if b then Err unit_fault.NoDepInfo else info_in bytes) short ∙ ap read_or_none read
+  info_so info (bytes, there, short, read) = ap read_info there ∙ ap (λ b. if b then Err unit_fault.NoDepInfo else info_in bytes) (short_so bytes short) ∙ ap read_or_none read
 
   said_so : (said : List Directive) → directives_of e.stdout ≡ Ok said → list_any is_error said ≡ false → said_in e ≡ Ok said
   said_so said read fine = ap (λ (r : Result (List Directive) LineFault). lifted unit_fault.Directive r >>= unless_error) read ∙ ap (λ b. if b then Err unit_fault.ScriptError else Ok said) fine
@@ -131,7 +165,7 @@ module _ (what : What) (c : Command) (folder : List ℕ) (e : Ended) (dep_info :
   info_view = by dep_info refl
     where
       by_read : (bytes : List ℕ) → dep_info ≡ Some bytes → is_too_long bytes ≡ false → (r : Result DepInfo LineFault) → dep_info_of bytes ≡ r → InfoView
-      by_read bytes at short (Ok info) read = inl (info, (bytes, at, short, read))
+      by_read bytes at short (Ok info) read = inl (info, (bytes, at, so_short bytes short, read))
       by_read bytes at short (Err fault) read =
           inr (
             ap read_info at ∙ ap (λ b. if b then Err unit_fault.NoDepInfo else info_in bytes) short ∙ ap read_or_none read,
@@ -139,10 +173,10 @@ module _ (what : What) (c : Command) (folder : List ℕ) (e : Ended) (dep_info :
           )
 
       by_length : (bytes : List ℕ) → dep_info ≡ Some bytes → (b : Bool) → is_too_long bytes ≡ b → InfoView
-      by_length bytes at true long_so =
+      by_length bytes at true long =
           inr (
-            ap read_info at ∙ ap (λ b. if b then Err unit_fault.NoDepInfo else info_in bytes) long_so,
-            λ info is. (let other : true ≡ false = sym long_so ∙ ap is_too_long (same_bytes bytes at info is) ∙ is.2 in cc),
+            ap read_info at ∙ ap (λ b. if b then Err unit_fault.NoDepInfo else info_in bytes) long,
+            λ info is. (let other : true ≡ false = sym long ∙ ap is_too_long (same_bytes bytes at info is) ∙ short_so is.0 is.2 in cc),
           )
       by_length bytes at false short = by_read bytes at short (dep_info_of bytes) refl
 
@@ -152,9 +186,9 @@ module _ (what : What) (c : Command) (folder : List ℕ) (e : Ended) (dep_info :
 
   -- each case is the answer
   pub answer_so : (a : Answer) → IsAnswer what c folder e dep_info a → answer ≡ a
-  answer_so _ (words.too_long is) = ap (λ b. unless_fault (if b then Some unit_fault.OutputTooLong else by_status) (answered_by what c folder e dep_info)) is
+  answer_so _ (words.too_long is) = ap (λ b. unless_fault (if b then Some unit_fault.OutputTooLong else by_status) (answered_by what c folder e dep_info)) (long_so e is)
   answer_so _ (words.status short is) =
-      ap (λ b. unless_fault (if b then Some unit_fault.OutputTooLong else by_status) (answered_by what c folder e dep_info)) short ∙ by (int_eq e.status (pos 0)) refl
+      ap (λ b. unless_fault (if b then Some unit_fault.OutputTooLong else by_status) (answered_by what c folder e dep_info)) (both_so e short.0 short.1) ∙ by (int_eq e.status (pos 0)) refl
     where
       by : (b : Bool) → int_eq e.status (pos 0) ≡ b → unless_fault (if b then None else Some (unit_fault.Status e.status)) (answered_by what c folder e dep_info) ≡ Err (unit_fault.Status e.status)
       by true at = absurd (is ((Decides-int_eq e.status (pos 0)).0 at))
@@ -220,11 +254,11 @@ module _ (what : What) (c : Command) (folder : List ℕ) (e : Ended) (dep_info :
   ]
 
   by_end : long ≡ false → (b : Bool) → int_eq e.status (pos 0) ≡ b → Is answer
-  by_end short true at = by_kind (short, (Decides-int_eq e.status (pos 0)).0 at) (is_run what) refl
-  by_end short false at = found _ (words.status short (λ same. (let other : true ≡ false = sym ((Decides-int_eq e.status (pos 0)).1 same) ∙ at in cc)))
+  by_end short true at = by_kind ((so_both e short).0, (so_both e short).1, (Decides-int_eq e.status (pos 0)).0 at) (is_run what) refl
+  by_end short false at = found _ (words.status (so_both e short) (λ same. (let other : true ≡ false = sym ((Decides-int_eq e.status (pos 0)).1 same) ∙ at in cc)))
 
   by_length : (b : Bool) → long ≡ b → Is answer
-  by_length true is = found _ (words.too_long is)
+  by_length true is = found _ (words.too_long (λ both. (let other : true ≡ false = sym is ∙ both_so e both.0 both.1 in cc)))
   by_length false short = by_end short (int_eq e.status (pos 0)) refl
 
   pub answer_view : Is answer

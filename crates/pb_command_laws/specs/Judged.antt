@@ -1,9 +1,9 @@
 -- How the answer of a unit's child is judged, in words of its own (The Cargo Book, Build Cache, Build Scripts).
-use Rattle.std.specs.Prelude.{◌≡◌, ◌≢◌, ◌↔◌, ℕ, Bool, true, false, ◌&&◌, ◌||◌, not, ◌++◌, codes, List, [], ◌∷◌, filter, map, Option, Some, None, pos, Result, Ok, Err}
+use Rattle.std.specs.Prelude.{◌≡◌, ◌≢◌, ◌≤◌, ◌↔◌, ℕ, Bool, true, false, ◌&&◌, not, ◌++◌, codes, List, [], ◌∷◌, filter, length, map, Option, Some, None, pos, Result, Ok, Err}
 use Rattle.std.specs.List.{find, flat_map, list_any}
 use Rattle.std.specs.Option.{option_to_list}
 use Rattle.std.specs.Result.{result_ok}
-use Rattle.pb_command.specs.Answers.{answered_of, inherited, is_too_long}
+use Rattle.pb_command.specs.Answers.{answered_of, inherited}
 use Rattle.pb_data.specs.Mentions.{once}
 use Rattle.pb_directive.specs.DepInfo.{dep_info_of}
 use Rattle.pb_directive.specs.Directives.{directives_of}
@@ -23,9 +23,13 @@ use Rattle.pb_unit.specs.declared.plan.Planned.{Planned}
 use Rattle.pb_unit.specs.declared.unit.What.{What}
 use Rattle.pb_command_laws.specs.Compiles.{asked}
 
--- the child ended well: no stream is too long, and the status is 0
+-- at most 4 MiB: no stream of a child and no dep-info may have more
+abbrev pub IsShort : List ℕ → Type 0
+IsShort bytes = length bytes ≤ 4194304
+
+-- the child ended well: each stream is short, and the status is 0
 abbrev pub EndedWell : Ended → Type 0
-EndedWell e = ((is_too_long e.stdout || is_too_long e.stderr) ≡ false) × (e.status ≡ pos 0)
+EndedWell e = IsShort e.stdout × IsShort e.stderr × (e.status ≡ pos 0)
 
 -- the path that a text says from a folder; a text with byte 0 says none
 abbrev pub path_said : List ℕ → List ℕ → List (List ℕ)
@@ -35,9 +39,9 @@ path_said folder text = option_to_list (result_ok (joined folder text))
 abbrev pub paths_said : List ℕ → List (List ℕ) → List (List ℕ)
 paths_said folder texts = once (flat_map (path_said folder) texts)
 
--- the dep-info of a compile, which is there, not too long, and reads
+-- the dep-info of a compile, which is there, short, and reads
 abbrev pub IsInfo : Option (List ℕ) → DepInfo → Type 0
-IsInfo file info = (bytes : List ℕ) × (file ≡ Some bytes) × (is_too_long bytes ≡ false) × (dep_info_of bytes ≡ Ok info)
+IsInfo file info = (bytes : List ℕ) × (file ≡ Some bytes) × IsShort bytes × (dep_info_of bytes ≡ Ok info)
 
 -- a path of the target folder that lies in the folder of no unit that is reached
 abbrev pub is_foreign : Command → List ℕ → Bool
@@ -53,8 +57,8 @@ pub data IsTold (what : What) (c : Command) (folder : List ℕ) (e : Ended) (dep
 
 -- an answer. How the child ended is looked at first; then a run's lines or a compile's dep-info; then the inputs: the paths outside the target folder, and the variables, where no path is foreign
 pub data IsAnswer (what : What) (c : Command) (folder : List ℕ) (e : Ended) (dep_info : Option (List ℕ)) : Result Answered UnitFault → Type 0 where
-  too_long : (is : (is_too_long e.stdout || is_too_long e.stderr) ≡ true) → IsAnswer what c folder e dep_info (Err unit_fault.OutputTooLong)
-  status : (short : (is_too_long e.stdout || is_too_long e.stderr) ≡ false) (is : e.status ≢ pos 0) → IsAnswer what c folder e dep_info (Err (unit_fault.Status e.status))
+  too_long : (is : IsShort e.stdout × IsShort e.stderr → ⊥) → IsAnswer what c folder e dep_info (Err unit_fault.OutputTooLong)
+  status : (short : IsShort e.stdout × IsShort e.stderr) (is : e.status ≢ pos 0) → IsAnswer what c folder e dep_info (Err (unit_fault.Status e.status))
   no_dep_info : (well : EndedWell e) (is : is_run what ≡ false) (none : (info : DepInfo) → IsInfo dep_info info → ⊥) → IsAnswer what c folder e dep_info (Err unit_fault.NoDepInfo)
   bad_line : (well : EndedWell e) (is : is_run what ≡ true) (fault : LineFault) (read : directives_of e.stdout ≡ Err fault) → IsAnswer what c folder e dep_info (Err (unit_fault.Directive fault))
   script_error : (well : EndedWell e) (is : is_run what ≡ true) (said : List Directive) (read : directives_of e.stdout ≡ Ok said) (some : asked (codes "error") said ≢ []) → IsAnswer what c folder e dep_info (Err unit_fault.ScriptError)
