@@ -124,8 +124,7 @@ table_only name d ms x letters is h =
         source = source;
         optional = subst (HoldsOr false (λ q. boolean q) (get_member (codes "optional") ms)) (sym (true_or t.3)) (or_from (truth_of key.Optional) (λ q. boolean q) Any (truth_written key.Optional) false (get_member (codes "optional") ms) t.3 optional.0);
         features = (lists_only (text_of key.Features) (λ q. string q) Any (text_written key.Features) key.Features (value_at key.Features ms) t.1 t.6).0;
-        no_git = kept_git (value_at key.Git ms) t.2 t.7;
-        no_registry = refused_only (value_at key.Registry ms) u.1 u.4;
+        unsupported = (kept_git (value_at key.Git ms) t.2 t.7, (refused_only (value_at key.Registry ms) u.1 u.4, tt));
       },
     )
 
@@ -188,7 +187,7 @@ dependency_back : (k : Key) (name : List ℕ) (d : Data) (x : Dependency) → Of
 unfolding dependency_of spelled
 dependency_back k name d x says =
     (λ i. if says.2.letters i then dependency_from k name (as_str (says.1 i)) (as_table (says.1 i)) else Err BadName)
-    ∙ source_back name says.0 x.features x.optional says.2.no_git says.2.no_registry says.2.optional says.2.features x.source says.2.source
+    ∙ source_back name says.0 x.features x.optional says.2.unsupported.0 says.2.unsupported.1.0 says.2.optional says.2.features x.source says.2.source
     ∙ (λ i. Ok record { key = sym says.2.key i; source = x.source; optional = x.optional; features = x.features })
 
 pub dependencies_read : ReadsDependencies

@@ -164,9 +164,7 @@ document_only ms m h =
       workspace = (b.10 i).workspace;
     }) ∙ cc (t.8) in
     subst (IsDocument ms) whole (record {
-      no_patch = n.first;
-      no_replace = n.next;
-      no_target = n.last;
+      unsupported = (n.first, (n.next, (n.last, tt)));
       own = own.0;
       one = own.1;
       library = table_at_only library_of IsLibraryTable libraries_read library_in refl (λ ns. refl) (BadKind key.Lib) (value_at key.Lib ms) a.1 a.4;
@@ -182,7 +180,7 @@ document_only ms m h =
 document_back : (ms : Members) (m : Manifest) → IsDocument ms m → document_of ms ≡ Ok m
 unfolding document_of targets_of tables_of spelled
 document_back ms m says =
-    let a : supported ms ≡ Ok tt = λ i. if is_some (says.no_patch i) || is_some (says.no_replace i) || is_some (says.no_target i) then Err UnsupportedTable else Ok tt in
+    let a : supported ms ≡ Ok tt = λ i. if is_some (says.unsupported.0 i) || is_some (says.unsupported.1.0 i) || is_some (says.unsupported.1.1.0 i) then Err UnsupportedTable else Ok tt in
     let old_package : asks_old_resolver key.Package ms ≡ false = new_table IsPackageTable (λ ns x is. is.resolver) (value_at key.Package ms) m.package says.own in
     let old_workspace : asks_old_resolver key.Workspace ms ≡ false = new_table IsWorkspaceTable (λ ns x is. is.resolver) (value_at key.Workspace ms) m.workspace says.workspace in
     let b : not_old ms ≡ Ok tt = λ i. if old_package i || old_workspace i then Err OldResolver else Ok tt in

@@ -102,14 +102,9 @@ inherited_only ms w h =
     }) ∙ cc (b.more) in
     subst (IsInheritedTable ms) whole (record {
       authors = (optional_only (texts_of key.Authors) texts (AllByRecursion Any) (texts_written key.Authors) (value_at key.Authors ms) t.0 t.5).0;
-      description = text_only key.Description ms t.1 t.6;
       edition_is = (optional_only edition_of edition Any edition_written (value_at key.Edition ms) t.2 t.7).0;
-      homepage = text_only key.Homepage ms t.3 t.8;
-      license = text_only key.License ms t.4 t.9;
-      license_file = text_only key.LicenseFile ms u.0 u.5;
       readme_is = (optional_only readme_of readme_value Any readme_written (value_at key.Readme ms) u.1 u.6).0;
-      repository = text_only key.Repository ms u.2 u.7;
-      rust_version = text_only key.RustVersion ms u.3 u.8;
+      texts_are = (text_only key.Description ms t.1 t.6, (text_only key.Homepage ms t.3 t.8, (text_only key.License ms t.4 t.9, (text_only key.LicenseFile ms u.0 u.5, (text_only key.Repository ms u.2 u.7, (text_only key.RustVersion ms u.3 u.8, tt))))));
       version = version;
     })
 
@@ -117,14 +112,14 @@ inherited_back : (ms : Members) (w : WorkspacePackage) → IsInheritedTable ms w
 unfolding spelled
 inherited_back ms w says =
     let a : texts_at key.Authors ms ≡ Ok w.authors = optional_back (texts_of key.Authors) texts (AllByRecursion Any) (texts_written key.Authors) (value_at key.Authors ms) w.authors says.authors (some_all w.authors) in
-    let b : text_at key.Description ms ≡ Ok w.description = text_back key.Description ms w.description says.description in
+    let b : text_at key.Description ms ≡ Ok w.description = text_back key.Description ms w.description says.texts_are.0 in
     let c : edition_at ms ≡ Ok w.edition = optional_back edition_of edition Any edition_written (value_at key.Edition ms) w.edition says.edition_is (some_any w.edition) in
-    let d : text_at key.Homepage ms ≡ Ok w.homepage = text_back key.Homepage ms w.homepage says.homepage in
-    let e : text_at key.License ms ≡ Ok w.license = text_back key.License ms w.license says.license in
-    let f : text_at key.LicenseFile ms ≡ Ok w.license_file = text_back key.LicenseFile ms w.license_file says.license_file in
+    let d : text_at key.Homepage ms ≡ Ok w.homepage = text_back key.Homepage ms w.homepage says.texts_are.1.0 in
+    let e : text_at key.License ms ≡ Ok w.license = text_back key.License ms w.license says.texts_are.1.1.0 in
+    let f : text_at key.LicenseFile ms ≡ Ok w.license_file = text_back key.LicenseFile ms w.license_file says.texts_are.1.1.1.0 in
     let g : readme_at ms ≡ Ok w.readme = optional_back readme_of readme_value Any readme_written (value_at key.Readme ms) w.readme says.readme_is (some_any w.readme) in
-    let h : text_at key.Repository ms ≡ Ok w.repository = text_back key.Repository ms w.repository says.repository in
-    let j : text_at key.RustVersion ms ≡ Ok w.rust_version = text_back key.RustVersion ms w.rust_version says.rust_version in
+    let h : text_at key.Repository ms ≡ Ok w.repository = text_back key.Repository ms w.repository says.texts_are.1.1.1.1.0 in
+    let j : text_at key.RustVersion ms ≡ Ok w.rust_version = text_back key.RustVersion ms w.rust_version says.texts_are.1.1.1.1.1.0 in
     let k : version_at ms ≡ Ok w.version = optional_back version_of (λ t. string t) (λ t. is_version t ≡ true) version_written (value_at key.Version ms) w.version says.version.0 says.version.1 in
     then_back (first_keys ms) (λ a. last_keys ms >>= (λ b. Ok record {
       authors = a.authors;

@@ -1,5 +1,6 @@
 -- What the entries of `[dependencies]`, `[build-dependencies]` and `[workspace.dependencies]` say, key by key (The Cargo Book, Specifying Dependencies, Workspaces).
-use Rattle.std.specs.Prelude.{◌≡◌, ◌⊎◌, ℕ, Bool, true, false, List, [], codes, Option, Some, None}
+use Rattle.std.specs.Prelude.{◌≡◌, ◌⊎◌, ℕ, Bool, true, false, List, [], ◌∷◌, codes, Option, Some, None}
+use Rattle.std.specs.List.{AllByRecursion}
 use Rattle.toml.specs.Data.{Data, string, boolean, Members, get_member}
 use Rattle.pb_manifest.specs.Letters.{is_name}
 use Rattle.pb_manifest.specs.Versions.{is_requirement}
@@ -37,8 +38,7 @@ pub record IsDependencyEntry (name : List ℕ) (ms : Members) (x : Dependency) :
   pub source : IsSource ms x.source
   pub optional : HoldsOr false boolean (get_member (codes "optional") ms) x.optional
   pub features : Lists string (get_member (codes "features") ms) x.features
-  pub no_git : get_member (codes "git") ms ≡ None
-  pub no_registry : get_member (codes "registry") ms ≡ None
+  pub unsupported : AllByRecursion (λ key. get_member key ms ≡ None) (codes "git" ∷ codes "registry" ∷ [])
 
 -- where an entry of `[workspace.dependencies]` comes from: a path; one without a path, or with `git` or `registry`, is kept, and refused where it is taken
 abbrev pub IsSharedSource : Members → WorkspaceSource → Type 0

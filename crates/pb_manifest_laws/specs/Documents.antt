@@ -1,5 +1,6 @@
 -- What a whole manifest says, table by table (The Cargo Book, Manifest Format).
-use Rattle.std.specs.Prelude.{◌≡◌, ◌≤◌, ℕ, true, is_some, length, codes, List, [], Some, None}
+use Rattle.std.specs.Prelude.{◌≡◌, ◌≤◌, ℕ, true, is_some, length, codes, List, [], ◌∷◌, Some, None}
+use Rattle.std.specs.List.{AllByRecursion}
 use Rattle.std.specs.Option.{option_and_then, option_map_or}
 use Rattle.std.specs.Str.{is_utf8}
 use Rattle.toml.specs.Data.{Members, as_table, get_member}
@@ -14,9 +15,7 @@ use Rattle.pb_manifest_laws.specs.Workspaces.{IsWorkspaceTable}
 
 -- a manifest; of `[package]` and `[workspace]` one is there, and the tables that are not supported are not
 pub record IsDocument (ms : Members) (m : Manifest) : Type 0 where
-  pub no_patch : get_member (codes "patch") ms ≡ None
-  pub no_replace : get_member (codes "replace") ms ≡ None
-  pub no_target : get_member (codes "target") ms ≡ None
+  pub unsupported : AllByRecursion (λ key. get_member key ms ≡ None) (codes "patch" ∷ codes "replace" ∷ codes "target" ∷ [])
   pub own : IsTableAt IsPackageTable (get_member (codes "package") ms) m.package
   pub one : get_member (codes "package") ms ≡ None → is_some (get_member (codes "workspace") ms) ≡ true
   pub library : IsTableAt IsLibraryTable (get_member (codes "lib") ms) m.library

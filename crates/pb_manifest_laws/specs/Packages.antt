@@ -9,6 +9,7 @@ use Rattle.pb_manifest.specs.Library.{crate_type_text}
 use Rattle.pb_manifest.specs.Package.{edition_text}
 use Rattle.pb_manifest_reader.specs.Promises.{IsItem}
 use Rattle.pb_manifest.specs.Versions.{is_version}
+use Rattle.pb_manifest.specs.declared.inherited.Inheritable.{Inheritable}
 use Rattle.pb_manifest.specs.declared.inherited.Inherited.{Inherited}
 use Rattle.pb_manifest.specs.declared.inherited.Inherited.TheVariants.{Written, Workspace}
 use Rattle.pb_manifest.specs.declared.feature.Feature.{Feature}
@@ -47,23 +48,23 @@ IsVersion Workspace = Unit {0}
 abbrev pub IsResolver : Option Data → Type 0
 IsResolver found = Contains (None ∷ Some (string (codes "2")) ∷ Some (string (codes "3")) ∷ []) found
 
+-- the texts that a package says of itself to people, by their keys
+abbrev pub own_texts : Package → List (List ℕ × Inheritable (List ℕ))
+own_texts p = (codes "description", p.description) ∷ (codes "homepage", p.homepage) ∷ (codes "license", p.license) ∷ (codes "license-file", p.license_file)
+    ∷ (codes "repository", p.repository) ∷ (codes "rust-version", p.rust_version) ∷ []
+
 -- `[package]`
 pub record IsPackageTable (ms : Members) (p : Package) : Type 0 where
   pub authors : HoldsOrTakes texts (get_member (codes "authors") ms) p.authors
   pub autobins : HoldsOr true boolean (get_member (codes "autobins") ms) p.autobins
   pub script : IsBuild (get_member (codes "build") ms) p.build
-  pub description : HoldsOrTakes string (get_member (codes "description") ms) p.description
   pub edition_is : HasOrTakes E2015 edition (get_member (codes "edition") ms) p.edition
-  pub homepage : HoldsOrTakes string (get_member (codes "homepage") ms) p.homepage
-  pub license : HoldsOrTakes string (get_member (codes "license") ms) p.license
-  pub license_file : HoldsOrTakes string (get_member (codes "license-file") ms) p.license_file
   pub links : Holds string (get_member (codes "links") ms) p.links
   pub name : get_member (codes "name") ms ≡ Some (string p.name)
   pub letters : is_name p.name ≡ true
   pub readme_is : HoldsOrTakes readme_value (get_member (codes "readme") ms) p.readme
-  pub repository : HoldsOrTakes string (get_member (codes "repository") ms) p.repository
   pub resolver : IsResolver (get_member (codes "resolver") ms)
-  pub rust_version : HoldsOrTakes string (get_member (codes "rust-version") ms) p.rust_version
+  pub texts_are : AllByRecursion (λ (row : List ℕ × Inheritable (List ℕ)). HoldsOrTakes string (get_member row.0 ms) row.1) (own_texts p)
   pub version : HasOrTakes (codes "0.0.0") string (get_member (codes "version") ms) p.version
   pub version_is : IsVersion p.version
 

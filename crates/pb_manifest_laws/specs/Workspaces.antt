@@ -1,5 +1,5 @@
 -- What `[workspace]` and `[workspace.package]` say, key by key (The Cargo Book, Workspaces).
-use Rattle.std.specs.Prelude.{◌≡◌, true, codes}
+use Rattle.std.specs.Prelude.{◌≡◌, ℕ, true, codes, List, [], ◌∷◌, Option}
 use Rattle.std.specs.List.{AllByRecursion}
 use Rattle.toml.specs.Data.{string, Members, get_member}
 use Rattle.pb_manifest.specs.Versions.{is_version}
@@ -9,17 +9,17 @@ use Rattle.pb_manifest_laws.specs.Dependencies.{IsSharedEntry}
 use Rattle.pb_manifest_laws.specs.Packages.{edition, readme_value, IsResolver}
 use Rattle.pb_manifest_laws.specs.Values.{texts, IsPath, Holds, HoldsValid, Lists, IsTableAt, AreEntriesAt}
 
+-- the texts that members may take, by their keys
+abbrev pub shared_texts : WorkspacePackage → List (List ℕ × Option (List ℕ))
+shared_texts w = (codes "description", w.description) ∷ (codes "homepage", w.homepage) ∷ (codes "license", w.license) ∷ (codes "license-file", w.license_file)
+    ∷ (codes "repository", w.repository) ∷ (codes "rust-version", w.rust_version) ∷ []
+
 -- `[workspace.package]`
 pub record IsInheritedTable (ms : Members) (w : WorkspacePackage) : Type 0 where
   pub authors : Holds texts (get_member (codes "authors") ms) w.authors
-  pub description : Holds string (get_member (codes "description") ms) w.description
   pub edition_is : Holds edition (get_member (codes "edition") ms) w.edition
-  pub homepage : Holds string (get_member (codes "homepage") ms) w.homepage
-  pub license : Holds string (get_member (codes "license") ms) w.license
-  pub license_file : Holds string (get_member (codes "license-file") ms) w.license_file
   pub readme_is : Holds readme_value (get_member (codes "readme") ms) w.readme
-  pub repository : Holds string (get_member (codes "repository") ms) w.repository
-  pub rust_version : Holds string (get_member (codes "rust-version") ms) w.rust_version
+  pub texts_are : AllByRecursion (λ (row : List ℕ × Option (List ℕ)). Holds string (get_member row.0 ms) row.1) (shared_texts w)
   pub version : HoldsValid (λ text. is_version text ≡ true) string (get_member (codes "version") ms) w.version
 
 -- `[workspace]`
