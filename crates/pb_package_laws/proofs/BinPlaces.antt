@@ -51,10 +51,10 @@ module _ (sources : World) (folder : List ℕ) where
   listed_any : (bin q : List ℕ) → list_any (is_same_path q) (listed bin sources) ≡ is_some (cond (is_below bin q) (finite.get sources.files q) None)
   listed_any bin q = among_keys (finite.retain_keys sources.files (is_below bin)) q ∙ ap is_some (get-kept sources.files (is_below bin) q)
 
-  listed_to : (bin q : List ℕ) → is_below bin q ≡ true → has_file q ≡ true → Contains (listed bin sources) q
+  pub listed_to : (bin q : List ℕ) → is_below bin q ≡ true → has_file q ≡ true → Contains (listed bin sources) q
   listed_to bin q in_it there = any_there q (listed bin sources) (listed_any bin q ∙ ap (λ b. is_some (cond b (finite.get sources.files q) None)) in_it ∙ there)
 
-  listed_from : (bin q : List ℕ) → Contains (listed bin sources) q → has_file q ≡ true
+  pub listed_from : (bin q : List ℕ) → Contains (listed bin sources) q → has_file q ≡ true
   listed_from bin q is = by (is_below bin q) (sym (listed_any bin q) ∙ there_any q (listed bin sources) is)
     where
       by : (b : Bool) → is_some (cond b (finite.get sources.files q) None) ≡ true → has_file q ≡ true

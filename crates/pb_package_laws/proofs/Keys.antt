@@ -2,6 +2,7 @@
 use Rattle.std.proofs.Common.{◌≡◌, ◌∙◌, ℕ, Bool, true, false, if◌then◌else◌, List, [], ◌∷◌, ◌++◌, codes, Option, Some, None, Ok, Err, Result, unwrap_or, refl, sym, ap, subst}
 use Rattle.std.specs.List.{flat_map}
 use Rattle.std.specs.Option.{option_map, option_map_or}
+use Rattle.std.specs.Result.{result_ok}
 use Rattle.pb_data.specs.Gives.{◌>>=◌, some_or}
 use Rattle.pb_manifest.specs.Letters.{underscored}
 use Rattle.pb_manifest.specs.Library.{named_or}
@@ -14,20 +15,24 @@ use Rattle.pb_manifest.specs.declared.package.Build.{Build}
 use Rattle.pb_manifest.specs.declared.package.Build.TheVariants as build
 use Rattle.pb_manifest.specs.declared.package.Package.{Package as Written}
 use Rattle.pb_manifest.specs.declared.package.Readme.{Readme}
+use Rattle.pb_manifest.specs.declared.package.Readme.TheVariants as readme
 use Rattle.pb_manifest.specs.declared.target.CrateType.{CrateType}
 use Rattle.pb_manifest.specs.declared.target.CrateType.TheVariants.{Lib}
 use Rattle.pb_manifest.specs.declared.target.Library.{Library as WrittenLibrary}
 use Rattle.pb_package.specs.declared.fault.LoadFault.TheVariants.{NoInherited}
 use Rattle.pb_package.specs.declared.package.About.{About}
 use Rattle.pb_package.specs.declared.package.Library.{Library}
-use Rattle.pb_place.specs.Paths.{below}
+use Rattle.pb_place.specs.Paths.{below, joined}
+use Rattle.pb_place.specs.declared.path.PathFault.{PathFault}
 use Rattle.pb_place.specs.World.{World}
+use Rattle.pb_workspace.specs.Between.{text_between}
 use Rattle.pb_workspace.specs.Settling.{readme_found}
 use Rattle.pb_workspace.specs.Sources.{has_own_file, own_source, found_readme, library_of, library_source, resolved, served_types, script_of}
-use Rattle.pb_workspace.specs.Taken.{own_or_given, text_of, authors_of, further_authors, joined_authors, license_file_of, from_member, readme_of, readme_text, given_readme, about_of}
+use Rattle.pb_workspace.specs.Taken as taken
+use Rattle.pb_workspace.specs.Taken.{own_or_given, text_of, authors_of, between_or, further_authors, joined_authors, license_file_of, readme_of, readme_text, given_readme, about_of}
 use Rattle.pb_workspace.proofs.FoldersPut.{opened}
 use Rattle.pb_package_laws.specs.Files.{is_file, first_file, first_path}
-use Rattle.pb_package_laws.specs.Packages.{IsOwnOrTaken, IsText, IsPlainText, with_colons, kinds_or_lib, library, script}
+use Rattle.pb_package_laws.specs.Packages.{IsOwnOrTaken, IsText, IsPlainText, from_member, readme_path, with_colons, kinds_or_lib, library, script}
 
 -- a value that has to be there
 given_some : {A : Type 0} (given : Option A) (x : A) → some_or NoInherited given ≡ Ok x → given ≡ Some x
@@ -60,12 +65,19 @@ authors_are text.Workspace given x h =
     (o.0, given_some given o.0 o.1, sym same ∙ joined_so o.0)
 authors_are text.Absent given x h = let same : [] ≡ x = cc in sym same
 
+member_is : (root folder text : List ℕ) → taken.from_member root folder text ≡ from_member root folder text
+member_is root folder text = by (joined root text)
+  where
+    by : (r : Result (List ℕ) PathFault) → between_or folder text r ≡ option_map_or (text_between folder) (result_ok r) text
+    by (Ok path) = refl
+    by (Err fault) = refl
+
 pub license_file_is : (root folder : List ℕ) (written : Inheritable (List ℕ)) (given : Option (List ℕ)) (x : List ℕ) → license_file_of root folder written given ≡ Ok x → IsText (λ path. path) (from_member root folder) [] written given x
 license_file_is root folder (text.Written y) given x h = let same : y ≡ x = cc in sym same
 license_file_is root folder text.Workspace given x h =
-    let o = opened (some_or NoInherited given) (λ path. Ok (from_member root folder path)) x h in
-    let same : from_member root folder o.0 ≡ x = cc (o.2) in
-    (o.0, given_some given o.0 o.1, sym same)
+    let o = opened (some_or NoInherited given) (λ path. Ok (taken.from_member root folder path)) x h in
+    let same : taken.from_member root folder o.0 ≡ x = cc (o.2) in
+    (o.0, given_some given o.0 o.1, sym same ∙ member_is root folder o.0)
 license_file_is root folder text.Absent given x h = let same : [] ≡ x = cc in sym same
 
 -- the first README
@@ -82,13 +94,29 @@ readme_first folder sources = by (has_own_file folder sources (codes "README.md"
     by false false true = refl
     by false false false = refl
 
+abbrev pub own_readme : Readme → List ℕ
+own_readme readme = unwrap_or (readme_path readme) []
+
+abbrev pub taken_readme : List ℕ → List ℕ → Readme → List ℕ
+taken_readme root folder readme = option_map_or (from_member root folder) (readme_path readme) []
+
+own_is : (r : Readme) → readme_text r ≡ own_readme r
+own_is readme.Standard = refl
+own_is readme.Never = refl
+own_is (readme.At path) = refl
+
+taken_is : (root folder : List ℕ) (r : Readme) → given_readme root folder r ≡ taken_readme root folder r
+taken_is root folder readme.Standard = member_is root folder (codes "README.md")
+taken_is root folder readme.Never = refl
+taken_is root folder (readme.At path) = member_is root folder path
+
 pub readme_is : (root folder : List ℕ) (sources : World) (written : Inheritable Readme) (given : Option Readme) (x : List ℕ) → readme_of root folder (readme_found folder sources written) written given ≡ Ok x
-    → IsText readme_text (given_readme root folder) (unwrap_or (first_file sources folder readmes) []) written given x
-readme_is root folder sources (text.Written y) given x h = let same : readme_text y ≡ x = cc in sym same
+    → IsText own_readme (taken_readme root folder) (unwrap_or (first_file sources folder readmes) []) written given x
+readme_is root folder sources (text.Written y) given x h = let same : readme_text y ≡ x = cc in sym same ∙ own_is y
 readme_is root folder sources text.Workspace given x h =
     let o = opened (some_or NoInherited given) (λ readme. Ok (given_readme root folder readme)) x h in
     let same : given_readme root folder o.0 ≡ x = cc (o.2) in
-    (o.0, given_some given o.0 o.1, sym same)
+    (o.0, given_some given o.0 o.1, sym same ∙ taken_is root folder o.0)
 readme_is root folder sources text.Absent given x h = let same : found_readme folder sources ≡ x = cc in sym same ∙ readme_first folder sources
 
 -- one file
@@ -107,6 +135,7 @@ script_so sources folder (build.At path) = refl
 
 -- the library
 pub library_so : (sources : World) (folder name : List ℕ) (l : Option WrittenLibrary) → library_of folder sources name l ≡ library sources folder name l
+unfolding underscored
 library_so sources folder name None = by (is_file sources folder (codes "src/lib.rs"))
   where
     by : (b : Bool) → if◌then◌else◌ {A = Option Library} b (Some record { name = underscored name; crate_types = Lib ∷ []; source = below folder (codes "src/lib.rs") }) None
@@ -134,7 +163,7 @@ pub record IsAbout (sources : World) (root folder : List ℕ) (w : Written) (giv
   pub homepage : IsPlainText w.homepage given.homepage a.homepage
   pub license : IsPlainText w.license given.license a.license
   pub license_file : IsText (λ path. path) (from_member root folder) [] w.license_file given.license_file a.license_file
-  pub readme : IsText readme_text (given_readme root folder) (unwrap_or (first_file sources folder readmes) []) w.readme given.readme a.readme
+  pub readme : IsText own_readme (taken_readme root folder) (unwrap_or (first_file sources folder readmes) []) w.readme given.readme a.readme
   pub repository : IsPlainText w.repository given.repository a.repository
   pub rust_version : IsPlainText w.rust_version given.rust_version a.rust_version
 

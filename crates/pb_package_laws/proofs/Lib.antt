@@ -14,3 +14,5 @@ pub mod Order
 pub mod Whole
 pub mod One
 pub mod Settling
+pub mod Leading
+pub mod Meaning

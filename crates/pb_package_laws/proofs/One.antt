@@ -30,16 +30,15 @@ use Rattle.pb_place.specs.Paths.{below}
 use Rattle.pb_place.specs.World.{World, FilesHavePaths}
 use Rattle.pb_workspace.specs.Assembled.{default_members_of}
 use Rattle.pb_workspace.specs.Frames.{given_to}
-use Rattle.pb_workspace.specs.Taken.{from_member, readme_text, given_readme}
 use Rattle.pb_workspace.specs.declared.frame.Frame.{Frame}
 use Rattle.pb_workspace.specs.declared.settling.Given.{Given}
 use Rattle.pb_package_laws.specs.Binaries.{IsBinary, HasBinaries}
 use Rattle.pb_package_laws.specs.Files.{first_file, IsManifestAt}
 use Rattle.pb_package_laws.specs.Laws.{frame_in, IsWorkspaceOf, WorkspacesAreOne}
 use Rattle.pb_package_laws.specs.Members.{IsMember}
-use Rattle.pb_package_laws.specs.Packages.{IsOwnOrTaken, IsText, IsPlainText, with_colons, library, script, IsEntry, IsPackageOf}
+use Rattle.pb_package_laws.specs.Packages.{IsOwnOrTaken, IsText, IsPlainText, from_member, with_colons, library, script, IsEntry, IsPackageOf}
 use Rattle.pb_package_laws.proofs.Folders.{Keyed, keyed_so, asks_one}
-use Rattle.pb_package_laws.proofs.Keys.{IsAbout}
+use Rattle.pb_package_laws.proofs.Keys.{IsAbout, own_readme, taken_readme}
 use Rattle.pb_package_laws.proofs.Reading.{one_manifest}
 use Rattle.pb_package_laws.proofs.Sorting.{Rises, below_apart, below_through, cmp, in_all, same_place}
 
@@ -149,7 +148,7 @@ one_about sources root folder given t x y one other =
     let license : x.license ≡ y.license = plain t.license given.license x.license y.license one.license other.license in
     let license_file : x.license_file ≡ y.license_file = one_text (λ path. path) (from_member root folder) [] t.license_file given.license_file x.license_file y.license_file one.license_file other.license_file in
     let readme : x.readme ≡ y.readme =
-    one_text readme_text (given_readme root folder) (unwrap_or (first_file sources folder (codes "README.md" ∷ codes "README.txt" ∷ codes "README" ∷ [])) []) t.readme given.readme x.readme y.readme one.readme other.readme in
+    one_text own_readme (taken_readme root folder) (unwrap_or (first_file sources folder (codes "README.md" ∷ codes "README.txt" ∷ codes "README" ∷ [])) []) t.readme given.readme x.readme y.readme one.readme other.readme in
     let repository : x.repository ≡ y.repository = plain t.repository given.repository x.repository y.repository one.repository other.repository in
     let rust_version : x.rust_version ≡ y.rust_version = plain t.rust_version given.rust_version x.rust_version y.rust_version one.rust_version other.rust_version in
     λ i. record {

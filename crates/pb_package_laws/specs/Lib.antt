@@ -4,3 +4,4 @@ pub mod Binaries
 pub mod Members
 pub mod Folders
 pub mod Laws
+pub mod Ways

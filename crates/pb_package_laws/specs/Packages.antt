@@ -2,8 +2,9 @@
 use Rattle.std.specs.Prelude.{◌≡◌, ◌≢◌, ◌↔◌, ℕ, Bool, true, not, ◌||◌, codes, List, [], ◌∷◌, ◌++◌, map, Option, Some, None, IfSome, Contains, slice_get, unwrap_or}
 use Rattle.std.specs.List.{AllZip, join_by}
 use Rattle.std.specs.Option.{option_map, option_map_or}
+use Rattle.std.specs.Result.{result_ok}
 use Rattle.std.specs.Str.{bytes_eq}
-use Rattle.pb_manifest.specs.Letters.{underscored}
+use Rattle.pb_directive.specs.Metadata.{underscored}
 use Rattle.pb_manifest.specs.Versions.{matches}
 use Rattle.pb_manifest.specs.declared.dependency.Dependency.{Dependency}
 use Rattle.pb_manifest.specs.declared.dependency.PathSource.{PathSource}
@@ -19,6 +20,8 @@ use Rattle.pb_manifest.specs.declared.inherited.Inherited.TheVariants as key
 use Rattle.pb_manifest.specs.declared.manifest.Manifest.{Manifest}
 use Rattle.pb_manifest.specs.declared.package.Build.{Build}
 use Rattle.pb_manifest.specs.declared.package.Build.TheVariants as build
+use Rattle.pb_manifest.specs.declared.package.Readme.{Readme}
+use Rattle.pb_manifest.specs.declared.package.Readme.TheVariants as readme
 use Rattle.pb_manifest.specs.declared.package.Package.{Package as Written}
 use Rattle.pb_manifest.specs.declared.target.CrateType.{CrateType}
 use Rattle.pb_manifest.specs.declared.target.CrateType.TheVariants.{Lib}
@@ -30,10 +33,10 @@ use Rattle.pb_package.specs.declared.package.Entry.{Entry}
 use Rattle.pb_package.specs.declared.package.Library.{Library}
 use Rattle.pb_package.specs.declared.package.Package.{Package}
 use Rattle.pb_package.specs.declared.workspace.Workspace.{Workspace}
-use Rattle.pb_place.specs.Paths.{below}
+use Rattle.pb_place.specs.Paths.{below, joined}
 use Rattle.pb_place.specs.World.{World}
 use Rattle.pb_workspace.specs.Sources.{resolved}
-use Rattle.pb_workspace.specs.Taken.{from_member, readme_text, given_readme}
+use Rattle.pb_workspace.specs.Between.{text_between}
 use Rattle.pb_workspace.specs.declared.settling.Given.{Given}
 use Rattle.pb_package_laws.specs.Files.{first_file, first_path}
 
@@ -56,6 +59,16 @@ IsPlainText = IsText (λ x. x) (λ x. x) []
 -- the authors, with `:` between them
 abbrev pub with_colons : List (List ℕ) → List ℕ
 with_colons authors = join_by (λ author. author) (codes ":") authors
+
+-- a text that the workspace says is a path from the root, told from the member's folder; as it is written where it is no path
+abbrev pub from_member : List ℕ → List ℕ → List ℕ → List ℕ
+from_member root folder text = option_map_or (text_between folder) (result_ok (joined root text)) text
+
+-- the path of the README: `true` stands for `README.md`, `false` for none
+abbrev pub readme_path : Readme → Option (List ℕ)
+readme_path readme.Standard = Some (codes "README.md")
+readme_path readme.Never = None
+readme_path (readme.At path) = Some path
 
 -- Targets.
 
@@ -115,7 +128,8 @@ pub record IsPackageOf (sources : World) (root : List ℕ) (given : Given) (ws :
   pub homepage : IsPlainText w.homepage given.package.homepage p.about.homepage
   pub license : IsPlainText w.license given.package.license p.about.license
   pub license_file : IsText (λ path. path) (from_member root p.folder) [] w.license_file given.package.license_file p.about.license_file
-  pub readme : IsText readme_text (given_readme root p.folder) (unwrap_or (first_file sources p.folder (codes "README.md" ∷ codes "README.txt" ∷ codes "README" ∷ [])) []) w.readme given.package.readme p.about.readme
+  pub readme : IsText (λ readme. unwrap_or (readme_path readme) []) (λ readme. option_map_or (from_member root p.folder) (readme_path readme) [])
+      (unwrap_or (first_file sources p.folder (codes "README.md" ∷ codes "README.txt" ∷ codes "README" ∷ [])) []) w.readme given.package.readme p.about.readme
   pub repository : IsPlainText w.repository given.package.repository p.about.repository
   pub rust_version : IsPlainText w.rust_version given.package.rust_version p.about.rust_version
   pub links : p.links ≡ w.links

@@ -3,6 +3,8 @@
 #![tactic(auto)]
 
 ghost use Rattle.pb_package_laws.specs.Laws.{AllAreSettled, WorkspacesAreOne, WorkspacesAreRead};
+ghost use Rattle.pb_package_laws.specs.Members.{PartsMatchNames, TextsMeanFolders};
+ghost use Rattle.pb_package_laws.specs.Ways.{TextsLeadBetween};
 
 /// A law: a workspace that was read is what its manifests and their folders say. Its packages lie in the least set of
 /// folders that holds the root package's, the members' and that of each path dependency of a package in it, in byte order.
@@ -20,4 +22,12 @@ pub fn workspaces_are_one()
 /// A law: whatever the files say, a workspace that was read is settled, as `load` promises of what it gives.
 pub fn all_are_settled()
     ensures { AllAreSettled }
+{}
+
+/// A law: which folders a text of `members` means, where the files of the sources have normalised absolute paths; and how
+/// a path is told from a folder.
+pub fn folders_are_meant()
+    ensures meant { TextsMeanFolders }
+    ensures parts { PartsMatchNames }
+    ensures between { TextsLeadBetween }
 {}
