@@ -56,7 +56,7 @@ abbrev pub ReadsDocuments : Type 0
 ReadsDocuments = Reads document_of IsDocument
 
 abbrev pub ReadsManifests : Type 0
-ReadsManifests = Reads manifest_of AreManifest
+ReadsManifests = (bytes : List ℕ) (m : Manifest) → (manifest_of bytes ≡ Ok m) ↔ AreManifest bytes m
 
 -- so a document says one manifest
 abbrev pub DocumentsSayOne : Type 0
