@@ -29,9 +29,12 @@ use Rattle.pb_command.specs.Words.{switch, debug_info_text, panic_text}
 use Rattle.pb_command_laws.specs.Libraries.{AreLibraries, IsLibrary, assigned}
 use Rattle.pb_command_laws.specs.Reading.{said_by, values}
 
+abbrev pub binary_name : What → Option (List ℕ)
+binary_name (Bin name) = Some name
+binary_name _ = None
+
 abbrev pub is_binary : What → Bool
-is_binary (Bin name) = true
-is_binary _ = false
+is_binary what = is_some (binary_name what)
 
 -- Settings.
 

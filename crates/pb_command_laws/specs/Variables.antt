@@ -25,7 +25,7 @@ use Rattle.pb_project.specs.declared.project.Project.{Project}
 use Rattle.pb_project.specs.declared.project.Setup.{Setup}
 use Rattle.pb_command.specs.Command.{command_of}
 use Rattle.pb_command.specs.Pairs.{triple_of}
-use Rattle.pb_command_laws.specs.Compiles.{row, hears, heard}
+use Rattle.pb_command_laws.specs.Compiles.{binary_name, row, hears, heard}
 
 -- a command has the variables of a table: each name has the last value that stands there, and no other name is set
 abbrev pub HasVariables : Command → List (List ℕ × List ℕ) → Type 0
@@ -49,10 +49,6 @@ package_table setup p =
     ∷ (codes "CARGO_PKG_VERSION_PATCH", decimal (parts_of p.version).2) ∷ (codes "CARGO_PKG_VERSION_PRE", (parts_of p.version).3) ∷ []
 
 -- Of compiles.
-
-abbrev pub binary_name : What → Option (List ℕ)
-binary_name (Bin name) = Some name
-binary_name _ = None
 
 abbrev pub variable_set : Directive → List (List ℕ × List ℕ)
 variable_set (Env name value) = (name, value) ∷ []
