@@ -1,11 +1,11 @@
 -- What `[profile.*]` says, key by key (The Cargo Book, Profiles).
 use Rattle.std.specs.Prelude.{◌≡◌, ◌≤◌, ℕ, pos, true, false, List, [], ◌∷◌, codes, Option, Contains}
-use Rattle.std.specs.List.{AllZip}
-use Rattle.std.specs.Option.{option_to_list}
+use Rattle.std.specs.List.{AllZip, position}
+use Rattle.std.specs.Option.{option_map_or, option_to_list}
+use Rattle.std.specs.Str.{bytes_eq}
 use Rattle.toml.specs.Data.{Data, string, integer, boolean, Members, get_member}
 use Rattle.pb_manifest_reader.specs.Profiles.{may_be_profile}
 use Rattle.pb_manifest.specs.declared.profile.OptLevel.{OptLevel}
-use Rattle.pb_manifest.specs.declared.profile.OptLevel.TheVariants.{Zero, One, Two, Three, Size, SmallestSize}
 use Rattle.pb_manifest.specs.declared.profile.DebugInfo.{DebugInfo}
 use Rattle.pb_manifest.specs.declared.profile.DebugInfo.TheVariants as debug
 use Rattle.pb_manifest.specs.declared.profile.Lto.{Lto}
@@ -17,17 +17,14 @@ use Rattle.pb_manifest.specs.declared.profile.Strip.TheVariants as strip
 use Rattle.pb_manifest.specs.declared.profile.ProfileKeys.{ProfileKeys}
 use Rattle.pb_manifest.specs.declared.profile.ProfileOverride.{ProfileOverride}
 use Rattle.pb_manifest.specs.declared.profile.Profile.{Profile}
+use Rattle.pb_profile.specs.Words.{opt_level_text}
 use Rattle.pb_manifest_laws.specs.Values.{Holds, HoldsValid, OfTable, IsTableAt, AreEntriesAt}
 
 -- how each value may be written
 
+-- the compiler's own word for a level, as a number where it is one
 abbrev pub opt_levels : OptLevel → List Data
-opt_levels Zero = integer (pos 0) ∷ []
-opt_levels One = integer (pos 1) ∷ []
-opt_levels Two = integer (pos 2) ∷ []
-opt_levels Three = integer (pos 3) ∷ []
-opt_levels Size = string (codes "s") ∷ []
-opt_levels SmallestSize = string (codes "z") ∷ []
+opt_levels l = option_map_or (λ n. integer (pos n)) (position (bytes_eq (opt_level_text l)) (codes "0" ∷ codes "1" ∷ codes "2" ∷ codes "3" ∷ [])) (string (opt_level_text l)) ∷ []
 
 abbrev pub debug_infos : DebugInfo → List Data
 debug_infos debug.Nothing = boolean false ∷ integer (pos 0) ∷ string (codes "none") ∷ []
