@@ -13,3 +13,4 @@ pub mod Wanted
 pub mod OfPlans
 pub mod Judged
 pub mod Texts
+pub mod Trimming

@@ -1,14 +1,18 @@
 -- What a whole text says, line by line: the output of a script, and dep-info (The Cargo Book, Build Scripts, Build Cache).
-use Rattle.std.specs.Prelude.{◌≡◌, ◌<◌, ◌+◌, ℕ, true, is_ok, List, Result, Ok, Err, Some, slice_get}
-use Rattle.std.specs.List.{AllZip, flat_map}
+use Rattle.std.specs.Prelude.{◌≡◌, ◌<◌, ◌+◌, ◌-◌, ℕ, true, is_ok, drop, length, List, Result, Ok, Err, Some, slice_get, take}
+use Rattle.std.specs.List.{AllZip, flat_map, prefix_len, suffix_len}
 use Rattle.pb_data.specs.Mentions.{once}
 use Rattle.pb_directive.specs.DepInfo.{dep_info_of, line_info}
 use Rattle.pb_directive.specs.Directives.{directives_of, line_directives}
 use Rattle.pb_directive.specs.Faults.{fault_at}
-use Rattle.pb_directive.specs.Lines.{lines_of}
+use Rattle.pb_directive.specs.Lines.{is_blank, lines_of, trimmed}
 use Rattle.pb_directive.specs.declared.dep_info.DepInfo.{DepInfo}
 use Rattle.pb_directive.specs.declared.fault.LineFault.{LineFault}
 use Rattle.pb_directive.specs.declared.fault.Problem.{Problem}
+
+-- A line without the blanks at both ends: what is left behind those in front, without those at its end.
+abbrev pub LinesAreTrimmed : Type 0
+LinesAreTrimmed = (line : List ℕ) → let rest = drop (prefix_len is_blank line) line in trimmed line ≡ take (length rest - suffix_len is_blank rest) rest
 
 -- what is read of lines: all that each of them gives, in turn; or what is wrong with the first that does not read, told with its number from 1
 pub data AreRead {T U : Type 0} (read : List ℕ → Result T Problem) (all : List T → U) (lines : List (List ℕ)) : Result U LineFault → Type 0 where

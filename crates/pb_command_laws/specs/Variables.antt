@@ -18,8 +18,6 @@ use Rattle.pb_place.specs.declared.command.Command.{Command}
 use Rattle.pb_profile.specs.Line.{Seen, checked_line}
 use Rattle.pb_profile.specs.Words.{opt_level_text}
 use Rattle.pb_unit.specs.declared.plan.Planned.{Planned}
-use Rattle.pb_unit.specs.declared.unit.What.{What}
-use Rattle.pb_unit.specs.declared.unit.What.TheVariants.{Bin}
 use Rattle.pb_project.specs.Targets.{package_of, unit_at, crate_name_of, is_run, own_run, said_at}
 use Rattle.pb_project.specs.declared.project.Project.{Project}
 use Rattle.pb_project.specs.declared.project.Setup.{Setup}

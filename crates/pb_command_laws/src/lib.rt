@@ -8,7 +8,7 @@ ghost use Rattle.pb_command_laws.specs.OfPlans.{CompilesOfPlans, RunsOfPlans};
 ghost use Rattle.pb_command_laws.specs.Planned.{LibrariesAreWanted, CompilesHearRuns, RunsStartScripts};
 ghost use Rattle.pb_command_laws.specs.Reading.{SayingsKeepWords};
 ghost use Rattle.pb_command_laws.specs.Starts.{CompilesStart, RunsStart};
-ghost use Rattle.pb_command_laws.specs.Texts.{InfosAreRead, OutputsAreRead};
+ghost use Rattle.pb_command_laws.specs.Texts.{InfosAreRead, LinesAreTrimmed, OutputsAreRead};
 ghost use Rattle.pb_command_laws.specs.Variables.{CompilesHave, RunsHave};
 
 /// A law: the words of a compile, read back by the compiler's own option grammar, say its crate, settings, conditions,
@@ -63,8 +63,9 @@ pub fn answers_say()
 {}
 
 /// A law: what is read of a whole text, the output of a script or dep-info, is what its lines say, one after another; or
-/// what is wrong with the first that does not read, with its number.
+/// what is wrong with the first that does not read, with its number. And what a line is without its blanks.
 pub fn texts_are_read()
     ensures outputs { OutputsAreRead }
     ensures infos { InfosAreRead }
+    ensures trimmed { LinesAreTrimmed }
 {}

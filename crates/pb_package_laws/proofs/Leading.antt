@@ -1,10 +1,11 @@
--- The way from a folder to a path is what the law says.
-use Rattle.std.proofs.Common.{◌≡◌, ◌∙◌, ◌++◌, ◌∷◌, ◌+◌, ◌-◌, [], ℕ, suc, Bool, true, false, cond, codes, drop, List, length, replicate, refl, sym, ap, arith}
+-- A path, and the way to it from a folder, are what the laws say.
+use Rattle.std.proofs.Common.{◌==◌, ◌≡◌, ◌∙◌, ◌++◌, ◌∷◌, ◌+◌, ◌-◌, [], ℕ, suc, Bool, true, false, cond, codes, drop, List, length, replicate, refl, sym, ap, arith}
+use Rattle.std.proofs.lemmas.Bool.Decides.{nat_tests}
 use Rattle.std.specs.List.{common_prefix_len, flat_map, join_by}
 use Rattle.std.specs.Str.{bytes_eq}
 use Rattle.pb_place.specs.Paths.{slashed}
 use Rattle.pb_workspace.specs.Between.{names_in, spelled, steps_between, upward}
-use Rattle.pb_package_laws.specs.Ways.{TextsLeadBetween}
+use Rattle.pb_package_laws.specs.Ways.{PathsAreSpelled, TextsLeadBetween}
 
 -- the way from a folder
 
@@ -44,3 +45,16 @@ steps_are (name ∷ names) (other ∷ others) = by (bytes_eq name other) (steps_
 
 pub texts_lead_between : TextsLeadBetween
 texts_lead_between folder path = ap spelled (steps_are (names_in folder) (names_in path)) ∙ spelled_is (Way (names_in folder) (names_in path) (common_prefix_len bytes_eq (names_in folder) (names_in path)))
+
+-- a path
+
+each_name : (names : List (List ℕ)) → slashed names ≡ flat_map (λ (name : List ℕ). 47 ∷ name) names
+each_name [] = refl
+each_name (name ∷ names) = ap (λ rest. 47 ∷ name ++ rest) (each_name names)
+
+no_zero : (n : ℕ) → (suc n == 0) ≡ false
+no_zero n = grind (arith, nat_tests)
+
+pub paths_are_spelled : PathsAreSpelled
+paths_are_spelled [] = refl
+paths_are_spelled (name ∷ names) = each_name (name ∷ names) ∙ ap (λ b. cond b (codes "/") (flat_map (λ (name : List ℕ). 47 ∷ name) (name ∷ names))) (sym (no_zero (length names)))

@@ -4,7 +4,7 @@
 
 ghost use Rattle.pb_package_laws.specs.Laws.{AllAreSettled, WorkspacesAreOne, WorkspacesAreRead};
 ghost use Rattle.pb_package_laws.specs.Members.{PartsMatchNames, TextsMeanFolders};
-ghost use Rattle.pb_package_laws.specs.Ways.{TextsLeadBetween};
+ghost use Rattle.pb_package_laws.specs.Ways.{PathsAreSpelled, TextsLeadBetween};
 
 /// A law: a workspace that was read is what its manifests and their folders say. Its packages lie in the least set of
 /// folders that holds the root package's, the members' and that of each path dependency of a package in it, in byte order.
@@ -30,4 +30,5 @@ pub fn folders_are_meant()
     ensures meant { TextsMeanFolders }
     ensures parts { PartsMatchNames }
     ensures between { TextsLeadBetween }
+    ensures spelled { PathsAreSpelled }
 {}

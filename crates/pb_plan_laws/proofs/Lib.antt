@@ -7,3 +7,4 @@ pub mod Faulting
 pub mod Setting
 pub mod Sorts
 pub mod Levelling
+pub mod Checking

@@ -1,9 +1,14 @@
 -- What the line of a profile is: the profile, what it inherits from, and so on (The Cargo Book, Profiles).
-use Rattle.std.specs.Prelude.{◌≡◌, ◌↔◌, ℕ, true, false, ◌||◌, codes, List, [], ◌∷◌, Some, Result, Ok, Err}
+use Rattle.std.specs.Prelude.{◌≡◌, ◌↔◌, ℕ, true, false, ◌||◌, ◌++◌, if◌then◌else◌, codes, List, [], ◌∷◌, map, Some, Result, Ok, Err}
+use Rattle.std.specs.List.{filter_map, flat_map, list_all}
+use Rattle.std.specs.Option.{option_to_list}
+use Rattle.pb_data.specs.Gives.{◌>>=◌}
 use Rattle.pb_manifest.specs.declared.profile.Profile.{Profile}
-use Rattle.pb_profile.specs.Line.{Seen, is_either, line_of, named, seen_at}
+use Rattle.pb_manifest.specs.declared.profile.ProfileKeys.{ProfileKeys}
+use Rattle.pb_manifest.specs.declared.profile.ProfileOverride.{ProfileOverride}
+use Rattle.pb_profile.specs.Line.{Seen, checked_line, is_either, line_of, may_override, named, seen_at}
 use Rattle.pb_profile.specs.declared.fault.ProfileFault.{ProfileFault}
-use Rattle.pb_profile.specs.declared.fault.ProfileFault.TheVariants.{NoSuchProfile, InheritsCycle}
+use Rattle.pb_profile.specs.declared.fault.ProfileFault.TheVariants.{NoSuchProfile, InheritsCycle, NotInOverride}
 
 -- a profile inherits from another: `test` from `dev`, `bench` from `release`, a custom one from what its table writes; `dev` and `release` from none
 pub data Inherits (profiles : List Profile) : List ℕ → List ℕ → Type 0 where
@@ -25,3 +30,11 @@ pub data IsLine (profiles : List Profile) : List ℕ → Result (List Seen) Prof
 
 abbrev pub LinesAreThese : Type 0
 LinesAreThese = (profiles : List Profile) (name : List ℕ) (answer : Result (List Seen) ProfileFault) → (line_of profiles name ≡ answer) ↔ IsLine profiles name answer
+
+-- the keys that the overrides of a line set
+abbrev pub overrides_of : List Seen → List ProfileKeys
+overrides_of line = flat_map (λ (p : Profile). option_to_list p.build_override ++ map (λ (o : ProfileOverride). o.keys) p.packages) (filter_map (λ (s : Seen). s.table) line)
+
+-- A line is good whose overrides set nothing that they may not.
+abbrev pub LinesAreChecked : Type 0
+LinesAreChecked = (profiles : List Profile) (name : List ℕ) → checked_line profiles name ≡ line_of profiles name >>= (λ line. if list_all may_override (overrides_of line) then Ok line else Err NotInOverride)

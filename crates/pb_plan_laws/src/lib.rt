@@ -7,7 +7,7 @@ ghost use Rattle.pb_plan_laws.specs.Items.{PackagesAreAtFault};
 ghost use Rattle.pb_plan_laws.specs.Kinds.{FoldersArePackages, KindsAreThese, RolesAreThese, RunsSay};
 ghost use Rattle.pb_plan_laws.specs.Levels.{LevelsAreThese, PackagesHaveNames};
 ghost use Rattle.pb_plan_laws.specs.Needs.{NeedsAreThese};
-ghost use Rattle.pb_plan_laws.specs.Profiles.{LinesAreThese};
+ghost use Rattle.pb_plan_laws.specs.Profiles.{LinesAreChecked, LinesAreThese};
 ghost use Rattle.pb_plan_laws.specs.Settings.{SettingsAreThese};
 ghost use Rattle.pb_plan_laws.specs.Targets.{PlansHaveTargets, RunsMakeNone, UnitsMakeTargets};
 
@@ -22,9 +22,10 @@ pub fn needs_are_these()
 {}
 
 /// A law: the line of a profile goes on to `dev` or `release` by what each inherits from; and there is none exactly where
-/// a profile of it inherits from nothing, or from itself in some steps.
+/// a profile of it inherits from nothing, or from itself in some steps. It is good where its overrides set what they may.
 pub fn lines_are_these()
-    ensures { LinesAreThese }
+    ensures lines { LinesAreThese }
+    ensures checked { LinesAreChecked }
 {}
 
 /// A law: what a unit compiles and makes, a line for each kind of target; a run makes no file. Each unit of a plan has its
