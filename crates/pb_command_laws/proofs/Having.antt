@@ -18,8 +18,9 @@ use Rattle.pb_project.specs.declared.project.Setup.{Setup}
 use Rattle.pb_command.proofs.Rising.{last_counts}
 use Rattle.pb_command.specs.Command.{command_by, command_for, command_of}
 use Rattle.pb_command.specs.Pairs.{package_pairs, about_pairs, numbers_in, version_pairs, version_texts, env_pair, out_pairs, run_there, own_pairs, composed, pairs_of}
-use Rattle.pb_command_laws.specs.Compiles.{binary_name, row, hears}
-use Rattle.pb_command_laws.specs.Variables.{package_table, variable_set, folder_at, CompilesHave}
+use Rattle.pb_command_laws.specs.Compiles.{binary_name, heard, row, hears}
+use Rattle.pb_command_laws.specs.Variables.{compile_table, package_table, variable_set, folder_at, CompilesHave}
+use Rattle.pb_command_laws.proofs.Lasting.{from_behind}
 use Rattle.pb_command_laws.proofs.Pairs.{Pair}
 
 -- ---- what every unit has
@@ -80,3 +81,4 @@ module _ (setup : Setup) (project : Project) (unit : Planned) (done : List (Opti
 pub compiles_have : CompilesHave
 compiles_have setup project unit done p there compiles name =
     value_is setup project unit done p name there ∙ ap (λ own. last_value name (package_table setup p ++ own)) (own_is setup project unit done p unit.unit.what compiles)
+    ∙ from_behind name (compile_table setup project unit p (heard project unit done) (if hears unit.unit.what then folder_at project (own_run project unit) else None))

@@ -1,9 +1,10 @@
 -- The last value that pairs give a name.
-use Rattle.std.proofs.Common.{◌≡◌, ℕ, ◌||◌, Bool, true, false, cond, List, [], ◌∷◌, ◌++◌, Option, Some, None, unwrap_or, refl, sym, ◌∙◌, ap}
+use Rattle.std.proofs.Common.{◌≡◌, ℕ, ◌||◌, Bool, true, false, cond, List, [], ◌∷◌, ◌++◌, Option, Some, None, unwrap_or, refl, reverse, sym, ◌∙◌, ap}
+use Rattle.std.proofs.lemmas.List.{reverse-append}
 use Rattle.std.specs.Option.{option_or}
 use Rattle.std.specs.Str.{bytes_eq}
 use Rattle.pb_data.specs.Mentions.{is_mentioned}
-use Rattle.pb_data.specs.Table.{names_of, last_value}
+use Rattle.pb_data.specs.Table.{names_of, last_value, value_at}
 use Rattle.pb_command_laws.proofs.Pairs.{Pair}
 
 first_off : (a b : Bool) → (a || b) ≡ false → a ≡ false
@@ -37,3 +38,25 @@ last_none name [] off = refl
 last_none name (pair ∷ pairs) off =
     ap (λ r. cond r (Some (unwrap_or (last_value name pairs) pair.1)) (last_value name pairs)) (first_off (bytes_eq name pair.0) (is_mentioned (names_of pairs) name) off)
     ∙ last_none name pairs (second_off (bytes_eq name pair.0) (is_mentioned (names_of pairs) name) off)
+
+-- it is the first from behind
+at_behind : (name : List ℕ) (pairs : List Pair) (pair : Pair) → value_at name (pairs ++ pair ∷ []) ≡ option_or (value_at name pairs) (cond (bytes_eq name pair.0) (Some pair.1) None)
+at_behind name [] pair = refl
+at_behind name (first ∷ pairs) pair = by (bytes_eq name first.0) (at_behind name pairs pair)
+  where
+    by : (b : Bool) → value_at name (pairs ++ pair ∷ []) ≡ option_or (value_at name pairs) (cond (bytes_eq name pair.0) (Some pair.1) None)
+        → cond b (Some first.1) (value_at name (pairs ++ pair ∷ [])) ≡ option_or (cond b (Some first.1) (value_at name pairs)) (cond (bytes_eq name pair.0) (Some pair.1) None)
+    by true rest = refl
+    by false rest = rest
+
+pub from_behind : (name : List ℕ) (pairs : List Pair) → last_value name pairs ≡ value_at name (reverse pairs)
+from_behind name [] = refl
+from_behind name (pair ∷ pairs) =
+    ap (λ o. cond (bytes_eq name pair.0) (Some (unwrap_or o pair.1)) o) (from_behind name pairs) ∙ by (bytes_eq name pair.0) (value_at name (reverse pairs))
+    ∙ sym (at_behind name (reverse pairs) pair) ∙ ap (value_at name) (sym (reverse-append (pair ∷ []) pairs))
+  where
+    by : (b : Bool) (o : Option (List ℕ)) → cond b (Some (unwrap_or o pair.1)) o ≡ option_or o (cond b (Some pair.1) None)
+    by true None = refl
+    by true (Some v) = refl
+    by false None = refl
+    by false (Some v) = refl

@@ -28,7 +28,7 @@ use Rattle.pb_command.specs.Pairs.{links_pairs, feature_name, feature_pair, trip
 use Rattle.pb_command_laws.specs.Compiles.{row}
 use Rattle.pb_command_laws.specs.Variables.{package_table, debug_text, links_of_run, handed_on, run_table, RunsHave}
 use Rattle.pb_command_laws.proofs.Having.{value_is}
-use Rattle.pb_command_laws.proofs.Lasting.{last-append, last_behind, last_none}
+use Rattle.pb_command_laws.proofs.Lasting.{from_behind, last-append, last_behind, last_none}
 use Rattle.pb_command_laws.proofs.Pairs.{Pair}
 
 abbrev Lines : Type 0
@@ -162,3 +162,4 @@ pub runs_have : RunsHave
 runs_have setup project unit done p there runs name =
     value_is setup project unit done p name there
     ∙ ap (λ own. last_value name (package_table setup p ++ own)) (own setup project unit done p unit.unit.what runs) ∙ last setup project unit done p name
+    ∙ from_behind name (run_table setup project unit done p)

@@ -1,12 +1,12 @@
 -- What the variables of a command are (The Cargo Book, Environment Variables): tables of names and values, of which the last of a name counts.
-use Rattle.std.specs.Prelude.{◌≡◌, ℕ, true, false, if◌then◌else◌, codes, List, [], ◌∷◌, ◌++◌, map, Option, Some, None}
+use Rattle.std.specs.Prelude.{◌≡◌, ℕ, true, false, if◌then◌else◌, codes, List, [], ◌∷◌, ◌++◌, map, reverse, Option, Some, None}
 use Rattle.std.specs.Fmt.{decimal}
 use Rattle.std.specs.List.{flat_map, list_any, join_by}
 use Rattle.std.specs.Option.{option_and_then, option_map, option_map_or}
 use Rattle.std.specs.Result.{result_unwrap_or}
 use Rattle.std.specs.Str.{bytes_eq}
 use Rattle.semver.specs.Parse.{version_parts}
-use Rattle.pb_data.specs.Table.{value_at, last_value}
+use Rattle.pb_data.specs.Table.{value_at}
 use Rattle.pb_directive.specs.Metadata.{in_capitals, passed}
 use Rattle.pb_directive.specs.declared.directive.Directive.{Directive}
 use Rattle.pb_directive.specs.declared.directive.Directive.TheVariants.{Env}
@@ -25,9 +25,9 @@ use Rattle.pb_command.specs.Command.{command_of}
 use Rattle.pb_command.specs.Pairs.{triple_of}
 use Rattle.pb_command_laws.specs.Compiles.{binary_name, row, hears, heard}
 
--- a command has the variables of a table: each name has the last value that stands there, and no other name is set
+-- a command has the variables of a table: each name has the value that stands last there, the first from behind, and no other name is set
 abbrev pub HasVariables : Command → List (List ℕ × List ℕ) → Type 0
-HasVariables command table = (name : List ℕ) → value_at name command.pairs ≡ last_value name table
+HasVariables command table = (name : List ℕ) → value_at name command.pairs ≡ value_at name (reverse table)
 
 -- Of every unit.
 
