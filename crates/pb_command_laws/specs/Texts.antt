@@ -26,4 +26,5 @@ OutputsAreRead = (bytes : List ℕ) → AreRead line_directives (flat_map (λ sa
 
 -- Dep-info names the words and the variables that its lines name, each once, in order of first mention.
 abbrev pub InfosAreRead : Type 0
-InfosAreRead = (bytes : List ℕ) → AreRead line_info (λ infos. record { words = once (flat_map (λ (info : DepInfo). info.words) infos); variables = once (flat_map (λ (info : DepInfo). info.variables) infos) }) (lines_of bytes) (dep_info_of bytes)
+InfosAreRead = (bytes : List ℕ)
+    → AreRead line_info (λ infos. record { words = once (flat_map (λ (info : DepInfo). info.words) infos); variables = once (flat_map (λ (info : DepInfo). info.variables) infos) }) (lines_of bytes) (dep_info_of bytes)

@@ -20,7 +20,8 @@ pub data IsMember (sources : World) (f : Frame) (folder : List ℕ) : Type 0 whe
 -- a text of `members` means a folder: one that is written out just that folder, whatever is there; one with `*` or `?` each that it matches, that has a manifest, and that `exclude` does not leave out
 pub data IsMeant (sources : World) (f : Frame) (text folder : List ℕ) : Type 0 where
   written : (plain : is_glob text ≡ false) (is : folder ≡ resolved f.root text) → IsMeant sources f text folder
-  matched : (globs : is_glob text ≡ true) (path : is_path folder ≡ true) (file : is_file sources folder (codes "Cargo.toml") ≡ true) (is : means f.root text folder ≡ true) (kept : is_excluded f.root f.exclude folder ≡ false) → IsMeant sources f text folder
+  matched : (globs : is_glob text ≡ true) (path : is_path folder ≡ true) (file : is_file sources folder (codes "Cargo.toml") ≡ true)
+      (is : means f.root text folder ≡ true) (kept : is_excluded f.root f.exclude folder ≡ false) → IsMeant sources f text folder
 
 -- These are the folders that a text means, where each file of the sources has a normalised absolute path.
 abbrev pub TextsMeanFolders : Type 0

@@ -9,9 +9,11 @@ use Rattle.pb_unit.specs.declared.plan.Planned.{Planned}
 
 -- Above the levels of the units at some places comes one more than the greatest, and 0 where there is none.
 abbrev pub LevelsAreThese : Type 0
-LevelsAreThese = (units : List Planned) (places : List ℕ) → above (map (level_at units) places) ≡ fold max 0 (map (λ place. option_map_or (λ (p : Planned). p.level + 1) (slice_get units place) 1) places)
+LevelsAreThese = (units : List Planned) (places : List ℕ)
+    → above (map (level_at units) places) ≡ fold max 0 (map (λ place. option_map_or (λ (p : Planned). p.level + 1) (slice_get units place) 1) places)
 
 -- The name of the package at a place, and whether it has a library; where there is no package neither.
 abbrev pub PackagesHaveNames : Type 0
 PackagesHaveNames = (ws : Workspace) (place : ℕ)
-    → (name_at ws place ≡ option_map_or (λ (p : Package). p.name) (slice_get ws.packages place) []) × (has_library (slice_get ws.packages place) ≡ option_map_or (λ (p : Package). is_some p.library) (slice_get ws.packages place) false)
+    → (name_at ws place ≡ option_map_or (λ (p : Package). p.name) (slice_get ws.packages place) [])
+    × (has_library (slice_get ws.packages place) ≡ option_map_or (λ (p : Package). is_some p.library) (slice_get ws.packages place) false)

@@ -37,4 +37,5 @@ overrides_of line = flat_map (λ (p : Profile). option_to_list p.build_override 
 
 -- A line is good whose overrides set nothing that they may not.
 abbrev pub LinesAreChecked : Type 0
-LinesAreChecked = (profiles : List Profile) (name : List ℕ) → checked_line profiles name ≡ line_of profiles name >>= (λ line. if list_all may_override (overrides_of line) then Ok line else Err NotInOverride)
+LinesAreChecked = (profiles : List Profile) (name : List ℕ)
+    → checked_line profiles name ≡ line_of profiles name >>= (λ line. if list_all may_override (overrides_of line) then Ok line else Err NotInOverride)
