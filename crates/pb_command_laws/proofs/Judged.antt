@@ -1,7 +1,7 @@
 -- An answer is judged just so.
 use borrow.Author.Tests.{ltb-false}
-use Rattle.std.proofs.Common.{inl, inr, ◌≡◌, ◌≢◌, ◌<◌, ◌⊎◌, ◌∙◌, ℕ, Bool, true, false, ◌||◌, if◌then◌else◌, codes, List, [], ◌∷◌, ◌++◌, Option, Some, None, pos, Result, Ok, Err, length, refl, sym, ap, subst, arith}
-use Rattle.std.proofs.lemmas.Bool.Decides.{Decides-int_eq, Decides-ltb}
+use Rattle.std.proofs.Common.{suc, ◌==◌, inl, inr, ◌≡◌, ◌<◌, ◌⊎◌, ◌∙◌, ℕ, Bool, true, false, ◌||◌, if◌then◌else◌, codes, List, [], ◌∷◌, ◌++◌, Option, Some, None, pos, Result, Ok, Err, length, refl, sym, ap, subst, arith}
+use Rattle.std.proofs.lemmas.Bool.Decides.{Decides-int_eq, Decides-ltb, nat_tests}
 use Rattle.std.specs.Prelude.{filter, map, not}
 use Rattle.std.specs.List.{find, flat_map, list_any}
 use Rattle.std.specs.Option.{option_to_list}
@@ -31,6 +31,9 @@ use Rattle.pb_command_laws.specs.Compiles.{asked}
 use Rattle.pb_command_laws.specs.Judged as words
 use Rattle.pb_command_laws.specs.Judged.{EndedWell, IsInfo, IsShort, IsTold, IsAnswer, AnswersSay, paths_said}
 use Rattle.pb_command_laws.proofs.Asking.{asked_errors, asked_none, errors_asked, none_asked, paths_asked, variables_asked}
+
+no_zero : (n : ℕ) → (suc n == 0) ≡ false
+no_zero n = grind (arith, nat_tests)
 
 -- how long a text is
 
@@ -125,23 +128,24 @@ module _ (what : What) (c : Command) (folder : List ℕ) (e : Ended) (dep_info :
   abbrev with_inputs : Option (List Directive) → List (List ℕ) → List (List ℕ) → Answer
   with_inputs said paths variables = inputs_of c paths variables >>= (λ inputs. Ok record { directives = said; inputs = inputs })
 
-  rerun_so : (paths variables : List (List ℕ)) → paths ++ variables ≢ [] → rerun_inputs c folder paths variables ≡ inputs_of c (paths_said folder paths) (once variables)
-  rerun_so [] [] some = absurd (some refl)
-  rerun_so [] (name ∷ names) some = refl
-  rerun_so (path ∷ paths) names some = ap (λ said. inputs_of c said (once names)) (paths_are folder (path ∷ paths))
+  abbrev named_paths : List (List ℕ) → List (List ℕ) → List (List ℕ)
+  named_paths paths variables = if length (paths ++ variables) == 0 then folder ∷ [] else paths_said folder paths
+
+  rerun_so : (paths variables : List (List ℕ)) → rerun_inputs c folder paths variables ≡ inputs_of c (named_paths paths variables) (once variables)
+  rerun_so [] [] = refl
+  rerun_so [] (name ∷ names) = ap (λ b. inputs_of c (if b then folder ∷ [] else []) (once (name ∷ names))) (sym (no_zero (length names)))
+  rerun_so (path ∷ paths) names =
+      ap (λ said. inputs_of c said (once names)) (paths_are folder (path ∷ paths))
+      ∙ ap (λ b. inputs_of c (if b then folder ∷ [] else paths_said folder (path ∷ paths)) (once names)) (sym (no_zero (length (paths ++ names))))
 
   told_so : (said : Option (List Directive)) (paths variables : List (List ℕ)) → IsTold what c folder e dep_info said paths variables → answered_by what c folder e dep_info ≡ with_inputs said paths variables
   told_so _ _ _ (words.compile is info read) =
       compile_so is ∙ ap (λ (r : Result DepInfo UnitFault). r >>= (λ i. info_inputs c i >>= (λ inputs. Ok record { directives = None; inputs = inputs }))) (info_so info read)
       ∙ ap (λ paths. inputs_of c paths (inherited c info.variables) >>= (λ inputs. Ok record { directives = None; inputs = inputs })) (paths_are c.folder info.words)
-  told_so _ _ _ (words.run is said read fine some) =
+  told_so _ _ _ (words.run is said read fine) =
       run_so is ∙ ap (λ (r : Result (List Directive) UnitFault). r >>= (λ s. said_inputs c folder s >>= (λ inputs. Ok record { directives = Some s; inputs = inputs }))) (said_so said read (asked_none said fine))
       ∙ (λ i. rerun_inputs c folder (paths_asked said i) (variables_asked said i) >>= (λ inputs. Ok record { directives = Some said; inputs = inputs }))
-      ∙ ap (λ r. r >>= (λ inputs. Ok record { directives = Some said; inputs = inputs })) (rerun_so (asked (codes "rerun-if-changed") said) (asked (codes "rerun-if-env-changed") said) some)
-  told_so _ _ _ (words.run_alone is said read fine no_path no_variable) =
-      run_so is ∙ ap (λ (r : Result (List Directive) UnitFault). r >>= (λ s. said_inputs c folder s >>= (λ inputs. Ok record { directives = Some s; inputs = inputs }))) (said_so said read (asked_none said fine))
-      ∙ (λ i. rerun_inputs c folder (paths_asked said i) (variables_asked said i) >>= (λ inputs. Ok record { directives = Some said; inputs = inputs }))
-      ∙ (λ i. rerun_inputs c folder (no_path i) (no_variable i) >>= (λ inputs. Ok record { directives = Some said; inputs = inputs }))
+      ∙ ap (λ r. r >>= (λ inputs. Ok record { directives = Some said; inputs = inputs })) (rerun_so (asked (codes "rerun-if-changed") said) (asked (codes "rerun-if-env-changed") said))
 
   -- the inputs
   abbrev inputs_are : List (List ℕ) → List (List ℕ) → List InputName
@@ -226,17 +230,7 @@ module _ (what : What) (c : Command) (folder : List ℕ) (e : Ended) (dep_info :
       by (Some path) at = found _ (words.refused well said paths variables told path at)
 
   by_lines : EndedWell e → is_run what ≡ true → (said : List Directive) → directives_of e.stdout ≡ Ok said → list_any is_error said ≡ false → Is answer
-  by_lines well is said read fine = by (asked (codes "rerun-if-changed") said) (asked (codes "rerun-if-env-changed") said) refl refl
-    where
-      apart : (x : List ℕ) (xs : List (List ℕ)) → x ∷ xs ≢ []
-      apart x xs same = cc
-
-      by : (paths variables : List (List ℕ)) → asked (codes "rerun-if-changed") said ≡ paths → asked (codes "rerun-if-env-changed") said ≡ variables → Is answer
-      by [] [] one other = by_inputs well (Some said) (folder ∷ []) [] (words.run_alone is said read (none_asked said fine) one other)
-      by [] (name ∷ names) one other =
-          by_inputs well (Some said) _ _ (words.run is said read (none_asked said fine) (λ empty. apart name names (sym (λ i. one i ++ other i) ∙ empty)))
-      by (path ∷ paths) variables one other =
-          by_inputs well (Some said) _ _ (words.run is said read (none_asked said fine) (λ empty. apart path (paths ++ variables) (sym (λ i. one i ++ other i) ∙ empty)))
+  by_lines well is said read fine = by_inputs well (Some said) _ _ (words.run is said read (none_asked said fine))
 
   by_said : EndedWell e → is_run what ≡ true → (r : Result (List Directive) LineFault) → directives_of e.stdout ≡ r → Is answer
   by_said well is (Err fault) read = found _ (words.bad_line well is fault read)

@@ -1,5 +1,5 @@
 -- How the answer of a unit's child is judged, in words of its own (The Cargo Book, Build Cache, Build Scripts).
-use Rattle.std.specs.Prelude.{◌≡◌, ◌≢◌, ◌≤◌, ◌↔◌, ℕ, Bool, true, false, ◌&&◌, not, ◌++◌, codes, List, [], ◌∷◌, filter, length, map, Option, Some, None, pos, Result, Ok, Err}
+use Rattle.std.specs.Prelude.{◌≡◌, ◌≢◌, ◌≤◌, ◌↔◌, ℕ, Bool, true, false, ◌&&◌, not, ◌++◌, ◌==◌, if◌then◌else◌, codes, List, [], ◌∷◌, filter, length, map, Option, Some, None, pos, Result, Ok, Err}
 use Rattle.std.specs.List.{find, flat_map, list_any}
 use Rattle.std.specs.Option.{option_to_list}
 use Rattle.std.specs.Result.{result_ok}
@@ -50,10 +50,8 @@ is_foreign c path = is_at_or_below c.target path && not (list_any (λ folder. is
 -- what tells of inputs, and these paths and variables: of a compile its dep-info, but for variables that the command sets; of a run its lines, and without any that names one the package's folder
 pub data IsTold (what : What) (c : Command) (folder : List ℕ) (e : Ended) (dep_info : Option (List ℕ)) : Option (List Directive) → List (List ℕ) → List (List ℕ) → Type 0 where
   compile : (is : is_run what ≡ false) (info : DepInfo) (read : IsInfo dep_info info) → IsTold what c folder e dep_info None (paths_said c.folder info.words) (inherited c info.variables)
-  run : (is : is_run what ≡ true) (said : List Directive) (read : directives_of e.stdout ≡ Ok said) (fine : asked (codes "error") said ≡ []) (some : asked (codes "rerun-if-changed") said ++ asked (codes "rerun-if-env-changed") said ≢ [])
-      → IsTold what c folder e dep_info (Some said) (paths_said folder (asked (codes "rerun-if-changed") said)) (once (asked (codes "rerun-if-env-changed") said))
-  run_alone : (is : is_run what ≡ true) (said : List Directive) (read : directives_of e.stdout ≡ Ok said) (fine : asked (codes "error") said ≡ []) (no_path : asked (codes "rerun-if-changed") said ≡ []) (no_variable : asked (codes "rerun-if-env-changed") said ≡ [])
-      → IsTold what c folder e dep_info (Some said) (folder ∷ []) []
+  run : (is : is_run what ≡ true) (said : List Directive) (read : directives_of e.stdout ≡ Ok said) (fine : asked (codes "error") said ≡ []) → IsTold what c folder e dep_info (Some said)
+      (if length (asked (codes "rerun-if-changed") said ++ asked (codes "rerun-if-env-changed") said) == 0 then folder ∷ [] else paths_said folder (asked (codes "rerun-if-changed") said)) (once (asked (codes "rerun-if-env-changed") said))
 
 -- an answer. How the child ended is looked at first; then a run's lines or a compile's dep-info; then the inputs: the paths outside the target folder, and the variables, where no path is foreign
 pub data IsAnswer (what : What) (c : Command) (folder : List ℕ) (e : Ended) (dep_info : Option (List ℕ)) : Result Answered UnitFault → Type 0 where
