@@ -4,3 +4,8 @@ pub mod Summing
 pub mod Told
 pub mod Giving
 pub mod Turning
+pub mod Surrounding
+pub mod Standing
+pub mod Calling
+pub mod Numbering
+pub mod Differing

@@ -3,3 +3,8 @@ pub mod Summaries
 pub mod Schedules
 pub mod Telling
 pub mod Outcomes
+pub mod Environments
+pub mod States
+pub mod Calls
+pub mod Numbers
+pub mod Differing

@@ -1,17 +1,19 @@
 -- What a unit tells its users, whole: its target, and what is told where it is good and where it is bad (The Cargo Book, External Tools).
-use Rattle.std.specs.Prelude.{◌≡◌, ◌++◌, ◌∷◌, [], ℕ, Bool, true, false, not, List, Option, Some, None, find, map, option_and_then, option_map}
-use Rattle.std.specs.List.{filter_map}
+use Rattle.std.specs.Prelude.{◌≡◌, ◌++◌, ◌∷◌, [], ℕ, Bool, codes, not, List, Option, Some, None, find, map, option_and_then, option_map}
+use Rattle.std.specs.List.{filter_map, flat_map}
 use Rattle.std.specs.Option.{option_map_or}
 use Rattle.std.specs.Result.{result_unwrap_or}
 use Rattle.std.specs.Str.{bytes_eq}
+use Rattle.pb_command_laws.specs.Compiles.{asked, is_binary}
+use Rattle.pb_command_laws.specs.Variables.{variable_set}
 use Rattle.pb_directive.specs.Directives.{directives_of}
 use Rattle.pb_directive.specs.declared.directive.Directive.{Directive}
 use Rattle.pb_resolved.specs.Features.{features_at}
+use Rattle.pb_manifest.specs.Library.{crate_type_texts}
 use Rattle.pb_message.specs.Diagnostics.{diagnostics_of, plain_lines_of}
 use Rattle.pb_message.specs.Message.{lines_of}
-use Rattle.pb_message.specs.Targets.{library_target, binary_target, script_target}
 use Rattle.pb_message.specs.declared.message.Message.{Message}
-use Rattle.pb_message.specs.declared.message.Message.TheVariants.{CompilerMessage, CompilerArtifact}
+use Rattle.pb_message.specs.declared.message.Message.TheVariants.{BuildScriptExecuted, CompilerMessage, CompilerArtifact}
 use Rattle.pb_message.specs.declared.subject.Subject.{Subject}
 use Rattle.pb_message.specs.declared.subject.Target.{Target}
 use Rattle.pb_package.specs.declared.package.Binary.{Binary}
@@ -22,16 +24,20 @@ use Rattle.pb_project.specs.Targets.{made_file_of, package_of}
 use Rattle.pb_project.specs.declared.fault.UnitFault.{UnitFault}
 use Rattle.pb_project.specs.declared.fault.UnitFault.TheVariants as fault
 use Rattle.pb_project.specs.declared.project.Project.{Project}
-use Rattle.pb_run.specs.Telling.{unit_lines, good_messages, bad_messages, said_by, note_in, executed}
+use Rattle.pb_run.specs.Telling.{unit_lines, good_messages, bad_messages, said_by, note_in}
 use Rattle.pb_unit.specs.declared.plan.Planned.{Planned}
 use Rattle.pb_unit.specs.declared.unit.What.{What}
 use Rattle.pb_unit.specs.declared.unit.What.TheVariants.{Lib, Bin, Run}
 
+-- a target of a package: its kinds, the types of its crate, its name, its source, and the features without which it is not built
+abbrev pub target : Package → List (List ℕ) → List (List ℕ) → List ℕ → List ℕ → List (List ℕ) → Target
+target p kinds types name source required = record { kinds = kinds; crate_types = types; name = name; source = source; edition = p.edition; required_features = required }
+
 -- the target of a package that is compiled or run, where the package has it
 abbrev pub target_in : Package → What → Option Target
-target_in p Lib = option_map (λ (l : Library). library_target l.crate_types l.name l.source p.edition) p.library
-target_in p (Bin name) = option_map (λ (b : Binary). binary_target b.name b.source p.edition b.required_features) (find (λ (b : Binary). bytes_eq name b.name) p.binaries)
-target_in p _ = option_map (λ source. script_target source p.edition) p.script
+target_in p Lib = option_map (λ (l : Library). target p (crate_type_texts l.crate_types) (crate_type_texts l.crate_types) l.name l.source []) p.library
+target_in p (Bin name) = option_map (λ (b : Binary). target p (codes "bin" ∷ []) (codes "bin" ∷ []) b.name b.source b.required_features) (find (λ (b : Binary). bytes_eq name b.name) p.binaries)
+target_in p _ = option_map (λ source. target p (codes "custom-build" ∷ []) (codes "bin" ∷ []) (codes "build-script-build") source []) p.script
 
 -- the lines of a package name it, and the target
 abbrev pub subject : Package → Target → Subject
@@ -41,14 +47,19 @@ subject p target = record { name = p.name; version = p.version; folder = p.folde
 abbrev pub subject_at : Project → Planned → Option Subject
 subject_at project u = option_and_then (λ (p : Package). option_map (subject p) (target_in p u.unit.what)) (package_of project u)
 
--- of what is compiled, a binary alone can be run
-abbrev pub can_be_run : What → Bool
-can_be_run (Bin name) = true
-can_be_run _ = false
-
--- the message of a file that a unit made
+-- the message of a file that a unit made; of these a binary alone can be run
 abbrev pub made_message : Project → Planned → List ℕ → Message
-made_message project u file = CompilerArtifact record { settings = u.settings; features = features_at project.features u.unit.owner u.unit.side; file = file; is_executable = can_be_run u.unit.what }
+made_message project u file = CompilerArtifact record { settings = u.settings; features = features_at project.features u.unit.owner u.unit.side; file = file; is_executable = is_binary u.unit.what }
+
+-- what a script gave the compiler, each list in printed order
+abbrev pub executed : Planned → List Directive → Message
+executed u directives = BuildScriptExecuted record {
+  linked_libraries = asked (codes "rustc-link-lib") directives;
+  linked_paths = asked (codes "rustc-link-search") directives;
+  conditions = asked (codes "rustc-cfg") directives;
+  variables = flat_map variable_set directives;
+  out_folder = u.out;
+}
 
 -- the messages of a good unit, by what a run said: a compile gives its diagnostics, and then what it made; a run its notes in printed order, and then what it gave the compiler
 abbrev pub told_well : Project → Planned → List ℕ → Option (List Directive) → List Message

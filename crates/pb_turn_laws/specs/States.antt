@@ -1,0 +1,34 @@
+-- Where the units of a build stand, and how they are called.
+use Rattle.std.specs.Prelude.{◌≡◌, ◌↔◌, ◌+◌, ℕ, Bool, true, false, if◌then◌else◌, is_some, List, map, None, Some, slice_get}
+use Rattle.std.specs.List.{prefix_len}
+use Rattle.std.specs.Option.{option_map_or, option_to_list}
+use Rattle.pb_answer.specs.declared.bad_unit.BadUnit.{BadUnit}
+use Rattle.pb_flight.specs.Table.{count_due, is_bad, is_finished, is_good_at, is_untouched}
+use Rattle.pb_flight.specs.declared.flight.Answer.{Answer}
+use Rattle.pb_flight.specs.declared.flight.State.{State}
+use Rattle.pb_flight.specs.declared.flight.State.TheVariants.{Untouched, Answered}
+use Rattle.pb_project.specs.Targets.{unit_at}
+use Rattle.pb_project.specs.declared.project.Project.{Project}
+use Rattle.pb_run.specs.Halves.{key_at}
+use Rattle.pb_run.specs.Outcome.{Outcome}
+use Rattle.pb_turns.specs.Rows as rows
+use Rattle.pb_turns.specs.Rows.{fault_in}
+use Rattle.pb_unit.specs.declared.plan.Planned.{Planned}
+
+-- a unit has answered, and it is bad or not
+abbrev pub HasAnswered : State BadUnit → Bool → Type 0
+HasAnswered s bad = (answer : Answer BadUnit) × (s ≡ Answered answer) × (is_some answer.fault ≡ bad)
+
+-- A unit has not begun just where it is untouched; it is bad or good just where it has answered so; what is no unit is not good.
+abbrev pub StatesAreThese : Type 0
+StatesAreThese = (is_good_at {F = BadUnit} None ≡ false)
+    × ((s : State BadUnit) → ((is_untouched s ≡ true) ↔ (s ≡ Untouched)) × ((is_bad s ≡ true) ↔ HasAnswered s true) × ((is_good_at (Some s) ≡ true) ↔ HasAnswered s false))
+
+-- Units count from the start of plan order up to the first that is not good, and with it where it is bad; all have come to their end where it is bad, or where each is good.
+abbrev pub EndsAreThese : Type 0
+EndsAreThese = (states : List (State BadUnit)) → let first = prefix_len (λ s. is_good_at (Some s)) states in
+    (count_due states ≡ first + (if option_map_or is_bad (slice_get states first) false then 1 else 0)) × (is_finished states ≡ option_map_or is_bad (slice_get states first) true)
+
+-- The key of the unit at a place, where there is one; and an outcome is bad where it has a fault.
+abbrev pub RowsAreThese : Type 0
+RowsAreThese = ((project : Project) (place : ℕ) → key_at project place ≡ map (λ (u : Planned). u.key) (option_to_list (unit_at project place))) × ((o : Outcome) → rows.is_bad o ≡ is_some (fault_in o))
