@@ -1,5 +1,5 @@
 -- What is told of calls is what the law says.
-use Rattle.std.proofs.Common.{◌≡◌, ℕ, List, [], Option, Some, None, refl}
+use Rattle.std.proofs.Common.{◌≡◌, [], Option, Some, None, refl}
 use Rattle.std.specs.Option.{option_map_or}
 use Rattle.pb_place.specs.CallsInTurn.{own_fault}
 use Rattle.pb_place.specs.Counts.{Counts, name_given, named_in}

@@ -1,7 +1,7 @@
 -- The first difference of a unit is what the law says.
-use Rattle.std.proofs.Common.{◌≡◌, ◌↔◌, ◌∙◌, ◌++◌, ◌∷◌, [], ℕ, zero, suc, List, length, Option, Some, None, drop, take, slice_get, refl, sym, ap, subst}
+use Rattle.std.proofs.Common.{◌≡◌, ◌∙◌, ◌++◌, ◌∷◌, [], ℕ, zero, suc, List, length, Option, Some, None, drop, take, slice_get, refl, sym, ap, subst}
 use Rattle.std.specs.List.{AllByRecursion}
-use Rattle.pb_place.specs.World.{Map, World}
+use Rattle.pb_place.specs.World.{World}
 use Rattle.pb_place.specs.declared.command.Command as commands
 use Rattle.pb_record.specs.declared.record.Needed.{Needed}
 use Rattle.pb_record.specs.declared.record.Needed.TheVariants.{Copies, Numbers}

@@ -1,5 +1,5 @@
 -- What is asked of where a unit stands, of its key and of its outcome is what the laws say.
-use Rattle.std.proofs.Common.{◌∷◌, ◌+◌, [], suc, slice_get, arith, ◌≡◌, ◌↔◌, ◌∙◌, ℕ, Bool, true, false, List, map, Option, Some, None, is_none, is_some, refl, sym, ap}
+use Rattle.std.proofs.Common.{◌∷◌, ◌+◌, [], suc, slice_get, arith, ◌≡◌, ◌↔◌, ◌∙◌, ℕ, true, false, List, map, Option, Some, None, is_none, is_some, refl, sym, ap}
 use Rattle.std.specs.List.{prefix_len}
 use Rattle.std.specs.Option.{option_map_or, option_to_list}
 use Rattle.std.specs.Prelude.{if◌then◌else◌}
