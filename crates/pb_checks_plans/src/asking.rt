@@ -29,7 +29,9 @@ fn workspace_at(
 /// The workspace of these files, behind those of a first text.
 pub fn workspace_of(alloc: Global, first: &str, files: &str) -> Result<SettledWorkspace, Fail> {
     let mut memory = Memory::new(alloc, Silent);
-    workspace_at(alloc, &mut memory, first, files)
+    let workspace = workspace_at(alloc, &mut memory, first, files);
+    drop(memory);
+    workspace
 }
 
 /// Adds what a word asks for: `lib`, `bins`, `bin:NAME`, `workspace` or `*`, `all`, `no-default`, `f:TEXT` for the
@@ -78,6 +80,11 @@ fn add_words(
 /// What words ask for, with this between them.
 pub fn options_of(alloc: Global, words: &str, between: &str) -> Result<Options, Fail> {
     let mut options = no_options(alloc)?;
-    add_words(alloc, &mut options, words, between)?;
-    Ok(options)
+    match add_words(alloc, &mut options, words, between) {
+        Ok(()) => Ok(options),
+        Err(fault) => {
+            drop(options);
+            Err(Fail::from(fault))
+        }
+    }
 }

@@ -5,7 +5,7 @@ use crate::enabled::put_enabled;
 use crate::resolutions::RESOLUTIONS;
 use pb_checks_files::Shown;
 use pb_feature::{FeatureFault, Features, resolve};
-use pb_package::{SettledWorkspace, Workspace};
+use pb_package::{Options, SelectedWorkspace, SettledWorkspace, Workspace};
 use pb_workspace::selected;
 use std::alloc::Global;
 use std::process::Abort;
@@ -26,7 +26,33 @@ fn says(
     out.says(want)
 }
 
-/// Whether this is on for words, or this is the refusal.
+/// Whether this is on of what is selected, or this is the refusal.
+fn is_on(
+    alloc: Global,
+    workspace: &SettledWorkspace,
+    chosen: &SelectedWorkspace<'_>,
+    want: &str,
+) -> bool {
+    let answer = resolve(alloc, chosen);
+    let says = says(alloc, workspace.get(), &answer, want);
+    drop(answer);
+    says
+}
+
+/// The same of what options select.
+fn is_on_with(
+    alloc: Global,
+    workspace: &SettledWorkspace,
+    options: &Options,
+    want: &str,
+) -> Result<bool, Fail> {
+    let chosen = selected(alloc, workspace, options)?;
+    let is_on = is_on(alloc, workspace, &chosen, want);
+    drop(chosen);
+    Ok(is_on)
+}
+
+/// The same of what words ask for.
 fn is_resolved(
     alloc: Global,
     workspace: &SettledWorkspace,
@@ -34,9 +60,9 @@ fn is_resolved(
     want: &str,
 ) -> Result<bool, Fail> {
     let options = options_of(alloc, words, "; ")?;
-    let chosen = selected(alloc, workspace, &options)?;
-    let answer = resolve(alloc, &chosen);
-    Ok(says(alloc, workspace.get(), &answer, want))
+    let is_on = is_on_with(alloc, workspace, &options, want);
+    drop(options);
+    is_on
 }
 
 /// Asks the questions about a workspace, one a line, each with its answer behind ` = `. How many there were.
@@ -62,7 +88,9 @@ fn try_case(rt: &impl Abort, alloc: Global, case: &str) -> Result<usize, Fail> {
         return Ok(0);
     };
     let workspace = workspace_of(alloc, "", files)?;
-    ask_all(rt, alloc, &workspace, questions)
+    let count = ask_all(rt, alloc, &workspace, questions);
+    drop(workspace);
+    count
 }
 
 #[test]

@@ -7,7 +7,7 @@ use crate::show::{put_fault, put_plan, put_texts};
 use pb_checks_files::Shown;
 use pb_data::Text;
 use pb_feature::resolve;
-use pb_package::{SelectedWorkspace, SettledWorkspace, Side, Workspace};
+use pb_package::{Options, SelectedWorkspace, SettledWorkspace, Side, Workspace};
 use pb_unit::{Plan, PlanFault, Unit, What};
 use pb_workspace::selected;
 use std::alloc::{AllocError, Global};
@@ -32,7 +32,22 @@ fn planned(
     words: &str,
 ) -> Result<Result<Plan, PlanFault>, Fail> {
     let features = resolve(alloc, chosen)?;
-    Ok(Plan::plan(alloc, chosen, &features, profile_in(words)))
+    let plan = Plan::plan(alloc, chosen, &features, profile_in(words));
+    drop(features);
+    Ok(plan)
+}
+
+/// The plan of what options select of a workspace.
+fn plan_with(
+    alloc: Global,
+    workspace: &SettledWorkspace,
+    options: &Options,
+    words: &str,
+) -> Result<Result<Plan, PlanFault>, Fail> {
+    let chosen = selected(alloc, workspace, options)?;
+    let plan = planned(alloc, &chosen, words);
+    drop(chosen);
+    plan
 }
 
 /// The plan of a workspace.
@@ -42,8 +57,9 @@ fn plan_of(
     words: &str,
 ) -> Result<Result<Plan, PlanFault>, Fail> {
     let options = options_of(alloc, words, " ")?;
-    let chosen = selected(alloc, workspace, &options)?;
-    planned(alloc, &chosen, words)
+    let plan = plan_with(alloc, workspace, &options, words);
+    drop(options);
+    plan
 }
 
 /// Puts what an answer is shown as.
@@ -70,6 +86,7 @@ fn is_answered(
     let answer = plan_of(alloc, workspace, words)?;
     let mut out = Shown::new(alloc);
     put_answer(&mut out, &answer, words);
+    drop(answer);
     Ok(out.says(want))
 }
 
@@ -96,7 +113,9 @@ fn try_case(rt: &impl Abort, alloc: Global, case: &str) -> Result<usize, Fail> {
         return Ok(0);
     };
     let workspace = workspace_of(alloc, ROOT, files)?;
-    ask_all(rt, alloc, &workspace, questions)
+    let count = ask_all(rt, alloc, &workspace, questions);
+    drop(workspace);
+    count
 }
 
 /// Tries the cases of a table. How many questions there were.
@@ -136,7 +155,9 @@ fn plans_units(
     wanted: Option<usize>,
 ) -> Result<bool, Fail> {
     let answer = plan_of(alloc, workspace, "a")?;
-    Ok(has_units(&answer, wanted))
+    let has_units = has_units(&answer, wanted);
+    drop(answer);
+    Ok(has_units)
 }
 
 /// A package alone.
@@ -146,7 +167,9 @@ const ALONE: &str = "@ /w/a/Cargo.toml\npackage.name = \"a\"\n";
 fn binaries_give(alloc: Global, count: u64, wanted: Option<usize>) -> Result<bool, Fail> {
     let files = many_binaries(alloc, ALONE, count)?;
     let workspace = workspace_of(alloc, ROOT, files.as_str())?;
-    plans_units(alloc, &workspace, wanted)
+    let plans_units = plans_units(alloc, &workspace, wanted);
+    drop(workspace);
+    plans_units
 }
 
 /// The same with a library, and another package: a feature makes a circle of the two.
@@ -173,7 +196,9 @@ a f:circle = Cycle a b
 fn try_circle(rt: &impl Abort, alloc: Global, count: u64) -> Result<usize, Fail> {
     let files = many_binaries(alloc, CIRCLE, count)?;
     let workspace = workspace_of(alloc, ROOT, files.as_str())?;
-    ask_all(rt, alloc, &workspace, CIRCLE_QUESTIONS)
+    let count = ask_all(rt, alloc, &workspace, CIRCLE_QUESTIONS);
+    drop(workspace);
+    count
 }
 
 /// A package with a script, and one that it needs on both sides.
@@ -212,12 +237,20 @@ fn has_folders(alloc: Global, plan: &Plan) -> bool {
         && plan.reaches(5).is_empty()
 }
 
+/// Whether a plan was made that has these folders and levels.
+fn are_folders(alloc: Global, answer: &Result<Plan, PlanFault>) -> bool {
+    match answer {
+        Ok(plan) => has_folders(alloc, plan),
+        Err(_) => false,
+    }
+}
+
 /// Whether the plan of a workspace under the profile `bench` has these folders and levels.
 fn bench_has_folders(alloc: Global, workspace: &SettledWorkspace) -> Result<bool, Fail> {
-    match plan_of(alloc, workspace, "a @bench")? {
-        Ok(plan) => Ok(has_folders(alloc, &plan)),
-        Err(_) => Ok(false),
-    }
+    let answer = plan_of(alloc, workspace, "a @bench")?;
+    let are_folders = are_folders(alloc, &answer);
+    drop(answer);
+    Ok(are_folders)
 }
 
 /// Whether this is the key of a unit.
@@ -248,16 +281,21 @@ fn has_keys(alloc: Global, workspace: &Workspace) -> Result<bool, AllocError> {
         side: Side::Target,
         what: What::Run,
     };
-    let is_run = has_key(alloc, workspace, &run, ".target.run")?;
+    let is_run = has_key(alloc, workspace, &run, ".target.run");
+    drop(run);
     let binary = binary(alloc)?;
-    Ok(is_run && has_key(alloc, workspace, &binary, "b.host.bin-x_1")?)
+    let is_binary = has_key(alloc, workspace, &binary, "b.host.bin-x_1");
+    drop(binary);
+    Ok(is_run? && is_binary?)
 }
 
 /// Whether the folders, levels and keys of `BOTH_SIDES` are right.
 fn are_both_right(alloc: Global) -> Result<bool, Fail> {
     let workspace = workspace_of(alloc, ROOT, BOTH_SIDES)?;
-    let has_keys = has_keys(alloc, workspace.get())?;
-    Ok(bench_has_folders(alloc, &workspace)? && has_keys)
+    let has_keys = has_keys(alloc, workspace.get());
+    let has_folders = bench_has_folders(alloc, &workspace);
+    drop(workspace);
+    Ok(has_folders? && has_keys?)
 }
 
 #[test]

@@ -94,7 +94,9 @@ fn put_judged(
 ) -> Result<(), AllocError> {
     let command = command_in(alloc, case, unit)?;
     let answer = answered(alloc, case.project, unit, &command, end, info);
+    drop(command);
     put_answer(out, &answer);
+    drop(answer);
     Ok(())
 }
 
@@ -106,9 +108,11 @@ fn put_end(
     status: i32,
     out: &mut Shown,
 ) -> Result<(), Fail> {
-    let end = end_of(alloc, case, unit, status)?;
     let info = file_of(alloc, case.memory, "/info", unit)?;
-    Ok(put_judged(alloc, case, unit, &end, info.as_ref(), out)?)
+    let end = end_of(alloc, case, unit, status)?;
+    let put = put_judged(alloc, case, unit, &end, info.as_ref(), out);
+    drop(end);
+    Ok(put?)
 }
 
 /// Puts a part of the command of a unit.
@@ -121,6 +125,7 @@ fn put_part_of(
 ) -> Result<(), AllocError> {
     let command = command_in(alloc, case, unit)?;
     put_part(out, &command, what);
+    drop(command);
     Ok(())
 }
 

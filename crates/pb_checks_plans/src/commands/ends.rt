@@ -36,22 +36,34 @@ fn ended(alloc: Global, status: i32, stdout: usize, stderr: usize) -> Result<End
 /// Whether an end of these lengths is told to be too long.
 fn is_too_long(alloc: Global, stdout: usize, stderr: usize) -> Result<bool, AllocError> {
     let end = ended(alloc, 1, stdout, stderr)?;
-    Ok(matches!(ended_fault(&end), Some(UnitFault::OutputTooLong)))
+    let fault = ended_fault(&end);
+    drop(end);
+    let is_too_long = matches!(fault, Some(UnitFault::OutputTooLong));
+    drop(fault);
+    Ok(is_too_long)
 }
 
 /// Whether an end with two streams of this length is good.
 fn is_good(alloc: Global, length: usize) -> Result<bool, AllocError> {
     let end = ended(alloc, 0, length, length)?;
-    Ok(ended_fault(&end).is_none())
+    let fault = ended_fault(&end);
+    drop(end);
+    let is_good = fault.is_none();
+    drop(fault);
+    Ok(is_good)
 }
 
 /// Whether an end of this status is told by it.
 fn has_status(alloc: Global, status: i32) -> Result<bool, AllocError> {
     let end = ended(alloc, status, 0, 0)?;
-    match ended_fault(&end) {
-        Some(UnitFault::Status(told)) => Ok(told == status),
-        _ => Ok(false),
-    }
+    let fault = ended_fault(&end);
+    drop(end);
+    let has_status = match &fault {
+        Some(UnitFault::Status(told)) => *told == status,
+        _ => false,
+    };
+    drop(fault);
+    Ok(has_status)
 }
 
 #[test]
@@ -70,7 +82,9 @@ const LIBRARY: &str = "@ /w/Cargo.toml\npackage.name = \"a\"\n@ /w/src/lib.rs\n"
 fn library_at(alloc: Global, memory: &mut Memory<Silent>) -> Result<Option<Project>, Fail> {
     put_files(alloc, memory, LIBRARY)?;
     let options = options_of(alloc, "")?;
-    project_of(alloc, memory, options)
+    let project = project_of(alloc, memory, &options);
+    drop(options);
+    project
 }
 
 /// The query of a compiler in that project.
@@ -93,7 +107,9 @@ fn is_query(alloc: Global, command: &Command) -> bool {
 /// Whether the query does.
 fn asks_version(alloc: Global, project: &Project) -> Result<bool, AllocError> {
     let command = queried(alloc, project)?;
-    Ok(is_query(alloc, &command))
+    let is_query = is_query(alloc, &command);
+    drop(command);
+    Ok(is_query)
 }
 
 /// What dep-info gives of a command for a unit, which ended well.
@@ -106,8 +122,10 @@ fn informed_by(
 ) -> Result<String, AllocError> {
     let end = ended(alloc, 0, 0, 0)?;
     let answer = answered(alloc, project, unit, command, &end, Some(info));
+    drop(end);
     let mut shown = Shown::new(alloc);
     put_answer(&mut shown, &answer);
+    drop(answer);
     shown.whole()
 }
 
@@ -118,9 +136,11 @@ fn informed_of(
     unit: &Planned,
     count: usize,
 ) -> Result<String, AllocError> {
-    let command = queried(alloc, project)?;
     let info = of_bytes(alloc, b"o: /", b'w', count)?;
-    informed_by(alloc, project, unit, &command, &info)
+    let command = queried(alloc, project)?;
+    let told = informed_by(alloc, project, unit, &command, &info);
+    drop(command);
+    told
 }
 
 /// The same for the first unit of a project.
@@ -161,7 +181,11 @@ fn wrong_in(alloc: Global, project: &Project) -> Result<&'static str, AllocError
 /// The same of one that is put at a place.
 fn wrong_at(alloc: Global, memory: &mut Memory<Silent>) -> Result<&'static str, Fail> {
     match library_at(alloc, memory)? {
-        Some(project) => Ok(wrong_in(alloc, &project)?),
+        Some(project) => {
+            let wrong = wrong_in(alloc, &project);
+            drop(project);
+            Ok(wrong?)
+        }
         None => Ok("no project"),
     }
 }
@@ -169,7 +193,9 @@ fn wrong_at(alloc: Global, memory: &mut Memory<Silent>) -> Result<&'static str, 
 /// The same at a place of its own.
 fn wrong(alloc: Global) -> Result<&'static str, Fail> {
     let mut memory = Memory::new(alloc, Silent);
-    wrong_at(alloc, &mut memory)
+    let wrong = wrong_at(alloc, &mut memory);
+    drop(memory);
+    wrong
 }
 
 #[test]

@@ -1,7 +1,7 @@
 //! Projects of tests, from files in memory.
 
 use pb_checks_files::{Silent, no_options, workspace_in};
-use pb_data::{Bytes, Items, Text};
+use pb_data::{Bytes, Items, Text, TryCopy};
 use pb_directive::{Directives, read_directives};
 use pb_feature::{Features, resolve};
 use pb_memory::Memory;
@@ -10,7 +10,7 @@ use pb_place::PathText;
 use pb_project::Project;
 use pb_unit::{Plan, Planned, What};
 use pb_workspace::selected;
-use std::alloc::Global;
+use std::alloc::{AllocError, Global};
 use std::test::Fail;
 
 /// The bytes of the file of a unit in a folder, or none where it is not there.
@@ -30,17 +30,28 @@ fn profile_in(words: &str) -> &str {
     words.split('@').nth(1).unwrap_or("dev")
 }
 
-/// A build of all members, with what words ask for: `+FEATURE`, and `@PROFILE` at the end.
-pub fn options_of(alloc: Global, words: &str) -> Result<Options, Fail> {
-    let mut options = no_options(alloc)?;
-    options.workspace = true;
-    options.profile = Text::from_str(alloc, profile_in(words))?;
+/// The features that words ask for, each behind a `+`.
+fn features_in(alloc: Global, words: &str) -> Result<Items<Text>, AllocError> {
+    let mut features = Items::new(alloc);
     for word in words.split(' ') {
         if let Some(name) = word.strip_prefix("+") {
-            options.features.push(Text::from_str(alloc, name)?)?;
+            features.push(Text::from_str(alloc, name)?)?;
         }
     }
-    Ok(options)
+    Ok(features)
+}
+
+/// A build of all members, with what words ask for: `+FEATURE`, and `@PROFILE` at the end.
+pub fn options_of(alloc: Global, words: &str) -> Result<Options, Fail> {
+    let features = features_in(alloc, words)?;
+    let profile = Text::from_str(alloc, profile_in(words))?;
+    let options = no_options(alloc)?;
+    Ok(Options {
+        workspace: true,
+        profile,
+        features,
+        ..options
+    })
 }
 
 /// What is on of what is selected, and the plan of it, or none where these are refused.
@@ -50,29 +61,54 @@ fn plan_of(
     profile: &str,
 ) -> Option<(Features, Plan)> {
     let features = resolve(alloc, chosen).ok()?;
-    let plan = Plan::plan(alloc, chosen, &features, profile).ok()?;
-    Some((features, plan))
+    match Plan::plan(alloc, chosen, &features, profile) {
+        Ok(plan) => Some((features, plan)),
+        Err(_) => {
+            drop(features);
+            None
+        }
+    }
+}
+
+/// The same of what options select of a workspace.
+fn parts_of(
+    alloc: Global,
+    workspace: &SettledWorkspace,
+    options: &Options,
+) -> Option<(Features, Plan)> {
+    let chosen = selected(alloc, workspace, options).ok()?;
+    let parts = plan_of(alloc, &chosen, options.profile.as_str());
+    drop(chosen);
+    parts
 }
 
 /// The project of a workspace, or none where what is asked for is refused.
-fn planned(alloc: Global, workspace: SettledWorkspace, options: Options) -> Option<Project> {
-    let (features, plan) = match selected(alloc, &workspace, &options) {
-        Ok(chosen) => plan_of(alloc, &chosen, options.profile.as_str())?,
-        Err(_) => return None,
+fn planned(alloc: Global, workspace: SettledWorkspace, options: &Options) -> Option<Project> {
+    let Some((features, plan)) = parts_of(alloc, &workspace, options) else {
+        drop(workspace);
+        return None;
     };
-    Some(Project {
-        workspace: workspace.into_workspace(),
-        features,
-        plan,
-        profile: options.profile,
-    })
+    match options.profile.copy(alloc) {
+        Ok(profile) => Some(Project {
+            workspace: workspace.into_workspace(),
+            features,
+            plan,
+            profile,
+        }),
+        Err(_) => {
+            drop(workspace);
+            drop(features);
+            drop(plan);
+            None
+        }
+    }
 }
 
 /// The project at `/w`, whose target folder is `/w/target`, or none where it is refused.
 pub fn project_of(
     alloc: Global,
     memory: &mut Memory<Silent>,
-    options: Options,
+    options: &Options,
 ) -> Result<Option<Project>, Fail> {
     match workspace_in(alloc, memory)? {
         Ok(workspace) => Ok(planned(alloc, workspace, options)),

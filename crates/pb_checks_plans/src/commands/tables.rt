@@ -53,15 +53,18 @@ fn ask_of(
     head: &str,
     questions: &str,
 ) -> Result<usize, Fail> {
-    let setup = setup_of(alloc, head)?;
     let done = done_of(alloc, memory, project)?;
+    let setup = setup_of(alloc, head)?;
     let case = Case {
         setup: &setup,
         project,
         done: done.as_slice(),
         memory,
     };
-    ask_all(rt, alloc, &case, questions)
+    let count = ask_all(rt, alloc, &case, questions);
+    drop(setup);
+    drop(done);
+    count
 }
 
 /// Puts the files of a case in a place, and gives its project, or none where it is refused.
@@ -73,7 +76,9 @@ fn project_in(
 ) -> Result<Option<Project>, Fail> {
     put_files(alloc, memory, files)?;
     let options = options_of(alloc, head)?;
-    project_of(alloc, memory, options)
+    let project = project_of(alloc, memory, &options);
+    drop(options);
+    project
 }
 
 /// Asks the questions of a case at a place. How many there were.
@@ -86,7 +91,11 @@ fn try_files(
     questions: &str,
 ) -> Result<usize, Fail> {
     match project_in(alloc, memory, head, files)? {
-        Some(project) => ask_of(rt, alloc, memory, &project, head, questions),
+        Some(project) => {
+            let count = ask_of(rt, alloc, memory, &project, head, questions);
+            drop(project);
+            count
+        }
         None => Err(Fail::from("no project")),
     }
 }
@@ -100,7 +109,9 @@ fn try_case(rt: &impl Abort, alloc: Global, text: &str) -> Result<usize, Fail> {
         return Ok(0);
     };
     let mut memory = Memory::new(alloc, Silent);
-    try_files(rt, alloc, &mut memory, head, files, questions)
+    let count = try_files(rt, alloc, &mut memory, head, files, questions);
+    drop(memory);
+    count
 }
 
 #[test]

@@ -33,7 +33,9 @@ fn put_selection(
 ) -> Result<(), Fail> {
     let options = options_of(alloc, word, " ")?;
     let answer = selected(alloc, workspace, &options);
+    drop(options);
     put_selected(out, &answer);
+    drop(answer);
     Ok(())
 }
 
@@ -78,13 +80,17 @@ fn is_answered_at(
 ) -> Result<bool, Fail> {
     put_files(alloc, memory, files)?;
     let answer = workspace_in(alloc, memory)?;
-    says(alloc, &answer, words, want)
+    let says = says(alloc, &answer, words, want);
+    drop(answer);
+    says
 }
 
 /// Whether files answer this at a place of their own.
 fn is_answered(alloc: Global, files: &str, words: &str, want: &str) -> Result<bool, Fail> {
     let mut memory = Memory::new(alloc, Silent);
-    is_answered_at(alloc, &mut memory, files, words, want)
+    let is_answered = is_answered_at(alloc, &mut memory, files, words, want);
+    drop(memory);
+    is_answered
 }
 
 /// Tries one case: a name and words of selections, files, and after a line `---` the answer. Whether it is one.
@@ -138,13 +144,17 @@ fn count_loaded_at(
 ) -> Result<(usize, u64, u64), Fail> {
     put_many(alloc, memory, count)?;
     let answer = workspace_in(alloc, memory)?;
-    Ok((count_in(&answer), memory.failures(), memory.starts()))
+    let count = count_in(&answer);
+    drop(answer);
+    Ok((count, memory.failures(), memory.starts()))
 }
 
 /// The same at a place of its own.
 fn count_loaded(alloc: Global, count: usize) -> Result<(usize, u64, u64), Fail> {
     let mut memory = Memory::new(alloc, Silent);
-    count_loaded_at(alloc, &mut memory, count)
+    let counted = count_loaded_at(alloc, &mut memory, count);
+    drop(memory);
+    counted
 }
 
 /// A package whose manifests `/w/Cargo.toml` and `/w/other.toml` are.
@@ -161,11 +171,13 @@ fn finds_none(
     let manifest = PathText::parse(alloc, manifest)?;
     let target = PathText::parse(alloc, target)?;
     let answer = load(alloc, memory, &manifest, &target);
-    Ok(matches!(answer, Err(LoadFault::NoManifest(_))))
+    let is_none = matches!(answer, Err(LoadFault::NoManifest(_)));
+    drop(answer);
+    Ok(is_none)
 }
 
 /// Manifests and target folders, and whether there is no manifest there, of the package of `TWO_MANIFESTS`.
-const ROOTS: &[(&str, &str, bool)] = &[
+static ROOTS: &[(&str, &str, bool)] = &[
     ("/w/Cargo.toml", "/w/target", false),
     ("/w/other.toml", "/w/target", true),
     ("/w/Cargo.toml", "/w", true),
@@ -188,7 +200,9 @@ fn count_roots(alloc: Global, memory: &mut Memory<Silent>) -> Result<usize, Path
 /// The same at a place of its own.
 fn count_own_roots(alloc: Global) -> Result<usize, PathFault> {
     let mut memory = Memory::new(alloc, Silent);
-    count_roots(alloc, &mut memory)
+    let count = count_roots(alloc, &mut memory);
+    drop(memory);
+    count
 }
 
 #[test]

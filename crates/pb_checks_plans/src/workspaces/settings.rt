@@ -12,6 +12,7 @@ use pb_package::{
 use pb_place::PathText;
 use pb_profile::{ProfileFault, Settings, folder_of, lines_follow_inherits, values_are_found};
 use std::alloc::Global;
+use std::mem;
 use std::process::Abort;
 use std::test::Fail;
 
@@ -66,8 +67,10 @@ fn package_named(alloc: Global, name: &str, is_member: bool) -> Result<Package, 
 
 /// The profiles that a manifest says.
 fn profiles_of(alloc: Global, manifest: &str) -> Result<Items<Profile>, ManifestFault> {
-    let read = read_manifest(alloc, manifest.as_bytes())?;
-    Ok(read.profiles)
+    let mut read = read_manifest(alloc, manifest.as_bytes())?;
+    let profiles = mem::replace(&mut read.profiles, Items::new(alloc));
+    drop(read);
+    Ok(profiles)
 }
 
 /// A workspace whose root manifest says these profiles.
@@ -137,6 +140,7 @@ fn are_settings_of(
 ) -> Result<bool, Fail> {
     let owner = package_named(alloc, name, is_member)?;
     let answer = Settings::settings(alloc, workspace, profile, &owner, side);
+    drop(owner);
     Ok(says(alloc, answer, wanted))
 }
 
@@ -186,7 +190,9 @@ fn assert_case(
     questions: &str,
 ) -> Result<usize, Fail> {
     let workspace = workspace_of(alloc, manifest)?;
-    assert_answers(rt, alloc, &workspace, questions)
+    let count = assert_answers(rt, alloc, &workspace, questions);
+    drop(workspace);
+    count
 }
 
 /// The same of all questions of a table.
@@ -201,7 +207,7 @@ fn assert_table(rt: &impl Abort, alloc: Global, table: &str) -> Result<usize, Fa
 }
 
 /// Profiles, and the folder of each.
-const FOLDERS: &[(&str, &str)] = &[
+static FOLDERS: &[(&str, &str)] = &[
     ("dev", "debug"),
     ("test", "debug"),
     ("release", "release"),
