@@ -30,7 +30,7 @@ fn told(alloc: Global, pairs: &[(Text, Text)]) -> Result<String, AllocError> {
 }
 
 /// Names, and the value that each is given.
-const VARIABLES_IN_ORDER: &[(&str, &str)] = &[
+static VARIABLES_IN_ORDER: &[(&str, &str)] = &[
     ("b", "1"),
     ("B", "2"),
     ("", "3"),

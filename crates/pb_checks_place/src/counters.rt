@@ -107,7 +107,7 @@ fn after_fault(failure: Failure, counters: Counters) -> Counters {
 }
 
 /// The late calls and the failures before a call, and the late calls after it.
-const LATE: &[(u64, u64, u64)] = &[(0, 0, 0), (0, 1, 1), (4, 2, 5), (u64::MAX, 1, u64::MAX)];
+static LATE: &[(u64, u64, u64)] = &[(0, 0, 0), (0, 1, 1), (4, 2, 5), (u64::MAX, 1, u64::MAX)];
 
 /// Whether calls and starts that do not fail, or want memory, give these counters.
 fn pass(late: u64, failures: u64, want: u64) -> bool {
@@ -121,7 +121,7 @@ fn pass(late: u64, failures: u64, want: u64) -> bool {
 }
 
 /// Faults of calls.
-const CALLED: &[PlaceFault] = &[
+static CALLED: &[PlaceFault] = &[
     PlaceFault::Read,
     PlaceFault::List,
     PlaceFault::Write,
@@ -136,7 +136,7 @@ fn is_counted(fault: PlaceFault) -> bool {
 }
 
 /// Faults of starts.
-const STARTED: &[StartFault] = &[
+static STARTED: &[StartFault] = &[
     StartFault::CannotStart,
     StartFault::Died,
     StartFault::Capture,

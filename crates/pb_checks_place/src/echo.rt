@@ -131,6 +131,11 @@ fn add_path(alloc: Global, paths: &mut Items<PathText>, path: &str) -> Result<()
 /// folder `/w/target` it sees what lies below `/w/target/dep`.
 pub fn say(alloc: Global, folder: &str, out: &str) -> Result<Command, PathFault> {
     let mut command = in_target(alloc, folder, out)?;
-    add_path(alloc, &mut command.reads, "/w/target/dep")?;
-    Ok(command)
+    match add_path(alloc, &mut command.reads, "/w/target/dep") {
+        Ok(()) => Ok(command),
+        Err(fault) => {
+            drop(command);
+            Err(fault)
+        }
+    }
 }

@@ -29,7 +29,7 @@ const COUNTED: &str = "counts -> 0 0\n\
      starts -> 3 3";
 
 /// Children that land in every order.
-pub const ORDERS: &[&[&str]] = &[
+pub static ORDERS: &[&[&str]] = &[
     &[SPAWNED, FIRST_LANDS, SECOND_LANDS, THIRD_LANDS, COUNTED],
     &[SPAWNED, FIRST_LANDS, THIRD_LANDS, SECOND_LANDS, COUNTED],
     &[SPAWNED, SECOND_LANDS, FIRST_LANDS, THIRD_LANDS, COUNTED],

@@ -141,15 +141,15 @@ fn torn_in_memory<C: Child>(
 }
 
 /// Whether files are read and listed that were written, and are not read where they were removed.
-fn files_hold(
+fn files_hold<P: Place>(
     alloc: Global,
-    memory: &mut Memory<Echo>,
+    place: &mut P,
     path: &PathText,
     folder: &PathText,
 ) -> Result<bool, PlaceFault> {
-    let is_read = written_then_read(alloc, memory, path, b"one")?.is_some();
-    let listed = written_then_listed(alloc, memory, path, folder)?.len();
-    let is_gone = removed_then_read(alloc, memory, folder, path)?.is_none();
+    let is_read = written_then_read(alloc, place, path, b"one")?.is_some();
+    let listed = written_then_listed(alloc, place, path, folder)?.len();
+    let is_gone = removed_then_read(alloc, place, folder, path)?.is_none();
     Ok(is_read && listed == 1 && is_gone)
 }
 
@@ -162,6 +162,7 @@ fn starts_hold(
 ) -> Result<bool, Fail> {
     let ended = written_started_removed(alloc, memory, path, b"two", command)?;
     let says_two = ended.stdout.as_slice() == b"two".as_slice();
+    drop(ended);
     let status = start_in_memory(alloc, memory, command)?.status;
     Ok(says_two && status == 7)
 }
@@ -190,7 +191,9 @@ fn hold_with(alloc: Global, memory: &mut Memory<Echo>, command: &Command) -> Res
 /// Whether all hold at a place in memory.
 fn hold(alloc: Global, memory: &mut Memory<Echo>) -> Result<bool, Fail> {
     let command = say(alloc, "/w/a", "/w/target/out")?;
-    hold_with(alloc, memory, &command)
+    let hold = hold_with(alloc, memory, &command);
+    drop(command);
+    hold
 }
 
 /// Whether the file is there that the child leaves.
@@ -210,7 +213,9 @@ fn hold_and_leave(alloc: Global, memory: &mut Memory<Echo>) -> Result<bool, Fail
 /// The same at a place of its own.
 fn all_hold(alloc: Global) -> Result<bool, Fail> {
     let mut memory = Memory::new(alloc, Echo);
-    hold_and_leave(alloc, &mut memory)
+    let hold = hold_and_leave(alloc, &mut memory);
+    drop(memory);
+    hold
 }
 
 #[test]

@@ -19,7 +19,7 @@ fn shows_variable<V: View>(alloc: Global, view: &V, name: &str) -> Result<bool, 
 }
 
 /// Paths, and whether a file is shown there.
-const REAL_FILES: &[(&str, bool)] = &[
+static REAL_FILES: &[(&str, bool)] = &[
     ("/", false),
     ("/no/such/file", false),
     ("/dev/null", false),

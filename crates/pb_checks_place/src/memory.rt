@@ -58,20 +58,43 @@ fn ticket_text(alloc: Global, answer: Result<u64, StartFault>) -> Result<String,
 }
 
 /// Starts or spawns a child that looks at a path: how it ended, or its ticket, or the fault.
-fn begin(alloc: Global, place: &mut Tried, step: &Step) -> Result<String, Fail> {
+fn begin<P: Place>(alloc: Global, place: &mut P, step: &Step) -> Result<String, Fail> {
     let command = say(alloc, step.name, step.text)?;
-    if step.call == "start" {
-        return said(alloc, place, &command);
-    }
-    ticket_text(alloc, place.spawn(alloc, &command))
+    let text = if step.call == "start" {
+        said(alloc, place, &command)
+    } else {
+        ticket_text(alloc, place.spawn(alloc, &command))
+    };
+    drop(command);
+    text
+}
+
+/// Edits a place, and tells that it is done.
+fn edited(
+    alloc: Global,
+    memory: &mut Memory<Echo>,
+    step: &Step,
+    path: &PathText,
+) -> Result<String, Fail> {
+    edit(alloc, memory, step, path)?;
+    Ok(done(alloc, Ok(()))?)
+}
+
+/// The text of the file at a path, as no call of the place tells it.
+fn file_at(alloc: Global, memory: &Memory<Echo>, path: &PathText) -> Result<String, Fail> {
+    let file = memory.file(alloc, path)?;
+    Ok(file_text(alloc, Ok(file))?)
 }
 
 /// How the child of a ticket ended.
-fn finish(alloc: Global, memory: &mut Memory<Echo>, ticket: u64) -> Result<String, AllocError> {
-    if !memory.flies(ticket) {
-        return String::from_str(alloc, "no child");
-    }
-    end_text(alloc, memory.finish(alloc, ticket))
+fn finish(alloc: Global, memory: &mut Memory<Echo>, ticket: &str) -> Result<String, Fail> {
+    let ticket = ticket.parse::<u64>().unwrap_or(9);
+    let text = if memory.flies(ticket) {
+        end_text(alloc, memory.finish(alloc, ticket))
+    } else {
+        String::from_str(alloc, "no child")
+    };
+    Ok(text?)
 }
 
 /// What a step answers. `seen` tells how many calls came after the first that failed.
@@ -81,14 +104,12 @@ fn answer(
     step: &Step,
     paths: (&PathText, &PathText),
 ) -> Result<String, Fail> {
-    let memory = &mut place.place;
     match step.call {
         "put" | "forget" | "set" | "unset" | "die" | "fuse" => {
-            edit(alloc, memory, step, paths.0)?;
-            Ok(done(alloc, Ok(()))?)
+            edited(alloc, &mut place.place, step, paths.0)
         }
-        "file" => Ok(file_text(alloc, Ok(memory.file(alloc, paths.0)?))?),
-        "finish" => Ok(finish(alloc, memory, step.name.parse::<u64>().unwrap_or(9))?),
+        "file" => file_at(alloc, &place.place, paths.0),
+        "finish" => finish(alloc, &mut place.place, step.name),
         "seen" => Ok(numbers(alloc, place.failures(), place.after)?),
         "start" | "spawn" => begin(alloc, place, step),
         _ => told::answer(alloc, place, "", step, paths),
@@ -127,7 +148,9 @@ fn try_parts(
 fn try_script(alloc: Global, parts: &[&str]) -> Result<(), Fail> {
     let root = PathText::parse(alloc, "/")?;
     let mut place = Seen::new(Memory::new(alloc, Echo));
-    try_parts(alloc, &mut place, &root, parts)
+    let went = try_parts(alloc, &mut place, &root, parts);
+    drop(place);
+    went
 }
 
 /// Carries scripts out that have an empty line between them, each at a place of its own behind these steps.
@@ -237,7 +260,7 @@ const STARTS: &str = "start /w/a /w/target/out -> 7(beside)(value) 1 0\n\
      starts -> 7 1";
 
 /// The calls, each kind at a place of its own.
-const CALLS: &[&str] = &[
+static CALLS: &[&str] = &[
     LISTS_AND_READS,
     LISTS_OUTSIDE,
     LISTS_DIRECTLY,

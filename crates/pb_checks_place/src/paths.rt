@@ -74,6 +74,13 @@ const JOINS: &str = "/w|a/b -> /w/a/b\n\
      /w|a\0 -> BadByte\n\
      /w|/\0 -> BadByte";
 
+/// The paths of two texts.
+fn paths_of(alloc: Global, first: &str, second: &str) -> Result<(PathText, PathText), PathFault> {
+    let first = PathText::parse(alloc, first)?;
+    let second = PathText::parse(alloc, second)?;
+    Ok((first, second))
+}
+
 /// Where a path lies: `below` a folder, or the folder `itself`, or `outside`; `wrong` where it is below it but does not
 /// start with it.
 fn place_of(path: &PathText, folder: &PathText) -> &'static str {
@@ -87,9 +94,10 @@ fn place_of(path: &PathText, folder: &PathText) -> &'static str {
 
 /// Whether a path lies so to a folder.
 fn lies(alloc: Global, path: &str, folder: &str, wanted: &str) -> Result<bool, PathFault> {
-    let path = PathText::parse(alloc, path)?;
-    let folder = PathText::parse(alloc, folder)?;
-    Ok(place_of(&path, &folder) == wanted)
+    let paths = paths_of(alloc, path, folder)?;
+    let is_so = place_of(&paths.0, &paths.1) == wanted;
+    drop(paths);
+    Ok(is_so)
 }
 
 /// Paths and folders, and where the path lies.
@@ -168,9 +176,10 @@ fn is_taken_apart(
     path: &str,
     wanted: &str,
 ) -> Result<bool, PathFault> {
-    let folder = PathText::parse(alloc, folder)?;
-    let path = PathText::parse(alloc, path)?;
-    Ok(has_part(alloc, &folder, &path, wanted))
+    let paths = paths_of(alloc, folder, path)?;
+    let has_part = has_part(alloc, &paths.0, &paths.1, wanted);
+    drop(paths);
+    Ok(has_part)
 }
 
 /// Folders and paths, and what the path is inside the folder.
@@ -223,7 +232,7 @@ enum Asked {
 }
 
 /// All that is asked.
-const ALL_ASKED: &[Asked] = &[
+static ALL_ASKED: &[Asked] = &[
     Asked::Parse,
     Asked::Join,
     Asked::Place,
@@ -286,9 +295,10 @@ fn is_known(alloc: Global) -> Result<bool, AllocError> {
 
 /// Whether a path stands before another.
 fn stands_before(alloc: Global, low: &str, high: &str) -> Result<bool, PathFault> {
-    let low = PathText::parse(alloc, low)?;
-    let high = PathText::parse(alloc, high)?;
-    Ok(low < high)
+    let paths = paths_of(alloc, low, high)?;
+    let stands_before = paths.0 < paths.1;
+    drop(paths);
+    Ok(stands_before)
 }
 
 #[test]

@@ -30,14 +30,14 @@ fn takes<O: Out>(sink: &mut O, bytes: &str, taken: Option<usize>, failures: u64)
 }
 
 /// What is written to bytes, how many are taken, and the failures after it.
-const OVER_BYTES: &[(&str, Option<usize>, u64)] = &[
+static OVER_BYTES: &[(&str, Option<usize>, u64)] = &[
     ("ab", Some(2), 0),
     ("", Some(0), 0),
     ("c", Some(1), 0),
 ];
 
 /// The same of a tiring writer.
-const OVER_A_TIRING_WRITER: &[(&str, Option<usize>, u64)] = &[
+static OVER_A_TIRING_WRITER: &[(&str, Option<usize>, u64)] = &[
     ("abcd", Some(3), 0),
     ("d", Some(0), 1),
     ("d", None, 2),

@@ -43,14 +43,16 @@ pub fn file_text(
     alloc: Global,
     answer: Result<Option<Bytes>, PlaceFault>,
 ) -> Result<String, AllocError> {
-    match &answer {
+    let text = match &answer {
         Ok(Some(bytes)) => {
             let text = str::from_utf8(bytes.as_slice()).unwrap_or("wrong");
             String::from_str(alloc, text)
         }
         Ok(None) => String::from_str(alloc, "none"),
         Err(fault) => fault_text(alloc, *fault),
-    }
+    };
+    drop(answer);
+    text
 }
 
 /// The value of a variable, `none`, or the fault.
@@ -58,11 +60,13 @@ fn value_text(
     alloc: Global,
     answer: Result<Option<Text>, PlaceFault>,
 ) -> Result<String, AllocError> {
-    match &answer {
+    let text = match &answer {
         Ok(Some(value)) => String::from_str(alloc, value.as_str()),
         Ok(None) => String::from_str(alloc, "none"),
         Err(fault) => fault_text(alloc, *fault),
-    }
+    };
+    drop(answer);
+    text
 }
 
 /// The names of paths below a root, each with a space after it.
@@ -81,10 +85,12 @@ fn listed(
     root: &str,
     answer: Result<Items<PathText>, PlaceFault>,
 ) -> Result<String, AllocError> {
-    match &answer {
+    let text = match &answer {
         Ok(paths) => names(alloc, root, paths.as_slice()),
         Err(fault) => fault_text(alloc, *fault),
-    }
+    };
+    drop(answer);
+    text
 }
 
 /// `done`, or the fault.
@@ -147,7 +153,7 @@ pub fn try_said(said: Result<String, Fail>, wanted: &str) -> Result<(), Fail> {
 
 /// How a child ended: its status, and its two streams, each in brackets, `wrong` where one is no text; or the fault.
 pub fn end_text(alloc: Global, answer: Result<Ended, StartFault>) -> Result<String, AllocError> {
-    match &answer {
+    let text = match &answer {
         Ok(ended) => {
             let status = ended.status;
             let stdout = str::from_utf8(ended.stdout.as_slice()).unwrap_or("wrong");
@@ -155,7 +161,9 @@ pub fn end_text(alloc: Global, answer: Result<Ended, StartFault>) -> Result<Stri
             format!(in alloc; "{status}({stdout})({stderr})")
         }
         Err(fault) => format!(in alloc; "{fault:?}"),
-    }
+    };
+    drop(answer);
+    text
 }
 
 /// How the child of a command ended, and the numbers of starts and failures.

@@ -53,7 +53,9 @@ pub(crate) fn carry_out<P: Place>(
 /// Carries steps out at a place of real files.
 pub(crate) fn carry_out_here(rt: &HostRuntime, root: &PathText, steps: &str) -> Result<(), Fail> {
     let mut place = HostPlace::new(rt.alloc(), rt);
-    carry_out(rt, &mut place, root, steps)
+    let went = carry_out(rt, &mut place, root, steps);
+    drop(place);
+    went
 }
 
 /// Carries steps out in a folder, and takes it away.

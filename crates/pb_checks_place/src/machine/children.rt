@@ -28,7 +28,7 @@ const CHILDREN: &str = "/bin/sh|exit 0 -> 0()() 1 0~\
      /bin/sh|echo x > out/made/f|none|out/made -> CannotStart 1 1";
 
 /// Pairs that go over inherited variables.
-const PAIRS: &[(&str, &str)] = &[("A", "x y"), ("PATH", "/p")];
+static PAIRS: &[(&str, &str)] = &[("A", "x y"), ("PATH", "/p")];
 
 /// What all have left.
 const LEFT: &str = "list -> /out/made/f ";
@@ -64,7 +64,9 @@ fn all_end(rt: &HostRuntime, root: &PathText) -> Result<(), Fail> {
 /// The value of a variable at a place of its own.
 fn variable(rt: &HostRuntime, name: &str) -> Result<Option<Text>, PlaceFault> {
     let mut place = HostPlace::new(rt.alloc(), rt);
-    place.variable(rt.alloc(), name)
+    let value = place.variable(rt.alloc(), name);
+    drop(place);
+    value
 }
 
 /// Tries that a child inherits `PATH`, where that is set.

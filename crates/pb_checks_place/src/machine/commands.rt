@@ -97,18 +97,27 @@ fn fill(alloc: Global, root: &PathText, asked: &Asked, command: &mut Command) ->
 /// The command of a child, whose folders lie in a test's folder.
 pub(crate) fn command(alloc: Global, root: &PathText, asked: &Asked) -> Result<Command, Fail> {
     let mut command = plain_command(alloc, root, asked.0, asked.2)?;
-    fill(alloc, root, asked, &mut command)?;
-    Ok(command)
+    match fill(alloc, root, asked, &mut command) {
+        Ok(()) => Ok(command),
+        Err(fault) => {
+            drop(command);
+            Err(fault)
+        }
+    }
 }
 
 /// How the child of a command ended at a place of its own on the machine.
 fn said_of(rt: &HostRuntime, command: &Command) -> Result<String, Fail> {
     let mut place = HostPlace::new(rt.alloc(), rt);
-    said(rt.alloc(), &mut place, command)
+    let said = said(rt.alloc(), &mut place, command);
+    drop(place);
+    said
 }
 
 /// How a child ended at a place of its own on the machine.
 pub(crate) fn said_here(rt: &HostRuntime, root: &PathText, asked: &Asked) -> Result<String, Fail> {
     let command = command(rt.alloc(), root, asked)?;
-    said_of(rt, &command)
+    let said = said_of(rt, &command);
+    drop(command);
+    said
 }

@@ -6,7 +6,7 @@ use crate::machine::commands::{command, said_here, shell};
 use crate::machine::folders::{finish, fresh};
 use crate::told::{path_in, said, try_said};
 use pb_host::{HostPlace, HostView};
-use pb_place::{Command, PathText, Place, PlaceFault, View, ViewFault};
+use pb_place::{Command, PathText, View, ViewFault};
 use std::alloc::Global;
 use std::fs;
 use std::io::ErrorKind;
@@ -16,7 +16,9 @@ use std::test::Fail;
 fn try_broken(rt: &HostRuntime, root: &PathText, kind: ErrorKind, steps: &str) -> Result<(), Fail> {
     let machine = Broken::new(rt.alloc(), kind);
     let mut place = HostPlace::new(rt.alloc(), &machine);
-    carry_out(rt, &mut place, root, steps)
+    let went = carry_out(rt, &mut place, root, steps);
+    drop(place);
+    went
 }
 
 const OWN_FAULTS: &str = "read b -> Read\n\
@@ -38,7 +40,7 @@ const ABSENT: &str = "read b -> none\n\
      counts -> 1 0";
 
 /// How each call of a machine fails, and what the place answers.
-const ERRORS: &[(ErrorKind, &str)] = &[
+static ERRORS: &[(ErrorKind, &str)] = &[
     (ErrorKind::PermissionDenied, OWN_FAULTS),
     (ErrorKind::ReadOnlyFilesystem, OWN_FAULTS),
     (ErrorKind::InvalidFilename, OWN_FAULTS),
@@ -50,7 +52,9 @@ const ERRORS: &[(ErrorKind, &str)] = &[
 /// What the start of a child gives on a machine.
 fn said_on(alloc: Global, machine: &Broken, command: &Command) -> Result<String, Fail> {
     let mut place = HostPlace::new(alloc, machine);
-    said(alloc, &mut place, command)
+    let said = said(alloc, &mut place, command);
+    drop(place);
+    said
 }
 
 /// Tries that the start of a child that ends well gives this on a machine that fails so.
@@ -63,11 +67,13 @@ fn try_start(
 ) -> Result<(), Fail> {
     let command = command(alloc, root, &shell("exit 0"))?;
     let machine = Broken::starting(alloc, kind, starts);
-    try_said(said_on(alloc, &machine, &command), wanted)
+    let said = said_on(alloc, &machine, &command);
+    drop(command);
+    try_said(said, wanted)
 }
 
 /// Whether a machine starts children, which then cannot be heard; how it fails; and what a start gives.
-const STARTS: &[(bool, ErrorKind, &str)] = &[
+static STARTS: &[(bool, ErrorKind, &str)] = &[
     (false, ErrorKind::NotFound, "CannotStart 1 1"),
     (false, ErrorKind::OutOfMemory, "OutOfMemory 1 0"),
     (true, ErrorKind::Other, "Capture 1 1"),
@@ -93,32 +99,32 @@ fn broken_machines(rt: HostRuntime) -> Result<(), Fail> {
     try_machines(&rt, &root)
 }
 
-/// Whether a variable that is no text is a fault, and is counted.
-fn is_no_text(alloc: Global, machine: &Broken) -> bool {
-    let mut place = HostPlace::new(alloc, machine);
-    let found = place.variable(alloc, "V");
-    matches!(found, Err(PlaceFault::Variable)) && place.failures() == 1
-}
+/// A variable that is no text is a fault, and is counted.
+const NO_TEXT: &str = "variable V -> Variable\n\
+     counts -> 1 0";
 
-/// Whether a variable is not there.
-fn is_unset(rt: &HostRuntime, name: &str) -> bool {
-    let mut place = HostPlace::new(rt.alloc(), rt);
-    let found = place.variable(rt.alloc(), name);
-    matches!(found, Ok(None))
-}
+/// A variable that is not there.
+const UNSET: &str = "variable NO_SUCH_VARIABLE -> none\n\
+     counts -> 0 0";
 
 /// Whether a view of a machine shows no file and no variable, for it fails.
 fn hides_all(alloc: Global, machine: &Broken, path: &PathText) -> bool {
     let view = HostView::new(machine);
-    matches!(view.file(alloc, path), Err(ViewFault::Failed))
-        && matches!(view.variable(alloc, "V"), Err(ViewFault::Failed))
+    let file = view.file(alloc, path);
+    let hides_files = matches!(file, Err(ViewFault::Failed));
+    drop(file);
+    let variable = view.variable(alloc, "V");
+    let hides_variables = matches!(variable, Err(ViewFault::Failed));
+    drop(variable);
+    hides_files && hides_variables
 }
 
 #[test]
 fn variables_and_views(rt: HostRuntime) -> Result<(), Fail> {
     let machine = Broken::new(rt.alloc(), ErrorKind::PermissionDenied);
     let path = PathText::parse(rt.alloc(), "/a/b")?;
-    assert!(rt; is_no_text(rt.alloc(), &machine) && is_unset(&rt, "NO_SUCH_VARIABLE"));
+    try_broken(&rt, &path, ErrorKind::PermissionDenied, NO_TEXT)?;
+    carry_out_here(&rt, &path, UNSET)?;
     assert!(rt; hides_all(rt.alloc(), &machine, &path));
     Ok(())
 }

@@ -80,7 +80,7 @@ const NESTED: &str = "write \
      counts -> 1 0";
 
 /// The names of folders, and the steps that are carried out in each.
-const FOLDERS: &[(&str, &str)] = &[
+static FOLDERS: &[(&str, &str)] = &[
     ("written", WRITTEN),
     ("listed", LISTED),
     ("removed", REMOVED),

@@ -9,7 +9,7 @@ use std::test::Fail;
 
 /// What a child said: its status, and how many bytes it wrote to each of its two streams; or the fault.
 fn told(alloc: Global, ended: Result<Ended, StartFault>) -> Result<String, AllocError> {
-    match &ended {
+    let text = match &ended {
         Ok(ended) => {
             let status = ended.status;
             let stdout = ended.stdout.as_slice().len();
@@ -17,7 +17,9 @@ fn told(alloc: Global, ended: Result<Ended, StartFault>) -> Result<String, Alloc
             format!(in alloc; "{status} {stdout} {stderr}")
         }
         Err(fault) => format!(in alloc; "{fault:?}"),
-    }
+    };
+    drop(ended);
+    text
 }
 
 /// Spawns a child: its ticket.
@@ -28,13 +30,29 @@ fn spawn<P: Place>(
     asked: &Asked,
 ) -> Result<Result<u64, StartFault>, Fail> {
     let command = command(alloc, root, asked)?;
-    Ok(place.spawn(alloc, &command))
+    let ticket = place.spawn(alloc, &command);
+    drop(command);
+    Ok(ticket)
 }
 
 /// Whether a program that is not there does not start.
 fn misses<P: Place>(alloc: Global, place: &mut P, root: &PathText) -> Result<bool, Fail> {
     let answer = spawn(alloc, place, root, &("/no/such/program", "", "", "", &[]))?;
     Ok(matches!(answer, Err(StartFault::CannotStart)))
+}
+
+/// Spawns two children: their tickets, and whether a program that is not there does not start.
+fn spawn_two<P: Place>(
+    alloc: Global,
+    place: &mut P,
+    root: &PathText,
+    first: &str,
+    second: &str,
+) -> Result<(u64, u64, bool), Fail> {
+    let one = spawn(alloc, place, root, &shell(first))??;
+    let two = spawn(alloc, place, root, &shell(second))??;
+    let misses = misses(alloc, place, root)?;
+    Ok((one, two, misses))
 }
 
 /// What a child in flight said.
@@ -76,14 +94,12 @@ fn fly(
     first: &str,
     second: &str,
 ) -> Result<String, Fail> {
-    let one = spawn(alloc, place, root, &shell(first))??;
-    let two = spawn(alloc, place, root, &shell(second))??;
-    let misses = misses(alloc, place, root)?;
+    let (one, two, misses) = spawn_two(alloc, place, root, first, second)?;
     end(alloc, place, one, two, misses)
 }
 
 /// What the shell is told of two children, and what they said.
-const FLIGHTS: &[(&str, &str, &str)] = &[
+static FLIGHTS: &[(&str, &str, &str)] = &[
     (
         "head -c 200000 /dev/zero; head -c 200000 /dev/zero >&2; exit 3",
         "echo small; exit 4",
@@ -104,7 +120,9 @@ const FLIGHTS: &[(&str, &str, &str)] = &[
 /// What two children say at a place of their own.
 fn flown(rt: &HostRuntime, root: &PathText, first: &str, second: &str) -> Result<String, Fail> {
     let mut place = HostPlace::new(rt.alloc(), rt);
-    fly(rt.alloc(), &mut place, root, first, second)
+    let said = fly(rt.alloc(), &mut place, root, first, second);
+    drop(place);
+    said
 }
 
 /// Tries that two children say this.
