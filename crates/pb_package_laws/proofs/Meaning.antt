@@ -92,8 +92,7 @@ path_named (b ∷ c ∷ rest) is =
   where
     by : list_all is_name (parts_of (c ∷ rest)) ≡ true → has_byte_0 (b ∷ c ∷ rest) ≡ false → (47 ∷ c ∷ rest ≡ path_of (names_in (47 ∷ c ∷ rest))) × AreNames (names_in (47 ∷ c ∷ rest))
     by named clean =
-        let words = all_words (parts_of (c ∷ rest)) named in
-        (
+        let words = all_words (parts_of (c ∷ rest)) named in (
           sym (slashed_parts (c ∷ rest)) ∙ sym (some_path (parts_of (c ∷ rest)) (parts_some (c ∷ rest))) ∙ ap path_of (sym words),
           subst AreNames (sym words) (record { named = named; whole = all_whole (parts_of (c ∷ rest)) (parts_plain (c ∷ rest) (later (b == 0) (has_byte_0 (c ∷ rest)) clean)) }),
         )

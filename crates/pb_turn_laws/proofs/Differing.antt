@@ -35,8 +35,12 @@ cut (x ∷ row) (suc n) here at = ap (λ xs. x ∷ xs) (cut row n here at)
 module _ {A B : Type 0} (Holds : A → Type 0) (told : A → B) (row : List A) (b : B) where
   to_first : IsFirst Holds told row b → IsFirstOf Holds told row b
   to_first is = (
-    length is.before, is.here, ap (λ xs. slice_get xs (length is.before)) is.place ∙ there is.before is.here is.after, is.fails,
-    subst (AllByRecursion Holds) (sym (ap (take (length is.before)) is.place ∙ first_part is.before is.here is.after)) is.hold, is.tells,
+    length is.before,
+    is.here,
+    ap (λ xs. slice_get xs (length is.before)) is.place ∙ there is.before is.here is.after,
+    is.fails,
+    subst (AllByRecursion Holds) (sym (ap (take (length is.before)) is.place ∙ first_part is.before is.here is.after)) is.hold,
+    is.tells,
   )
 
   from_first : IsFirstOf Holds told row b → IsFirst Holds told row b

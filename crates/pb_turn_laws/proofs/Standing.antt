@@ -65,8 +65,7 @@ ends_by None lines ss rest =
     let answer : State BadUnit = Answered (record { fault = None; lines = lines }) in
     let one : 1 + first_open ss ≡ suc (first_open ss) = omega arith in
     let more : ℕ = if option_map_or is_bad (slice_get ss (first_open ss)) false then 1 else 0 in
-    let count : suc (count_due ss) ≡ (1 + first_open ss) + more = let due : count_due ss ≡ first_open ss + more = rest.0 in omega arith in
-    (
+    let count : suc (count_due ss) ≡ (1 + first_open ss) + more = let due : count_due ss ≡ first_open ss + more = rest.0 in omega arith in (
       count ∙ ap (λ n. (1 + first_open ss) + (if option_map_or is_bad (slice_get (answer ∷ ss) n) false then 1 else 0)) (sym one),
       rest.1 ∙ ap (λ n. option_map_or is_bad (slice_get (answer ∷ ss) n) true) (sym one),
     )
