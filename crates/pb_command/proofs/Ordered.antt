@@ -15,11 +15,12 @@ then_assoc Less b c = refl
 then_assoc Equal b c = refl
 then_assoc Greater b c = refl
 
-first_off : (a b : Bool) → (a || b) ≡ false → a ≡ false
+-- of two facts neither of which holds
+pub first_off : (a b : Bool) → (a || b) ≡ false → a ≡ false
 first_off true b e = absurd (false≢true (sym e))
 first_off false b e = refl
 
-second_off : (a b : Bool) → (a || b) ≡ false → b ≡ false
+pub second_off : (a b : Bool) → (a || b) ≡ false → b ≡ false
 second_off true b e = absurd (false≢true (sym e))
 second_off false b e = e
 

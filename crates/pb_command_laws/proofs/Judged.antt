@@ -7,6 +7,7 @@ use Rattle.std.specs.List.{find, flat_map, list_any}
 use Rattle.std.specs.Option.{option_to_list}
 use Rattle.std.specs.Ordering.{int_eq}
 use Rattle.std.specs.Result.{result_ok}
+use Rattle.pb_command.proofs.Ordered.{first_off, second_off}
 use Rattle.pb_command.specs.Answers.{answered_by, compile_answered, ended_fault, info_in, info_inputs, inherited, inputs_of, is_covered, is_error, is_foreign, is_source, is_too_long, path_or_none, path_said, paths_from, read_info, read_or_none, rerun_inputs, run_answered, said_in, said_inputs, unless_error, unless_fault, unless_foreign}
 use Rattle.pb_data.specs.Gives.{◌>>=◌, lifted}
 use Rattle.pb_data.specs.Mentions.{once}
@@ -51,15 +52,7 @@ pub both_so : (e : Ended) → IsShort e.stdout → IsShort e.stderr → (is_too_
 both_so e out err = λ i. short_so e.stdout out i || short_so e.stderr err i
 
 pub so_both : (e : Ended) → (is_too_long e.stdout || is_too_long e.stderr) ≡ false → IsShort e.stdout × IsShort e.stderr
-so_both e is = (so_short e.stdout (first (is_too_long e.stdout) (is_too_long e.stderr) is), so_short e.stderr (second (is_too_long e.stdout) (is_too_long e.stderr) is))
-  where
-    first : (a b : Bool) → (a || b) ≡ false → a ≡ false
-    first true b h = absurd (cc)
-    first false b h = refl
-
-    second : (a b : Bool) → (a || b) ≡ false → b ≡ false
-    second true b h = absurd (cc)
-    second false b h = h
+so_both e is = (so_short e.stdout (first_off (is_too_long e.stdout) (is_too_long e.stderr) is), so_short e.stderr (second_off (is_too_long e.stdout) (is_too_long e.stderr) is))
 
 long_so : (e : Ended) → (IsShort e.stdout × IsShort e.stderr → ⊥) → (is_too_long e.stdout || is_too_long e.stderr) ≡ true
 long_so e never = by (is_too_long e.stdout || is_too_long e.stderr) refl

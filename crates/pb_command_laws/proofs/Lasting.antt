@@ -3,17 +3,10 @@ use Rattle.std.proofs.Common.{◌≡◌, ℕ, ◌||◌, Bool, true, false, cond,
 use Rattle.std.proofs.lemmas.List.{reverse-append}
 use Rattle.std.specs.Option.{option_or}
 use Rattle.std.specs.Str.{bytes_eq}
+use Rattle.pb_command.proofs.Ordered.{first_off, second_off}
 use Rattle.pb_data.specs.Mentions.{is_mentioned}
 use Rattle.pb_data.specs.Table.{names_of, last_value, value_at}
 use Rattle.pb_command_laws.proofs.Pairs.{Pair}
-
-first_off : (a b : Bool) → (a || b) ≡ false → a ≡ false
-first_off true b e = absurd (cc)
-first_off false b e = refl
-
-second_off : (a b : Bool) → (a || b) ≡ false → b ≡ false
-second_off true b e = absurd (cc)
-second_off false b e = e
 
 or_none : (o : Option (List ℕ)) → option_or o None ≡ o
 or_none None = refl

@@ -10,7 +10,7 @@ use Rattle.std.specs.declared.cmp.Ordering.TheVariants.{Less}
 use Rattle.pb_closure.proofs.Membership.{none, single, head, tail, cases}
 use Rattle.pb_closure.proofs.Placed.{placed_to, placed_from}
 use Rattle.pb_closure.specs.Placed.{placed}
-use Rattle.pb_command.proofs.Ordered.{by_name_then_path}
+use Rattle.pb_command.proofs.Ordered.{by_name_then_path, first_off, second_off}
 use Rattle.pb_command.proofs.Rising.{rising}
 use Rattle.pb_command.specs.Externs.{leads, library_name_at, entry_name, extern_key, extern_text, extern, entry_extern, own_extern, externs, in_order}
 use Rattle.pb_data.specs.Table.{names_of}
@@ -71,14 +71,6 @@ underscored_plain (b ∷ name) none = by (eqb b 45) (eqb b 0) refl none (undersc
     by false false at none later = ap (λ q. q || has_byte_0 (map underscored_byte name)) at ∙ later none
 
 -- ---- keys tell names and files
-
-first_off : (a b : Bool) → (a || b) ≡ false → a ≡ false
-first_off true b e = absurd (cc)
-first_off false b e = refl
-
-second_off : (a b : Bool) → (a || b) ≡ false → b ≡ false
-second_off true b e = absurd (cc)
-second_off false b e = e
 
 keys_tell : (name other file next : List ℕ) → IsPlain name → IsPlain other → name ++ 0 ∷ file ≡ other ++ 0 ∷ next → (name ≡ other) × (file ≡ next)
 keys_tell [] [] file next plain away same = (refl, cc)

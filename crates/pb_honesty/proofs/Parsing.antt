@@ -2,6 +2,7 @@
 use Rattle.std.proofs.Common.{◌≡◌, ℕ, ◌||◌, Bool, true, false, cond, List, [], ◌∷◌, ◌++◌, Option, Some, None, Result, Ok, Err, refl, sym, ◌∙◌, ap, subst, codes, append_assoc}
 use Rattle.std.specs.List.{flat_map, AllByRecursion}
 use Rattle.std.specs.Str.{bytes_eq}
+use Rattle.pb_command.proofs.Ordered.{first_off, second_off}
 use Rattle.pb_data.specs.Gives.{◌>>=◌}
 use Rattle.pb_data.specs.Mentions.{is_mentioned}
 use Rattle.pb_data.proofs.MentionLemmas.{bytes_eq_comm}
@@ -95,29 +96,17 @@ module _ (P : List ℕ → Type 0) where
       let (later, first, made) = opened (arguments_after None words) (λ later. Ok (with_value role value later)) said is in
       let same : with_value role value later ≡ said = cc in
       subst (λ (a : Arguments). AllByRecursion P a.externs) same
-      (externs_with role value later (λ e. absurd (plain (ap Some e))) (no_extern None words later (λ e. cc) (tail (bytes_eq (codes "--extern") value) (is_mentioned words (codes "--extern")) absent) first))
-    where
-      tail : (r s : Bool) → (r || s) ≡ false → s ≡ false
-      tail true s e = absurd (cc)
-      tail false s e = e
+      (externs_with role value later (λ e. absurd (plain (ap Some e))) (no_extern None words later (λ e. cc) (second_off (bytes_eq (codes "--extern") value) (is_mentioned words (codes "--extern")) absent) first))
   no_extern None (word ∷ words) said plain absent is =
       by (takes_value word) refl is (λ role other. no_extern role words said other absent_later) (λ later. no_extern None words later (λ e. cc) absent_later)
     where
-      here : (r s : Bool) → (r || s) ≡ false → r ≡ false
-      here true s e = absurd (cc)
-      here false s e = refl
-
-      tail : (r s : Bool) → (r || s) ≡ false → s ≡ false
-      tail true s e = absurd (cc)
-      tail false s e = e
-
       absent_later : is_mentioned words (codes "--extern") ≡ false
-      absent_later = tail (bytes_eq (codes "--extern") word) (is_mentioned words (codes "--extern")) absent
+      absent_later = second_off (bytes_eq (codes "--extern") word) (is_mentioned words (codes "--extern")) absent
 
       not_extern : Some (role_of word) ≡ Some Extern → ⊥
       not_extern e =
           let named : bytes_eq word (codes "--extern") ≡ true = role_extern (bytes_eq word (codes "--crate-name")) (bytes_eq word (codes "--crate-type")) (bytes_eq word (codes "--out-dir")) (bytes_eq word (codes "--extern")) (bytes_eq word (codes "--cfg")) cc in
-          let other : bytes_eq word (codes "--extern") ≡ false = bytes_eq_comm word (codes "--extern") ∙ here (bytes_eq (codes "--extern") word) (is_mentioned words (codes "--extern")) absent in
+          let other : bytes_eq word (codes "--extern") ≡ false = bytes_eq_comm word (codes "--extern") ∙ first_off (bytes_eq (codes "--extern") word) (is_mentioned words (codes "--extern")) absent in
           absurd (cc)
 
       by : (r : Bool) → takes_value word ≡ r → cond r (arguments_after (Some (role_of word)) words) (arguments_after None words >>= (λ later. Ok (with_value (role_alone word) word later))) ≡ Ok said
