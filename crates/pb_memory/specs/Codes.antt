@@ -25,7 +25,7 @@ abbrev pub world_code : Coded World
 world_code = code_by _ (coded× map_code map_code) (λ w. (w.files, w.variables)) (λ t. record { files = t.0; variables = t.1 }) (λ _. refl)
 
 abbrev pub starts_code : Coded Starts
-starts_code = code_by _ (coded× coded_ℕ (coded_list child_code)) (λ s. (s.count, s.flying)) (λ t. record { count = t.0; flying = t.1 }) (λ _. refl)
+starts_code = code_by _ (coded× coded_ℕ (coded× (coded_list child_code) coded_ℕ)) (λ s. (s.count, (s.flying, s.settings))) (λ t. record { count = t.0; flying = t.1.0; settings = t.1.1 }) (λ _. refl)
 
 abbrev pub counts_code : Coded Counts
 counts_code = code_by _ (coded× coded_ℕ (coded× coded_ℕ (coded× starts_code (coded× coded_ℕ (coded× (coded_option failure_code) (coded_option call_code))))))

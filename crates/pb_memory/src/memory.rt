@@ -6,6 +6,7 @@ ghost use Rattle.pb_place.specs.World.{written, removed};
 ghost use Rattle.pb_place.specs.Children.{is_flying};
 ghost use Rattle.pb_memory.specs.InFlight.{children_in};
 ghost use Rattle.pb_memory.specs.Memory.{set, unset, no_held};
+ghost use Rattle.pb_memory.specs.Tallies.{one_setting};
 
 mod calls;
 mod children;
@@ -115,8 +116,9 @@ impl<C> Memory<C> {
     /// first half of the files in byte order, both rounded down; a spawn is CannotStart and leaves nothing, a finish
     /// is Died and leaves what stands. Where memory is refused to it, the next call is to fail. Our own choice.
     pub fn fuse(&mut self, number: u64)
-        ensures { self.new ≡ record self.old { fuse = number } }
+        ensures { self.new ≡ record self.old { tally = one_setting self.old.tally; fuse = number } }
     {
+        self.tally.set();
         self.fuse = number;
     }
 
@@ -126,11 +128,12 @@ impl<C> Memory<C> {
     /// Where memory is refused, nothing changes. Want of memory is no failure of the outside, so no such death.
     pub fn die(&mut self, alloc: Global, key: &str, kind: StartFault) -> Result<(), AllocError>
         requires real { kind ≢ StartFault.OutOfMemory }
-        ensures ok { OnOk result (self.new ≡ record self.old { deaths = self.old.deaths ++ record { key = key.now; kind = kind } ∷ [] }) }
+        ensures ok { OnOk result (self.new ≡ record self.old { tally = one_setting self.old.tally; deaths = self.old.deaths ++ record { key = key.now; kind = kind } ∷ [] }) }
         ensures err { OnErr result (self.new ≡ self.old) }
     {
         let key = Text::from_str(alloc, key)?;
         self.deaths.push(Death { key, kind })?;
+        self.tally.set();
         Ok(())
     }
 }

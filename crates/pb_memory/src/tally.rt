@@ -3,7 +3,7 @@
 ghost use Rattle.std.specs.Prelude.{◌≡◌, IfOk, IfErr, OnOk, OnErr, Ok};
 ghost use Rattle.pb_place.specs.Counts.{no_calls, past_call, past_fault, counted, counted_start};
 ghost use Rattle.pb_place.specs.declared.place.PlaceFault.TheVariants as place_fault;
-ghost use Rattle.pb_memory.specs.Tallies.{past_finish};
+ghost use Rattle.pb_memory.specs.Tallies.{past_finish, one_setting};
 
 use pb_place::{Call, Failure, PlaceFault, StartFault};
 use std::alloc::AllocError;
@@ -17,6 +17,7 @@ pub struct Tally {
     calls: u64,
     failures: u64,
     starts: u64,
+    settings: u64,
     late: u64,
     last: Option<Failure>,
     failing: Option<Call>,
@@ -31,7 +32,7 @@ impl Model for Tally {
 
     ghost coded = { counts_code };
 
-    ghost view = { λ t. record { calls = t.calls; failures = t.failures; starts = record { count = t.starts; flying = [] }; late = t.late; last = t.last; failing = t.failing } };
+    ghost view = { λ t. record { calls = t.calls; failures = t.failures; starts = record { count = t.starts; flying = []; settings = t.settings }; late = t.late; last = t.last; failing = t.failing } };
 }
 
 impl Tally {
@@ -43,6 +44,7 @@ impl Tally {
             calls: 0,
             failures: 0,
             starts: 0,
+            settings: 0,
             late: 0,
             last: None,
             failing: None,
@@ -68,6 +70,14 @@ impl Tally {
         ensures { result ≡ self.now.late }
     {
         self.late
+    }
+
+    /// Counts that it was set which calls are to fail.
+    #[tactic(auto, unfolding(crate::specs::Tallies::next_setting))]
+    pub fn set(&mut self)
+        ensures { self.new ≡ one_setting self.old }
+    {
+        self.settings = self.settings.saturating_add(1);
     }
 
     /// Counts a call that did not fail.

@@ -71,8 +71,8 @@ of_some {X = X} P o x is h = subst (λ (y : Option X). IfSome y P) is h
 
 -- a spawn, and the end of its child, are counted as one start
 pub counted_both : {T : Type 0} (r : Result T StartFault) (t : ℕ) (f : ℕ → ChildInFlight) (c : Counts) → without t (c.starts.flying ++ f t ∷ []) ≡ c.starts.flying → counted_finish t r (counted_spawn f (Ok t) c) ≡ counted_start r c
-counted_both (Ok x) t f c e = ap (λ (fs : List ChildInFlight). record (past_call c) { starts = record { count = up c.starts.count; flying = fs } }) e
-counted_both (Err start.OutOfMemory) t f c e = ap (λ (fs : List ChildInFlight). record (past_call c) { starts = record { count = up c.starts.count; flying = fs } }) e
-counted_both (Err start.CannotStart) t f c e = ap (λ (fs : List ChildInFlight). record (past_fault (Started start.CannotStart) c) { calls = up c.calls; starts = record { count = up c.starts.count; flying = fs } }) e
-counted_both (Err start.Died) t f c e = ap (λ (fs : List ChildInFlight). record (past_fault (Started start.Died) c) { calls = up c.calls; starts = record { count = up c.starts.count; flying = fs } }) e
-counted_both (Err start.Capture) t f c e = ap (λ (fs : List ChildInFlight). record (past_fault (Started start.Capture) c) { calls = up c.calls; starts = record { count = up c.starts.count; flying = fs } }) e
+counted_both (Ok x) t f c e = ap (λ (fs : List ChildInFlight). record (past_call c) { starts = record c.starts { count = up c.starts.count; flying = fs } }) e
+counted_both (Err start.OutOfMemory) t f c e = ap (λ (fs : List ChildInFlight). record (past_call c) { starts = record c.starts { count = up c.starts.count; flying = fs } }) e
+counted_both (Err start.CannotStart) t f c e = ap (λ (fs : List ChildInFlight). record (past_fault (Started start.CannotStart) c) { calls = up c.calls; starts = record c.starts { count = up c.starts.count; flying = fs } }) e
+counted_both (Err start.Died) t f c e = ap (λ (fs : List ChildInFlight). record (past_fault (Started start.Died) c) { calls = up c.calls; starts = record c.starts { count = up c.starts.count; flying = fs } }) e
+counted_both (Err start.Capture) t f c e = ap (λ (fs : List ChildInFlight). record (past_fault (Started start.Capture) c) { calls = up c.calls; starts = record c.starts { count = up c.starts.count; flying = fs } }) e

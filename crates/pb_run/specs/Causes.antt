@@ -135,7 +135,7 @@ pub record IsLifted (ticket : ℕ) (old new : Starts) : Type 0 where
   pub child : ChildInFlight
   pub its : child.ticket ≡ ticket
   pub free : is_flying ticket old.flying ≡ false
-  pub lifted : new ≡ record { count = up old.count; flying = old.flying ++ child ∷ [] }
+  pub lifted : new ≡ record old { count = up old.count; flying = old.flying ++ child ∷ [] }
 
 -- how the beginning of a unit leaves the starts, and how its answer does
 abbrev pub BeginsBy : Option Launched → Starts → Starts → Type 0

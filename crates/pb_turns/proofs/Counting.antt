@@ -124,6 +124,10 @@ module _ (project : Project) (first now new : Moment) (started : List ℕ) (alof
   starts_begun None same = ap (λ (s : Starts). s.count) same ∙ goes.starts ∙ ap (λ xs. upped (length xs) first.counts.starts.count) (sym (append-nil (started_by es)))
   starts_begun (Some l) lifted = ap (λ (s : Starts). s.count) lifted.lifted ∙ upped_more now.counts.starts.count first.counts.starts.count (started_by es) unit goes.starts
 
+  settings_begun : (o : Option Launched) → BeginsBy o now.counts.starts new.counts.starts → new.counts.starts.settings ≡ first.counts.starts.settings
+  settings_begun None same = ap (λ (s : Starts). s.settings) same ∙ goes.settings
+  settings_begun (Some l) lifted = ap (λ (s : Starts). s.settings) lifted.lifted ∙ goes.settings
+
   most_begun : (o : Option Launched) → length now.counts.starts.flying ≡ length (launched_of aloft) → MatchOption o (new.most ≡ now.most) (λ l. new.most ≡ max now.most (length now.counts.starts.flying + 1)) → new.most ≡ max first.most (peak (Began unit (is_some o) ∷ es))
   most_begun None long same = same ∙ goes.most
   most_begun (Some l) long more =
@@ -141,6 +145,7 @@ module _ (project : Project) (first now new : Moment) (started : List ℕ) (alof
     faults = faults_begun;
     failures = failures ∙ goes.failures;
     starts = starts_begun (child_of a.begun) begins;
+    settings = settings_begun (child_of a.begun) begins;
     most = most_begun (child_of a.begun) long most;
   }
 
@@ -150,6 +155,7 @@ module _ (project : Project) (first now new : Moment) (started : List ℕ) (alof
     by = ((given, lines_begun), faults_begun);
     cause = ap (λ (c : Counts). c.failures) counts ∙ goes.failures;
     starts = starts_begun None (ap (λ (c : Counts). c.starts) counts);
+    settings = settings_begun None (ap (λ (c : Counts). c.starts) counts);
   }
 
   -- a fault ends it
@@ -175,6 +181,9 @@ module _ (project : Project) (first now new : Moment) (started : List ℕ) (alof
     one_started : new.counts.starts ≡ up_starts now.counts.starts → new.counts.starts.count ≡ upped (length (started_by es ++ if_so true unit)) first.counts.starts.count
     one_started same = ap (λ (s : Starts). s.count) same ∙ upped_more now.counts.starts.count first.counts.starts.count (started_by es) unit goes.starts
 
+    set_no_more : (starts : Starts) → starts.settings ≡ now.counts.starts.settings → new.counts.starts ≡ starts → new.counts.starts.settings ≡ first.counts.starts.settings
+    set_no_more starts as_before same = ap (λ (s : Starts). s.settings) same ∙ as_before ∙ goes.settings
+
     pub stops_begun : (next : Option ℕ) (e : BuildFault) → MayBeginUnit next u.key e now.counts.starts new.counts.starts → HasCause e now.counts new.counts
         → (spawned : Bool) × Stops tells e project first new (Began unit spawned ∷ es) × ((IsNumbered : ℕ → Type 0) (at_first : Option ℕ) → NumbersGiven IsNumbered es at_first next → Spends IsNumbered e at_first (Began unit spawned ∷ es))
         × CameAfter project e es (Began unit spawned ∷ es) × NamesUnit project e None es (Began unit spawned ∷ es)
@@ -182,21 +191,21 @@ module _ (project : Project) (first now new : Moment) (started : List ℕ) (alof
     stops_begun next Toolchain may cause = absurd may
     stops_begun next (Child key fault) may cause = (
       true,
-      record { by = stops_at key true may.0; cause = cause_from (Child key fault) first.counts now.counts new.counts goes.failures cause; starts = one_started may.2 },
+      record { by = stops_at key true may.0; cause = cause_from (Child key fault) first.counts now.counts new.counts goes.failures cause; starts = one_started may.2; settings = set_no_more (up_starts now.counts.starts) refl may.2 },
       λ IsNumbered at_first numbers. tt,
       subst (λ f. CameAfter project (Child key f) es (Began unit true ∷ es)) (sym may.1) (unit, its_key key may.0, refl),
       (unit, its_key key may.0, refl),
     )
     stops_begun next (Device key (Place fault)) may cause = (
       false,
-      record { by = stops_at key false may.0; cause = cause_from (Device key (Place fault)) first.counts now.counts new.counts goes.failures cause; starts = none_started may.2 },
+      record { by = stops_at key false may.0; cause = cause_from (Device key (Place fault)) first.counts now.counts new.counts goes.failures cause; starts = none_started may.2; settings = set_no_more now.counts.starts refl may.2 },
       λ IsNumbered at_first numbers. tt,
       inr (unit, its_key key may.0, refl),
       (unit, its_key key may.0, refl),
     )
     stops_begun next (Device key NumbersSpent) may cause = (
       false,
-      record { by = stops_at key false may.0; cause = cause_from (Device key NumbersSpent) first.counts now.counts new.counts goes.failures cause; starts = none_started may.2 },
+      record { by = stops_at key false may.0; cause = cause_from (Device key NumbersSpent) first.counts now.counts new.counts goes.failures cause; starts = none_started may.2; settings = set_no_more now.counts.starts refl may.2 },
       λ IsNumbered at_first numbers. subst (NumbersGiven IsNumbered es at_first) may.1 numbers,
       inr (unit, its_key key may.0, refl),
       (unit, its_key key may.0, refl),
@@ -204,14 +213,14 @@ module _ (project : Project) (first now new : Moment) (started : List ℕ) (alof
     stops_begun next Sink may cause = absurd may
     stops_begun next OutOfMemory (inl same) cause = (
       false,
-      record { by = ((given, lines_begun), faults_begun); cause = cause_from OutOfMemory first.counts now.counts new.counts goes.failures cause; starts = none_started same },
+      record { by = ((given, lines_begun), faults_begun); cause = cause_from OutOfMemory first.counts now.counts new.counts goes.failures cause; starts = none_started same; settings = set_no_more now.counts.starts refl same },
       λ IsNumbered at_first numbers. tt,
       inr (unit, false, refl),
       tt,
     )
     stops_begun next OutOfMemory (inr more) cause = (
       true,
-      record { by = ((given, lines_begun), faults_begun); cause = cause_from OutOfMemory first.counts now.counts new.counts goes.failures cause; starts = one_started more },
+      record { by = ((given, lines_begun), faults_begun); cause = cause_from OutOfMemory first.counts now.counts new.counts goes.failures cause; starts = one_started more; settings = set_no_more (up_starts now.counts.starts) refl more },
       λ IsNumbered at_first numbers. tt,
       inr (unit, true, refl),
       tt,
@@ -255,6 +264,10 @@ module _ (project : Project) (first now new : Moment) (started : List ℕ) (alof
   starts_same None same = ap (λ (s : Starts). s.count) same ∙ goes.starts
   starts_same (Some l) landed = ap (λ (s : Starts). s.count) landed ∙ goes.starts
 
+  settings_same : (o : Option Launched) → LandsBy o now.counts.starts new.counts.starts → new.counts.starts.settings ≡ first.counts.starts.settings
+  settings_same None same = ap (λ (s : Starts). s.settings) same ∙ goes.settings
+  settings_same (Some l) landed = ap (λ (s : Starts). s.settings) landed ∙ goes.settings
+
   pub goes_answered : AreApart (places_of aloft) → (answer : Answer BadUnit) → new.counts.failures ≡ now.counts.failures → LandsBy (child_of a.begun) now.counts.starts new.counts.starts → new.most ≡ now.most
       → Goes project first new started (remove aloft index) (Gave a.unit answer ∷ es) given
   goes_answered apart answer failures lands most = record {
@@ -264,6 +277,7 @@ module _ (project : Project) (first now new : Moment) (started : List ℕ) (alof
     faults = faults_same;
     failures = failures ∙ goes.failures;
     starts = starts_same (child_of a.begun) lands;
+    settings = settings_same (child_of a.begun) lands;
     most = most ∙ goes.most;
   }
 
@@ -294,11 +308,12 @@ module _ (project : Project) (first now new : Moment) (started : List ℕ) (alof
       by = by_fault next e may;
       cause = cause_from e first.counts now.counts new.counts goes.failures cause;
       starts = starts_same (child_of a.begun) (answer_fault_lands next u.key (child_of a.begun) e now.counts.starts new.counts.starts may);
+      settings = settings_same (child_of a.begun) (answer_fault_lands next u.key (child_of a.begun) e now.counts.starts new.counts.starts may);
     }
 
   -- memory is refused for its lines
   pub stops_untold : (tells : Bool) → LandsBy (child_of a.begun) now.counts.starts new.counts.starts → new.counts.failures ≡ now.counts.failures → Stops tells OutOfMemory project first new es
-  stops_untold tells lands failures = record { by = ((given, lines_same given goes.lines), faults_same); cause = failures ∙ goes.failures; starts = starts_same (child_of a.begun) lands }
+  stops_untold tells lands failures = record { by = ((given, lines_same given goes.lines), faults_same); cause = failures ∙ goes.failures; starts = starts_same (child_of a.begun) lands; settings = settings_same (child_of a.begun) lands }
 
 -- Lines are handed out.
 
@@ -313,6 +328,7 @@ module _ (project : Project) (first now new : Moment) (started : List ℕ) (alof
     faults = faults ∙ goes.faults;
     failures = ap (λ (c : Counts). c.failures) counts ∙ goes.failures;
     starts = ap (λ (c : Counts). c.starts.count) counts ∙ goes.starts;
+    settings = ap (λ (c : Counts). c.starts.settings) counts ∙ goes.settings;
     most = most ∙ goes.most;
   }
 
@@ -323,6 +339,7 @@ module _ (project : Project) (first now new : Moment) (started : List ℕ) (alof
         by = ((m, subst (λ l. Appends first.heard.taken new.heard.taken (take m l)) (due_split given (states_in project es)) part), faults ∙ ap up goes.faults);
         cause = ap (λ (c : Counts). c.failures) counts ∙ goes.failures;
         starts = ap (λ (c : Counts). c.starts.count) counts ∙ goes.starts;
+        settings = ap (λ (c : Counts). c.starts.settings) counts ∙ goes.settings;
       }
 
   -- memory is refused
@@ -331,4 +348,5 @@ module _ (project : Project) (first now new : Moment) (started : List ℕ) (alof
     by = ((given, subst (λ (x : Heard). Appends first.heard.taken x.taken (due_first given (states_in project es))) (sym heard) goes.lines), ap (λ (x : Heard). x.faults) heard ∙ goes.faults);
     cause = ap (λ (c : Counts). c.failures) counts ∙ goes.failures;
     starts = ap (λ (c : Counts). c.starts.count) counts ∙ goes.starts;
+    settings = ap (λ (c : Counts). c.starts.settings) counts ∙ goes.settings;
   }

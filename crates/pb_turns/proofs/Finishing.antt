@@ -98,6 +98,7 @@ story_first tells child c at still aloft started holds = record {
     faults = refl;
     failures = refl;
     starts = refl;
+    settings = refl;
     most = omega arith;
   };
   numbers = refl;
@@ -333,6 +334,7 @@ module _ {S : Type 0} (tells : Bool) (child : Answers) (Turns : S → List ℕ �
       mid = mid.counts;
       failures = story.goes.failures;
       starts = story.goes.starts;
+      settings = story.goes.settings;
       drained = drained;
       landed = landed;
       most = most ∙ story.goes.most;
@@ -361,7 +363,7 @@ ends_before tells child Turns setup project next from at none = record {
   hands = refl;
   mid = at;
   heard = refl;
-  stops = record { by = ((0, appends_none at.heard.taken), refl); cause = refl; starts = refl };
+  stops = record { by = ((0, appends_none at.heard.taken), refl); cause = refl; starts = refl; settings = refl };
   spent = tt;
   drained = subst (λ fs. Dropped (map ticket_of_child fs) at.counts at.counts) (sym none) refl;
   landed = none;

@@ -76,7 +76,7 @@ pub record StandsCut (b : Basis) (fault : BuildFault) (next : Option ℕ) (es be
   pub started : StartedFor b fault before es old new
   pub spent : Spends (LacksNoNumber b old) fault next es
 
--- the units came to their end; it is a success exactly where no bad unit is told, and then each of them has answered and is good; the bad unit that is told is the first by the answers; nothing is noted of a unit that has not begun, and of each that has what differed first, which is something exactly where a child was started for it; no record is kept of a unit whose answer was dropped; and a unit for which no child was started answered by the record that counted in its place at first, and by the files of its folder as they stood at first, whether the records are true or not; that the units which it needs are as the record names them is said of true records alone (`told`)
+-- the units came to their end, and nothing was set to fail; it is a success exactly where no bad unit is told, and then each of them has answered and is good; the bad unit that is told is the first by the answers; nothing is noted of a unit that has not begun, and of each that has what differed first, which is something exactly where a child was started for it; no record is kept of a unit whose answer was dropped; and a unit for which no child was started answered by the record that counted in its place at first, and by the files of its folder as they stood at first, whether the records are true or not; that the units which it needs are as the record names them is said of true records alone (`told`)
 pub record EndsWhole {S : Type 0} (tells : Bool) (child : Answers) (Turns : S → List ℕ → List ℕ → Step → S → Type 0) (setup : Setup) (project : Project) (next : Option ℕ) (from last : S) (summary : Summary) (old new : Moment) : Type 0 where
   pub es : List (Event BadUnit)
   pub flies : Flies Turns (needs_of project) Anyhow Anything from es last
@@ -98,6 +98,7 @@ pub record EndsWhole {S : Type 0} (tells : Bool) (child : Answers) (Turns : S �
   pub mid : Counts
   pub failures : mid.failures ≡ old.counts.failures
   pub starts : mid.starts.count ≡ upped (length (started_by es)) old.counts.starts.count
+  pub settings : mid.starts.settings ≡ old.counts.starts.settings
   pub drained : Drained mid new.counts
   pub landed : new.counts.starts.flying ≡ []
   pub most : new.most ≡ max old.most (peak es)

@@ -55,7 +55,7 @@ abbrev pub upped : ℕ → ℕ → ℕ
 upped zero n = n
 upped (suc k) n = up (upped k n)
 
--- so far no call failed; the lines of the first so many units were handed out; one child was started for each unit that began with one, and no more flew at one time than by the events
+-- so far no call failed, and nothing was set to fail; the lines of the first so many units were handed out; one child was started for each unit that began with one, and no more flew at one time than by the events
 pub record Goes (project : Project) (first now : Moment) (started : List ℕ) (aloft : List Aloft) (es : List (Event BadUnit)) (given : ℕ) : Type 0 where
   pub started_are : started ≡ started_by es
   pub launched_are : launched_of aloft ≡ launched_after es
@@ -63,6 +63,7 @@ pub record Goes (project : Project) (first now : Moment) (started : List ℕ) (a
   pub faults : now.heard.faults ≡ first.heard.faults
   pub failures : now.counts.failures ≡ first.counts.failures
   pub starts : now.counts.starts.count ≡ upped (length (started_by es)) first.counts.starts.count
+  pub settings : now.counts.starts.settings ≡ first.counts.starts.settings
   pub most : now.most ≡ max first.most (peak es)
 
 -- no child in flight writes into this folder
@@ -94,6 +95,7 @@ pub record Stops (tells : Bool) (fault : BuildFault) (project : Project) (first 
   pub by : StopsBy tells fault project first now es
   pub cause : HasCause fault first.counts now.counts
   pub starts : now.counts.starts.count ≡ upped (length (started_by es)) first.counts.starts.count
+  pub settings : now.counts.starts.settings ≡ first.counts.starts.settings
 
 -- the next run number after these events, by the next one at first: a unit that begins takes a number where a child is started for it, and none where none is; one that answers takes at most one, and none where a child was started for it, or where it is known that its record had one. That a record which is kept or numbered has the number that was taken is said of the records (`HasRecord`); and where a removal failed as a unit began, the number that was taken for it is not counted here
 abbrev pub NumbersGiven : (ℕ → Type 0) → List (Event BadUnit) → Option ℕ → Option ℕ → Type 0
