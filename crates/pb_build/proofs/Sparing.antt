@@ -114,12 +114,12 @@ module _ (read : Reading) (reading : IsReading read) (child : Answers) (folder :
   step_sound (Unset name) before after out e sound = subst (λ (p : Point). IsSound p.moment.world) (sym e) sound
   step_sound (Die key death) before after out same sound = subst (λ (p : Point). IsSound p.moment.world) (sym same) sound
   step_sound (Fuse number) before after out same sound = subst (λ (p : Point). IsSound p.moment.world) (sym same) sound
-  step_sound (Build options pick) before after (inl (same, honest)) (answer, builds, kept, headline, answers, unlit) sound =
+  step_sound (Build options pick) before after (inl (same, honest)) built sound =
       let there : RestsOn OnRecords read child options before.moment.world = (subst (λ (f : List ℕ). Sound read judge child f before.moment.world.files) (sym same) sound, honest) in
-      subst (λ (f : List ℕ). Sound read judge child f after.moment.world.files) same (headline refl OnRecords read reading there).records
-  step_sound (Build options pick) before after (inr apart) (answer, builds, kept, headline, answers, unlit) sound =
-      outside read judge child folder before.moment.world.files after.moment.world.files
-      (λ q within. picked_within child options pick answer.result before.moment after.moment builds q (apart q within)) sound
+      subst IsSound (sym (ap (λ (m : Moment). m.world) built.behind)) (subst (λ (f : List ℕ). Sound read judge child f built.ended.world.files) same (built.headline refl OnRecords read reading there).records)
+  step_sound (Build options pick) before after (inr apart) built sound =
+      subst IsSound (sym (ap (λ (m : Moment). m.world) built.behind))
+      (outside read judge child folder before.moment.world.files built.ended.world.files (λ q within. picked_within child options pick built.answer.result before.moment built.ended built.picked q (apart q within)) sound)
 
   course_sound : (steps : List SessionStep) (before after : Point) → SparingCourse child folder steps before after → IsSound before.moment.world → IsSound after.moment.world
   course_sound [] before after same sound = subst (λ (p : Point). IsSound p.moment.world) (sym same) sound
@@ -131,5 +131,5 @@ pub records_stay_true : RecordsStayTrue
 records_stay_true read child folder steps before after reading course sound = course_sound read reading child folder steps before after course sound
 
 pub any_build_gives : AnyBuildGives
-any_build_gives read child options pick steps before mid after reading course sound honest (answer, builds, kept, headline, answers, unlit) =
-    (answer, answers, headline refl OnRecords read reading (course_sound read reading child (records_of options mid.moment.world.variables) steps before mid course sound, honest))
+any_build_gives read child options pick steps before mid after reading course sound honest built =
+    built.headline refl OnRecords read reading (course_sound read reading child (records_of options mid.moment.world.variables) steps before mid course sound, honest)

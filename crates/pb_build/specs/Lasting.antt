@@ -11,9 +11,8 @@ use Rattle.pb_session.specs.declared.step.SessionStep.{SessionStep}
 use Rattle.pb_session.specs.declared.step.SessionStep.TheVariants.{Write, Remove, Set, Unset, Build, Die, Fuse}
 use Rattle.pb_soundness.specs.Records.{Reading, record_at}
 use Rattle.pb_soundness.specs.Sound.{Sound}
-use Rattle.pb_build.specs.declared.sessions.Answer.{Answer}
 use Rattle.pb_build.specs.Headline.{records_of, IsHonestBuild, Gives}
-use Rattle.pb_build.specs.Session.{Point, Carries, ByPicked}
+use Rattle.pb_build.specs.Session.{Point, Carries, CarriesBuild, ByPicked}
 
 -- no path is at or below both
 abbrev pub ShareNoPath : List ℕ → List ℕ → Type 0
@@ -47,5 +46,4 @@ RecordsStayTrue = (read : Reading) (child : Answers) (folder : List ℕ) (steps 
 abbrev pub AnyBuildGives : Type 0
 AnyBuildGives = (read : Reading) (child : Answers) (options : Options) (pick : PickBy) (steps : List SessionStep) (before mid after : Point) → IsReading read
     → SparingCourse child (records_of options mid.moment.world.variables) steps before mid → Sound read judge child (records_of options mid.moment.world.variables) before.moment.world.files
-    → IsHonestBuild child options mid.moment.world → Carries child (Build options pick) mid after
-    → (answer : Answer) × (after.answers ≡ mid.answers ++ answer ∷ []) × Gives OnRecords read child (ByPicked pick options) options answer.result mid.moment after.moment
+    → IsHonestBuild child options mid.moment.world → (built : CarriesBuild child options pick mid after) → Gives OnRecords read child (ByPicked pick options) options built.answer.result mid.moment built.ended

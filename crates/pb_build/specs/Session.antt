@@ -2,6 +2,7 @@
 use Rattle.std.specs.Prelude.{◌≡◌, ◌↔◌, ⊤, ℕ, true, List, [], ◌∷◌, ◌++◌, Option, Result}
 use Rattle.pb_place.specs.World.{World, Answers, written, removed}
 use Rattle.pb_memory.specs.Memory.{Held, counts_in, set, unset}
+use Rattle.pb_memory.specs.Tallies.{one_setting}
 use Rattle.pb_memory.specs.declared.in_flight.Death.{Death}
 use Rattle.pb_answer.specs.declared.bad_unit.BadUnit.{BadUnit}
 use Rattle.pb_answer.specs.declared.fault.BuildFault.{BuildFault}
@@ -47,18 +48,30 @@ abbrev pub ByPicked : PickBy → Options → Project → List (Event BadUnit) �
 ByPicked First options = ByFirst options
 ByPicked Last options = ByLast options
 
--- a step: an edit; a failure that is prepared, of which nothing is seen yet; or a build, which keeps the headline and adds its answer, and after which no call is to fail
+-- the same moment, but that it was set once more which calls are to fail
+abbrev pub set_anew : Moment → Moment
+set_anew m = record m { counts = one_setting m.counts }
+
+-- a build: it kept the headline and added its answer; then it was set once that no call is to fail. How often that is set is counted (`Starts`), so it came neither before the build nor in its midst
+pub record CarriesBuild (child : Answers) (options : Options) (pick : PickBy) (before after : Point) : Type 0 where
+  pub answer : Answer
+  pub ended : Moment
+  pub picked : Picked child options pick answer.result before.moment ended
+  pub kept : SourcesStay (environment_of options before.moment.world.variables).target before.moment.world ended.world
+  pub headline : Headline true child (ByPicked pick options) options answer.result before.moment ended
+  pub behind : after.moment ≡ set_anew ended
+  pub answers : after.answers ≡ before.answers ++ answer ∷ []
+  pub fuse : after.fuse ≡ 0
+
+-- a step: an edit; a failure that is prepared, of which nothing is seen yet but that it was set; or a build
 abbrev pub Carries : Answers → SessionStep → Point → Point → Type 0
 Carries child (Write path text) before after = Edits (written path text before.moment.world) before after
 Carries child (Remove path) before after = Edits (removed path before.moment.world) before after
 Carries child (Set name value) before after = Edits (set name value before.moment.world) before after
 Carries child (Unset name) before after = Edits (unset name before.moment.world) before after
-Carries child (Die key death) before after = after ≡ record before { deaths = before.deaths ++ record { key = key; kind = fault_of death } ∷ [] }
-Carries child (Fuse number) before after = after ≡ record before { fuse = number }
-Carries child (Build options pick) before after =
-    (answer : Answer) × Picked child options pick answer.result before.moment after.moment
-    × SourcesStay (environment_of options before.moment.world.variables).target before.moment.world after.moment.world
-    × Headline true child (ByPicked pick options) options answer.result before.moment after.moment × (after.answers ≡ before.answers ++ answer ∷ []) × (after.fuse ≡ 0)
+Carries child (Die key death) before after = after ≡ record before { moment = set_anew before.moment; deaths = before.deaths ++ record { key = key; kind = fault_of death } ∷ [] }
+Carries child (Fuse number) before after = after ≡ record before { moment = set_anew before.moment; fuse = number }
+Carries child (Build options pick) before after = CarriesBuild child options pick before after
 
 -- the steps were taken in turn
 abbrev pub Course : Answers → List SessionStep → Point → Point → Type 0
@@ -73,7 +86,7 @@ Loses child (Set name value) before left = left ≡ before.moment
 Loses child (Unset name) before left = left ≡ before.moment
 Loses child (Die key death) before left = left ≡ before.moment
 Loses child (Fuse number) before left = left ≡ before.moment
-Loses child (Build options pick) before left = (ended : Point) × Carries child (Build options pick) before ended × (left ≡ ended.moment)
+Loses child (Build options pick) before left = (ended : Point) × CarriesBuild child options pick before ended × (left ≡ ended.moment)
 
 -- memory was refused at one of the steps, and those before it were taken in turn
 abbrev pub Breaks : Answers → List SessionStep → Point → Moment → Type 0

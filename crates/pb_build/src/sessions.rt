@@ -7,6 +7,7 @@ ghost use Rattle.pb_build.specs.Headline.{Headline};
 ghost use Rattle.pb_build.specs.Kept.{SourcesStay};
 ghost use Rattle.pb_build.specs.Session.{Picked, ByPicked, Carries, Course, Loses, Breaks, point};
 ghost use Rattle.pb_memory.specs.Memory.{counts_in};
+ghost use Rattle.pb_memory.specs.Tallies.{one_setting};
 ghost use Rattle.pb_turns.specs.Moments.{moment};
 
 use crate::builder::{build, build_with};
@@ -94,7 +95,8 @@ fn take_step<C: Child, O: Out>(
 
 /// Lets the call of this number of the next build fail; 0 lets none.
 fn light<C: Child>(memory: &mut Memory<C>, number: u64) -> Result<(), AllocError>
-    ensures { memory.new ≡ record memory.old { fuse = number } }
+    ensures ok { OnOk result (memory.new ≡ record memory.old { tally = one_setting memory.old.tally; fuse = number }) }
+    ensures err { OnErr result (memory.new ≡ memory.old) }
 {
     memory.fuse(number);
     Ok(())

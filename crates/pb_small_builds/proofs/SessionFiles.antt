@@ -188,8 +188,8 @@ module _ (target : List ℕ) where
   step_at (Unset name) before after words told same files = subst (λ (p : Point). SourcesAt p.moment.world) (sym same) files
   step_at (Die key death) before after words told same files = subst (λ (p : Point). SourcesAt p.moment.world) (sym same) files
   step_at (Fuse number) before after words told same files = subst (λ (p : Point). SourcesAt p.moment.world) (sym same) files
-  step_at (Build options pick) before after words told (answer, picked, stays, headline, answers, unlit) files =
-      subst FilesHavePaths (sym (subst (λ t. from_nothing t after.moment.world ≡ from_nothing t before.moment.world) told.one_target stays)) files
+  step_at (Build options pick) before after words told built files =
+      subst SourcesAt (sym (ap (λ (m : Moment). m.world) built.behind)) (subst FilesHavePaths (sym (subst (λ t. from_nothing t built.ended.world ≡ from_nothing t before.moment.world) told.one_target built.kept)) files)
 
   -- such a build has its words
   small_of : (options : Options) (w : World) → At options.manifest → RunsAlone options.runner → SourcesAt w → IsToldBuild target options w → IsSmallBuild options w
@@ -229,19 +229,16 @@ module _ (target : List ℕ) where
     all_sound step before after words files told takes sound name named =
         records_stay_true read small_compiler (below target name) (step ∷ []) before after reading (spares_so name step before.moment.world named words files told, (after, takes, refl)) (sound name named)
 
-    step_gives : (step : SessionStep) (before after : Point) → HasWords step → SourcesAt before.moment.world → IsToldStep target step before.moment.world → Carries small_compiler step before after → AllSound before.moment.world → StepGives read step before after
+    step_gives : (step : SessionStep) (before after : Point) → HasWords step → SourcesAt before.moment.world → IsToldStep target step before.moment.world → (taken : Carries small_compiler step before after) → AllSound before.moment.world → StepGives read step before after taken
     step_gives (Write path text) before after words files told takes sound = tt
     step_gives (Remove path) before after words files told takes sound = tt
     step_gives (Set name value) before after words files told takes sound = tt
     step_gives (Unset name) before after words files told takes sound = tt
     step_gives (Die key death) before after words files told takes sound = tt
     step_gives (Fuse number) before after words files told takes sound = tt
-    step_gives (Build options pick) before after words files told (answer, picked, stays, headline, answers, unlit) sound = (
-      answer,
-      answers,
-      small_gives (ByPicked pick options) read options answer.result before.moment after.moment reading headline (small_of options before.moment.world words.0 words.1 files told)
-          (subst (λ folder. Sound read judge small_compiler folder before.moment.world.files) (sym (folder_is options before.moment.world told)) (sound (folder_of options.profile) (profile_named options.profile told.profile))),
-    )
+    step_gives (Build options pick) before after words files told built sound =
+        small_gives (ByPicked pick options) read options built.answer.result before.moment built.ended reading built.headline (small_of options before.moment.world words.0 words.1 files told)
+        (subst (λ folder. Sound read judge small_compiler folder before.moment.world.files) (sym (folder_is options before.moment.world told)) (sound (folder_of options.profile) (profile_named options.profile told.profile)))
 
     all_give : (steps : List SessionStep) (before after : Point) (course : Course small_compiler steps before after) → AllByRecursion HasWords steps → SourcesAt before.moment.world → AllSound before.moment.world
         → AllTold target steps before after course → AllGive read steps before after course

@@ -18,8 +18,7 @@ use Rattle.pb_soundness.specs.Records.{Reading}
 use Rattle.pb_soundness.specs.Sound.{Sound}
 use Rattle.pb_turns.specs.Moments.{Moment}
 use Rattle.pb_build.specs.Headline.{records_of, IsHonestBuild, ByTurns, Gives, Headline}
-use Rattle.pb_build.specs.Session.{Point, Carries, Course, ByPicked}
-use Rattle.pb_build.specs.declared.sessions.Answer.{Answer}
+use Rattle.pb_build.specs.Session.{Point, CarriesBuild, Course, ByPicked}
 use Rattle.pb_small_builds.specs.Small.{AllGive, AllTold, IsSmallBuild, SmallCourse}
 
 -- The small compiler is an honest child of each build with these words.
@@ -35,8 +34,7 @@ SmallBuildsGive {S} Turns = (read : Reading) (from : S) (options : Options) (res
 abbrev pub SmallSessionsGive : Type 0
 SmallSessionsGive = (read : Reading) (options : Options) (pick : PickBy) (steps : List SessionStep) (before mid after : Point) → IsReading read
     → Sound read judge small_compiler (records_of options mid.moment.world.variables) before.moment.world.files → SmallCourse (records_of options mid.moment.world.variables) steps before mid
-    → IsSmallBuild options mid.moment.world → Carries small_compiler (Build options pick) mid after
-    → (answer : Answer) × (after.answers ≡ mid.answers ++ answer ∷ []) × Gives OnRecords read small_compiler (ByPicked pick options) options answer.result mid.moment after.moment
+    → IsSmallBuild options mid.moment.world → (built : CarriesBuild small_compiler options pick mid after) → Gives OnRecords read small_compiler (ByPicked pick options) options built.answer.result mid.moment built.ended
 
 -- So does each build of a session file that begins without files, of which no more is asked than the file leaves open.
 abbrev pub SessionFilesGive : Type 0

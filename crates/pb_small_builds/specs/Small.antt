@@ -21,7 +21,6 @@ use Rattle.pb_build.specs.Lasting.{ShareNoPath, Spares}
 use Rattle.pb_build.specs.Planning.{IsProject}
 use Rattle.pb_build.specs.Result.{toolchain_of, setup_of}
 use Rattle.pb_build.specs.Session.{Point, Carries, Course, ByPicked}
-use Rattle.pb_build.specs.declared.sessions.Answer.{Answer}
 
 -- One build.
 
@@ -77,11 +76,11 @@ AllTold target [] before after course = ⊤
 AllTold target (step ∷ steps) before after course = IsToldStep target step before.moment.world × AllTold target steps course.0 after course.2
 
 -- a build among the steps gives what the workspace of that time gives from nothing, or a fault with the first of its lines
-abbrev pub StepGives : Reading → SessionStep → Point → Point → Type 0
-StepGives read (Build options pick) before after = (answer : Answer) × (after.answers ≡ before.answers ++ answer ∷ []) × Gives OnRecords read small_compiler (ByPicked pick options) options answer.result before.moment after.moment
-StepGives read step before after = ⊤
+abbrev pub StepGives : (read : Reading) (step : SessionStep) (before after : Point) → Carries small_compiler step before after → Type 0
+StepGives read (Build options pick) before after built = Gives OnRecords read small_compiler (ByPicked pick options) options built.answer.result before.moment built.ended
+StepGives read step before after taken = ⊤
 
 -- and so does each
 abbrev pub AllGive : (read : Reading) (steps : List SessionStep) (before after : Point) → Course small_compiler steps before after → Type 0
 AllGive read [] before after course = ⊤
-AllGive read (step ∷ steps) before after course = StepGives read step before course.0 × AllGive read steps course.0 after course.2
+AllGive read (step ∷ steps) before after course = StepGives read step before course.0 course.1 × AllGive read steps course.0 after course.2
