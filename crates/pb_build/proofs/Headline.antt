@@ -252,7 +252,7 @@ module _ (footing : Footing) (read : Reading) (reading : IsReading read) (child 
               finished = ends.finished;
               numbers = (
                 whole.numbers.0,
-                subst (λ (n : Option ℕ). NumbersGiven (LacksNoNumber b old.world) ends.es n whole.numbers.0) next_is (subst (λ (w : World). NumbersGiven (LacksNoNumber b w) ends.es next whole.numbers.0) stays whole.numbers.1),
+                subst (λ (n : Option ℕ). NumbersGiven (LacksNoNumber project read old.world) ends.es n whole.numbers.0) next_is (subst (λ (w : World). NumbersGiven (LacksNoNumber project read w) ends.es next whole.numbers.0) stays whole.numbers.1),
               );
               unnoted = ends.unnoted;
               answer = whole.answer;
@@ -266,7 +266,7 @@ module _ (footing : Footing) (read : Reading) (reading : IsReading read) (child 
           let cut : StandsCut b fault next ends.es ends.before mid.world new.world = ends.told refl footing read sources reading (kept_first footing rests) in (
             inr record {
               flown = record { units = units; es = ends.es; flies = (ends.last, ends.flies); gave = gave_so ends.es cut.stands; starts = counted ends.es ends.mid.counts ends.stops.starts ends.drained; reasons = cut.reasons };
-              spent = subst (λ (n : Option ℕ). Spends (LacksNoNumber b old.world) fault n ends.es) next_is (subst (λ (w : World). Spends (LacksNoNumber b w) fault next ends.es) stays cut.spent);
+              spent = subst (λ (n : Option ℕ). Spends (LacksNoNumber project read old.world) fault n ends.es) next_is (subst (λ (w : World). Spends (LacksNoNumber project read w) fault next ends.es) stays cut.spent);
               lines = lines_before ends.es cut.stands ends.mid ends.heard ends.last ends.flies ends.asked ends.hands ends.before fault ends.names ends.stops;
               before = ends.before;
               came = ends.came;

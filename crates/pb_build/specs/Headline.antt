@@ -115,7 +115,7 @@ pub record UnitsFly (child : Answers) (Schedule : Project → List (Event BadUni
 pub record GivesAll (footing : Footing) (read : Reading) (child : Answers) (Schedule : Project → List (Event BadUnit) → Type 0) (options : Options) (summary : Summary) (old new : Moment) : Type 0 where
   pub flown : UnitsFly child Schedule options old new
   pub finished : is_finished (states_in flown.units.project flown.es) ≡ true
-  pub numbers : (after : Option ℕ) × NumbersGiven (LacksNoNumber (basis_of footing read child options old.world flown.units) old.world) flown.es (next_in read (records_of options old.world.variables) old.world) after
+  pub numbers : (after : Option ℕ) × NumbersGiven (LacksNoNumber flown.units.project read old.world) flown.es (next_in read (records_of options old.world.variables) old.world) after
   pub unnoted : (place : ℕ) → slice_get (states_in flown.units.project flown.es) place ≡ Some Untouched → slice_get flown.reasons place ≡ Some None
   pub answer : summary ≡ summary_of flown.units.project flown.es flown.reasons (rows_for child options old.world flown.units)
   pub lines : Appends old.heard.taken new.heard.taken (said_from flown.units.project flown.es 0 (rows_for child options old.world flown.units))
@@ -141,7 +141,7 @@ LinesBefore fault project es rows old new = ⊥
 -- a fault came at a unit, at the sink, or for want of memory; for want of a run number, where from the next one of the records on all were given (what had differed of a unit that could not begin is said of the build's units, `StandsCut`)
 pub record GivesFirst (footing : Footing) (read : Reading) (child : Answers) (Schedule : Project → List (Event BadUnit) → Type 0) (options : Options) (fault : BuildFault) (old new : Moment) : Type 0 where
   pub flown : UnitsFly child Schedule options old new
-  pub spent : Spends (LacksNoNumber (basis_of footing read child options old.world flown.units) old.world) fault (next_in read (records_of options old.world.variables) old.world) flown.es
+  pub spent : Spends (LacksNoNumber flown.units.project read old.world) fault (next_in read (records_of options old.world.variables) old.world) flown.es
   pub lines : LinesBefore fault flown.units.project flown.es (rows_for child options old.world flown.units) old.heard.taken new.heard.taken
   pub before : List (Event BadUnit)
   pub came : CameAfter flown.units.project fault before flown.es

@@ -88,7 +88,7 @@ neither : (x y : Bool) → x ≡ false → y ≡ false → x || y ≡ false
 neither x y p q = ap (λ z. z || y) p ∙ q
 
 -- only folders and records in the target folder were changed
-sources_first : (project : Project) (order : IsInOrder project) (es : List (Event BadUnit)) (first now : World) → OnlyOf project es first now → from_nothing project.workspace.target now ≡ from_nothing project.workspace.target first
+pub sources_first : (project : Project) (order : IsInOrder project) (es : List (Event BadUnit)) (first now : World) → OnlyOf project es first now → from_nothing project.workspace.target now ≡ from_nothing project.workspace.target first
 sources_first project order es first now only =
     sources_alike project.workspace.target first now (λ q outside. only.files q (λ place u has at.
     let folder = records_folder project in
@@ -98,7 +98,7 @@ sources_first project order es first now only =
     (outside_within project.workspace.target (place_of folder u.key) q (at_or_below_on project.workspace.target folder (place_of folder u.key) order.target (at_below folder (place_of folder u.key) (place_in folder u.key key))) outside))) only.variables
 
 -- what the runs said on which the command of a unit rests, where one that has begun and not answered answers
-command_stays : (setup : Setup) (project : Project) (order : IsInOrder project) (es : List (Event BadUnit)) (lawful : IsLawful (needs_of project) es) (i : ℕ) (begun : slice_get (states_in project es) i ≡ Some Begun)
+pub command_stays : (setup : Setup) (project : Project) (order : IsInOrder project) (es : List (Event BadUnit)) (lawful : IsLawful (needs_of project) es) (i : ℕ) (begun : slice_get (states_in project es) i ≡ Some Begun)
     (done done' : List (Option (List Directive))) (d : Option (List Directive)) → done' ≡ slice_set done i d → (place : ℕ) (u : Planned) → HasBegun (states_in project es) place → unit_at project place ≡ Some u → command_of setup project u done ≡ command_of setup project u done'
 command_stays setup project order es lawful i begun done done' d set place u has at =
     command_same setup project u done done' (order.needs_reached place u at) (λ p among.

@@ -19,11 +19,11 @@ use Rattle.pb_run.specs.Outcome.{Outcome, directives_in}
 use Rattle.pb_run.specs.Telling.{unit_lines}
 use Rattle.pb_run.specs.declared.begun.Begun.{Begun as unit_begun}
 use Rattle.pb_turns.specs.Crew.{places_of, place_of_unit, ticket_in, number_in, tickets_of, numbers_of, AreApart}
-use Rattle.pb_turns.specs.Rows.{is_started, fault_in, messages_in, Reasons}
-use Rattle.pb_turns.specs.Story.{states_in, Happened, HasGiven, FliesSo, AllBeganFor, BeganFor}
+use Rattle.pb_turns.specs.Rows.{is_started, fault_in, messages_in}
+use Rattle.pb_turns.specs.Story.{states_in, Happened, HasGiven, FliesSo}
 use Rattle.pb_turns.specs.declared.crew.Aloft.{Aloft}
 use Rattle.pb_turns.proofs.Lists.{all_left, all_get, apart_places, flat_apart, get_map, get_set_within}
-use Rattle.pb_turns.proofs.States.{good_set, begun_cases, answered_cases}
+use Rattle.pb_turns.proofs.States.{good_set, answered_cases}
 use Rattle.pb_unit.specs.declared.plan.Planned.{Planned}
 
 not_begun : (s : State BadUnit) → s ≡ Begun → s ≡ Untouched → ⊥
@@ -162,26 +162,3 @@ module _ (b : Basis) (done : List (Option (List Directive))) (aloft : List Aloft
         begun = all_left (FliesSo b es next w flying still) (FliesSo b (Gave a.unit answer ∷ es) next' w' flying' still') aloft index flies_after h.begun;
         gave = given_after;
       }
-
-      pub began_after : (reasons : Reasons) (first now : World) → AllBeganFor b es reasons first now → AllBeganFor b (Gave a.unit answer ∷ es) reasons first now
-      began_after reasons first now began place has = elim (begun_cases (states_in b.project es) a.unit place (Answered answer) has) [
-        | inl same ↦ went place (began place (Begun, subst (λ n. slice_get (states_in b.project es) n ≡ Some Begun) same so.state, refl))
-        | inr before ↦ went place (began place before)
-      ]
-        where
-          went : (n : ℕ) → BeganFor b es reasons first now n → BeganFor b (Gave a.unit answer ∷ es) reasons first now n
-          went n f = record {
-            unit = f.unit;
-            there = f.there;
-            world = f.world;
-            sources_stay = f.sources_stay;
-            record_stays = f.record_stays;
-            reaches = good_set (states_in b.project es) a.unit Begun (Answered answer) f.unit.reaches so.state refl f.reaches;
-            reached_stay = f.reached_stay;
-            difference = f.difference;
-            named = f.named;
-            started = f.started;
-            noted = f.noted;
-            kept_stays = f.kept_stays;
-            unstarted = f.unstarted;
-          }

@@ -1,5 +1,5 @@
 -- The story of a crew, where a unit answers.
-use Rattle.std.proofs.Common.{◌≡◌, ◌∙◌, Bool, false, List, [], ◌∷◌, ℕ, Option, Some, None, IsTrue, refl, sym, ap, subst, slice_get, slice_set, is_some}
+use Rattle.std.proofs.Common.{◌≡◌, ◌∙◌, Bool, List, [], ◌∷◌, ℕ, Option, Some, None, IsTrue, refl, sym, ap, subst, slice_get, slice_set, is_some}
 use Rattle.std.specs.FinMap as finite
 use Rattle.std.specs.List.{remove}
 use Rattle.pb_directive.specs.declared.directive.Directive.{Directive}
@@ -8,28 +8,24 @@ use Rattle.pb_flight.specs.declared.flight.State.TheVariants.{Answered}
 use Rattle.pb_flight.specs.Events.{Event, Gave}
 use Rattle.pb_message.specs.declared.message.Message.{Message}
 use Rattle.pb_place.specs.Folders.{files_in}
-use Rattle.pb_place.specs.World.{World, Map, Answers, ChangesOnly}
+use Rattle.pb_place.specs.World.{World, Map, Answers}
 use Rattle.pb_project.specs.Targets.{unit_at}
 use Rattle.pb_answer.specs.declared.bad_unit.BadUnit.{BadUnit}
 use Rattle.pb_project.specs.declared.project.Setup.{Setup}
 use Rattle.pb_record.specs.Parts.{IsReading}
 use Rattle.pb_run.specs.Halves.{Footing, Basis, basis, Keeps, IsBegun, CanAnswer, BeginsApart, outcomes_in, child_of}
 use Rattle.pb_run.specs.Outcome.{outcome_from, outcome_by, directives_in}
-use Rattle.pb_run.specs.Standing.{IsInOrder, records_folder}
 use Rattle.pb_run.specs.Telling.{unit_lines}
 use Rattle.pb_run.specs.declared.begun.Begun.{Begun as unit_begun}
 use Rattle.pb_run.specs.declared.ran.Ran.{Ran}
-use Rattle.pb_soundness.specs.Apart.{is_of}
-use Rattle.pb_soundness.specs.Records.{Reading, record_at}
-use Rattle.pb_store.specs.Migrating.{lacks_number}
+use Rattle.pb_soundness.specs.Records.{Reading}
 use Rattle.pb_turns.specs.Crew.{AreApart, places_of, tickets_of, numbers_of}
 use Rattle.pb_turns.specs.Moments.{Moment}
 use Rattle.pb_turns.specs.Rows.{fault_in, messages_in}
-use Rattle.pb_turns.specs.Story.{states_in, Happened, AllBeganFor, FromFirst, Story}
+use Rattle.pb_turns.specs.Story.{states_in, Happened, FromFirst, Story}
 use Rattle.pb_turns.specs.declared.crew.Aloft.{Aloft}
 use Rattle.pb_turns.specs.declared.crew.UnitCrew.{UnitCrew}
 use Rattle.pb_turns.proofs.Answered as answered
-use Rattle.pb_turns.proofs.Staying.{answered_beside}
 use Rattle.pb_unit.specs.declared.plan.Planned.{Planned}
 
 -- What an outcome says of a run.
@@ -52,9 +48,7 @@ module _ (tells : Bool) (child : Answers) (first old : UnitCrew) (at now new : M
     (others : (footing : Footing) (read : Reading) (setup : Setup) (sources : World) (states : List (State BadUnit)) (done : List (Option (List Directive))) (other : ℕ) (its : unit_begun) → IsReading read → IsTrue tells
     → CanAnswer (basis footing read child setup old.project sources) states done a.unit u a.begun old.store.next now.world now.counts.starts.flying still
     → BeginsApart (basis footing read child setup old.project sources) states a.unit (child_of a.begun) other its old.store.next now.world now.counts.starts.flying still
-    → IsBegun (basis footing read child setup old.project sources) other its next' new.world new.counts.starts.flying still')
-    (order : IsInOrder old.project) (only : IsTrue tells → ChangesOnly (is_of (records_folder old.project) u.key) now.world new.world)
-    (same_world : (read : Reading) → IsReading read → IsTrue tells → child_of a.begun ≡ None → lacks_number (record_at read (records_folder old.project) now.world.files u.key) ≡ false → new.world ≡ now.world) where
+    → IsBegun (basis footing read child setup old.project sources) other its next' new.world new.counts.starts.flying still') where
   abbrev Of : Footing → Reading → World → Basis
   Of footing read sources = basis footing read child old.setup old.project sources
 
@@ -65,12 +59,6 @@ module _ (tells : Bool) (child : Answers) (first old : UnitCrew) (at now new : M
 
     others_now : (other : ℕ) (its : unit_begun) → BeginsApart (Of f r s) (states_in old.project es) a.unit (child_of a.begun) other its old.store.next now.world now.counts.starts.flying still → IsBegun (Of f r s) other its next' new.world new.counts.starts.flying still'
     others_now other its apart = others f r old.setup s (states_in old.project es) old.done.items other its reading t could apart
-
-    -- the units that had begun
-    beside : AllBeganFor (Of f r s) es old.reasons.items at.world now.world → AllBeganFor (Of f r s) es old.reasons.items at.world new.world
-    beside = answered_beside (Of f r s) order es old.reasons.items at.world now.world new.world a.unit u there could.state (child_of a.begun)
-        (answered.its_start (Of f r s) old.done.items old.aloft.items old.store.next next' es now.world new.world now.counts.starts.flying new.counts.starts.flying still still' h index a at_index u there)
-        (only t) (same_world r reading t)
 
     less : Keeps (Of f r s) (states_in old.project es) old.done.items next' new.world → Happened (Of f r s) old.done.items (remove old.aloft.items index) next' es new.world new.counts.starts.flying still'
     less keeps =
@@ -98,23 +86,15 @@ module _ (tells : Bool) (child : Answers) (first old : UnitCrew) (at now new : M
             places tickets numbers others_now record { fault = ran.bad; lines = lines } ran.directives keeps (outcome_by (files_in u.out new.world.files) ran) outcome
             (fault_of ran.bad (files_in u.out new.world.files) ran.directives ran.messages) noted_is lines_are
 
-        after_began : AllBeganFor (Of f r s) es old.reasons.items at.world new.world → AllBeganFor (Of f r s) (Gave a.unit record { fault = ran.bad; lines = lines } ∷ es) old.reasons.items at.world new.world
-        after_began =
-            answered.began_after (Of f r s) old.done.items old.aloft.items old.store.next next' es now.world new.world now.counts.starts.flying new.counts.starts.flying still still' h index a at_index u there
-            places tickets numbers others_now record { fault = ran.bad; lines = lines } ran.directives keeps (outcome_by (files_in u.out new.world.files) ran) outcome
-            (fault_of ran.bad (files_in u.out new.world.files) ran.directives ran.messages) noted_is lines_are old.reasons.items at.world new.world
-
   -- a fault came in its place
   pub failed_happened : (aloft' : List Aloft) → aloft' ≡ remove old.aloft.items index
       → ((footing : Footing) (read : Reading) (setup : Setup) (sources : World) (states : List (State BadUnit)) (done : List (Option (List Directive))) → IsReading read → IsTrue tells
       → CanAnswer (basis footing read child setup old.project sources) states done a.unit u a.begun old.store.next now.world now.counts.starts.flying still → Keeps (basis footing read child setup old.project sources) states done next' new.world)
-      → IsTrue tells → FromFirst child first at old (λ b. Happened b old.done.items aloft' next' es new.world new.counts.starts.flying still' × AllBeganFor b es old.reasons.items at.world new.world)
+      → IsTrue tells → FromFirst child first at old (λ b. Happened b old.done.items aloft' next' es new.world new.counts.starts.flying still')
   failed_happened aloft' same keeps t f r s reading k =
-      let (h, began) = story.happened t f r s reading k in (
-        subst (λ (items : List Aloft). Happened (Of f r s) old.done.items items next' es new.world new.counts.starts.flying still') (sym same)
-            (less t f r s reading h (keeps f r old.setup s (states_in old.project es) old.done.items reading t (could t f r s reading h))),
-        beside t f r s reading h began,
-      )
+      let h = story.happened t f r s reading k in
+      subst (λ (items : List Aloft). Happened (Of f r s) old.done.items items next' es new.world new.counts.starts.flying still') (sym same)
+      (less t f r s reading h (keeps f r old.setup s (states_in old.project es) old.done.items reading t (could t f r s reading h)))
 
   module _ (ran : Ran)
       (outcome : (footing : Footing) (read : Reading) (setup : Setup) (sources : World) (states : List (State BadUnit)) (done : List (Option (List Directive))) → IsReading read → IsTrue tells
@@ -125,26 +105,22 @@ module _ (tells : Bool) (child : Answers) (first old : UnitCrew) (at now new : M
       → (lines : List ℕ) → Keeps (basis footing read child setup old.project sources) (slice_set states a.unit (Answered record { fault = ran.bad; lines = lines })) (slice_set done a.unit ran.directives) next' new.world)
       (noted : directives_in (outcome_by finite.empty ran) ≡ ran.directives) where
     -- memory is refused for its lines
-    pub untold_happened : (aloft' : List Aloft) → aloft' ≡ remove old.aloft.items index → IsTrue tells → FromFirst child first at old (λ b. Happened b old.done.items aloft' next' es new.world new.counts.starts.flying still' × AllBeganFor b es old.reasons.items at.world new.world)
+    pub untold_happened : (aloft' : List Aloft) → aloft' ≡ remove old.aloft.items index → IsTrue tells → FromFirst child first at old (λ b. Happened b old.done.items aloft' next' es new.world new.counts.starts.flying still')
     untold_happened aloft' same t f r s reading k =
-        let (h, began) = story.happened t f r s reading k in
-        let can = could t f r s reading h in (
-          subst (λ (items : List Aloft). Happened (Of f r s) old.done.items items next' es new.world new.counts.starts.flying still') (sym same)
-              (untold t f r s reading h ran [] (outcome f r old.setup s (states_in old.project es) old.done.items reading t can) (keeps f r old.setup s (states_in old.project es) old.done.items reading t can []) noted),
-          beside t f r s reading h began,
-        )
+        let h = story.happened t f r s reading k in
+        let can = could t f r s reading h in
+        subst (λ (items : List Aloft). Happened (Of f r s) old.done.items items next' es new.world new.counts.starts.flying still') (sym same)
+        (untold t f r s reading h ran [] (outcome f r old.setup s (states_in old.project es) old.done.items reading t can) (keeps f r old.setup s (states_in old.project es) old.done.items reading t can []) noted)
 
     -- it has answered
     pub answered_happened : (lines : List ℕ) (aloft' : List Aloft) (done' : List (Option (List Directive))) → aloft' ≡ remove old.aloft.items index → done' ≡ slice_set old.done.items a.unit ran.directives
         → ran.started ≡ is_some (child_of a.begun) → lines ≡ unit_lines old.project u ran.started ran.messages → IsTrue tells
-        → FromFirst child first at old (λ b. Happened b done' aloft' next' (Gave a.unit record { fault = ran.bad; lines = lines } ∷ es) new.world new.counts.starts.flying still' × AllBeganFor b (Gave a.unit record { fault = ran.bad; lines = lines } ∷ es) old.reasons.items at.world new.world)
+        → FromFirst child first at old (λ b. Happened b done' aloft' next' (Gave a.unit record { fault = ran.bad; lines = lines } ∷ es) new.world new.counts.starts.flying still')
     answered_happened lines aloft' done' same set started told t f r s reading k =
-        let (h, began) = story.happened t f r s reading k in
+        let h = story.happened t f r s reading k in
         let can = could t f r s reading h in
         let is = outcome f r old.setup s (states_in old.project es) old.done.items reading t can in
-        let kept = keeps f r old.setup s (states_in old.project es) old.done.items reading t can lines in (
-          subst (λ ds. Happened (Of f r s) ds aloft' next' (Gave a.unit record { fault = ran.bad; lines = lines } ∷ es) new.world new.counts.starts.flying still') (sym set)
-              (subst (λ (items : List Aloft). Happened (Of f r s) (slice_set old.done.items a.unit ran.directives) items next' (Gave a.unit record { fault = ran.bad; lines = lines } ∷ es) new.world new.counts.starts.flying still') (sym same)
-              (after t f r s reading h ran lines is kept noted started told)),
-          after_began t f r s reading h ran lines is kept noted started told (beside t f r s reading h began),
-        )
+        let kept = keeps f r old.setup s (states_in old.project es) old.done.items reading t can lines in
+        subst (λ ds. Happened (Of f r s) ds aloft' next' (Gave a.unit record { fault = ran.bad; lines = lines } ∷ es) new.world new.counts.starts.flying still') (sym set)
+        (subst (λ (items : List Aloft). Happened (Of f r s) (slice_set old.done.items a.unit ran.directives) items next' (Gave a.unit record { fault = ran.bad; lines = lines } ∷ es) new.world new.counts.starts.flying still') (sym same)
+        (after t f r s reading h ran lines is kept noted started told))

@@ -1,37 +1,29 @@
 -- The story of a crew, where a unit begins.
-use Rattle.std.proofs.Common.{◌≡◌, ◌++◌, Bool, true, false, List, [], ◌∷◌, ℕ, Option, Some, None, IsTrue, refl, sym, subst, slice_set, is_some, ◌<◌, length}
+use Rattle.std.proofs.Common.{◌≡◌, ◌++◌, Bool, false, List, [], ◌∷◌, ℕ, Option, Some, None, IsTrue, refl, sym, subst, slice_set, is_some}
 use Rattle.std.specs.Prelude.{MatchOption}
-use Rattle.pb_answer.specs.declared.fault.BuildFault.{BuildFault}
-use Rattle.pb_command.specs.Command.{command_of}
 use Rattle.pb_directive.specs.declared.directive.Directive.{Directive}
 use Rattle.pb_flight.specs.declared.flight.State.{State}
 use Rattle.pb_flight.specs.declared.flight.State.TheVariants.{Begun}
 use Rattle.pb_flight.specs.Events.{Event, Began, MayBegin}
-use Rattle.pb_place.specs.World.{World, Answers, ChangesOnly}
+use Rattle.pb_place.specs.World.{World, Answers}
 use Rattle.pb_project.specs.Targets.{unit_at}
 use Rattle.pb_answer.specs.declared.bad_unit.BadUnit.{BadUnit}
 use Rattle.pb_project.specs.declared.project.Project.{Project}
 use Rattle.pb_record.specs.Parts.{IsReading}
-use Rattle.pb_run.specs.Causes.{is_of_start}
 use Rattle.pb_run.specs.Halves.{Footing, Basis, basis, Keeps, IsBegun, CanBegin, BeginsApart, child_of}
-use Rattle.pb_run.specs.Standing.{IsInOrder, records_folder}
+use Rattle.pb_run.specs.Standing.{IsInOrder}
 use Rattle.pb_run.specs.declared.begun.Begun.{Begun as unit_begun}
 use Rattle.pb_run.specs.declared.begun.Launched.{Launched}
-use Rattle.pb_run.proofs.Halving.{is_command, keeps_same}
-use Rattle.pb_soundness.specs.Apart.{is_of}
+use Rattle.pb_run.proofs.Halving.{keeps_same}
 use Rattle.pb_soundness.specs.Numbers.{after}
 use Rattle.pb_soundness.specs.Records.{Reading}
-use Rattle.pb_store.specs.Differences.{FirstDifference}
 use Rattle.pb_turns.specs.Crew.{needs_of}
 use Rattle.pb_turns.specs.Moments.{Moment}
-use Rattle.pb_turns.specs.Story.{states_in, Goes, Happened, AllBeganFor, FromFirst, IsQuiet, LacksNoNumber, NumbersGiven, Spends, StartedFor, Story}
+use Rattle.pb_turns.specs.Story.{states_in, Goes, Happened, FromFirst, Story}
 use Rattle.pb_turns.specs.declared.crew.Aloft.{Aloft}
 use Rattle.pb_turns.specs.declared.crew.UnitCrew.{UnitCrew}
 use Rattle.pb_turns.proofs.Happening as happening
-use Rattle.pb_turns.proofs.Staying.{began_beside, start_told}
 use Rattle.pb_unit.specs.declared.plan.Planned.{Planned}
-use Rattle.pb_turns.specs.Rows.{Reasons}
-use Rattle.pb_store.specs.declared.difference.Difference.{Difference}
 
 -- the same lists
 pub goes_lists : (project : Project) (first now : Moment) (started started' : List ℕ) (aloft aloft' : List Aloft) (es : List (Event BadUnit)) (given : ℕ) → started' ≡ started → aloft' ≡ aloft → Goes project first now started aloft es given → Goes project first now started' aloft' es given
@@ -48,93 +40,49 @@ module _ (tells : Bool) (child : Answers) (first old : UnitCrew) (at now new : M
   Of footing read sources = basis footing read child old.setup old.project sources
 
   -- nothing has changed
-  pub refused_happened : (aloft' : List Aloft) → aloft' ≡ old.aloft.items → IsTrue tells
-      → FromFirst child first at old (λ b. Happened b old.done.items aloft' old.store.next (Began unit false ∷ es) now.world now.counts.starts.flying still × AllBeganFor b es old.reasons.items at.world now.world)
+  pub refused_happened : (aloft' : List Aloft) → aloft' ≡ old.aloft.items → IsTrue tells → FromFirst child first at old (λ b. Happened b old.done.items aloft' old.store.next (Began unit false ∷ es) now.world now.counts.starts.flying still)
   refused_happened aloft' same t f r s reading k =
-      let (h, began) = story.happened t f r s reading k in
-      let could = happening.can (Of f r s) order at.world old.done.items old.aloft.items old.store.next old.store.next es now.world now.world now.counts.starts.flying now.counts.starts.flying still still old.reasons.items h began (story.changes t).only unit u there may in (
-        subst (λ (items : List Aloft). Happened (Of f r s) old.done.items items old.store.next (Began unit false ∷ es) now.world now.counts.starts.flying still) (sym same)
-            (happening.happened_begun (Of f r s) order at.world old.done.items old.aloft.items old.store.next old.store.next es now.world now.world now.counts.starts.flying now.counts.starts.flying still still old.reasons.items h began (story.changes t).only unit u there may false
-            (keeps_same (Of f r s) order unit u there (states_in old.project es) old.done.items old.store.next now.world could now.world refl) (λ other its apart. apart.begun_so)),
-        began,
-      )
+      let h = story.happened t f r s reading k in
+      let could = happening.can (Of f r s) order old.done.items old.aloft.items old.store.next old.store.next es now.world now.world now.counts.starts.flying now.counts.starts.flying still still h unit u there may in
+      subst (λ (items : List Aloft). Happened (Of f r s) old.done.items items old.store.next (Began unit false ∷ es) now.world now.counts.starts.flying still) (sym same)
+      (happening.happened_begun (Of f r s) order old.done.items old.aloft.items old.store.next old.store.next es now.world now.world now.counts.starts.flying now.counts.starts.flying still still h unit u there may false
+      (keeps_same (Of f r s) order unit u there (states_in old.project es) old.done.items old.store.next now.world could now.world refl) (λ other its apart. apart.begun_so))
 
   -- by what is said of the call
   module _ (next' : Option ℕ) (done : List (Option (List Directive))) (same_done : done ≡ old.done.items)
       (keeps : (footing : Footing) (read : Reading) (sources : World) (states : List (State BadUnit)) → IsReading read → IsTrue tells → CanBegin (Of footing read sources) states done unit u old.store.next now.world → Keeps (Of footing read sources) (slice_set states unit Begun) done next' new.world)
       (others : (footing : Footing) (read : Reading) (sources : World) (states : List (State BadUnit)) (other : ℕ) (its : unit_begun) → IsReading read → IsTrue tells → CanBegin (Of footing read sources) states done unit u old.store.next now.world
-      → BeginsApart (Of footing read sources) states unit None other its old.store.next now.world now.counts.starts.flying still → IsBegun (Of footing read sources) other its next' new.world new.counts.starts.flying still')
-      (only : IsTrue tells → ChangesOnly (is_of (records_folder old.project) u.key) now.world new.world) where
-    module _ (t : IsTrue tells) (f : Footing) (r : Reading) (s : World) (reading : IsReading r)
-        (h : Happened (Of f r s) old.done.items old.aloft.items old.store.next es now.world now.counts.starts.flying still) (began : AllBeganFor (Of f r s) es old.reasons.items at.world now.world) where
+      → BeginsApart (Of footing read sources) states unit None other its old.store.next now.world now.counts.starts.flying still → IsBegun (Of footing read sources) other its next' new.world new.counts.starts.flying still') where
+    module _ (t : IsTrue tells) (f : Footing) (r : Reading) (s : World) (reading : IsReading r) (h : Happened (Of f r s) old.done.items old.aloft.items old.store.next es now.world now.counts.starts.flying still) where
       could : CanBegin (Of f r s) (states_in old.project es) done unit u old.store.next now.world
       could = subst (λ d. CanBegin (Of f r s) (states_in old.project es) d unit u old.store.next now.world) (sym same_done)
-          (happening.can (Of f r s) order at.world old.done.items old.aloft.items old.store.next next' es now.world new.world now.counts.starts.flying new.counts.starts.flying still still' old.reasons.items h began (story.changes t).only unit u there may)
+          (happening.can (Of f r s) order old.done.items old.aloft.items old.store.next next' es now.world new.world now.counts.starts.flying new.counts.starts.flying still still' h unit u there may)
 
       keeps_now : Keeps (Of f r s) (slice_set (states_in old.project es) unit Begun) old.done.items next' new.world
       keeps_now = subst (λ d. Keeps (Of f r s) (slice_set (states_in old.project es) unit Begun) d next' new.world) same_done (keeps f r s (states_in old.project es) reading t could)
 
-      -- the units that had begun
-      beside : AllBeganFor (Of f r s) es old.reasons.items at.world new.world
-      beside = began_beside (Of f r s) order es old.reasons.items at.world now.world new.world unit u there may.untouched (only t) began
-
       failed : (spawned : Bool) → Happened (Of f r s) old.done.items old.aloft.items next' (Began unit spawned ∷ es) new.world new.counts.starts.flying still'
       failed spawned =
-          happening.happened_begun (Of f r s) order at.world old.done.items old.aloft.items old.store.next next' es now.world new.world now.counts.starts.flying new.counts.starts.flying still still' old.reasons.items h began (story.changes t).only unit u there may spawned
+          happening.happened_begun (Of f r s) order old.done.items old.aloft.items old.store.next next' es now.world new.world now.counts.starts.flying new.counts.starts.flying still still' h unit u there may spawned
           keeps_now (λ other its apart. others f r s (states_in old.project es) other its reading t could apart)
 
       module _ (begun : unit_begun)
-          (begins : (footing : Footing) (read : Reading) (sources : World) (states : List (State BadUnit)) → IsReading read → IsTrue tells → CanBegin (Of footing read sources) states done unit u old.store.next now.world → IsBegun (Of footing read sources) unit begun next' new.world new.counts.starts.flying still')
-          (difference : Option Difference) (differs : (read : Reading) → IsReading read → IsTrue tells → FirstDifference read (records_folder old.project) u.key begun.command now.world difference)
-          (spawned : is_some (child_of begun) ≡ is_some difference) (within : unit < length old.reasons.items)
-          (quiet : IsQuiet (Of f r s) es at.world now.world) (same : child_of begun ≡ None → new.world ≡ now.world) where
+          (begins : (footing : Footing) (read : Reading) (sources : World) (states : List (State BadUnit)) → IsReading read → IsTrue tells → CanBegin (Of footing read sources) states done unit u old.store.next now.world → IsBegun (Of footing read sources) unit begun next' new.world new.counts.starts.flying still') where
         well : Happened (Of f r s) old.done.items (old.aloft.items ++ record { unit = unit; begun = begun } ∷ []) next' (Began unit (is_some (child_of begun)) ∷ es) new.world new.counts.starts.flying still'
         well =
-            happening.happened_more (Of f r s) order at.world old.done.items old.aloft.items old.store.next next' es now.world new.world now.counts.starts.flying new.counts.starts.flying still still' old.reasons.items h began (story.changes t).only unit u there may (is_some (child_of begun))
+            happening.happened_more (Of f r s) order old.done.items old.aloft.items old.store.next next' es now.world new.world now.counts.starts.flying new.counts.starts.flying still still' h unit u there may (is_some (child_of begun))
             keeps_now (λ other its apart. others f r s (states_in old.project es) other its reading t could apart)
             record { unit = unit; begun = begun } refl refl (begins f r s (states_in old.project es) reading t could)
-
-        well_began : AllBeganFor (Of f r s) (Began unit (is_some (child_of begun)) ∷ es) (slice_set old.reasons.items unit (Some difference)) at.world new.world
-        well_began =
-            happening.began_more (Of f r s) order at.world old.done.items old.aloft.items old.store.next next' es now.world new.world now.counts.starts.flying new.counts.starts.flying still still' old.reasons.items h began (story.changes t).only unit u there may (is_some (child_of begun))
-            keeps_now (λ other its apart. others f r s (states_in old.project es) other its reading t could apart)
-            record { unit = unit; begun = begun } refl refl (begins f r s (states_in old.project es) reading t could)
-            difference (differs r reading t) spawned within quiet (only t) same beside
 
     -- a fault came
-    pub failed_happened : (spawned : Bool) (aloft' : List Aloft) → aloft' ≡ old.aloft.items → IsTrue tells
-        → FromFirst child first at old (λ b. Happened b old.done.items aloft' next' (Began unit spawned ∷ es) new.world new.counts.starts.flying still' × AllBeganFor b es old.reasons.items at.world new.world)
+    pub failed_happened : (spawned : Bool) (aloft' : List Aloft) → aloft' ≡ old.aloft.items → IsTrue tells → FromFirst child first at old (λ b. Happened b old.done.items aloft' next' (Began unit spawned ∷ es) new.world new.counts.starts.flying still')
     failed_happened spawned aloft' same t f r s reading k =
-        let (h, began) = story.happened t f r s reading k in
-        (subst (λ (items : List Aloft). Happened (Of f r s) old.done.items items next' (Began unit spawned ∷ es) new.world new.counts.starts.flying still') (sym same) (failed t f r s reading h began spawned), beside t f r s reading h began)
-
-    -- for its cause
-    pub failed_caused : (spawned : Bool) (fault : BuildFault) → ((IsNumbered : ℕ → Type 0) (at_first : Option ℕ) → NumbersGiven IsNumbered es at_first old.store.next → Spends IsNumbered fault at_first (Began unit spawned ∷ es)) → unit < length old.reasons.items
-        → ((read : Reading) → IsReading read → IsTrue tells → is_of_start fault ≡ true → (difference : Difference) × FirstDifference read (records_folder old.project) u.key (command_of old.setup old.project u done) now.world (Some difference)) → IsTrue tells
-        → FromFirst child first at old (λ b. Spends (LacksNoNumber b at.world) fault first.store.next (Began unit spawned ∷ es) × StartedFor b fault es (Began unit spawned ∷ es) at.world new.world)
-    failed_caused spawned fault spends within cause t f r s reading k =
-        let (h, began) = story.happened t f r s reading k in (
-          spends (LacksNoNumber (Of f r s) at.world) first.store.next (story.taken t f r s reading k),
-          start_told (Of f r s) fault es at.world new.world unit spawned (λ so.
-              let (difference, named) = cause r reading t so in (
-                slice_set old.reasons.items unit (Some (Some difference)),
-                happening.could_not (Of f r s) order at.world old.done.items old.aloft.items old.store.next next' es now.world new.world now.counts.starts.flying new.counts.starts.flying still still' old.reasons.items h began (story.changes t).only unit u there may
-                    (command_of old.setup old.project u done) difference named
-                    (is_command (Of f r s) order unit u there (states_in old.project es) done old.store.next now.world (could t f r s reading h began) (command_of old.setup old.project u done) refl)
-                    within (story.quiet t f r s reading k) (only t),
-              )),
-        )
+        subst (λ (items : List Aloft). Happened (Of f r s) old.done.items items next' (Began unit spawned ∷ es) new.world new.counts.starts.flying still') (sym same) (failed t f r s reading (story.happened t f r s reading k) spawned)
 
     -- it has begun
-    pub begun_happened : (begun : unit_begun) (aloft' : List Aloft) (difference : Option Difference) (reasons' : Reasons) → aloft' ≡ old.aloft.items ++ record { unit = unit; begun = begun } ∷ []
+    pub begun_happened : (begun : unit_begun) (aloft' : List Aloft) → aloft' ≡ old.aloft.items ++ record { unit = unit; begun = begun } ∷ []
         → ((footing : Footing) (read : Reading) (sources : World) (states : List (State BadUnit)) → IsReading read → IsTrue tells → CanBegin (Of footing read sources) states done unit u old.store.next now.world → IsBegun (Of footing read sources) unit begun next' new.world new.counts.starts.flying still')
-        → ((read : Reading) → IsReading read → IsTrue tells → FirstDifference read (records_folder old.project) u.key begun.command now.world difference) → is_some (child_of begun) ≡ is_some difference → unit < length old.reasons.items
-        → (IsTrue tells → child_of begun ≡ None → new.world ≡ now.world) → reasons' ≡ slice_set old.reasons.items unit (Some difference) → IsTrue tells
-        → FromFirst child first at old (λ b. Happened b old.done.items aloft' next' (Began unit (is_some (child_of begun)) ∷ es) new.world new.counts.starts.flying still' × AllBeganFor b (Began unit (is_some (child_of begun)) ∷ es) reasons' at.world new.world)
-    begun_happened begun aloft' difference reasons' more begins differs spawned within same noted t f r s reading k =
-        let (h, began) = story.happened t f r s reading k in
-        let quiet = story.quiet t f r s reading k in (
-          subst (λ (items : List Aloft). Happened (Of f r s) old.done.items items next' (Began unit (is_some (child_of begun)) ∷ es) new.world new.counts.starts.flying still') (sym more) (well t f r s reading h began begun begins difference differs spawned within quiet (same t)),
-          subst (λ (items : Reasons). AllBeganFor (Of f r s) (Began unit (is_some (child_of begun)) ∷ es) items at.world new.world) (sym noted)
-              (well_began t f r s reading h began begun begins difference differs spawned within quiet (same t)),
-        )
+        → IsTrue tells → FromFirst child first at old (λ b. Happened b old.done.items aloft' next' (Began unit (is_some (child_of begun)) ∷ es) new.world new.counts.starts.flying still')
+    begun_happened begun aloft' more begins t f r s reading k =
+        subst (λ (items : List Aloft). Happened (Of f r s) old.done.items items next' (Began unit (is_some (child_of begun)) ∷ es) new.world new.counts.starts.flying still') (sym more)
+        (well t f r s reading (story.happened t f r s reading k) begun begins)

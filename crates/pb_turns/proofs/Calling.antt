@@ -71,7 +71,7 @@ module _ (tells : Bool) (child : Answers) (first old : UnitCrew) (at now new : M
 
   commanded : (c : Command) → c ≡ command_of old.setup old.project u done → ByCommand c
   commanded c is t f r s reading k =
-      let (h, began) = story.happened t f r s reading k in
+      let h = story.happened t f r s reading k in
       is_command (Of f r s) order unit u there (states_in old.project es) old.done.items old.store.next now.world
       (can_begin (Of f r s) order (states_in old.project es) old.done.items old.store.next now.world h.keeps unit u there may) c (is ∙ ap (command_of old.setup old.project u) same_done)
 
@@ -193,7 +193,7 @@ module _ {P : Type 0} (world : P → World) (counts : P → Counts) (tells : Boo
       → ((names : Ended → List Call) (answer : Result Ended StartFault) (k k' : Counts) → CallsBehind names answer told k k' → CallsBehind names answer result k k')
       → Lands told → IsTrue tells → FromFirst child first at old (λ b. AnswersCalling b a.unit (is_started es a.unit) result now.world now.counts new.world new.counts)
   answers result told so same_calls lands t f r s reading k =
-      let (h, began) = story.happened t f r s reading k in
+      let h = story.happened t f r s reading k in
       let so_begun = all_get (FliesSo (On f r s) es old.store.next now.world now.counts.starts.flying still) old.aloft.items index a h.begun at_index in
       let (asks, waits) = begun_as (On f r s) order a.unit u there a.begun old.store.next now.world now.counts.starts.flying still so_begun.begun_so in
       let (left, answer, ends, only, behind) = lands t in

@@ -8,6 +8,7 @@ use Rattle.std.specs.List.{AllByRecursion}
 use Rattle.pb_answer.specs.declared.fault.BuildFault.{BuildFault}
 use Rattle.pb_answer.specs.declared.fault.BuildFault.TheVariants.{OutOfMemory}
 use Rattle.pb_answer.specs.declared.summary.Summary.{Summary}
+use Rattle.pb_command.specs.Command.{command_of}
 use Rattle.pb_directive.specs.declared.directive.Directive.{Directive}
 use Rattle.pb_flight.specs.declared.flight.Answer.{Answer}
 use Rattle.pb_flight.specs.declared.flight.State.{State}
@@ -20,8 +21,9 @@ use Rattle.pb_flight.specs.Laws.{HasBegun, IsInPlanOrder}
 use Rattle.pb_flight.specs.Table.{Table, is_untouched, is_good_at, due, count_due, is_finished, first_bad}
 use Rattle.pb_flight.proofs.Lists.{injective, clash, length_set}
 use Rattle.pb_flight.proofs.Stepping.{steps_are_lawful}
-use Rattle.pb_place.specs.World.{World, Answers}
+use Rattle.pb_place.specs.World.{World, Answers, from_nothing}
 use Rattle.pb_place.specs.declared.child_in_flight.ChildInFlight.{ChildInFlight}
+use Rattle.pb_place.specs.declared.command.Command.{Command}
 use Rattle.pb_project.specs.Targets.{unit_at}
 use Rattle.pb_answer.specs.declared.bad_unit.BadUnit.{BadUnit}
 use Rattle.pb_project.specs.declared.project.Project.{Project}
@@ -39,15 +41,16 @@ use Rattle.pb_turns.specs.Ends.{rows_in, nothing_said, Stands, StandsWhole, Stan
 use Rattle.pb_turns.specs.Laws.{SaysFirstRows}
 use Rattle.pb_turns.specs.Moments.{Moment, Heard}
 use Rattle.pb_turns.specs.Rows.{summary_of, started_keys, is_started, messages_in, bad_of, directives_told, Reasons, key_told, said_told, bad_told, differences_of, kept_of, is_success, noted_of, count_told, noted_told}
-use Rattle.pb_turns.specs.Story.{states_in, untouched, AllAnswerAgain, Stops, Changes, Happened, AllBeganFor, CameAfter, LacksNoNumber, NamesUnit, NumbersGiven, StartedFor, HasNoRecord, KeepsNoneOfBad, KeepsNoneInFlight, HasGiven, Story, StoryEnds, OnlyOf, NotesStarted}
+use Rattle.pb_turns.specs.Story.{states_in, untouched, AllAnswerAgain, Stops, Changes, Happened, AllBegan, AllBeganFor, AllBeganOnAny, CameAfter, HadDiffered, LacksNoNumber, NamesUnit, NumbersGiven, StartedOnAny, HasNoRecord, KeepsNoneOfBad, KeepsNoneInFlight, HasGiven, Story, StoryEnds, OnlyOf, NotesStarted}
 use Rattle.pb_turns.specs.Summing.{summary_by, keys_at, differences_at}
 use Rattle.pb_turns.specs.declared.crew.Aloft.{Aloft}
 use Rattle.pb_turns.specs.declared.crew.UnitCrew.{UnitCrew}
 use Rattle.pb_turns.proofs.Again.{replays_first}
 use Rattle.pb_turns.proofs.Changing.{changes_first}
 use Rattle.pb_turns.proofs.Counting.{appends_none, stops_refused}
+use Rattle.pb_turns.proofs.Differing.{began_from_nothing, started_from_nothing}
 use Rattle.pb_turns.proofs.States.{due_all}
-use Rattle.pb_turns.proofs.Staying.{no_start}
+use Rattle.pb_turns.proofs.Staying.{no_start, or_before}
 use Rattle.pb_turns.proofs.Unbegun.{none_noted}
 use Rattle.pb_turns.proofs.Unkept.{none_bad, none_in_flight}
 use Rattle.pb_turns.proofs.Telling.{AllTold, Ended, all_good_at, due_told, first_told, ended_of, success_of}
@@ -104,18 +107,16 @@ story_first tells child c at still aloft started holds = record {
   numbers = refl;
   taken = λ t f r s reading keeps. refl;
   changes = λ t. changes_first c.project at.world c.aloft.items at.counts.starts.flying aloft;
-  happened = λ t f r s reading keeps. (
-    record {
-      keeps = keeps;
-      begun = subst (AllByRecursion _) (sym aloft) tt;
-      gave = λ place answer is. absurd (no_answer answer (untouched_at (needs_of c.project) place (Answered answer) is));
-    },
-    λ place has. absurd (none_begun c.project place has),
-  );
+  happened = λ t f r s reading keeps. record {
+    keeps = keeps;
+    begun = subst (AllByRecursion _) (sym aloft) tt;
+    gave = λ place answer is. absurd (no_answer answer (untouched_at (needs_of c.project) place (Answered answer) is));
+  };
   unrecorded = λ t. none_in_flight c.project at.world;
   again = λ t. replays_first c.setup c.project c.done.items c.aloft.items at.world aloft;
+  began = λ t read reading place has. absurd (none_begun c.project place has);
+  quiet = λ t read reading none numbered. refl;
   held = holds;
-  quiet = λ t f r s reading keeps none numbered. refl;
   calls = λ t f r s reading keeps. (refl, refl);
   unnoted = λ place at. refl;
   noted = λ place s at ne. absurd (ne (untouched_at (needs_of c.project) place s at));
@@ -152,7 +153,7 @@ module _ (b : Basis) (done : List (Option (List Directive))) (aloft : List Aloft
   }
 
   module _ (finished : is_finished (states_in b.project es) ≡ true) (long : length (states_in b.project es) ≡ length b.project.plan.planned) (reasons : Reasons) (first : World) (began : AllBeganFor b es reasons first w) (at_first : Option ℕ)
-      (numbers : (after : Option ℕ) × NumbersGiven (LacksNoNumber b first) es at_first after) where
+      (numbers : (after : Option ℕ) × NumbersGiven (LacksNoNumber b.project b.read first) es at_first after) where
     ended : Ended b.project es b.project.plan.planned (outcomes_in b) done (states_in b.project es)
     ended = ended_of b.project es 0 b.project.plan.planned (outcomes_in b) done (states_in b.project es) long finished all_told
 
@@ -211,10 +212,11 @@ module _ {S : Type 0} (tells : Bool) (child : Answers) (Turns : S → List ℕ �
     (unrecorded : (fw : World) (events : List (Event BadUnit)) (place : ℕ) (u : Planned) → IsTrue tells → Changes c.project fw c.aloft.items events mid.world mid.counts.starts.flying → unit_at c.project place ≡ Some u → HasNoRecord c.project u mid.world → HasNoRecord c.project u new.world)
     (happened : (b : Basis) (events : List (Event BadUnit)) → IsTrue tells → b.project ≡ c.project → Happened b c.done.items c.aloft.items c.store.next events mid.world mid.counts.starts.flying still
     → Happened b d.done.items d.aloft.items d.store.next events new.world new.counts.starts.flying still')
-    (begun : (b : Basis) (fault : BuildFault) (events before : List (Event BadUnit)) (reasons : Reasons) (fw : World) → IsTrue tells → b.project ≡ c.project → IsLawful (needs_of b.project) events → CameAfter b.project fault before events
-    → Happened b c.done.items c.aloft.items c.store.next events mid.world mid.counts.starts.flying still → AllBeganFor b before reasons fw mid.world → AllBeganFor b before reasons fw new.world)
-    (started : (b : Basis) (fault : BuildFault) (events before : List (Event BadUnit)) (fw : World) → IsTrue tells → b.project ≡ c.project
-    → Happened b c.done.items c.aloft.items c.store.next events mid.world mid.counts.starts.flying still → StartedFor b fault before events fw mid.world → StartedFor b fault before events fw new.world) where
+    (begun : (read : Reading) (sources : World) (command : ℕ → Planned → Command) (fault : BuildFault) (events before : List (Event BadUnit)) (reasons : Reasons) (fw : World) → IsTrue tells → IsLawful (needs_of c.project) events → CameAfter c.project fault before events
+    → Changes c.project fw c.aloft.items events mid.world mid.counts.starts.flying → AllBegan c.project read sources command before reasons fw mid.world → AllBegan c.project read sources command before reasons fw new.world)
+    (started : (read : Reading) (sources : World) (command : ℕ → Planned → Command) (fault : BuildFault) (events before : List (Event BadUnit)) (fw : World) → IsTrue tells
+    → Changes c.project fw c.aloft.items events mid.world mid.counts.starts.flying → HadDiffered c.project read sources command fault before events fw mid.world → HadDiffered c.project read sources command fault before events fw new.world)
+    (order : IsInOrder first.project) where
   -- what a basis keeps at first
   abbrev Since : (Basis → Type 0) → Setup → Project → Type 0
   Since Stand setup project = IsTrue tells → (f : Footing) (r : Reading) (sources : World) → IsReading r → Keeps (basis f r child setup project sources) (untouched project) first.done.items first.store.next at.world → Stand (basis f r child setup project sources)
@@ -226,6 +228,26 @@ module _ {S : Type 0} (tells : Bool) (child : Answers) (Turns : S → List ℕ �
 
   lawful : c.project ≡ first.project → Flies Turns (needs_of first.project) Anyhow Anything from es last → IsLawful (needs_of c.project) es
   lawful project flies = subst (λ (p : Project). IsLawful (needs_of p) es) (sym project) (steps_are_lawful Turns (needs_of first.project) Anyhow Anything from es last flies)
+
+  -- why the units had begun, whatever the records hold
+  abbrev commands : ℕ → Planned → Command
+  commands place u = command_of c.setup c.project u c.done.items
+
+  began_new : (fault : BuildFault) (before : List (Event BadUnit)) (reasons : Reasons) → reasons ≡ c.reasons.items → IsLawful (needs_of c.project) es → CameAfter c.project fault before es → (IsTrue tells → Changes c.project at.world c.aloft.items es mid.world mid.counts.starts.flying)
+      → (IsTrue tells → AllBeganOnAny c.setup c.project c.done.items before c.reasons.items at.world mid.world) → IsTrue tells → AllBeganOnAny c.setup c.project c.done.items before reasons at.world new.world
+  began_new fault before reasons is flies came changed began t read reading =
+      subst (λ (items : Reasons). AllBegan c.project read (from_nothing c.project.workspace.target at.world) commands before items at.world new.world) (sym is)
+      (begun read (from_nothing c.project.workspace.target at.world) commands fault es before c.reasons.items at.world t flies came (changed t) (began t read reading))
+
+  started_new : (fault : BuildFault) (before : List (Event BadUnit)) → (IsTrue tells → Changes c.project at.world c.aloft.items es mid.world mid.counts.starts.flying)
+      → (IsTrue tells → StartedOnAny c.setup c.project c.done.items fault before es at.world mid.world) → IsTrue tells → StartedOnAny c.setup c.project c.done.items fault before es at.world new.world
+  started_new fault before changed had t read reading = started read (from_nothing c.project.workspace.target at.world) commands fault es before at.world t (changed t) (had t read reading)
+
+  on_first : (B : Setup → Project → Type 0) → c.setup ≡ first.setup → c.project ≡ first.project → B c.setup c.project → B first.setup first.project
+  on_first B setup project x = subst (λ (s : Setup). B s first.project) setup (subst (λ (p : Project). B c.setup p) project x)
+
+  ordered : c.project ≡ first.project → IsInOrder c.project
+  ordered project = subst IsInOrder (sym project) order
 
   pub ends_cut : new.most ≡ mid.most → (fault : BuildFault) (asked : Option ℕ) (back : S) → Flies Turns (needs_of first.project) Anyhow Anything from es last → HandsBack Turns (needs_of first.project) es last asked back → StoryEnds tells child fault asked first at c mid still es
       → EndsCut tells child Turns first.setup first.project first.store.next from back fault at new
@@ -248,16 +270,20 @@ module _ {S : Type 0} (tells : Bool) (child : Answers) (Turns : S → List ℕ �
     only = λ t. subst (λ (p : Project). OnlyOf p es at.world new.world) ends.project (changes at.world es t (ends.changes t)).only;
     unkept = λ t. subst (λ (p : Project). KeepsNoneOfBad p es new.world) ends.project (changes at.world es t (ends.changes t)).unkept;
     dropped = λ t. subst (λ (p : Project). KeepsNoneInFlight p ends.before asked new.world) ends.project (λ place u there state apart started. unrecorded at.world es place u t (ends.changes t) there (ends.unrecorded t place u there state apart started));
-    again = λ t. (c.done.items, subst (λ (s : Setup). AllAnswerAgain s first.project es c.done.items at.world) ends.setup (subst (λ (p : Project). AllAnswerAgain c.setup p es c.done.items at.world) ends.project (ends.again t)));
+    reasons = c.reasons.items;
+    done = c.done.items;
+    began = λ t. on_first (λ s p. AllBeganOnAny s p c.done.items ends.before c.reasons.items at.world new.world) ends.setup ends.project (began_new fault ends.before c.reasons.items refl (lawful ends.project flies) ends.came ends.changes ends.began t);
+    started = λ t. on_first (λ s p. StartedOnAny s p c.done.items fault ends.before es at.world new.world) ends.setup ends.project (started_new fault ends.before ends.changes ends.started t);
+    again = λ t. on_first (λ s p. AllAnswerAgain s p es c.done.items at.world) ends.setup ends.project (ends.again t);
     told = since_first (λ b. StandsCut b fault first.store.next es ends.before at.world new.world) ends.setup ends.project (λ t f r sources reading keeps.
-        let (h, began) = ends.happened t f r sources reading keeps in
-        let (spent, started_for) = ends.caused t f r sources reading keeps in
+        let h = ends.happened t f r sources reading keeps in
         record {
           stands = stands (basis f r child c.setup c.project sources) d.done.items d.aloft.items d.store.next es new.world new.counts.starts.flying still' (happened (basis f r child c.setup c.project sources) es t refl h);
           reasons = c.reasons.items;
-          began = begun (basis f r child c.setup c.project sources) fault es ends.before c.reasons.items at.world t refl (lawful ends.project flies) ends.came h began;
-          started = started (basis f r child c.setup c.project sources) fault es ends.before at.world t refl h started_for;
-          spent = spent;
+          began = began_from_nothing (basis f r child c.setup c.project sources) (ordered ends.project) es c.done.items c.store.next mid.world h.keeps at.world keeps.sources_stay ends.before c.reasons.items new.world (lawful ends.project flies) (or_before c.project fault ends.before es ends.came)
+              (began_new fault ends.before c.reasons.items refl (lawful ends.project flies) ends.came ends.changes ends.began t r reading);
+          started = started_from_nothing (basis f r child c.setup c.project sources) (ordered ends.project) es c.done.items c.store.next mid.world h.keeps at.world keeps.sources_stay fault ends.before new.world (started_new fault ends.before ends.changes ends.started t r reading);
+          spent = ends.caused t f r sources reading keeps;
         });
     calls = since_first (λ b. CallsCut b fault asked es ends.before at.world at.counts mid.counts) ends.setup ends.project ends.calls;
   }
@@ -276,8 +302,10 @@ module _ {S : Type 0} (tells : Bool) (child : Answers) (Turns : S → List ℕ �
     changes = s.changes;
     unrecorded = s.unrecorded;
     again = λ t. (s.again t).gave;
+    began = s.began;
+    started = λ t read reading. no_start c.project read _ _ OutOfMemory es es at.world mid.world refl;
     happened = s.happened;
-    caused = λ t f r sources reading keeps. (tt, no_start (basis f r child c.setup c.project sources) OutOfMemory es es at.world mid.world refl);
+    caused = λ t f r sources reading keeps. tt;
     calls = λ t f r sources reading keeps. (mid.world, mid.counts, s.calls t f r sources reading keeps, inl refl);
   }
 
@@ -303,6 +331,9 @@ module _ {S : Type 0} (tells : Bool) (child : Answers) (Turns : S → List ℕ �
     lines_are =
         subst (λ (x : Heard). Appends at.heard.taken x.taken (due (states_in first.project es))) (sym heard)
         (subst (Appends at.heard.taken mid.heard.taken) (due_all table.given (states_in c.project es) (flown.given_are ∙ ap count_due states_are) ∙ ap (λ (p : Project). due (states_in p es)) story.project) story.goes.lines)
+
+    began_whole : IsTrue tells → AllBeganOnAny c.setup c.project c.done.items es d.reasons.items at.world new.world
+    began_whole = began_new OutOfMemory es d.reasons.items (ap (λ (x : UnitCrew). x.reasons.items) same) (lawful story.project flown.flies) (inl refl) story.changes story.began
 
     pub ends_whole : first.reasons.items ≡ map (λ (u : Planned). None) first.project.plan.planned → EndsWhole tells child Turns first.setup first.project first.store.next from last summary at new
     ends_whole empty = record {
@@ -342,13 +373,13 @@ module _ {S : Type 0} (tells : Bool) (child : Answers) (Turns : S → List ℕ �
       numbers = (c.store.next, story.numbers);
       unkept = λ t. subst (λ (p : Project). KeepsNoneOfBad p es new.world) story.project (changes at.world es t (story.changes t)).unkept;
       dropped = λ t. subst (λ (p : Project). KeepsNoneInFlight p es None new.world) story.project (λ place u there state apart started. unrecorded at.world es place u t (story.changes t) there (story.unrecorded t place u there state apart started));
-      again = λ t. subst (λ (s : Setup). AllAnswerAgain s first.project es c.done.items at.world) story.setup (subst (λ (p : Project). AllAnswerAgain c.setup p es c.done.items at.world) story.project (story.again t).gave);
+      began = λ t. on_first (λ s p. AllBeganOnAny s p c.done.items es d.reasons.items at.world new.world) story.setup story.project (began_whole t);
+      again = λ t. on_first (λ s p. AllAnswerAgain s p es c.done.items at.world) story.setup story.project (story.again t).gave;
       told = since_first (λ b. StandsWhole b first.store.next es d.reasons.items summary at.world new.world) story.setup story.project (λ t f r sources reading keeps.
-          let (h, began) = story.happened t f r sources reading keeps in
+          let h = story.happened t f r sources reading keeps in
           stands_whole (basis f r child c.setup c.project sources) d.done.items d.aloft.items d.store.next es new.world new.counts.starts.flying still' (happened (basis f r child c.setup c.project sources) es t refl h)
           (ap is_finished (sym states_are) ∙ finished) (length_states (needs_of c.project) es ∙ length-map c.project.plan.planned (λ (u : Planned). u.needs)) d.reasons.items at.world
-          (subst (λ (items : Reasons). AllBeganFor (basis f r child c.setup c.project sources) es items at.world new.world) (sym (ap (λ (x : UnitCrew). x.reasons.items) same))
-          (begun (basis f r child c.setup c.project sources) OutOfMemory es es c.reasons.items at.world t refl (lawful story.project flown.flies) (inl refl) h began)) first.store.next (c.store.next, story.taken t f r sources reading keeps) d.started.items started_is summary now_is);
+          (began_from_nothing (basis f r child c.setup c.project sources) (ordered story.project) es c.done.items c.store.next mid.world h.keeps at.world keeps.sources_stay es d.reasons.items new.world (lawful story.project flown.flies) (inl refl) (began_whole t r reading)) first.store.next (c.store.next, story.taken t f r sources reading keeps) d.started.items started_is summary now_is);
       calls = since_first (λ b. (w : World) × CallsOver b es at.world at.counts w mid.counts) story.setup story.project (λ t f r sources reading keeps. (mid.world, story.calls t f r sources reading keeps));
     }
 
@@ -374,7 +405,11 @@ ends_before tells child Turns setup project next from at none = record {
   only = λ t. record { variables = refl; files = λ q outside. refl };
   unkept = λ t. none_bad project at.world;
   dropped = λ t. none_in_flight project at.world;
-  again = λ t. ([], (replays_first setup project [] [] at.world refl).gave);
+  reasons = [];
+  done = [];
+  began = λ t read reading place has. absurd (none_begun project place has);
+  started = λ t read reading. no_start project read _ _ OutOfMemory [] [] at.world at.world refl;
+  again = λ t. (replays_first setup project [] [] at.world refl).gave;
   told = λ t f r sources reading keeps. record {
     stands = stands (basis f r child setup project sources) (nothing_said project) [] next [] at.world [] (λ n. Unit {0}) record {
       keeps = keeps;
@@ -383,7 +418,7 @@ ends_before tells child Turns setup project next from at none = record {
     };
     reasons = [];
     began = λ place has. absurd (none_begun project place has);
-    started = no_start (basis f r child setup project sources) OutOfMemory [] [] at.world at.world refl;
+    started = no_start project r _ _ OutOfMemory [] [] at.world at.world refl;
     spent = tt;
   };
   calls = λ t f r sources reading keeps. (at.world, at.counts, (refl, refl), inl refl);

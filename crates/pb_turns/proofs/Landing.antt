@@ -12,6 +12,7 @@ use Rattle.pb_place.specs.Counts.{Counts, counted_finish, landed}
 use Rattle.pb_place.specs.Paths.{is_at_or_below}
 use Rattle.pb_place.specs.World.{World, ChangesOnly}
 use Rattle.pb_place.specs.declared.child_in_flight.ChildInFlight.{ChildInFlight}
+use Rattle.pb_place.specs.declared.command.Command.{Command}
 use Rattle.pb_place.specs.declared.command.Ended.{Ended}
 use Rattle.pb_place.specs.declared.place.StartFault.{StartFault}
 use Rattle.pb_place.specs.declared.place.StartFault.TheVariants as start
@@ -25,12 +26,11 @@ use Rattle.pb_run.specs.Standing.{IsInOrder, records_folder}
 use Rattle.pb_run.specs.declared.begun.Begun.{Begun as unit_begun}
 use Rattle.pb_run.specs.declared.begun.Launched.{Launched}
 use Rattle.pb_run.proofs.Spawning.{launched_gone, out_within, widen}
-use Rattle.pb_run.proofs.Writes.{begun_writes}
 use Rattle.pb_soundness.specs.Apart.{is_of}
-use Rattle.pb_soundness.specs.Records.{out_of}
+use Rattle.pb_soundness.specs.Records.{Reading, out_of}
 use Rattle.pb_turns.specs.Crew.{needs_of, IsManned, IsOfPlan}
 use Rattle.pb_turns.specs.Rows.{Reasons}
-use Rattle.pb_turns.specs.Story.{states_in, AllBeganFor, Changes, FliesIn, FliesSo, Happened, HasNoRecord, CameAfter, StartedFor}
+use Rattle.pb_turns.specs.Story.{states_in, AllBegan, Changes, FliesIn, Happened, HasNoRecord, CameAfter, HadDiffered}
 use Rattle.pb_turns.specs.declared.crew.Aloft.{Aloft}
 use Rattle.pb_turns.specs.declared.crew.UnitCrew.{UnitCrew}
 use Rattle.pb_turns.proofs.Answered as answered
@@ -100,29 +100,28 @@ unrecorded_dropped c counts manned first es w w' index a at old only place v the
           (subst (λ o. ChangesOnly (is_at_or_below o) w w') (manned.order.folders a.unit of_plan.unit of_plan.there) inside)) place v there (λ e. ne (sym e)) none
     ]
 
-pub began_dropped : (b : Basis) (c : UnitCrew) (counts : Counts) (manned : IsManned c counts) (project : b.project ≡ c.project) (fault : BuildFault) (es before : List (Event BadUnit)) (reasons : Reasons) (first w w' : World) (still : ℕ → Type 0)
-    (index : ℕ) (a : Aloft) (at : slice_get c.aloft.items index ≡ Some a) (lawful : IsLawful (needs_of b.project) es) (came : CameAfter b.project fault before es) (h : Happened b c.done.items c.aloft.items c.store.next es w counts.starts.flying still)
-    → ((out : List ℕ) → WritesTo out (child_of a.begun) counts.starts.flying → ChangesOnly (is_at_or_below out) w w') → AllBeganFor b before reasons first w → AllBeganFor b before reasons first w'
-began_dropped b c counts manned project fault es before reasons first w w' still index a at lawful came h only began =
-    let of_plan : IsOfPlan c.project a = all_get (IsOfPlan c.project) c.aloft.items index a manned.units at in
-    let there : unit_at b.project a.unit ≡ Some of_plan.unit = ap (λ (p : Project). unit_at p a.unit) project ∙ of_plan.there in
-    let order : IsInOrder b.project = subst IsInOrder (sym project) manned.order in
-    let so : FliesSo b es c.store.next w counts.starts.flying still a = all_get (FliesSo b es c.store.next w counts.starts.flying still) c.aloft.items index a h.begun at in
-    let writes : WritesTo of_plan.unit.out (child_of a.begun) counts.starts.flying = begun_writes b order a.unit of_plan.unit there a.begun c.store.next w counts.starts.flying still so.begun_so in
-    dropped_beside b order fault before es reasons first w w' a.unit of_plan.unit there lawful came so.state (child_of a.begun) so.started
-    (widen (is_at_or_below (out_of (records_folder b.project) of_plan.unit.key)) (is_of (records_folder b.project) of_plan.unit.key) w w' (out_within (records_folder b.project) of_plan.unit.key)
-    (subst (λ o. ChangesOnly (is_at_or_below o) w w') (order.folders a.unit of_plan.unit there) (only of_plan.unit.out writes)))
-    (λ none. none_dropped (child_of a.begun) counts.starts.flying w w' none only) began
+-- why units have begun stays so
 
-pub started_dropped : (b : Basis) (c : UnitCrew) (counts : Counts) (manned : IsManned c counts) (project : b.project ≡ c.project) (fault : BuildFault) (es before : List (Event BadUnit)) (first w w' : World) (still : ℕ → Type 0)
-    (index : ℕ) (a : Aloft) (at : slice_get c.aloft.items index ≡ Some a) (h : Happened b c.done.items c.aloft.items c.store.next es w counts.starts.flying still)
-    → ((out : List ℕ) → WritesTo out (child_of a.begun) counts.starts.flying → ChangesOnly (is_at_or_below out) w w') → StartedFor b fault before es first w → StartedFor b fault before es first w'
-started_dropped b c counts manned project fault es before first w w' still index a at h only started =
+only_its : (c : UnitCrew) (counts : Counts) (manned : IsManned c counts) (es : List (Event BadUnit)) (w w' : World) (a : Aloft) (u : Planned) → unit_at c.project a.unit ≡ Some u → FliesIn c.project es w counts.starts.flying a
+    → ((out : List ℕ) → WritesTo out (child_of a.begun) counts.starts.flying → ChangesOnly (is_at_or_below out) w w') → ChangesOnly (is_of (records_folder c.project) u.key) w w'
+only_its c counts manned es w w' a u there so only =
+    widen (is_at_or_below (out_of (records_folder c.project) u.key)) (is_of (records_folder c.project) u.key) w w' (out_within (records_folder c.project) u.key)
+    (subst (λ o. ChangesOnly (is_at_or_below o) w w') (manned.order.folders a.unit u there) (only u.out (so.writes u there)))
+
+pub began_dropped : (c : UnitCrew) (counts : Counts) (manned : IsManned c counts) (read : Reading) (sources : World) (command : ℕ → Planned → Command) (fault : BuildFault) (es before : List (Event BadUnit)) (reasons : Reasons) (first w w' : World)
+    (index : ℕ) (a : Aloft) (at : slice_get c.aloft.items index ≡ Some a) (lawful : IsLawful (needs_of c.project) es) (came : CameAfter c.project fault before es) (old : Changes c.project first c.aloft.items es w counts.starts.flying)
+    → ((out : List ℕ) → WritesTo out (child_of a.begun) counts.starts.flying → ChangesOnly (is_at_or_below out) w w') → AllBegan c.project read sources command before reasons first w → AllBegan c.project read sources command before reasons first w'
+began_dropped c counts manned read sources command fault es before reasons first w w' index a at lawful came old only began =
     let of_plan : IsOfPlan c.project a = all_get (IsOfPlan c.project) c.aloft.items index a manned.units at in
-    let there : unit_at b.project a.unit ≡ Some of_plan.unit = ap (λ (p : Project). unit_at p a.unit) project ∙ of_plan.there in
-    let order : IsInOrder b.project = subst IsInOrder (sym project) manned.order in
-    let so : FliesSo b es c.store.next w counts.starts.flying still a = all_get (FliesSo b es c.store.next w counts.starts.flying still) c.aloft.items index a h.begun at in
-    let writes : WritesTo of_plan.unit.out (child_of a.begun) counts.starts.flying = begun_writes b order a.unit of_plan.unit there a.begun c.store.next w counts.starts.flying still so.begun_so in
-    start_beside b order fault before es first w w' a.unit of_plan.unit there so.state
-    (widen (is_at_or_below (out_of (records_folder b.project) of_plan.unit.key)) (is_of (records_folder b.project) of_plan.unit.key) w w' (out_within (records_folder b.project) of_plan.unit.key)
-    (subst (λ o. ChangesOnly (is_at_or_below o) w w') (order.folders a.unit of_plan.unit there) (only of_plan.unit.out writes))) started
+    let so : FliesIn c.project es w counts.starts.flying a = all_get (FliesIn c.project es w counts.starts.flying) c.aloft.items index a old.flies at in
+    dropped_beside c.project read sources command manned.order fault before es reasons first w w' a.unit of_plan.unit of_plan.there lawful came so.state (child_of a.begun) so.started
+    (only_its c counts manned es w w' a of_plan.unit of_plan.there so only) (λ none. none_dropped (child_of a.begun) counts.starts.flying w w' none only) began
+
+pub started_dropped : (c : UnitCrew) (counts : Counts) (manned : IsManned c counts) (read : Reading) (sources : World) (command : ℕ → Planned → Command) (fault : BuildFault) (es before : List (Event BadUnit)) (first w w' : World)
+    (index : ℕ) (a : Aloft) (at : slice_get c.aloft.items index ≡ Some a) (old : Changes c.project first c.aloft.items es w counts.starts.flying)
+    → ((out : List ℕ) → WritesTo out (child_of a.begun) counts.starts.flying → ChangesOnly (is_at_or_below out) w w')
+    → HadDiffered c.project read sources command fault before es first w → HadDiffered c.project read sources command fault before es first w'
+started_dropped c counts manned read sources command fault es before first w w' index a at old only started =
+    let of_plan : IsOfPlan c.project a = all_get (IsOfPlan c.project) c.aloft.items index a manned.units at in
+    let so : FliesIn c.project es w counts.starts.flying a = all_get (FliesIn c.project es w counts.starts.flying) c.aloft.items index a old.flies at in
+    start_beside c.project read sources command manned.order fault before es first w w' a.unit of_plan.unit of_plan.there so.state (only_its c counts manned es w w' a of_plan.unit of_plan.there so only) started

@@ -7,6 +7,7 @@ use Rattle.pb_answer.specs.declared.bad_unit.BadUnit.{BadUnit}
 use Rattle.pb_answer.specs.declared.fault.BuildFault.{BuildFault}
 use Rattle.pb_answer.specs.declared.fault.BuildFault.TheVariants.{Plan, Toolchain, Child, Device, Sink, OutOfMemory}
 use Rattle.pb_answer.specs.declared.fault.DeviceFault.TheVariants.{Place, NumbersSpent}
+use Rattle.pb_command.specs.Command.{command_of}
 use Rattle.pb_flight.specs.declared.flight.Answer.{Answer}
 use Rattle.pb_flight.proofs.Lists.{injective, clash, contains_head, contains_tail, contains_cases, contains_none, at_contains, get_set_same, get_set_other}
 use Rattle.pb_flight.specs.declared.flight.State.TheVariants.{Begun, Answered}
@@ -14,7 +15,7 @@ use Rattle.pb_flight.specs.Events as lawful
 use Rattle.pb_flight.specs.Events.{Event, Began, Gave, IsLawful, launched_after, states_after, without}
 use Rattle.pb_flight.specs.Table.{if_so}
 use Rattle.pb_place.specs.Counts.{Starts}
-use Rattle.pb_place.specs.World.{World, Answers}
+use Rattle.pb_place.specs.World.{World, Answers, from_nothing}
 use Rattle.pb_place.specs.declared.child_in_flight.ChildInFlight.{ChildInFlight}
 use Rattle.pb_place.specs.declared.command.Command.{Command}
 use Rattle.pb_record.specs.declared.record.Record.{Record}
@@ -152,20 +153,20 @@ awaits_none b u c view (awaited.Record again) next w flying still waits numbered
 
 pub begun_taken : (tells : Bool) (child : Answers) (first old : UnitCrew) (at now : Moment) (still : ℕ → Type 0) (es : List (Event BadUnit)) (given unit : ℕ) → Story tells child first at old now still es given
     → (next : Option ℕ) (o : Option Launched) → MatchOption o (next ≡ old.store.next) (λ launched. (old.store.next ≡ Some launched.number) × (next ≡ after launched.number))
-    → IsTrue tells → FromFirst child first at old (λ b. NumbersGiven (LacksNoNumber b at.world) (Began unit (is_some o) ∷ es) first.store.next next)
+    → IsTrue tells → FromFirst child first at old (λ b. NumbersGiven (LacksNoNumber b.project b.read at.world) (Began unit (is_some o) ∷ es) first.store.next next)
 begun_taken tells child first old at now still es given unit story next o number t = λ f r s reading k.
-    numbers_begun (LacksNoNumber (basis f r child old.setup old.project s) at.world) es first.store.next old.store.next next unit o number (story.taken t f r s reading k)
+    numbers_begun (LacksNoNumber old.project r at.world) es first.store.next old.store.next next unit o number (story.taken t f r s reading k)
 
 pub answered_taken : (tells : Bool) (child : Answers) (first old : UnitCrew) (at now : Moment) (still : ℕ → Type 0) (es : List (Event BadUnit)) (given : ℕ) → Story tells child first at old now still es given
     → (index : ℕ) (a : Aloft) → slice_get old.aloft.items index ≡ Some a → (answer : Answer BadUnit) (next : Option ℕ) → TakesNumber old.store.next next → (is_started es a.unit ≡ true → next ≡ old.store.next)
     → (awaits_number a.begun.awaited ≡ false → next ≡ old.store.next)
-    → IsTrue tells → FromFirst child first at old (λ b. NumbersGiven (LacksNoNumber b at.world) (Gave a.unit answer ∷ es) first.store.next next)
+    → IsTrue tells → FromFirst child first at old (λ b. NumbersGiven (LacksNoNumber b.project b.read at.world) (Gave a.unit answer ∷ es) first.store.next next)
 answered_taken tells child first old at now still es given story index a at_index answer next takes none untaken t = λ f r s reading k.
     let b : Basis = basis f r child old.setup old.project s in
-    let (h, began) = story.happened t f r s reading k in
+    let h = story.happened t f r s reading k in
     let so = all_get (FliesSo b es old.store.next now.world now.counts.starts.flying still) old.aloft.items index a h.begun at_index in
     let is = so.begun_so in
-    numbers_answered (LacksNoNumber b at.world) es first.store.next old.store.next next a.unit answer takes none
+    numbers_answered (LacksNoNumber old.project r at.world) es first.store.next old.store.next next a.unit answer takes none
     (λ numbered. untaken (awaits_none b is.unit a.begun.command (view_in b a.unit is.unit) a.begun.awaited old.store.next now.world now.counts.starts.flying still is.waits
-    (λ childless. numbered_now b es old.reasons.items at.world now.world a.unit is.unit is.there (began a.unit (Begun, so.state, refl)) (so.started ∙ ap (λ (o : Option Launched). is_some o) childless) (numbered is.unit is.there))))
+    (λ childless. numbered_now old.project r (from_nothing old.project.workspace.target at.world) (λ place v. command_of old.setup old.project v old.done.items) es old.reasons.items at.world now.world a.unit is.unit is.there (story.began t r reading a.unit (Begun, so.state, refl)) (so.started ∙ ap (λ (o : Option Launched). is_some o) childless) (numbered is.unit is.there))))
     (story.taken t f r s reading k)

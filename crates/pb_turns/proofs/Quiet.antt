@@ -6,8 +6,9 @@ use Rattle.pb_flight.specs.Events.{Event, Began, Gave, started_by}
 use Rattle.pb_place.specs.World.{World, Answers}
 use Rattle.pb_project.specs.Targets.{unit_at}
 use Rattle.pb_answer.specs.declared.bad_unit.BadUnit.{BadUnit}
+use Rattle.pb_project.specs.declared.project.Project.{Project}
 use Rattle.pb_record.specs.Parts.{IsReading}
-use Rattle.pb_run.specs.Halves.{Basis, basis, records_in, child_of}
+use Rattle.pb_run.specs.Halves.{child_of}
 use Rattle.pb_run.specs.Standing.{records_folder}
 use Rattle.pb_run.specs.declared.begun.Begun.{Begun as unit_begun}
 use Rattle.pb_run.specs.declared.begun.Launched.{Launched}
@@ -15,7 +16,7 @@ use Rattle.pb_soundness.specs.Records.{Reading, record_at}
 use Rattle.pb_store.specs.Migrating.{lacks_number}
 use Rattle.pb_turns.specs.Moments.{Moment}
 use Rattle.pb_turns.specs.Rows.{is_started}
-use Rattle.pb_turns.specs.Story.{FliesSo, FromFirst, IsQuiet, Story}
+use Rattle.pb_turns.specs.Story.{FliesIn, IsQuiet, Story}
 use Rattle.pb_turns.specs.declared.crew.Aloft.{Aloft}
 use Rattle.pb_turns.specs.declared.crew.UnitCrew.{UnitCrew}
 use Rattle.pb_turns.proofs.Lists.{all_get}
@@ -44,29 +45,27 @@ none_started (Gave unit answer ∷ es) place none = none_started es place none
 
 -- A unit begins.
 
-quiet_begun : (b : Basis) (es : List (Event BadUnit)) (first w w' : World) (unit : ℕ) (o : Option Launched) → (o ≡ None → w' ≡ w) → IsQuiet b es first w → IsQuiet b (Began unit (is_some o) ∷ es) first w'
-quiet_begun b es first w w' unit None same quiet = λ none numbered. same refl ∙ quiet (left_none (started_by es) [] none) numbered
-quiet_begun b es first w w' unit (Some l) same quiet = λ none numbered. absurd (some_last (started_by es) unit none)
+quiet_begun : (project : Project) (read : Reading) (es : List (Event BadUnit)) (first w w' : World) (unit : ℕ) (o : Option Launched) → (o ≡ None → w' ≡ w) → IsQuiet project read es first w → IsQuiet project read (Began unit (is_some o) ∷ es) first w'
+quiet_begun project read es first w w' unit None same quiet = λ none numbered. same refl ∙ quiet (left_none (started_by es) [] none) numbered
+quiet_begun project read es first w w' unit (Some l) same quiet = λ none numbered. absurd (some_last (started_by es) unit none)
 
 pub begun_quiet : (tells : Bool) (child : Answers) (first old : UnitCrew) (at now new : Moment) (still : ℕ → Type 0) (es : List (Event BadUnit)) (given unit : ℕ) → Story tells child first at old now still es given
-    → (begun : unit_begun) → (IsTrue tells → (child_of begun) ≡ None → new.world ≡ now.world) → IsTrue tells → FromFirst child first at old (λ b. IsQuiet b (Began unit (is_some (child_of begun)) ∷ es) at.world new.world)
-begun_quiet tells child first old at now new still es given unit story begun same t = λ f r s reading k.
-    quiet_begun (basis f r child old.setup old.project s) es at.world now.world new.world unit (child_of begun) (same t) (story.quiet t f r s reading k)
+    → (begun : unit_begun) → (IsTrue tells → (child_of begun) ≡ None → new.world ≡ now.world) → IsTrue tells → (read : Reading) → IsReading read → IsQuiet old.project read (Began unit (is_some (child_of begun)) ∷ es) at.world new.world
+begun_quiet tells child first old at now new still es given unit story begun same t read reading = quiet_begun old.project read es at.world now.world new.world unit (child_of begun) (same t) (story.quiet t read reading)
 
 -- A unit answers.
 
-module _ (b : Basis) (es : List (Event BadUnit)) (first w w' : World) (place : ℕ) (u : Planned) (there : unit_at b.project place ≡ Some u) where
-  quiet_answered : (o : Option Launched) → is_started es place ≡ is_some o → (o ≡ None → lacks_number (records_in b w u.key) ≡ false → w' ≡ w) → IsQuiet b es first w → IsQuiet b es first w'
+module _ (project : Project) (read : Reading) (es : List (Event BadUnit)) (first w w' : World) (place : ℕ) (u : Planned) (there : unit_at project place ≡ Some u) where
+  quiet_answered : (o : Option Launched) → is_started es place ≡ is_some o → (o ≡ None → lacks_number (record_at read (records_folder project) w.files u.key) ≡ false → w' ≡ w) → IsQuiet project read es first w → IsQuiet project read es first w'
   quiet_answered None started same quiet = λ none numbered.
       let as_first = quiet none numbered in
-      same refl (ap (λ (v : World). lacks_number (records_in b v u.key)) as_first ∙ numbered place u there) ∙ as_first
+      same refl (ap (λ (v : World). lacks_number (record_at read (records_folder project) v.files u.key)) as_first ∙ numbered place u there) ∙ as_first
   quiet_answered (Some l) started same quiet = λ none numbered. absurd (false≢true (sym (none_started es place none) ∙ started))
 
 pub answered_quiet : (tells : Bool) (child : Answers) (first old : UnitCrew) (at now new : Moment) (still : ℕ → Type 0) (es : List (Event BadUnit)) (given : ℕ) → Story tells child first at old now still es given
     → (index : ℕ) (a : Aloft) (u : Planned) → unit_at old.project a.unit ≡ Some u → slice_get old.aloft.items index ≡ Some a → (answer : Answer BadUnit)
     → ((read : Reading) → IsReading read → IsTrue tells → (child_of a.begun) ≡ None → lacks_number (record_at read (records_folder old.project) now.world.files u.key) ≡ false → new.world ≡ now.world)
-    → IsTrue tells → FromFirst child first at old (λ b. IsQuiet b (Gave a.unit answer ∷ es) at.world new.world)
-answered_quiet tells child first old at now new still es given story index a u there at_index answer same t = λ f r s reading k.
-    let (h, began) = story.happened t f r s reading k in
-    let so = all_get (FliesSo (basis f r child old.setup old.project s) es old.store.next now.world now.counts.starts.flying still) old.aloft.items index a h.begun at_index in
-    quiet_answered (basis f r child old.setup old.project s) es at.world now.world new.world a.unit u there (child_of a.begun) so.started (same r reading t) (story.quiet t f r s reading k)
+    → IsTrue tells → (read : Reading) → IsReading read → IsQuiet old.project read (Gave a.unit answer ∷ es) at.world new.world
+answered_quiet tells child first old at now new still es given story index a u there at_index answer same t read reading =
+    let so = all_get (FliesIn old.project es now.world now.counts.starts.flying) old.aloft.items index a (story.changes t).flies at_index in
+    quiet_answered old.project read es at.world now.world new.world a.unit u there (child_of a.begun) so.started (same read reading t) (story.quiet t read reading)

@@ -34,7 +34,7 @@ use Rattle.pb_turns.specs.Crew.{needs_of, ticket_of_child}
 use Rattle.pb_turns.specs.Ends.{Dropped}
 use Rattle.pb_turns.specs.Laws.{EachHasRecord, LeavesRecords, StartsNothing, StartsNoneAgain}
 use Rattle.pb_turns.specs.Rows.{is_started}
-use Rattle.pb_turns.specs.Story.{LacksNoNumber, started_before, states_in, upped}
+use Rattle.pb_turns.specs.Story.{LacksNoNumber, events_before, states_in, upped}
 use Rattle.pb_turns.proofs.Happening.{before_now, before_other, started_now, started_other}
 use Rattle.pb_turns.proofs.States.{another, begun_more, begun_now}
 use Rattle.pb_unit.specs.declared.plan.Planned.{Planned}
@@ -58,7 +58,7 @@ none_first read folder key c w r n is same =
     }
 
 -- no record lacks a number
-numbered_all : (b : Basis) (w : World) → EachHasRecord b w → (place : ℕ) → LacksNoNumber b w place
+numbered_all : (b : Basis) (w : World) → EachHasRecord b w → (place : ℕ) → LacksNoNumber b.project b.read w place
 numbered_all b w each place u there =
     let h = each place u there in
     let is : h.unit ≡ u = injective (sym h.there ∙ there) in
@@ -76,7 +76,7 @@ record IsFirstStart (needs : List (List ℕ)) (es : List (Event BadUnit)) : Type
   pub place : ℕ
   pub begun : HasBegun (states_after needs es) place
   pub started : is_started es place ≡ true
-  pub none : started_before es place ≡ []
+  pub none : started_by (events_before es place) ≡ []
 
 first_begun : (needs : List (List ℕ)) (es : List (Event BadUnit)) (u : ℕ) (spawned : Bool) → MayBegin needs (states_after needs es) u → (started_by es ≡ []) ⊎ IsFirstStart needs es
     → (started_by (Began u spawned ∷ es) ≡ []) ⊎ IsFirstStart needs (Began u spawned ∷ es)
@@ -84,7 +84,7 @@ first_begun needs es u true may (inl none) = inr record {
   place = u;
   begun = begun_now (states_after needs es) u Untouched Begun may.untouched refl;
   started = started_now es u true;
-  none = before_now es u true ∙ none;
+  none = ap (λ (x : List (Event BadUnit)). started_by x) (before_now es u true) ∙ none;
 }
 first_begun needs es u false may (inl none) = inl (append-nil (started_by es) ∙ none)
 first_begun needs es u spawned may (inr f) =
@@ -93,7 +93,7 @@ first_begun needs es u spawned may (inr f) =
       place = f.place;
       begun = begun_more (states_after needs es) u f.place Untouched Begun may.untouched refl f.begun;
       started = started_other es u f.place spawned ne ∙ f.started;
-      none = before_other es u f.place spawned ne ∙ f.none;
+      none = ap (λ (x : List (Event BadUnit)). started_by x) (before_other es u f.place spawned ne) ∙ f.none;
     }
 
 first_start : (needs : List (List ℕ)) (es : List (Event BadUnit)) → IsLawful needs es → (started_by es ≡ []) ⊎ IsFirstStart needs es

@@ -12,6 +12,7 @@ use Rattle.pb_flight.proofs.Ready.{good_at}
 use Rattle.pb_place.specs.Paths.{below, is_at_or_below}
 use Rattle.pb_place.specs.World.{World, ChangesOnly}
 use Rattle.pb_place.specs.declared.child_in_flight.ChildInFlight.{ChildInFlight}
+use Rattle.pb_place.specs.declared.command.Command.{Command}
 use Rattle.pb_place.specs.declared.place.StartFault.TheVariants as start
 use Rattle.pb_place.proofs.Within.{at_itself, below_then_at, goes_below, not_below_itself}
 use Rattle.pb_project.specs.Targets.{unit_at}
@@ -20,17 +21,17 @@ use Rattle.pb_answer.specs.declared.fault.BuildFault.{BuildFault}
 use Rattle.pb_answer.specs.declared.fault.BuildFault.TheVariants.{Plan, Toolchain, Child, Device, Sink, OutOfMemory}
 use Rattle.pb_project.specs.declared.project.Project.{Project}
 use Rattle.pb_run.specs.Causes.{is_of_start}
-use Rattle.pb_run.specs.Halves.{Basis, WritesTo, records_in}
+use Rattle.pb_run.specs.Halves.{WritesTo}
 use Rattle.pb_run.specs.Standing.{IsInOrder, records_folder}
 use Rattle.pb_run.specs.declared.begun.Launched.{Launched}
 use Rattle.pb_soundness.specs.Apart.{is_of}
-use Rattle.pb_soundness.specs.Records.{out_of, place_of}
+use Rattle.pb_soundness.specs.Records.{Reading, out_of, place_of, record_at}
 use Rattle.pb_soundness.proofs.Places.{record_same}
 use Rattle.pb_store.specs.Migrating.{lacks_number}
 use Rattle.pb_store.specs.declared.difference.Difference.{Difference}
 use Rattle.pb_turns.specs.Crew.{needs_of}
 use Rattle.pb_turns.specs.Rows.{Reasons, is_started}
-use Rattle.pb_turns.specs.Story.{states_in, AllBeganFor, BeganFor, CameAfter, StartedFor}
+use Rattle.pb_turns.specs.Story.{states_in, AllBegan, BeganFor, CameAfter, HadDiffered}
 use Rattle.pb_turns.proofs.Happening.{none_of, started_now, started_other}
 use Rattle.pb_turns.proofs.Reaching.{not_of_two}
 use Rattle.pb_turns.proofs.States.{another}
@@ -70,7 +71,7 @@ flew_last project before unit place new spawned untouched state started = record
 abbrev pub OrBefore : List (Event BadUnit) → List (Event BadUnit) → Type 0
 OrBefore before es = (es ≡ before) ⊎ ((unit : ℕ) × (spawned : Bool) × (es ≡ Began unit spawned ∷ before))
 
-or_before : (project : Project) (fault : BuildFault) (before es : List (Event BadUnit)) → CameAfter project fault before es → OrBefore before es
+pub or_before : (project : Project) (fault : BuildFault) (before es : List (Event BadUnit)) → CameAfter project fault before es → OrBefore before es
 or_before project (Plan why) before es came = inl came
 or_before project Toolchain before es came = inl came
 or_before project (Child key start.CannotStart) before es (unit, named, is) = inr (unit, true, is)
@@ -101,121 +102,126 @@ second false y h = h
 pub place_its_own : (folder key : List ℕ) → is_of folder key (place_of folder key) ≡ true
 place_its_own folder key = second (is_at_or_below (out_of folder key) (place_of folder key)) _ (at_itself (place_of folder key) (place_of folder key) refl)
 
--- A unit has done something: it is none that has answered and is good, and where it has begun without a child and its record had a number at first, each file stays.
-module _ (b : Basis) (order : IsInOrder b.project) (es : List (Event BadUnit)) (reasons : Reasons) (first w w' : World) (i : ℕ) (u : Planned) (there : unit_at b.project i ≡ Some u)
-    (only : ChangesOnly (is_of (records_folder b.project) u.key) w w') (not_good : is_good_at (slice_get (states_in b.project es) i) ≡ false)
-    (own : HasBegun (states_in b.project es) i → BeganFor b es reasons first w i → is_started es i ≡ false → lacks_number (records_in b first u.key) ≡ false → (q : List ℕ) → finite.get w'.files q ≡ finite.get w.files q) where
-  kept_now : (place : ℕ) → HasBegun (states_in b.project es) place → (f : BeganFor b es reasons first w place) → f.difference ≡ None → lacks_number (records_in b first f.unit.key) ≡ false
-      → (q : List ℕ) → is_of (records_folder b.project) f.unit.key q ≡ true → finite.get w'.files q ≡ finite.get w.files q
-  kept_now place has f none numbered q inside = elim (cases_eq place i) [
-    | inl same ↦
-        let is : f.unit ≡ u = injective (sym f.there ∙ ap (unit_at b.project) same ∙ there) in
-        own (subst (HasBegun (states_in b.project es)) same has) (subst (BeganFor b es reasons first w) same f)
-        (ap (is_started es) (sym same) ∙ f.started ∙ ap (λ (o : Option Difference). is_some o) none) (subst (λ (x : Planned). lacks_number (records_in b first x.key) ≡ false) is numbered) q
-    | inr ne ↦ only.files q (not_of_two b.project order place i f.unit u f.there there ne q inside)
-  ]
-
-  good_other : (p : ℕ) → is_good_at (slice_get (states_in b.project es) p) ≡ true → p ≢ i
-  good_other p good same = false≢true (sym not_good ∙ ap (λ n. is_good_at (slice_get (states_in b.project es) n)) (sym same) ∙ good)
-
-  -- the others rest on the same
-  pub began_on : AllBeganFor b es reasons first w → AllBeganFor b es reasons first w'
-  began_on began place has = let f = began place has in record {
-    unit = f.unit;
-    there = f.there;
-    world = f.world;
-    sources_stay = f.sources_stay;
-    record_stays = f.record_stays;
-    reaches = f.reaches;
-    reached_stay = λ p v q among at inside.
-        f.reached_stay p v q among at inside ∙ sym (only.files q (not_of_two b.project order p i v u at there (good_other p (good_at (states_in b.project es) f.unit.reaches p f.reaches among)) q inside));
-    difference = f.difference;
-    named = f.named;
-    started = f.started;
-    noted = f.noted;
-    kept_stays = λ none numbered q inside. kept_now place has f none numbered q inside ∙ f.kept_stays none numbered q inside;
-    unstarted = f.unstarted;
-  }
-
--- a unit that has begun without a child, and whose record had a number at first, has that record now
-pub numbered_now : (b : Basis) (es : List (Event BadUnit)) (reasons : Reasons) (first w : World) (i : ℕ) (u : Planned) → unit_at b.project i ≡ Some u → BeganFor b es reasons first w i → is_started es i ≡ false
-    → lacks_number (records_in b first u.key) ≡ false → lacks_number (records_in b w u.key) ≡ false
-numbered_now b es reasons first w i u there f unstarted numbered =
-    let is : f.unit ≡ u = injective (sym f.there ∙ there) in
-    let none : f.difference ≡ None = none_of f.difference (sym f.started ∙ unstarted) in
-    let stays = f.kept_stays none (subst (λ (x : Planned). lacks_number (records_in b first x.key) ≡ false) (sym is) numbered) (place_of (records_folder b.project) f.unit.key) (place_its_own (records_folder b.project) f.unit.key) in
-    ap lacks_number (record_same b.read (records_folder b.project) first.files w.files u.key (subst (λ (x : Planned). finite.get w.files (place_of (records_folder b.project) x.key) ≡ finite.get first.files (place_of (records_folder b.project) x.key)) is stays)) ∙ numbered
-
--- a beginning
-pub began_beside : (b : Basis) (order : IsInOrder b.project) (es : List (Event BadUnit)) (reasons : Reasons) (first w w' : World) (i : ℕ) (u : Planned) → unit_at b.project i ≡ Some u → slice_get (states_in b.project es) i ≡ Some Untouched
-    → ChangesOnly (is_of (records_folder b.project) u.key) w w' → AllBeganFor b es reasons first w → AllBeganFor b es reasons first w'
-began_beside b order es reasons first w w' i u there untouched only =
-    began_on b order es reasons first w w' i u there only (ap is_good_at untouched) (λ has f. absurd (another (states_in b.project es) i i untouched has refl))
-
--- an answer, or a fault in its place
-pub answered_beside : (b : Basis) (order : IsInOrder b.project) (es : List (Event BadUnit)) (reasons : Reasons) (first w w' : World) (i : ℕ) (u : Planned) → unit_at b.project i ≡ Some u → slice_get (states_in b.project es) i ≡ Some Begun
-    → (o : Option Launched) → is_started es i ≡ is_some o → ChangesOnly (is_of (records_folder b.project) u.key) w w' → (o ≡ None → lacks_number (records_in b w u.key) ≡ false → w' ≡ w)
-    → AllBeganFor b es reasons first w → AllBeganFor b es reasons first w'
-answered_beside b order es reasons first w w' i u there state o started only same =
-    began_on b order es reasons first w w' i u there only (ap is_good_at state) (λ has f unstarted numbered q.
-    ap (λ (v : World). finite.get v.files q) (same (none_of o (sym started ∙ unstarted)) (numbered_now b es reasons first w i u there f unstarted numbered)))
-
--- a child dropped
-pub dropped_beside : (b : Basis) (order : IsInOrder b.project) (fault : BuildFault) (before es : List (Event BadUnit)) (reasons : Reasons) (first w w' : World) (i : ℕ) (u : Planned) → unit_at b.project i ≡ Some u → IsLawful (needs_of b.project) es → CameAfter b.project fault before es
-    → slice_get (states_in b.project es) i ≡ Some Begun → (o : Option Launched) → is_started es i ≡ is_some o → ChangesOnly (is_of (records_folder b.project) u.key) w w' → (o ≡ None → (q : List ℕ) → finite.get w'.files q ≡ finite.get w.files q)
-    → AllBeganFor b before reasons first w → AllBeganFor b before reasons first w'
-dropped_beside b order fault before es reasons first w w' i u there lawful came state o started only same =
-    let flew = flew_before b.project before es i (is_some o) lawful (or_before b.project fault before es came) state started in
-    began_on b order before reasons first w w' i u there only flew.not_good (λ has f unstarted numbered. same (none_of o (sym (flew.started has) ∙ unstarted)))
-
--- A unit that could not begin, though something had differed of it.
-
--- where the fault is none of a start, nothing is said
-pub no_start : (b : Basis) (fault : BuildFault) (before es : List (Event BadUnit)) (first now : World) → is_of_start fault ≡ false → StartedFor b fault before es first now
-no_start b fault before es first now other place spawned is so = absurd (false≢true (sym other ∙ so))
-
 longer : (x : Event BadUnit) (es : List (Event BadUnit)) → es ≡ x ∷ es → ⊥
 longer x es same =
     let n : length es ≡ suc (length es) = ap length same in
     omega (arith, n)
-
--- nor where no unit began last
-pub none_began : (b : Basis) (fault : BuildFault) (es : List (Event BadUnit)) (first now : World) → StartedFor b fault es es first now
-none_began b fault es first now place spawned is so = absurd (longer (Began place spawned) es is)
 
 abbrev unit_of : List (Event BadUnit) → ℕ
 unit_of [] = 0
 unit_of (Began unit spawned ∷ es) = unit
 unit_of (Gave unit answer ∷ es) = unit
 
--- it is said of the one that began last
-pub start_told : (b : Basis) (fault : BuildFault) (es : List (Event BadUnit)) (first now : World) (unit : ℕ) (spawned : Bool) → (is_of_start fault ≡ true → (reasons : Reasons) × BeganFor b (Began unit true ∷ es) reasons first now unit)
-    → StartedFor b fault es (Began unit spawned ∷ es) first now
-start_told b fault es first now unit spawned told place other is so = subst (λ n. (reasons : Reasons) × BeganFor b (Began n true ∷ es) reasons first now n) (ap unit_of is) (told so)
+module _ (project : Project) (read : Reading) (sources : World) (command : ℕ → Planned → Command) where
+  -- a unit that has begun without a child, and whose record had a number at first, has that record now
+  pub numbered_now : (es : List (Event BadUnit)) (reasons : Reasons) (first w : World) (i : ℕ) (u : Planned) → unit_at project i ≡ Some u → BeganFor project read sources command es reasons first w i → is_started es i ≡ false
+      → lacks_number (record_at read (records_folder project) first.files u.key) ≡ false → lacks_number (record_at read (records_folder project) w.files u.key) ≡ false
+  numbered_now es reasons first w i u there f unstarted numbered =
+      let is : f.unit ≡ u = injective (sym f.there ∙ there) in
+      let none : f.difference ≡ None = none_of f.difference (sym f.started ∙ unstarted) in
+      let stays = f.kept_stays none (subst (λ (x : Planned). lacks_number (record_at read (records_folder project) first.files x.key) ≡ false) (sym is) numbered) (place_of (records_folder project) f.unit.key) (place_its_own (records_folder project) f.unit.key) in
+      ap lacks_number (record_same read (records_folder project) first.files w.files u.key (subst (λ (x : Planned). finite.get w.files (place_of (records_folder project) x.key) ≡ finite.get first.files (place_of (records_folder project) x.key)) is stays)) ∙ numbered
 
--- a child dropped
-pub start_beside : (b : Basis) (order : IsInOrder b.project) (fault : BuildFault) (before es : List (Event BadUnit)) (first w w' : World) (i : ℕ) (u : Planned) → unit_at b.project i ≡ Some u → slice_get (states_in b.project es) i ≡ Some Begun
-    → ChangesOnly (is_of (records_folder b.project) u.key) w w' → StartedFor b fault before es first w → StartedFor b fault before es first w'
-start_beside b order fault before es first w w' i u there state only started place spawned is so =
-    let (reasons, f) = started place spawned is so in
-    let begun : slice_get (states_in b.project (Began place true ∷ before)) i ≡ Some Begun = subst (λ (x : List (Event BadUnit)). slice_get (states_in b.project x) i ≡ Some Begun) is state in
-    let other : (p : ℕ) → is_good_at (slice_get (states_in b.project (Began place true ∷ before)) p) ≡ true → p ≢ i =
-    λ p good same. false≢true (sym (ap is_good_at begun) ∙ ap (λ n. is_good_at (slice_get (states_in b.project (Began place true ∷ before)) n)) (sym same) ∙ good) in (
-      reasons,
-      record {
+  -- A unit could not begin, though something had differed of it.
+
+  -- where the fault is none of a start, nothing is said
+  pub no_start : (fault : BuildFault) (before es : List (Event BadUnit)) (first now : World) → is_of_start fault ≡ false → HadDiffered project read sources command fault before es first now
+  no_start fault before es first now other place spawned is so = absurd (false≢true (sym other ∙ so))
+
+  -- nor where no unit began last
+  pub none_began : (fault : BuildFault) (es : List (Event BadUnit)) (first now : World) → HadDiffered project read sources command fault es es first now
+  none_began fault es first now place spawned is so = absurd (longer (Began place spawned) es is)
+
+  -- it is said of the one that began last
+  pub start_told : (fault : BuildFault) (es : List (Event BadUnit)) (first now : World) (unit : ℕ) (spawned : Bool) → (is_of_start fault ≡ true → (reasons : Reasons) × BeganFor project read sources command (Began unit true ∷ es) reasons first now unit)
+      → HadDiffered project read sources command fault es (Began unit spawned ∷ es) first now
+  start_told fault es first now unit spawned told place other is so = subst (λ n. (reasons : Reasons) × BeganFor project read sources command (Began n true ∷ es) reasons first now n) (ap unit_of is) (told so)
+
+  module _ (order : IsInOrder project) where
+    -- A unit has done something: it is none that has answered and is good, and where it has begun without a child and its record had a number at first, each file stays.
+    module _ (es : List (Event BadUnit)) (reasons : Reasons) (first w w' : World) (i : ℕ) (u : Planned) (there : unit_at project i ≡ Some u)
+        (only : ChangesOnly (is_of (records_folder project) u.key) w w') (not_good : is_good_at (slice_get (states_in project es) i) ≡ false)
+        (own : HasBegun (states_in project es) i → BeganFor project read sources command es reasons first w i → is_started es i ≡ false → lacks_number (record_at read (records_folder project) first.files u.key) ≡ false
+        → (q : List ℕ) → finite.get w'.files q ≡ finite.get w.files q) where
+      kept_now : (place : ℕ) → HasBegun (states_in project es) place → (f : BeganFor project read sources command es reasons first w place) → f.difference ≡ None → lacks_number (record_at read (records_folder project) first.files f.unit.key) ≡ false
+          → (q : List ℕ) → is_of (records_folder project) f.unit.key q ≡ true → finite.get w'.files q ≡ finite.get w.files q
+      kept_now place has f none numbered q inside = elim (cases_eq place i) [
+        | inl same ↦
+            let is : f.unit ≡ u = injective (sym f.there ∙ ap (unit_at project) same ∙ there) in
+            own (subst (HasBegun (states_in project es)) same has) (subst (BeganFor project read sources command es reasons first w) same f)
+            (ap (is_started es) (sym same) ∙ f.started ∙ ap (λ (o : Option Difference). is_some o) none) (subst (λ (x : Planned). lacks_number (record_at read (records_folder project) first.files x.key) ≡ false) is numbered) q
+        | inr ne ↦ only.files q (not_of_two project order place i f.unit u f.there there ne q inside)
+      ]
+
+      good_other : (p : ℕ) → is_good_at (slice_get (states_in project es) p) ≡ true → p ≢ i
+      good_other p good same = false≢true (sym not_good ∙ ap (λ n. is_good_at (slice_get (states_in project es) n)) (sym same) ∙ good)
+
+      -- the others rest on the same
+      began_on : AllBegan project read sources command es reasons first w → AllBegan project read sources command es reasons first w'
+      began_on began place has = let f = began place has in record {
         unit = f.unit;
         there = f.there;
         world = f.world;
         sources_stay = f.sources_stay;
         record_stays = f.record_stays;
+        only = f.only;
         reaches = f.reaches;
         reached_stay = λ p v q among at inside.
-            f.reached_stay p v q among at inside ∙ sym (only.files q (not_of_two b.project order p i v u at there (other p (good_at (states_in b.project (Began place true ∷ before)) f.unit.reaches p f.reaches among)) q inside));
+            f.reached_stay p v q among at inside ∙ sym (only.files q (not_of_two project order p i v u at there (good_other p (good_at (states_in project es) f.unit.reaches p f.reaches among)) q inside));
         difference = f.difference;
         named = f.named;
         started = f.started;
         noted = f.noted;
-        kept_stays = λ none numbered q inside. absurd (false≢true (sym (f.started ∙ ap (λ (o : Option Difference). is_some o) none) ∙ started_now before place true));
+        kept_stays = λ none numbered q inside. kept_now place has f none numbered q inside ∙ f.kept_stays none numbered q inside;
         unstarted = f.unstarted;
-      },
-    )
+      }
+
+    -- a beginning
+    pub began_beside : (es : List (Event BadUnit)) (reasons : Reasons) (first w w' : World) (i : ℕ) (u : Planned) → unit_at project i ≡ Some u → slice_get (states_in project es) i ≡ Some Untouched → ChangesOnly (is_of (records_folder project) u.key) w w'
+        → AllBegan project read sources command es reasons first w → AllBegan project read sources command es reasons first w'
+    began_beside es reasons first w w' i u there untouched only =
+        began_on es reasons first w w' i u there only (ap is_good_at untouched) (λ has f. absurd (another (states_in project es) i i untouched has refl))
+
+    -- an answer, or a fault in its place
+    pub answered_beside : (es : List (Event BadUnit)) (reasons : Reasons) (first w w' : World) (i : ℕ) (u : Planned) → unit_at project i ≡ Some u → slice_get (states_in project es) i ≡ Some Begun → (o : Option Launched) → is_started es i ≡ is_some o
+        → ChangesOnly (is_of (records_folder project) u.key) w w' → (o ≡ None → lacks_number (record_at read (records_folder project) w.files u.key) ≡ false → w' ≡ w)
+        → AllBegan project read sources command es reasons first w → AllBegan project read sources command es reasons first w'
+    answered_beside es reasons first w w' i u there state o started only same =
+        began_on es reasons first w w' i u there only (ap is_good_at state) (λ has f unstarted numbered q.
+        ap (λ (v : World). finite.get v.files q) (same (none_of o (sym started ∙ unstarted)) (numbered_now es reasons first w i u there f unstarted numbered)))
+
+    -- a child dropped
+    pub dropped_beside : (fault : BuildFault) (before es : List (Event BadUnit)) (reasons : Reasons) (first w w' : World) (i : ℕ) (u : Planned) → unit_at project i ≡ Some u → IsLawful (needs_of project) es → CameAfter project fault before es
+        → slice_get (states_in project es) i ≡ Some Begun → (o : Option Launched) → is_started es i ≡ is_some o → ChangesOnly (is_of (records_folder project) u.key) w w' → (o ≡ None → (q : List ℕ) → finite.get w'.files q ≡ finite.get w.files q)
+        → AllBegan project read sources command before reasons first w → AllBegan project read sources command before reasons first w'
+    dropped_beside fault before es reasons first w w' i u there lawful came state o started only same =
+        let flew = flew_before project before es i (is_some o) lawful (or_before project fault before es came) state started in
+        began_on before reasons first w w' i u there only flew.not_good (λ has f unstarted numbered. same (none_of o (sym (flew.started has) ∙ unstarted)))
+
+    -- and so of one that could not begin
+    pub start_beside : (fault : BuildFault) (before es : List (Event BadUnit)) (first w w' : World) (i : ℕ) (u : Planned) → unit_at project i ≡ Some u → slice_get (states_in project es) i ≡ Some Begun → ChangesOnly (is_of (records_folder project) u.key) w w'
+        → HadDiffered project read sources command fault before es first w → HadDiffered project read sources command fault before es first w'
+    start_beside fault before es first w w' i u there state only started place spawned is so =
+        let (reasons, f) = started place spawned is so in
+        let begun : slice_get (states_in project (Began place true ∷ before)) i ≡ Some Begun = subst (λ (x : List (Event BadUnit)). slice_get (states_in project x) i ≡ Some Begun) is state in
+        let other : (p : ℕ) → is_good_at (slice_get (states_in project (Began place true ∷ before)) p) ≡ true → p ≢ i =
+        λ p good same. false≢true (sym (ap is_good_at begun) ∙ ap (λ n. is_good_at (slice_get (states_in project (Began place true ∷ before)) n)) (sym same) ∙ good) in (
+          reasons,
+          record {
+            unit = f.unit;
+            there = f.there;
+            world = f.world;
+            sources_stay = f.sources_stay;
+            record_stays = f.record_stays;
+            only = f.only;
+            reaches = f.reaches;
+            reached_stay = λ p v q among at inside.
+                f.reached_stay p v q among at inside ∙ sym (only.files q (not_of_two project order p i v u at there (other p (good_at (states_in project (Began place true ∷ before)) f.unit.reaches p f.reaches among)) q inside));
+            difference = f.difference;
+            named = f.named;
+            started = f.started;
+            noted = f.noted;
+            kept_stays = λ none numbered q inside. absurd (false≢true (sym (f.started ∙ ap (λ (o : Option Difference). is_some o) none) ∙ started_now before place true));
+            unstarted = f.unstarted;
+          },
+        )

@@ -26,7 +26,7 @@ use Rattle.pb_turns.specs.Calling.{CallsCut, CallsOver}
 use Rattle.pb_turns.specs.Crew.{needs_of, ticket_of_child}
 use Rattle.pb_turns.specs.Moments.{Moment}
 use Rattle.pb_turns.specs.Rows.{Reasons, Row, rows_of, said_from, started_keys, is_success, key_told, said_told, bad_told, differences_of, kept_of, noted_told, summary_of}
-use Rattle.pb_turns.specs.Story.{states_in, untouched, upped, AllAnswerAgain, Stops, Spends, IsUntold, LacksNoNumber, OnlyOf, AllBeganFor, StartedFor, HasGiven, CameAfter, NamesUnit, NumbersGiven, KeepsNoneOfBad, KeepsNoneInFlight, NotesStarted}
+use Rattle.pb_turns.specs.Story.{states_in, untouched, upped, AllAnswerAgain, Stops, Spends, IsUntold, LacksNoNumber, OnlyOf, AllBeganFor, AllBeganOnAny, StartedFor, StartedOnAny, HasGiven, CameAfter, NamesUnit, NumbersGiven, KeepsNoneOfBad, KeepsNoneInFlight, NotesStarted}
 use Rattle.pb_unit.specs.declared.plan.Planned.{Planned}
 
 -- the children of these tickets were asked for their ends, each once, their answers were dropped, and nothing else was called; in which order no counter tells where each answers
@@ -66,7 +66,7 @@ pub record StandsWhole (b : Basis) (next : Option ℕ) (es : List (Event BadUnit
   pub all : count_due (states_in b.project es) ≡ length (rows_in b)
   pub answer : summary ≡ summary_of b.project es reasons (rows_in b)
   pub began : AllBeganFor b es reasons old new
-  pub numbers : (after : Option ℕ) × NumbersGiven (LacksNoNumber b old) es next after
+  pub numbers : (after : Option ℕ) × NumbersGiven (LacksNoNumber b.project b.read old) es next after
 
 -- a fault ended it, before which these had happened: of the unit that could not begin too, by a fault of its start, something had differed; and where no run number was left, all were given
 pub record StandsCut (b : Basis) (fault : BuildFault) (next : Option ℕ) (es before : List (Event BadUnit)) (old new : World) : Type 0 where
@@ -74,9 +74,9 @@ pub record StandsCut (b : Basis) (fault : BuildFault) (next : Option ℕ) (es be
   pub reasons : Reasons
   pub began : AllBeganFor b before reasons old new
   pub started : StartedFor b fault before es old new
-  pub spent : Spends (LacksNoNumber b old) fault next es
+  pub spent : Spends (LacksNoNumber b.project b.read old) fault next es
 
--- the units came to their end, and nothing was set to fail; it is a success exactly where no bad unit is told, and then each of them has answered and is good; the bad unit that is told is the first by the answers; nothing is noted of a unit that has not begun, and of each that has what differed first, which is something exactly where a child was started for it; no record is kept of a unit whose answer was dropped; and a unit for which no child was started answered by the record that counted in its place at first, and by the files of its folder as they stood at first, whether the records are true or not; that the units which it needs are as the record names them is said of true records alone (`told`)
+-- the units came to their end, and nothing was set to fail; it is a success exactly where no bad unit is told, and then each of them has answered and is good; the bad unit that is told is the first by the answers; nothing is noted of a unit that has not begun, and of each that has what differed first, which is something exactly where a child was started for it; whether the records are true or not, each unit that has begun did so for what differed first of it from the record that counted in its place at first, and where nothing did the units which it needs were as the record names them; no record is kept of a unit whose answer was dropped; and a unit for which no child was started answered by the record that counted in its place at first, and by the files of its folder as they stood at first, whether the records are true or not
 pub record EndsWhole {S : Type 0} (tells : Bool) (child : Answers) (Turns : S → List ℕ → List ℕ → Step → S → Type 0) (setup : Setup) (project : Project) (next : Option ℕ) (from last : S) (summary : Summary) (old new : Moment) : Type 0 where
   pub es : List (Event BadUnit)
   pub flies : Flies Turns (needs_of project) Anyhow Anything from es last
@@ -106,11 +106,12 @@ pub record EndsWhole {S : Type 0} (tells : Bool) (child : Answers) (Turns : S �
   pub numbers : (after : Option ℕ) × NumbersGiven IsUntold es next after
   pub unkept : IsTrue tells → KeepsNoneOfBad project es new.world
   pub dropped : IsTrue tells → KeepsNoneInFlight project es None new.world
+  pub began : IsTrue tells → AllBeganOnAny setup project done es reasons old.world new.world
   pub again : IsTrue tells → AllAnswerAgain setup project es done old.world
   pub told : IsTrue tells → Grounding child setup project next old.world (λ b. StandsWhole b next es reasons summary old.world new.world)
   pub calls : IsTrue tells → Grounding child setup project next old.world (λ b. (last : World) × CallsOver b es old.world old.counts last mid)
 
--- a fault ended them: its cause, and what the sink had heard, are those of the moment before the children in flight were dropped; no more children flew at one time than by the events before it, and the turn was asked no more; where an answer ended in it, or a unit could not begin, units were missing (`HandsBack`, `Flies`); no record is kept of a unit whose answer was dropped; and of a unit for which no child was started the same is said as at a good end
+-- a fault ended them: its cause, and what the sink had heard, are those of the moment before the children in flight were dropped; no more children flew at one time than by the events before it, and the turn was asked no more; where an answer ended in it, or a unit could not begin, units were missing (`HandsBack`, `Flies`); no record is kept of a unit whose answer was dropped; and of the units that have begun, and of those for which no child was started, the same is said as at a good end; of one that could not begin, by a fault of its start, something had differed too
 pub record EndsCut {S : Type 0} (tells : Bool) (child : Answers) (Turns : S → List ℕ → List ℕ → Step → S → Type 0) (setup : Setup) (project : Project) (next : Option ℕ) (from back : S) (fault : BuildFault) (old new : Moment) : Type 0 where
   pub es : List (Event BadUnit)
   pub last : S
@@ -130,7 +131,11 @@ pub record EndsCut {S : Type 0} (tells : Bool) (child : Answers) (Turns : S → 
   pub only : IsTrue tells → OnlyOf project es old.world new.world
   pub unkept : IsTrue tells → KeepsNoneOfBad project es new.world
   pub dropped : IsTrue tells → KeepsNoneInFlight project before asked new.world
-  pub again : IsTrue tells → (done : List (Option (List Directive))) × AllAnswerAgain setup project es done old.world
+  pub reasons : Reasons
+  pub done : List (Option (List Directive))
+  pub began : IsTrue tells → AllBeganOnAny setup project done before reasons old.world new.world
+  pub started : IsTrue tells → StartedOnAny setup project done fault before es old.world new.world
+  pub again : IsTrue tells → AllAnswerAgain setup project es done old.world
   pub told : IsTrue tells → Grounding child setup project next old.world (λ b. StandsCut b fault next es before old.world new.world)
   pub calls : IsTrue tells → Grounding child setup project next old.world (λ b. CallsCut b fault asked es before old.world old.counts mid.counts)
 

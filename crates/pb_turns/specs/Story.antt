@@ -6,6 +6,7 @@ use Rattle.std.specs.List.{AllByRecursion}
 use Rattle.pb_answer.specs.declared.fault.BuildFault.{BuildFault}
 use Rattle.pb_answer.specs.declared.fault.BuildFault.TheVariants.{Plan, Toolchain, Child, Device, Sink, OutOfMemory}
 use Rattle.pb_answer.specs.declared.fault.DeviceFault.TheVariants.{NumbersSpent}
+use Rattle.pb_command.specs.Command.{command_of}
 use Rattle.pb_directive.specs.declared.directive.Directive.{Directive}
 use Rattle.pb_flight.specs.declared.flight.Answer.{Answer}
 use Rattle.pb_flight.specs.declared.flight.State.{State}
@@ -17,6 +18,7 @@ use Rattle.pb_place.specs.Children.{child_at}
 use Rattle.pb_place.specs.Counts.{up}
 use Rattle.pb_place.specs.World.{World, Answers, from_nothing}
 use Rattle.pb_place.specs.declared.child_in_flight.ChildInFlight.{ChildInFlight}
+use Rattle.pb_place.specs.declared.command.Command.{Command}
 use Rattle.pb_place.specs.declared.place.StartFault.TheVariants.{CannotStart}
 use Rattle.pb_project.specs.Targets.{unit_at}
 use Rattle.pb_answer.specs.declared.bad_unit.BadUnit.{BadUnit}
@@ -24,7 +26,7 @@ use Rattle.pb_project.specs.declared.project.Project.{Project}
 use Rattle.pb_project.specs.declared.project.Setup.{Setup}
 use Rattle.pb_record.specs.Parts.{IsReading}
 use Rattle.pb_run.specs.Causes.{HasCause, is_of_start}
-use Rattle.pb_run.specs.Halves.{Footing, Basis, basis, outcomes_in, command_in, records_in, Keeps, IsBegun, WritesTo, child_of, key_at}
+use Rattle.pb_run.specs.Halves.{Footing, Basis, basis, outcomes_in, command_in, Keeps, IsBegun, WritesTo, child_of, key_at}
 use Rattle.pb_run.specs.Outcome.{Outcome, directives_in}
 use Rattle.pb_run.specs.Standing.{records_folder}
 use Rattle.pb_run.specs.Telling.{unit_lines}
@@ -125,39 +127,11 @@ pub record HasGiven (b : Basis) (es : List (Event BadUnit)) (done : List (Option
   pub lines : answer.lines ≡ unit_lines b.project unit (is_started es place) (messages_in outcome)
   pub noted : slice_get done place ≡ Some (directives_in outcome)
 
--- the units for which a child was started before the unit at a place began
-abbrev pub started_before : List (Event BadUnit) → ℕ → List ℕ
-started_before [] place = []
-started_before (Began unit spawned ∷ es) place = if unit == place then started_by es else started_before es place
-started_before (Gave unit answer ∷ es) place = started_before es place
-
--- the unit at a place has no record without a number
-abbrev pub LacksNoNumber : Basis → World → ℕ → Type 0
-LacksNoNumber b w place = (u : Planned) → unit_at b.project place ≡ Some u → lacks_number (records_in b w u.key) ≡ false
-
--- what differed first of the unit at a place when it began, in a world with the same sources in which its record's text was as at first, and in which the folders and records of the units that it reaches, all of which have answered and are good, stood as they stand now; a child was started for it exactly where something differed, and that is noted. Where nothing differed and its record had a number at first, its own folder and record stand now as at first. That world was the first one, where no child had been started yet and no record lacked a number at first
-pub record BeganFor (b : Basis) (es : List (Event BadUnit)) (reasons : Reasons) (first now : World) (place : ℕ) : Type 0 where
-  pub unit : Planned
-  pub there : unit_at b.project place ≡ Some unit
-  pub world : World
-  pub sources_stay : from_nothing b.project.workspace.target world ≡ b.sources
-  pub record_stays : finite.get world.files (place_of (records_folder b.project) unit.key) ≡ finite.get first.files (place_of (records_folder b.project) unit.key)
-  pub reaches : are_good (states_in b.project es) unit.reaches ≡ true
-  pub reached_stay : (p : ℕ) (v : Planned) (q : List ℕ) → Contains unit.reaches p → unit_at b.project p ≡ Some v → is_of (records_folder b.project) v.key q ≡ true → finite.get world.files q ≡ finite.get now.files q
-  pub difference : Option Difference
-  pub named : FirstDifference b.read (records_folder b.project) unit.key (command_in b place unit) world difference
-  pub started : is_started es place ≡ is_some difference
-  pub noted : slice_get reasons place ≡ Some (Some difference)
-  pub kept_stays : difference ≡ None → lacks_number (records_in b first unit.key) ≡ false → (q : List ℕ) → is_of (records_folder b.project) unit.key q ≡ true → finite.get now.files q ≡ finite.get first.files q
-  pub unstarted : started_before es place ≡ [] → ((p : ℕ) → LacksNoNumber b first p) → world ≡ first
-
--- each unit that has begun did so for what differed of it
-abbrev pub AllBeganFor : Basis → List (Event BadUnit) → Reasons → World → World → Type 0
-AllBeganFor b es reasons first now = (place : ℕ) → HasBegun (states_in b.project es) place → BeganFor b es reasons first now place
-
--- where a unit could not begin by a fault of its start, something had differed of it, as if its child had been started
-abbrev pub StartedFor : Basis → BuildFault → List (Event BadUnit) → List (Event BadUnit) → World → World → Type 0
-StartedFor b fault before es first now = (place : ℕ) (spawned : Bool) → es ≡ Began place spawned ∷ before → is_of_start fault ≡ true → (reasons : Reasons) × BeganFor b (Began place true ∷ before) reasons first now place
+-- what had happened before the unit at a place began
+abbrev pub events_before : List (Event BadUnit) → ℕ → List (Event BadUnit)
+events_before [] place = []
+events_before (Began unit spawned ∷ es) place = if unit == place then es else events_before es place
+events_before (Gave unit answer ∷ es) place = events_before es place
 
 -- a path is in no folder and no record's place of the units that have begun
 abbrev pub IsOutside : Project → List (Event BadUnit) → List ℕ → Type 0
@@ -167,6 +141,52 @@ IsOutside project es q = (place : ℕ) (u : Planned) → HasBegun (states_in pro
 pub record OnlyOf (project : Project) (es : List (Event BadUnit)) (old new : World) : Type 0 where
   pub variables : new.variables ≡ old.variables
   pub files : (q : List ℕ) → IsOutside project es q → finite.get new.files q ≡ finite.get old.files q
+
+-- the unit at a place has no record without a number
+abbrev pub LacksNoNumber : Project → Reading → World → ℕ → Type 0
+LacksNoNumber project read w place = (u : Planned) → unit_at project place ≡ Some u → lacks_number (record_at read (records_folder project) w.files u.key) ≡ false
+
+-- what differed first of the unit at a place when it began, from what its command asks, in a world with these sources in which its record's text was as at first, where only what is of units that had begun before had been changed, and in which the folders and records of the units that it reaches, all of which have answered and are good, stood as they stand now; a child was started for it exactly where something differed, and that is noted. Where nothing differed and its record had a number at first, its own folder and record stand now as at first. That world was the first one, where no child had been started yet and no record lacked a number at first
+pub record BeganFor (project : Project) (read : Reading) (sources : World) (command : ℕ → Planned → Command) (es : List (Event BadUnit)) (reasons : Reasons) (first now : World) (place : ℕ) : Type 0 where
+  pub unit : Planned
+  pub there : unit_at project place ≡ Some unit
+  pub world : World
+  pub sources_stay : from_nothing project.workspace.target world ≡ sources
+  pub record_stays : finite.get world.files (place_of (records_folder project) unit.key) ≡ finite.get first.files (place_of (records_folder project) unit.key)
+  pub only : OnlyOf project (events_before es place) first world
+  pub reaches : are_good (states_in project es) unit.reaches ≡ true
+  pub reached_stay : (p : ℕ) (v : Planned) (q : List ℕ) → Contains unit.reaches p → unit_at project p ≡ Some v → is_of (records_folder project) v.key q ≡ true → finite.get world.files q ≡ finite.get now.files q
+  pub difference : Option Difference
+  pub named : FirstDifference read (records_folder project) unit.key (command place unit) world difference
+  pub started : is_started es place ≡ is_some difference
+  pub noted : slice_get reasons place ≡ Some (Some difference)
+  pub kept_stays : difference ≡ None → lacks_number (record_at read (records_folder project) first.files unit.key) ≡ false → (q : List ℕ) → is_of (records_folder project) unit.key q ≡ true → finite.get now.files q ≡ finite.get first.files q
+  pub unstarted : started_by (events_before es place) ≡ [] → ((p : ℕ) → LacksNoNumber project read first p) → world ≡ first
+
+-- each unit that has begun did so for what differed of it
+abbrev pub AllBegan : Project → Reading → World → (ℕ → Planned → Command) → List (Event BadUnit) → Reasons → World → World → Type 0
+AllBegan project read sources command es reasons first now = (place : ℕ) → HasBegun (states_in project es) place → BeganFor project read sources command es reasons first now place
+
+-- where a unit could not begin by a fault of its start, something had differed of it, as if its child had been started
+abbrev pub HadDiffered : Project → Reading → World → (ℕ → Planned → Command) → BuildFault → List (Event BadUnit) → List (Event BadUnit) → World → World → Type 0
+HadDiffered project read sources command fault before es first now =
+    (place : ℕ) (spawned : Bool) → es ≡ Began place spawned ∷ before → is_of_start fault ≡ true → (reasons : Reasons) × BeganFor project read sources command (Began place true ∷ before) reasons first now place
+
+-- each unit that has begun did so over any records, true or not, and whatever reads their texts: with the sources of the first world, and by the command that a unit has after what is noted of the runs
+abbrev pub AllBeganOnAny : Setup → Project → List (Option (List Directive)) → List (Event BadUnit) → Reasons → World → World → Type 0
+AllBeganOnAny setup project done es reasons first now = (read : Reading) → IsReading read → AllBegan project read (from_nothing project.workspace.target first) (λ place u. command_of setup project u done) es reasons first now
+
+-- and so something had differed of one that could not begin
+abbrev pub StartedOnAny : Setup → Project → List (Option (List Directive)) → BuildFault → List (Event BadUnit) → List (Event BadUnit) → World → World → Type 0
+StartedOnAny setup project done fault before es first now = (read : Reading) → IsReading read → HadDiffered project read (from_nothing project.workspace.target first) (λ place u. command_of setup project u done) fault before es first now
+
+-- over a basis: with its sources, and by the command that a unit has after what the units give from nothing
+abbrev pub AllBeganFor : Basis → List (Event BadUnit) → Reasons → World → World → Type 0
+AllBeganFor b es reasons first now = AllBegan b.project b.read b.sources (command_in b) es reasons first now
+
+-- and so something had differed of one that could not begin
+abbrev pub StartedFor : Basis → BuildFault → List (Event BadUnit) → List (Event BadUnit) → World → World → Type 0
+StartedFor b fault before es first now = HadDiffered b.project b.read b.sources (command_in b) fault before es first now
 
 -- no text counts as the record of this unit
 abbrev pub HasNoRecord : Project → Planned → World → Type 0
@@ -217,8 +237,8 @@ pub record Happened (b : Basis) (done : List (Option (List Directive))) (aloft :
   pub gave : (place : ℕ) (answer : Answer BadUnit) → slice_get (states_in b.project es) place ≡ Some (Answered answer) → HasGiven b es done place answer
 
 -- as long as no child is started the world is as at first, where no record lacked a number then
-abbrev pub IsQuiet : Basis → List (Event BadUnit) → World → World → Type 0
-IsQuiet b es first now = started_by es ≡ [] → ((place : ℕ) → LacksNoNumber b first place) → now ≡ first
+abbrev pub IsQuiet : Project → Reading → List (Event BadUnit) → World → World → Type 0
+IsQuiet project read es first now = started_by es ≡ [] → ((place : ℕ) → LacksNoNumber project read first place) → now ≡ first
 
 -- of a unit that has not begun the same is noted as at first
 abbrev pub NotesBegun : Project → List (Event BadUnit) → Reasons → Reasons → Type 0
@@ -250,11 +270,11 @@ pub record Story (tells : Bool) (child : Answers) (first : UnitCrew) (at : Momen
   pub changes : IsTrue tells → Changes c.project at.world c.aloft.items es now.world now.counts.starts.flying
   pub unrecorded : IsTrue tells → KeepsNoneInFlight c.project es None now.world
   pub again : IsTrue tells → Replays c.setup c.project c.done.items c.aloft.items es at.world now.world
+  pub began : IsTrue tells → AllBeganOnAny c.setup c.project c.done.items es c.reasons.items at.world now.world
+  pub quiet : IsTrue tells → (read : Reading) → IsReading read → IsQuiet c.project read es at.world now.world
   pub held : IsTrue tells → (read : Reading) → IsReading read → HoldsNumbers (record_at read (records_folder c.project) now.world.files) c.store.numbers
-  pub happened : IsTrue tells
-      → FromFirst child first at c (λ b. Happened b c.done.items c.aloft.items c.store.next es now.world now.counts.starts.flying still × AllBeganFor b es c.reasons.items at.world now.world)
-  pub taken : IsTrue tells → FromFirst child first at c (λ b. NumbersGiven (LacksNoNumber b at.world) es first.store.next c.store.next)
-  pub quiet : IsTrue tells → FromFirst child first at c (λ b. IsQuiet b es at.world now.world)
+  pub happened : IsTrue tells → FromFirst child first at c (λ b. Happened b c.done.items c.aloft.items c.store.next es now.world now.counts.starts.flying still)
+  pub taken : IsTrue tells → FromFirst child first at c (λ b. NumbersGiven (LacksNoNumber b.project b.read at.world) es first.store.next c.store.next)
   pub calls : IsTrue tells → FromFirst child first at c (λ b. CallsOver b es at.world at.counts now.world now.counts)
   pub unnoted : NotesBegun c.project es first.reasons.items c.reasons.items
   pub noted : NotesStarted c.project es c.reasons.items
@@ -291,7 +311,8 @@ pub record StoryEnds (tells : Bool) (child : Answers) (fault : BuildFault) (aske
   pub changes : IsTrue tells → Changes c.project at.world c.aloft.items es now.world now.counts.starts.flying
   pub unrecorded : IsTrue tells → KeepsNoneInFlight c.project before asked now.world
   pub again : IsTrue tells → AllAnswerAgain c.setup c.project es c.done.items at.world
-  pub happened : IsTrue tells
-      → FromFirst child first at c (λ b. Happened b c.done.items c.aloft.items c.store.next es now.world now.counts.starts.flying still × AllBeganFor b before c.reasons.items at.world now.world)
-  pub caused : IsTrue tells → FromFirst child first at c (λ b. Spends (LacksNoNumber b at.world) fault first.store.next es × StartedFor b fault before es at.world now.world)
+  pub began : IsTrue tells → AllBeganOnAny c.setup c.project c.done.items before c.reasons.items at.world now.world
+  pub started : IsTrue tells → StartedOnAny c.setup c.project c.done.items fault before es at.world now.world
+  pub happened : IsTrue tells → FromFirst child first at c (λ b. Happened b c.done.items c.aloft.items c.store.next es now.world now.counts.starts.flying still)
+  pub caused : IsTrue tells → FromFirst child first at c (λ b. Spends (LacksNoNumber b.project b.read at.world) fault first.store.next es)
   pub calls : IsTrue tells → FromFirst child first at c (λ b. CallsCut b fault asked es before at.world at.counts now.counts)

@@ -4,13 +4,15 @@ ghost use Rattle.std.specs.Prelude.{◌≡◌, ◌<◌, [], ℕ, List, Some, len
 ghost use Rattle.pb_flight.specs.Events.{Event, IsLawful};
 ghost use Rattle.pb_place.specs.Counts.{Counts};
 ghost use Rattle.pb_place.specs.World.{World};
+ghost use Rattle.pb_place.specs.declared.command.Command.{Command};
 ghost use Rattle.pb_answer.specs.declared.bad_unit.BadUnit.{BadUnit};
 ghost use Rattle.pb_answer.specs.declared.fault.BuildFault.{BuildFault};
 ghost use Rattle.pb_run.specs.Halves.{Basis};
+ghost use Rattle.pb_soundness.specs.Records.{Reading};
 ghost use Rattle.pb_turns.specs.Crew.{needs_of, tickets_of, IsManned};
 ghost use Rattle.pb_turns.specs.Ends.{Dropped, Drained};
 ghost use Rattle.pb_turns.specs.Rows.{Reasons};
-ghost use Rattle.pb_turns.specs.Story.{AllBeganFor, CameAfter, Changes, Happened, HasNoRecord, StartedFor};
+ghost use Rattle.pb_turns.specs.Story.{AllBegan, CameAfter, Changes, HadDiffered, Happened, HasNoRecord};
 ghost use Rattle.pb_project.specs.Targets.{unit_at};
 ghost use Rattle.pb_unit.specs.declared.plan.Planned.{Planned};
 
@@ -35,12 +37,12 @@ fn drop_first<P: Place>(alloc: Global, crew: &mut UnitCrew, place: &mut P)
     ensures happened { (b : Basis) (es : List (Event BadUnit)) → IsTrue P.tells → b.project ≡ crew.old.project
         → Happened b crew.old.done.items crew.old.aloft.items crew.old.store.next es (P.world place.old) (P.counts place.old).starts.flying (P.still place.old)
         → Happened b crew.new.done.items crew.new.aloft.items crew.new.store.next es (P.world place.new) (P.counts place.new).starts.flying (P.still place.new) }
-    ensures began { (b : Basis) (fault : BuildFault) (es before : List (Event BadUnit)) (reasons : Reasons) (first : World) → IsTrue P.tells → b.project ≡ crew.old.project → IsLawful (needs_of b.project) es → CameAfter b.project fault before es
-        → Happened b crew.old.done.items crew.old.aloft.items crew.old.store.next es (P.world place.old) (P.counts place.old).starts.flying (P.still place.old)
-        → AllBeganFor b before reasons first (P.world place.old) → AllBeganFor b before reasons first (P.world place.new) }
-    ensures started { (b : Basis) (fault : BuildFault) (es before : List (Event BadUnit)) (first : World) → IsTrue P.tells → b.project ≡ crew.old.project
-        → Happened b crew.old.done.items crew.old.aloft.items crew.old.store.next es (P.world place.old) (P.counts place.old).starts.flying (P.still place.old)
-        → StartedFor b fault before es first (P.world place.old) → StartedFor b fault before es first (P.world place.new) }
+    ensures began { (read : Reading) (sources : World) (command : ℕ → Planned → Command) (fault : BuildFault) (es before : List (Event BadUnit)) (reasons : Reasons) (first : World) → IsTrue P.tells → IsLawful (needs_of crew.old.project) es → CameAfter crew.old.project fault before es
+        → Changes crew.old.project first crew.old.aloft.items es (P.world place.old) (P.counts place.old).starts.flying
+        → AllBegan crew.old.project read sources command before reasons first (P.world place.old) → AllBegan crew.old.project read sources command before reasons first (P.world place.new) }
+    ensures started { (read : Reading) (sources : World) (command : ℕ → Planned → Command) (fault : BuildFault) (es before : List (Event BadUnit)) (first : World) → IsTrue P.tells
+        → Changes crew.old.project first crew.old.aloft.items es (P.world place.old) (P.counts place.old).starts.flying
+        → HadDiffered crew.old.project read sources command fault before es first (P.world place.old) → HadDiffered crew.old.project read sources command fault before es first (P.world place.new) }
 {
     let aloft = crew.aloft.remove(0);
     drop_unit(alloc, place, &aloft.begun);
@@ -60,12 +62,12 @@ pub(crate) fn drain<P: Place>(alloc: Global, crew: &mut UnitCrew, place: &mut P)
     ensures happened { (b : Basis) (es : List (Event BadUnit)) → IsTrue P.tells → b.project ≡ crew.old.project
         → Happened b crew.old.done.items crew.old.aloft.items crew.old.store.next es (P.world place.old) (P.counts place.old).starts.flying (P.still place.old)
         → Happened b crew.new.done.items crew.new.aloft.items crew.new.store.next es (P.world place.new) (P.counts place.new).starts.flying (P.still place.new) }
-    ensures began { (b : Basis) (fault : BuildFault) (es before : List (Event BadUnit)) (reasons : Reasons) (first : World) → IsTrue P.tells → b.project ≡ crew.old.project → IsLawful (needs_of b.project) es → CameAfter b.project fault before es
-        → Happened b crew.old.done.items crew.old.aloft.items crew.old.store.next es (P.world place.old) (P.counts place.old).starts.flying (P.still place.old)
-        → AllBeganFor b before reasons first (P.world place.old) → AllBeganFor b before reasons first (P.world place.new) }
-    ensures started { (b : Basis) (fault : BuildFault) (es before : List (Event BadUnit)) (first : World) → IsTrue P.tells → b.project ≡ crew.old.project
-        → Happened b crew.old.done.items crew.old.aloft.items crew.old.store.next es (P.world place.old) (P.counts place.old).starts.flying (P.still place.old)
-        → StartedFor b fault before es first (P.world place.old) → StartedFor b fault before es first (P.world place.new) }
+    ensures began { (read : Reading) (sources : World) (command : ℕ → Planned → Command) (fault : BuildFault) (es before : List (Event BadUnit)) (reasons : Reasons) (first : World) → IsTrue P.tells → IsLawful (needs_of crew.old.project) es → CameAfter crew.old.project fault before es
+        → Changes crew.old.project first crew.old.aloft.items es (P.world place.old) (P.counts place.old).starts.flying
+        → AllBegan crew.old.project read sources command before reasons first (P.world place.old) → AllBegan crew.old.project read sources command before reasons first (P.world place.new) }
+    ensures started { (read : Reading) (sources : World) (command : ℕ → Planned → Command) (fault : BuildFault) (es before : List (Event BadUnit)) (first : World) → IsTrue P.tells
+        → Changes crew.old.project first crew.old.aloft.items es (P.world place.old) (P.counts place.old).starts.flying
+        → HadDiffered crew.old.project read sources command fault before es first (P.world place.old) → HadDiffered crew.old.project read sources command fault before es first (P.world place.new) }
 {
     while !crew.aloft.is_empty() {
         drop_first(alloc, crew, place);

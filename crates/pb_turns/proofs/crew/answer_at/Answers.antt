@@ -9,7 +9,7 @@ use Rattle.pb_turns.specs.declared.crew.UnitCrew.{UnitCrew}
 use Rattle.pb_flight.specs.Events.{Gave}
 use Rattle.pb_flight.proofs.Lists.{injective, length_set}
 use Rattle.pb_place.specs.World.{ChangesOnly}
-use Rattle.pb_run.specs.Halves.{WritesTo, basis, child_of}
+use Rattle.pb_run.specs.Halves.{WritesTo, child_of}
 use Rattle.pb_run.specs.Standing.{IsCommandOf, records_folder}
 use Rattle.pb_run.specs.Telling.{unit_lines}
 use Rattle.pb_run.proofs.Reusing.{child_numbered}
@@ -26,6 +26,7 @@ use Rattle.pb_turns.proofs.Beginning.{goes_lists}
 use Rattle.pb_turns.proofs.Calling.{calls_answered, calls_unanswered, calls_untold}
 use Rattle.pb_turns.proofs.Changing.{its_writes, changes_less, changes_after}
 use Rattle.pb_turns.proofs.Counting.{came_answering, names_answering, goes_answered, stops_answered, stops_untold}
+use Rattle.pb_turns.proofs.Differing.{answered_began, unanswered_began}
 use Rattle.pb_turns.proofs.Lists.{all_get, get_map, map_removed}
 use Rattle.pb_turns.proofs.Manning.{answer_fault_lands, flying_of, manned_answered}
 use Rattle.pb_turns.proofs.Numbering.{answered_taken, has_child, started_flies, numbers_answered, spends_answered}
@@ -128,14 +129,13 @@ returns-in-Err-clause-story g c = λ first at taken faults es given unit s flyin
       unrecorded = λ t. subst (λ n. KeepsNoneInFlight c.args.crew.now.project es (Some n) new.world) (sym its)
           (flight_asked c.args.crew.now.project c.requires.manned.order es now.world new.world c.remove-unit.result.unit c.index-units-unit.result there (only t) (s.unrecorded t));
       again = λ t. (s.again t).gave;
+      began = unanswered_began g.P.Place.tells g.P.Place.child first c.args.crew.now at now new (g.P.Place.still c.args.place.now) es given s c.requires.manned.order lawful c.args.index c.remove-unit.result c.index-units-unit.result there at_index only c.answer_unit.ensures.same;
+      started = λ t read reading. none_began c.args.crew.now.project read _ _ c.in-Err.fault es at.world new.world;
       happened = failed_happened g.P.Place.tells g.P.Place.child first c.args.crew.now at now new (g.P.Place.still c.args.place.now) (g.P.Place.still c.answer_unit.new.place) es given c.args.index c.remove-unit.result c.index-units-unit.result there s at_index
-          c.requires.manned.units_apart c.requires.manned.tickets_apart c.requires.manned.numbers_apart c.answer_unit.new.store.next (λ footing read setup sources states done other its reading t. c.answer_unit.ensures.others footing read setup sources states done other its reading t (s.held t read reading)) c.requires.manned.order only c.answer_unit.ensures.same
+          c.requires.manned.units_apart c.requires.manned.tickets_apart c.requires.manned.numbers_apart c.answer_unit.new.store.next (λ footing read setup sources states done other its reading t. c.answer_unit.ensures.others footing read setup sources states done other its reading t (s.held t read reading))
           c.remove-unit.new.self.items c.remove-unit.ensures.items (λ footing read setup sources states done reading t. c.in-Err.ensures.keeps footing read setup sources states done reading t (s.held t read reading));
       caused = λ t f r sources reading k.
-          let b = basis f r g.P.Place.child c.args.crew.now.setup c.args.crew.now.project sources in (
-            spends_answered (LacksNoNumber b at.world) es first.store.next c.args.crew.now.store.next c.index-units-unit.result.key (child_of c.remove-unit.result.begun) c.in-Err.fault now.counts.starts new.counts.starts c.in-Err.ensures.takes.0 (s.taken t f r sources reading k),
-            none_began b c.in-Err.fault es at.world new.world,
-          );
+          spends_answered (LacksNoNumber c.args.crew.now.project r at.world) es first.store.next c.args.crew.now.store.next c.index-units-unit.result.key (child_of c.remove-unit.result.begun) c.in-Err.fault now.counts.starts new.counts.starts c.in-Err.ensures.takes.0 (s.taken t f r sources reading k);
       calls = calls_unanswered g.P.Place.world g.P.Place.counts g.P.Place.tells g.P.Place.child first c.args.crew.now at now new (g.P.Place.still c.args.place.now) es given s c.requires.manned.order c.args.index c.remove-unit.result at_index c.index-units-unit.result there c.in-Err.fault unit its c.in-Err.ensures.lands;
     }
 
@@ -167,10 +167,12 @@ returns-in-Err-lines_of_unit-clause-story g c = λ first at taken faults es give
       unrecorded = λ t. subst (λ n. KeepsNoneInFlight c.args.crew.now.project es (Some n) new.world) (sym its)
           (flight_asked c.args.crew.now.project c.requires.manned.order es now.world new.world c.remove-unit.result.unit c.index-units-unit.result there (only t) (s.unrecorded t));
       again = λ t. (s.again t).gave;
+      began = unanswered_began g.P.Place.tells g.P.Place.child first c.args.crew.now at now new (g.P.Place.still c.args.place.now) es given s c.requires.manned.order lawful c.args.index c.remove-unit.result c.index-units-unit.result there at_index only c.answer_unit.ensures.same;
+      started = λ t read reading. none_began c.args.crew.now.project read _ _ OutOfMemory es at.world new.world;
       happened = untold_happened g.P.Place.tells g.P.Place.child first c.args.crew.now at now new (g.P.Place.still c.args.place.now) (g.P.Place.still c.answer_unit.new.place) es given c.args.index c.remove-unit.result c.index-units-unit.result there s at_index
-          c.requires.manned.units_apart c.requires.manned.tickets_apart c.requires.manned.numbers_apart c.answer_unit.new.store.next (λ footing read setup sources states done other its reading t. c.answer_unit.ensures.others footing read setup sources states done other its reading t (s.held t read reading)) c.requires.manned.order only c.answer_unit.ensures.same
+          c.requires.manned.units_apart c.requires.manned.tickets_apart c.requires.manned.numbers_apart c.answer_unit.new.store.next (λ footing read setup sources states done other its reading t. c.answer_unit.ensures.others footing read setup sources states done other its reading t (s.held t read reading))
           c.in-Ok.ran c.in-Ok.ensures.outcome (λ footing read setup sources states done reading t. c.in-Ok.ensures.keeps footing read setup sources states done reading t (s.held t read reading)) c.in-Ok.ensures.directives c.remove-unit.new.self.items c.remove-unit.ensures.items;
-      caused = λ t f r sources reading k. (tt, none_began (basis f r g.P.Place.child c.args.crew.now.setup c.args.crew.now.project sources) OutOfMemory es at.world new.world);
+      caused = λ t f r sources reading k. tt;
       calls = calls_untold g.P.Place.world g.P.Place.counts g.P.Place.tells g.P.Place.child first c.args.crew.now at now new (g.P.Place.still c.args.place.now) es given s c.requires.manned.order c.args.index c.remove-unit.result at_index c.index-units-unit.result there c.in-Ok.ran unit its c.in-Ok.ensures.lands;
     }
 
@@ -213,9 +215,11 @@ returns-clause-story g c = λ first at taken faults es given unit s flying lawfu
       again = answered_again g.P.Place.tells g.P.Place.child first c.args.crew.now at now new (g.P.Place.still c.args.place.now) es given s c.requires.manned.order g.P.Place.world g.P.Place.counts _ lawful c.args.index c.remove-unit.result c.index-units-unit.result c.requires.manned at_index there only
           c.in-Ok.ran c.in-Ok-lines_of_unit.lines (c.in-Ok-lines_of_unit.ensures ∙ ap (λ p. unit_lines p c.index-units-unit.result c.in-Ok.ran.started c.as_slice.result.now) c.get.ensures ∙ ap (λ ms. unit_lines c.args.crew.now.project c.index-units-unit.result c.in-Ok.ran.started ms) c.as_slice.ensures)
           c.in-Ok.ensures.judged c.remove-unit.new.self.items c.note_answer.new.done.items c.remove-unit.ensures.items c.note_answer.ensures.done;
+      began = answered_began g.P.Place.tells g.P.Place.child first c.args.crew.now at now new (g.P.Place.still c.args.place.now) es given s c.requires.manned.order lawful c.args.index c.remove-unit.result c.index-units-unit.result there at_index only c.answer_unit.ensures.same
+          c.note_answer.new.done.items c.in-Ok.ran.directives answer c.note_answer.ensures.done;
       held = λ t read reading. c.in-Ok.ensures.numbers read reading t (writes t) (s.held t read reading);
       happened = answered_happened g.P.Place.tells g.P.Place.child first c.args.crew.now at now new (g.P.Place.still c.args.place.now) (g.P.Place.still c.answer_unit.new.place) es given c.args.index c.remove-unit.result c.index-units-unit.result there s at_index
-          c.requires.manned.units_apart c.requires.manned.tickets_apart c.requires.manned.numbers_apart c.answer_unit.new.store.next (λ footing read setup sources states done other its reading t. c.answer_unit.ensures.others footing read setup sources states done other its reading t (s.held t read reading)) c.requires.manned.order only c.answer_unit.ensures.same
+          c.requires.manned.units_apart c.requires.manned.tickets_apart c.requires.manned.numbers_apart c.answer_unit.new.store.next (λ footing read setup sources states done other its reading t. c.answer_unit.ensures.others footing read setup sources states done other its reading t (s.held t read reading))
           c.in-Ok.ran c.in-Ok.ensures.outcome (λ footing read setup sources states done reading t. c.in-Ok.ensures.keeps footing read setup sources states done reading t (s.held t read reading)) c.in-Ok.ensures.directives c.in-Ok-lines_of_unit.lines c.remove-unit.new.self.items c.note_answer.new.done.items c.remove-unit.ensures.items c.note_answer.ensures.done
           c.in-Ok.ensures.started (c.in-Ok-lines_of_unit.ensures ∙ ap (λ p. unit_lines p c.index-units-unit.result c.in-Ok.ran.started c.as_slice.result.now) c.get.ensures ∙ ap (λ ms. unit_lines c.args.crew.now.project c.index-units-unit.result c.in-Ok.ran.started ms) c.as_slice.ensures);
       quiet = answered_quiet g.P.Place.tells g.P.Place.child first c.args.crew.now at now new (g.P.Place.still c.args.place.now) es given s c.args.index c.remove-unit.result c.index-units-unit.result there at_index answer c.answer_unit.ensures.same;

@@ -9,13 +9,14 @@ use Rattle.pb_run.specs.Standing.{records_folder}
 use Rattle.pb_store.specs.Looking.{looked_at}
 use Rattle.pb_turns.specs.Crew.{ticket_of_child}
 use Rattle.pb_turns.specs.Moments.{moment}
-use Rattle.pb_turns.specs.Story.{Story, IsUntold, NoneWritesTo}
+use Rattle.pb_turns.specs.Story.{LacksNoNumber, Story, IsUntold, NoneWritesTo}
 use Rattle.pb_turns.proofs.Again.{begun_again, gave_begun}
 use Rattle.pb_turns.proofs.Alone.{none_writes}
-use Rattle.pb_turns.proofs.Beginning.{goes_lists, refused_happened, failed_caused, failed_happened, begun_happened, by_number}
+use Rattle.pb_turns.proofs.Beginning.{goes_lists, refused_happened, failed_happened, begun_happened, by_number}
 use Rattle.pb_turns.proofs.Calling.{calls_begun, calls_unbegun, launched_behind}
 use Rattle.pb_turns.proofs.Changing.{changes_begun, changes_more}
 use Rattle.pb_turns.proofs.Counting.{goes_begun, stops_begun, stops_refused_begun, children_are}
+use Rattle.pb_turns.proofs.Differing.{begun_began, unbegun_began, unbegun_started}
 use Rattle.pb_turns.proofs.Manning.{manned_same, manned_begun, begin_fault_flies, flying_of}
 use Rattle.pb_turns.proofs.Numbering.{begun_taken, numbers_begun}
 use Rattle.pb_turns.proofs.Quiet.{begun_quiet}
@@ -61,8 +62,10 @@ returns-in-Err-clause-story g c = λ first at taken faults es given s flying law
             c.args.unit u there may.untouched (only_same _ now.world) (λ ticket its is. is) false c.make_room.new.aloft.items c.make_room.ensures.aloft;
         unrecorded = s.unrecorded;
         again = λ t. gave_begun c.args.crew.now.setup c.args.crew.now.project c.args.crew.now.done.items es at.world c.args.unit false may.untouched (s.again t).gave;
+        began = s.began;
+        started = λ t read reading place spawned is so. absurd (false≢true so);
         happened = refused_happened g.P.Place.tells g.P.Place.child first c.args.crew.now at now now (g.P.Place.still c.args.place.now) (g.P.Place.still c.args.place.now) es given c.args.unit u c.requires.manned.order there s may c.make_room.new.aloft.items c.make_room.ensures.aloft;
-        caused = λ t f r sources reading keeps. (tt, λ place spawned is so. absurd (false≢true so));
+        caused = λ t f r sources reading keeps. tt;
         calls = λ t f r sources reading keeps. (now.world, now.counts, s.calls t f r sources reading keeps, inl refl);
       },
     )
@@ -70,6 +73,8 @@ returns-in-Err-clause-story g c = λ first at taken faults es given s flying law
 pub returns-in-Err-begin_unit-clause-story : goal.returns-in-Err-begin_unit-clause-story
 returns-in-Err-begin_unit-clause-story g c = λ first at taken faults es given s flying lawful is_given may.
     let there = there_at c.args.crew.now.project.plan.planned c.units.result.now c.args.unit c.index-units-unit.result c.requires.unit c.units.ensures c.index-units-unit.is in
+    let now = moment (g.P.Place.world c.args.place.now) (g.P.Place.counts c.args.place.now) (g.P.Place.most c.args.place.now) taken faults in
+    let new = moment (g.P.Place.world c.begin_unit.new.place) (g.P.Place.counts c.begin_unit.new.place) (g.P.Place.most c.begin_unit.new.place) taken faults in
     let alone : IsTrue g.P.Place.tells → NoneWritesTo c.index-units-unit.result.out (g.P.Place.counts c.begin_unit.new.place).starts.flying =
     λ t. none_writes c.args.crew.now.project c.requires.manned.order at.world (g.P.Place.world c.begin_unit.new.place) c.args.crew.now.aloft.items (Began c.args.unit false ∷ es) (g.P.Place.counts c.begin_unit.new.place).starts.flying
     c.requires.manned.units (ap (map ticket_of_child) (begin_fault_flies _ _ c.in-Err-begin_unit.fault _ _ c.in-Err-begin_unit.ensures.takes.0) ∙ c.requires.manned.tickets)
@@ -77,8 +82,8 @@ returns-in-Err-begin_unit-clause-story g c = λ first at taken faults es given s
     (s.changes t) (λ index a at. flying_of c.args.crew.now (g.P.Place.counts c.args.place.now) index a c.requires.manned at)
     c.args.unit c.index-units-unit.result there may.untouched (c.begin_unit.ensures.only t) c.begin_unit.ensures.stay false c.args.crew.now.aloft.items refl)
     c.args.unit c.index-units-unit.result there c.requires.grounded in
-    let (spawned, stops, spends, came, names) = stops_begun c.args.crew.now.project at (moment (g.P.Place.world c.args.place.now) (g.P.Place.counts c.args.place.now) (g.P.Place.most c.args.place.now) taken faults)
-    (moment (g.P.Place.world c.begin_unit.new.place) (g.P.Place.counts c.begin_unit.new.place) (g.P.Place.most c.begin_unit.new.place) taken faults)
+    let (spawned, stops, spends, came, names) = stops_begun c.args.crew.now.project at now
+    new
     c.args.crew.now.started.items c.args.crew.now.aloft.items es given c.args.unit s.goes is_given may.untouched refl c.index-units-unit.result there g.P.Place.tells alone c.args.crew.now.store.next c.in-Err-begin_unit.fault
     c.in-Err-begin_unit.ensures.takes.0 c.in-Err-begin_unit.ensures.takes.1 in (
       spawned,
@@ -96,16 +101,16 @@ returns-in-Err-begin_unit-clause-story g c = λ first at taken faults es given s
             c.args.unit c.index-units-unit.result there may.untouched (c.begin_unit.ensures.only t) c.begin_unit.ensures.stay spawned c.make_room.new.aloft.items c.make_room.ensures.aloft;
         unrecorded = λ t. flight_unbegun c.args.crew.now.project c.requires.manned.order es (g.P.Place.world c.args.place.now) (g.P.Place.world c.begin_unit.new.place) c.args.unit c.index-units-unit.result there (c.begin_unit.ensures.only t) (s.unrecorded t) may.untouched;
         again = λ t. gave_begun c.args.crew.now.setup c.args.crew.now.project c.args.crew.now.done.items es at.world c.args.unit spawned may.untouched (s.again t).gave;
-        happened = failed_happened g.P.Place.tells g.P.Place.child first c.args.crew.now at (moment (g.P.Place.world c.args.place.now) (g.P.Place.counts c.args.place.now) (g.P.Place.most c.args.place.now) taken faults)
-            (moment (g.P.Place.world c.begin_unit.new.place) (g.P.Place.counts c.begin_unit.new.place) (g.P.Place.most c.begin_unit.new.place) taken faults) (g.P.Place.still c.args.place.now) (g.P.Place.still c.begin_unit.new.place)
+        began = unbegun_began g.P.Place.tells g.P.Place.child first c.args.crew.now at now new (g.P.Place.still c.args.place.now) es given s c.requires.manned.order lawful c.args.unit c.index-units-unit.result there may (λ t. c.begin_unit.ensures.only t) c.as_slice.result.now c.as_slice.ensures.value;
+        started = unbegun_started g.P.Place.tells g.P.Place.child first c.args.crew.now at now new (g.P.Place.still c.args.place.now) es given s c.requires.manned.order lawful c.args.unit c.index-units-unit.result there may (λ t. c.begin_unit.ensures.only t) c.as_slice.result.now c.as_slice.ensures.value
+            spawned c.in-Err-begin_unit.fault (within_reasons c.args.crew.now c.args.unit c.requires.manned.reasoned c.requires.unit) (λ read reading t. c.in-Err-begin_unit.ensures.cause read reading t (s.held t read reading));
+        happened = failed_happened g.P.Place.tells g.P.Place.child first c.args.crew.now at now
+            new (g.P.Place.still c.args.place.now) (g.P.Place.still c.begin_unit.new.place)
             es given c.args.unit c.index-units-unit.result c.requires.manned.order there s may c.begin_unit.new.store.next c.as_slice.result.now c.as_slice.ensures.value
-            c.begin_unit.ensures.keeps c.begin_unit.ensures.others c.begin_unit.ensures.only spawned c.make_room.new.aloft.items c.make_room.ensures.aloft;
-        caused = failed_caused g.P.Place.tells g.P.Place.child first c.args.crew.now at (moment (g.P.Place.world c.args.place.now) (g.P.Place.counts c.args.place.now) (g.P.Place.most c.args.place.now) taken faults)
-            (moment (g.P.Place.world c.begin_unit.new.place) (g.P.Place.counts c.begin_unit.new.place) (g.P.Place.most c.begin_unit.new.place) taken faults) (g.P.Place.still c.args.place.now) (g.P.Place.still c.begin_unit.new.place)
-            es given c.args.unit c.index-units-unit.result c.requires.manned.order there s may c.begin_unit.new.store.next c.as_slice.result.now c.as_slice.ensures.value
-            c.begin_unit.ensures.keeps c.begin_unit.ensures.others c.begin_unit.ensures.only spawned c.in-Err-begin_unit.fault spends (within_reasons c.args.crew.now c.args.unit c.requires.manned.reasoned c.requires.unit) (λ read reading t. c.in-Err-begin_unit.ensures.cause read reading t (s.held t read reading));
-        calls = calls_unbegun g.P.Place.tells g.P.Place.child first c.args.crew.now at (moment (g.P.Place.world c.args.place.now) (g.P.Place.counts c.args.place.now) (g.P.Place.most c.args.place.now) taken faults)
-            (moment (g.P.Place.world c.begin_unit.new.place) (g.P.Place.counts c.begin_unit.new.place) (g.P.Place.most c.begin_unit.new.place) taken faults) (g.P.Place.still c.args.place.now)
+            c.begin_unit.ensures.keeps c.begin_unit.ensures.others spawned c.make_room.new.aloft.items c.make_room.ensures.aloft;
+        caused = λ t f r sources reading k. spends (LacksNoNumber c.args.crew.now.project r at.world) first.store.next (s.taken t f r sources reading k);
+        calls = calls_unbegun g.P.Place.tells g.P.Place.child first c.args.crew.now at now
+            new (g.P.Place.still c.args.place.now)
             es given c.args.unit c.index-units-unit.result c.requires.manned.order there s may c.as_slice.result.now c.as_slice.ensures.value spawned c.in-Err-begin_unit.fault
             (λ t. elim (c.in-Err-begin_unit.ensures.stops t) [
               | inl look ↦ inl look
@@ -139,12 +144,14 @@ returns-clause-story g c = λ first at taken faults es given s flying lawful is_
       again = begun_again g.P.Place.tells g.P.Place.child first c.args.crew.now at now new (g.P.Place.still c.args.place.now) es given s c.requires.manned.order c.args.unit c.index-units-unit.result there may.untouched (λ t. c.begin_unit.ensures.only t)
           c.as_slice.result.now c.as_slice.ensures.value c.in-Ok-begin_unit.made.begun c.in-Ok-begin_unit.ensures.asks c.in-Ok-begin_unit.made.difference c.note_begun.new.aloft.items more (λ read reading t. c.in-Ok-begin_unit.ensures.differs read reading t (s.held t read reading)) c.in-Ok-begin_unit.ensures.spawned
           c.in-Ok-begin_unit.ensures.carries c.in-Ok-begin_unit.ensures.same;
+      began = begun_began g.P.Place.tells g.P.Place.child first c.args.crew.now at now new (g.P.Place.still c.args.place.now) es given s c.requires.manned.order lawful c.args.unit c.index-units-unit.result there may (λ t. c.begin_unit.ensures.only t) c.as_slice.result.now c.as_slice.ensures.value
+          c.in-Ok-begin_unit.made.begun c.in-Ok-begin_unit.ensures.asks c.in-Ok-begin_unit.made.difference c.note_begun.new.reasons.items (λ read reading t. c.in-Ok-begin_unit.ensures.differs read reading t (s.held t read reading)) c.in-Ok-begin_unit.ensures.spawned
+          (within_reasons c.args.crew.now c.args.unit c.requires.manned.reasoned c.requires.unit) c.in-Ok-begin_unit.ensures.same c.note_begun.ensures.reasons;
       held = λ t read reading. c.in-Ok-begin_unit.ensures.numbers read t (s.held t read reading);
       happened = begun_happened g.P.Place.tells g.P.Place.child first c.args.crew.now at now new (g.P.Place.still c.args.place.now) (g.P.Place.still c.begin_unit.new.place)
           es given c.args.unit c.index-units-unit.result c.requires.manned.order there s may c.begin_unit.new.store.next c.as_slice.result.now c.as_slice.ensures.value
-          c.begin_unit.ensures.keeps c.begin_unit.ensures.others c.begin_unit.ensures.only c.in-Ok-begin_unit.made.begun c.note_begun.new.aloft.items c.in-Ok-begin_unit.made.difference c.note_begun.new.reasons.items more
-          (λ footing read sources states reading t. c.in-Ok-begin_unit.ensures.begun footing read sources states reading t (s.held t read reading)) (λ read reading t. c.in-Ok-begin_unit.ensures.differs read reading t (s.held t read reading))
-          c.in-Ok-begin_unit.ensures.spawned (within_reasons c.args.crew.now c.args.unit c.requires.manned.reasoned c.requires.unit) c.in-Ok-begin_unit.ensures.same c.note_begun.ensures.reasons;
+          c.begin_unit.ensures.keeps c.begin_unit.ensures.others c.in-Ok-begin_unit.made.begun c.note_begun.new.aloft.items more
+          (λ footing read sources states reading t. c.in-Ok-begin_unit.ensures.begun footing read sources states reading t (s.held t read reading));
       quiet = begun_quiet g.P.Place.tells g.P.Place.child first c.args.crew.now at now new (g.P.Place.still c.args.place.now) es given c.args.unit s c.in-Ok-begin_unit.made.begun c.in-Ok-begin_unit.ensures.same;
       calls = calls_begun g.P.Place.tells g.P.Place.child first c.args.crew.now at now new (g.P.Place.still c.args.place.now) es given c.args.unit c.index-units-unit.result c.requires.manned.order there s may c.as_slice.result.now c.as_slice.ensures.value
           c.in-Ok-begin_unit.made.begun c.in-Ok-begin_unit.ensures.asks c.begin_unit.ensures.only c.in-Ok-begin_unit.ensures.same c.in-Ok-begin_unit.ensures.looks

@@ -1,7 +1,9 @@
 use Rattle.std.proofs.Common.{◌≡◌, ◌∙◌, Some, sym, ap, subst}
+use Rattle.pb_flight.specs.Events.{IsLawful}
 use Rattle.pb_project.specs.declared.project.Project.{Project}
 use Rattle.pb_project.specs.Targets.{unit_at}
-use Rattle.pb_turns.specs.Story.{Changes, HasNoRecord}
+use Rattle.pb_turns.specs.Crew.{needs_of}
+use Rattle.pb_turns.specs.Story.{AllBegan, CameAfter, Changes, HadDiffered, HasNoRecord}
 use Rattle.pb_turns.specs.declared.crew.UnitCrew.{UnitCrew}
 use Rattle.pb_turns.proofs.dropping.drain.Goals as goal
 
@@ -24,10 +26,16 @@ loop-alloc-preserved g c = record {
       (subst (λ (p : Project). HasNoRecord p unit (g.P.Place.world c.loop-alloc.place)) (sym same) (c.loop-alloc.invariant.unrecorded first es index unit tells old there none)));
   happened = λ b es tells project h.
       c.drop_first.ensures.happened b es tells (project ∙ sym (ap (λ (x : UnitCrew). x.project) c.loop-alloc.invariant.same)) (c.loop-alloc.invariant.happened b es tells project h);
-  began = λ b fault es before reasons first tells project lawful came h began.
-      c.drop_first.ensures.began b fault es before reasons first tells (project ∙ sym (ap (λ (x : UnitCrew). x.project) c.loop-alloc.invariant.same)) lawful came (c.loop-alloc.invariant.happened b es tells project h)
-      (c.loop-alloc.invariant.began b fault es before reasons first tells project lawful came h began);
-  started = λ b fault es before first tells project h started.
-      c.drop_first.ensures.started b fault es before first tells (project ∙ sym (ap (λ (x : UnitCrew). x.project) c.loop-alloc.invariant.same)) (c.loop-alloc.invariant.happened b es tells project h)
-      (c.loop-alloc.invariant.started b fault es before first tells project h started);
+  began = λ read sources command fault es before reasons first tells lawful came old began.
+      let same = ap (λ (x : UnitCrew). x.project) c.loop-alloc.invariant.same in
+      subst (λ (p : Project). AllBegan p read sources command before reasons first (g.P.Place.world c.drop_first.new.place)) same
+      (c.drop_first.ensures.began read sources command fault es before reasons first tells (subst (λ (p : Project). IsLawful (needs_of p) es) (sym same) lawful) (subst (λ (p : Project). CameAfter p fault before es) (sym same) came)
+      (subst (λ (p : Project). Changes p first c.loop-alloc.crew.aloft.items es (g.P.Place.world c.loop-alloc.place) (g.P.Place.counts c.loop-alloc.place).starts.flying) (sym same) (c.loop-alloc.invariant.changes first es tells old))
+      (subst (λ (p : Project). AllBegan p read sources command before reasons first (g.P.Place.world c.loop-alloc.place)) (sym same) (c.loop-alloc.invariant.began read sources command fault es before reasons first tells lawful came old began)));
+  started = λ read sources command fault es before first tells old started.
+      let same = ap (λ (x : UnitCrew). x.project) c.loop-alloc.invariant.same in
+      subst (λ (p : Project). HadDiffered p read sources command fault before es first (g.P.Place.world c.drop_first.new.place)) same
+      (c.drop_first.ensures.started read sources command fault es before first tells
+      (subst (λ (p : Project). Changes p first c.loop-alloc.crew.aloft.items es (g.P.Place.world c.loop-alloc.place) (g.P.Place.counts c.loop-alloc.place).starts.flying) (sym same) (c.loop-alloc.invariant.changes first es tells old))
+      (subst (λ (p : Project). HadDiffered p read sources command fault before es first (g.P.Place.world c.loop-alloc.place)) (sym same) (c.loop-alloc.invariant.started read sources command fault es before first tells old started)));
 }

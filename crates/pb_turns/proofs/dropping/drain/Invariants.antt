@@ -2,14 +2,16 @@ use Rattle.std.proofs.Common.{◌≡◌, ℕ, List, Some, IsTrue, length}
 use Rattle.pb_flight.specs.Events.{Event, IsLawful}
 use Rattle.pb_place.specs.Counts.{Counts}
 use Rattle.pb_place.specs.World.{World}
+use Rattle.pb_place.specs.declared.command.Command.{Command}
 use Rattle.pb_answer.specs.declared.bad_unit.BadUnit.{BadUnit}
 use Rattle.pb_answer.specs.declared.fault.BuildFault.{BuildFault}
 use Rattle.pb_run.specs.Halves.{Basis}
+use Rattle.pb_soundness.specs.Records.{Reading}
 use Rattle.pb_turns.specs.Crew.{needs_of, tickets_of, IsManned}
 use Rattle.pb_turns.specs.Ends.{Dropped}
 use Rattle.pb_turns.specs.Rows.{Reasons}
 use Rattle.pb_project.specs.Targets.{unit_at}
-use Rattle.pb_turns.specs.Story.{AllBeganFor, Changes, Happened, HasNoRecord, CameAfter, StartedFor}
+use Rattle.pb_turns.specs.Story.{AllBegan, Changes, HadDiffered, Happened, HasNoRecord, CameAfter}
 use Rattle.pb_unit.specs.declared.plan.Planned.{Planned}
 use Rattle.pb_turns.proofs.dropping.drain.Given as goal
 
@@ -26,12 +28,12 @@ invariant-loop-alloc g l = record {
   happened : (b : Basis) (es : List (Event BadUnit)) → IsTrue g.P.Place.tells → b.project ≡ l.fn.crew.project
       → Happened b l.fn.crew.done.items l.fn.crew.aloft.items l.fn.crew.store.next es (g.P.Place.world l.fn.place) (g.P.Place.counts l.fn.place).starts.flying (g.P.Place.still l.fn.place)
       → Happened b l.crew.done.items l.crew.aloft.items l.crew.store.next es (g.P.Place.world l.place) (g.P.Place.counts l.place).starts.flying (g.P.Place.still l.place);
-  began : (b : Basis) (fault : BuildFault) (es before : List (Event BadUnit)) (reasons : Reasons) (first : World) → IsTrue g.P.Place.tells → b.project ≡ l.fn.crew.project → IsLawful (needs_of b.project) es → CameAfter b.project fault before es
-      → Happened b l.fn.crew.done.items l.fn.crew.aloft.items l.fn.crew.store.next es (g.P.Place.world l.fn.place) (g.P.Place.counts l.fn.place).starts.flying (g.P.Place.still l.fn.place)
-      → AllBeganFor b before reasons first (g.P.Place.world l.fn.place) → AllBeganFor b before reasons first (g.P.Place.world l.place);
-  started : (b : Basis) (fault : BuildFault) (es before : List (Event BadUnit)) (first : World) → IsTrue g.P.Place.tells → b.project ≡ l.fn.crew.project
-      → Happened b l.fn.crew.done.items l.fn.crew.aloft.items l.fn.crew.store.next es (g.P.Place.world l.fn.place) (g.P.Place.counts l.fn.place).starts.flying (g.P.Place.still l.fn.place)
-      → StartedFor b fault before es first (g.P.Place.world l.fn.place) → StartedFor b fault before es first (g.P.Place.world l.place);
+  began : (read : Reading) (sources : World) (command : ℕ → Planned → Command) (fault : BuildFault) (es before : List (Event BadUnit)) (reasons : Reasons) (first : World) → IsTrue g.P.Place.tells → IsLawful (needs_of l.fn.crew.project) es → CameAfter l.fn.crew.project fault before es
+      → Changes l.fn.crew.project first l.fn.crew.aloft.items es (g.P.Place.world l.fn.place) (g.P.Place.counts l.fn.place).starts.flying
+      → AllBegan l.fn.crew.project read sources command before reasons first (g.P.Place.world l.fn.place) → AllBegan l.fn.crew.project read sources command before reasons first (g.P.Place.world l.place);
+  started : (read : Reading) (sources : World) (command : ℕ → Planned → Command) (fault : BuildFault) (es before : List (Event BadUnit)) (first : World) → IsTrue g.P.Place.tells
+      → Changes l.fn.crew.project first l.fn.crew.aloft.items es (g.P.Place.world l.fn.place) (g.P.Place.counts l.fn.place).starts.flying
+      → HadDiffered l.fn.crew.project read sources command fault before es first (g.P.Place.world l.fn.place) → HadDiffered l.fn.crew.project read sources command fault before es first (g.P.Place.world l.place);
 }
 
 abbrev pub decreases-loop-alloc : goal.decreases-loop-alloc

@@ -31,10 +31,10 @@ returns-clause-changes g c = λ first es tells old.
     0 c.remove-aloft.result at c.remove-aloft.new.self.items c.remove-aloft.ensures.items old (λ out. c.drop_unit.ensures.only out tells) c.drop_unit.ensures.stay
 
 pub returns-clause-began : goal.returns-clause-began
-returns-clause-began g c = λ b fault es before reasons first tells project lawful came h began.
+returns-clause-began g c = λ read sources command fault es before reasons first tells lawful came old began.
     let at = slice_get_read c.args.crew.now.aloft.items (length c.args.crew.now.aloft.items) 0 c.remove-aloft.result refl c.requires.some c.remove-aloft.ensures.value in
-    began_dropped b c.args.crew.now (g.P.Place.counts c.args.place.now) c.requires.manned project fault es before reasons first (g.P.Place.world c.args.place.now) (g.P.Place.world c.drop_unit.new.place) (g.P.Place.still c.args.place.now)
-    0 c.remove-aloft.result at lawful came h (λ out. c.drop_unit.ensures.only out tells) began
+    began_dropped c.args.crew.now (g.P.Place.counts c.args.place.now) c.requires.manned read sources command fault es before reasons first (g.P.Place.world c.args.place.now) (g.P.Place.world c.drop_unit.new.place)
+    0 c.remove-aloft.result at lawful came old (λ out. c.drop_unit.ensures.only out tells) began
 
 pub returns-clause-unrecorded : goal.returns-clause-unrecorded
 returns-clause-unrecorded g c = λ first es index unit tells old there none.
@@ -43,7 +43,7 @@ returns-clause-unrecorded g c = λ first es index unit tells old there none.
     0 c.remove-aloft.result at old (λ out. c.drop_unit.ensures.only out tells) index unit there none
 
 pub returns-clause-started : goal.returns-clause-started
-returns-clause-started g c = λ b fault es before first tells project h started.
+returns-clause-started g c = λ read sources command fault es before first tells old started.
     let at = slice_get_read c.args.crew.now.aloft.items (length c.args.crew.now.aloft.items) 0 c.remove-aloft.result refl c.requires.some c.remove-aloft.ensures.value in
-    started_dropped b c.args.crew.now (g.P.Place.counts c.args.place.now) c.requires.manned project fault es before first (g.P.Place.world c.args.place.now) (g.P.Place.world c.drop_unit.new.place) (g.P.Place.still c.args.place.now)
-    0 c.remove-aloft.result at h (λ out. c.drop_unit.ensures.only out tells) started
+    started_dropped c.args.crew.now (g.P.Place.counts c.args.place.now) c.requires.manned read sources command fault es before first (g.P.Place.world c.args.place.now) (g.P.Place.world c.drop_unit.new.place)
+    0 c.remove-aloft.result at old (λ out. c.drop_unit.ensures.only out tells) started

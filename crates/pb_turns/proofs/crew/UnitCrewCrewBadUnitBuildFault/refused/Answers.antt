@@ -16,7 +16,9 @@ returns g c = λ first first_place last_place first_out last_out es given s. rec
   changes = s.changes;
   unrecorded = s.unrecorded;
   again = λ t. (s.again t).gave;
+  began = s.began;
+  started = λ t read reading place spawned is so. absurd (false≢true so);
   happened = s.happened;
-  caused = λ t f r sources reading keeps. (tt, λ place spawned is so. absurd (false≢true so));
+  caused = λ t f r sources reading keeps. tt;
   calls = λ t f r sources reading keeps. (g.P.Place.world last_place, g.P.Place.counts last_place, s.calls t f r sources reading keeps, inl refl);
 }
