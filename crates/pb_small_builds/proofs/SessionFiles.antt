@@ -33,6 +33,7 @@ use Rattle.pb_command.specs.Judge.{judge}
 use Rattle.std.proofs.lemmas.Bool.{false≢true}
 use Rattle.pb_soundness.specs.Records.{Reading, if_of_key, is_key, place_of, read_text, record_at}
 use Rattle.pb_workspace.proofs.FoldersPut.{opened}
+use Rattle.pb_turns.specs.Moments.{Moment}
 use Rattle.pb_build.specs.Headline.{IsHonestBuild, records_of}
 use Rattle.pb_build.specs.Lasting.{NothingIsSound, RecordsStayTrue, ShareNoPath, Spares}
 use Rattle.pb_build.specs.Session.{Course, Point, Carries, ByPicked}
