@@ -77,7 +77,7 @@ sources_edited child target (Fuse number ∷ steps) v before after stay one (mid
 sources_edited child target (Build o pick ∷ steps) v before after stay one (mid, built, rest) =
     let is : (environment_of o before.moment.world.variables).target ≡ target = ap (λ (m : Map). (environment_of o m).target) (same_variables target v before.moment.world stay) ∙ one.0 in
     let stays : SourcesStay target before.moment.world mid.moment.world =
-        subst (SourcesStay target before.moment.world) (sym (ap (λ (m : Moment). m.world) built.behind)) (subst (λ (t : List ℕ). SourcesStay t before.moment.world built.ended.world) is built.kept) in
+    subst (SourcesStay target before.moment.world) (sym (ap (λ (m : Moment). m.world) built.behind)) (subst (λ (t : List ℕ). SourcesStay t before.moment.world built.ended.world) is built.kept) in
     sources_edited child target steps v mid after (stays ∙ stay) one.1 rest
 
 pub unaffected : Unaffected
