@@ -5,7 +5,6 @@ use Rattle.std.proofs.lemmas.List.{drop_more, drop_all}
 use Rattle.pb_place.specs.World.{Answers}
 use Rattle.pb_session.specs.declared.step.SessionStep.{SessionStep}
 use Rattle.pb_build.specs.Session.{Point, Carries, Course, Loses, Breaks}
-use Rattle.pb_turns.specs.Moments.{Moment}
 
 -- whatever the rest of the steps comes to, all of them come to
 abbrev pub Reaches : Answers → List SessionStep → List SessionStep → Point → Point → Type 0
@@ -27,7 +26,7 @@ none_taken child steps start begun is end course = subst (λ (m : Point). Course
 
 -- where the rest of the steps breaks off, all of them do
 abbrev pub BreaksOff : Answers → List SessionStep → List SessionStep → Point → Point → Type 0
-BreaksOff child steps rest start now = (left : Moment) → Breaks child rest now left → Breaks child steps start left
+BreaksOff child steps rest start now = (left : Point) → Breaks child rest now left → Breaks child steps start left
 
 pub step_passed : (child : Answers) (steps : List SessionStep) (i : ℕ) (step : SessionStep) (start before after : Point) → i < length steps → step ≡ get_or steps i step
     → BreaksOff child steps (drop i steps) start before → Carries child step before after → BreaksOff child steps (drop (i + 1) steps) start after
@@ -36,7 +35,7 @@ step_passed child steps i step start before after here is breaks taken left rest
     (subst (λ (s : List SessionStep). Breaks child s before left) (sym (one_more steps i step here is))
     (step ∷ rest.0, rest.1, rest.2, ap (λ (s : List SessionStep). step ∷ s) rest.3, rest.4, (after, taken, rest.5), rest.6))
 
-pub step_lost : (child : Answers) (steps : List SessionStep) (i : ℕ) (step : SessionStep) (start before : Point) (left : Moment) → i < length steps → step ≡ get_or steps i step
+pub step_lost : (child : Answers) (steps : List SessionStep) (i : ℕ) (step : SessionStep) (start before left : Point) → i < length steps → step ≡ get_or steps i step
     → BreaksOff child steps (drop i steps) start before → Loses child step before left → Breaks child steps start left
 step_lost child steps i step start before left here is breaks loses =
     breaks left (subst (λ (s : List SessionStep). Breaks child s before left) (sym (one_more steps i step here is)) ([], step, drop (i + 1) steps, refl, before, refl, loses))

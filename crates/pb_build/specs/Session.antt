@@ -52,7 +52,7 @@ ByPicked Last options = ByLast options
 abbrev pub set_anew : Moment → Moment
 set_anew m = record m { counts = one_setting m.counts }
 
--- a build: it kept the headline and added its answer; then it was set once that no call is to fail. How often that is set is counted (`Starts`), so it came neither before the build nor in its midst
+-- a build: it kept the headline and added its answer; it was set once in all which calls are to fail, which the starts count, and none is to fail any more
 pub record CarriesBuild (child : Answers) (options : Options) (pick : PickBy) (before after : Point) : Type 0 where
   pub answer : Answer
   pub ended : Moment
@@ -78,18 +78,18 @@ abbrev pub Course : Answers → List SessionStep → Point → Point → Type 0
 Course child [] before after = after ≡ before
 Course child (step ∷ steps) before after = (mid : Point) × Carries child step before mid × Course child steps mid after
 
--- memory was refused at a step: of a build, which had ended, the answer is not noted; of another step nothing came
-abbrev pub Loses : Answers → SessionStep → Point → Moment → Type 0
-Loses child (Write path text) before left = left ≡ before.moment
-Loses child (Remove path) before left = left ≡ before.moment
-Loses child (Set name value) before left = left ≡ before.moment
-Loses child (Unset name) before left = left ≡ before.moment
-Loses child (Die key death) before left = left ≡ before.moment
-Loses child (Fuse number) before left = left ≡ before.moment
-Loses child (Build options pick) before left = (ended : Point) × CarriesBuild child options pick before ended × (left ≡ ended.moment)
+-- memory was refused at a step: of another than a build nothing came; a build is carried whole, but its answer is not noted
+abbrev pub Loses : Answers → SessionStep → Point → Point → Type 0
+Loses child (Write path text) before left = left ≡ before
+Loses child (Remove path) before left = left ≡ before
+Loses child (Set name value) before left = left ≡ before
+Loses child (Unset name) before left = left ≡ before
+Loses child (Die key death) before left = left ≡ before
+Loses child (Fuse number) before left = left ≡ before
+Loses child (Build options pick) before left = (ended : Point) × CarriesBuild child options pick before ended × (left ≡ record ended { answers = before.answers })
 
 -- memory was refused at one of the steps, and those before it were taken in turn
-abbrev pub Breaks : Answers → List SessionStep → Point → Moment → Type 0
+abbrev pub Breaks : Answers → List SessionStep → Point → Point → Type 0
 Breaks child steps before left =
     (done : List SessionStep) × (step : SessionStep) × (rest : List SessionStep) × (steps ≡ done ++ step ∷ rest) × (mid : Point) × Course child done before mid × Loses child step mid left
 

@@ -1,7 +1,8 @@
 //! Sessions in memory: edits and builds, one after another.
 
-ghost use Rattle.std.specs.Prelude.{◌≡◌, [], true, IfOk, OnOk, OnErr};
+ghost use Rattle.std.specs.Prelude.{◌≡◌, List, [], true, IfOk, OnOk, OnErr};
 ghost use Rattle.pb_session.specs.declared.step.SessionStep.TheVariants.{Build};
+ghost use Rattle.pb_build.specs.declared.sessions.Answer as declared;
 ghost use Rattle.pb_build.specs.Environment.{environment_of};
 ghost use Rattle.pb_build.specs.Headline.{Headline};
 ghost use Rattle.pb_build.specs.Kept.{SourcesStay};
@@ -61,7 +62,7 @@ fn add_build<C: Child, O: Out>(
     requires none { (counts_in memory.old).starts.flying ≡ [] }
     ensures taken { OnOk result (Carries C.answers (Build options.now pick) (point memory.old (O.taken out.old) (O.faults out.old) answers.old) (point memory.new (O.taken out.new) (O.faults out.new) answers.new)) }
     ensures none { OnOk result ((counts_in memory.new).starts.flying ≡ []) }
-    ensures lost { OnErr result (Loses C.answers (Build options.now pick) (point memory.old (O.taken out.old) (O.faults out.old) answers.old) (moment memory.new.world (counts_in memory.new) memory.new.most (O.taken out.new) (O.faults out.new))) }
+    ensures lost { OnErr result (Loses C.answers (Build options.now pick) (point memory.old (O.taken out.old) (O.faults out.old) answers.old) (point memory.new (O.taken out.new) (O.faults out.new) answers.new)) }
 {
     let result = built(alloc, memory, out, options, pick);
     memory.fuse(0);
@@ -80,7 +81,7 @@ fn take_step<C: Child, O: Out>(
     requires none { (counts_in memory.old).starts.flying ≡ [] }
     ensures taken { OnOk result (Carries C.answers step.now (point memory.old (O.taken out.old) (O.faults out.old) answers.old) (point memory.new (O.taken out.new) (O.faults out.new) answers.new)) }
     ensures none { OnOk result ((counts_in memory.new).starts.flying ≡ []) }
-    ensures lost { OnErr result (Loses C.answers step.now (point memory.old (O.taken out.old) (O.faults out.old) answers.old) (moment memory.new.world (counts_in memory.new) memory.new.most (O.taken out.new) (O.faults out.new))) }
+    ensures lost { OnErr result (Loses C.answers step.now (point memory.old (O.taken out.old) (O.faults out.old) answers.old) (point memory.new (O.taken out.new) (O.faults out.new) answers.new)) }
 {
     match step {
         SessionStep::Write(path, text) => memory.put(alloc, path, text.as_bytes()),
@@ -115,7 +116,7 @@ pub fn session<C: Child, O: Out>(
 ) -> Result<Items<Answer>, AllocError>
     requires none { (counts_in memory.old).starts.flying ≡ [] }
     ensures taken { IfOk result (λ answers. Course C.answers steps.now (point memory.old (O.taken out.old) (O.faults out.old) []) (point memory.new (O.taken out.new) (O.faults out.new) answers)) }
-    ensures broken { OnErr result (Breaks C.answers steps.now (point memory.old (O.taken out.old) (O.faults out.old) []) (moment memory.new.world (counts_in memory.new) memory.new.most (O.taken out.new) (O.faults out.new))) }
+    ensures broken { OnErr result ((answers : List declared.Answer) × Breaks C.answers steps.now (point memory.old (O.taken out.old) (O.faults out.old) []) (point memory.new (O.taken out.new) (O.faults out.new) answers)) }
 {
     let mut answers = Items::new(alloc);
     for step in steps {

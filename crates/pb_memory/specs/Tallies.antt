@@ -8,7 +8,7 @@ use Rattle.pb_place.specs.declared.place.StartFault.{StartFault}
 abbrev pub with_children : List ChildInFlight → Counts → Counts
 with_children flying c = record c { starts = record c.starts { flying = flying } }
 
--- one setting more. It is kept shut: of how many there are nothing but their order is asked
+-- one setting more, up to the greatest number of 64 bits. It is kept shut: no more is asked of it than that
 unfoldable pub next_setting : ℕ → ℕ
 next_setting n = up n
 

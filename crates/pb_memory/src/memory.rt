@@ -23,7 +23,8 @@ use std::marker::Model;
 ///
 /// A call fails here for want of memory, or as it was told by `fuse` and `die`, which serve tests: each call of the place
 /// says in its contract when it does, and what it leaves then. Its own calls, those below, are no calls of a place and
-/// are not counted. A read or a write takes time logarithmic in the number of files.
+/// are not counted, but for how often `fuse` and `die` set something. A read or a write takes time logarithmic in the
+/// number of files.
 #[derive(Drop)]
 pub struct Memory<C> {
     files: FileMap,

@@ -8,9 +8,9 @@ use Rattle.pb_memory.specs.Memory.{Held, no_held}
 use Rattle.pb_project.specs.declared.fault.UnitFault.{UnitFault}
 use Rattle.pb_session.specs.Sessions.{session_of}
 use Rattle.pb_session.specs.declared.step.SessionStep.{SessionStep}
-use Rattle.pb_build.specs.Session.{Breaks, Course, point}
+use Rattle.pb_build.specs.Session.{Breaks, Course, Point, point}
 use Rattle.pb_build.specs.declared.sessions.Answer.{Answer}
-use Rattle.pb_turns.specs.Moments.{Heard, Moment}
+use Rattle.pb_turns.specs.Moments.{Heard}
 use Rattle.pb_tool_program.specs.Session.{SessionStopped, SessionWritten, small_compiler, lines_of}
 use Rattle.pb_tool_program.specs.Building.{notes_of}
 use Rattle.pb_tool_program.specs.Writing.{Tells, TellsOr, Writes}
@@ -31,8 +31,8 @@ session_written whole bytes read steps first last old mid before after new answe
   ),
 )
 
-pub session_broken : (bytes : List ℕ) (read steps : List SessionStep) (first : Held) (old : Option (List ℕ)) (before : ℕ) (left : Moment)
-    → session_of bytes ≡ Ok read → steps ≡ read → first ≡ no_held → Breaks small_compiler steps (point first old before []) left → SessionStopped bytes record { taken = old; faults = before } left.heard
+pub session_broken : (bytes : List ℕ) (read steps : List SessionStep) (first : Held) (old : Option (List ℕ)) (before : ℕ) (left : Point)
+    → session_of bytes ≡ Ok read → steps ≡ read → first ≡ no_held → Breaks small_compiler steps (point first old before []) left → SessionStopped bytes record { taken = old; faults = before } left.moment.heard
 session_broken bytes read steps first old before left is_read is_steps is_first breaks = inr (
   read,
   is_read,

@@ -5,7 +5,7 @@ use Rattle.std.specs.FinMap as map
 use Rattle.pb_mini.specs.Answer.{answered}
 use Rattle.pb_place.specs.Counts.{up, no_calls}
 use Rattle.pb_place.specs.World.{Answers}
-use Rattle.pb_turns.specs.Moments.{Heard, Moment}
+use Rattle.pb_turns.specs.Moments.{Heard}
 use Rattle.pb_build.specs.Session.{Point, Course, Breaks}
 use Rattle.pb_build.specs.declared.sessions.Answer.{Answer}
 use Rattle.pb_answer.specs.ResultLine.{result_line}
@@ -45,7 +45,7 @@ SessionWritten whole bytes before after = (steps : List SessionStep) × (session
 -- memory was refused: at a step, and those before it were taken in turn; or behind the last, and no result line was written
 abbrev pub Stopped : List SessionStep → Heard → Heard → Type 0
 Stopped steps before after =
-    ((left : Moment) × Breaks small_compiler steps (at_first before) left × (after ≡ left.heard))
+    ((left : Point) × Breaks small_compiler steps (at_first before) left × (after ≡ left.moment.heard))
     ⊎ ((end : Point) × Course small_compiler steps (at_first before) end × (after ≡ end.moment.heard))
 
 -- nothing was written; or the bytes say a session, which was run until memory was refused

@@ -92,7 +92,7 @@ StopsBy tells (Device key fault) project first now es = StopsAt tells project fi
 StopsBy tells Sink project first now es = ((n : ℕ) × Appends first.heard.taken now.heard.taken (take n (due (states_in project es)))) × (now.heard.faults ≡ up first.heard.faults)
 StopsBy tells OutOfMemory project first now es = ((n : ℕ) × Appends first.heard.taken now.heard.taken (due_first n (states_in project es))) × (now.heard.faults ≡ first.heard.faults)
 
--- with its cause, and one child for each unit that began with one; of the last of them it may have been tried alone
+-- with its cause, one child for each unit that began with one, and nothing set to fail; of the last of them it may have been tried alone
 pub record Stops (tells : Bool) (fault : BuildFault) (project : Project) (first now : Moment) (es : List (Event BadUnit)) : Type 0 where
   pub by : StopsBy tells fault project first now es
   pub cause : HasCause fault first.counts now.counts

@@ -38,5 +38,5 @@ returns-in_err-push-clause-lost g c =
         answers = refl;
         fuse = ap (λ (m : Held). m.fuse) c.fuse.ensures;
       },
-      refl,
+      ap (point c.fuse.new.self taken faults) c.in_err-push.ensures.err,
     )

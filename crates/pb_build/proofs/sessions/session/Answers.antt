@@ -1,6 +1,4 @@
 use Rattle.std.proofs.Common.{[], ap}
-use Rattle.pb_memory.specs.Memory.{counts_in}
-use Rattle.pb_turns.specs.Moments.{moment}
 use Rattle.pb_build.specs.Session.{point}
 use Rattle.pb_place.proofs.Failing.{on_err}
 use Rattle.pb_build.proofs.StepsTaken.{none_taken, none_passed, step_taken, step_passed, step_lost, steps_taken}
@@ -37,9 +35,10 @@ returns-clause-taken g c =
 
 pub returns-in_err-take_step-clause-broken : goal.returns-in_err-take_step-clause-broken
 returns-in_err-take_step-clause-broken g c =
-    let memory = c.take_step.new.memory in
     let out = c.take_step.new.out in
-    on_err c.from_residual.result
-    (step_lost g.C.Child.answers c.args.steps.now c.loop-step.step-index c.step-item.result (point c.args.memory.now (g.O.Out.taken c.args.out.now) (g.O.Out.faults c.args.out.now) [])
-    (point c.loop-step.memory (g.O.Out.taken c.loop-step.out) (g.O.Out.faults c.loop-step.out) c.loop-step.answers) (moment memory.world (counts_in memory) memory.most (g.O.Out.taken out) (g.O.Out.faults out))
-    c.loop-step-test.true c.step-item.is c.loop-step.invariant.breaks c.in_err-take_step.ensures.lost)
+    on_err c.from_residual.result (
+      c.take_step.new.answers,
+      step_lost g.C.Child.answers c.args.steps.now c.loop-step.step-index c.step-item.result (point c.args.memory.now (g.O.Out.taken c.args.out.now) (g.O.Out.faults c.args.out.now) [])
+          (point c.loop-step.memory (g.O.Out.taken c.loop-step.out) (g.O.Out.faults c.loop-step.out) c.loop-step.answers) (point c.take_step.new.memory (g.O.Out.taken out) (g.O.Out.faults out) c.take_step.new.answers)
+          c.loop-step-test.true c.step-item.is c.loop-step.invariant.breaks c.in_err-take_step.ensures.lost,
+    )

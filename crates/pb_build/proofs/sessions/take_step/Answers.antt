@@ -1,7 +1,5 @@
 use Rattle.std.proofs.Common.{OnOk, OnErr, sym, subst}
-use Rattle.pb_memory.specs.Memory.{counts_in}
 use Rattle.pb_session.specs.declared.step.SessionStep.{SessionStep}
-use Rattle.pb_turns.specs.Moments.{moment}
 use Rattle.pb_build.specs.Session.{Carries, Loses, point}
 use Rattle.pb_build.proofs.sessions.take_step.Goals as goal
 
@@ -18,5 +16,5 @@ returns-in-Build-clause-lost g c =
     let memory = c.add_build.new.memory in
     let out = c.add_build.new.out in
     let before = point c.args.memory.now (g.O.Out.taken c.args.out.now) (g.O.Out.faults c.args.out.now) c.args.answers.now in
-    let left = moment memory.world (counts_in memory) memory.most (g.O.Out.taken out) (g.O.Out.faults out) in
+    let left = point memory (g.O.Out.taken out) (g.O.Out.faults out) c.add_build.new.answers in
     subst (λ (s : SessionStep). OnErr c.add_build.result (Loses g.C.Child.answers s before left)) (sym c.in-Build.is) c.add_build.ensures.lost

@@ -1,6 +1,5 @@
 use Rattle.std.proofs.Common.{ap, inl, refl}
-use Rattle.pb_memory.specs.Memory.{counts_in}
-use Rattle.pb_turns.specs.Moments.{moment}
+use Rattle.pb_build.specs.Session.{point}
 use Rattle.pb_place.proofs.Failing.{on_err}
 use Rattle.pb_tool_program.proofs.Lines.{session_broken, session_untold, session_written}
 use Rattle.pb_tool_program.proofs.session.carry_out.Goals as goal
@@ -13,11 +12,10 @@ returns-clause-written g c =
 
 pub returns-in_err-answers-clause-stopped : goal.returns-in_err-answers-clause-stopped
 returns-in_err-answers-clause-stopped g c =
-    let memory = c.session.new.memory in
     on_err c.from_residual-in_err-answers.result
     (session_broken c.args.bytes.now c.in_ok-steps.steps c.as_slice.result.now c.new-memory.result (g.O.Out.taken c.args.out.now) (g.O.Out.faults c.args.out.now)
-    (moment memory.world (counts_in memory) memory.most (g.O.Out.taken c.session.new.out) (g.O.Out.faults c.session.new.out))
-    c.in_ok-steps.ensures c.as_slice.ensures c.new-memory.ensures c.in_err-answers.ensures.broken)
+    (point c.session.new.memory (g.O.Out.taken c.session.new.out) (g.O.Out.faults c.session.new.out) c.in_err-answers.ensures.broken.0)
+    c.in_ok-steps.ensures c.as_slice.ensures c.new-memory.ensures c.in_err-answers.ensures.broken.1)
 
 pub returns-in_err-written-clause-stopped : goal.returns-in_err-written-clause-stopped
 returns-in_err-written-clause-stopped g c =
