@@ -12,7 +12,7 @@ use Rattle.pb_flight.specs.Events.{Event, Began, Gave, IsLawful, MayBegin, begin
 use Rattle.pb_flight.specs.Laws.{HasBegun}
 use Rattle.pb_flight.specs.Table.{are_good, is_good_at}
 use Rattle.pb_flight.proofs.Handing.{began_lawful}
-use Rattle.pb_flight.proofs.Lists.{get_set_other, get_set_same}
+use Rattle.pb_flight.proofs.Lists.{injective, get_set_other, get_set_same}
 use Rattle.pb_flight.proofs.Ready.{good_at}
 use Rattle.pb_place.specs.World.{World, Answers, ChangesOnly, from_nothing}
 use Rattle.pb_place.specs.declared.command.Command.{Command}
@@ -32,8 +32,8 @@ use Rattle.pb_store.specs.Migrating.{lacks_number}
 use Rattle.pb_store.specs.declared.difference.Difference.{Difference}
 use Rattle.pb_turns.specs.Crew.{needs_of}
 use Rattle.pb_turns.specs.Moments.{Moment}
-use Rattle.pb_turns.specs.Rows.{Reasons}
-use Rattle.pb_turns.specs.Story.{states_in, AllBegan, AllBeganFor, AllBeganOnAny, BeganFor, FliesIn, HadDiffered, IsQuiet, OnlyOf, StartedFor, StartedOnAny, Story}
+use Rattle.pb_turns.specs.Rows.{Reasons, is_started}
+use Rattle.pb_turns.specs.Story.{states_in, AllBegan, AllBeganFor, AllBeganOnAny, BeganFor, FliesIn, HadDiffered, IsQuiet, KeepsNoneInFlight, OnlyOf, StartedFor, StartedOnAny, Story}
 use Rattle.pb_turns.specs.declared.crew.Aloft.{Aloft}
 use Rattle.pb_turns.specs.declared.crew.UnitCrew.{UnitCrew}
 use Rattle.pb_turns.proofs.Again.{command_stays, sources_first}
@@ -41,7 +41,7 @@ use Rattle.pb_turns.proofs.Happening.{before_now, before_other, none_of, started
 use Rattle.pb_turns.proofs.Lists.{all_get, get_put}
 use Rattle.pb_turns.proofs.Reaching.{all_reach, not_of_two, place_outside_other}
 use Rattle.pb_turns.proofs.States.{another, begun_cases, begun_now, good_set}
-use Rattle.pb_turns.proofs.Staying.{OrBefore, answered_beside, began_beside, start_told}
+use Rattle.pb_turns.proofs.Staying.{OrBefore, answered_beside, answered_on, began_beside, begun_apart, start_told}
 use Rattle.pb_unit.specs.declared.plan.Planned.{Planned}
 
 some_none : {A : Type 0} (x : A) → Some x ≡ None → ⊥
@@ -51,7 +51,7 @@ module _ (project : Project) (read : Reading) (sources : World) where
   -- A unit begins.
 
   module _ (command : ℕ → Planned → Command) (order : IsInOrder project) (es : List (Event BadUnit)) (lawful : IsLawful (needs_of project) es) (reasons : Reasons) (first w w' : World) (only_first : OnlyOf project es first w) (stay : from_nothing project.workspace.target w ≡ sources)
-      (quiet : IsQuiet project read es first w) (unit : ℕ) (u : Planned) (there : unit_at project unit ≡ Some u) (may : MayBegin (needs_of project) (states_in project es) unit) (only : ChangesOnly (is_of (records_folder project) u.key) w w') where
+      (quiet : IsQuiet project read es first w) (gone : KeepsNoneInFlight project es None w) (began_before : AllBegan project read sources command es reasons first w) (unit : ℕ) (u : Planned) (there : unit_at project unit ≡ Some u) (may : MayBegin (needs_of project) (states_in project es) unit) (only : ChangesOnly (is_of (records_folder project) u.key) w w') where
     ne_begun : (place : ℕ) → HasBegun (states_in project es) place → unit ≢ place
     ne_begun place has = another (states_in project es) unit place may.untouched has
 
@@ -62,6 +62,18 @@ module _ (project : Project) (read : Reading) (sources : World) where
     ne_good p among same =
         false≢true (ap is_good_at (sym (get_set_same (states_in project es) unit Untouched Begun may.untouched)) ∙ ap (λ n. is_good_at (slice_get (slice_set (states_in project es) unit Begun) n)) (sym same)
         ∙ good_at (slice_set (states_in project es) unit Begun) u.reaches p good_now among)
+
+    waits : (p : ℕ) (v : Planned) → unit_at project p ≡ Some v → slice_get (states_in project es) p ≡ Some Begun → is_started es p ≡ false → lacks_number (record_at read (records_folder project) first.files v.key) ≡ false
+        → (q : List ℕ) → is_of (records_folder project) v.key q ≡ true → finite.get w.files q ≡ finite.get first.files q
+    waits p v at flying childless numbered q inside =
+        let f = began_before p (Begun, flying, refl) in
+        let is : f.unit ≡ v = injective (sym f.there ∙ at) in
+        f.kept_stays (none_of f.difference (sym f.started ∙ childless)) (subst (λ (x : Planned). lacks_number (record_at read (records_folder project) first.files x.key) ≡ false) (sym is) numbered) q
+        (subst (λ (x : Planned). is_of (records_folder project) x.key q ≡ true) (sym is) inside)
+
+    unanswered : (p : ℕ) (a : Answer BadUnit) → slice_get (slice_set (states_in project es) unit Begun) p ≡ Some (Answered a) → unit ≢ p
+    unanswered p a still same =
+        begun_apart a (sym (get_set_same (states_in project es) unit Untouched Begun may.untouched) ∙ ap (slice_get (slice_set (states_in project es) unit Begun)) same ∙ still)
 
     module _ (spawned : Bool) (difference : Option Difference) (named : FirstDifference read (records_folder project) u.key (command unit u) w difference) (flag : spawned ≡ is_some difference) (within : unit < length reasons) (same : difference ≡ None → w' ≡ w) where
       -- also where it could not
@@ -75,6 +87,10 @@ module _ (project : Project) (read : Reading) (sources : World) where
         only = subst (λ (x : List (Event BadUnit)). OnlyOf project x first w) (sym (before_now es unit spawned)) only_first;
         reaches = good_now;
         reached_stay = λ p v q among at inside. sym (only.files q (not_of_two project order p unit v u at there (ne_good p among) q inside));
+        answered_stay = λ p v a q then' still at inside. sym (only.files q (not_of_two project order p unit v u at there (λ same. unanswered p a still (sym same)) q inside));
+        unrecorded = subst (λ (x : List (Event BadUnit)). KeepsNoneInFlight project x None w) (sym (before_now es unit spawned)) gone;
+        waiting_stay = λ p v q flying childless at numbered inside.
+            waits p v at (subst (λ (x : List (Event BadUnit)). slice_get (states_in project x) p ≡ Some Begun) (before_now es unit spawned) flying) (subst (λ (x : List (Event BadUnit)). is_started x p ≡ false) (before_now es unit spawned) childless) numbered q inside;
         difference = difference;
         named = named;
         started = started_now es unit spawned ∙ flag;
@@ -93,6 +109,13 @@ module _ (project : Project) (read : Reading) (sources : World) where
         only = subst (λ (x : List (Event BadUnit)). OnlyOf project x first f.world) (sym (before_other es unit place spawned (ne_begun place has))) f.only;
         reaches = good_set (states_in project es) unit Untouched Begun f.unit.reaches may.untouched refl f.reaches;
         reached_stay = f.reached_stay;
+        answered_stay = λ p v a q then' still at inside.
+            f.answered_stay p v a q (subst (λ (x : List (Event BadUnit)). slice_get (states_in project x) p ≡ Some (Answered a)) (before_other es unit place spawned (ne_begun place has)) then')
+            (sym (get_set_other (states_in project es) unit p Begun (unanswered p a still)) ∙ still) at inside;
+        unrecorded = subst (λ (x : List (Event BadUnit)). KeepsNoneInFlight project x None f.world) (sym (before_other es unit place spawned (ne_begun place has))) f.unrecorded;
+        waiting_stay = λ p v q flying childless. f.waiting_stay p v q
+            (subst (λ (x : List (Event BadUnit)). slice_get (states_in project x) p ≡ Some Begun) (before_other es unit place spawned (ne_begun place has)) flying)
+            (subst (λ (x : List (Event BadUnit)). is_started x p ≡ false) (before_other es unit place spawned (ne_begun place has)) childless);
         difference = f.difference;
         named = f.named;
         started = started_other es unit place spawned (ne_begun place has) ∙ f.started;
@@ -101,17 +124,17 @@ module _ (project : Project) (read : Reading) (sources : World) where
         unstarted = λ none. f.unstarted (sym (ap (λ (x : List (Event BadUnit)). started_by x) (before_other es unit place spawned (ne_begun place has))) ∙ none);
       }
 
-      pub began_more : AllBegan project read sources command es reasons first w → AllBegan project read sources command (Began unit spawned ∷ es) (slice_set reasons unit (Some difference)) first w'
-      began_more began place has = elim (begun_cases (states_in project es) unit place Begun has) [
+      pub began_more : AllBegan project read sources command (Began unit spawned ∷ es) (slice_set reasons unit (Some difference)) first w'
+      began_more place has = elim (begun_cases (states_in project es) unit place Begun has) [
         | inl is ↦ subst (BeganFor project read sources command (Began unit spawned ∷ es) (slice_set reasons unit (Some difference)) first w') is own_began
-        | inr before ↦ old_began (began_beside project read sources command order es reasons first w w' unit u there may.untouched only began) place before
+        | inr before ↦ old_began (began_beside project read sources command order es reasons first w w' unit u there may.untouched only began_before) place before
       ]
 
   -- A unit answers.
 
-  pub began_after : (command : ℕ → Planned → Command) (es : List (Event BadUnit)) (reasons : Reasons) (first now : World) (unit : ℕ) (answer : Answer BadUnit) → slice_get (states_in project es) unit ≡ Some Begun
+  pub began_after : (command : ℕ → Planned → Command) (es : List (Event BadUnit)) → IsLawful (needs_of project) es → (reasons : Reasons) (first now : World) (unit : ℕ) (answer : Answer BadUnit) → slice_get (states_in project es) unit ≡ Some Begun
       → AllBegan project read sources command es reasons first now → AllBegan project read sources command (Gave unit answer ∷ es) reasons first now
-  began_after command es reasons first now unit answer state began place has = elim (begun_cases (states_in project es) unit place (Answered answer) has) [
+  began_after command es lawful reasons first now unit answer state began place has = elim (begun_cases (states_in project es) unit place (Answered answer) has) [
     | inl same ↦ went (began place (Begun, subst (λ n. slice_get (states_in project es) n ≡ Some Begun) same state, refl))
     | inr before ↦ went (began place before)
   ]
@@ -126,6 +149,9 @@ module _ (project : Project) (read : Reading) (sources : World) where
         only = f.only;
         reaches = good_set (states_in project es) unit Begun (Answered answer) f.unit.reaches state refl f.reaches;
         reached_stay = f.reached_stay;
+        answered_stay = λ p v a q then' still at inside. f.answered_stay p v a q then' (answered_on project es lawful place p a then') at inside;
+        unrecorded = f.unrecorded;
+        waiting_stay = f.waiting_stay;
         difference = f.difference;
         named = f.named;
         started = f.started;
@@ -148,6 +174,9 @@ module _ (project : Project) (read : Reading) (sources : World) where
       only = f.only;
       reaches = f.reaches;
       reached_stay = f.reached_stay;
+      answered_stay = f.answered_stay;
+      unrecorded = f.unrecorded;
+      waiting_stay = f.waiting_stay;
       difference = f.difference;
       named = subst (λ (c : Command). FirstDifference read (records_folder project) f.unit.key c f.world f.difference) (same f.unit f.there f.reaches) f.named;
       started = f.started;
@@ -209,10 +238,9 @@ module _ (tells : Bool) (child : Answers) (first old : UnitCrew) (at now new : M
         → IsTrue tells → AllBeganOnAny old.setup old.project old.done.items (Began unit (is_some (child_of begun)) ∷ es) reasons' at.world new.world
     begun_began begun asks difference reasons' differs spawned within same noted t read reading =
         subst (λ (items : Reasons). AllBegan old.project read (from_nothing old.project.workspace.target at.world) (commands_of old.done.items) (Began unit (is_some (child_of begun)) ∷ es) items at.world new.world) (sym noted)
-        (began_more old.project read (from_nothing old.project.workspace.target at.world) (commands_of old.done.items) order es lawful old.reasons.items at.world now.world new.world (story.changes t).only (stay_first t) (story.quiet t read reading) unit u there may (only t)
+        (began_more old.project read (from_nothing old.project.workspace.target at.world) (commands_of old.done.items) order es lawful old.reasons.items at.world now.world new.world (story.changes t).only (stay_first t) (story.quiet t read reading) (story.unrecorded t) (story.began t read reading) unit u there may (only t)
         (is_some (child_of begun)) difference (by_done read begun.command difference asks (differs read reading t)) spawned within
-        (λ none. same t (none_of (child_of begun) (spawned ∙ ap (λ (o : Option Difference). is_some o) none)))
-        (story.began t read reading))
+        (λ none. same t (none_of (child_of begun) (spawned ∙ ap (λ (o : Option Difference). is_some o) none))))
 
     -- it could not
     pub unbegun_began : IsTrue tells → AllBeganOnAny old.setup old.project old.done.items es old.reasons.items at.world new.world
@@ -226,7 +254,7 @@ module _ (tells : Bool) (child : Answers) (first old : UnitCrew) (at now new : M
         start_told old.project read (from_nothing old.project.workspace.target at.world) (commands_of old.done.items) fault es at.world new.world unit spawned (λ so.
         let (difference, named) = cause read reading t so in (
           slice_set old.reasons.items unit (Some (Some difference)),
-          own_began old.project read (from_nothing old.project.workspace.target at.world) (commands_of old.done.items) order es lawful old.reasons.items at.world now.world new.world (story.changes t).only (stay_first t) (story.quiet t read reading) unit u there may (only t)
+          own_began old.project read (from_nothing old.project.workspace.target at.world) (commands_of old.done.items) order es lawful old.reasons.items at.world now.world new.world (story.changes t).only (stay_first t) (story.quiet t read reading) (story.unrecorded t) (story.began t read reading) unit u there may (only t)
               true (Some difference) (by_done read (command_of old.setup old.project u done) (Some difference) refl named) refl within (λ none. absurd (some_none difference none)),
         ))
 
@@ -247,7 +275,7 @@ module _ (tells : Bool) (child : Answers) (first old : UnitCrew) (at now new : M
     pub answered_began : (done' : List (Option (List Directive))) (d : Option (List Directive)) (answer : Answer BadUnit) → done' ≡ slice_set old.done.items a.unit d
         → IsTrue tells → AllBeganOnAny old.setup old.project done' (Gave a.unit answer ∷ es) old.reasons.items at.world new.world
     answered_began done' d answer set t read reading =
-        began_after old.project read (from_nothing old.project.workspace.target at.world) (commands_of done') es old.reasons.items at.world new.world a.unit answer (so t).state
+        began_after old.project read (from_nothing old.project.workspace.target at.world) (commands_of done') es lawful old.reasons.items at.world new.world a.unit answer (so t).state
         (λ place has. began_so old.project read (from_nothing old.project.workspace.target at.world) (from_nothing old.project.workspace.target at.world) refl (commands_of old.done.items) (commands_of done') es old.reasons.items at.world new.world place
         (λ v at_v good. command_stays old.setup old.project order es lawful a.unit (so t).state old.done.items done' d set place v has at_v)
         (unanswered_began t read reading place has))

@@ -2,11 +2,12 @@
 use Rattle.std.proofs.Common.{◌≡◌, ◌≢◌, ◌∙◌, ◌⊎◌, ◌||◌, inl, inr, Bool, true, false, List, [], ◌∷◌, ℕ, suc, Option, Some, None, refl, sym, ap, subst, arith, length, slice_get, slice_set, is_some}
 use Rattle.std.proofs.lemmas.Bool.{cases_Bool, cases_eq, false≢true}
 use Rattle.std.specs.FinMap as finite
-use Rattle.pb_flight.specs.declared.flight.State.TheVariants.{Untouched, Begun}
+use Rattle.pb_flight.specs.declared.flight.Answer.{Answer}
+use Rattle.pb_flight.specs.declared.flight.State.TheVariants.{Untouched, Begun, Answered}
 use Rattle.pb_flight.specs.Events.{Event, Began, Gave, IsLawful}
 use Rattle.pb_flight.specs.Laws.{HasBegun}
 use Rattle.pb_flight.specs.Table.{is_good_at}
-use Rattle.pb_flight.proofs.Handing.{began_lawful}
+use Rattle.pb_flight.proofs.Handing.{began_lawful, gave_lawful}
 use Rattle.pb_flight.proofs.Lists.{injective, get_set_other}
 use Rattle.pb_flight.proofs.Ready.{good_at}
 use Rattle.pb_place.specs.Paths.{below, is_at_or_below}
@@ -31,8 +32,8 @@ use Rattle.pb_store.specs.Migrating.{lacks_number}
 use Rattle.pb_store.specs.declared.difference.Difference.{Difference}
 use Rattle.pb_turns.specs.Crew.{needs_of}
 use Rattle.pb_turns.specs.Rows.{Reasons, is_started}
-use Rattle.pb_turns.specs.Story.{states_in, AllBegan, BeganFor, CameAfter, HadDiffered}
-use Rattle.pb_turns.proofs.Happening.{none_of, started_now, started_other}
+use Rattle.pb_turns.specs.Story.{states_in, AllBegan, BeganFor, CameAfter, HadDiffered, events_before}
+use Rattle.pb_turns.proofs.Happening.{before_now, before_other, none_of, started_now, started_other}
 use Rattle.pb_turns.proofs.Reaching.{not_of_two}
 use Rattle.pb_turns.proofs.States.{another}
 use Rattle.pb_unit.specs.declared.plan.Planned.{Planned}
@@ -51,10 +52,36 @@ pub none_dropped : (o : Option Launched) (flying : List ChildInFlight) (w w' : W
 none_dropped None flying w w' none only q = (only (below q (0 ∷ [])) tt).files q (not_below_more q)
 none_dropped (Some l) flying w w' none only q = cc
 
+-- What had answered has answered.
+
+pub untouched_apart : (a : Answer BadUnit) → Some Untouched ≡ Some (Answered a) → ⊥
+untouched_apart a e = cc
+
+pub begun_apart : (a : Answer BadUnit) → Some Begun ≡ Some (Answered a) → ⊥
+begun_apart a e = cc
+
+-- what had answered before a unit began has answered
+pub answered_on : (project : Project) (es : List (Event BadUnit)) → IsLawful (needs_of project) es → (place p : ℕ) (a : Answer BadUnit) → slice_get (states_in project (events_before es place)) p ≡ Some (Answered a) → slice_get (states_in project es) p ≡ Some (Answered a)
+answered_on project [] lawful place p a at = at
+answered_on project (Began unit spawned ∷ es) lawful place p a at =
+    let (lawful_before, may) = began_lawful (needs_of project) _ es unit spawned lawful in
+    let then' : slice_get (states_in project es) p ≡ Some (Answered a) = elim (cases_eq unit place) [
+      | inl same ↦
+          subst (λ (x : List (Event BadUnit)). slice_get (states_in project x) p ≡ Some (Answered a)) (before_now es unit spawned)
+          (subst (λ n. slice_get (states_in project (events_before (Began unit spawned ∷ es) n)) p ≡ Some (Answered a)) (sym same) at)
+      | inr ne ↦ answered_on project es lawful_before place p a (subst (λ (x : List (Event BadUnit)). slice_get (states_in project x) p ≡ Some (Answered a)) (before_other es unit place spawned ne) at)
+    ] in
+    get_set_other (states_in project es) unit p Begun (λ e. untouched_apart a (sym may.untouched ∙ ap (slice_get (states_in project es)) e ∙ then')) ∙ then'
+answered_on project (Gave unit answer ∷ es) lawful place p a at =
+    let (lawful_before, flying) = gave_lawful (needs_of project) _ es unit answer lawful in
+    let then' : slice_get (states_in project es) p ≡ Some (Answered a) = answered_on project es lawful_before place p a at in
+    get_set_other (states_in project es) unit p (Answered answer) (λ e. begun_apart a (sym flying ∙ ap (slice_get (states_in project es)) e ∙ then')) ∙ then'
+
 -- A unit in flight had begun before a beginning that came after its own.
 
 pub record FlewBefore (project : Project) (before : List (Event BadUnit)) (place : ℕ) (spawned : Bool) : Type 0 where
   pub not_good : is_good_at (slice_get (states_in project before) place) ≡ false
+  pub not_answered : (a : Answer BadUnit) → slice_get (states_in project before) place ≡ Some (Answered a) → ⊥
   pub started : HasBegun (states_in project before) place → is_started before place ≡ spawned
 
 flew_last : (project : Project) (before : List (Event BadUnit)) (unit place : ℕ) (new spawned : Bool) → slice_get (states_in project before) unit ≡ Some Untouched
@@ -63,6 +90,10 @@ flew_last project before unit place new spawned untouched state started = record
   not_good = elim (cases_eq unit place) [
     | inl same ↦ ap is_good_at (ap (slice_get (states_in project before)) (sym same) ∙ untouched)
     | inr ne ↦ ap is_good_at (sym (get_set_other (states_in project before) unit place Begun ne) ∙ state)
+  ];
+  not_answered = λ a at. elim (cases_eq unit place) [
+    | inl same ↦ untouched_apart a (sym untouched ∙ ap (slice_get (states_in project before)) same ∙ at)
+    | inr ne ↦ begun_apart a (sym state ∙ get_set_other (states_in project before) unit place Begun ne ∙ at)
   ];
   started = λ has. sym (started_other before unit place new (another (states_in project before) unit place untouched has)) ∙ started;
 }
@@ -87,6 +118,7 @@ flew_before : (project : Project) (before es : List (Event BadUnit)) (place : �
     → slice_get (states_in project es) place ≡ Some Begun → is_started es place ≡ spawned → FlewBefore project before place spawned
 flew_before project before es place spawned lawful (inl same) state started = subst (λ (x : List (Event BadUnit)). FlewBefore project x place spawned) same record {
   not_good = ap is_good_at state;
+  not_answered = λ a at. begun_apart a (sym state ∙ at);
   started = λ has. started;
 }
 flew_before project before es place spawned lawful (inr (unit, new, is)) state started =
@@ -140,7 +172,7 @@ module _ (project : Project) (read : Reading) (sources : World) (command : ℕ �
   module _ (order : IsInOrder project) where
     -- A unit has done something: it is none that has answered and is good, and where it has begun without a child and its record had a number at first, each file stays.
     module _ (es : List (Event BadUnit)) (reasons : Reasons) (first w w' : World) (i : ℕ) (u : Planned) (there : unit_at project i ≡ Some u)
-        (only : ChangesOnly (is_of (records_folder project) u.key) w w') (not_good : is_good_at (slice_get (states_in project es) i) ≡ false)
+        (only : ChangesOnly (is_of (records_folder project) u.key) w w') (not_good : is_good_at (slice_get (states_in project es) i) ≡ false) (not_answered : (a : Answer BadUnit) → slice_get (states_in project es) i ≡ Some (Answered a) → ⊥)
         (own : HasBegun (states_in project es) i → BeganFor project read sources command es reasons first w i → is_started es i ≡ false → lacks_number (record_at read (records_folder project) first.files u.key) ≡ false
         → (q : List ℕ) → finite.get w'.files q ≡ finite.get w.files q) where
       kept_now : (place : ℕ) → HasBegun (states_in project es) place → (f : BeganFor project read sources command es reasons first w place) → f.difference ≡ None → lacks_number (record_at read (records_folder project) first.files f.unit.key) ≡ false
@@ -168,6 +200,10 @@ module _ (project : Project) (read : Reading) (sources : World) (command : ℕ �
         reaches = f.reaches;
         reached_stay = λ p v q among at inside.
             f.reached_stay p v q among at inside ∙ sym (only.files q (not_of_two project order p i v u at there (good_other p (good_at (states_in project es) f.unit.reaches p f.reaches among)) q inside));
+        answered_stay = λ p v a q then' still at inside.
+            f.answered_stay p v a q then' still at inside ∙ sym (only.files q (not_of_two project order p i v u at there (λ same. not_answered a (ap (slice_get (states_in project es)) (sym same) ∙ still)) q inside));
+        unrecorded = f.unrecorded;
+        waiting_stay = f.waiting_stay;
         difference = f.difference;
         named = f.named;
         started = f.started;
@@ -180,14 +216,14 @@ module _ (project : Project) (read : Reading) (sources : World) (command : ℕ �
     pub began_beside : (es : List (Event BadUnit)) (reasons : Reasons) (first w w' : World) (i : ℕ) (u : Planned) → unit_at project i ≡ Some u → slice_get (states_in project es) i ≡ Some Untouched → ChangesOnly (is_of (records_folder project) u.key) w w'
         → AllBegan project read sources command es reasons first w → AllBegan project read sources command es reasons first w'
     began_beside es reasons first w w' i u there untouched only =
-        began_on es reasons first w w' i u there only (ap is_good_at untouched) (λ has f. absurd (another (states_in project es) i i untouched has refl))
+        began_on es reasons first w w' i u there only (ap is_good_at untouched) (λ a at. untouched_apart a (sym untouched ∙ at)) (λ has f. absurd (another (states_in project es) i i untouched has refl))
 
     -- an answer, or a fault in its place
     pub answered_beside : (es : List (Event BadUnit)) (reasons : Reasons) (first w w' : World) (i : ℕ) (u : Planned) → unit_at project i ≡ Some u → slice_get (states_in project es) i ≡ Some Begun → (o : Option Launched) → is_started es i ≡ is_some o
         → ChangesOnly (is_of (records_folder project) u.key) w w' → (o ≡ None → lacks_number (record_at read (records_folder project) w.files u.key) ≡ false → w' ≡ w)
         → AllBegan project read sources command es reasons first w → AllBegan project read sources command es reasons first w'
     answered_beside es reasons first w w' i u there state o started only same =
-        began_on es reasons first w w' i u there only (ap is_good_at state) (λ has f unstarted numbered q.
+        began_on es reasons first w w' i u there only (ap is_good_at state) (λ a at. begun_apart a (sym state ∙ at)) (λ has f unstarted numbered q.
         ap (λ (v : World). finite.get v.files q) (same (none_of o (sym started ∙ unstarted)) (numbered_now es reasons first w i u there f unstarted numbered)))
 
     -- a child dropped
@@ -196,7 +232,7 @@ module _ (project : Project) (read : Reading) (sources : World) (command : ℕ �
         → AllBegan project read sources command before reasons first w → AllBegan project read sources command before reasons first w'
     dropped_beside fault before es reasons first w w' i u there lawful came state o started only same =
         let flew = flew_before project before es i (is_some o) lawful (or_before project fault before es came) state started in
-        began_on before reasons first w w' i u there only flew.not_good (λ has f unstarted numbered. same (none_of o (sym (flew.started has) ∙ unstarted)))
+        began_on before reasons first w w' i u there only flew.not_good flew.not_answered (λ has f unstarted numbered. same (none_of o (sym (flew.started has) ∙ unstarted)))
 
     -- and so of one that could not begin
     pub start_beside : (fault : BuildFault) (before es : List (Event BadUnit)) (first w w' : World) (i : ℕ) (u : Planned) → unit_at project i ≡ Some u → slice_get (states_in project es) i ≡ Some Begun → ChangesOnly (is_of (records_folder project) u.key) w w'
@@ -217,6 +253,11 @@ module _ (project : Project) (read : Reading) (sources : World) (command : ℕ �
             reaches = f.reaches;
             reached_stay = λ p v q among at inside.
                 f.reached_stay p v q among at inside ∙ sym (only.files q (not_of_two project order p i v u at there (other p (good_at (states_in project (Began place true ∷ before)) f.unit.reaches p f.reaches among)) q inside));
+            answered_stay = λ p v a q then' still at inside.
+                f.answered_stay p v a q then' still at inside
+                ∙ sym (only.files q (not_of_two project order p i v u at there (λ same. begun_apart a (sym begun ∙ ap (slice_get (states_in project (Began place true ∷ before))) (sym same) ∙ still)) q inside));
+            unrecorded = f.unrecorded;
+            waiting_stay = f.waiting_stay;
             difference = f.difference;
             named = f.named;
             started = f.started;

@@ -76,7 +76,7 @@ pub record StandsCut (b : Basis) (fault : BuildFault) (next : Option ℕ) (es be
   pub started : StartedFor b fault before es old new
   pub spent : Spends (LacksNoNumber b.project b.read old) fault next es
 
--- the units came to their end, and nothing was set to fail; it is a success exactly where no bad unit is told, and then each of them has answered and is good; the bad unit that is told is the first by the answers; nothing is noted of a unit that has not begun, and of each that has what differed first, which is something exactly where a child was started for it; whether the records are true or not, each unit that has begun did so for what differed first of it from the record that counted in its place at first, and where nothing did the units which it reaches were, where the record names them, as it names them (the folders of units that began before and that it does not reach are left open); no record is kept of a unit whose answer was dropped; and a unit for which no child was started answered by the record that counted in its place at first, and by the files of its folder as they stood at first, whether the records are true or not
+-- the units came to their end, and nothing was set to fail; it is a success exactly where no bad unit is told, and then each of them has answered and is good; the bad unit that is told is the first by the answers; nothing is noted of a unit that has not begun, and of each that has what differed first, which is something exactly where a child was started for it; whether the records are true or not, each unit that has begun did so for what differed first of it from the record that counted in its place at first, and where nothing did the units which it reaches were, where the record names them, as it names them (what a child in flight has written so far is left open, and a unit in flight without one whose record had no number at first); no record is kept of a unit whose answer was dropped; and a unit for which no child was started answered by the record that counted in its place at first, and by the files of its folder as they stood at first, whether the records are true or not
 pub record EndsWhole {S : Type 0} (tells : Bool) (child : Answers) (Turns : S → List ℕ → List ℕ → Step → S → Type 0) (setup : Setup) (project : Project) (next : Option ℕ) (from last : S) (summary : Summary) (old new : Moment) : Type 0 where
   pub es : List (Event BadUnit)
   pub flies : Flies Turns (needs_of project) Anyhow Anything from es last

@@ -146,7 +146,15 @@ pub record OnlyOf (project : Project) (es : List (Event BadUnit)) (old new : Wor
 abbrev pub LacksNoNumber : Project → Reading → World → ℕ → Type 0
 LacksNoNumber project read w place = (u : Planned) → unit_at project place ≡ Some u → lacks_number (record_at read (records_folder project) w.files u.key) ≡ false
 
--- what differed first of the unit at a place when it began, from what its command asks, in a world with these sources in which its record's text was as at first, where only what is of units that had begun before had been changed, and in which the folders and records of the units that it reaches, all of which have answered and are good, stood as they stand now; a child was started for it exactly where something differed, and that is noted. Where nothing differed and its record had a number at first, its own folder and record stand now as at first. That world was the first one, where no child had been started yet and no record lacked a number at first
+-- no text counts as the record of this unit
+abbrev pub HasNoRecord : Project → Planned → World → Type 0
+HasNoRecord project u w = (read : Reading) → record_at read (records_folder project) w.files u.key ≡ None
+
+-- a unit in flight for which a child was started has no record; of this one, whose answer was taken, that is not said
+abbrev pub KeepsNoneInFlight : Project → List (Event BadUnit) → Option ℕ → World → Type 0
+KeepsNoneInFlight project es asked w = (place : ℕ) (u : Planned) → unit_at project place ≡ Some u → slice_get (states_in project es) place ≡ Some Begun → asked ≢ Some place → is_started es place ≡ true → HasNoRecord project u w
+
+-- what differed first of the unit at a place when it began, from what its command asks, in a world with these sources in which its record's text was as at first, where only what is of units that had begun before had been changed, and in which the folders and records of the units that it reaches, all of which have answered and are good, and of all that had answered before, stood as they stand now, and of those in flight one with a child had no record, and one without, whose record had a number at first, stood as at first; a child was started for it exactly where something differed, and that is noted. Where nothing differed and its record had a number at first, its own folder and record stand now as at first. That world was the first one, where no child had been started yet and no record lacked a number at first
 pub record BeganFor (project : Project) (read : Reading) (sources : World) (command : ℕ → Planned → Command) (es : List (Event BadUnit)) (reasons : Reasons) (first now : World) (place : ℕ) : Type 0 where
   pub unit : Planned
   pub there : unit_at project place ≡ Some unit
@@ -156,6 +164,11 @@ pub record BeganFor (project : Project) (read : Reading) (sources : World) (comm
   pub only : OnlyOf project (events_before es place) first world
   pub reaches : are_good (states_in project es) unit.reaches ≡ true
   pub reached_stay : (p : ℕ) (v : Planned) (q : List ℕ) → Contains unit.reaches p → unit_at project p ≡ Some v → is_of (records_folder project) v.key q ≡ true → finite.get world.files q ≡ finite.get now.files q
+  pub answered_stay : (p : ℕ) (v : Planned) (a : Answer BadUnit) (q : List ℕ) → slice_get (states_in project (events_before es place)) p ≡ Some (Answered a) → slice_get (states_in project es) p ≡ Some (Answered a) → unit_at project p ≡ Some v
+      → is_of (records_folder project) v.key q ≡ true → finite.get world.files q ≡ finite.get now.files q
+  pub unrecorded : KeepsNoneInFlight project (events_before es place) None world
+  pub waiting_stay : (p : ℕ) (v : Planned) (q : List ℕ) → slice_get (states_in project (events_before es place)) p ≡ Some Begun → is_started (events_before es place) p ≡ false → unit_at project p ≡ Some v
+      → lacks_number (record_at read (records_folder project) first.files v.key) ≡ false → is_of (records_folder project) v.key q ≡ true → finite.get world.files q ≡ finite.get first.files q
   pub difference : Option Difference
   pub named : FirstDifference read (records_folder project) unit.key (command place unit) world difference
   pub started : is_started es place ≡ is_some difference
@@ -188,17 +201,9 @@ AllBeganFor b es reasons first now = AllBegan b.project b.read b.sources (comman
 abbrev pub StartedFor : Basis → BuildFault → List (Event BadUnit) → List (Event BadUnit) → World → World → Type 0
 StartedFor b fault before es first now = HadDiffered b.project b.read b.sources (command_in b) fault before es first now
 
--- no text counts as the record of this unit
-abbrev pub HasNoRecord : Project → Planned → World → Type 0
-HasNoRecord project u w = (read : Reading) → record_at read (records_folder project) w.files u.key ≡ None
-
 -- a unit that answered bad, and for which a child was started, has no record
 abbrev pub KeepsNoneOfBad : Project → List (Event BadUnit) → World → Type 0
 KeepsNoneOfBad project es w = (place : ℕ) (u : Planned) (answer : Answer BadUnit) → unit_at project place ≡ Some u → slice_get (states_in project es) place ≡ Some (Answered answer) → IsSome answer.fault → is_started es place ≡ true → HasNoRecord project u w
-
--- nor has one in flight for which a child was started; of this one, whose answer was taken, that is not said
-abbrev pub KeepsNoneInFlight : Project → List (Event BadUnit) → Option ℕ → World → Type 0
-KeepsNoneInFlight project es asked w = (place : ℕ) (u : Planned) → unit_at project place ≡ Some u → slice_get (states_in project es) place ≡ Some Begun → asked ≢ Some place → is_started es place ≡ true → HasNoRecord project u w
 
 -- a unit in flight has begun, and its child, if it has one, writes into the unit's folder, and the unit has no record
 pub record FliesIn (project : Project) (es : List (Event BadUnit)) (world : World) (flying : List ChildInFlight) (a : Aloft) : Type 0 where
