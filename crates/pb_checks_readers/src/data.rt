@@ -36,7 +36,7 @@ fn is_ordered(
 }
 
 /// Two texts, and how the first stands to the second.
-const ORDERS: &[(&str, &str, Ordering)] = &[
+static ORDERS: &[(&str, &str, Ordering)] = &[
     ("", "", Ordering::Equal),
     ("", "a", Ordering::Less),
     ("a", "b", Ordering::Less),
@@ -96,7 +96,7 @@ fn words_stand_once(alloc: Global) -> Result<bool, AllocError> {
 }
 
 /// Names and values that are put into a table one after another.
-const INSERTED: &[(&str, u8)] = &[("b", 1), ("a", 2), ("b", 3), ("c", 4)];
+static INSERTED: &[(&str, u8)] = &[("b", 1), ("a", 2), ("b", 3), ("c", 4)];
 
 /// Puts a name and a value into a table.
 fn insert(alloc: Global, table: &mut Table<u8>, name: &str, value: u8) -> Result<(), AllocError> {
@@ -122,7 +122,7 @@ fn has_value(alloc: Global, table: &Table<u8>, name: &str, wanted: u8) -> Result
 }
 
 /// Names, and the value of each in the table; 0 where it has none.
-const VALUES: &[(&str, u8)] = &[("a", 2), ("b", 3), ("c", 4), ("d", 0)];
+static VALUES: &[(&str, u8)] = &[("a", 2), ("b", 3), ("c", 4), ("d", 0)];
 
 /// Whether each name has its value in a table.
 fn has_values(alloc: Global, table: &Table<u8>) -> Result<bool, AllocError> {

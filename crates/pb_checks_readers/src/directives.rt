@@ -1,5 +1,7 @@
 //! What the readers answer, against worked examples.
 
+use crate::texts::of_bytes;
+use crate::wording::reads;
 use pb_checks_files::{Shown, holds};
 use pb_data::{Text, TryCopy};
 use pb_directive::{
@@ -53,7 +55,10 @@ fn put_directives(out: &mut Shown, directives: &Directives) {
 /// Puts a copy of directives.
 fn put_copy(alloc: Global, out: &mut Shown, directives: &Directives) {
     match directives.copy(alloc) {
-        Ok(copy) => put_directives(out, &copy),
+        Ok(copy) => {
+            put_directives(out, &copy);
+            drop(copy);
+        }
         Err(_) => put_fault(out, LineFault::OutOfMemory),
     }
 }
@@ -68,7 +73,10 @@ fn put_names(out: &mut Shown, info: &DepInfo) {
 fn says(alloc: Global, output: &[u8], wanted: &str) -> bool {
     let mut shown = Shown::new(alloc);
     match read_directives(alloc, output) {
-        Ok(directives) => put_copy(alloc, &mut shown, &directives),
+        Ok(directives) => {
+            put_copy(alloc, &mut shown, &directives);
+            drop(directives);
+        }
         Err(fault) => put_fault(&mut shown, fault),
     }
     shown.says(wanted)
@@ -91,7 +99,7 @@ fn assert_lines(rt: &impl Abort, alloc: Global, cases: &str) {
 }
 
 /// Outputs of scripts, and what they say: lines and prefixes.
-const LINES: &[(&[u8], &str)] = &[
+static LINES: &[(&[u8], &str)] = &[
     (b"cargo:root=/x", "metadata<root></x>;"),
     (b"cargo::root=/x", "UnknownKey 1"),
     (b"", ""),
@@ -205,7 +213,7 @@ fn said_by_prefix(end: usize) -> &'static str {
 }
 
 /// Dep-info, and what it names.
-const RULES: &[(&[u8], &str)] = &[
+static RULES: &[(&[u8], &str)] = &[
     (
         b"o: /w/a\\ b.rs /w/c.rs\n# env-dep:V\n",
         "/w/a b.rs;/w/c.rs; V;",
@@ -250,7 +258,10 @@ const RULES: &[(&[u8], &str)] = &[
 pub fn tells(alloc: Global, dep_info: &[u8], wanted: &str) -> bool {
     let mut shown = Shown::new(alloc);
     match read_dep_info(alloc, dep_info) {
-        Ok(info) => put_names(&mut shown, &info),
+        Ok(info) => {
+            put_names(&mut shown, &info);
+            drop(info);
+        }
         Err(fault) => put_fault(&mut shown, fault),
     }
     shown.says(wanted)
@@ -275,15 +286,6 @@ fn outputs_and_dep_info(rt: HostRuntime) {
     }
 }
 
-/// Some bytes, and one byte so many times behind them.
-fn of_bytes(alloc: Global, start: &[u8], byte: u8, count: usize) -> Result<Vec<u8>, AllocError> {
-    let mut made = Vec::from_slice(alloc, start)?;
-    for _ in 0..count {
-        made.push(byte)?;
-    }
-    Ok(made)
-}
-
 /// Whether a line of so many bytes that is no directive says nothing as output, and is refused as dep-info.
 fn plain_line_is_read(alloc: Global, length: usize) -> Result<bool, AllocError> {
     let plain = of_bytes(alloc, b"", b'a', length)?;
@@ -301,8 +303,12 @@ fn are_warning(directives: &[Directive], length: usize) -> bool {
 /// Whether a warning of this length is read.
 fn warns_at_length(alloc: Global, length: usize) -> Result<bool, Fail> {
     let output = of_bytes(alloc, b"cargo::warning=", b'w', length)?;
-    let directives = read_directives(alloc, output.as_slice())?;
-    Ok(are_warning(directives.as_slice(), length))
+    let read = read_directives(alloc, output.as_slice());
+    drop(output);
+    let directives = read?;
+    let is_warning = are_warning(directives.as_slice(), length);
+    drop(directives);
+    Ok(is_warning)
 }
 
 /// Whether texts are one, of this length.
@@ -316,13 +322,23 @@ fn are_one_text(texts: &[Text], length: usize) -> bool {
 /// Whether dep-info that names one path of this length is read.
 fn names_at_length(alloc: Global, length: usize) -> Result<bool, Fail> {
     let dep_info = of_bytes(alloc, b"o: ", b'w', length)?;
-    let info = read_dep_info(alloc, dep_info.as_slice())?;
-    Ok(are_one_text(info.words.as_slice(), length))
+    let read = read_dep_info(alloc, dep_info.as_slice());
+    drop(dep_info);
+    let info = read?;
+    let is_one = are_one_text(info.words.as_slice(), length);
+    drop(info);
+    Ok(is_one)
 }
 
 /// Whether a name is among the words of dep-info, and not among its variables.
 fn is_word_alone(info: &DepInfo, name: &Text) -> bool {
     info.words.contains(name) && !info.variables.contains(name)
+}
+
+/// The same of what is written here.
+fn has_word_alone(alloc: Global, info: &DepInfo, name: &str) -> Result<bool, AllocError> {
+    let name = Text::from_str(alloc, name)?;
+    Ok(is_word_alone(info, &name))
 }
 
 /// How many words dep-info has.
@@ -333,27 +349,20 @@ fn count_words(alloc: Global, info: DepInfo) -> Result<usize, AllocError> {
 
 /// Whether dep-info has so many words, of which this is one.
 fn names_word(alloc: Global, dep_info: &[u8], name: &str, count: usize) -> Result<bool, Fail> {
-    let name = Text::from_str(alloc, name)?;
     let info = read_dep_info(alloc, dep_info)?;
-    let is_word = is_word_alone(&info, &name);
-    Ok(count_words(alloc, info)? == count && is_word)
+    let is_word = has_word_alone(alloc, &info, name);
+    let counted = count_words(alloc, info);
+    Ok(counted? == count && is_word?)
 }
 
 /// Faults of a line, and what they are in words.
-const FAULTS_IN_WORDS: &[(LineFault, &str)] = &[
+static FAULTS_IN_WORDS: &[(LineFault, &str)] = &[
     (LineFault::NotText(1), "line 1 is not UTF-8"),
     (LineFault::UnknownKey(23), "line 23 has an unknown key"),
     (LineFault::BadValue(4), "line 4 has a bad value"),
     (LineFault::BadFlag(5), "line 5 has a bad flag"),
     (LineFault::OutOfMemory, "out of memory"),
 ];
-
-/// Whether a fault is this in words.
-fn reads(alloc: Global, fault: LineFault, wanted: &str) -> bool {
-    let mut words = Shown::new(alloc);
-    words.put_words(&fault);
-    words.says(wanted)
-}
 
 /// Each law, called once.
 fn laws_are_named() {
@@ -379,7 +388,7 @@ fn long_lines_words_and_laws(rt: HostRuntime) -> Result<(), Fail> {
     assert!(rt; names_word(rt.alloc(), b"o: b a b", "a", 2)?);
     for case in FAULTS_IN_WORDS {
         let (fault, wanted) = *case;
-        assert!(rt; reads(rt.alloc(), fault, wanted), "{wanted}");
+        assert!(rt; reads(rt.alloc(), &fault, wanted), "{wanted}");
     }
     laws_are_named();
     Ok(())

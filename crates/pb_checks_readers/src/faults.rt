@@ -1,7 +1,8 @@
 //! Faults for tests, as a table can say them: a fault itself may hold owned values.
 
+use crate::texts::texts_of;
 use pb_answer::{BuildFault, DeviceFault, Refusal};
-use pb_data::{Items, Text};
+use pb_data::Text;
 use pb_directive::LineFault;
 use pb_feature::FeatureFault;
 use pb_manifest::ManifestFault;
@@ -10,7 +11,7 @@ use pb_place::{PathFault, PathText, PlaceFault, StartFault};
 use pb_profile::ProfileFault;
 use pb_project::UnitFault;
 use pb_unit::PlanFault;
-use std::alloc::{AllocError, Global};
+use std::alloc::Global;
 
 /// A fault of a unit.
 #[derive(Clone, Copy)]
@@ -46,15 +47,6 @@ pub enum Ending {
     Sink,
     /// Out of memory.
     OutOfMemory,
-}
-
-/// The keys that a text has, with spaces between them.
-pub fn keys(alloc: Global, text: &str) -> Result<Items<Text>, AllocError> {
-    let mut keys = Items::new(alloc);
-    for key in text.split_whitespace() {
-        keys.push(Text::from_str(alloc, key)?)?;
-    }
-    Ok(keys)
 }
 
 /// The fault of a unit that has this name.
@@ -112,7 +104,7 @@ fn refused_manifest(alloc: Global, fault: ManifestFault) -> Result<Refusal, Path
 /// The refusal of a plan for the fault of this name.
 fn refused_plan(alloc: Global, name: &str) -> Result<Refusal, PathFault> {
     Ok(Refusal::Plan(match name {
-        "Cycle" => PlanFault::Cycle(keys(alloc, "a b")?),
+        "Cycle" => PlanFault::Cycle(texts_of(alloc, "a b")?),
         "TooManyUnits" => PlanFault::TooManyUnits,
         "NothingToBuild" => PlanFault::NothingToBuild,
         _ => PlanFault::OutOfMemory,

@@ -4,7 +4,7 @@ use pb_checks_files::is_said;
 use pb_json::json_string;
 
 /// Texts, and each as a JSON string.
-const STRINGS: &[(&str, &str)] = &[
+static STRINGS: &[(&str, &str)] = &[
     ("", r#""""#),
     ("a b/c", r#""a b/c""#),
     ("\"\\", r#""\"\\""#),

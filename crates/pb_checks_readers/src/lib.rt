@@ -33,4 +33,6 @@ mod sessions;
 #[cfg(test)]
 mod stores;
 #[cfg(test)]
+mod texts;
+#[cfg(test)]
 mod wording;

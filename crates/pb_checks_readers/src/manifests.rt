@@ -4,6 +4,8 @@
 mod cases;
 mod show;
 
+use crate::texts::of_bytes;
+use crate::wording::reads;
 use cases::CASES;
 use pb_checks_files::{Shown, holds, is_text};
 use pb_data::{Items, Text, TryCopy};
@@ -13,14 +15,19 @@ use pb_manifest::{
     WrittenPath, crate_name, crate_type_texts, library_name,
 };
 use pb_manifest_reader::read_manifest;
-use show::put_answer;
+use show::put_manifest;
 use std::alloc::{AllocError, Global};
 use std::process::Abort;
 
 /// Whether the answer to a manifest, in one line, is this.
 fn says(alloc: Global, manifest: &[u8], wanted: &str) -> bool {
+    let answer = read_manifest(alloc, manifest);
     let mut shown = Shown::new(alloc);
-    put_answer(&mut shown, &read_manifest(alloc, manifest));
+    match &answer {
+        Ok(manifest) => put_manifest(&mut shown, manifest),
+        Err(fault) => shown.put_value(fault),
+    }
+    drop(answer);
     shown.says(wanted)
 }
 
@@ -36,29 +43,25 @@ fn assert_answers(rt: &impl Abort, alloc: Global, cases: &str) -> usize {
     count
 }
 
-/// As many line feeds.
-fn blank(alloc: Global, length: usize) -> Result<Vec<u8>, AllocError> {
-    let mut bytes = Vec::new(alloc);
-    for _ in 0..length {
-        bytes.push(b'\n')?;
-    }
-    Ok(bytes)
-}
-
 /// Whether the answer to as many line feeds is this.
 fn blank_says(alloc: Global, length: usize, wanted: &str) -> Result<bool, AllocError> {
-    let bytes = blank(alloc, length)?;
+    let bytes = of_bytes(alloc, b"", b'\n', length)?;
     Ok(says(alloc, bytes.as_slice(), wanted))
 }
 
 /// Bytes that are no TOML.
-const NO_TOML: &[&[u8]] = &[b"name = \"\xff\"", b"\x00", b"\xef\xbb"];
+static NO_TOML: &[&[u8]] = &[b"name = \"\xff\"", b"\x00", b"\xef\xbb"];
+
+/// Asserts the answers of each table.
+fn assert_cases(rt: &impl Abort, alloc: Global) {
+    for case in CASES {
+        assert!(rt; assert_answers(rt, alloc, *case) >= 25);
+    }
+}
 
 #[test]
 fn manifests(rt: HostRuntime) {
-    for case in CASES {
-        assert!(rt; assert_answers(&rt, rt.alloc(), *case) >= 25);
-    }
+    assert_cases(&rt, rt.alloc());
     assert!(rt; holds(blank_says(rt.alloc(), 1_048_576, "BadKind(Package)")));
     assert!(rt; holds(blank_says(rt.alloc(), 1_048_577, "TooLarge")));
     for bytes in NO_TOML {
@@ -77,7 +80,7 @@ fn has_letters(case: &(&str, bool, bool, bool, bool)) -> bool {
 }
 
 /// Texts, whether each has the letters of a package's, a crate's and a feature's name, and whether it has a byte zero.
-const LETTERS: &[(&str, bool, bool, bool, bool)] = &[
+static LETTERS: &[(&str, bool, bool, bool, bool)] = &[
     ("a", true, true, true, false),
     ("z", true, true, true, false),
     ("A", true, true, true, false),
@@ -127,7 +130,9 @@ fn version_of(alloc: Global, text: &str) -> Result<Version, ManifestFault> {
 /// The middle number of the version that a text says.
 fn minor_of(alloc: Global, text: &str) -> Result<u64, ManifestFault> {
     let version = version_of(alloc, text)?;
-    Ok(version.number().minor)
+    let minor = version.number().minor;
+    drop(version);
+    Ok(minor)
 }
 
 /// The requirement that a text says.
@@ -139,11 +144,13 @@ fn requirement_of(alloc: Global, text: &str) -> Result<Requirement, ManifestFaul
 /// How many comparisons the requirement that a text says has.
 fn count_comparisons(alloc: Global, text: &str) -> Result<usize, ManifestFault> {
     let requirement = requirement_of(alloc, text)?;
-    Ok(requirement.parsed().comparators.len())
+    let count = requirement.parsed().comparators.len();
+    drop(requirement);
+    Ok(count)
 }
 
 /// Faults, and what they are in words.
-const FAULTS_IN_WORDS: &[(ManifestFault, &str)] = &[
+static FAULTS_IN_WORDS: &[(ManifestFault, &str)] = &[
     (ManifestFault::NotToml, "the manifest is not TOML"),
     (
         ManifestFault::BadKind(Key::CodegenUnits),
@@ -172,15 +179,8 @@ const FAULTS_IN_WORDS: &[(ManifestFault, &str)] = &[
     (ManifestFault::OldResolver, "resolver 1 is not supported"),
 ];
 
-/// Whether a fault is this in words.
-fn reads(alloc: Global, fault: ManifestFault, wanted: &str) -> bool {
-    let mut words = Shown::new(alloc);
-    words.put_words(&fault);
-    words.says(wanted)
-}
-
 /// Requirements, versions, and whether they match.
-const MATCHES: &[(&str, &str, bool)] = &[
+static MATCHES: &[(&str, &str, bool)] = &[
     ("1", "1.2.3", true),
     ("1", "2.0.0", false),
     ("^0.1", "0.1.9", true),
@@ -191,11 +191,36 @@ const MATCHES: &[(&str, &str, bool)] = &[
     ("*", "7.0.0", true),
 ];
 
+/// A copy of the version that a text says.
+fn version_copied(alloc: Global, text: &str) -> Result<Version, ManifestFault> {
+    let version = version_of(alloc, text)?;
+    let copy = version.copy(alloc);
+    drop(version);
+    Ok(copy?)
+}
+
+/// A copy of the requirement that a text says.
+fn requirement_copied(alloc: Global, text: &str) -> Result<Requirement, ManifestFault> {
+    let requirement = requirement_of(alloc, text)?;
+    let copy = requirement.copy(alloc);
+    drop(requirement);
+    Ok(copy?)
+}
+
+/// Whether a copy of the requirement that a text says matches a version.
+fn text_matches(alloc: Global, text: &str, version: &Version) -> Result<bool, ManifestFault> {
+    let requirement = requirement_copied(alloc, text)?;
+    let matches = requirement.matches(version);
+    drop(requirement);
+    Ok(matches)
+}
+
 /// Whether a copy of the requirement that a text says matches a copy of the version that another one says.
 fn texts_match(alloc: Global, requirement: &str, version: &str) -> Result<bool, ManifestFault> {
-    let requirement = requirement_of(alloc, requirement)?.copy(alloc)?;
-    let version = version_of(alloc, version)?.copy(alloc)?;
-    Ok(requirement.matches(&version))
+    let version = version_copied(alloc, version)?;
+    let matches = text_matches(alloc, requirement, &version);
+    drop(version);
+    matches
 }
 
 /// A library that says its name and nothing more.
@@ -211,7 +236,9 @@ fn library_named(alloc: Global, name: &str) -> Result<Library, AllocError> {
 /// Whether the library of a package of the name `a-b` that says this name has it.
 fn library_has(alloc: Global, name: &str) -> Result<bool, AllocError> {
     let library = Some(library_named(alloc, name)?);
-    Ok(is_text(library_name(alloc, "a-b", &library), name))
+    let own_name = library_name(alloc, "a-b", &library);
+    drop(library);
+    Ok(is_text(own_name, name))
 }
 
 /// Whether crate types have these texts; `lib` where there is none.
@@ -252,12 +279,21 @@ fn source_at(alloc: Global, path: &str) -> Result<Option<PathSource>, AllocError
     }
 }
 
+/// Whether the copy of a source has this path.
+fn copy_is_at(alloc: Global, source: &PathSource, path: &str) -> Result<bool, AllocError> {
+    let copy = source.copy(alloc)?;
+    let is_at = copy.path.as_str() == path;
+    drop(copy);
+    Ok(is_at)
+}
+
 /// Whether the copy of such a source has its path.
 fn source_is_copied(alloc: Global, path: &str) -> Result<bool, AllocError> {
     match source_at(alloc, path)? {
         Some(source) => {
-            let copy = source.copy(alloc)?;
-            Ok(copy.path.as_str() == path)
+            let is_at = copy_is_at(alloc, &source, path);
+            drop(source);
+            is_at
         }
         None => Ok(false),
     }
@@ -266,8 +302,12 @@ fn source_is_copied(alloc: Global, path: &str) -> Result<bool, AllocError> {
 /// Whether the copy of a readme at a path is one at a path.
 fn readme_is_copied(alloc: Global, path: &str) -> Result<bool, AllocError> {
     let readme = Readme::At(Text::from_str(alloc, path)?);
-    let copy = readme.copy(alloc)?;
-    Ok(matches!(copy, Readme::At(_)))
+    let copied = readme.copy(alloc);
+    drop(readme);
+    let copy = copied?;
+    let is_at_path = matches!(copy, Readme::At(_));
+    drop(copy);
+    Ok(is_at_path)
 }
 
 #[test]
@@ -277,7 +317,7 @@ fn letters_versions_and_words(rt: HostRuntime) {
     }
     for case in FAULTS_IN_WORDS {
         let (fault, wanted) = *case;
-        assert!(rt; reads(rt.alloc(), fault, wanted), "{wanted}");
+        assert!(rt; reads(rt.alloc(), &fault, wanted), "{wanted}");
     }
     for case in MATCHES {
         let (requirement, version, wanted) = *case;

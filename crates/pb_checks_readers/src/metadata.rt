@@ -16,7 +16,9 @@ fn put_pairs(out: &mut Shown, pairs: &Items<(Text, Text)>) {
 fn passed_on(alloc: Global) -> Result<Table<Text>, Fail> {
     let text = b"cargo::metadata=root-dir=/r\ncargo:b=1\ncargo::warning=w\ncargo:Root_Dir=/s\n";
     let directives = read_directives(alloc, text)?;
-    Ok(dep_pairs(alloc, "z-lib\u{df}", &directives)?)
+    let pairs = dep_pairs(alloc, "z-lib\u{df}", &directives);
+    drop(directives);
+    Ok(pairs?)
 }
 
 /// Whether a table has this value under a name.

@@ -14,7 +14,11 @@ fn is_written(alloc: Global, kept: &Record, text: &[u8]) -> Result<Option<bool>,
 /// Whether the record that a text is, is written so again; none where it is no record.
 fn again(alloc: Global, text: &[u8]) -> Result<Option<bool>, AllocError> {
     match read_record(alloc, text)? {
-        Some(kept) => is_written(alloc, &kept, text),
+        Some(kept) => {
+            let is_written = is_written(alloc, &kept, text);
+            drop(kept);
+            is_written
+        }
         None => Ok(None),
     }
 }
@@ -39,7 +43,7 @@ const LARGEST: &str =
     "record 2\n18446744073709551615\n12\nz.target.lib\n1\nm\n0\n1\n/\n0\n2\n/z\n2\n/t\n0\n\n0\n0\n0\n0\n\n0\n\nend\n";
 
 /// Records of format 2, and then of format 1.
-const RECORDS: &[&str] = &[
+static RECORDS: &[&str] = &[
     LARGEST,
     "record 2\n7\n12\na.target.lib\n5\nrustc\n2\n2\n-C\n0\n\n2\n/w\n2\n1\nA\n1\n1\n2\nAB\n0\n\n4\n/w/t\n2\n/t\n3\nx\ny\n1\n2\n/r\n3\nf\n4\n/w/a\n2\nok\nt\n2\n/w\n1\n3\nb/c\n1\n\n\nv\n1\nV\n1\n0\n\n2\n1\nb\n3\n1\nc\n6\n3\nout\n3\nerr\nend\n",
     "record 2\n0\n0\n\n0\n\n0\n1\n/\n0\n1\n/\n1\n/\n0\n\n0\n1\nv\n2\n\u{e9}\n0\n0\n0\n\n0\n\nend\n",
@@ -67,7 +71,11 @@ fn has_its_parts(kept: &Record) -> bool {
 /// Whether the largest record says its parts.
 fn says_its_parts(alloc: Global) -> Result<bool, AllocError> {
     match read_record(alloc, LARGEST.as_bytes())? {
-        Some(kept) => Ok(has_its_parts(&kept)),
+        Some(kept) => {
+            let has_its_parts = has_its_parts(&kept);
+            drop(kept);
+            Ok(has_its_parts)
+        }
         None => Ok(false),
     }
 }
@@ -129,7 +137,7 @@ fn wrong_with(alloc: Global, text: &[u8]) -> &'static str {
 }
 
 /// What is put in a record that has nothing in its lists, in place of which of its lines, so that it is none.
-const WRONG: &[(&str, &str)] = &[
+static WRONG: &[(&str, &str)] = &[
     ("18446744073709551615", "18446744073709551616"),
     ("18446744073709551615", "018446744073709551615"),
     ("18446744073709551615", "+1"),
@@ -171,7 +179,7 @@ const NO_TEXT: &[u8] =
     b"record 2\n1\n1\n\xff\n1\nm\n0\n1\n/\n0\n2\n/z\n2\n/t\n0\n\n0\n0\n0\n0\n\n0\n\nend\n";
 
 /// Texts that may stand anywhere.
-const TEXTS: &[&str] = &[
+static TEXTS: &[&str] = &[
     "",
     "a",
     "-C",
@@ -184,7 +192,7 @@ const TEXTS: &[&str] = &[
 ];
 
 /// Normalised paths.
-const PATHS: &[&str] = &[
+static PATHS: &[&str] = &[
     "/",
     "/w",
     "/w/target/debug/a.target.lib",
@@ -193,13 +201,13 @@ const PATHS: &[&str] = &[
 ];
 
 /// Paths inside a folder.
-const NAMES: &[&str] = &["a", "a/b", "lib a.rlib", "\u{e9}/\n", "..."];
+static NAMES: &[&str] = &["a", "a/b", "lib a.rlib", "\u{e9}/\n", "..."];
 
 /// Names in byte order.
-const SORTED: &[&str] = &["", "A", "AB", "B", "a", "\u{e9}"];
+static SORTED: &[&str] = &["", "A", "AB", "B", "a", "\u{e9}"];
 
 /// Numbers.
-const NUMBERS: &[&str] = &["0", "1", "9", "10", "4294967296", "18446744073709551615"];
+static NUMBERS: &[&str] = &["0", "1", "9", "10", "4294967296", "18446744073709551615"];
 
 /// Adds a block.
 fn put_block(out: &mut Shown, text: &str) {

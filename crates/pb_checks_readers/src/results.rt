@@ -3,7 +3,8 @@
 ghost use Rattle.std.specs.Prelude.{◌≡◌};
 ghost use Rattle.pb_answer.specs.Faults.{is_outside};
 
-use crate::faults::{Bad, Ending, build_fault, keys, unit_fault};
+use crate::faults::{Bad, Ending, build_fault, unit_fault};
+use crate::texts::texts_of;
 use pb_answer::{BuildFault, Summary, result_line};
 use pb_checks_files::{holds, is_said};
 use pb_data::{Bytes, Items, Text};
@@ -50,13 +51,13 @@ fn ends_with(
     started: &str,
     wanted: &str,
 ) -> Result<bool, PathFault> {
-    let started = keys(alloc, started)?;
+    let started = texts_of(alloc, started)?;
     let bad = bad_unit(alloc, bad)?;
     Ok(says(alloc, Ok(summary(alloc, bad, started)), wanted))
 }
 
 /// The fault of the first bad unit, where there is one, the keys of what was started, and the line.
-const ENDS: &[(Option<Bad>, &str, &str)] = &[
+static ENDS: &[(Option<Bad>, &str, &str)] = &[
     (None, "", "ok started=-"),
     (None, "a.target.lib", "ok started=a.target.lib"),
     (
@@ -166,7 +167,7 @@ fn is_told(
 }
 
 /// Faults of a build, the line of each, and whether it comes from outside the rules.
-const FAULTS: &[(Ending, &str, bool)] = &[
+static FAULTS: &[(Ending, &str, bool)] = &[
     (
         Ending::Manifest(ManifestFault::NotToml),
         "refused NotToml",

@@ -1,11 +1,13 @@
 //! What session files say, against worked examples.
 
+use crate::wording::reads;
 use pb_checks_files::{Shown, holds};
 use pb_data::Text;
 use pb_package::Options;
 use pb_place::StartFault;
 use pb_session::{BadSession, Death, PickBy, SessionStep, read_session};
 use std::alloc::{AllocError, Global};
+use std::process::Abort;
 
 /// Puts the texts of an option in words: its name, and each text with a bar behind it; nothing where there is none.
 fn put_texts(out: &mut Shown, name: &str, texts: &[Text]) {
@@ -88,7 +90,10 @@ fn put_steps(out: &mut Shown, steps: &[SessionStep]) {
 fn says(alloc: Global, session: &[u8], wanted: &str) -> bool {
     let mut shown = Shown::new(alloc);
     match read_session(alloc, session) {
-        Ok(steps) => put_steps(&mut shown, steps.as_slice()),
+        Ok(steps) => {
+            put_steps(&mut shown, steps.as_slice());
+            drop(steps);
+        }
         Err(BadSession::BadForm) => shown.put(&["bad"]),
         Err(BadSession::OutOfMemory) => shown.put(&["memory"]),
     }
@@ -188,7 +193,7 @@ null -> bad
 [{"build":{}},{"write":["a","b"]}] -> bad"#;
 
 /// The same of files that a line cannot say.
-const ODD_SESSIONS: &[(&str, &str)] = &[
+static ODD_SESSIONS: &[(&str, &str)] = &[
     ("[]", ""),
     (" [ ] ", ""),
     (r#"[{"write":["/w/a.rs","x\n"]}]"#, "write</w/a.rs><x\n>;"),
@@ -296,31 +301,30 @@ fn has_fixed(alloc: Global, session: &[u8], wanted: &str) -> Result<bool, BadSes
     if let [SessionStep::Build(options, _)] = steps.as_slice() {
         put_fixed(&mut shown, options);
     }
+    drop(steps);
     Ok(shown.says(wanted))
 }
 
-/// Whether what is no session is this in words.
-fn bad_reads(alloc: Global, wanted: &str) -> bool {
-    let mut words = Shown::new(alloc);
-    words.put_words(&BadSession::BadForm);
-    words.says(wanted)
+/// Asserts what each session file says.
+fn assert_sessions(rt: &impl Abort, alloc: Global) {
+    for line in SESSIONS.lines() {
+        let (session, wanted) = parts_of(line);
+        assert!(rt; says(alloc, session.as_bytes(), wanted), "{line}");
+    }
+    for case in ODD_SESSIONS {
+        let (session, wanted) = *case;
+        assert!(rt; says(alloc, session.as_bytes(), wanted), "{session}");
+    }
 }
 
 #[test]
 fn sessions_and_options(rt: HostRuntime) {
-    for line in SESSIONS.lines() {
-        let (session, wanted) = parts_of(line);
-        assert!(rt; says(rt.alloc(), session.as_bytes(), wanted), "{line}");
-    }
-    for case in ODD_SESSIONS {
-        let (session, wanted) = *case;
-        assert!(rt; says(rt.alloc(), session.as_bytes(), wanted), "{session}");
-    }
+    assert_sessions(&rt, rt.alloc());
     for line in OPTIONS.lines() {
         let (options, wanted) = parts_of(line);
         assert!(rt; holds(build_says(rt.alloc(), options, wanted)), "{line}");
     }
     assert!(rt; holds(has_fixed(rt.alloc(), FIXED, "cargo runner=mini|--run|")));
     assert!(rt; says(rt.alloc(), b"[{\"unset\":\"\xff\"}]", "bad"));
-    assert!(rt; bad_reads(rt.alloc(), "bad session"));
+    assert!(rt; reads(rt.alloc(), &BadSession::BadForm, "bad session"));
 }

@@ -6,17 +6,23 @@ use pb_directive::LineFault;
 use pb_manifest::{Key, ManifestFault};
 use pb_place::PathFault;
 use std::alloc::Global;
+use std::fmt::Display;
+
+/// Whether a value is this in words.
+pub fn reads<T: Display>(alloc: Global, value: &T, wanted: &str) -> bool {
+    let mut words = Shown::new(alloc);
+    words.put_words(value);
+    words.says(wanted)
+}
 
 /// Whether the fault of a build that ended so is this in words.
 fn ending_reads(alloc: Global, ending: Ending, wanted: &str) -> Result<bool, PathFault> {
     let fault = build_fault(alloc, ending)?;
-    let mut words = Shown::new(alloc);
-    words.put_words(&fault);
-    Ok(words.says(wanted))
+    Ok(reads(alloc, &fault, wanted))
 }
 
 /// Faults of a build, and what they are in words.
-const BUILD_WORDS: &[(Ending, &str)] = &[
+static BUILD_WORDS: &[(Ending, &str)] = &[
     (Ending::Plan("NothingToBuild"), "there is nothing to build"),
     (Ending::Toolchain, "the compiler does not say its host"),
     (Ending::Sink, "the message lines cannot be written"),
@@ -32,13 +38,11 @@ const BUILD_WORDS: &[(Ending, &str)] = &[
 /// Whether the fault of a unit is this in words.
 fn bad_reads(alloc: Global, bad: Bad, wanted: &str) -> Result<bool, PathFault> {
     let fault = unit_fault(alloc, bad)?;
-    let mut words = Shown::new(alloc);
-    words.put_words(&fault);
-    Ok(words.says(wanted))
+    Ok(reads(alloc, &fault, wanted))
 }
 
 /// Faults of a unit, and what they are in words.
-const UNIT_WORDS: &[(Bad, &str)] = &[
+static UNIT_WORDS: &[(Bad, &str)] = &[
     (Bad::Named("ScriptError"), "the script told of an error"),
     (Bad::Named("NoDepInfo"), "no dep-info that can be read"),
     (

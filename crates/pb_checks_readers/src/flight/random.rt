@@ -175,7 +175,10 @@ fn fly(
 fn round(alloc: Global, dice: &mut Dice) -> Result<bool, Fail> {
     let mut units = some_units(alloc, dice)?;
     let mut flight = flight_of(alloc, units.as_slice())?;
-    fly(alloc, dice, &mut flight, &mut units)
+    let went = fly(alloc, dice, &mut flight, &mut units);
+    drop(flight);
+    drop(units);
+    went
 }
 
 #[test]

@@ -16,11 +16,11 @@ enum Act {
 /// The plan of a package r with a library and a script, which needs a package x as a dependency and as a build
 /// dependency; x has a library and a script. In plan order: the script of x for the host and for the target, its runs,
 /// its libraries, the script of r, its run, its library. Each entry is what the unit needs.
-const PLAN: &[&[usize]] = &[&[], &[], &[0], &[1], &[2], &[3], &[4], &[6], &[5, 7]];
+static PLAN: &[&[usize]] = &[&[], &[], &[0], &[1], &[2], &[3], &[4], &[6], &[5, 7]];
 
 /// Steps, with what may begin after each and what is handed out then. The script of r may begin only once the library
 /// of x for the host is good.
-const STEPS: &[(Act, &str, &str)] = &[
+static STEPS: &[(Act, &str, &str)] = &[
     (Act::Begin(0), "1 ", ""),
     (Act::Begin(1), "", ""),
     (Act::Good(1), "3 ", ""),
@@ -43,7 +43,7 @@ const STEPS: &[(Act, &str, &str)] = &[
 
 /// Steps in which two units are bad, the later one in plan order first in time: after it only earlier ones may begin,
 /// and no line of it is handed out.
-const BAD_STEPS: &[(Act, &str, &str)] = &[
+static BAD_STEPS: &[(Act, &str, &str)] = &[
     (Act::Begin(1), "0 ", ""),
     (Act::Good(1), "0 3 ", ""),
     (Act::Begin(3), "0 ", ""),

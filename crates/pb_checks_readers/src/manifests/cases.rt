@@ -13,4 +13,4 @@ use targets::TARGETS;
 use workspace::WORKSPACE;
 
 /// The cases.
-pub const CASES: &[&str] = &[PACKAGE, TARGETS, DEPENDENCIES, PROFILES, WORKSPACE];
+pub static CASES: &[&str] = &[PACKAGE, TARGETS, DEPENDENCIES, PROFILES, WORKSPACE];

@@ -4,20 +4,13 @@ use pb_checks_files::Shown;
 use pb_data::{Items, Text};
 use pb_manifest::{
     Binary, Build, Dependency, Feature, FeatureItem, Inheritable, Inherited, Library, Manifest,
-    ManifestFault, Package, PathSource, Profile, ProfileKeys, Readme, Source, WorkspaceDependency,
+    Package, PathSource, Profile, ProfileKeys, Readme, Source, WorkspaceDependency,
     WorkspacePackage, WorkspaceSource, WorkspaceTable, WrittenPath,
 };
 use std::fmt::Debug;
 
-/// Puts the answer of the reader in one line.
-pub fn put_answer(out: &mut Shown, answer: &Result<Manifest, ManifestFault>) {
-    match answer {
-        Ok(manifest) => put_manifest(out, manifest),
-        Err(fault) => out.put_value(fault),
-    }
-}
-
-fn put_manifest(out: &mut Shown, manifest: &Manifest) {
+/// Puts a manifest in one line.
+pub fn put_manifest(out: &mut Shown, manifest: &Manifest) {
     match &manifest.package {
         Some(package) => put_package(out, package),
         None => out.put(&["-"]),

@@ -13,7 +13,7 @@ fn finds(alloc: Global, stderr: &[u8], wanted: &str) -> Result<bool, AllocError>
 }
 
 /// What stands on standard error, and its diagnostics, each with `;` behind it.
-const OBJECTS_ALONE: &[(&[u8], &str)] = &[
+static OBJECTS_ALONE: &[(&[u8], &str)] = &[
     (b"", ""),
     (b"{}", "{};"),
     (b"{}\n", "{};"),

@@ -1,11 +1,12 @@
 //! Lines, compared with those that are written out in `wanted`.
 
-use crate::messages::made::{artifact, executed, library, settings, text, texts};
+use crate::messages::made::{artifact, executed, library, settings, text};
 use crate::messages::wanted::WANTED;
-use pb_data::{Items, Text};
+use crate::texts::texts_of;
+use pb_data::{Items, Text, with_next};
 use pb_manifest::{CrateType, DebugInfo, Edition, OptLevel};
 use pb_message::{Level, Message, Subject, Target, finish_line, line_of, lines_of, write_lines};
-use pb_place::{Over, PathText};
+use pb_place::{Over, PathFault, PathText};
 use std::alloc::Global;
 use std::test::Fail;
 
@@ -45,7 +46,7 @@ enum About {
 fn binary(alloc: Global) -> Result<Target, Fail> {
     let name = text(alloc, "go-on")?;
     let source = PathText::parse(alloc, "/w/src/bin/go-on.rs")?;
-    let required = texts(alloc, "f")?;
+    let required = texts_of(alloc, "f")?;
     Ok(Target::binary(alloc, name, source, Edition::E2018, required)?)
 }
 
@@ -74,13 +75,20 @@ fn folder_of(about: About) -> &'static str {
     }
 }
 
-/// The package of version 0.1.0 with this target, in its folder.
-fn package(alloc: Global, about: About) -> Result<Subject, Fail> {
-    let name = text(alloc, "a")?;
-    let version = text(alloc, "0.1.0")?;
+/// The folder and the manifest of its package.
+fn paths_of(alloc: Global, about: About) -> Result<(PathText, PathText), PathFault> {
     let folder = PathText::parse(alloc, folder_of(about))?;
     let manifest = folder.join(alloc, "Cargo.toml")?;
+    Ok((folder, manifest))
+}
+
+/// The package of version 0.1.0 with this target, in its folder.
+fn package(alloc: Global, about: About) -> Result<Subject, Fail> {
     let target = target(alloc, about)?;
+    let named = with_next(target, Text::from_str(alloc, "a"))?;
+    let named = with_next(named, Text::from_str(alloc, "0.1.0"))?;
+    let (((target, name), version), paths) = with_next(named, paths_of(alloc, about))?;
+    let (folder, manifest) = paths;
     Ok(Subject {
         name,
         version,
@@ -115,6 +123,20 @@ fn message(alloc: Global, told: Told) -> Result<Message, Fail> {
     }
 }
 
+/// Whether the line about a target, with this message, is the wanted one of this number.
+fn is_told(
+    alloc: Global,
+    about: About,
+    fresh: bool,
+    message: &Message,
+    number: usize,
+) -> Result<bool, Fail> {
+    let subject = package(alloc, about)?;
+    let says = says(alloc, &subject, fresh, message, number);
+    drop(subject);
+    says
+}
+
 /// Whether the line about a target, with what is told of it, is the wanted one of this number.
 fn tells(
     alloc: Global,
@@ -124,12 +146,13 @@ fn tells(
     number: usize,
 ) -> Result<bool, Fail> {
     let message = message(alloc, told)?;
-    let subject = package(alloc, about)?;
-    says(alloc, &subject, fresh, &message, number)
+    let tells = is_told(alloc, about, fresh, &message, number);
+    drop(message);
+    tells
 }
 
 /// What each of the wanted lines is about, whether that is fresh, and what is told of it.
-const LINES: &[(About, bool, Told)] = &[
+static LINES: &[(About, bool, Told)] = &[
     (
         About::Own,
         false,
@@ -183,24 +206,30 @@ const LINES: &[(About, bool, Told)] = &[
     (About::Own, false, Told::Note(Level::Error, "e \"q\"")),
 ];
 
-/// Adds a message.
-fn add(alloc: Global, messages: &mut Items<Message>, told: Told) -> Result<(), Fail> {
-    Ok(messages.push(message(alloc, told)?)?)
+/// Adds a warning, and what a script gave.
+fn add_two(alloc: Global, messages: &mut Items<Message>) -> Result<(), Fail> {
+    messages.push(message(alloc, Told::Note(Level::Warning, "w"))?)?;
+    messages.push(message(alloc, Told::Executed("", ""))?)?;
+    Ok(())
 }
 
-/// A warning, and what a script gave.
-fn two_messages(alloc: Global) -> Result<Items<Message>, Fail> {
-    let mut messages = Items::new(alloc);
-    add(alloc, &mut messages, Told::Note(Level::Warning, "w"))?;
-    add(alloc, &mut messages, Told::Executed("", ""))?;
-    Ok(messages)
+/// The lines of messages about the library in `/w`.
+fn own_lines(alloc: Global, messages: &[Message]) -> Result<Text, Fail> {
+    let subject = package(alloc, About::Own)?;
+    let lines = lines_of(alloc, &subject, false, messages);
+    drop(subject);
+    Ok(lines?)
 }
 
 /// The lines of both.
 fn two_lines(alloc: Global) -> Result<Text, Fail> {
-    let messages = two_messages(alloc)?;
-    let subject = package(alloc, About::Own)?;
-    Ok(lines_of(alloc, &subject, false, messages.as_slice())?)
+    let mut messages = Items::new(alloc);
+    let lines = match add_two(alloc, &mut messages) {
+        Ok(()) => own_lines(alloc, messages.as_slice()),
+        Err(fault) => Err(fault),
+    };
+    drop(messages);
+    lines
 }
 
 /// Whether a sink that takes all takes these lines.

@@ -1,27 +1,17 @@
 //! Subjects and messages for tests.
 
-use pb_data::{Items, Text};
+use crate::texts::{add_pair, texts_of};
+use pb_data::{Items, Text, with_next};
 use pb_manifest::{CrateType, DebugInfo, Edition, Lto, OptLevel, Panic, Strip};
 use pb_message::{Artifact, Executed, Message, Target};
 use pb_place::PathText;
 use pb_profile::Settings;
-use std::alloc::Global;
+use std::alloc::{AllocError, Global};
 use std::test::Fail;
 
 /// A text.
 pub fn text(alloc: Global, text: &str) -> Result<Text, Fail> {
     Ok(Text::from_str(alloc, text)?)
-}
-
-/// The words of a text, one after another.
-pub fn texts(alloc: Global, words: &str) -> Result<Items<Text>, Fail> {
-    let mut made = Items::new(alloc);
-    for word in words.split(' ') {
-        if !word.is_empty() {
-            made.push(Text::from_str(alloc, word)?)?;
-        }
-    }
-    Ok(made)
 }
 
 /// The library at `/w/src/lib.rs`.
@@ -54,8 +44,8 @@ pub fn artifact(
     file: &str,
     is_executable: bool,
 ) -> Result<Message, Fail> {
-    let features = texts(alloc, features)?;
-    let file = PathText::parse(alloc, file)?;
+    let features = texts_of(alloc, features)?;
+    let (features, file) = with_next(features, PathText::parse(alloc, file))?;
     Ok(Message::CompilerArtifact(Artifact {
         settings,
         features,
@@ -64,36 +54,33 @@ pub fn artifact(
     }))
 }
 
-/// Adds a variable.
-fn add_variable(
-    alloc: Global,
-    made: &mut Items<(Text, Text)>,
-    name: &str,
-    value: &str,
-) -> Result<(), Fail> {
-    let name = text(alloc, name)?;
-    let value = text(alloc, value)?;
-    made.push((name, value))?;
-    Ok(())
-}
-
 /// The variable `A` with a value and an empty variable `B`; neither for an empty value.
-fn variables(alloc: Global, value: &str) -> Result<Items<(Text, Text)>, Fail> {
+fn variables(alloc: Global, value: &str) -> Result<Items<(Text, Text)>, AllocError> {
     let mut made = Items::new(alloc);
     if !value.is_empty() {
-        add_variable(alloc, &mut made, "A", value)?;
-        add_variable(alloc, &mut made, "B", "")?;
+        add_pair(alloc, &mut made, "A", value)?;
+        add_pair(alloc, &mut made, "B", "")?;
     }
     Ok(made)
 }
 
+/// Three lists of the same words.
+fn three_lists(
+    alloc: Global,
+    words: &str,
+) -> Result<((Items<Text>, Items<Text>), Items<Text>), AllocError> {
+    let first = texts_of(alloc, words)?;
+    let two = with_next(first, texts_of(alloc, words))?;
+    with_next(two, texts_of(alloc, words))
+}
+
 /// What a script gave: libraries, folders and conditions, one variable and an empty one, and its folder.
 pub fn executed(alloc: Global, lists: &str, value: &str) -> Result<Message, Fail> {
-    let linked_libraries = texts(alloc, lists)?;
-    let linked_paths = texts(alloc, lists)?;
-    let conditions = texts(alloc, lists)?;
-    let variables = variables(alloc, value)?;
-    let out_folder = PathText::parse(alloc, "/w/target/debug/a.target.run")?;
+    let lists = three_lists(alloc, lists)?;
+    let given = with_next(lists, variables(alloc, value))?;
+    let out_folder = PathText::parse(alloc, "/w/target/debug/a.target.run");
+    let ((lists, variables), out_folder) = with_next(given, out_folder)?;
+    let ((linked_libraries, linked_paths), conditions) = lists;
     Ok(Message::BuildScriptExecuted(Executed {
         linked_libraries,
         linked_paths,

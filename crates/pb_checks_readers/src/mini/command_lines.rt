@@ -13,7 +13,7 @@ type Case = (
 );
 
 /// Words where each source and image is `print x`, and what they are answered.
-const COMMAND_LINES: &[Case] = &[
+static COMMAND_LINES: &[Case] = &[
     ("-vV", 0, b"mini 0.1.0\nhost: mini-unknown-none\n", b"", b""),
     (
         "--crate-name|a|--crate-type|lib|--out-dir|/o|/s",

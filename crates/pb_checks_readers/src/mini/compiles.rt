@@ -3,7 +3,7 @@
 use super::views::{Broken, Files};
 use super::worlds::{Case, answer_in, answers, words_of, world};
 use pb_checks_files::holds;
-use pb_data::{Bytes, Items, Text};
+use pb_data::{Bytes, Items, Text, with_next};
 use pb_mini::laws::{is_honest, tells_names};
 use pb_mini::{Mini, answer};
 use pb_place::{Child, Command, PathText, Reply, View, ViewFault};
@@ -30,7 +30,7 @@ printx@1@{"level":"error","message":"unknown line","line":1}~@a.d=/w/target/debu
 #~#~#~#~#~#~#~#~#~#~#~warn #x@0@{"level":"warning","message":"#x","line":12}~@liba.rlib=mini lib a~|a.d=/w/target/debug/a.target.lib/liba.rlib: /w/src/lib.rs~|"##;
 
 /// The same of texts that such a line cannot say.
-pub const ODD_SOURCES: &[Case] = &[
+pub static ODD_SOURCES: &[Case] = &[
     (
         b"\n#\nwarn\n\nprint x\r\nwarn  y ",
         0,
@@ -72,8 +72,10 @@ pub const ODD_SOURCES: &[Case] = &[
 /// Whether the first of `BUILD_WORDS` say a compile where they are whole, and are refused where they are not.
 fn is_judged(alloc: Global, first: &[Text], view: &Files) -> Result<bool, ViewFault> {
     let reply = answer(alloc, first, &[], view)?;
+    let status = reply.status;
+    drop(reply);
     let is_whole = 10 <= first.len() && first.len() % 2 == 0;
-    Ok(reply.status == if is_whole { 0 } else { 2 })
+    Ok(status == if is_whole { 0 } else { 2 })
 }
 
 /// How many first words are judged so, but for all of them, up to the first that are not.
@@ -89,8 +91,10 @@ fn count_judged(alloc: Global, words: &[Text], view: &Files) -> Result<usize, Vi
 /// The same of `BUILD_WORDS`, with an empty source.
 fn count_prefixes(alloc: Global) -> Result<usize, ViewFault> {
     let words = words_of(alloc, BUILD_WORDS)?;
-    let view = world(alloc, "/w/src/lib.rs", b"")?;
-    count_judged(alloc, words.as_slice(), &view)
+    let (words, view) = with_next(words, world(alloc, "/w/src/lib.rs", b""))?;
+    let count = count_judged(alloc, words.as_slice(), &view);
+    drop(view);
+    count
 }
 
 /// Whether a reply is that of a compile that ended, with or without an error, and left dep-info last.
@@ -104,21 +108,25 @@ fn has_dep_info(reply: &Reply) -> bool {
 /// Whether the compile of a source ends so.
 fn ends_with_dep_info(alloc: Global, source: &[u8]) -> Result<bool, ViewFault> {
     let reply = answer_in(alloc, BUILD_WORDS, "/w/src/lib.rs", source)?;
-    Ok(has_dep_info(&reply))
+    let has_dep_info = has_dep_info(&reply);
+    drop(reply);
+    Ok(has_dep_info)
 }
 
 /// The reply of any child to a compile of `/s` into `/o`.
 fn reply_of<C: Child, V: View>(alloc: Global, child: &C, view: &V) -> Result<Reply, ViewFault> {
     let command = compile(alloc)?;
-    child.reply(alloc, &command, view)
+    let reply = child.reply(alloc, &command, view);
+    drop(command);
+    reply
 }
 
 /// The compile of `/s` into `/o`.
 fn compile(alloc: Global) -> Result<Command, ViewFault> {
-    let program = Text::from_str(alloc, "mini")?;
-    let folder = root(alloc)?;
-    let target = root(alloc)?;
     let words = words_of(alloc, "--crate-name|a|--crate-type|lib|--out-dir|/o|/s")?;
+    let words = with_next(words, Text::from_str(alloc, "mini"))?;
+    let words = with_next(words, root(alloc))?;
+    let (((words, program), folder), target) = with_next(words, root(alloc))?;
     Ok(Command {
         program,
         words,
@@ -143,6 +151,7 @@ fn root(alloc: Global) -> Result<PathText, ViewFault> {
 fn child_warns(alloc: Global) -> Result<bool, ViewFault> {
     let view = world(alloc, "/s", b"warn w")?;
     let reply = reply_of(alloc, &Mini, &view);
+    drop(view);
     let stderr = b"{\"level\":\"warning\",\"message\":\"w\",\"line\":1}\n";
     let files = b"liba.rlib=mini lib a\n|a.d=/o/liba.rlib: /s\n|";
     Ok(answers(alloc, reply, 0, b"", stderr, files))
@@ -151,7 +160,9 @@ fn child_warns(alloc: Global) -> Result<bool, ViewFault> {
 /// Whether the small compiler as a child fails where its view fails.
 fn child_fails(alloc: Global) -> bool {
     let answer = reply_of(alloc, &Mini, &Broken);
-    matches!(answer, Err(ViewFault::Failed))
+    let fails = matches!(answer, Err(ViewFault::Failed));
+    drop(answer);
+    fails
 }
 
 #[test]

@@ -11,7 +11,7 @@ const WORDS: &str = "--crate-name|c|--crate-type|lib|--out-dir|/o: p/q #$|--cfg|
 
 /// A source, and what its dep-info says: the paths and then the variables, each with `;` after it, or which line no
 /// reader takes.
-const SOURCES: &[(&[u8], &str)] = &[
+static SOURCES: &[(&[u8], &str)] = &[
     (b"print x", "/w/s; "),
     (b"include a b", "/w/s;/w/a b; "),
     (b"include /w/a: b", "/w/s;/w/a: b; "),
@@ -54,7 +54,9 @@ fn has_told(alloc: Global, reply: &Reply, wanted: &str) -> bool {
 /// Whether this is read in the dep-info of a source.
 fn is_read(alloc: Global, source: &[u8], wanted: &str) -> Result<bool, ViewFault> {
     let reply = answer_in(alloc, WORDS, "/w/s", source)?;
-    Ok(has_told(alloc, &reply, wanted))
+    let has_told = has_told(alloc, &reply, wanted);
+    drop(reply);
+    Ok(has_told)
 }
 
 #[test]

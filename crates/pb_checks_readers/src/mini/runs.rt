@@ -69,7 +69,7 @@ print a~exit 2147483648~print b@2@a~@
 exit@2@@"#;
 
 /// The same of texts that such a line cannot say.
-pub const ODD_RUNS: &[Case] = &[
+pub static ODD_RUNS: &[Case] = &[
     (b"print x\r\n", 0, b"x\r\n", b""),
     (b"print \xff\n\xffprint b\nprint c\n", 0, b"c\n", b""),
     (

@@ -57,6 +57,16 @@ fn line_runs_so(alloc: Global, line: &str) -> Result<bool, AllocError> {
     Ok(runs_so(alloc, &case_of(text.as_str())))
 }
 
+/// Asserts what the run of each image does.
+fn assert_runs(rt: &impl Abort, alloc: Global) {
+    for line in RUNS.lines() {
+        assert!(rt; holds(line_runs_so(alloc, line)), "{line}");
+    }
+    for (place, case) in ODD_RUNS.iter().enumerate() {
+        assert!(rt; runs_so(alloc, case), "case {place}");
+    }
+}
+
 #[test]
 fn compiles_and_runs(rt: HostRuntime) {
     assert_compiles(&rt, rt.alloc(), WORDS, "/w/s", USES, &[]);
@@ -71,10 +81,5 @@ fn compiles_and_runs(rt: HostRuntime) {
         SOURCES,
         ODD_SOURCES,
     );
-    for line in RUNS.lines() {
-        assert!(rt; holds(line_runs_so(rt.alloc(), line)), "{line}");
-    }
-    for (place, case) in ODD_RUNS.iter().enumerate() {
-        assert!(rt; runs_so(rt.alloc(), case), "case {place}");
-    }
+    assert_runs(&rt, rt.alloc());
 }

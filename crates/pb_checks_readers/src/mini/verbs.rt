@@ -52,7 +52,7 @@ include $VAR/$VAR@1@{"level":"error","message":"no file $VAR/$VAR","line":1}~@c.
 include one~include $VAR/x~include two~include one~include $VAR/x@0@@libc.rlib=mini lib c~| a~| b~| v x~| a~| b~| a~| b~| v x~|c.d=/o/libc.rlib: /w/s /w/one /v/x /w/two~# env-dep:VAR=/v~|"#;
 
 /// The same of texts that such a line cannot say.
-pub const ODD_INCLUDES: &[Case] = &[
+pub static ODD_INCLUDES: &[Case] = &[
     (
         b"include cr",
         0,

@@ -1,14 +1,15 @@
 //! One world of files, variables and pairs, in which compiles and runs are asked for.
 
 use super::views::Files;
+use crate::texts::add_pair;
 use pb_checks_files::holds;
-use pb_data::{Bytes, Items, Text};
+use pb_data::{Bytes, Items, Text, with_next};
 use pb_mini::answer;
 use pb_place::{Reply, ViewFault};
 use std::alloc::{AllocError, Global};
 
 /// Files by their paths, behind one more of each case.
-const FILES: &[(&str, &[u8])] = &[
+static FILES: &[(&str, &[u8])] = &[
     ("/w/one", b"a\nb"),
     ("/w/two", b"a\nb\n"),
     ("/w/empty", b""),
@@ -28,7 +29,7 @@ const FILES: &[(&str, &[u8])] = &[
 ];
 
 /// Inherited variables.
-const VARIABLES: &[(&str, &str)] = &[
+static VARIABLES: &[(&str, &str)] = &[
     ("VAR", "/v"),
     ("SUB", "sub"),
     ("EMPTY", ""),
@@ -38,7 +39,7 @@ const VARIABLES: &[(&str, &str)] = &[
 ];
 
 /// Pairs.
-const PAIRS: &[(&str, &str)] = &[
+static PAIRS: &[(&str, &str)] = &[
     ("PAIR", "p"),
     ("BOTH", "composed"),
     ("DUP", "first"),
@@ -84,27 +85,15 @@ fn files(alloc: Global, path: &str, bytes: &[u8]) -> Result<Items<(Text, Bytes)>
 /// The world with one file more.
 pub fn world(alloc: Global, path: &str, bytes: &[u8]) -> Result<Files, AllocError> {
     let inside = files(alloc, path, bytes)?;
-    let variables = texts(alloc, VARIABLES)?;
+    let (inside, variables) = with_next(inside, texts(alloc, VARIABLES))?;
     Ok(Files { inside, variables })
-}
-
-/// Adds a name and a value.
-fn add_text(
-    alloc: Global,
-    made: &mut Items<(Text, Text)>,
-    name: &str,
-    value: &str,
-) -> Result<(), AllocError> {
-    let name = Text::from_str(alloc, name)?;
-    let value = Text::from_str(alloc, value)?;
-    made.push((name, value))
 }
 
 /// Names and values as texts.
 fn texts(alloc: Global, entries: &[(&str, &str)]) -> Result<Items<(Text, Text)>, AllocError> {
     let mut made = Items::new(alloc);
     for entry in entries {
-        add_text(alloc, &mut made, entry.0, entry.1)?;
+        add_pair(alloc, &mut made, entry.0, entry.1)?;
     }
     Ok(made)
 }
@@ -112,9 +101,11 @@ fn texts(alloc: Global, entries: &[(&str, &str)]) -> Result<Items<(Text, Text)>,
 /// The answer to words in the world with one file more.
 pub fn answer_in(alloc: Global, words: &str, path: &str, bytes: &[u8]) -> Result<Reply, ViewFault> {
     let words = words_of(alloc, words)?;
-    let pairs = texts(alloc, PAIRS)?;
-    let view = world(alloc, path, bytes)?;
-    answer(alloc, words.as_slice(), pairs.as_slice(), &view)
+    let asked = with_next(words, texts(alloc, PAIRS))?;
+    let ((words, pairs), view) = with_next(asked, world(alloc, path, bytes))?;
+    let answer = answer(alloc, words.as_slice(), pairs.as_slice(), &view);
+    drop(view);
+    answer
 }
 
 /// The files of a reply: of each its name, `=`, its bytes and a bar.
@@ -135,6 +126,21 @@ fn has_files(alloc: Global, reply: &Reply, files: &[u8]) -> Result<bool, AllocEr
     Ok(found.as_slice() == files)
 }
 
+/// Whether a reply has this; the files as `files_text` writes them.
+fn has(
+    alloc: Global,
+    reply: &Reply,
+    status: i32,
+    stdout: &[u8],
+    stderr: &[u8],
+    files: &[u8],
+) -> bool {
+    reply.status == status
+        && reply.stdout.as_slice() == stdout
+        && reply.stderr.as_slice() == stderr
+        && holds(has_files(alloc, reply, files))
+}
+
 /// Whether a reply came, and has this; the files as `files_text` writes them.
 pub fn answers(
     alloc: Global,
@@ -144,12 +150,11 @@ pub fn answers(
     stderr: &[u8],
     files: &[u8],
 ) -> bool {
-    match &reply {
+    match reply {
         Ok(reply) => {
-            reply.status == status
-                && reply.stdout.as_slice() == stdout
-                && reply.stderr.as_slice() == stderr
-                && holds(has_files(alloc, reply, files))
+            let has = has(alloc, &reply, status, stdout, stderr, files);
+            drop(reply);
+            has
         }
         Err(_) => false,
     }

@@ -1,6 +1,6 @@
 //! Calls of the store in which one call of the place fails, each call in turn.
 
-use crate::stores::steps::{begin, call, make_steps, tell_differs};
+use crate::stores::steps::{begin, call, step, tell_compared};
 use pb_checks_files::Shown;
 use pb_memory::Memory;
 use pb_mini::Mini;
@@ -9,18 +9,16 @@ use pb_store::Store;
 use std::alloc::Global;
 use std::test::Fail;
 
-/// Makes steps and then a call with the call of the place of this number failing, and adds its fault and what differs
-/// then. Whether a call failed.
+/// Makes a call with the call of the place of this number failing, and adds its fault and what differs then. Whether a
+/// call failed.
 fn fail_at(
     alloc: Global,
     place: &mut Memory<Mini>,
     store: &mut Store,
-    steps: &str,
     verb: &str,
     number: u64,
     out: &mut Shown,
 ) -> Result<bool, Fail> {
-    make_steps(alloc, place, store, steps, &mut Shown::new(alloc))?;
     let mut told = Shown::new(alloc);
     place.fuse(number);
     call(alloc, place, store, verb, ("8", "8"), &mut told)?;
@@ -32,48 +30,38 @@ fn fail_at(
         told.put(&[" (wrong: a call came after it)"]);
     }
     told.put(&[": "]);
-    tell_differs(alloc, place, store, ("", ""), &mut told)?;
+    tell_compared(alloc, place, store, ("", ""), false, &mut told)?;
     out.put(&[told.whole()?.as_str(), ", "]);
     Ok(true)
 }
 
-/// The same at a place that is prepared.
-fn try_in(
-    alloc: Global,
-    place: &mut Memory<Mini>,
-    steps: &str,
-    verb: &str,
-    number: u64,
-    out: &mut Shown,
-) -> Result<bool, Fail> {
-    let mut store = begin(alloc, place)?;
-    fail_at(alloc, place, &mut store, steps, verb, number, out)
-}
-
-/// The same in a fresh place.
+/// The same after a first step in a fresh place.
 fn try_at(
     alloc: Global,
-    steps: &str,
+    first: &str,
     verb: &str,
     number: u64,
     out: &mut Shown,
 ) -> Result<bool, Fail> {
     let mut place = Memory::new(alloc, Mini);
-    try_in(alloc, &mut place, steps, verb, number, out)
-}
-
-/// Lets each call of the place fail in turn, until none does.
-fn let_each_fail(alloc: Global, steps: &str, verb: &str, out: &mut Shown) -> Result<(), Fail> {
-    for number in 1..100u64 {
-        if !try_at(alloc, steps, verb, number, out)? {
-            return Ok(());
+    let is_failed = match begin(alloc, &mut place) {
+        Ok(mut store) => {
+            let made = step(alloc, &mut place, &mut store, first, &mut Shown::new(alloc));
+            let is_failed = match made {
+                Ok(()) => fail_at(alloc, &mut place, &mut store, verb, number, out),
+                Err(fault) => Err(fault),
+            };
+            drop(store);
+            is_failed
         }
-    }
-    Err(Fail::from("it does not end"))
+        Err(fault) => Err(fault),
+    };
+    drop(place);
+    is_failed
 }
 
-/// Steps, the call that is then made, and what its faults are and what differs after each.
-const TRIALS: &[(&str, &str, &str)] = &[
+/// A first step, the call that is then made, and what its faults are and what differs after each.
+static TRIALS: &[(&str, &str, &str)] = &[
     (
         "",
         "open",
@@ -107,20 +95,24 @@ const TRIALS: &[(&str, &str, &str)] = &[
     ),
 ];
 
-/// Whether the faults are these.
-fn fails_so(alloc: Global, steps: &str, verb: &str, told: &str) -> Result<bool, Fail> {
+/// Whether the faults are these, where each call of the place fails in turn, until none does.
+fn fails_so(alloc: Global, first: &str, verb: &str, told: &str) -> Result<bool, Fail> {
     let mut out = Shown::new(alloc);
-    let_each_fail(alloc, steps, verb, &mut out)?;
-    Ok(out.says(told))
+    for number in 1..100u64 {
+        if !try_at(alloc, first, verb, number, &mut out)? {
+            return Ok(out.says(told));
+        }
+    }
+    Err(Fail::from("it does not end"))
 }
 
 #[test]
 fn failing_calls_are_told(rt: HostRuntime) -> Result<(), Fail> {
     for case in TRIALS {
-        let (steps, verb, told) = *case;
+        let (first, verb, told) = *case;
         assert!(rt;
-            fails_so(rt.alloc(), steps, verb, told)?,
-            "{verb} after {steps}"
+            fails_so(rt.alloc(), first, verb, told)?,
+            "{verb} after {first}"
         );
     }
     Ok(())

@@ -7,20 +7,26 @@ ghost use Rattle.pb_soundness.specs.Records.{is_key, out_of};
 use crate::stores::units::{command_with, ended, input_names, needs, own_command, own_key};
 use crate::stores::world::{prepare, put_file, put_first, replaced, take_away, text_at};
 use pb_checks_files::Shown;
-use pb_data::{Items, Text};
+use pb_data::{Items, Text, with_next};
 use pb_memory::Memory;
 use pb_mini::Mini;
-use pb_place::{Command, PathText};
+use pb_place::{Command, PathText, Place};
 use pb_record::InputName;
 use pb_store::{Compared, OpenFault, Replayed, Store, StoreFault};
-use std::alloc::{AllocError, Global};
+use std::alloc::Global;
+use std::mem;
 use std::test::Fail;
+
+/// The store of the profile folder of a place.
+fn opened<P: Place>(alloc: Global, place: &mut P) -> Result<Store, Fail> {
+    let folder = PathText::parse(alloc, "/t/debug")?;
+    Ok(Store::open(alloc, place, folder)?)
+}
 
 /// Prepares a place, and opens the store of its profile folder.
 pub fn begin(alloc: Global, place: &mut Memory<Mini>) -> Result<Store, Fail> {
     prepare(alloc, place)?;
-    let folder = PathText::parse(alloc, "/t/debug")?;
-    Ok(Store::open(alloc, place, folder)?)
+    opened(alloc, place)
 }
 
 /// Puts what opening the store told: the next number, where one is left.
@@ -38,9 +44,11 @@ fn put_opened(out: &mut Shown, answer: &Result<Store, OpenFault>) {
 }
 
 /// What opening the store tells.
-fn tell_open(alloc: Global, place: &mut Memory<Mini>, out: &mut Shown) -> Result<(), Fail> {
+fn tell_open<P: Place>(alloc: Global, place: &mut P, out: &mut Shown) -> Result<(), Fail> {
     let folder = PathText::parse(alloc, "/t/debug")?;
-    put_opened(out, &Store::open(alloc, place, folder));
+    let answer = Store::open(alloc, place, folder);
+    put_opened(out, &answer);
+    drop(answer);
     Ok(())
 }
 
@@ -72,43 +80,23 @@ fn put_compared(out: &mut Shown, answer: &Result<Compared, StoreFault>, is_repla
     }
 }
 
-/// What differs of the unit for a command, or what its record gives again.
-fn tell_difference(
+/// What differs of the unit for its command with something put in place of something in it, or what its record gives
+/// again.
+pub fn tell_compared<P: Place>(
     alloc: Global,
-    place: &mut Memory<Mini>,
+    place: &mut P,
     store: &Store,
-    command: &Command,
+    change: (&str, &str),
     is_replayed: bool,
     out: &mut Shown,
 ) -> Result<(), Fail> {
     let key = own_key(alloc)?;
-    let answer = store.differs(alloc, place, &key, command);
-    put_compared(out, &answer, is_replayed);
-    Ok(())
-}
-
-/// The same for its command with something put in place of something in it.
-fn tell_compared(
-    alloc: Global,
-    place: &mut Memory<Mini>,
-    store: &Store,
-    change: (&str, &str),
-    is_replayed: bool,
-    out: &mut Shown,
-) -> Result<(), Fail> {
     let command = command_with(alloc, change.0, change.1)?;
-    tell_difference(alloc, place, store, &command, is_replayed, out)
-}
-
-/// What differs of the unit for its command with something put in place of something in it.
-pub fn tell_differs(
-    alloc: Global,
-    place: &mut Memory<Mini>,
-    store: &Store,
-    change: (&str, &str),
-    out: &mut Shown,
-) -> Result<(), Fail> {
-    tell_compared(alloc, place, store, change, false, out)
+    let answer = store.differs(alloc, place, &key, &command);
+    drop(command);
+    put_compared(out, &answer, is_replayed);
+    drop(answer);
+    Ok(())
 }
 
 /// Puts what an answer tells: this where it is good.
@@ -131,21 +119,23 @@ fn put_dropped(out: &mut Shown, answer: &Result<u64, StoreFault>) {
 }
 
 /// What dropping the unit's record tells.
-fn tell_drop(
+fn tell_drop<P: Place>(
     alloc: Global,
-    place: &mut Memory<Mini>,
+    place: &mut P,
     store: &mut Store,
     out: &mut Shown,
 ) -> Result<(), Fail> {
     let key = own_key(alloc)?;
-    put_dropped(out, &store.drop_record(alloc, place, &key));
+    let answer = store.drop_record(alloc, place, &key);
+    drop(key);
+    put_dropped(out, &answer);
     Ok(())
 }
 
 /// What keeping the record of a command tells.
-fn tell_kept(
+fn tell_kept<P: Place>(
     alloc: Global,
-    place: &mut Memory<Mini>,
+    place: &mut P,
     store: &mut Store,
     number: u64,
     key: &Text,
@@ -158,7 +148,7 @@ fn tell_kept(
 {
     let needs = needs(alloc)?;
     let names: Items<InputName> = input_names(alloc)?;
-    let ended = ended(alloc)?;
+    let (names, ended) = with_next(names, ended(alloc))?;
     let answer = store.keep(
         alloc,
         place,
@@ -169,14 +159,16 @@ fn tell_kept(
         names.as_slice(),
         &ended,
     );
+    drop(names);
+    drop(ended);
     put_done(out, &answer, "kept");
     Ok(())
 }
 
 /// What keeping the unit's record tells.
-fn tell_keep(
+fn tell_keep<P: Place>(
     alloc: Global,
-    place: &mut Memory<Mini>,
+    place: &mut P,
     store: &mut Store,
     number: &str,
     out: &mut Shown,
@@ -184,13 +176,15 @@ fn tell_keep(
     let key = own_key(alloc)?;
     let command = own_command(alloc, &store.folder, &key)?;
     let number = number.parse::<u64>().unwrap_or(0);
-    tell_kept(alloc, place, store, number, &key, &command, out)
+    let told = tell_kept(alloc, place, store, number, &key, &command, out);
+    drop(command);
+    told
 }
 
 /// What migrating the unit's record tells.
-fn tell_migrate(
+fn tell_migrate<P: Place>(
     alloc: Global,
-    place: &mut Memory<Mini>,
+    place: &mut P,
     store: &mut Store,
     out: &mut Shown,
 ) -> Result<(), Fail> {
@@ -250,17 +244,21 @@ fn change(
 }
 
 /// Opens the store again once the world was changed, since it holds the numbers of the records; its next number stays.
-fn open_again(alloc: Global, place: &mut Memory<Mini>, store: &mut Store) -> Result<(), Fail> {
-    let folder = PathText::parse(alloc, "/t/debug")?;
-    let opened = Store::open(alloc, place, folder)?;
-    store.numbers = opened.numbers;
+fn open_again<P: Place>(alloc: Global, place: &mut P, store: &mut Store) -> Result<(), Fail> {
+    let Store {
+        folder,
+        next: _,
+        numbers,
+    } = opened(alloc, place)?;
+    drop(folder);
+    drop(mem::replace(&mut store.numbers, numbers));
     Ok(())
 }
 
 /// Puts what a call of the store tells, in words. Whether the word is one of a call. `spent` leaves the store no number.
-pub fn call(
+pub fn call<P: Place>(
     alloc: Global,
-    place: &mut Memory<Mini>,
+    place: &mut P,
     store: &mut Store,
     verb: &str,
     words: (&str, &str),
@@ -268,12 +266,11 @@ pub fn call(
 ) -> Result<bool, Fail> {
     let told = match verb {
         "open" => tell_open(alloc, place, out),
-        "differs" => tell_differs(alloc, place, store, words, out),
+        "differs" => tell_compared(alloc, place, store, words, false, out),
         "drop" => tell_drop(alloc, place, store, out),
         "keep" => tell_keep(alloc, place, store, words.0, out),
         "replay" => tell_compared(alloc, place, store, ("", ""), true, out),
         "migrate" => tell_migrate(alloc, place, store, out),
-        "show" => tell_text(alloc, place, words.0, out),
         "spent" => {
             store.next = None;
             return Ok(false);
@@ -284,8 +281,8 @@ pub fn call(
     Ok(true)
 }
 
-/// One step.
-fn step(
+/// One step, with `, ` behind what a call tells.
+pub fn step(
     alloc: Global,
     place: &mut Memory<Mini>,
     store: &mut Store,
@@ -300,22 +297,11 @@ fn step(
     if change(alloc, place, verb, first, second, third)? {
         open_again(alloc, place, store)?;
     }
-    if call(alloc, place, store, verb, (first, second), out)? {
+    if verb == "show" {
+        tell_text(alloc, place, first, out)?;
         out.put(&[", "]);
-    }
-    Ok(())
-}
-
-/// Makes steps, one a line, with `, ` behind what each call tells.
-pub fn make_steps(
-    alloc: Global,
-    place: &mut Memory<Mini>,
-    store: &mut Store,
-    steps: &str,
-    out: &mut Shown,
-) -> Result<(), Fail> {
-    for line in steps.lines() {
-        step(alloc, place, store, line, out)?;
+    } else if call(alloc, place, store, verb, (first, second), out)? {
+        out.put(&[", "]);
     }
     Ok(())
 }

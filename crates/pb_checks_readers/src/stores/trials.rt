@@ -1,6 +1,6 @@
 //! Trials: steps on a profile folder, and what they tell.
 
-use crate::stores::steps::{begin, make_steps};
+use crate::stores::steps::{begin, step};
 use pb_checks_files::Shown;
 use pb_memory::Memory;
 use pb_mini::Mini;
@@ -8,41 +8,35 @@ use pb_store::Store;
 use std::alloc::Global;
 use std::test::Fail;
 
-/// Whether steps tell this with the store of a place.
+/// Whether the steps of a line, which has `~` for each line feed, tell what it says with the store of a place.
 fn tells_with(
     alloc: Global,
     place: &mut Memory<Mini>,
     store: &mut Store,
-    steps: &str,
-    told: &str,
+    line: &str,
 ) -> Result<bool, Fail> {
+    let text = line.replace(alloc, "~", "\n")?;
+    let (steps, told) = text.as_str().split_once(" -> ").ok_or("no trial")?;
     let mut out = Shown::new(alloc);
-    make_steps(alloc, place, store, steps, &mut out)?;
+    for line in steps.lines() {
+        step(alloc, place, store, line, &mut out)?;
+    }
     Ok(out.says(told))
 }
 
-/// The same on a fresh profile folder at a place. A step `open` opens a store beside the one of the trial.
-fn tells_at(
-    alloc: Global,
-    place: &mut Memory<Mini>,
-    steps: &str,
-    told: &str,
-) -> Result<bool, Fail> {
-    let mut store = begin(alloc, place)?;
-    tells_with(alloc, place, &mut store, steps, told)
-}
-
-/// The same at a place of their own.
-fn tells(alloc: Global, steps: &str, told: &str) -> Result<bool, Fail> {
-    let mut place = Memory::new(alloc, Mini);
-    tells_at(alloc, &mut place, steps, told)
-}
-
-/// Whether the steps of a line tell what it says, which has `~` for each line feed.
+/// The same on a fresh profile folder at a place of their own. A step `open` opens a store beside the one of the trial.
 fn is_right(alloc: Global, line: &str) -> Result<bool, Fail> {
-    let text = line.replace(alloc, "~", "\n")?;
-    let (steps, told) = text.as_str().split_once(" -> ").ok_or("no trial")?;
-    tells(alloc, steps, told)
+    let mut place = Memory::new(alloc, Mini);
+    let tells = match begin(alloc, &mut place) {
+        Ok(mut store) => {
+            let tells = tells_with(alloc, &mut place, &mut store, line);
+            drop(store);
+            tells
+        }
+        Err(fault) => Err(fault),
+    };
+    drop(place);
+    tells
 }
 
 /// What differs first, for both formats.
@@ -140,7 +134,7 @@ spent~migrate~differs -> migrated, same,
 spent~gone /t~migrate -> migrated, "#;
 
 /// All trials, one a line: steps, and what they tell.
-const TRIALS: &[&str] = &[DIFFERENCES, NEXT_NUMBERS, KEPT, WITHOUT_NUMBER];
+static TRIALS: &[&str] = &[DIFFERENCES, NEXT_NUMBERS, KEPT, WITHOUT_NUMBER];
 
 #[test]
 fn trials(rt: HostRuntime) -> Result<(), Fail> {

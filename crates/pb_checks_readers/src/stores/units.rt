@@ -7,7 +7,7 @@ ghost use Rattle.pb_soundness.specs.Records.{is_key, out_of};
 use crate::stores::world::{OWN, replaced};
 use pb_data::{Bytes, Items, Text, TryCopy};
 use pb_place::{Command, Ended, PathFault, PathText, RelativePath};
-use pb_record::{Asked, InputName, read_record};
+use pb_record::{Asked, InputName, Record, read_record};
 use std::alloc::{AllocError, Global};
 use std::test::Fail;
 
@@ -19,40 +19,29 @@ pub fn own_key(alloc: Global) -> Result<Text, AllocError>
     Text::from_str(alloc, "a.target.lib")
 }
 
-/// The key of the unit that it needs.
-#[tactic(auto, unfolding(pb_soundness::specs::Records::is_key))]
-fn other_key(alloc: Global) -> Result<Text, AllocError>
-    ensures { IfOk result (λ key. is_key key ≡ true) }
-{
-    Text::from_str(alloc, "b.target.lib")
-}
-
 /// The keys of the units that it needs.
+#[tactic(auto, unfolding(pb_soundness::specs::Records::is_key))]
 pub fn needs(alloc: Global) -> Result<Items<Text>, AllocError>
     ensures { IfOk result (λ needs. All (λ key. is_key key ≡ true) needs) }
 {
-    let key = other_key(alloc)?;
+    let key = Text::from_str(alloc, "b.target.lib")?;
     let mut needs = Items::new(alloc);
     needs.push(key)?;
     Ok(needs)
 }
 
 /// Its inputs: paths, and variables.
-const INPUTS: &[&str] = &["/w/a", "/w/d", "V", "U"];
-
-/// The name of an input.
-fn input_name(alloc: Global, input: &str) -> Result<InputName, PathFault> {
-    if input.starts_with("/") {
-        return Ok(InputName::Path(PathText::parse(alloc, input)?));
-    }
-    Ok(InputName::Variable(Text::from_str(alloc, input)?))
-}
+static INPUTS: &[&str] = &["/w/a", "/w/d", "V", "U"];
 
 /// The names of its inputs.
 pub fn input_names(alloc: Global) -> Result<Items<InputName>, PathFault> {
     let mut names = Items::new(alloc);
     for input in INPUTS {
-        names.push(input_name(alloc, *input)?)?;
+        names.push(if input.starts_with("/") {
+            InputName::Path(PathText::parse(alloc, *input)?)
+        } else {
+            InputName::Variable(Text::from_str(alloc, *input)?)
+        })?;
     }
     Ok(names)
 }
@@ -68,18 +57,35 @@ pub fn ended(alloc: Global) -> Result<Ended, AllocError> {
     })
 }
 
-/// What was asked, by the unit's record with something put in place of something in it.
-fn own_asked(alloc: Global, old: &str, new: &str) -> Result<Asked, Fail> {
-    let text = replaced(alloc, OWN, old, new)?;
+/// What was asked, by the text of a record.
+fn asked_in(alloc: Global, text: &str) -> Result<Asked, Fail> {
     match read_record(alloc, text.as_bytes())? {
-        Some(kept) => Ok(kept.asked),
+        Some(kept) => {
+            let Record {
+                key,
+                asked,
+                inputs,
+                needed,
+                stdout,
+                stderr,
+            } = kept;
+            drop(key);
+            drop(inputs);
+            drop(needed);
+            drop(stdout);
+            drop(stderr);
+            Ok(asked)
+        }
         None => Err(Fail::from("no record")),
     }
 }
 
-/// The unit's command with something put in place of something in it.
+/// The unit's command with something put in place of something in its record.
 pub fn command_with(alloc: Global, old: &str, new: &str) -> Result<Command, Fail> {
-    Ok(own_asked(alloc, old, new)?.into_command())
+    let text = replaced(alloc, OWN, old, new)?;
+    let asked = asked_in(alloc, text.as_str());
+    drop(text);
+    Ok(asked?.into_command())
 }
 
 /// What was asked, as a command that writes into this folder.
@@ -104,8 +110,9 @@ fn out_path(alloc: Global, folder: &PathText, key: &Text) -> Result<PathText, Fa
     ensures { IfOk result (λ path. path ≡ out_of folder.now key.now) }
 {
     let relative = RelativePath::of(key.copy(alloc)?).ok_or("no path")?;
-    let path = folder.below(alloc, &relative)?;
-    Ok(path)
+    let path = folder.below(alloc, &relative);
+    drop(relative);
+    Ok(path?)
 }
 
 /// The unit's command, which writes into its folder.
@@ -114,6 +121,6 @@ pub fn own_command(alloc: Global, folder: &PathText, key: &Text) -> Result<Comma
     ensures sorted { IfOk result (λ c. are_sorted c.pairs ≡ true) }
 {
     let out = out_path(alloc, folder, key)?;
-    let asked = own_asked(alloc, "", "")?;
+    let asked = asked_in(alloc, OWN)?;
     Ok(with_out(asked, out))
 }

@@ -21,7 +21,7 @@ const OTHER: &str =
     "record 2\n3\n12\nb.target.lib\n5\nrustc\n0\n2\n/w\n0\n21\n/t/debug/b.target.lib\n2\n/t\n0\n\n0\n0\n0\n0\n\n0\n\nend\n";
 
 /// The files.
-const FILES: &[(&str, &str)] = &[
+static FILES: &[(&str, &str)] = &[
     ("/w/a", "fn"),
     ("/w/d/x", "1"),
     ("/t/debug/a.target.lib/a.lib", "A"),
@@ -38,8 +38,9 @@ pub fn put_file(
     text: &str,
 ) -> Result<(), Fail> {
     let path = PathText::parse(alloc, path)?;
-    place.put(alloc, &path, text.as_bytes())?;
-    Ok(())
+    let put = place.put(alloc, &path, text.as_bytes());
+    drop(path);
+    Ok(put?)
 }
 
 /// Puts the record of format 1 in the place of the unit's.
@@ -60,8 +61,9 @@ pub fn prepare(alloc: Global, place: &mut Memory<Mini>) -> Result<(), Fail> {
 /// Removes what stands at a path.
 pub fn take_away(alloc: Global, place: &mut Memory<Mini>, path: &str) -> Result<(), Fail> {
     let path = PathText::parse(alloc, path)?;
-    place.remove(alloc, &path)?;
-    Ok(())
+    let removed = place.remove(alloc, &path);
+    drop(path);
+    Ok(removed?)
 }
 
 /// A file as a text of its own; `none` where there is none.
@@ -76,31 +78,22 @@ fn copied(alloc: Global, found: &Option<Bytes>) -> Result<String, AllocError> {
 /// The text of a file.
 pub fn text_at(alloc: Global, place: &Memory<Mini>, path: &str) -> Result<String, Fail> {
     let path = PathText::parse(alloc, path)?;
-    let found = place.file(alloc, &path)?;
-    let text = copied(alloc, &found)?;
-    Ok(text)
+    let file = place.file(alloc, &path);
+    drop(path);
+    let found = file?;
+    let text = copied(alloc, &found);
+    drop(found);
+    Ok(text?)
 }
 
 /// A text with something put in place of something in it, once, where it stands there. In both, `_` is a line feed.
 pub fn replaced(alloc: Global, text: &str, old: &str, new: &str) -> Result<String, AllocError> {
-    let old = with_line_feeds(alloc, old)?;
-    let new = with_line_feeds(alloc, new)?;
+    let old = old.replace(alloc, "_", "\n")?;
+    let new = new.replace(alloc, "_", "\n")?;
     let mut made = Shown::new(alloc);
     match text.split_once(old.as_str()) {
         Some((before, behind)) => made.put(&[before, new.as_str(), behind]),
         None => made.put(&[text]),
-    }
-    made.whole()
-}
-
-/// A text with a line feed in place of each `_`.
-fn with_line_feeds(alloc: Global, text: &str) -> Result<String, AllocError> {
-    let mut made = Shown::new(alloc);
-    for (number, part) in text.split('_').enumerate() {
-        if number > 0 {
-            made.put(&["\n"]);
-        }
-        made.put(&[part]);
     }
     made.whole()
 }
