@@ -1,5 +1,5 @@
 -- What builds with the small compiler give, with no premise on the child.
-use Rattle.std.specs.Prelude.{◌≡◌, ◌∷◌, ◌++◌, [], ℕ, true, List, Result, Ok}
+use Rattle.std.specs.Prelude.{◌≡◌, ℕ, true, List, Result, Ok}
 use Rattle.std.specs.FinMap as finite
 use Rattle.pb_answer.specs.declared.fault.BuildFault.{BuildFault}
 use Rattle.pb_answer.specs.declared.summary.Summary.{Summary}
@@ -13,7 +13,6 @@ use Rattle.pb_run.specs.Halves.{OnRecords}
 use Rattle.pb_session.specs.Sessions.{session_of}
 use Rattle.pb_session.specs.declared.pick.PickBy.{PickBy}
 use Rattle.pb_session.specs.declared.step.SessionStep.{SessionStep}
-use Rattle.pb_session.specs.declared.step.SessionStep.TheVariants.{Build}
 use Rattle.pb_soundness.specs.Records.{Reading}
 use Rattle.pb_soundness.specs.Sound.{Sound}
 use Rattle.pb_turns.specs.Moments.{Moment}

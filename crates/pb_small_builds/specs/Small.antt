@@ -1,5 +1,5 @@
 -- Builds whose child is the small compiler: what has to hold of their words, and nothing of the child.
-use Rattle.std.specs.Prelude.{◌≡◌, ◌⊎◌, ◌∷◌, ◌++◌, [], ⊤, ℕ, true, false, codes, List, take, Some}
+use Rattle.std.specs.Prelude.{◌≡◌, ◌⊎◌, ◌∷◌, [], ⊤, ℕ, true, false, codes, List, take, Some}
 use Rattle.pb_data.specs.Mentions.{is_mentioned}
 use Rattle.pb_honesty.specs.Honest.{small_compiler, CanTell, IsSmall}
 use Rattle.pb_manifest.specs.Letters.{is_name}

@@ -1,7 +1,7 @@
-use Rattle.std.proofs.Common.{[], ◌∷◌, ◌++◌, refl, sym, ap, subst}
+use Rattle.std.proofs.Common.{[], ◌∷◌, ◌++◌, refl, ap}
 use Rattle.pb_memory.specs.Memory.{Held, counts_in}
 use Rattle.pb_turns.specs.Moments.{moment}
-use Rattle.pb_build.specs.Session.{CarriesBuild, point}
+use Rattle.pb_build.specs.Session.{point}
 use Rattle.pb_place.proofs.Failing.{on_err}
 use Rattle.pb_build.proofs.sessions.add_build.Goals as goal
 
