@@ -9,9 +9,9 @@ use Rattle.pb_flight.specs.declared.flight.State.{State}
 use Rattle.pb_flight.specs.declared.flight.State.TheVariants.{Untouched, Begun as begun_state}
 use Rattle.pb_flight.specs.Table.{is_good_at, are_good}
 use Rattle.pb_message.specs.declared.message.Message.{Message}
-use Rattle.pb_place.specs.Children.{child_spawned, child_at, inside_out}
+use Rattle.pb_place.specs.Children.{StandsStill, child_spawned, child_at, inside_out}
 use Rattle.pb_place.specs.Folders.{files_in}
-use Rattle.pb_place.specs.World.{World, Map, Answers, from_nothing, seen_by}
+use Rattle.pb_place.specs.World.{World, Map, Answers, ChangesOnly, from_nothing, seen_by}
 use Rattle.pb_place.specs.declared.child_in_flight.ChildInFlight.{ChildInFlight}
 use Rattle.pb_place.specs.declared.command.Command.{Command}
 use Rattle.pb_project.specs.Targets.{unit_at}
@@ -192,6 +192,11 @@ pub record IsBegun (b : Basis) (place : ℕ) (begun : Begun) (next : Option ℕ)
 abbrev pub WritesTo : List ℕ → Option Launched → List ChildInFlight → Type 0
 WritesTo out None flying = Unit {0}
 WritesTo out (Some launched) flying = IfSome (child_at launched.ticket flying) (λ spawned. spawned.command.out ≡ Some out)
+
+-- what was kept still for each child but this one stays so, where no change of these paths touches it
+abbrev pub KeepsOthersStill : Option Launched → (List ℕ → Bool) → List ChildInFlight → (ℕ → Type 0) → (ℕ → Type 0) → Type 0
+KeepsOthersStill launched inside flying before after =
+    (ticket : ℕ) → IfSome launched (λ its. ticket ≢ its.ticket) → ((v w : World) → ChangesOnly inside v w → StandsStill ticket flying v w) → before ticket → after ticket
 
 -- What the halves start from.
 

@@ -18,7 +18,7 @@ ghost use Rattle.pb_project.specs.Targets.{unit_at};
 ghost use Rattle.pb_answer.specs.declared.bad_unit.BadUnit.{BadUnit};
 ghost use Rattle.pb_record.specs.Parts.{IsReading};
 ghost use Rattle.pb_run.specs.Causes.{Takes, Begins, Lands, Drops, Runs, MayBeginUnit, MayAnswerUnit, MayRunUnit, StopsAt, is_of_child, is_of_look, is_of_start, is_of_write, is_spent};
-ghost use Rattle.pb_run.specs.Halves.{Footing, Basis, basis, outcomes_in, Keeps, IsBegun, CanBegin, CanAnswer, BeginsApart, WritesTo, awaits_number, child_of};
+ghost use Rattle.pb_run.specs.Halves.{Footing, Basis, basis, outcomes_in, Keeps, IsBegun, CanBegin, CanAnswer, BeginsApart, KeepsOthersStill, WritesTo, awaits_number, child_of};
 ghost use Rattle.pb_run.specs.Landing.{EndsBy, CallsBehind, GivesRecord, IsJudged, answered_called};
 ghost use Rattle.pb_run.specs.Launching.{HasLooked, IsSpawned, LaunchEnds, Launches};
 ghost use Rattle.pb_run.specs.Outcome.{outcome_by, directives_in, ran_of, unstarted};
@@ -26,7 +26,7 @@ ghost use Rattle.pb_run.specs.Running.{RunsCalling};
 ghost use Rattle.pb_run.specs.Standing.{IsCommandOf, IsInOrder, records_folder};
 ghost use Rattle.pb_run.specs.declared.begun.Begun.{Begun};
 ghost use Rattle.pb_unit.specs.declared.plan.Planned.{Planned};
-ghost use Rattle.pb_soundness.specs.Apart.{is_of};
+ghost use Rattle.pb_soundness.specs.Apart.{KeepsStillOutside, is_of};
 ghost use Rattle.pb_soundness.specs.Grounded.{Standing};
 ghost use Rattle.pb_soundness.specs.Numbers.{after};
 ghost use Rattle.pb_soundness.specs.Records.{Reading, place_of, record_at};
@@ -109,8 +109,10 @@ pub fn begin_unit<P: Place>(
     ensures same { IsTrue P.tells → IfOk result (λ made. child_of made.begun ≡ None → P.world place.new ≡ P.world place.old) }
     ensures spared { (read : Reading) → IsReading read → IsTrue P.tells → HoldsNumbers (record_at read (records_folder project.now) (P.world place.old).files) store.old.numbers → IfErr result (λ e. (P.world place.new ≡ P.world place.old) ⊎ ((difference : Difference) × FirstDifference read (records_folder project.now) unit.now.key (command_of setup.now project.now unit.now done.now) (P.world place.old) (Some difference))) }
     ensures cause { (read : Reading) → IsReading read → IsTrue P.tells → HoldsNumbers (record_at read (records_folder project.now) (P.world place.old).files) store.old.numbers → IfErr result (λ e. is_of_start e ≡ true → (difference : Difference) × FirstDifference read (records_folder project.now) unit.now.key (command_of setup.now project.now unit.now done.now) (P.world place.old) (Some difference)) }
+    ensures tried { (read : Reading) → IsReading read → IsTrue P.tells → HoldsNumbers (record_at read (records_folder project.now) (P.world place.old).files) store.old.numbers → IfErr result (λ e. ((P.counts place.new).starts ≡ (P.counts place.old).starts) ⊎ ((difference : Difference) × FirstDifference read (records_folder project.now) unit.now.key (command_of setup.now project.now unit.now done.now) (P.world place.old) (Some difference))) }
     ensures dropped { (read : Reading) → IsTrue P.tells → IfOk result (λ made. IsSome (child_of made.begun) → record_at read (records_folder project.now) (P.world place.new).files unit.now.key ≡ None) }
     ensures numbers { (read : Reading) → IsTrue P.tells → HoldsNumbers (record_at read (records_folder project.now) (P.world place.old).files) store.old.numbers → OnOk result (HoldsNumbers (record_at read (records_folder project.now) (P.world place.new).files) store.new.numbers) }
+    ensures still { IsTrue P.tells → KeepsStillOutside (is_of (records_folder project.now) unit.now.key) (P.counts place.old).starts.flying (P.still place.old) (P.still place.new) }
     ensures writes { IsTrue P.tells → IfOk result (λ made. WritesTo unit.now.out (child_of made.begun) (P.counts place.new).starts.flying) }
     ensures launched { IsTrue P.tells → IfOk result (λ made. IfSome (child_of made.begun) (λ launched. IsSpawned (is_of (records_folder project.now) unit.now.key) P.child made.begun.command (P.world place.old) launched.ticket (P.counts place.new).starts.flying (P.still place.new))) }
     ensures stay { (ticket : ℕ) (its : ChildInFlight) → child_at ticket (P.counts place.old).starts.flying ≡ Some its → child_at ticket (P.counts place.new).starts.flying ≡ Some its }
@@ -223,6 +225,7 @@ pub fn answer_unit<P: Place>(
         → HoldsNumbers (record_at read (records_folder project.now) (P.world place.old).files) store.old.numbers → OnOk result (HoldsNumbers (record_at read (records_folder project.now) (P.world place.new).files) store.new.numbers) }
     ensures same { (read : Reading) → IsReading read → IsTrue P.tells → child_of begun ≡ None → lacks_number (record_at read (records_folder project.now) (P.world place.old).files unit.now.key) ≡ false → P.world place.new ≡ P.world place.old }
     ensures stay { (ticket : ℕ) (its : ChildInFlight) → IfSome (child_of begun) (λ launched. ticket ≢ launched.ticket) → child_at ticket (P.counts place.old).starts.flying ≡ Some its → child_at ticket (P.counts place.new).starts.flying ≡ Some its }
+    ensures still { IsTrue P.tells → WritesTo unit.now.out (child_of begun) (P.counts place.old).starts.flying → KeepsOthersStill (child_of begun) (is_of (records_folder project.now) unit.now.key) (P.counts place.old).starts.flying (P.still place.old) (P.still place.new) }
     ensures started { IfOk result (λ ran. ran.started ≡ is_some (child_of begun)) }
     ensures directives { IfOk result (λ ran. directives_in (outcome_by finite.empty ran) ≡ ran.directives) }
     ensures folder { store.new.folder ≡ store.old.folder }

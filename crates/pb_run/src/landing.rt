@@ -21,7 +21,7 @@ ghost use Rattle.pb_flight.specs.declared.flight.State.TheVariants as state;
 ghost use Rattle.pb_place.specs.Folders.{files_in};
 ghost use Rattle.pb_answer.specs.declared.bad_unit.BadUnit.{BadUnit};
 ghost use Rattle.pb_project.specs.declared.project.Setup.{Setup};
-ghost use Rattle.pb_run.specs.Halves.{Footing, basis, begun_with, outcomes_in, key_at, needed_keys, Keeps, IsBegun, CanAnswer, BeginsApart, WritesTo};
+ghost use Rattle.pb_run.specs.Halves.{Footing, basis, begun_with, outcomes_in, key_at, needed_keys, Keeps, IsBegun, CanAnswer, BeginsApart, KeepsOthersStill, WritesTo};
 ghost use Rattle.pb_run.specs.Landing.{HasEnded, CallsBehind, answered_called, dep_info_looked, IsJudged};
 ghost use Rattle.pb_run.specs.Standing.{IsCommandOf, records_folder};
 ghost use Rattle.pb_run.specs.declared.begun.Awaited.TheVariants as awaited;
@@ -301,6 +301,7 @@ pub(crate) fn land<P: Place>(
     ensures folder { store.new.folder ≡ store.old.folder }
     ensures next { store.new.next ≡ store.old.next }
     ensures most { P.most place.new ≡ P.most place.old }
+    ensures still { IsTrue P.tells → WritesTo unit.now.out (Some launched.now) (P.counts place.old).starts.flying → KeepsOthersStill (Some launched.now) (is_of (records_folder project.now) unit.now.key) (P.counts place.old).starts.flying (P.still place.old) (P.still place.new) }
     ensures takes { Takes (Lands (Some launched.now)) (MayAnswerUnit store.old.next unit.now.key (Some launched.now)) result (P.counts place.old) (P.counts place.new) }
     ensures lands { IsTrue P.tells → (left : P) × (answer : Result Ended StartFault) × HasEnded launched.now.ticket answer (IsOk result) (P.still place.old launched.now.ticket) (P.world place.old) (P.world left) (P.counts place.old) (P.counts left)
         × ChangesOnly (is_at_or_below (place_of (records_folder project.now) unit.now.key)) (P.world left) (P.world place.new)
@@ -377,6 +378,7 @@ pub(crate) fn reuse<P: Place>(
     ensures folder { store.new.folder ≡ store.old.folder }
     ensures next { TakesNumber store.old.next store.new.next }
     ensures most { P.most place.new ≡ P.most place.old }
+    ensures still { IsTrue P.tells → KeepsStillOutside (is_of (records_folder project.now) unit.now.key) (P.counts place.old).starts.flying (P.still place.old) (P.still place.new) }
     ensures untaken { again.now.numbered ≡ true → store.new.next ≡ store.old.next }
     ensures unnumbered { IfErr result (λ e. is_of_look e ≡ true → store.new.next ≡ store.old.next) }
     ensures spends { IfErr result (λ e. is_spent e ≡ true → again.now.numbered ≡ false) }

@@ -51,6 +51,7 @@ pub(crate) fn compare<P: Place>(
     ensures still { IsTrue P.tells → KeepsStill (P.still place.old) (P.still place.new) }
     ensures takes { Takes NoStart (MayBeginUnit store.now.next key.now) result (P.counts place.old) (P.counts place.new) }
     ensures looks { IfErr result (λ e. is_of_start e ≡ false) }
+    ensures starts { (P.counts place.new).starts ≡ (P.counts place.old).starts }
     ensures looked { (read : Reading) → IsReading read → IsTrue P.tells → MakesInTurn result (looked_at read store.now.folder key.now command.now (P.world place.old)) (P.counts place.old) (P.counts place.new) }
 {
     let unit = match key.copy(alloc) {

@@ -1,14 +1,16 @@
-use Rattle.std.proofs.Common.{◌∙◌, Ok, ap, refl, subst, sym}
+use Rattle.std.proofs.Common.{◌∙◌, Ok, Option, ap, refl, subst, sym}
 use Rattle.std.proofs.lemmas.Bool.{false≢true}
 use Rattle.pb_place.specs.Children.{child_at}
 use Rattle.pb_place.specs.Counts.{Starts}
 use Rattle.pb_place.specs.Paths.{is_at_or_below}
 use Rattle.pb_place.specs.World.{ChangesOnly}
 use Rattle.pb_place.proofs.Folders.{only_same}
-use Rattle.pb_run.specs.Halves.{WritesTo, basis, child_in, child_of}
+use Rattle.pb_run.specs.Halves.{KeepsOthersStill, WritesTo, basis, child_in, child_of}
 use Rattle.pb_run.specs.Landing.{CallsBehind, EndsBy, IsJudged, answered_called}
 use Rattle.pb_run.specs.declared.begun.Awaited.{Awaited}
 use Rattle.pb_run.specs.declared.begun.Awaited.TheVariants as awaited
+use Rattle.pb_run.specs.declared.begun.Launched.{Launched}
+use Rattle.pb_soundness.specs.Apart.{is_of}
 use Rattle.pb_run.proofs.Calling.{ended_badly, ended_well}
 use Rattle.pb_run.proofs.Kept.{flying_answer}
 use Rattle.pb_run.proofs.Causing.{land_spares}
@@ -179,3 +181,19 @@ returns-in-Ok-reuse-clause-judged g c told = (
       (sym c.in-Record.is) (refl, refl, refl),
   subst (λ (o : Awaited). IsJudged c.args.project.now c.args.unit.now c.args.begun.command o c.in-Record.again.ended (g.P.Place.world c.args.place.now) c.in-Ok-reuse.ran) (sym c.in-Record.is) (c.in-Ok-reuse.ensures.judged told),
 )
+
+pub returns-in-Ok-clause-still : goal.returns-in-Ok-clause-still
+returns-in-Ok-clause-still g c told writes =
+    subst (λ (o : Option Launched). KeepsOthersStill o (is_of (records_folder c.args.project.now) c.args.unit.now.key) (g.P.Place.counts c.args.place.now).starts.flying (g.P.Place.still c.args.place.now) (g.P.Place.still c.land.new.place)) (sym (ap child_in c.in-Child.is))
+    (c.in-Ok.ensures.still told (subst (λ (o : Awaited). WritesTo c.args.unit.now.out (child_in o) (g.P.Place.counts c.args.place.now).starts.flying) c.in-Child.is writes))
+
+pub returns-in-Child-clause-still : goal.returns-in-Child-clause-still
+returns-in-Child-clause-still g c told writes =
+    subst (λ (o : Option Launched). KeepsOthersStill o (is_of (records_folder c.args.project.now) c.args.unit.now.key) (g.P.Place.counts c.args.place.now).starts.flying (g.P.Place.still c.args.place.now) (g.P.Place.still c.land.new.place)) (sym (ap child_in c.in-Child.is))
+    (c.in-Err.ensures.still told (subst (λ (o : Awaited). WritesTo c.args.unit.now.out (child_in o) (g.P.Place.counts c.args.place.now).starts.flying) c.in-Child.is writes))
+
+pub returns-in-Ok-reuse-clause-still : goal.returns-in-Ok-reuse-clause-still
+returns-in-Ok-reuse-clause-still g c told writes ticket apart = c.in-Ok-reuse.ensures.still told ticket
+
+pub returns-clause-still : goal.returns-clause-still
+returns-clause-still g c told writes ticket apart = c.in-Err-reuse.ensures.still told ticket

@@ -15,7 +15,7 @@ use Rattle.pb_run.proofs.Halving.{begun_none, begun_some, flies_lifted, flying_b
 use Rattle.pb_run.proofs.Held.{held_same, held_there}
 use Rattle.pb_run.proofs.Writes.{spawned_writes}
 use Rattle.pb_run.proofs.halves.begin_unit.Goals as goal
-use Rattle.pb_soundness.specs.Apart.{is_of}
+use Rattle.pb_soundness.specs.Apart.{KeepsStillOutside, is_of}
 use Rattle.pb_soundness.specs.Records.{place_of, record_at}
 use Rattle.pb_store.specs.Differences.{FirstOf}
 use Rattle.pb_store.specs.Keeping.{Leaves}
@@ -180,3 +180,25 @@ returns-in-Same-clause-carries g c read is told =
 
 pub returns-in-Err-compare-clause-taken : goal.returns-in-Err-compare-clause-taken
 returns-in-Err-compare-clause-taken g c child = absurd (child_starts c.in-Err-compare.fault child c.in-Err-compare.ensures.looks)
+
+pub returns-in-Err-clause-still : goal.returns-in-Err-clause-still
+returns-in-Err-clause-still g c told ticket stands stood = stood
+
+pub returns-in-Err-command-clause-still : goal.returns-in-Err-command-clause-still
+returns-in-Err-command-clause-still g c told ticket stands stood = stood
+
+pub returns-in-Err-compare-clause-still : goal.returns-in-Err-compare-clause-still
+returns-in-Err-compare-clause-still g c told ticket stands stood = c.in-Err-compare.ensures.still told ticket stood
+
+pub returns-in-Same-clause-still : goal.returns-in-Same-clause-still
+returns-in-Same-clause-still g c told ticket stands stood = c.in-Ok-compare.ensures.still told ticket stood
+
+pub returns-in-Ok-launch-clause-still : goal.returns-in-Ok-launch-clause-still
+returns-in-Ok-launch-clause-still g c told =
+    subst (λ (f : List ℕ). KeepsStillOutside (is_of f c.args.unit.now.key) (g.P.Place.counts c.args.place.now).starts.flying (g.P.Place.still c.args.place.now) (g.P.Place.still c.launch.new.place)) c.requires.folder
+    (still_after (is_of c.args.store.now.folder c.args.unit.now.key) (g.P.Place.counts c.args.place.now).starts.flying (g.P.Place.counts c.compare.new.place).starts.flying (g.P.Place.still c.args.place.now) (g.P.Place.still c.compare.new.place) (g.P.Place.still c.launch.new.place) (c.in-Ok-compare.ensures.still told) (ap (λ (s : Starts). s.flying) c.in-Ok-compare.ensures.takes.1) (c.in-Ok-launch.ensures.still told))
+
+pub returns-in-Err-launch-clause-still : goal.returns-in-Err-launch-clause-still
+returns-in-Err-launch-clause-still g c told =
+    subst (λ (f : List ℕ). KeepsStillOutside (is_of f c.args.unit.now.key) (g.P.Place.counts c.args.place.now).starts.flying (g.P.Place.still c.args.place.now) (g.P.Place.still c.launch.new.place)) c.requires.folder
+    (still_after (is_of c.args.store.now.folder c.args.unit.now.key) (g.P.Place.counts c.args.place.now).starts.flying (g.P.Place.counts c.compare.new.place).starts.flying (g.P.Place.still c.args.place.now) (g.P.Place.still c.compare.new.place) (g.P.Place.still c.launch.new.place) (c.in-Ok-compare.ensures.still told) (ap (λ (s : Starts). s.flying) c.in-Ok-compare.ensures.takes.1) (c.in-Err-launch.ensures.still told))

@@ -1,6 +1,6 @@
 use Rattle.std.proofs.Common.{◌≡◌, ◌∙◌, Err, Ok, Some, ap, refl, slice_get, subst, sym}
 use Rattle.pb_command.specs.Judge.{judge}
-use Rattle.pb_place.specs.Counts.{Starts}
+use Rattle.pb_place.specs.Counts.{Starts, without}
 use Rattle.pb_run.specs.declared.ran.Judgement.{Judgement}
 use Rattle.pb_run.proofs.Halving.{out_lies}
 use Rattle.pb_run.proofs.Held.{begun_next, held_landed, held_there, keeps_next}
@@ -18,9 +18,13 @@ use Rattle.pb_run.proofs.Answering.{landed_gives, landed_only}
 use Rattle.pb_run.proofs.Calling.{bad_made, ended_badly, ended_well, good_made, kept_so, numbering_first, numbers_so}
 use Rattle.pb_run.proofs.Ending.{TellsAnswer, landed_more, landed_told}
 use Rattle.pb_run.proofs.Settling.{keeps_bad, keeps_landed}
+use Rattle.pb_run.proofs.RecordedOthers.{still_over}
+use Rattle.pb_run.proofs.Spawning.{place_within, still_widen}
 use Rattle.pb_run.proofs.Writes.{ended_anyway, ended_only, none_changed, record_alone, record_only, unkept_only}
 use Rattle.pb_run.proofs.landing.land.Goals as goal
 use Rattle.pb_run.specs.Standing.{records_folder}
+use Rattle.pb_soundness.specs.Apart.{KeepsStillOutside, is_of}
+use Rattle.pb_soundness.specs.Records.{place_of}
 
 pub returns-in-Err-clause-keeps : goal.returns-in-Err-clause-keeps
 returns-in-Err-clause-keeps g c footing read setup sources states done is told holds can =
@@ -201,3 +205,38 @@ returns-then-is_some-clause-judged g c told = (c.finish.new.place, c.in-Ok.ended
 
 pub returns-in-Ok-keep-clause-judged : goal.returns-in-Ok-keep-clause-judged
 returns-in-Ok-keep-clause-judged g c told = (c.finish.new.place, c.in-Ok.ended, c.in-Ok.ensures.ended told, ap (λ (j : Judgement). j.ran) (c.in-Ok-judged_now.ensures.judged told))
+
+pub returns-in-Err-clause-still : goal.returns-in-Err-clause-still
+returns-in-Err-clause-still g c told writes ticket apart stands stood =
+    c.in-Err.ensures.still ticket apart (stands (g.P.Place.world c.args.place.now) (g.P.Place.world c.finish.new.place)
+    (unkept_only (records_folder c.args.project.now) c.args.unit.now.key c.args.unit.now.out (c.is_in_order.ensures.folders c.args.index c.args.unit.now c.requires.unit) c.args.launched.now (g.P.Place.counts c.args.place.now).starts.flying c.requires.flies writes (g.P.Place.world c.args.place.now) (g.P.Place.world c.finish.new.place) (g.P.Place.world c.finish.new.place) (c.in-Err.ensures.only told) refl)) stood
+
+pub returns-in-Err-judged_now-clause-still : goal.returns-in-Err-judged_now-clause-still
+returns-in-Err-judged_now-clause-still g c told writes ticket apart stands stood =
+    c.in-Err-judged_now.ensures.still told ticket (c.in-Ok.ensures.still ticket apart (stands (g.P.Place.world c.args.place.now) (g.P.Place.world c.finish.new.place)
+    (unkept_only (records_folder c.args.project.now) c.args.unit.now.key c.args.unit.now.out (c.is_in_order.ensures.folders c.args.index c.args.unit.now c.requires.unit) c.args.launched.now (g.P.Place.counts c.args.place.now).starts.flying c.requires.flies writes (g.P.Place.world c.args.place.now) (g.P.Place.world c.finish.new.place) (g.P.Place.world c.finish.new.place) (c.in-Ok.ensures.only told) refl)) stood)
+
+pub returns-then-is_some-clause-still : goal.returns-then-is_some-clause-still
+returns-then-is_some-clause-still g c told writes ticket apart stands stood =
+    c.in-Ok-judged_now.ensures.still told ticket (c.in-Ok.ensures.still ticket apart (stands (g.P.Place.world c.args.place.now) (g.P.Place.world c.finish.new.place)
+    (unkept_only (records_folder c.args.project.now) c.args.unit.now.key c.args.unit.now.out (c.is_in_order.ensures.folders c.args.index c.args.unit.now c.requires.unit) c.args.launched.now (g.P.Place.counts c.args.place.now).starts.flying c.requires.flies writes (g.P.Place.world c.args.place.now) (g.P.Place.world c.finish.new.place) (g.P.Place.world c.finish.new.place) (c.in-Ok.ensures.only told) refl)) stood)
+
+pub returns-in-Ok-keep-clause-still : goal.returns-in-Ok-keep-clause-still
+returns-in-Ok-keep-clause-still g c told writes ticket apart stands stood =
+    still_over (is_of (records_folder c.args.project.now) c.args.unit.now.key) ticket c.args.launched.now.ticket (g.P.Place.counts c.args.place.now).starts.flying (g.P.Place.world c.args.place.now) (g.P.Place.world c.finish.new.place) (g.P.Place.still c.args.place.now) (g.P.Place.still c.judged_now.new.place) (g.P.Place.still c.keep.new.place) apart
+    (unkept_only (records_folder c.args.project.now) c.args.unit.now.key c.args.unit.now.out (c.is_in_order.ensures.folders c.args.index c.args.unit.now c.requires.unit) c.args.launched.now (g.P.Place.counts c.args.place.now).starts.flying c.requires.flies writes (g.P.Place.world c.args.place.now) (g.P.Place.world c.finish.new.place) (g.P.Place.world c.finish.new.place) (c.in-Ok.ensures.only told) refl)
+    (λ t ne sees was. c.in-Ok-judged_now.ensures.still told t (c.in-Ok.ensures.still t ne sees was))
+    (still_widen (is_at_or_below (place_of (records_folder c.args.project.now) c.args.unit.now.key)) (is_of (records_folder c.args.project.now) c.args.unit.now.key) (without c.args.launched.now.ticket (g.P.Place.counts c.args.place.now).starts.flying) (g.P.Place.still c.judged_now.new.place) (g.P.Place.still c.keep.new.place) (place_within (records_folder c.args.project.now) c.args.unit.now.key)
+    (subst (λ (f : List ℕ). KeepsStillOutside (is_at_or_below (place_of f c.args.unit.now.key)) (without c.args.launched.now.ticket (g.P.Place.counts c.args.place.now).starts.flying) (g.P.Place.still c.judged_now.new.place) (g.P.Place.still c.keep.new.place)) c.requires.folder
+    (subst (λ fs. KeepsStillOutside (is_at_or_below (place_of c.args.store.now.folder c.args.unit.now.key)) fs (g.P.Place.still c.judged_now.new.place) (g.P.Place.still c.keep.new.place)) (ap (λ (s : Starts). s.flying) (c.in-Ok-judged_now.ensures.takes.1 ∙ (c.in-Ok.ensures.takes c.args.store.now.next).1)) (c.in-Ok-keep.ensures.still told))))
+    stands stood
+
+pub returns-clause-still : goal.returns-clause-still
+returns-clause-still g c told writes ticket apart stands stood =
+    still_over (is_of (records_folder c.args.project.now) c.args.unit.now.key) ticket c.args.launched.now.ticket (g.P.Place.counts c.args.place.now).starts.flying (g.P.Place.world c.args.place.now) (g.P.Place.world c.finish.new.place) (g.P.Place.still c.args.place.now) (g.P.Place.still c.judged_now.new.place) (g.P.Place.still c.keep.new.place) apart
+    (unkept_only (records_folder c.args.project.now) c.args.unit.now.key c.args.unit.now.out (c.is_in_order.ensures.folders c.args.index c.args.unit.now c.requires.unit) c.args.launched.now (g.P.Place.counts c.args.place.now).starts.flying c.requires.flies writes (g.P.Place.world c.args.place.now) (g.P.Place.world c.finish.new.place) (g.P.Place.world c.finish.new.place) (c.in-Ok.ensures.only told) refl)
+    (λ t ne sees was. c.in-Ok-judged_now.ensures.still told t (c.in-Ok.ensures.still t ne sees was))
+    (still_widen (is_at_or_below (place_of (records_folder c.args.project.now) c.args.unit.now.key)) (is_of (records_folder c.args.project.now) c.args.unit.now.key) (without c.args.launched.now.ticket (g.P.Place.counts c.args.place.now).starts.flying) (g.P.Place.still c.judged_now.new.place) (g.P.Place.still c.keep.new.place) (place_within (records_folder c.args.project.now) c.args.unit.now.key)
+    (subst (λ (f : List ℕ). KeepsStillOutside (is_at_or_below (place_of f c.args.unit.now.key)) (without c.args.launched.now.ticket (g.P.Place.counts c.args.place.now).starts.flying) (g.P.Place.still c.judged_now.new.place) (g.P.Place.still c.keep.new.place)) c.requires.folder
+    (subst (λ fs. KeepsStillOutside (is_at_or_below (place_of c.args.store.now.folder c.args.unit.now.key)) fs (g.P.Place.still c.judged_now.new.place) (g.P.Place.still c.keep.new.place)) (ap (λ (s : Starts). s.flying) (c.in-Ok-judged_now.ensures.takes.1 ∙ (c.in-Ok.ensures.takes c.args.store.now.next).1)) (c.in-Err-keep.ensures.still told))))
+    stands stood

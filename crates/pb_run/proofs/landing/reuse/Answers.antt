@@ -252,3 +252,20 @@ returns-then-again-clause-judged g c told = c.unstarted-ran.ensures ∙ ap (λ (
 
 pub returns-in-Ok-migrate-clause-judged : goal.returns-in-Ok-migrate-clause-judged
 returns-in-Ok-migrate-clause-judged g c told = c.unstarted-ran.ensures ∙ ap (λ (j : Judgement). unstarted j.ran) (c.in-Ok.ensures.judged told)
+
+pub returns-in-Err-clause-still : goal.returns-in-Err-clause-still
+returns-in-Err-clause-still g c told ticket stands stood = c.in-Err.ensures.still told ticket stood
+
+pub returns-then-is_some-clause-still : goal.returns-then-is_some-clause-still
+returns-then-is_some-clause-still g c told ticket stands stood = c.in-Ok.ensures.still told ticket stood
+
+pub returns-then-again-clause-still : goal.returns-then-again-clause-still
+returns-then-again-clause-still g c told ticket stands stood = c.in-Ok.ensures.still told ticket stood
+
+pub returns-in-Ok-migrate-clause-still : goal.returns-in-Ok-migrate-clause-still
+returns-in-Ok-migrate-clause-still g c told =
+    reused_still c.args.store.now.folder (records_folder c.args.project.now) c.args.unit.now.key (g.P.Place.counts c.args.place.now).starts.flying (g.P.Place.counts c.judged_now.new.place).starts.flying (g.P.Place.still c.args.place.now) (g.P.Place.still c.judged_now.new.place) (g.P.Place.still c.migrate.new.place) c.requires.folder (ap (λ (s : Starts). s.flying) c.in-Ok.ensures.takes.1) (c.in-Ok.ensures.still told) (c.in-Ok-migrate.ensures.still told)
+
+pub returns-clause-still : goal.returns-clause-still
+returns-clause-still g c told =
+    reused_still c.args.store.now.folder (records_folder c.args.project.now) c.args.unit.now.key (g.P.Place.counts c.args.place.now).starts.flying (g.P.Place.counts c.judged_now.new.place).starts.flying (g.P.Place.still c.args.place.now) (g.P.Place.still c.judged_now.new.place) (g.P.Place.still c.migrate.new.place) c.requires.folder (ap (λ (s : Starts). s.flying) c.in-Ok.ensures.takes.1) (c.in-Ok.ensures.still told) (c.in-Err-migrate.ensures.still told)
