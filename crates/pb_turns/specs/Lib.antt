@@ -3,6 +3,7 @@ pub mod Rows
 pub mod Crew
 pub mod Calling
 pub mod Again
+pub mod Anew
 pub mod Story
 pub mod Ends
 pub mod Summing

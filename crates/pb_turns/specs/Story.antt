@@ -38,6 +38,7 @@ use Rattle.pb_store.specs.Held.{HoldsNumbers}
 use Rattle.pb_store.specs.Migrating.{TakesNumber, lacks_number}
 use Rattle.pb_store.specs.declared.difference.Difference.{Difference}
 use Rattle.pb_turns.specs.Again.{AnswersAgain, FliesAgain}
+use Rattle.pb_turns.specs.Anew.{AnswersAnew, FliesAnew}
 use Rattle.pb_turns.specs.Calling.{CallsCut, CallsOver}
 use Rattle.pb_turns.specs.Crew.{needs_of, launched_of}
 use Rattle.pb_turns.specs.Moments.{Moment}
@@ -227,6 +228,15 @@ AllAnswerAgain setup project es done first = (read : Reading) → IsReading read
 pub record Replays (setup : Setup) (project : Project) (done : List (Option (List Directive))) (aloft : List Aloft) (es : List (Event BadUnit)) (first now : World) : Type 0 where
   pub waits : (read : Reading) → IsReading read → AllByRecursion (λ (a : Aloft). FliesAgain read setup project done first now a) aloft
   pub gave : AllAnswerAgain setup project es done first
+
+-- each unit that answered and for which a child was started did so by what that gives to what it sees of this world, whether the records are true or not
+abbrev pub AllAnswerAnew : Answers → Setup → Project → List (Event BadUnit) → List (Option (List Directive)) → World → Type 0
+AllAnswerAnew child setup project es done now = (place : ℕ) (answer : Answer BadUnit) → slice_get (states_in project es) place ≡ Some (Answered answer) → is_started es place ≡ true → AnswersAnew child setup project done now place answer
+
+-- and those in flight wait to do so
+pub record Replies (child : Answers) (setup : Setup) (project : Project) (done : List (Option (List Directive))) (aloft : List Aloft) (es : List (Event BadUnit)) (now : World) (flying : List ChildInFlight) (still : ℕ → Type 0) : Type 0 where
+  pub waits : AllByRecursion (FliesAnew child setup project done now flying still) aloft
+  pub gave : AllAnswerAnew child setup project es done now
 
 -- a unit in flight has begun so; all that it reaches is good
 pub record FliesSo (b : Basis) (es : List (Event BadUnit)) (next : Option ℕ) (world : World) (flying : List ChildInFlight) (still : ℕ → Type 0) (a : Aloft) : Type 0 where
