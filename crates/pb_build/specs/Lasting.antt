@@ -1,5 +1,5 @@
 -- What lasts over a session: the records of a folder stay true, so each build among the steps gives what the present workspace gives from nothing.
-use Rattle.std.specs.Prelude.{◌≡◌, ◌⊎◌, ◌∷◌, ◌++◌, [], ⊤, ℕ, true, false, List, None}
+use Rattle.std.specs.Prelude.{◌≡◌, ◌⊎◌, ◌∷◌, [], ⊤, ℕ, true, false, List, None}
 use Rattle.pb_command.specs.Judge.{judge}
 use Rattle.pb_package.specs.declared.options.Options.{Options}
 use Rattle.pb_place.specs.Paths.{is_at_or_below}
