@@ -234,9 +234,10 @@ def noted(crate, count, left):
 
 
 def since(row):
-    """What changed in a crate since its row of `LAST.md` was written, but for who may name a module; "" where nothing did."""
+    """What changed in a crate since its row of `LAST.md` was written, but for comments, imports and who may name a module; "" where nothing did."""
     crate, commit = row
-    ran = subprocess.run(["git", "-C", TOP, "diff", "--shortstat", r"-I^(pub )?mod \w+;$", commit.rstrip("*"), "--", f"crates/{crate}/src", f"crates/{crate}/specs", f"bench/edits/{crate}"], capture_output=True, text=True, check=False)
+    passed = [r"-I^(pub )?mod \w+;?$", r"-I^(ghost )?use ", r"-I^ *(--|//)"]
+    ran = subprocess.run(["git", "-C", TOP, "diff", "--shortstat", *passed, commit.rstrip("*"), "--", f"crates/{crate}/src", f"crates/{crate}/specs", f"bench/edits/{crate}"], capture_output=True, text=True, check=False)
     return ran.stdout.strip() if ran.returncode == 0 else f"{commit} is no commit here"
 
 
