@@ -7,6 +7,7 @@ use Rattle.pb_place.specs.World.{ChangesOnly}
 use Rattle.pb_place.proofs.Folders.{only_same}
 use Rattle.pb_run.specs.Halves.{KeepsOthersStill, WritesTo, basis, child_in, child_of}
 use Rattle.pb_run.specs.Landing.{CallsBehind, EndsBy, IsJudged, answered_called}
+use Rattle.pb_run.specs.Standing.{records_folder}
 use Rattle.pb_run.specs.declared.begun.Awaited.{Awaited}
 use Rattle.pb_run.specs.declared.begun.Awaited.TheVariants as awaited
 use Rattle.pb_run.specs.declared.begun.Launched.{Launched}
