@@ -246,13 +246,14 @@ module _ (footing : Footing) (read : Reading) (reading : IsReading read) (child 
       turns_give : (result : Result Summary BuildFault) → TurnsEnd true child Turns setup project next from last result mid new
           → GivesUnits footing read child (ByTurns Turns from) options result old new × LeavesRecords footing read child options old.world new.world
       turns_give (Ok summary) ends =
-          let whole : StandsWhole b next ends.es ends.reasons summary mid.world new.world = ends.told refl footing read sources reading (kept_first footing rests) in (
+          let whole : StandsWhole b ends.es ends.reasons summary mid.world new.world = ends.told refl footing read sources reading (kept_first footing rests) in (
             record {
               flown = record { units = units; es = ends.es; flies = (last, ends.flies); gave = gave_so ends.es whole.stands; starts = counted ends.es ends.mid ends.starts ends.drained; reasons = ends.reasons };
               finished = ends.finished;
               numbers = (
-                whole.numbers.0,
-                subst (λ (n : Option ℕ). NumbersGiven (LacksNoNumber project read old.world) ends.es n whole.numbers.0) next_is (subst (λ (w : World). NumbersGiven (LacksNoNumber project read w) ends.es next whole.numbers.0) stays whole.numbers.1),
+                ends.numbers.0,
+                subst (λ (n : Option ℕ). NumbersGiven (LacksNoNumber project read old.world) ends.es n ends.numbers.0) next_is
+                    (subst (λ (w : World). NumbersGiven (LacksNoNumber project read w) ends.es next ends.numbers.0) stays (ends.taken refl read reading)),
               );
               unnoted = ends.unnoted;
               answer = whole.answer;
@@ -263,10 +264,10 @@ module _ (footing : Footing) (read : Reading) (reading : IsReading read) (child 
             leaves footing ends.es whole.stands,
           )
       turns_give (Err fault) ends =
-          let cut : StandsCut b fault next ends.es ends.before mid.world new.world = ends.told refl footing read sources reading (kept_first footing rests) in (
+          let cut : StandsCut b fault ends.es ends.before mid.world new.world = ends.told refl footing read sources reading (kept_first footing rests) in (
             inr record {
               flown = record { units = units; es = ends.es; flies = (ends.last, ends.flies); gave = gave_so ends.es cut.stands; starts = counted ends.es ends.mid.counts ends.stops.starts ends.drained; reasons = cut.reasons };
-              spent = subst (λ (n : Option ℕ). Spends (LacksNoNumber project read old.world) fault n ends.es) next_is (subst (λ (w : World). Spends (LacksNoNumber project read w) fault next ends.es) stays cut.spent);
+              spent = subst (λ (n : Option ℕ). Spends (LacksNoNumber project read old.world) fault n ends.es) next_is (subst (λ (w : World). Spends (LacksNoNumber project read w) fault next ends.es) stays (ends.caused refl read reading));
               lines = lines_before ends.es cut.stands ends.mid ends.heard ends.last ends.flies ends.asked ends.hands ends.before fault ends.names ends.stops;
               before = ends.before;
               came = ends.came;

@@ -1,5 +1,6 @@
 -- Counters, lines and lists, after one more step.
 use Rattle.std.proofs.Common.{◌≡◌, ◌≢◌, ◌⊎◌, ◌∙◌, ◌++◌, ◌+◌, inl, inr, Bool, true, false, List, [], ◌∷◌, ℕ, zero, suc, Option, Some, None, IsTrue, max, refl, sym, ap, subst, arith, slice_get, slice_set, is_some, map, length, append_assoc, append-nil, take}
+use Rattle.std.proofs.lemmas.Bool.{cases_eq, false≢true}
 use Rattle.std.proofs.lemmas.List.{length-map}
 use Rattle.std.specs.Io.KnownBytes.{Appends}
 use Rattle.std.specs.List.{AllByRecursion, remove}
@@ -20,7 +21,7 @@ use Rattle.pb_place.specs.declared.place.StartFault.TheVariants as start
 use Rattle.pb_project.specs.Targets.{unit_at}
 use Rattle.pb_answer.specs.declared.bad_unit.BadUnit.{BadUnit}
 use Rattle.pb_project.specs.declared.project.Project.{Project}
-use Rattle.pb_run.specs.Causes.{HasCause, MayBeginUnit, MayAnswerUnit, BeginsBy, LandsBy}
+use Rattle.pb_run.specs.Causes.{HasCause, is_of_start, MayBeginUnit, MayAnswerUnit, BeginsBy, LandsBy}
 use Rattle.pb_run.specs.Halves.{child_of, key_at, key_in}
 use Rattle.pb_run.specs.declared.begun.Launched.{Launched}
 use Rattle.pb_turns.specs.Crew.{AreApart, places_of, ticket_of_child, ticket_in, tickets_of, launched_of}
@@ -104,6 +105,14 @@ cause_from OutOfMemory first now new same cause = cause ∙ same
 upped_more : (n m : ℕ) (xs : List ℕ) (unit : ℕ) → n ≡ upped (length xs) m → up n ≡ upped (length (xs ++ unit ∷ [])) m
 upped_more n m xs unit is = ap up is ∙ ap (λ k. upped k m) (sym (length_push xs unit))
 
+-- A child was tried only where the starts are others than they were.
+tried_or_not : (old new : Starts) → (new ≡ old) ⊎ (new ≡ up_starts old) → (new ≡ old) ⊎ ((new ≡ up_starts old) × (new ≢ old))
+tried_or_not old new (inl same) = inl same
+tried_or_not old new (inr more) = elim (cases_eq (up old.count) old.count) [
+  | inl full ↦ inl (more ∙ ap (λ n. record old { count = n }) full)
+  | inr less ↦ inr (more, λ same. less (sym (ap (λ (s : Starts). s.count) more) ∙ ap (λ (s : Starts). s.count) same))
+]
+
 -- A unit begins.
 
 module _ (project : Project) (first now new : Moment) (started : List ℕ) (aloft : List Aloft) (es : List (Event BadUnit)) (given unit : ℕ) (goes : Goes project first now started aloft es given)
@@ -185,13 +194,14 @@ module _ (project : Project) (first now new : Moment) (started : List ℕ) (alof
     set_no_more starts as_before same = ap (λ (s : Starts). s.settings) same ∙ as_before ∙ goes.settings
 
     pub stops_begun : (next : Option ℕ) (e : BuildFault) → MayBeginUnit next u.key e now.counts.starts new.counts.starts → HasCause e now.counts new.counts
-        → (spawned : Bool) × Stops tells e project first new (Began unit spawned ∷ es) × ((IsNumbered : ℕ → Type 0) (at_first : Option ℕ) → NumbersGiven IsNumbered es at_first next → Spends IsNumbered e at_first (Began unit spawned ∷ es))
+        → (spawned : Bool) × Stops tells e project first new (Began unit spawned ∷ es) × (spawned ≡ true → (is_of_start e ≡ true) ⊎ (new.counts.starts ≢ now.counts.starts)) × ((IsNumbered : ℕ → Type 0) (at_first : Option ℕ) → NumbersGiven IsNumbered es at_first next → Spends IsNumbered e at_first (Began unit spawned ∷ es))
         × CameAfter project e es (Began unit spawned ∷ es) × NamesUnit project e None es (Began unit spawned ∷ es)
     stops_begun next (Plan why) may cause = absurd may
     stops_begun next Toolchain may cause = absurd may
     stops_begun next (Child key fault) may cause = (
       true,
       record { by = stops_at key true may.0; cause = cause_from (Child key fault) first.counts now.counts new.counts goes.failures cause; starts = one_started may.2; settings = set_no_more (up_starts now.counts.starts) refl may.2 },
+      λ spawned. inl refl,
       λ IsNumbered at_first numbers. tt,
       subst (λ f. CameAfter project (Child key f) es (Began unit true ∷ es)) (sym may.1) (unit, its_key key may.0, refl),
       (unit, its_key key may.0, refl),
@@ -199,6 +209,7 @@ module _ (project : Project) (first now new : Moment) (started : List ℕ) (alof
     stops_begun next (Device key (Place fault)) may cause = (
       false,
       record { by = stops_at key false may.0; cause = cause_from (Device key (Place fault)) first.counts now.counts new.counts goes.failures cause; starts = none_started may.2; settings = set_no_more now.counts.starts refl may.2 },
+      λ spawned. absurd (false≢true spawned),
       λ IsNumbered at_first numbers. tt,
       inr (unit, its_key key may.0, refl),
       (unit, its_key key may.0, refl),
@@ -206,25 +217,30 @@ module _ (project : Project) (first now new : Moment) (started : List ℕ) (alof
     stops_begun next (Device key NumbersSpent) may cause = (
       false,
       record { by = stops_at key false may.0; cause = cause_from (Device key NumbersSpent) first.counts now.counts new.counts goes.failures cause; starts = none_started may.2; settings = set_no_more now.counts.starts refl may.2 },
+      λ spawned. absurd (false≢true spawned),
       λ IsNumbered at_first numbers. subst (NumbersGiven IsNumbered es at_first) may.1 numbers,
       inr (unit, its_key key may.0, refl),
       (unit, its_key key may.0, refl),
     )
     stops_begun next Sink may cause = absurd may
-    stops_begun next OutOfMemory (inl same) cause = (
-      false,
-      record { by = ((given, lines_begun), faults_begun); cause = cause_from OutOfMemory first.counts now.counts new.counts goes.failures cause; starts = none_started same; settings = set_no_more now.counts.starts refl same },
-      λ IsNumbered at_first numbers. tt,
-      inr (unit, false, refl),
-      tt,
-    )
-    stops_begun next OutOfMemory (inr more) cause = (
-      true,
-      record { by = ((given, lines_begun), faults_begun); cause = cause_from OutOfMemory first.counts now.counts new.counts goes.failures cause; starts = one_started more; settings = set_no_more (up_starts now.counts.starts) refl more },
-      λ IsNumbered at_first numbers. tt,
-      inr (unit, true, refl),
-      tt,
-    )
+    stops_begun next OutOfMemory may cause = elim (tried_or_not now.counts.starts new.counts.starts may) [
+      | inl same ↦ (
+        false,
+        record { by = ((given, lines_begun), faults_begun); cause = cause_from OutOfMemory first.counts now.counts new.counts goes.failures cause; starts = none_started same; settings = set_no_more now.counts.starts refl same },
+        λ spawned. absurd (false≢true spawned),
+        λ IsNumbered at_first numbers. tt,
+        inr (unit, false, refl),
+        tt,
+      )
+      | inr (more, other) ↦ (
+        true,
+        record { by = ((given, lines_begun), faults_begun); cause = cause_from OutOfMemory first.counts now.counts new.counts goes.failures cause; starts = one_started more; settings = set_no_more (up_starts now.counts.starts) refl more },
+        λ spawned. inr other,
+        λ IsNumbered at_first numbers. tt,
+        inr (unit, true, refl),
+        tt,
+      )
+    ]
 
 -- A unit answers.
 

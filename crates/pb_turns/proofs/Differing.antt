@@ -1,5 +1,5 @@
 -- Why units have begun, whatever the records hold: where a unit begins, answers or is dropped, and over a basis.
-use Rattle.std.proofs.Common.{◌≡◌, ◌≢◌, ◌∙◌, ◌<◌, inl, inr, Bool, true, false, List, ◌∷◌, ℕ, Option, Some, None, Contains, IsTrue, is_some, length, refl, sym, ap, subst, slice_get, slice_set}
+use Rattle.std.proofs.Common.{◌≡◌, ◌≢◌, ◌∙◌, ◌<◌, ◌⊎◌, inl, inr, Bool, true, false, List, ◌∷◌, ℕ, Option, Some, None, Contains, IsTrue, is_some, length, refl, sym, ap, subst, slice_get, slice_set}
 use Rattle.std.proofs.lemmas.Bool.{false≢true}
 use Rattle.std.specs.FinMap as finite
 use Rattle.pb_answer.specs.declared.bad_unit.BadUnit.{BadUnit}
@@ -8,12 +8,14 @@ use Rattle.pb_command.specs.Command.{command_of}
 use Rattle.pb_directive.specs.declared.directive.Directive.{Directive}
 use Rattle.pb_flight.specs.declared.flight.Answer.{Answer}
 use Rattle.pb_flight.specs.declared.flight.State.TheVariants.{Untouched, Begun, Answered}
-use Rattle.pb_flight.specs.Events.{Event, Began, Gave, IsLawful, MayBegin, begin, started_by}
+use Rattle.pb_flight.specs.Events.{Event, Began, Gave, IsLawful, MayBegin, begin, flying_after, started_by}
 use Rattle.pb_flight.specs.Laws.{HasBegun}
 use Rattle.pb_flight.specs.Table.{are_good, is_good_at}
 use Rattle.pb_flight.proofs.Handing.{began_lawful}
-use Rattle.pb_flight.proofs.Lists.{injective, get_set_other, get_set_same}
+use Rattle.pb_flight.proofs.Lists.{get_set_other, get_set_same}
 use Rattle.pb_flight.proofs.Ready.{good_at}
+use Rattle.pb_place.specs.Counts.{Starts}
+use Rattle.pb_place.specs.Paths.{is_at_or_below}
 use Rattle.pb_place.specs.World.{World, Answers, ChangesOnly, from_nothing}
 use Rattle.pb_place.specs.declared.command.Command.{Command}
 use Rattle.pb_project.specs.Targets.{unit_at}
@@ -30,10 +32,10 @@ use Rattle.pb_soundness.specs.Records.{Reading, place_of, record_at}
 use Rattle.pb_store.specs.Differences.{FirstDifference}
 use Rattle.pb_store.specs.Migrating.{lacks_number}
 use Rattle.pb_store.specs.declared.difference.Difference.{Difference}
-use Rattle.pb_turns.specs.Crew.{needs_of}
+use Rattle.pb_turns.specs.Crew.{needs_of, places_of}
 use Rattle.pb_turns.specs.Moments.{Moment}
-use Rattle.pb_turns.specs.Rows.{Reasons, is_started}
-use Rattle.pb_turns.specs.Story.{states_in, AllBegan, AllBeganFor, AllBeganOnAny, BeganFor, FliesIn, HadDiffered, IsQuiet, KeepsNoneInFlight, OnlyOf, StartedFor, StartedOnAny, Story}
+use Rattle.pb_turns.specs.Rows.{Reasons}
+use Rattle.pb_turns.specs.Story.{states_in, AllBegan, AllBeganFor, AllBeganOnAny, BeganFor, FliesIn, HadDiffered, IsQuiet, KeepsChildless, KeepsNoneInFlight, OnlyOf, StartedFor, StartedOnAny, Story}
 use Rattle.pb_turns.specs.declared.crew.Aloft.{Aloft}
 use Rattle.pb_turns.specs.declared.crew.UnitCrew.{UnitCrew}
 use Rattle.pb_turns.proofs.Again.{command_stays, sources_first}
@@ -41,7 +43,8 @@ use Rattle.pb_turns.proofs.Happening.{before_now, before_other, none_of, started
 use Rattle.pb_turns.proofs.Lists.{all_get, get_put}
 use Rattle.pb_turns.proofs.Reaching.{all_reach, not_of_two, place_outside_other}
 use Rattle.pb_turns.proofs.States.{another, begun_cases, begun_now, good_set}
-use Rattle.pb_turns.proofs.Staying.{OrBefore, answered_beside, answered_on, began_beside, begun_apart, start_told}
+use Rattle.pb_turns.proofs.Staying.{OrBefore, answered_beside, answered_on, began_beside, begun_apart, inside_folder, start_told}
+use Rattle.pb_turns.proofs.Waiting.{keeps_childless}
 use Rattle.pb_unit.specs.declared.plan.Planned.{Planned}
 
 some_none : {A : Type 0} (x : A) → Some x ≡ None → ⊥
@@ -51,7 +54,7 @@ module _ (project : Project) (read : Reading) (sources : World) where
   -- A unit begins.
 
   module _ (command : ℕ → Planned → Command) (order : IsInOrder project) (es : List (Event BadUnit)) (lawful : IsLawful (needs_of project) es) (reasons : Reasons) (first w w' : World) (only_first : OnlyOf project es first w) (stay : from_nothing project.workspace.target w ≡ sources)
-      (quiet : IsQuiet project read es first w) (gone : KeepsNoneInFlight project es None w) (began_before : AllBegan project read sources command es reasons first w) (unit : ℕ) (u : Planned) (there : unit_at project unit ≡ Some u) (may : MayBegin (needs_of project) (states_in project es) unit) (only : ChangesOnly (is_of (records_folder project) u.key) w w') where
+      (quiet : IsQuiet project read es first w) (gone : KeepsNoneInFlight project es None w) (waiting : KeepsChildless project es first w) (began_before : AllBegan project read sources command es reasons first w) (unit : ℕ) (u : Planned) (there : unit_at project unit ≡ Some u) (may : MayBegin (needs_of project) (states_in project es) unit) (only : ChangesOnly (is_of (records_folder project) u.key) w w') where
     ne_begun : (place : ℕ) → HasBegun (states_in project es) place → unit ≢ place
     ne_begun place has = another (states_in project es) unit place may.untouched has
 
@@ -62,14 +65,6 @@ module _ (project : Project) (read : Reading) (sources : World) where
     ne_good p among same =
         false≢true (ap is_good_at (sym (get_set_same (states_in project es) unit Untouched Begun may.untouched)) ∙ ap (λ n. is_good_at (slice_get (slice_set (states_in project es) unit Begun) n)) (sym same)
         ∙ good_at (slice_set (states_in project es) unit Begun) u.reaches p good_now among)
-
-    waits : (p : ℕ) (v : Planned) → unit_at project p ≡ Some v → slice_get (states_in project es) p ≡ Some Begun → is_started es p ≡ false → lacks_number (record_at read (records_folder project) first.files v.key) ≡ false
-        → (q : List ℕ) → is_of (records_folder project) v.key q ≡ true → finite.get w.files q ≡ finite.get first.files q
-    waits p v at flying childless numbered q inside =
-        let f = began_before p (Begun, flying, refl) in
-        let is : f.unit ≡ v = injective (sym f.there ∙ at) in
-        f.kept_stays (none_of f.difference (sym f.started ∙ childless)) (subst (λ (x : Planned). lacks_number (record_at read (records_folder project) first.files x.key) ≡ false) (sym is) numbered) q
-        (subst (λ (x : Planned). is_of (records_folder project) x.key q ≡ true) (sym is) inside)
 
     unanswered : (p : ℕ) (a : Answer BadUnit) → slice_get (slice_set (states_in project es) unit Begun) p ≡ Some (Answered a) → unit ≢ p
     unanswered p a still same =
@@ -89,12 +84,13 @@ module _ (project : Project) (read : Reading) (sources : World) where
         reached_stay = λ p v q among at inside. sym (only.files q (not_of_two project order p unit v u at there (ne_good p among) q inside));
         answered_stay = λ p v a q then' still at inside. sym (only.files q (not_of_two project order p unit v u at there (λ same. unanswered p a still (sym same)) q inside));
         unrecorded = subst (λ (x : List (Event BadUnit)). KeepsNoneInFlight project x None w) (sym (before_now es unit spawned)) gone;
-        waiting_stay = λ p v q flying childless at numbered inside.
-            waits p v at (subst (λ (x : List (Event BadUnit)). slice_get (states_in project x) p ≡ Some Begun) (before_now es unit spawned) flying) (subst (λ (x : List (Event BadUnit)). is_started x p ≡ false) (before_now es unit spawned) childless) numbered q inside;
+        waiting_stay = subst (λ (x : List (Event BadUnit)). KeepsChildless project x first w) (sym (before_now es unit spawned)) waiting;
         difference = difference;
         named = named;
         started = started_now es unit spawned ∙ flag;
         noted = get_put reasons unit (Some difference) within;
+        folder_stays = λ none q inside.
+            ap (λ (v : World). finite.get v.files q) (same none) ∙ only_first.files q (λ place v has at. not_of_two project order unit place u v there at (ne_begun place has) q (inside_folder project read sources command order unit u there q inside));
         kept_stays = λ none numbered q inside. ap (λ (v : World). finite.get v.files q) (same none) ∙ only_first.files q (λ place v has at. not_of_two project order unit place u v there at (ne_begun place has) q inside);
         unstarted = λ none. quiet (sym (ap (λ (x : List (Event BadUnit)). started_by x) (before_now es unit spawned)) ∙ none);
       }
@@ -113,13 +109,12 @@ module _ (project : Project) (read : Reading) (sources : World) where
             f.answered_stay p v a q (subst (λ (x : List (Event BadUnit)). slice_get (states_in project x) p ≡ Some (Answered a)) (before_other es unit place spawned (ne_begun place has)) then')
             (sym (get_set_other (states_in project es) unit p Begun (unanswered p a still)) ∙ still) at inside;
         unrecorded = subst (λ (x : List (Event BadUnit)). KeepsNoneInFlight project x None f.world) (sym (before_other es unit place spawned (ne_begun place has))) f.unrecorded;
-        waiting_stay = λ p v q flying childless. f.waiting_stay p v q
-            (subst (λ (x : List (Event BadUnit)). slice_get (states_in project x) p ≡ Some Begun) (before_other es unit place spawned (ne_begun place has)) flying)
-            (subst (λ (x : List (Event BadUnit)). is_started x p ≡ false) (before_other es unit place spawned (ne_begun place has)) childless);
+        waiting_stay = subst (λ (x : List (Event BadUnit)). KeepsChildless project x first f.world) (sym (before_other es unit place spawned (ne_begun place has))) f.waiting_stay;
         difference = f.difference;
         named = f.named;
         started = started_other es unit place spawned (ne_begun place has) ∙ f.started;
         noted = get_set_other reasons unit place (Some difference) (ne_begun place has) ∙ f.noted;
+        folder_stays = f.folder_stays;
         kept_stays = f.kept_stays;
         unstarted = λ none. f.unstarted (sym (ap (λ (x : List (Event BadUnit)). started_by x) (before_other es unit place spawned (ne_begun place has))) ∙ none);
       }
@@ -156,6 +151,7 @@ module _ (project : Project) (read : Reading) (sources : World) where
         named = f.named;
         started = f.started;
         noted = f.noted;
+        folder_stays = f.folder_stays;
         kept_stays = f.kept_stays;
         unstarted = f.unstarted;
       }
@@ -181,6 +177,7 @@ module _ (project : Project) (read : Reading) (sources : World) where
       named = subst (λ (c : Command). FirstDifference read (records_folder project) f.unit.key c f.world f.difference) (same f.unit f.there f.reaches) f.named;
       started = f.started;
       noted = f.noted;
+      folder_stays = f.folder_stays;
       kept_stays = f.kept_stays;
       unstarted = f.unstarted;
     }
@@ -214,6 +211,17 @@ module _ (b : Basis) (order : IsInOrder b.project) (es : List (Event BadUnit)) (
             (λ u at good. commanded_so place u at (subst (λ (x : List (Event BadUnit)). are_good (states_in b.project x) u.reaches ≡ true) (sym is) good)) f,
       )
 
+-- It differed of a unit that could not begin, where its child was tried or the fault is one of a start.
+pub differed_tried : (old new : Starts) (D : Type 0) (spawned : Bool) (fault : BuildFault) → (spawned ≡ true → (is_of_start fault ≡ true) ⊎ (new ≢ old)) → (is_of_start fault ≡ true → D) → (new ≡ old) ⊎ D → (is_of_start fault ≡ true) ⊎ (spawned ≡ true) → D
+differed_tried old new D spawned fault so cause tried (inl start) = cause start
+differed_tried old new D spawned fault so cause tried (inr was) = elim (so was) [
+  | inl start ↦ cause start
+  | inr other ↦ elim tried [
+    | inl same ↦ absurd (other same)
+    | inr differs ↦ differs
+  ]
+]
+
 -- The story of a crew.
 
 module _ (tells : Bool) (child : Answers) (first old : UnitCrew) (at now new : Moment) (still : ℕ → Type 0) (es : List (Event BadUnit)) (given : ℕ) (story : Story tells child first at old now still es given) (order : IsInOrder old.project) (lawful : IsLawful (needs_of old.project) es) where
@@ -225,8 +233,11 @@ module _ (tells : Bool) (child : Answers) (first old : UnitCrew) (at now new : M
 
   -- A unit begins.
 
-  module _ (unit : ℕ) (u : Planned) (there : unit_at old.project unit ≡ Some u) (may : MayBegin (needs_of old.project) (states_in old.project es) unit) (only : IsTrue tells → ChangesOnly (is_of (records_folder old.project) u.key) now.world new.world)
+  module _ (flying : places_of old.aloft.items ≡ flying_after es) (unit : ℕ) (u : Planned) (there : unit_at old.project unit ≡ Some u) (may : MayBegin (needs_of old.project) (states_in old.project es) unit) (only : IsTrue tells → ChangesOnly (is_of (records_folder old.project) u.key) now.world new.world)
       (done : List (Option (List Directive))) (same_done : done ≡ old.done.items) where
+    waiting : IsTrue tells → (read : Reading) → IsReading read → KeepsChildless old.project es at.world now.world
+    waiting t read reading = keeps_childless read old.setup old.project old.done.items at.world now.world es old.aloft.items now.counts.starts.flying lawful flying (story.changes t).flies ((story.again t).waits read reading)
+
     by_done : (read : Reading) (c : Command) (difference : Option Difference) → c ≡ command_of old.setup old.project u done → FirstDifference read (records_folder old.project) u.key c now.world difference
         → FirstDifference read (records_folder old.project) u.key (commands_of old.done.items unit u) now.world difference
     by_done read c difference asks named = subst (λ (d : Command). FirstDifference read (records_folder old.project) u.key d now.world difference) (asks ∙ ap (command_of old.setup old.project u) same_done) named
@@ -238,7 +249,7 @@ module _ (tells : Bool) (child : Answers) (first old : UnitCrew) (at now new : M
         → IsTrue tells → AllBeganOnAny old.setup old.project old.done.items (Began unit (is_some (child_of begun)) ∷ es) reasons' at.world new.world
     begun_began begun asks difference reasons' differs spawned within same noted t read reading =
         subst (λ (items : Reasons). AllBegan old.project read (from_nothing old.project.workspace.target at.world) (commands_of old.done.items) (Began unit (is_some (child_of begun)) ∷ es) items at.world new.world) (sym noted)
-        (began_more old.project read (from_nothing old.project.workspace.target at.world) (commands_of old.done.items) order es lawful old.reasons.items at.world now.world new.world (story.changes t).only (stay_first t) (story.quiet t read reading) (story.unrecorded t) (story.began t read reading) unit u there may (only t)
+        (began_more old.project read (from_nothing old.project.workspace.target at.world) (commands_of old.done.items) order es lawful old.reasons.items at.world now.world new.world (story.changes t).only (stay_first t) (story.quiet t read reading) (story.unrecorded t) (waiting t read reading) (story.began t read reading) unit u there may (only t)
         (is_some (child_of begun)) difference (by_done read begun.command difference asks (differs read reading t)) spawned within
         (λ none. same t (none_of (child_of begun) (spawned ∙ ap (λ (o : Option Difference). is_some o) none))))
 
@@ -248,27 +259,28 @@ module _ (tells : Bool) (child : Answers) (first old : UnitCrew) (at now new : M
         began_beside old.project read (from_nothing old.project.workspace.target at.world) (commands_of old.done.items) order es old.reasons.items at.world now.world new.world unit u there may.untouched (only t) (story.began t read reading)
 
     pub unbegun_started : (spawned : Bool) (fault : BuildFault) → unit < length old.reasons.items
-        → ((read : Reading) → IsReading read → IsTrue tells → is_of_start fault ≡ true → (difference : Difference) × FirstDifference read (records_folder old.project) u.key (command_of old.setup old.project u done) now.world (Some difference))
+        → ((read : Reading) → IsReading read → IsTrue tells → (is_of_start fault ≡ true) ⊎ (spawned ≡ true) → (difference : Difference) × FirstDifference read (records_folder old.project) u.key (command_of old.setup old.project u done) now.world (Some difference))
         → IsTrue tells → StartedOnAny old.setup old.project old.done.items fault es (Began unit spawned ∷ es) at.world new.world
     unbegun_started spawned fault within cause t read reading =
         start_told old.project read (from_nothing old.project.workspace.target at.world) (commands_of old.done.items) fault es at.world new.world unit spawned (λ so.
         let (difference, named) = cause read reading t so in (
           slice_set old.reasons.items unit (Some (Some difference)),
-          own_began old.project read (from_nothing old.project.workspace.target at.world) (commands_of old.done.items) order es lawful old.reasons.items at.world now.world new.world (story.changes t).only (stay_first t) (story.quiet t read reading) (story.unrecorded t) (story.began t read reading) unit u there may (only t)
+          own_began old.project read (from_nothing old.project.workspace.target at.world) (commands_of old.done.items) order es lawful old.reasons.items at.world now.world new.world (story.changes t).only (stay_first t) (story.quiet t read reading) (story.unrecorded t) (waiting t read reading) (story.began t read reading) unit u there may (only t)
               true (Some difference) (by_done read (command_of old.setup old.project u done) (Some difference) refl named) refl within (λ none. absurd (some_none difference none)),
         ))
 
   -- A unit answers.
 
   module _ (index : ℕ) (a : Aloft) (u : Planned) (there : unit_at old.project a.unit ≡ Some u) (at_index : slice_get old.aloft.items index ≡ Some a) (only : IsTrue tells → ChangesOnly (is_of (records_folder old.project) u.key) now.world new.world)
-      (same : (read : Reading) → IsReading read → IsTrue tells → child_of a.begun ≡ None → lacks_number (record_at read (records_folder old.project) now.world.files u.key) ≡ false → new.world ≡ now.world) where
+      (same : (read : Reading) → IsReading read → IsTrue tells → child_of a.begun ≡ None → lacks_number (record_at read (records_folder old.project) now.world.files u.key) ≡ false → new.world ≡ now.world)
+      (folder : IsTrue tells → child_of a.begun ≡ None → (q : List ℕ) → is_at_or_below u.out q ≡ true → finite.get new.world.files q ≡ finite.get now.world.files q) where
     so : IsTrue tells → FliesIn old.project es now.world now.counts.starts.flying a
     so t = all_get (FliesIn old.project es now.world now.counts.starts.flying) old.aloft.items index a (story.changes t).flies at_index
 
     -- a fault came in its place
     pub unanswered_began : IsTrue tells → AllBeganOnAny old.setup old.project old.done.items es old.reasons.items at.world new.world
     unanswered_began t read reading =
-        answered_beside old.project read (from_nothing old.project.workspace.target at.world) (commands_of old.done.items) order es old.reasons.items at.world now.world new.world a.unit u there (so t).state (child_of a.begun) (so t).started (only t) (same read reading t)
+        answered_beside old.project read (from_nothing old.project.workspace.target at.world) (commands_of old.done.items) order es old.reasons.items at.world now.world new.world a.unit u there (so t).state (child_of a.begun) (so t).started (only t) (same read reading t) (folder t)
         (story.began t read reading)
 
     -- what is noted of it changes no command of those that have begun

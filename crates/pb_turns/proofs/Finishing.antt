@@ -41,7 +41,7 @@ use Rattle.pb_turns.specs.Ends.{rows_in, nothing_said, Stands, StandsWhole, Stan
 use Rattle.pb_turns.specs.Laws.{SaysFirstRows}
 use Rattle.pb_turns.specs.Moments.{Moment, Heard}
 use Rattle.pb_turns.specs.Rows.{summary_of, started_keys, is_started, messages_in, bad_of, directives_told, Reasons, key_told, said_told, bad_told, differences_of, kept_of, is_success, noted_of, count_told, noted_told}
-use Rattle.pb_turns.specs.Story.{states_in, untouched, AllAnswerAgain, Stops, Changes, Happened, AllBegan, AllBeganFor, AllBeganOnAny, CameAfter, HadDiffered, LacksNoNumber, NamesUnit, NumbersGiven, StartedOnAny, HasNoRecord, KeepsNoneOfBad, KeepsNoneInFlight, HasGiven, Story, StoryEnds, OnlyOf, NotesStarted}
+use Rattle.pb_turns.specs.Story.{states_in, untouched, AllAnswerAgain, Stops, Changes, Happened, AllBegan, AllBeganFor, AllBeganOnAny, CameAfter, HadDiffered, LacksNoNumber, NamesUnit, NumbersGiven, Spends, StartedOnAny, HasNoRecord, KeepsNoneOfBad, KeepsNoneInFlight, HasGiven, Story, StoryEnds, OnlyOf, NotesStarted}
 use Rattle.pb_turns.specs.Summing.{summary_by, keys_at, differences_at}
 use Rattle.pb_turns.specs.declared.crew.Aloft.{Aloft}
 use Rattle.pb_turns.specs.declared.crew.UnitCrew.{UnitCrew}
@@ -50,7 +50,7 @@ use Rattle.pb_turns.proofs.Changing.{changes_first}
 use Rattle.pb_turns.proofs.Counting.{appends_none, stops_refused}
 use Rattle.pb_turns.proofs.Differing.{began_from_nothing, started_from_nothing}
 use Rattle.pb_turns.proofs.States.{due_all}
-use Rattle.pb_turns.proofs.Staying.{no_start, or_before}
+use Rattle.pb_turns.proofs.Staying.{none_began, or_before}
 use Rattle.pb_turns.proofs.Unbegun.{none_noted}
 use Rattle.pb_turns.proofs.Unkept.{none_bad, none_in_flight}
 use Rattle.pb_turns.proofs.Telling.{AllTold, Ended, all_good_at, due_told, first_told, ended_of, success_of}
@@ -105,7 +105,7 @@ story_first tells child c at still aloft started holds = record {
     most = omega arith;
   };
   numbers = refl;
-  taken = λ t f r s reading keeps. refl;
+  taken = λ t read reading. refl;
   changes = λ t. changes_first c.project at.world c.aloft.items at.counts.starts.flying aloft;
   happened = λ t f r s reading keeps. record {
     keeps = keeps;
@@ -152,8 +152,7 @@ module _ (b : Basis) (done : List (Option (List Directive))) (aloft : List Aloft
     first_lines = λ n. first_told b.project es n 0 b.project.plan.planned (outcomes_in b) done (states_in b.project es) all_told;
   }
 
-  module _ (finished : is_finished (states_in b.project es) ≡ true) (long : length (states_in b.project es) ≡ length b.project.plan.planned) (reasons : Reasons) (first : World) (began : AllBeganFor b es reasons first w) (at_first : Option ℕ)
-      (numbers : (after : Option ℕ) × NumbersGiven (LacksNoNumber b.project b.read first) es at_first after) where
+  module _ (finished : is_finished (states_in b.project es) ≡ true) (long : length (states_in b.project es) ≡ length b.project.plan.planned) (reasons : Reasons) (first : World) (began : AllBeganFor b es reasons first w) where
     ended : Ended b.project es b.project.plan.planned (outcomes_in b) done (states_in b.project es)
     ended = ended_of b.project es 0 b.project.plan.planned (outcomes_in b) done (states_in b.project es) long finished all_told
 
@@ -183,13 +182,12 @@ module _ (b : Basis) (done : List (Option (List Directive))) (aloft : List Aloft
         with_bad : Option (List ℕ × BadUnit) → List (List ℕ × List Directive) → Summary
         with_bad bad told = summary_with (is_none bad) bad told
 
-    pub stands_whole : (started : List ℕ) → started ≡ started_by es → (summary : Summary) → summary ≡ summary_by b.project.plan.planned (states_in b.project es) done started reasons (first_bad (states_in b.project es)) → StandsWhole b at_first es reasons summary first w
+    pub stands_whole : (started : List ℕ) → started ≡ started_by es → (summary : Summary) → summary ≡ summary_by b.project.plan.planned (states_in b.project es) done started reasons (first_bad (states_in b.project es)) → StandsWhole b es reasons summary first w
     stands_whole started same summary is = record {
       stands = stands;
       all = ended.all;
       answer = is ∙ ap (λ places. summary_by b.project.plan.planned (states_in b.project es) done places reasons (first_bad (states_in b.project es))) same ∙ summary_so;
       began = began;
-      numbers = numbers;
     }
 
 length_states : (needs : List (List ℕ)) (es : List (Event BadUnit)) → length (states_after needs es) ≡ length needs
@@ -261,6 +259,7 @@ module _ {S : Type 0} (tells : Bool) (child : Answers) (Turns : S → List ℕ �
     heard = heard;
     stops = subst (λ (p : Project). Stops tells fault p at mid es) ends.project ends.stops;
     spent = ends.spent;
+    caused = λ t read reading. subst (λ (p : Project). Spends (LacksNoNumber p read at.world) fault first.store.next es) ends.project (ends.caused t read reading);
     drained = drained;
     landed = landed;
     before = ends.before;
@@ -275,7 +274,7 @@ module _ {S : Type 0} (tells : Bool) (child : Answers) (Turns : S → List ℕ �
     began = λ t. on_first (λ s p. AllBeganOnAny s p c.done.items ends.before c.reasons.items at.world new.world) ends.setup ends.project (began_new fault ends.before c.reasons.items refl (lawful ends.project flies) ends.came ends.changes ends.began t);
     started = λ t. on_first (λ s p. StartedOnAny s p c.done.items fault ends.before es at.world new.world) ends.setup ends.project (started_new fault ends.before ends.changes ends.started t);
     again = λ t. on_first (λ s p. AllAnswerAgain s p es c.done.items at.world) ends.setup ends.project (ends.again t);
-    told = since_first (λ b. StandsCut b fault first.store.next es ends.before at.world new.world) ends.setup ends.project (λ t f r sources reading keeps.
+    told = since_first (λ b. StandsCut b fault es ends.before at.world new.world) ends.setup ends.project (λ t f r sources reading keeps.
         let h = ends.happened t f r sources reading keeps in
         record {
           stands = stands (basis f r child c.setup c.project sources) d.done.items d.aloft.items d.store.next es new.world new.counts.starts.flying still' (happened (basis f r child c.setup c.project sources) es t refl h);
@@ -283,7 +282,6 @@ module _ {S : Type 0} (tells : Bool) (child : Answers) (Turns : S → List ℕ �
           began = began_from_nothing (basis f r child c.setup c.project sources) (ordered ends.project) es c.done.items c.store.next mid.world h.keeps at.world keeps.sources_stay ends.before c.reasons.items new.world (lawful ends.project flies) (or_before c.project fault ends.before es ends.came)
               (began_new fault ends.before c.reasons.items refl (lawful ends.project flies) ends.came ends.changes ends.began t r reading);
           started = started_from_nothing (basis f r child c.setup c.project sources) (ordered ends.project) es c.done.items c.store.next mid.world h.keeps at.world keeps.sources_stay fault ends.before new.world (started_new fault ends.before ends.changes ends.started t r reading);
-          spent = ends.caused t f r sources reading keeps;
         });
     calls = since_first (λ b. CallsCut b fault asked es ends.before at.world at.counts mid.counts) ends.setup ends.project ends.calls;
   }
@@ -303,9 +301,9 @@ module _ {S : Type 0} (tells : Bool) (child : Answers) (Turns : S → List ℕ �
     unrecorded = s.unrecorded;
     again = λ t. (s.again t).gave;
     began = s.began;
-    started = λ t read reading. no_start c.project read _ _ OutOfMemory es es at.world mid.world refl;
+    started = λ t read reading. none_began c.project read _ _ OutOfMemory es at.world mid.world;
     happened = s.happened;
-    caused = λ t f r sources reading keeps. tt;
+    caused = λ t read reading. tt;
     calls = λ t f r sources reading keeps. (mid.world, mid.counts, s.calls t f r sources reading keeps, inl refl);
   }
 
@@ -371,15 +369,16 @@ module _ {S : Type 0} (tells : Bool) (child : Answers) (Turns : S → List ℕ �
       most = most ∙ story.goes.most;
       only = λ t. subst (λ (p : Project). OnlyOf p es at.world new.world) story.project (changes at.world es t (story.changes t)).only;
       numbers = (c.store.next, story.numbers);
+      taken = λ t read reading. subst (λ (p : Project). NumbersGiven (LacksNoNumber p read at.world) es first.store.next c.store.next) story.project (story.taken t read reading);
       unkept = λ t. subst (λ (p : Project). KeepsNoneOfBad p es new.world) story.project (changes at.world es t (story.changes t)).unkept;
       dropped = λ t. subst (λ (p : Project). KeepsNoneInFlight p es None new.world) story.project (λ place u there state apart started. unrecorded at.world es place u t (story.changes t) there (story.unrecorded t place u there state apart started));
       began = λ t. on_first (λ s p. AllBeganOnAny s p c.done.items es d.reasons.items at.world new.world) story.setup story.project (began_whole t);
       again = λ t. on_first (λ s p. AllAnswerAgain s p es c.done.items at.world) story.setup story.project (story.again t).gave;
-      told = since_first (λ b. StandsWhole b first.store.next es d.reasons.items summary at.world new.world) story.setup story.project (λ t f r sources reading keeps.
+      told = since_first (λ b. StandsWhole b es d.reasons.items summary at.world new.world) story.setup story.project (λ t f r sources reading keeps.
           let h = story.happened t f r sources reading keeps in
           stands_whole (basis f r child c.setup c.project sources) d.done.items d.aloft.items d.store.next es new.world new.counts.starts.flying still' (happened (basis f r child c.setup c.project sources) es t refl h)
           (ap is_finished (sym states_are) ∙ finished) (length_states (needs_of c.project) es ∙ length-map c.project.plan.planned (λ (u : Planned). u.needs)) d.reasons.items at.world
-          (began_from_nothing (basis f r child c.setup c.project sources) (ordered story.project) es c.done.items c.store.next mid.world h.keeps at.world keeps.sources_stay es d.reasons.items new.world (lawful story.project flown.flies) (inl refl) (began_whole t r reading)) first.store.next (c.store.next, story.taken t f r sources reading keeps) d.started.items started_is summary now_is);
+          (began_from_nothing (basis f r child c.setup c.project sources) (ordered story.project) es c.done.items c.store.next mid.world h.keeps at.world keeps.sources_stay es d.reasons.items new.world (lawful story.project flown.flies) (inl refl) (began_whole t r reading)) d.started.items started_is summary now_is);
       calls = since_first (λ b. (w : World) × CallsOver b es at.world at.counts w mid.counts) story.setup story.project (λ t f r sources reading keeps. (mid.world, story.calls t f r sources reading keeps));
     }
 
@@ -396,6 +395,7 @@ ends_before tells child Turns setup project next from at none = record {
   heard = refl;
   stops = record { by = ((0, appends_none at.heard.taken), refl); cause = refl; starts = refl; settings = refl };
   spent = tt;
+  caused = λ t read reading. tt;
   drained = subst (λ fs. Dropped (map ticket_of_child fs) at.counts at.counts) (sym none) refl;
   landed = none;
   before = [];
@@ -408,7 +408,7 @@ ends_before tells child Turns setup project next from at none = record {
   reasons = [];
   done = [];
   began = λ t read reading place has. absurd (none_begun project place has);
-  started = λ t read reading. no_start project read _ _ OutOfMemory [] [] at.world at.world refl;
+  started = λ t read reading. none_began project read _ _ OutOfMemory [] at.world at.world;
   again = λ t. (replays_first setup project [] [] at.world refl).gave;
   told = λ t f r sources reading keeps. record {
     stands = stands (basis f r child setup project sources) (nothing_said project) [] next [] at.world [] (λ n. Unit {0}) record {
@@ -418,8 +418,7 @@ ends_before tells child Turns setup project next from at none = record {
     };
     reasons = [];
     began = λ place has. absurd (none_begun project place has);
-    started = no_start project r _ _ OutOfMemory [] [] at.world at.world refl;
-    spent = tt;
+    started = none_began project r _ _ OutOfMemory [] at.world at.world;
   };
   calls = λ t f r sources reading keeps. (at.world, at.counts, (refl, refl), inl refl);
 }

@@ -9,6 +9,7 @@ pub mod Answered
 pub mod Unkept
 pub mod Changing
 pub mod Again
+pub mod Waiting
 pub mod Differing
 pub mod Alone
 pub mod Counting

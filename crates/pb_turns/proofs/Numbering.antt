@@ -1,5 +1,5 @@
 -- Run numbers, along a story.
-use Rattle.std.proofs.Common.{◌≡◌, ◌≢◌, ◌∙◌, ◌++◌, ◌⊎◌, ◌==◌, inl, inr, not, IsTrue, Bool, true, false, List, [], ◌∷◌, ℕ, zero, suc, Option, Some, None, IsSome, Contains, if◌then◌else◌, is_some, refl, sym, ap, subst, slice_get, slice_set, eq-eqb, eqb-true}
+use Rattle.std.proofs.Common.{◌≡◌, ◌≢◌, ◌∙◌, ◌++◌, ◌⊎◌, ◌==◌, inl, inr, IsTrue, Bool, true, false, List, [], ◌∷◌, ℕ, zero, suc, Option, Some, None, IsSome, Contains, if◌then◌else◌, is_some, refl, sym, ap, subst, slice_get, slice_set, eq-eqb, eqb-true}
 use Rattle.std.proofs.lemmas.Bool.{cases_eq, ne_eqb, false≢true}
 use Rattle.std.specs.List.{AllByRecursion}
 use Rattle.std.specs.Prelude.{MatchOption}
@@ -7,7 +7,6 @@ use Rattle.pb_answer.specs.declared.bad_unit.BadUnit.{BadUnit}
 use Rattle.pb_answer.specs.declared.fault.BuildFault.{BuildFault}
 use Rattle.pb_answer.specs.declared.fault.BuildFault.TheVariants.{Plan, Toolchain, Child, Device, Sink, OutOfMemory}
 use Rattle.pb_answer.specs.declared.fault.DeviceFault.TheVariants.{Place, NumbersSpent}
-use Rattle.pb_command.specs.Command.{command_of}
 use Rattle.pb_flight.specs.declared.flight.Answer.{Answer}
 use Rattle.pb_flight.proofs.Lists.{injective, clash, contains_head, contains_tail, contains_cases, contains_none, at_contains, get_set_same, get_set_other}
 use Rattle.pb_flight.specs.declared.flight.State.TheVariants.{Begun, Answered}
@@ -15,25 +14,22 @@ use Rattle.pb_flight.specs.Events as lawful
 use Rattle.pb_flight.specs.Events.{Event, Began, Gave, IsLawful, launched_after, states_after, without}
 use Rattle.pb_flight.specs.Table.{if_so}
 use Rattle.pb_place.specs.Counts.{Starts}
-use Rattle.pb_place.specs.World.{World, Answers, from_nothing}
-use Rattle.pb_place.specs.declared.child_in_flight.ChildInFlight.{ChildInFlight}
-use Rattle.pb_place.specs.declared.command.Command.{Command}
-use Rattle.pb_record.specs.declared.record.Record.{Record}
+use Rattle.pb_place.specs.World.{Answers}
+use Rattle.pb_project.specs.Targets.{unit_at}
+use Rattle.pb_record.specs.Parts.{IsReading}
 use Rattle.pb_run.specs.Causes.{MayAnswerUnit}
-use Rattle.pb_run.specs.Halves.{Basis, basis, WaitsBy, awaits_number, child_in, child_of, records_in, view_in}
-use Rattle.pb_run.specs.declared.begun.Awaited.{Awaited}
-use Rattle.pb_run.specs.declared.begun.Awaited.TheVariants as awaited
+use Rattle.pb_run.specs.Halves.{awaits_number, child_of}
 use Rattle.pb_run.specs.declared.begun.Launched.{Launched}
 use Rattle.pb_soundness.specs.Numbers.{after}
-use Rattle.pb_store.specs.Migrating.{TakesNumber, lacks_number}
-use Rattle.pb_store.specs.Replaying.{IsReplayed}
-use Rattle.pb_store.specs.declared.replaying.Replayed.{Replayed}
+use Rattle.pb_soundness.specs.Records.{Reading}
+use Rattle.pb_store.specs.Migrating.{TakesNumber}
 use Rattle.pb_turns.proofs.Lists.{all_get, differs, get_map}
-use Rattle.pb_turns.proofs.Staying.{numbered_now}
+use Rattle.pb_turns.proofs.Waiting.{carries_number}
+use Rattle.pb_turns.specs.Again.{FliesAgain}
 use Rattle.pb_turns.specs.Crew.{AreApart, launched_of, place_of_unit, places_of}
 use Rattle.pb_turns.specs.Moments.{Moment}
 use Rattle.pb_turns.specs.Rows.{is_started}
-use Rattle.pb_turns.specs.Story.{FliesSo, FromFirst, LacksNoNumber, NumbersGiven, Spends, Story}
+use Rattle.pb_turns.specs.Story.{LacksNoNumber, NumbersGiven, Spends, Story}
 use Rattle.pb_turns.specs.declared.crew.Aloft.{Aloft}
 use Rattle.pb_turns.specs.declared.crew.UnitCrew.{UnitCrew}
 use Rattle.pb_unit.specs.declared.plan.Planned.{Planned}
@@ -138,35 +134,20 @@ spends_answered IsNumbered es first now key launched (Device unit NumbersSpent) 
 spends_answered IsNumbered es first now key launched Sink old new may numbers = tt
 spends_answered IsNumbered es first now key launched OutOfMemory old new may numbers = tt
 
--- What it awaits, where its record has a number.
-
-replayed_numbered : (found : Option Record) (again : Replayed) → IsReplayed found again → lacks_number found ≡ false → not again.numbered ≡ false
-replayed_numbered None again is numbered = cc
-replayed_numbered (Some r) again is numbered = ap (λ (x : Replayed). not x.numbered) (sym (injective is)) ∙ numbered
-
-awaits_none : (b : Basis) (u : Planned) (c : Command) (view : World) (by : Awaited) (next : Option ℕ) (w : World) (flying : List ChildInFlight) (still : ℕ → Type 0) → WaitsBy b u c view by next w flying still
-    → (child_in by ≡ None → lacks_number (records_in b w u.key) ≡ false) → awaits_number by ≡ false
-awaits_none b u c view (awaited.Child launched) next w flying still waits numbered = refl
-awaits_none b u c view (awaited.Record again) next w flying still waits numbered = replayed_numbered (records_in b w u.key) again waits.1 (numbered refl)
-
 -- The numbers along a story, over a place that tells its maps.
 
 pub begun_taken : (tells : Bool) (child : Answers) (first old : UnitCrew) (at now : Moment) (still : ℕ → Type 0) (es : List (Event BadUnit)) (given unit : ℕ) → Story tells child first at old now still es given
     → (next : Option ℕ) (o : Option Launched) → MatchOption o (next ≡ old.store.next) (λ launched. (old.store.next ≡ Some launched.number) × (next ≡ after launched.number))
-    → IsTrue tells → FromFirst child first at old (λ b. NumbersGiven (LacksNoNumber b.project b.read at.world) (Began unit (is_some o) ∷ es) first.store.next next)
-begun_taken tells child first old at now still es given unit story next o number t = λ f r s reading k.
-    numbers_begun (LacksNoNumber old.project r at.world) es first.store.next old.store.next next unit o number (story.taken t f r s reading k)
+    → IsTrue tells → (read : Reading) → IsReading read → NumbersGiven (LacksNoNumber old.project read at.world) (Began unit (is_some o) ∷ es) first.store.next next
+begun_taken tells child first old at now still es given unit story next o number t read reading =
+    numbers_begun (LacksNoNumber old.project read at.world) es first.store.next old.store.next next unit o number (story.taken t read reading)
 
 pub answered_taken : (tells : Bool) (child : Answers) (first old : UnitCrew) (at now : Moment) (still : ℕ → Type 0) (es : List (Event BadUnit)) (given : ℕ) → Story tells child first at old now still es given
-    → (index : ℕ) (a : Aloft) → slice_get old.aloft.items index ≡ Some a → (answer : Answer BadUnit) (next : Option ℕ) → TakesNumber old.store.next next → (is_started es a.unit ≡ true → next ≡ old.store.next)
-    → (awaits_number a.begun.awaited ≡ false → next ≡ old.store.next)
-    → IsTrue tells → FromFirst child first at old (λ b. NumbersGiven (LacksNoNumber b.project b.read at.world) (Gave a.unit answer ∷ es) first.store.next next)
-answered_taken tells child first old at now still es given story index a at_index answer next takes none untaken t = λ f r s reading k.
-    let b : Basis = basis f r child old.setup old.project s in
-    let h = story.happened t f r s reading k in
-    let so = all_get (FliesSo b es old.store.next now.world now.counts.starts.flying still) old.aloft.items index a h.begun at_index in
-    let is = so.begun_so in
-    numbers_answered (LacksNoNumber old.project r at.world) es first.store.next old.store.next next a.unit answer takes none
-    (λ numbered. untaken (awaits_none b is.unit a.begun.command (view_in b a.unit is.unit) a.begun.awaited old.store.next now.world now.counts.starts.flying still is.waits
-    (λ childless. numbered_now old.project r (from_nothing old.project.workspace.target at.world) (λ place v. command_of old.setup old.project v old.done.items) es old.reasons.items at.world now.world a.unit is.unit is.there (story.began t r reading a.unit (Begun, so.state, refl)) (so.started ∙ ap (λ (o : Option Launched). is_some o) childless) (numbered is.unit is.there))))
-    (story.taken t f r s reading k)
+    → (index : ℕ) (a : Aloft) (u : Planned) → slice_get old.aloft.items index ≡ Some a → unit_at old.project a.unit ≡ Some u → (answer : Answer BadUnit) (next : Option ℕ) → TakesNumber old.store.next next
+    → (is_started es a.unit ≡ true → next ≡ old.store.next) → (awaits_number a.begun.awaited ≡ false → next ≡ old.store.next)
+    → IsTrue tells → (read : Reading) → IsReading read → NumbersGiven (LacksNoNumber old.project read at.world) (Gave a.unit answer ∷ es) first.store.next next
+answered_taken tells child first old at now still es given story index a u at_index there answer next takes none untaken t read reading =
+    numbers_answered (LacksNoNumber old.project read at.world) es first.store.next old.store.next next a.unit answer takes none
+    (λ numbered. untaken (carries_number read old.setup old.project old.done.items at.world now.world u a.begun.command a.begun.awaited
+    (all_get (λ (x : Aloft). FliesAgain read old.setup old.project old.done.items at.world now.world x) old.aloft.items index a ((story.again t).waits read reading) at_index u there) (numbered u there)))
+    (story.taken t read reading)

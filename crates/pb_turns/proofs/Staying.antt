@@ -144,6 +144,11 @@ unit_of [] = 0
 unit_of (Began unit spawned ∷ es) = unit
 unit_of (Gave unit answer ∷ es) = unit
 
+abbrev spawned_of : List (Event BadUnit) → Bool
+spawned_of [] = false
+spawned_of (Began unit spawned ∷ es) = spawned
+spawned_of (Gave unit answer ∷ es) = false
+
 module _ (project : Project) (read : Reading) (sources : World) (command : ℕ → Planned → Command) where
   -- a unit that has begun without a child, and whose record had a number at first, has that record now
   pub numbered_now : (es : List (Event BadUnit)) (reasons : Reasons) (first w : World) (i : ℕ) (u : Planned) → unit_at project i ≡ Some u → BeganFor project read sources command es reasons first w i → is_started es i ≡ false
@@ -156,25 +161,41 @@ module _ (project : Project) (read : Reading) (sources : World) (command : ℕ �
 
   -- A unit could not begin, though something had differed of it.
 
-  -- where the fault is none of a start, nothing is said
-  pub no_start : (fault : BuildFault) (before es : List (Event BadUnit)) (first now : World) → is_of_start fault ≡ false → HadDiffered project read sources command fault before es first now
-  no_start fault before es first now other place spawned is so = absurd (false≢true (sym other ∙ so))
+  -- where the fault is none of a start, and no child was tried, nothing is said
+  pub none_tried : (fault : BuildFault) (es : List (Event BadUnit)) (first now : World) (unit : ℕ) → is_of_start fault ≡ false → HadDiffered project read sources command fault es (Began unit false ∷ es) first now
+  none_tried fault es first now unit other place spawned is (inl so) = absurd (false≢true (sym other ∙ so))
+  none_tried fault es first now unit other place spawned is (inr so) = absurd (false≢true (ap spawned_of is ∙ so))
 
   -- nor where no unit began last
   pub none_began : (fault : BuildFault) (es : List (Event BadUnit)) (first now : World) → HadDiffered project read sources command fault es es first now
   none_began fault es first now place spawned is so = absurd (longer (Began place spawned) es is)
 
   -- it is said of the one that began last
-  pub start_told : (fault : BuildFault) (es : List (Event BadUnit)) (first now : World) (unit : ℕ) (spawned : Bool) → (is_of_start fault ≡ true → (reasons : Reasons) × BeganFor project read sources command (Began unit true ∷ es) reasons first now unit)
+  pub start_told : (fault : BuildFault) (es : List (Event BadUnit)) (first now : World) (unit : ℕ) (spawned : Bool) → ((is_of_start fault ≡ true) ⊎ (spawned ≡ true) → (reasons : Reasons) × BeganFor project read sources command (Began unit true ∷ es) reasons first now unit)
       → HadDiffered project read sources command fault es (Began unit spawned ∷ es) first now
-  start_told fault es first now unit spawned told place other is so = subst (λ n. (reasons : Reasons) × BeganFor project read sources command (Began n true ∷ es) reasons first now n) (ap unit_of is) (told so)
+  start_told fault es first now unit spawned told place other is so =
+      subst (λ n. (reasons : Reasons) × BeganFor project read sources command (Began n true ∷ es) reasons first now n) (ap unit_of is) (told (subst (λ b. (is_of_start fault ≡ true) ⊎ (b ≡ true)) (sym (ap spawned_of is)) so))
 
   module _ (order : IsInOrder project) where
-    -- A unit has done something: it is none that has answered and is good, and where it has begun without a child and its record had a number at first, each file stays.
+    -- a path in a unit's folder is one of the unit
+    pub inside_folder : (place : ℕ) (u : Planned) → unit_at project place ≡ Some u → (q : List ℕ) → is_at_or_below u.out q ≡ true → is_of (records_folder project) u.key q ≡ true
+    inside_folder place u there q inside = ap (λ b. b || is_at_or_below (place_of (records_folder project) u.key) q) (subst (λ (out : List ℕ). is_at_or_below out q ≡ true) (order.folders place u there) inside)
+
+    -- A unit has done something: it is none that has answered and is good, and where it has begun without a child each file of its folder stays, and where its record had a number at first too, each file.
     module _ (es : List (Event BadUnit)) (reasons : Reasons) (first w w' : World) (i : ℕ) (u : Planned) (there : unit_at project i ≡ Some u)
         (only : ChangesOnly (is_of (records_folder project) u.key) w w') (not_good : is_good_at (slice_get (states_in project es) i) ≡ false) (not_answered : (a : Answer BadUnit) → slice_get (states_in project es) i ≡ Some (Answered a) → ⊥)
         (own : HasBegun (states_in project es) i → BeganFor project read sources command es reasons first w i → is_started es i ≡ false → lacks_number (record_at read (records_folder project) first.files u.key) ≡ false
-        → (q : List ℕ) → finite.get w'.files q ≡ finite.get w.files q) where
+        → (q : List ℕ) → finite.get w'.files q ≡ finite.get w.files q)
+        (own_folder : HasBegun (states_in project es) i → is_started es i ≡ false → (q : List ℕ) → is_at_or_below u.out q ≡ true → finite.get w'.files q ≡ finite.get w.files q) where
+      folder_now : (place : ℕ) → HasBegun (states_in project es) place → (f : BeganFor project read sources command es reasons first w place) → f.difference ≡ None → (q : List ℕ) → is_at_or_below f.unit.out q ≡ true → finite.get w'.files q ≡ finite.get w.files q
+      folder_now place has f none q inside = elim (cases_eq place i) [
+        | inl same ↦
+            let is : f.unit ≡ u = injective (sym f.there ∙ ap (unit_at project) same ∙ there) in
+            own_folder (subst (HasBegun (states_in project es)) same has) (ap (is_started es) (sym same) ∙ f.started ∙ ap (λ (o : Option Difference). is_some o) none) q
+            (subst (λ (x : Planned). is_at_or_below x.out q ≡ true) is inside)
+        | inr ne ↦ only.files q (not_of_two project order place i f.unit u f.there there ne q (inside_folder place f.unit f.there q inside))
+      ]
+
       kept_now : (place : ℕ) → HasBegun (states_in project es) place → (f : BeganFor project read sources command es reasons first w place) → f.difference ≡ None → lacks_number (record_at read (records_folder project) first.files f.unit.key) ≡ false
           → (q : List ℕ) → is_of (records_folder project) f.unit.key q ≡ true → finite.get w'.files q ≡ finite.get w.files q
       kept_now place has f none numbered q inside = elim (cases_eq place i) [
@@ -208,6 +229,7 @@ module _ (project : Project) (read : Reading) (sources : World) (command : ℕ �
         named = f.named;
         started = f.started;
         noted = f.noted;
+        folder_stays = λ none q inside. folder_now place has f none q inside ∙ f.folder_stays none q inside;
         kept_stays = λ none numbered q inside. kept_now place has f none numbered q inside ∙ f.kept_stays none numbered q inside;
         unstarted = f.unstarted;
       }
@@ -216,15 +238,16 @@ module _ (project : Project) (read : Reading) (sources : World) (command : ℕ �
     pub began_beside : (es : List (Event BadUnit)) (reasons : Reasons) (first w w' : World) (i : ℕ) (u : Planned) → unit_at project i ≡ Some u → slice_get (states_in project es) i ≡ Some Untouched → ChangesOnly (is_of (records_folder project) u.key) w w'
         → AllBegan project read sources command es reasons first w → AllBegan project read sources command es reasons first w'
     began_beside es reasons first w w' i u there untouched only =
-        began_on es reasons first w w' i u there only (ap is_good_at untouched) (λ a at. untouched_apart a (sym untouched ∙ at)) (λ has f. absurd (another (states_in project es) i i untouched has refl))
+        began_on es reasons first w w' i u there only (ap is_good_at untouched) (λ a at. untouched_apart a (sym untouched ∙ at)) (λ has f. absurd (another (states_in project es) i i untouched has refl)) (λ has. absurd (another (states_in project es) i i untouched has refl))
 
     -- an answer, or a fault in its place
     pub answered_beside : (es : List (Event BadUnit)) (reasons : Reasons) (first w w' : World) (i : ℕ) (u : Planned) → unit_at project i ≡ Some u → slice_get (states_in project es) i ≡ Some Begun → (o : Option Launched) → is_started es i ≡ is_some o
-        → ChangesOnly (is_of (records_folder project) u.key) w w' → (o ≡ None → lacks_number (record_at read (records_folder project) w.files u.key) ≡ false → w' ≡ w)
+        → ChangesOnly (is_of (records_folder project) u.key) w w' → (o ≡ None → lacks_number (record_at read (records_folder project) w.files u.key) ≡ false → w' ≡ w) → (o ≡ None → (q : List ℕ) → is_at_or_below u.out q ≡ true → finite.get w'.files q ≡ finite.get w.files q)
         → AllBegan project read sources command es reasons first w → AllBegan project read sources command es reasons first w'
-    answered_beside es reasons first w w' i u there state o started only same =
+    answered_beside es reasons first w w' i u there state o started only same folder =
         began_on es reasons first w w' i u there only (ap is_good_at state) (λ a at. begun_apart a (sym state ∙ at)) (λ has f unstarted numbered q.
         ap (λ (v : World). finite.get v.files q) (same (none_of o (sym started ∙ unstarted)) (numbered_now es reasons first w i u there f unstarted numbered)))
+        (λ has unstarted. folder (none_of o (sym started ∙ unstarted)))
 
     -- a child dropped
     pub dropped_beside : (fault : BuildFault) (before es : List (Event BadUnit)) (reasons : Reasons) (first w w' : World) (i : ℕ) (u : Planned) → unit_at project i ≡ Some u → IsLawful (needs_of project) es → CameAfter project fault before es
@@ -233,6 +256,7 @@ module _ (project : Project) (read : Reading) (sources : World) (command : ℕ �
     dropped_beside fault before es reasons first w w' i u there lawful came state o started only same =
         let flew = flew_before project before es i (is_some o) lawful (or_before project fault before es came) state started in
         began_on before reasons first w w' i u there only flew.not_good flew.not_answered (λ has f unstarted numbered. same (none_of o (sym (flew.started has) ∙ unstarted)))
+        (λ has unstarted q inside. same (none_of o (sym (flew.started has) ∙ unstarted)) q)
 
     -- and so of one that could not begin
     pub start_beside : (fault : BuildFault) (before es : List (Event BadUnit)) (first w w' : World) (i : ℕ) (u : Planned) → unit_at project i ≡ Some u → slice_get (states_in project es) i ≡ Some Begun → ChangesOnly (is_of (records_folder project) u.key) w w'
@@ -262,6 +286,7 @@ module _ (project : Project) (read : Reading) (sources : World) (command : ℕ �
             named = f.named;
             started = f.started;
             noted = f.noted;
+            folder_stays = λ none q inside. absurd (false≢true (sym (f.started ∙ ap (λ (o : Option Difference). is_some o) none) ∙ started_now before place true));
             kept_stays = λ none numbered q inside. absurd (false≢true (sym (f.started ∙ ap (λ (o : Option Difference). is_some o) none) ∙ started_now before place true));
             unstarted = f.unstarted;
           },

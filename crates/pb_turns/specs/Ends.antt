@@ -60,23 +60,21 @@ pub record Stands (b : Basis) (es : List (Event BadUnit)) (new : World) : Type 0
   pub lines : due (states_in b.project es) ≡ said_from b.project es 0 (take (count_due (states_in b.project es)) (rows_in b))
   pub first_lines : (n : ℕ) → due_first n (states_in b.project es) ≡ said_from b.project es 0 (take n (take (count_due (states_in b.project es)) (rows_in b)))
 
--- all units have answered, or all up to and with the first bad one: the summary is that of the rows, all of which are told, each unit that began did so for what differed of it, and so many run numbers were given from the next one at first
-pub record StandsWhole (b : Basis) (next : Option ℕ) (es : List (Event BadUnit)) (reasons : Reasons) (summary : Summary) (old new : World) : Type 0 where
+-- all units have answered, or all up to and with the first bad one: the summary is that of the rows, all of which are told, and each unit that began did so for what differed of it
+pub record StandsWhole (b : Basis) (es : List (Event BadUnit)) (reasons : Reasons) (summary : Summary) (old new : World) : Type 0 where
   pub stands : Stands b es new
   pub all : count_due (states_in b.project es) ≡ length (rows_in b)
   pub answer : summary ≡ summary_of b.project es reasons (rows_in b)
   pub began : AllBeganFor b es reasons old new
-  pub numbers : (after : Option ℕ) × NumbersGiven (LacksNoNumber b.project b.read old) es next after
 
--- a fault ended it, before which these had happened: of the unit that could not begin too, by a fault of its start, something had differed; and where no run number was left, all were given
-pub record StandsCut (b : Basis) (fault : BuildFault) (next : Option ℕ) (es before : List (Event BadUnit)) (old new : World) : Type 0 where
+-- a fault ended it, before which these had happened: of the unit that could not begin too, by a fault of its start or for want of memory as its child was tried, something had differed
+pub record StandsCut (b : Basis) (fault : BuildFault) (es before : List (Event BadUnit)) (old new : World) : Type 0 where
   pub stands : Stands b es new
   pub reasons : Reasons
   pub began : AllBeganFor b before reasons old new
   pub started : StartedFor b fault before es old new
-  pub spent : Spends (LacksNoNumber b.project b.read old) fault next es
 
--- the units came to their end, and nothing was set to fail; it is a success exactly where no bad unit is told, and then each of them has answered and is good; the bad unit that is told is the first by the answers; nothing is noted of a unit that has not begun, and of each that has what differed first, which is something exactly where a child was started for it; whether the records are true or not, each unit that has begun did so for what differed first of it from the record that counted in its place at first, and where nothing did the units which it reaches were, where the record names them, as it names them (what a child in flight has written so far is left open, and a unit in flight without one whose record had no number at first); no record is kept of a unit whose answer was dropped; and a unit for which no child was started answered by the record that counted in its place at first, and by the files of its folder as they stood at first, whether the records are true or not
+-- the units came to their end, and nothing was set to fail; it is a success exactly where no bad unit is told, and then each of them has answered and is good; the bad unit that is told is the first by the answers; nothing is noted of a unit that has not begun, and of each that has what differed first, which is something exactly where a child was started for it; whether the records are true or not, each unit that has begun did so for what differed first of it from the record that counted in its place at first, and where nothing did the units which it reaches were, where the record names them, as it names them (what a child in flight has written so far is left open); no record is kept of a unit whose answer was dropped; a unit for which no child was started answered by the record that counted in its place at first, and by the files of its folder as they stood at first, whether the records are true or not; and so many run numbers were given from the next one at first, none to a unit that answered by a record which had one then, true or not
 pub record EndsWhole {S : Type 0} (tells : Bool) (child : Answers) (Turns : S → List ℕ → List ℕ → Step → S → Type 0) (setup : Setup) (project : Project) (next : Option ℕ) (from last : S) (summary : Summary) (old new : Moment) : Type 0 where
   pub es : List (Event BadUnit)
   pub flies : Flies Turns (needs_of project) Anyhow Anything from es last
@@ -104,14 +102,15 @@ pub record EndsWhole {S : Type 0} (tells : Bool) (child : Answers) (Turns : S �
   pub most : new.most ≡ max old.most (peak es)
   pub only : IsTrue tells → OnlyOf project es old.world new.world
   pub numbers : (after : Option ℕ) × NumbersGiven IsUntold es next after
+  pub taken : IsTrue tells → (read : Reading) → IsReading read → NumbersGiven (LacksNoNumber project read old.world) es next numbers.0
   pub unkept : IsTrue tells → KeepsNoneOfBad project es new.world
   pub dropped : IsTrue tells → KeepsNoneInFlight project es None new.world
   pub began : IsTrue tells → AllBeganOnAny setup project done es reasons old.world new.world
   pub again : IsTrue tells → AllAnswerAgain setup project es done old.world
-  pub told : IsTrue tells → Grounding child setup project next old.world (λ b. StandsWhole b next es reasons summary old.world new.world)
+  pub told : IsTrue tells → Grounding child setup project next old.world (λ b. StandsWhole b es reasons summary old.world new.world)
   pub calls : IsTrue tells → Grounding child setup project next old.world (λ b. (last : World) × CallsOver b es old.world old.counts last mid)
 
--- a fault ended them: its cause, and what the sink had heard, are those of the moment before the children in flight were dropped; no more children flew at one time than by the events before it, and the turn was asked no more; where an answer ended in it, or a unit could not begin, units were missing (`HandsBack`, `Flies`); no record is kept of a unit whose answer was dropped; and of the units that have begun, and of those for which no child was started, the same is said as at a good end; of one that could not begin, by a fault of its start, something had differed too
+-- a fault ended them: its cause, and what the sink had heard, are those of the moment before the children in flight were dropped; no more children flew at one time than by the events before it, and the turn was asked no more; where an answer ended in it, or a unit could not begin, units were missing (`HandsBack`, `Flies`); no record is kept of a unit whose answer was dropped; and of the units that have begun, and of those for which no child was started, the same is said as at a good end; of one that could not begin, by a fault of its start or for want of memory as its child was tried, something had differed too; and where no run number was left, all were given, likewise
 pub record EndsCut {S : Type 0} (tells : Bool) (child : Answers) (Turns : S → List ℕ → List ℕ → Step → S → Type 0) (setup : Setup) (project : Project) (next : Option ℕ) (from back : S) (fault : BuildFault) (old new : Moment) : Type 0 where
   pub es : List (Event BadUnit)
   pub last : S
@@ -122,6 +121,7 @@ pub record EndsCut {S : Type 0} (tells : Bool) (child : Answers) (Turns : S → 
   pub heard : new.heard ≡ mid.heard
   pub stops : Stops tells fault project old mid es
   pub spent : Spends IsUntold fault next es
+  pub caused : IsTrue tells → (read : Reading) → IsReading read → Spends (LacksNoNumber project read old.world) fault next es
   pub drained : Drained mid.counts new.counts
   pub landed : new.counts.starts.flying ≡ []
   pub before : List (Event BadUnit)
@@ -136,7 +136,7 @@ pub record EndsCut {S : Type 0} (tells : Bool) (child : Answers) (Turns : S → 
   pub began : IsTrue tells → AllBeganOnAny setup project done before reasons old.world new.world
   pub started : IsTrue tells → StartedOnAny setup project done fault before es old.world new.world
   pub again : IsTrue tells → AllAnswerAgain setup project es done old.world
-  pub told : IsTrue tells → Grounding child setup project next old.world (λ b. StandsCut b fault next es before old.world new.world)
+  pub told : IsTrue tells → Grounding child setup project next old.world (λ b. StandsCut b fault es before old.world new.world)
   pub calls : IsTrue tells → Grounding child setup project next old.world (λ b. CallsCut b fault asked es before old.world old.counts mid.counts)
 
 -- how they end, by the answer

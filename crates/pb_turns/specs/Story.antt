@@ -16,6 +16,7 @@ use Rattle.pb_flight.specs.Laws.{HasBegun}
 use Rattle.pb_flight.specs.Table.{due_first, due, are_good}
 use Rattle.pb_place.specs.Children.{child_at}
 use Rattle.pb_place.specs.Counts.{up}
+use Rattle.pb_place.specs.Paths.{is_at_or_below}
 use Rattle.pb_place.specs.World.{World, Answers, from_nothing}
 use Rattle.pb_place.specs.declared.child_in_flight.ChildInFlight.{ChildInFlight}
 use Rattle.pb_place.specs.declared.command.Command.{Command}
@@ -155,7 +156,12 @@ HasNoRecord project u w = (read : Reading) → record_at read (records_folder pr
 abbrev pub KeepsNoneInFlight : Project → List (Event BadUnit) → Option ℕ → World → Type 0
 KeepsNoneInFlight project es asked w = (place : ℕ) (u : Planned) → unit_at project place ≡ Some u → slice_get (states_in project es) place ≡ Some Begun → asked ≢ Some place → is_started es place ≡ true → HasNoRecord project u w
 
--- what differed first of the unit at a place when it began, from what its command asks, in a world with these sources in which its record's text was as at first, where only what is of units that had begun before had been changed, and in which the folders and records of the units that it reaches, all of which have answered and are good, and of all that had answered before, stood as they stand now, and of those in flight one with a child had no record, and one without, whose record had a number at first, stood as at first; a child was started for it exactly where something differed, and that is noted. Where nothing differed and its record had a number at first, its own folder and record stand now as at first. That world was the first one, where no child had been started yet and no record lacked a number at first
+-- of a unit in flight for which no child was started the folder and the record stand as at first
+abbrev pub KeepsChildless : Project → List (Event BadUnit) → World → World → Type 0
+KeepsChildless project es first w = (place : ℕ) (u : Planned) (q : List ℕ) → unit_at project place ≡ Some u → slice_get (states_in project es) place ≡ Some Begun → is_started es place ≡ false → is_of (records_folder project) u.key q ≡ true
+    → finite.get w.files q ≡ finite.get first.files q
+
+-- what differed first of the unit at a place when it began, from what its command asks, in a world with these sources in which its record's text was as at first, where only what is of units that had begun before had been changed, and in which the folders and records of the units that it reaches, all of which have answered and are good, and of all that had answered before, stood as they stand now, and of those in flight one with a child had no record, and one without stood as at first; a child was started for it exactly where something differed, and that is noted. Where nothing differed its own folder stands now as at first, and so does its record, where that had a number at first. That world was the first one, where no child had been started yet and no record lacked a number at first
 pub record BeganFor (project : Project) (read : Reading) (sources : World) (command : ℕ → Planned → Command) (es : List (Event BadUnit)) (reasons : Reasons) (first now : World) (place : ℕ) : Type 0 where
   pub unit : Planned
   pub there : unit_at project place ≡ Some unit
@@ -168,12 +174,12 @@ pub record BeganFor (project : Project) (read : Reading) (sources : World) (comm
   pub answered_stay : (p : ℕ) (v : Planned) (a : Answer BadUnit) (q : List ℕ) → slice_get (states_in project (events_before es place)) p ≡ Some (Answered a) → slice_get (states_in project es) p ≡ Some (Answered a) → unit_at project p ≡ Some v
       → is_of (records_folder project) v.key q ≡ true → finite.get world.files q ≡ finite.get now.files q
   pub unrecorded : KeepsNoneInFlight project (events_before es place) None world
-  pub waiting_stay : (p : ℕ) (v : Planned) (q : List ℕ) → slice_get (states_in project (events_before es place)) p ≡ Some Begun → is_started (events_before es place) p ≡ false → unit_at project p ≡ Some v
-      → lacks_number (record_at read (records_folder project) first.files v.key) ≡ false → is_of (records_folder project) v.key q ≡ true → finite.get world.files q ≡ finite.get first.files q
+  pub waiting_stay : KeepsChildless project (events_before es place) first world
   pub difference : Option Difference
   pub named : FirstDifference read (records_folder project) unit.key (command place unit) world difference
   pub started : is_started es place ≡ is_some difference
   pub noted : slice_get reasons place ≡ Some (Some difference)
+  pub folder_stays : difference ≡ None → (q : List ℕ) → is_at_or_below unit.out q ≡ true → finite.get now.files q ≡ finite.get first.files q
   pub kept_stays : difference ≡ None → lacks_number (record_at read (records_folder project) first.files unit.key) ≡ false → (q : List ℕ) → is_of (records_folder project) unit.key q ≡ true → finite.get now.files q ≡ finite.get first.files q
   pub unstarted : started_by (events_before es place) ≡ [] → ((p : ℕ) → LacksNoNumber project read first p) → world ≡ first
 
@@ -181,10 +187,10 @@ pub record BeganFor (project : Project) (read : Reading) (sources : World) (comm
 abbrev pub AllBegan : Project → Reading → World → (ℕ → Planned → Command) → List (Event BadUnit) → Reasons → World → World → Type 0
 AllBegan project read sources command es reasons first now = (place : ℕ) → HasBegun (states_in project es) place → BeganFor project read sources command es reasons first now place
 
--- where a unit could not begin by a fault of its start, something had differed of it, as if its child had been started
+-- where a unit could not begin, by a fault of its start or for want of memory as its child was tried, something had differed of it, as if its child had been started
 abbrev pub HadDiffered : Project → Reading → World → (ℕ → Planned → Command) → BuildFault → List (Event BadUnit) → List (Event BadUnit) → World → World → Type 0
 HadDiffered project read sources command fault before es first now =
-    (place : ℕ) (spawned : Bool) → es ≡ Began place spawned ∷ before → is_of_start fault ≡ true → (reasons : Reasons) × BeganFor project read sources command (Began place true ∷ before) reasons first now place
+    (place : ℕ) (spawned : Bool) → es ≡ Began place spawned ∷ before → (is_of_start fault ≡ true) ⊎ (spawned ≡ true) → (reasons : Reasons) × BeganFor project read sources command (Began place true ∷ before) reasons first now place
 
 -- each unit that has begun did so over any records, true or not, and whatever reads their texts: with the sources of the first world, and by the command that a unit has after what is noted of the runs
 abbrev pub AllBeganOnAny : Setup → Project → List (Option (List Directive)) → List (Event BadUnit) → Reasons → World → World → Type 0
@@ -289,7 +295,7 @@ pub record Story (tells : Bool) (child : Answers) (first : UnitCrew) (at : Momen
   pub quiet : IsTrue tells → (read : Reading) → IsReading read → IsQuiet c.project read es at.world now.world
   pub held : IsTrue tells → (read : Reading) → IsReading read → HoldsNumbers (record_at read (records_folder c.project) now.world.files) c.store.numbers
   pub happened : IsTrue tells → FromFirst child first at c (λ b. Happened b c.done.items c.aloft.items c.store.next es now.world now.counts.starts.flying still)
-  pub taken : IsTrue tells → FromFirst child first at c (λ b. NumbersGiven (LacksNoNumber b.project b.read at.world) es first.store.next c.store.next)
+  pub taken : IsTrue tells → (read : Reading) → IsReading read → NumbersGiven (LacksNoNumber c.project read at.world) es first.store.next c.store.next
   pub calls : IsTrue tells → FromFirst child first at c (λ b. CallsOver b es at.world at.counts now.world now.counts)
   pub unnoted : NotesBegun c.project es first.reasons.items c.reasons.items
   pub noted : NotesStarted c.project es c.reasons.items
@@ -329,5 +335,5 @@ pub record StoryEnds (tells : Bool) (child : Answers) (fault : BuildFault) (aske
   pub began : IsTrue tells → AllBeganOnAny c.setup c.project c.done.items before c.reasons.items at.world now.world
   pub started : IsTrue tells → StartedOnAny c.setup c.project c.done.items fault before es at.world now.world
   pub happened : IsTrue tells → FromFirst child first at c (λ b. Happened b c.done.items c.aloft.items c.store.next es now.world now.counts.starts.flying still)
-  pub caused : IsTrue tells → FromFirst child first at c (λ b. Spends (LacksNoNumber b.project b.read at.world) fault first.store.next es)
+  pub caused : IsTrue tells → (read : Reading) → IsReading read → Spends (LacksNoNumber c.project read at.world) fault first.store.next es
   pub calls : IsTrue tells → FromFirst child first at c (λ b. CallsCut b fault asked es before at.world at.counts now.counts)

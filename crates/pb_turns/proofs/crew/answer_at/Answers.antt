@@ -35,6 +35,7 @@ use Rattle.pb_turns.proofs.Reaching.{there_of}
 use Rattle.pb_turns.proofs.Staying.{none_began}
 use Rattle.pb_turns.proofs.Unbegun.{notes_answered, started_answered}
 use Rattle.pb_turns.proofs.Unkept.{flight_asked, flight_given}
+use Rattle.pb_turns.proofs.Waiting.{folder_answered}
 use Rattle.pb_turns.proofs.crew.answer_at.Goals as goal
 
 pub answer_unit-requires-clause-asks : goal.answer_unit-requires-clause-asks
@@ -129,13 +130,14 @@ returns-in-Err-clause-story g c = λ first at taken faults es given unit s flyin
       unrecorded = λ t. subst (λ n. KeepsNoneInFlight c.args.crew.now.project es (Some n) new.world) (sym its)
           (flight_asked c.args.crew.now.project c.requires.manned.order es now.world new.world c.remove-unit.result.unit c.index-units-unit.result there (only t) (s.unrecorded t));
       again = λ t. (s.again t).gave;
-      began = unanswered_began g.P.Place.tells g.P.Place.child first c.args.crew.now at now new (g.P.Place.still c.args.place.now) es given s c.requires.manned.order lawful c.args.index c.remove-unit.result c.index-units-unit.result there at_index only c.answer_unit.ensures.same;
+      began = unanswered_began g.P.Place.tells g.P.Place.child first c.args.crew.now at now new (g.P.Place.still c.args.place.now) es given s c.requires.manned.order lawful c.args.index c.remove-unit.result c.index-units-unit.result there at_index only c.answer_unit.ensures.same
+          (λ t none. let (left, ended, ends, behind, calls) = c.in-Err.ensures.lands t in folder_answered c.args.crew.now.project c.requires.manned.order c.remove-unit.result.unit c.index-units-unit.result there c.remove-unit.result.begun.awaited none ended _ _ now.world (g.P.Place.world left) new.world now.counts (g.P.Place.counts left) ends behind);
       started = λ t read reading. none_began c.args.crew.now.project read _ _ c.in-Err.fault es at.world new.world;
       happened = failed_happened g.P.Place.tells g.P.Place.child first c.args.crew.now at now new (g.P.Place.still c.args.place.now) (g.P.Place.still c.answer_unit.new.place) es given c.args.index c.remove-unit.result c.index-units-unit.result there s at_index
           c.requires.manned.units_apart c.requires.manned.tickets_apart c.requires.manned.numbers_apart c.answer_unit.new.store.next (λ footing read setup sources states done other its reading t. c.answer_unit.ensures.others footing read setup sources states done other its reading t (s.held t read reading))
           c.remove-unit.new.self.items c.remove-unit.ensures.items (λ footing read setup sources states done reading t. c.in-Err.ensures.keeps footing read setup sources states done reading t (s.held t read reading));
-      caused = λ t f r sources reading k.
-          spends_answered (LacksNoNumber c.args.crew.now.project r at.world) es first.store.next c.args.crew.now.store.next c.index-units-unit.result.key (child_of c.remove-unit.result.begun) c.in-Err.fault now.counts.starts new.counts.starts c.in-Err.ensures.takes.0 (s.taken t f r sources reading k);
+      caused = λ t read reading.
+          spends_answered (LacksNoNumber c.args.crew.now.project read at.world) es first.store.next c.args.crew.now.store.next c.index-units-unit.result.key (child_of c.remove-unit.result.begun) c.in-Err.fault now.counts.starts new.counts.starts c.in-Err.ensures.takes.0 (s.taken t read reading);
       calls = calls_unanswered g.P.Place.world g.P.Place.counts g.P.Place.tells g.P.Place.child first c.args.crew.now at now new (g.P.Place.still c.args.place.now) es given s c.requires.manned.order c.args.index c.remove-unit.result at_index c.index-units-unit.result there c.in-Err.fault unit its c.in-Err.ensures.lands;
     }
 
@@ -167,12 +169,13 @@ returns-in-Err-lines_of_unit-clause-story g c = λ first at taken faults es give
       unrecorded = λ t. subst (λ n. KeepsNoneInFlight c.args.crew.now.project es (Some n) new.world) (sym its)
           (flight_asked c.args.crew.now.project c.requires.manned.order es now.world new.world c.remove-unit.result.unit c.index-units-unit.result there (only t) (s.unrecorded t));
       again = λ t. (s.again t).gave;
-      began = unanswered_began g.P.Place.tells g.P.Place.child first c.args.crew.now at now new (g.P.Place.still c.args.place.now) es given s c.requires.manned.order lawful c.args.index c.remove-unit.result c.index-units-unit.result there at_index only c.answer_unit.ensures.same;
+      began = unanswered_began g.P.Place.tells g.P.Place.child first c.args.crew.now at now new (g.P.Place.still c.args.place.now) es given s c.requires.manned.order lawful c.args.index c.remove-unit.result c.index-units-unit.result there at_index only c.answer_unit.ensures.same
+          (λ t none. let (left, ended, ends, behind, calls) = c.in-Ok.ensures.lands t in folder_answered c.args.crew.now.project c.requires.manned.order c.remove-unit.result.unit c.index-units-unit.result there c.remove-unit.result.begun.awaited none ended _ _ now.world (g.P.Place.world left) new.world now.counts (g.P.Place.counts left) ends behind);
       started = λ t read reading. none_began c.args.crew.now.project read _ _ OutOfMemory es at.world new.world;
       happened = untold_happened g.P.Place.tells g.P.Place.child first c.args.crew.now at now new (g.P.Place.still c.args.place.now) (g.P.Place.still c.answer_unit.new.place) es given c.args.index c.remove-unit.result c.index-units-unit.result there s at_index
           c.requires.manned.units_apart c.requires.manned.tickets_apart c.requires.manned.numbers_apart c.answer_unit.new.store.next (λ footing read setup sources states done other its reading t. c.answer_unit.ensures.others footing read setup sources states done other its reading t (s.held t read reading))
           c.in-Ok.ran c.in-Ok.ensures.outcome (λ footing read setup sources states done reading t. c.in-Ok.ensures.keeps footing read setup sources states done reading t (s.held t read reading)) c.in-Ok.ensures.directives c.remove-unit.new.self.items c.remove-unit.ensures.items;
-      caused = λ t f r sources reading k. tt;
+      caused = λ t read reading. tt;
       calls = calls_untold g.P.Place.world g.P.Place.counts g.P.Place.tells g.P.Place.child first c.args.crew.now at now new (g.P.Place.still c.args.place.now) es given s c.requires.manned.order c.args.index c.remove-unit.result at_index c.index-units-unit.result there c.in-Ok.ran unit its c.in-Ok.ensures.lands;
     }
 
@@ -203,7 +206,7 @@ returns-clause-story g c = λ first at taken faults es given unit s flying lawfu
           (goes_answered c.args.crew.now.project at now new c.args.crew.now.started.items c.args.crew.now.aloft.items es given s.goes is_given c.args.index c.remove-unit.result at_index begun refl c.requires.manned.units_apart answer
           c.in-Ok.ensures.takes.0 c.in-Ok.ensures.takes.1 c.answer_unit.ensures.most);
       numbers = numbers_answered IsUntold es first.store.next c.args.crew.now.store.next c.answer_unit.new.store.next c.remove-unit.result.unit answer c.answer_unit.ensures.next childless (λ untold. absurd untold) s.numbers;
-      taken = answered_taken g.P.Place.tells g.P.Place.child first c.args.crew.now at now (g.P.Place.still c.args.place.now) es given s c.args.index c.remove-unit.result at_index answer c.answer_unit.new.store.next c.answer_unit.ensures.next childless c.answer_unit.ensures.untaken;
+      taken = answered_taken g.P.Place.tells g.P.Place.child first c.args.crew.now at now (g.P.Place.still c.args.place.now) es given s c.args.index c.remove-unit.result c.index-units-unit.result at_index there answer c.answer_unit.new.store.next c.answer_unit.ensures.next childless c.answer_unit.ensures.untaken;
       changes = λ t. changes_after c.args.crew.now.project c.requires.manned.order at.world c.args.crew.now.aloft.items es now.world new.world now.counts.starts.flying new.counts.starts.flying (s.changes t) (λ j y at_j. flying_of c.args.crew.now now.counts j y c.requires.manned at_j)
           c.args.index c.remove-unit.result at_index c.index-units-unit.result there c.requires.manned.units_apart c.requires.manned.tickets_apart
           (only t) c.answer_unit.ensures.stay c.remove-unit.new.self.items c.remove-unit.ensures.items answer
@@ -216,6 +219,7 @@ returns-clause-story g c = λ first at taken faults es given unit s flying lawfu
           c.in-Ok.ran c.in-Ok-lines_of_unit.lines (c.in-Ok-lines_of_unit.ensures ∙ ap (λ p. unit_lines p c.index-units-unit.result c.in-Ok.ran.started c.as_slice.result.now) c.get.ensures ∙ ap (λ ms. unit_lines c.args.crew.now.project c.index-units-unit.result c.in-Ok.ran.started ms) c.as_slice.ensures)
           c.in-Ok.ensures.judged c.remove-unit.new.self.items c.note_answer.new.done.items c.remove-unit.ensures.items c.note_answer.ensures.done;
       began = answered_began g.P.Place.tells g.P.Place.child first c.args.crew.now at now new (g.P.Place.still c.args.place.now) es given s c.requires.manned.order lawful c.args.index c.remove-unit.result c.index-units-unit.result there at_index only c.answer_unit.ensures.same
+          (λ t none. let (left, ended, ends, behind, calls) = c.in-Ok.ensures.lands t in folder_answered c.args.crew.now.project c.requires.manned.order c.remove-unit.result.unit c.index-units-unit.result there c.remove-unit.result.begun.awaited none ended _ _ now.world (g.P.Place.world left) new.world now.counts (g.P.Place.counts left) ends behind)
           c.note_answer.new.done.items c.in-Ok.ran.directives answer c.note_answer.ensures.done;
       held = λ t read reading. c.in-Ok.ensures.numbers read reading t (writes t) (s.held t read reading);
       happened = answered_happened g.P.Place.tells g.P.Place.child first c.args.crew.now at now new (g.P.Place.still c.args.place.now) (g.P.Place.still c.answer_unit.new.place) es given c.args.index c.remove-unit.result c.index-units-unit.result there s at_index

@@ -1,5 +1,5 @@
 use Rattle.std.proofs.Common.{◌∙◌, ◌++◌, ◌∷◌, [], Some, IsTrue, length, false, is_some, refl, sym, ap, subst, inl, inr, map}
-use Rattle.std.proofs.lemmas.Bool.{false≢true}
+use Rattle.pb_answer.specs.declared.fault.BuildFault.TheVariants.{OutOfMemory}
 use Rattle.pb_flight.specs.Events.{Began}
 use Rattle.pb_flight.specs.Table.{if_so}
 use Rattle.pb_flight.proofs.Lists.{length_set}
@@ -16,11 +16,12 @@ use Rattle.pb_turns.proofs.Beginning.{goes_lists, refused_happened, failed_happe
 use Rattle.pb_turns.proofs.Calling.{calls_begun, calls_unbegun, launched_behind}
 use Rattle.pb_turns.proofs.Changing.{changes_begun, changes_more}
 use Rattle.pb_turns.proofs.Counting.{goes_begun, stops_begun, stops_refused_begun, children_are}
-use Rattle.pb_turns.proofs.Differing.{begun_began, unbegun_began, unbegun_started}
+use Rattle.pb_turns.proofs.Differing.{differed_tried, begun_began, unbegun_began, unbegun_started}
 use Rattle.pb_turns.proofs.Manning.{manned_same, manned_begun, begin_fault_flies, flying_of}
 use Rattle.pb_turns.proofs.Numbering.{begun_taken, numbers_begun}
 use Rattle.pb_turns.proofs.Quiet.{begun_quiet}
 use Rattle.pb_turns.proofs.Reaching.{there_at, there_some, within_reasons}
+use Rattle.pb_turns.proofs.Staying.{none_tried}
 use Rattle.pb_turns.proofs.Unbegun.{notes_begun, started_begun}
 use Rattle.pb_turns.proofs.Unkept.{flight_begun, flight_unbegun}
 use Rattle.pb_turns.proofs.crew.begin_at.Goals as goal
@@ -63,9 +64,9 @@ returns-in-Err-clause-story g c = λ first at taken faults es given s flying law
         unrecorded = s.unrecorded;
         again = λ t. gave_begun c.args.crew.now.setup c.args.crew.now.project c.args.crew.now.done.items es at.world c.args.unit false may.untouched (s.again t).gave;
         began = s.began;
-        started = λ t read reading place spawned is so. absurd (false≢true so);
+        started = λ t read reading. none_tried c.args.crew.now.project read _ _ OutOfMemory es at.world now.world c.args.unit refl;
         happened = refused_happened g.P.Place.tells g.P.Place.child first c.args.crew.now at now now (g.P.Place.still c.args.place.now) (g.P.Place.still c.args.place.now) es given c.args.unit u c.requires.manned.order there s may c.make_room.new.aloft.items c.make_room.ensures.aloft;
-        caused = λ t f r sources reading keeps. tt;
+        caused = λ t read reading. tt;
         calls = λ t f r sources reading keeps. (now.world, now.counts, s.calls t f r sources reading keeps, inl refl);
       },
     )
@@ -82,7 +83,7 @@ returns-in-Err-begin_unit-clause-story g c = λ first at taken faults es given s
     (s.changes t) (λ index a at. flying_of c.args.crew.now (g.P.Place.counts c.args.place.now) index a c.requires.manned at)
     c.args.unit c.index-units-unit.result there may.untouched (c.begin_unit.ensures.only t) c.begin_unit.ensures.stay false c.args.crew.now.aloft.items refl)
     c.args.unit c.index-units-unit.result there c.requires.grounded in
-    let (spawned, stops, spends, came, names) = stops_begun c.args.crew.now.project at now
+    let (spawned, stops, tried, spends, came, names) = stops_begun c.args.crew.now.project at now
     new
     c.args.crew.now.started.items c.args.crew.now.aloft.items es given c.args.unit s.goes is_given may.untouched refl c.index-units-unit.result there g.P.Place.tells alone c.args.crew.now.store.next c.in-Err-begin_unit.fault
     c.in-Err-begin_unit.ensures.takes.0 c.in-Err-begin_unit.ensures.takes.1 in (
@@ -101,14 +102,15 @@ returns-in-Err-begin_unit-clause-story g c = λ first at taken faults es given s
             c.args.unit c.index-units-unit.result there may.untouched (c.begin_unit.ensures.only t) c.begin_unit.ensures.stay spawned c.make_room.new.aloft.items c.make_room.ensures.aloft;
         unrecorded = λ t. flight_unbegun c.args.crew.now.project c.requires.manned.order es (g.P.Place.world c.args.place.now) (g.P.Place.world c.begin_unit.new.place) c.args.unit c.index-units-unit.result there (c.begin_unit.ensures.only t) (s.unrecorded t) may.untouched;
         again = λ t. gave_begun c.args.crew.now.setup c.args.crew.now.project c.args.crew.now.done.items es at.world c.args.unit spawned may.untouched (s.again t).gave;
-        began = unbegun_began g.P.Place.tells g.P.Place.child first c.args.crew.now at now new (g.P.Place.still c.args.place.now) es given s c.requires.manned.order lawful c.args.unit c.index-units-unit.result there may (λ t. c.begin_unit.ensures.only t) c.as_slice.result.now c.as_slice.ensures.value;
-        started = unbegun_started g.P.Place.tells g.P.Place.child first c.args.crew.now at now new (g.P.Place.still c.args.place.now) es given s c.requires.manned.order lawful c.args.unit c.index-units-unit.result there may (λ t. c.begin_unit.ensures.only t) c.as_slice.result.now c.as_slice.ensures.value
-            spawned c.in-Err-begin_unit.fault (within_reasons c.args.crew.now c.args.unit c.requires.manned.reasoned c.requires.unit) (λ read reading t. c.in-Err-begin_unit.ensures.cause read reading t (s.held t read reading));
+        began = unbegun_began g.P.Place.tells g.P.Place.child first c.args.crew.now at now new (g.P.Place.still c.args.place.now) es given s c.requires.manned.order lawful flying c.args.unit c.index-units-unit.result there may (λ t. c.begin_unit.ensures.only t) c.as_slice.result.now c.as_slice.ensures.value;
+        started = unbegun_started g.P.Place.tells g.P.Place.child first c.args.crew.now at now new (g.P.Place.still c.args.place.now) es given s c.requires.manned.order lawful flying c.args.unit c.index-units-unit.result there may (λ t. c.begin_unit.ensures.only t) c.as_slice.result.now c.as_slice.ensures.value
+            spawned c.in-Err-begin_unit.fault (within_reasons c.args.crew.now c.args.unit c.requires.manned.reasoned c.requires.unit)
+            (λ read reading t. differed_tried _ _ _ spawned c.in-Err-begin_unit.fault tried (c.in-Err-begin_unit.ensures.cause read reading t (s.held t read reading)) (c.in-Err-begin_unit.ensures.tried read reading t (s.held t read reading)));
         happened = failed_happened g.P.Place.tells g.P.Place.child first c.args.crew.now at now
             new (g.P.Place.still c.args.place.now) (g.P.Place.still c.begin_unit.new.place)
             es given c.args.unit c.index-units-unit.result c.requires.manned.order there s may c.begin_unit.new.store.next c.as_slice.result.now c.as_slice.ensures.value
             c.begin_unit.ensures.keeps c.begin_unit.ensures.others spawned c.make_room.new.aloft.items c.make_room.ensures.aloft;
-        caused = λ t f r sources reading k. spends (LacksNoNumber c.args.crew.now.project r at.world) first.store.next (s.taken t f r sources reading k);
+        caused = λ t read reading. spends (LacksNoNumber c.args.crew.now.project read at.world) first.store.next (s.taken t read reading);
         calls = calls_unbegun g.P.Place.tells g.P.Place.child first c.args.crew.now at now
             new (g.P.Place.still c.args.place.now)
             es given c.args.unit c.index-units-unit.result c.requires.manned.order there s may c.as_slice.result.now c.as_slice.ensures.value spawned c.in-Err-begin_unit.fault
@@ -144,7 +146,7 @@ returns-clause-story g c = λ first at taken faults es given s flying lawful is_
       again = begun_again g.P.Place.tells g.P.Place.child first c.args.crew.now at now new (g.P.Place.still c.args.place.now) es given s c.requires.manned.order c.args.unit c.index-units-unit.result there may.untouched (λ t. c.begin_unit.ensures.only t)
           c.as_slice.result.now c.as_slice.ensures.value c.in-Ok-begin_unit.made.begun c.in-Ok-begin_unit.ensures.asks c.in-Ok-begin_unit.made.difference c.note_begun.new.aloft.items more (λ read reading t. c.in-Ok-begin_unit.ensures.differs read reading t (s.held t read reading)) c.in-Ok-begin_unit.ensures.spawned
           c.in-Ok-begin_unit.ensures.carries c.in-Ok-begin_unit.ensures.same;
-      began = begun_began g.P.Place.tells g.P.Place.child first c.args.crew.now at now new (g.P.Place.still c.args.place.now) es given s c.requires.manned.order lawful c.args.unit c.index-units-unit.result there may (λ t. c.begin_unit.ensures.only t) c.as_slice.result.now c.as_slice.ensures.value
+      began = begun_began g.P.Place.tells g.P.Place.child first c.args.crew.now at now new (g.P.Place.still c.args.place.now) es given s c.requires.manned.order lawful flying c.args.unit c.index-units-unit.result there may (λ t. c.begin_unit.ensures.only t) c.as_slice.result.now c.as_slice.ensures.value
           c.in-Ok-begin_unit.made.begun c.in-Ok-begin_unit.ensures.asks c.in-Ok-begin_unit.made.difference c.note_begun.new.reasons.items (λ read reading t. c.in-Ok-begin_unit.ensures.differs read reading t (s.held t read reading)) c.in-Ok-begin_unit.ensures.spawned
           (within_reasons c.args.crew.now c.args.unit c.requires.manned.reasoned c.requires.unit) c.in-Ok-begin_unit.ensures.same c.note_begun.ensures.reasons;
       held = λ t read reading. c.in-Ok-begin_unit.ensures.numbers read t (s.held t read reading);

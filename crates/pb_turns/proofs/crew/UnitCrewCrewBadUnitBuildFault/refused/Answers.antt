@@ -1,6 +1,7 @@
 use Rattle.std.proofs.Common.{refl, inl}
-use Rattle.std.proofs.lemmas.Bool.{false≢true}
+use Rattle.pb_answer.specs.declared.fault.BuildFault.TheVariants.{OutOfMemory}
 use Rattle.pb_turns.proofs.Counting.{stops_refused}
+use Rattle.pb_turns.proofs.Staying.{none_began}
 use Rattle.pb_turns.proofs.crew.UnitCrewCrewBadUnitBuildFault.refused.Goals as goal
 
 pub returns : goal.returns
@@ -17,8 +18,8 @@ returns g c = λ first first_place last_place first_out last_out es given s. rec
   unrecorded = s.unrecorded;
   again = λ t. (s.again t).gave;
   began = s.began;
-  started = λ t read reading place spawned is so. absurd (false≢true so);
+  started = λ t read reading. none_began _ read _ _ OutOfMemory es _ _;
   happened = s.happened;
-  caused = λ t f r sources reading keeps. tt;
+  caused = λ t read reading. tt;
   calls = λ t f r sources reading keeps. (g.P.Place.world last_place, g.P.Place.counts last_place, s.calls t f r sources reading keeps, inl refl);
 }

@@ -1,7 +1,8 @@
 use Rattle.std.proofs.Common.{inl, refl, subst, take}
-use Rattle.std.proofs.lemmas.Bool.{false≢true}
 use Rattle.std.specs.Io.KnownBytes.{Appends}
+use Rattle.pb_answer.specs.declared.fault.BuildFault.TheVariants.{Sink}
 use Rattle.pb_turns.proofs.Counting.{goes_told, stops_sink}
+use Rattle.pb_turns.proofs.Staying.{none_began}
 use Rattle.pb_turns.proofs.crew.UnitCrewCrewBadUnitBuildFault.tell.Goals as goal
 
 pub returns-then-write_all-clause-story : goal.returns-then-write_all-clause-story
@@ -39,8 +40,8 @@ returns-else-write_all-clause-story g c = λ first first_place first_out es give
       unrecorded = s.unrecorded;
       again = λ t. (s.again t).gave;
       began = s.began;
-      started = λ t read reading place spawned is so. absurd (false≢true so);
+      started = λ t read reading. none_began _ read _ _ Sink es _ _;
       happened = s.happened;
-      caused = λ t f r sources reading keeps. tt;
+      caused = λ t read reading. tt;
       calls = λ t f r sources reading keeps. (g.P.Place.world c.args.place.now, g.P.Place.counts c.args.place.now, s.calls t f r sources reading keeps, inl refl);
     }
